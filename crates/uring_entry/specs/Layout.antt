@@ -1,0 +1,92 @@
+-- Which bits of an entry's and a completion's words are which field.
+use Rattle.std.specs.Prelude.{◌≡◌, ℕ, ◌+◌, ◌*◌, ◌-◌, ◌/◌, ◌%◌, ◌^◌, List, [], ◌∷◌, ◌++◌, length, take, drop, replicate, slice_index, ℤ, Bool, ◌==◌, not}
+use Rattle.std.specs.List.{flat_map}
+use Rattle.std.specs.Int.{w32, w64, cast_signed, cast_unsigned, to_le_bytes}
+use Rattle.std.specs.Int.RustNames.{bit_and}
+
+-- An entry of the submission ring: its 16 words of 64 bits. io_uring_enter(2), struct io_uring_sqe, for the first five; the rest is our own rule
+abbrev pub Entry : Type 0
+Entry = List ℕ
+
+-- the entry that every slot holds at first
+abbrev pub zero_entry : Entry
+zero_entry = replicate 16 0
+
+-- The fields, by the words that hold them; byte 0 is the low byte of word 0.
+abbrev pub opcode_of : Entry → ℕ
+opcode_of e = slice_index e 0 % 2 ^ 8
+
+abbrev pub flags_of : Entry → ℕ
+flags_of e = slice_index e 0 / 2 ^ 8 % 2 ^ 8
+
+abbrev pub ioprio_of : Entry → ℕ
+ioprio_of e = slice_index e 0 / 2 ^ 16 % 2 ^ 16
+
+abbrev pub fd_of : Entry → ℤ
+fd_of e = cast_signed w32 (slice_index e 0 / 2 ^ 32)
+
+abbrev pub off_of : Entry → ℕ
+off_of e = slice_index e 1
+
+abbrev pub addr_of : Entry → ℕ
+addr_of e = slice_index e 2
+
+abbrev pub len_of : Entry → ℕ
+len_of e = slice_index e 3 % 2 ^ 32
+
+abbrev pub operation_flags_of : Entry → ℕ
+operation_flags_of e = slice_index e 3 / 2 ^ 32
+
+abbrev pub user_data_of : Entry → ℕ
+user_data_of e = slice_index e 4
+
+-- bytes 40 to 63, as three words
+abbrev pub reserved_of : Entry → List ℕ
+reserved_of e = take 3 (drop 5 e)
+
+-- the bytes that words hold, the low byte of each word first
+abbrev pub bytes_of : List ℕ → List ℕ
+bytes_of words = flat_map (to_le_bytes w64) words
+
+-- the 64 bytes of data: words 8 to 15
+abbrev pub payload_of : Entry → List ℕ
+payload_of e = bytes_of (drop 8 e)
+
+-- whether every bit of this flag is set
+abbrev pub has : ℕ → Entry → Bool
+has flag e = bit_and (flags_of e) flag == flag
+
+-- whether some bit of these flags is set
+abbrev pub has_some_of : ℕ → Entry → Bool
+has_some_of flags e = not (bit_and (flags_of e) flags == 0)
+
+-- The first eight words of an entry with these fields, every other field of theirs zero.
+abbrev pub header : (opcode flags : ℕ) → ℤ → (off addr len user_data : ℕ) → List ℕ
+header opcode flags fd off addr len user_data =
+    (opcode + 2 ^ 8 * flags + 2 ^ 32 * cast_unsigned w32 fd) ∷ off ∷ addr ∷ len ∷ user_data ∷ 0 ∷ 0 ∷ 0 ∷ []
+
+-- the entry with these first words and no data
+abbrev pub without_data : List ℕ → Entry
+without_data words = words ++ replicate 8 0
+
+-- up to 64 bytes of data, with zeros behind them
+abbrev pub padded : List ℕ → List ℕ
+padded bytes = bytes ++ replicate (64 - length bytes) 0
+
+-- e has these first eight words, and then these bytes of data and zeros
+pub record HasData (e : Entry) (words bytes : List ℕ) : Type 0 where
+  pub size : length e ≡ 16
+  pub first : take 8 e ≡ words
+  pub payload : payload_of e ≡ padded bytes
+
+-- A completion: the user data of its request, the result, and the bytes that a read gave. io_uring(7), struct io_uring_cqe, for the first two; the bytes are our own rule
+pub record Completion : Type 0 where
+  pub user_data : ℕ
+  pub res : ℤ
+  pub payload : List ℕ
+
+-- the words of a completion: user data, then the result in the low half of the second word and no flags in its high half, then the bytes
+pub record HasWords (c : Completion) (words : List ℕ) : Type 0 where
+  pub size : length words ≡ 10
+  pub first : take 2 words ≡ c.user_data ∷ cast_unsigned w32 c.res ∷ []
+  pub payload : bytes_of (drop 2 words) ≡ c.payload

@@ -1,0 +1,10 @@
+pub mod Shape
+pub mod Flags
+pub mod Layout
+pub mod Preparation
+pub mod Success
+pub mod Below
+pub mod Words
+pub mod Submission
+pub mod Requests
+pub mod Completions

@@ -1,0 +1,115 @@
+-- The submission ring as lists of all that ever happened to it. io_uring(7), on the submission queue; what is refused, and that a call goes on after a word that names no slot, is our own rule.
+use Rattle.std.specs.Prelude.{◌≡◌, ℕ, ◌+◌, ◌-◌, ◌%◌, ◌^◌, Bool, true, ◌==◌, nat_lt, nat_le, List, [], ◌∷◌, ◌++◌, length, take, drop, map, sum, count_by, Option, Some, None, is_none, is_some, if◌then◌else◌, min, slice_get}
+use Rattle.std.specs.List.{list_any, filter_map}
+use Rattle.std.specs.Option.{option_and_then}
+use Rattle.uring_entry.specs.Layout.{Entry, zero_entry}
+
+-- A published position: the word of the index array, and the entry of the slot that the word names, as it was when the position was published. A word that names no slot has none.
+pub record Place : Type 0 where
+  pub word : ℕ
+  pub entry : Option Entry
+
+-- A submission call: how many positions it takes, and how many of them were taken.
+pub record Call : Type 0 where
+  pub count : ℕ
+  pub taken : ℕ
+
+-- All that happened on the submission ring.
+pub record Submission : Type 0 where
+  -- what each slot of the entry table holds
+  pub content : ℕ → Entry
+  -- every position that was ever published, in order
+  pub published : List Place
+  -- the words staged since, in order
+  pub fresh : List ℕ
+  -- the call that is open
+  pub call : Option Call
+  -- how many positions each call took that is closed, in order
+  pub calls : List ℕ
+  -- the head that the application last loaded, as a count
+  pub seen_head : ℕ
+
+-- nothing has happened: every slot holds the zero entry
+abbrev pub no_submission : Submission
+no_submission =
+    record { content = λ slot. zero_entry; published = []; fresh = []; call = None; calls = []; seen_head = 0 }
+
+-- Counts and lists that follow from it.
+
+-- the positions that closed calls took
+abbrev pub taken : Submission → ℕ
+taken l = sum l.calls
+
+-- the positions staged or published
+abbrev pub staged : Submission → ℕ
+staged l = length l.published + length l.fresh
+
+-- the positions published and not taken by a closed call
+abbrev pub pending : Submission → ℕ
+pending l = length l.published - taken l
+
+-- the entries of places that have one, in order
+abbrev pub entries_of : List Place → List Entry
+entries_of places = filter_map (λ place. place.entry) places
+
+-- the places that have none
+abbrev pub dropped_in : List Place → ℕ
+dropped_in places = count_by (λ place. is_none place.entry) places
+
+-- the entries accepted so far
+abbrev pub accepted : Submission → List Entry
+accepted l = entries_of (take (taken l) l.published)
+
+-- the count of dropped words, which wraps at 32 bits
+abbrev pub dropped : Submission → ℕ
+dropped l = dropped_in (take (taken l) l.published) % 2 ^ 32
+
+-- the places that the next count positions have
+abbrev pub places_from : Submission → ℕ → List Place
+places_from l count = take count (drop (taken l) l.published)
+
+-- whether a slot may not be filled: a published position that the application doesn't know to be taken names it
+abbrev pub is_busy : Submission → ℕ → Bool
+is_busy l slot = list_any (λ place. place.word == slot) (drop l.seen_head l.published)
+
+-- whether no further position may be staged
+abbrev pub is_full : ℕ → Submission → Bool
+is_full size l = staged l - l.seen_head == size
+
+-- how many positions a call asked for n may take
+abbrev pub call_length : Submission → ℕ → ℕ
+call_length l n = min n (pending l)
+
+-- what each event makes of it
+
+-- an entry is written to a slot
+abbrev pub filled : Submission → ℕ → Entry → Submission
+filled l slot entry = record l { content = λ s. if s == slot then entry else l.content s }
+
+-- a word is staged
+abbrev pub indexed : Submission → ℕ → Submission
+indexed l word = record l { fresh = l.fresh ++ word ∷ [] }
+
+-- the place of a word when it is published, in a ring of this size
+abbrev pub place_of : ℕ → (ℕ → Entry) → ℕ → Place
+place_of size content word = record { word = word; entry = if nat_lt word size then Some (content word) else None }
+
+-- the tail is stored: everything staged is published
+abbrev pub stored : ℕ → Submission → Submission
+stored size l = record l { published = l.published ++ map (place_of size l.content) l.fresh; fresh = [] }
+
+-- the application loads the head
+abbrev pub loaded : Submission → Submission
+loaded l = record l { seen_head = taken l }
+
+-- a call asked for n positions opens
+abbrev pub begun : Submission → ℕ → Submission
+begun l n = record l { call = Some (record { count = call_length l n; taken = 0 }) }
+
+-- the open call takes its next position
+abbrev pub took : Submission → Call → Submission
+took l call = record l { call = Some (record call { taken = call.taken + 1 }) }
+
+-- the open call closes, with all its positions taken
+abbrev pub closed : Submission → Call → Submission
+closed l call = record l { call = None; calls = l.calls ++ call.count ∷ [] }

@@ -1,0 +1,70 @@
+ghost use Rattle.std.specs.Prelude.{◌≡◌};
+
+use std::marker::Model;
+
+use crate::payload::words_of_bytes;
+
+/// A completion: the user data of its request, the result, and 64 bytes, those that a read gave first and zeros behind them.
+///
+/// It has 80 bytes, held as 10 words. The first 16 are placed as in `struct io_uring_cqe`, io_uring(7), with flags that are always 0; the bytes behind them are our own rule.
+#[derive(Clone, Copy, Debug, PartialEq, Eq)]
+pub struct Cqe {
+    user_data: u64,
+    res: i32,
+    payload: [u8; 64],
+}
+
+impl Model for Cqe {
+    ghost use Rattle.uring_entry.specs.Layout.{Completion};
+
+    ghost Value = { Completion };
+
+    ghost view = { λ c. record { user_data = c.user_data; res = c.res; payload = c.payload } };
+
+    ghost inverse = { λ c. record { user_data = c.user_data; res = c.res; payload = c.payload } };
+}
+
+impl Cqe {
+    ghost use Rattle.uring_entry.specs.Layout.{HasWords};
+
+    /// The completion of a request with this user data.
+    pub fn new(user_data: u64, res: i32, payload: [u8; 64]) -> Cqe
+        ensures { result ≡ record { user_data = user_data; res = res; payload = payload } }
+    {
+        Cqe {
+            user_data,
+            res,
+            payload,
+        }
+    }
+
+    /// The completion's words: the user data; the result in the low half and flags, always 0, in the high half; then the bytes, the low byte of each word first.
+    pub fn words(&self) -> [u64; 10]
+        ensures { HasWords self.now result }
+    {
+        let [a, b, c, d, e, f, g, h] = words_of_bytes(&self.payload);
+        let second = u64::from(self.res.cast_unsigned());
+        [self.user_data, second, a, b, c, d, e, f, g, h]
+    }
+
+    /// The user data of the request.
+    pub fn user_data(&self) -> u64
+        ensures { result ≡ self.now.user_data }
+    {
+        self.user_data
+    }
+
+    /// The result: 0 or more where the operation was carried out, else the negative of an error number.
+    pub fn res(&self) -> i32
+        ensures { result ≡ self.now.res }
+    {
+        self.res
+    }
+
+    /// The bytes.
+    pub fn payload(&self) -> [u8; 64]
+        ensures { result ≡ self.now.payload }
+    {
+        self.payload
+    }
+}

@@ -1,0 +1,191 @@
+ghost use Rattle.std.specs.Prelude.{◌≡◌, ◌≤◌, ◌+◌, ◌*◌, ◌^◌, ℤ, pos, length, not, ◌==◌};
+ghost use Rattle.std.specs.Int.{w32, cast_unsigned};
+ghost use Rattle.std.specs.List.{list_any};
+ghost use Rattle.uring_entry.specs.Layout.{opcode_of, flags_of, ioprio_of, fd_of, off_of, addr_of, len_of, operation_flags_of, user_data_of, reserved_of, payload_of, header, without_data, HasData};
+ghost use Rattle.uring_entry.specs.declared.opcode.TheConstants.{NOP, FSYNC, ASYNC_CANCEL, READ, WRITE};
+
+use std::marker::Model;
+
+use crate::opcode;
+use crate::payload::{bytes_of_words, padded_bytes, words_of_bytes};
+
+/// An entry of the submission ring: 128 bytes, little-endian, held as 16 words of 64 bits. Any words are an entry; `prepare` tells what is wrong with it.
+///
+/// Bytes 0 to 39 are placed as in `struct io_uring_sqe`, io_uring_enter(2). Bytes 40 to 63 are to be zero, and bytes 64 to 127 are the data of a write: our own rule.
+#[derive(Clone, Copy, Debug, PartialEq, Eq)]
+pub struct Sqe {
+    words: [u64; 16],
+}
+
+impl Model for Sqe {
+    ghost use Rattle.std.specs.Prelude.{List, ℕ};
+
+    ghost Value = { List ℕ };
+
+    ghost view = { λ entry. entry.words };
+
+    ghost inverse = { λ words. record { words = words } };
+}
+
+impl Sqe {
+    /// The entry of these words.
+    pub fn from_words(words: [u64; 16]) -> Sqe
+        ensures { result ≡ words }
+    {
+        Sqe { words }
+    }
+
+    /// The entry's words, byte 0 in the low byte of word 0.
+    pub fn words(&self) -> [u64; 16]
+        ensures { result ≡ self.now }
+    {
+        self.words
+    }
+
+    /// The operation: byte 0.
+    pub fn opcode(&self) -> u8
+        ensures { result ≡ opcode_of self.now }
+    {
+        (self.words[0] & 0xff) as u8
+    }
+
+    /// The flags, as bits: byte 1. `SqeFlags` names them.
+    pub fn flags(&self) -> u8
+        ensures { result ≡ flags_of self.now }
+    {
+        (self.words[0] >> 8 & 0xff) as u8
+    }
+
+    /// The priority: bytes 2 and 3.
+    pub(crate) fn ioprio(&self) -> u16
+        ensures { result ≡ ioprio_of self.now }
+    {
+        (self.words[0] >> 16 & 0xffff) as u16
+    }
+
+    /// The file: bytes 4 to 7, signed.
+    pub fn fd(&self) -> i32
+        ensures { result ≡ fd_of self.now }
+    {
+        ((self.words[0] >> 32) as u32).cast_signed()
+    }
+
+    /// The offset in the file, in bytes: bytes 8 to 15.
+    pub fn off(&self) -> u64
+        ensures { result ≡ off_of self.now }
+    {
+        self.words[1]
+    }
+
+    /// The user data that a cancel names: bytes 16 to 23.
+    pub fn addr(&self) -> u64
+        ensures { result ≡ addr_of self.now }
+    {
+        self.words[2]
+    }
+
+    /// How many bytes to move: bytes 24 to 27.
+    pub fn len(&self) -> u32
+        ensures { result ≡ len_of self.now }
+    {
+        (self.words[3] & 0xffff_ffff) as u32
+    }
+
+    /// The operation's own flags: bytes 28 to 31.
+    pub(crate) fn operation_flags(&self) -> u32
+        ensures { result ≡ operation_flags_of self.now }
+    {
+        (self.words[3] >> 32) as u32
+    }
+
+    /// What the completion repeats: bytes 32 to 39.
+    pub fn user_data(&self) -> u64
+        ensures { result ≡ user_data_of self.now }
+    {
+        self.words[4]
+    }
+
+    /// Whether one of the bytes 40 to 63 isn't zero.
+    pub(crate) fn has_reserved_bits(&self) -> bool
+        ensures { result ≡ list_any (λ word. not (word == 0)) (reserved_of self.now) }
+    {
+        self.words[5] != 0 || self.words[6] != 0 || self.words[7] != 0
+    }
+
+    /// The data: bytes 64 to 127, byte 0 of the data in the low byte of word 8.
+    pub fn payload(&self) -> [u8; 64]
+        ensures { result ≡ payload_of self.now }
+    {
+        let [_, _, _, _, _, _, _, _, a, b, c, d, e, f, g, h] = self.words;
+        bytes_of_words(&[a, b, c, d, e, f, g, h])
+    }
+
+    /// A no-op with these flag bits.
+    pub fn nop(user_data: u64, flags: u8) -> Sqe
+        ensures { result ≡ without_data (header NOP flags (pos 0) 0 0 0 user_data) }
+    {
+        Sqe::with_opcode(opcode::NOP, user_data, flags)
+    }
+
+    /// A read of `len` bytes of file `fd` from offset `off` on.
+    pub fn read(user_data: u64, flags: u8, fd: i32, off: u64, len: u32) -> Sqe
+        ensures { result ≡ without_data (header READ flags fd off 0 len user_data) }
+    {
+        let first = word_zero(opcode::READ, flags, fd);
+        from_header([first, off, 0, u64::from(len), user_data, 0, 0, 0])
+    }
+
+    /// A write of 0 to 64 bytes to file `fd` at offset `off`.
+    pub fn write(user_data: u64, flags: u8, fd: i32, off: u64, bytes: &[u8]) -> Sqe
+        requires { length bytes.now ≤ 64 }
+        ensures { HasData result (header WRITE flags fd off 0 (length bytes.now) user_data) bytes.now }
+    {
+        let first = word_zero(opcode::WRITE, flags, fd);
+        let len = bytes.len() as u64;
+        let [a, b, c, d, e, f, g, h] = words_of_bytes(&padded_bytes(bytes));
+        let words = [
+            first, off, 0, len, user_data, 0, 0, 0, a, b, c, d, e, f, g, h,
+        ];
+        Sqe { words }
+    }
+
+    /// A note of which writes of file `fd` are safe.
+    pub fn fsync(user_data: u64, flags: u8, fd: i32) -> Sqe
+        ensures { result ≡ without_data (header FSYNC flags fd 0 0 0 user_data) }
+    {
+        let first = word_zero(opcode::FSYNC, flags, fd);
+        from_header([first, 0, 0, 0, user_data, 0, 0, 0])
+    }
+
+    /// A cancel of a request with the user data `target`.
+    pub fn cancel(user_data: u64, flags: u8, target: u64) -> Sqe
+        ensures { result ≡ without_data (header ASYNC_CANCEL flags (pos 0) 0 target 0 user_data) }
+    {
+        let first = word_zero(opcode::ASYNC_CANCEL, flags, 0);
+        from_header([first, 0, target, 0, user_data, 0, 0, 0])
+    }
+
+    /// An entry of any operation, every other field zero.
+    pub fn with_opcode(code: u8, user_data: u64, flags: u8) -> Sqe
+        ensures { result ≡ without_data (header code flags (pos 0) 0 0 0 user_data) }
+    {
+        let first = word_zero(code, flags, 0);
+        from_header([first, 0, 0, 0, user_data, 0, 0, 0])
+    }
+}
+
+/// The first word of an entry: operation, flags, no priority, file.
+fn word_zero(code: u8, flags: u8, fd: i32) -> u64
+    ensures { result ≡ code + 2 ^ 8 * flags + 2 ^ 32 * cast_unsigned w32 fd }
+{
+    u64::from(code) + 256 * u64::from(flags) + 4_294_967_296 * u64::from(fd.cast_unsigned())
+}
+
+/// The entry with these first words and no data.
+fn from_header(words: [u64; 8]) -> Sqe
+    ensures { result ≡ without_data words }
+{
+    let [a, b, c, d, e, f, g, h] = words;
+    let words = [a, b, c, d, e, f, g, h, 0, 0, 0, 0, 0, 0, 0, 0];
+    Sqe { words }
+}

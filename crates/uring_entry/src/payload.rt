@@ -1,0 +1,47 @@
+//! The 64 bytes of data as eight words, the low byte of each word first.
+
+ghost use Rattle.std.specs.Prelude.{◌≡◌, ◌≤◌, ◌++◌, length, take, drop};
+ghost use Rattle.std.specs.Int.{w64, to_le_bytes};
+ghost use Rattle.uring_entry.specs.Layout.{bytes_of, padded};
+
+/// The bytes that eight words hold.
+pub(crate) fn bytes_of_words(words: &[u64; 8]) -> [u8; 64]
+    ensures { result ≡ bytes_of words.now }
+{
+    let mut bytes = [0; 64];
+    for i in 0..8 {
+        bytes[8 * i..8 * i + 8].copy_from_slice(&words[i].to_le_bytes());
+    }
+    bytes
+}
+
+/// The words that hold these bytes.
+pub(crate) fn words_of_bytes(bytes: &[u8; 64]) -> [u64; 8]
+    ensures { bytes_of result ≡ bytes.now }
+{
+    let mut words = [0; 8];
+    for i in 0..8 {
+        words[i] = word_at(bytes, 8 * i);
+    }
+    words
+}
+
+/// The word that eight bytes hold, from this place on.
+fn word_at(bytes: &[u8; 64], at: usize) -> u64
+    requires { at ≤ 56 }
+    ensures { to_le_bytes w64 result ≡ take 8 (drop at bytes.now) }
+{
+    let mut eight = [0; 8];
+    eight.copy_from_slice(&bytes[at..at + 8]);
+    u64::from_le_bytes(eight)
+}
+
+/// Up to 64 bytes, with zeros behind them.
+pub(crate) fn padded_bytes(bytes: &[u8]) -> [u8; 64]
+    requires { length bytes.now ≤ 64 }
+    ensures { result ≡ padded bytes.now }
+{
+    let mut all = [0; 64];
+    all[..bytes.len()].copy_from_slice(bytes);
+    all
+}

@@ -1,0 +1,90 @@
+ghost use Rattle.std.specs.Prelude.{◌≡◌, ◌==◌, ◌||◌, Some, None, IfOk, IfErr};
+ghost use Rattle.uring_entry.specs.Preparation.{fault_of, operation_of};
+ghost use Rattle.uring_entry.specs.Preparation as spec;
+ghost use Rattle.uring_entry.specs.declared.opcode.TheConstants.{READ, WRITE};
+
+use bitflags::Flags;
+
+use crate::entry::Sqe;
+use crate::faults::Fault;
+use crate::flags::SqeFlags;
+use crate::opcode;
+use crate::operation::Op;
+
+/// What an entry asks for, or the first of its faults in the order of `Fault`. A field that an operation doesn't use may hold anything.
+///
+/// Which operation takes which fields is that of io_uring_enter(2); the faults but `Opcode`, and their order, are our own rule.
+pub fn prepare(entry: &Sqe) -> Result<Op, Fault>
+    ensures right { IfOk result (λ op. (fault_of entry.now ≡ None) × (op ≡ operation_of entry.now)) }
+    ensures faulty { IfErr result (λ fault. fault_of entry.now ≡ Some fault) }
+{
+    match first_fault(entry) {
+        Some(fault) => Err(fault),
+        None => Ok(operation(entry)),
+    }
+}
+
+/// The first fault of an entry.
+fn first_fault(entry: &Sqe) -> Option<Fault>
+    ensures { result ≡ fault_of entry.now }
+{
+    if SqeFlags::from_bits_retain(entry.flags()).intersects(SqeFlags::REFUSED) {
+        Some(Fault::Flags)
+    } else if !is_served(entry.opcode()) {
+        Some(Fault::Opcode)
+    } else if entry.ioprio() != 0 {
+        Some(Fault::Ioprio)
+    } else if entry.operation_flags() != 0 {
+        Some(Fault::OpFlags)
+    } else if entry.has_reserved_bits() {
+        Some(Fault::Reserved)
+    } else if entry.len() > 64 {
+        Some(Fault::Len)
+    } else if is_transfer(entry.opcode()) && entry.off() == u64::MAX {
+        Some(Fault::Off)
+    } else {
+        None
+    }
+}
+
+/// Whether an operation is served.
+fn is_served(code: u8) -> bool
+    ensures { result ≡ spec.is_served code }
+{
+    matches!(
+        code,
+        opcode::NOP | opcode::FSYNC | opcode::ASYNC_CANCEL | opcode::READ | opcode::WRITE
+    )
+}
+
+/// Whether an operation moves bytes.
+fn is_transfer(code: u8) -> bool
+    ensures { result ≡ ((code == READ) || (code == WRITE)) }
+{
+    code == opcode::READ || code == opcode::WRITE
+}
+
+/// What an entry without a fault asks for.
+fn operation(entry: &Sqe) -> Op
+    requires { fault_of entry.now ≡ None }
+    ensures { result ≡ operation_of entry.now }
+{
+    match entry.opcode() {
+        opcode::NOP => Op::Nop,
+        opcode::FSYNC => Op::Fsync { fd: entry.fd() },
+        opcode::ASYNC_CANCEL => Op::Cancel {
+            target: entry.addr(),
+        },
+        opcode::READ => Op::Read {
+            fd: entry.fd(),
+            off: entry.off(),
+            len: entry.len(),
+        },
+        _ => Op::Write {
+            fd: entry.fd(),
+            off: entry.off(),
+            len: entry.len(),
+            bytes: entry.payload(),
+        },
+    }
+}

@@ -1,0 +1,103 @@
+ghost use Rattle.std.specs.Prelude.{◌≡◌, ◌↔◌, IfOk, IsErrOf};
+
+use std::marker::Model;
+
+use crate::bad_set_up::BadSetup;
+
+/// The sizes of a pair of rings, the number of its files, and the word at which both rings begin.
+#[derive(Clone, Copy, Debug, PartialEq, Eq)]
+pub struct Setup {
+    sq: u32,
+    cq: u32,
+    files: u32,
+    start: u32,
+}
+
+impl Model for Setup {
+    ghost use Rattle.uring_entry.specs.Shape.{Shape, IsShape};
+
+    ghost Value = { Shape };
+
+    ghost view = { λ s. record { sq = s.sq; cq = s.cq; files = s.files; start = s.start } };
+
+    ghost invariant = { λ s. IsShape (record { sq = s.sq; cq = s.cq; files = s.files; start = s.start }) };
+
+    ghost inverse = { λ s. record { sq = s.sq; cq = s.cq; files = s.files; start = s.start } };
+}
+
+impl Setup {
+    ghost use Rattle.uring_entry.specs.Shape.{IsShape, IsSetUp, IsBadSq, IsBadCq, IsBadFiles};
+
+    /// Most entries of the submission ring.
+    pub const MAX_SQ: u32 = 4096;
+
+    /// Most entries of the completion ring.
+    pub const MAX_CQ: u32 = 8192;
+
+    /// Most files.
+    pub const MAX_FILES: u32 = 64;
+
+    /// A set-up with a submission ring of `sq` entries (1 to 4,096) and a completion ring of `cq` entries (1 to 8,192), or of twice the submission ring's, each rounded up to a power of two; `files` files (1 to 64); and rings that begin at the index word `start`.
+    ///
+    /// `BadSq`, `BadCq` and `BadFiles` come in that order, each where its limit is broken; `BadCq` also where the completion ring is smaller after rounding than the submission ring. Sizes are rounded as in io_uring_setup(2); the limits are our own rule.
+    pub fn new(sq: u32, cq: Option<u32>, files: u32, start: u32) -> Result<Setup, BadSetup>
+        ensures ok { IfOk result (λ s. IsSetUp sq cq files start s) }
+        ensures bad_sq { IsErrOf result BadSetup.BadSq ↔ IsBadSq sq }
+        ensures bad_cq { IsErrOf result BadSetup.BadCq ↔ ((IsBadSq sq → ⊥) × IsBadCq sq cq) }
+        ensures bad_files { IsErrOf result BadSetup.BadFiles ↔ ((IsBadSq sq → ⊥) × (IsBadCq sq cq → ⊥) × IsBadFiles files) }
+    {
+        if sq < 1 || sq > Setup::MAX_SQ {
+            return Err(BadSetup::BadSq);
+        }
+        let sq = sq.next_power_of_two();
+        let asked = cq.unwrap_or(2 * sq);
+        if asked < 1 || asked > Setup::MAX_CQ {
+            return Err(BadSetup::BadCq);
+        }
+        let cq = asked.next_power_of_two();
+        if cq < sq {
+            return Err(BadSetup::BadCq);
+        }
+        if files < 1 || files > Setup::MAX_FILES {
+            return Err(BadSetup::BadFiles);
+        }
+        Ok(Setup {
+            sq,
+            cq,
+            files,
+            start,
+        })
+    }
+
+    /// The entries of the submission ring: a power of two from 1 to 4,096.
+    pub fn sq(self) -> u32
+        ensures value { result ≡ self.sq }
+        ensures shape { IsShape self }
+    {
+        self.sq
+    }
+
+    /// The entries of the completion ring: a power of two from 1 to 8,192, not below the submission ring's.
+    pub fn cq(self) -> u32
+        ensures value { result ≡ self.cq }
+        ensures shape { IsShape self }
+    {
+        self.cq
+    }
+
+    /// The number of files: 1 to 64.
+    pub fn files(self) -> u32
+        ensures value { result ≡ self.files }
+        ensures shape { IsShape self }
+    {
+        self.files
+    }
+
+    /// The index word at which both rings begin: any 32 bits.
+    pub fn start(self) -> u32
+        ensures value { result ≡ self.start }
+        ensures shape { IsShape self }
+    {
+        self.start
+    }
+}
