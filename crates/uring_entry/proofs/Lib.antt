@@ -1,0 +1,3 @@
+pub mod Payloads
+pub mod Powers
+pub mod Shapes
