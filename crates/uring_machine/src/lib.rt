@@ -3,6 +3,7 @@
 
 mod answers;
 mod completions;
+mod laws;
 mod machine;
 mod requests;
 mod runs;
