@@ -1,0 +1,2 @@
+pub mod BelowLemmas
+pub mod RequestLemmas
