@@ -36,10 +36,10 @@ IsOutside low high n = (n < low) ⊎ (high < n)
 abbrev pub IsBadSq : ℕ → Type 0
 IsBadSq sq = IsOutside 1 4096 sq
 
--- the completion ring that is asked for is out of its limits, or smaller than the submission ring after rounding
+-- the completion ring that is asked for is out of its limits, or smaller after rounding than the submission ring, which has sq entries after rounding
 abbrev pub IsBadCq : ℕ → Option ℕ → Type 0
 IsBadCq sq None = ⊥
-IsBadCq sq (Some cq) = IsOutside 1 8192 cq ⊎ ((p q : ℕ) → IsNextPowerOfTwo sq p → IsNextPowerOfTwo cq q → q < p)
+IsBadCq sq (Some cq) = IsOutside 1 8192 cq ⊎ ((q : ℕ) → IsNextPowerOfTwo cq q → q < sq)
 
 -- the number of files that is asked for is out of its limits
 abbrev pub IsBadFiles : ℕ → Type 0

@@ -1,8 +1,7 @@
 ghost use Rattle.std.specs.Prelude.{◌≡◌};
 
-use std::marker::Model;
-
 use crate::payload::words_of_bytes;
+use std::marker::Model;
 
 /// A completion: the user data of its request, the result, and 64 bytes, those that a read gave first and zeros behind them.
 ///
@@ -42,9 +41,10 @@ impl Cqe {
     pub fn words(&self) -> [u64; 10]
         ensures { HasWords self.now result }
     {
-        let [a, b, c, d, e, f, g, h] = words_of_bytes(&self.payload);
         let second = u64::from(self.res.cast_unsigned());
-        [self.user_data, second, a, b, c, d, e, f, g, h]
+        let mut words = [self.user_data, second, 0, 0, 0, 0, 0, 0, 0, 0];
+        words[2..].copy_from_slice(&words_of_bytes(&self.payload));
+        words
     }
 
     /// The user data of the request.

@@ -4,10 +4,9 @@ ghost use Rattle.std.specs.List.{list_any};
 ghost use Rattle.uring_entry.specs.Layout.{opcode_of, flags_of, ioprio_of, fd_of, off_of, addr_of, len_of, operation_flags_of, user_data_of, reserved_of, payload_of, header, without_data, HasData};
 ghost use Rattle.uring_entry.specs.declared.opcode.TheConstants.{NOP, FSYNC, ASYNC_CANCEL, READ, WRITE};
 
-use std::marker::Model;
-
 use crate::opcode;
 use crate::payload::{bytes_of_words, padded_bytes, words_of_bytes};
+use std::marker::Model;
 
 /// An entry of the submission ring: 128 bytes, little-endian, held as 16 words of 64 bits. Any words are an entry; `prepare` tells what is wrong with it.
 ///
@@ -116,8 +115,7 @@ impl Sqe {
     pub fn payload(&self) -> [u8; 64]
         ensures { result ≡ payload_of self.now }
     {
-        let [_, _, _, _, _, _, _, _, a, b, c, d, e, f, g, h] = self.words;
-        bytes_of_words(&[a, b, c, d, e, f, g, h])
+        bytes_of_words(&self.words[8..])
     }
 
     /// A no-op with these flag bits.
@@ -142,10 +140,10 @@ impl Sqe {
     {
         let first = word_zero(opcode::WRITE, flags, fd);
         let len = bytes.len() as u64;
-        let [a, b, c, d, e, f, g, h] = words_of_bytes(&padded_bytes(bytes));
-        let words = [
-            first, off, 0, len, user_data, 0, 0, 0, a, b, c, d, e, f, g, h,
+        let mut words = [
+            first, off, 0, len, user_data, 0, 0, 0, 0, 0, 0, 0, 0, 0, 0, 0,
         ];
+        words[8..].copy_from_slice(&words_of_bytes(&padded_bytes(bytes)));
         Sqe { words }
     }
 

@@ -22,10 +22,8 @@ impl Flags for SqeFlags {
 
     ghost exact = { ⊤ };
 
-    ghost table = {
-        (codes "IO_DRAIN", 2) ∷ (codes "IO_LINK", 4) ∷ (codes "IO_HARDLINK", 8) ∷ (codes "ASYNC", 16)
-        ∷ (codes "CQE_SKIP_SUCCESS", 64) ∷ (codes "REFUSED", 161) ∷ []
-    };
+    ghost table = { (codes "IO_DRAIN", 2) ∷ (codes "IO_LINK", 4) ∷ (codes "IO_HARDLINK", 8) ∷ (codes "ASYNC", 16)
+        ∷ (codes "CQE_SKIP_SUCCESS", 64) ∷ (codes "REFUSED", 161) ∷ [] };
 
     ghost set_of = { λ flags. flags.0 };
 

@@ -3,8 +3,6 @@
 
 mod bad_set_up;
 mod completion;
-mod laws;
-mod payload;
 mod entry;
 pub mod errno;
 mod faults;
@@ -12,6 +10,7 @@ mod flags;
 pub mod opcode;
 mod operation;
 mod outcomes;
+mod payload;
 mod preparation;
 mod set_up;
 mod success;

@@ -5,7 +5,11 @@ pub enum Op {
     Nop,
 
     /// The bytes of a file from an offset on, at most 64.
-    Read { fd: i32, off: u64, len: u32 },
+    Read {
+        fd: i32,
+        off: u64,
+        len: u32,
+    },
 
     /// The first `len` of the bytes, at most 64, put into a file at an offset.
     Write {
@@ -16,8 +20,12 @@ pub enum Op {
     },
 
     /// The writes of a file so far noted as safe.
-    Fsync { fd: i32 },
+    Fsync {
+        fd: i32,
+    },
 
     /// The end of the request with this user data.
-    Cancel { target: u64 },
+    Cancel {
+        target: u64,
+    },
 }

@@ -5,7 +5,8 @@ ghost use Rattle.std.specs.Int.{w64, to_le_bytes};
 ghost use Rattle.uring_entry.specs.Layout.{bytes_of, padded};
 
 /// The bytes that eight words hold.
-pub(crate) fn bytes_of_words(words: &[u64; 8]) -> [u8; 64]
+pub(crate) fn bytes_of_words(words: &[u64]) -> [u8; 64]
+    requires { length words.now ≡ 8 }
     ensures { result ≡ bytes_of words.now }
 {
     let mut bytes = [0; 64];

@@ -1,8 +1,9 @@
-ghost use Rattle.std.specs.Prelude.{◌≡◌, ◌↔◌, IfOk, IsErrOf};
-
-use std::marker::Model;
+ghost use Rattle.std.specs.Prelude.{◌≡◌, ◌↔◌, ◌≤◌, ◌*◌, ℕ, IfOk, IsErrOf, IsNone, IfSome, unwrap_or};
+ghost use Rattle.std.specs.Int.{IsPowerOfTwo, IsNextPowerOfTwo};
+ghost use Rattle.uring_entry.specs.Shape.{IsBadCq};
 
 use crate::bad_set_up::BadSetup;
+use std::marker::Model;
 
 /// The sizes of a pair of rings, the number of its files, and the word at which both rings begin.
 #[derive(Clone, Copy, Debug, PartialEq, Eq)]
@@ -43,21 +44,16 @@ impl Setup {
     pub fn new(sq: u32, cq: Option<u32>, files: u32, start: u32) -> Result<Setup, BadSetup>
         ensures ok { IfOk result (λ s. IsSetUp sq cq files start s) }
         ensures bad_sq { IsErrOf result BadSetup.BadSq ↔ IsBadSq sq }
-        ensures bad_cq { IsErrOf result BadSetup.BadCq ↔ ((IsBadSq sq → ⊥) × IsBadCq sq cq) }
-        ensures bad_files { IsErrOf result BadSetup.BadFiles ↔ ((IsBadSq sq → ⊥) × (IsBadCq sq cq → ⊥) × IsBadFiles files) }
+        ensures bad_cq { IsErrOf result BadSetup.BadCq ↔ ((IsBadSq sq → ⊥) × ((p : ℕ) → IsNextPowerOfTwo sq p → IsBadCq p cq)) }
+        ensures bad_files { IsErrOf result BadSetup.BadFiles ↔ ((IsBadSq sq → ⊥) × ((p : ℕ) → IsNextPowerOfTwo sq p → IsBadCq p cq → ⊥) × IsBadFiles files) }
     {
         if sq < 1 || sq > Setup::MAX_SQ {
             return Err(BadSetup::BadSq);
         }
-        let sq = sq.next_power_of_two();
-        let asked = cq.unwrap_or(2 * sq);
-        if asked < 1 || asked > Setup::MAX_CQ {
+        let sq = submission_size(sq);
+        let Some(cq) = completion_size(sq, cq) else {
             return Err(BadSetup::BadCq);
-        }
-        let cq = asked.next_power_of_two();
-        if cq < sq {
-            return Err(BadSetup::BadCq);
-        }
+        };
         if files < 1 || files > Setup::MAX_FILES {
             return Err(BadSetup::BadFiles);
         }
@@ -100,4 +96,29 @@ impl Setup {
     {
         self.start
     }
+}
+
+/// The entries of a submission ring of which `asked` are asked for.
+fn submission_size(asked: u32) -> u32
+    requires { (1 ≤ asked) × (asked ≤ 4096) }
+    ensures rounded { IsNextPowerOfTwo asked result }
+    ensures limit { result ≤ 4096 }
+{
+    asked.next_power_of_two()
+}
+
+/// The entries of the completion ring beside a submission ring of `sq` entries, or none where what is asked for is refused.
+fn completion_size(sq: u32, asked: Option<u32>) -> Option<u32>
+    requires { IsPowerOfTwo sq × (sq ≤ 4096) }
+    ensures none { IsNone result ↔ IsBadCq sq asked }
+    ensures some { IfSome result (λ size. IsNextPowerOfTwo (unwrap_or asked (2 * sq)) size × (sq ≤ size) × (size ≤ 8192)) }
+{
+    let Some(asked) = asked else {
+        return Some(2 * sq);
+    };
+    if asked < 1 || asked > Setup::MAX_CQ {
+        return None;
+    }
+    let size = asked.next_power_of_two();
+    if size < sq { None } else { Some(size) }
 }
