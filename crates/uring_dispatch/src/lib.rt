@@ -1,13 +1,8 @@
-// A library with one function.
+//! The dispatcher of an io_uring pair of rings: it numbers the requests that are accepted, and says of each whether it may start, waits, is cancelled or has ended.
 #![tactic(auto)]
 
-ghost use Rattle.std.specs.Prelude.{◌≡◌};
-ghost use Rattle.uring_dispatch.specs.Echo.{echo_of};
-
-// The `ensures` clause is the contract: what `echo` returns is `echo_of` of its argument, a definition
-// in `specs/Echo.antt`, which a caller's clause can cite too.
-pub fn echo(x: usize) -> usize
-    ensures { result ≡ echo_of x }
-{
-    x
-}
+mod doom;
+mod groups;
+mod held;
+mod readiness;
+mod target;

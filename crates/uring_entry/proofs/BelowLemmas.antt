@@ -37,13 +37,13 @@ some_below-raised p n (suc m) le e =
     ]
 
 -- a bound that goes further, over numbers at which the test fails
-pub some_below-further : (p : ℕ → Bool) (n m : ℕ) → n ≤ m → ((k : ℕ) → n ≤ k → p k ≡ false) → some_below p m ≡ some_below p n
-some_below-further p n m le h =
+pub some_below-between : (p : ℕ → Bool) (n m : ℕ) → n ≤ m → ((k : ℕ) → n ≤ k → k < m → p k ≡ false) → some_below p m ≡ some_below p n
+some_below-between p n m le h =
     elim (cases_Bool (some_below p n)) [
       inl e ↦ some_below-raised p n m le e ∙ sym e
     | inr e ↦
         some_below-none p m
-        (λ k lt. elim (cases_lt k n) [ inl low ↦ some_below-out p n e k low | inr high ↦ h k high ])
+        (λ k lt. elim (cases_lt k n) [ inl low ↦ some_below-out p n e k low | inr high ↦ h k high lt ])
         ∙ sym e
     ]
 

@@ -11,7 +11,7 @@ use Rattle.uring_entry.specs.Success.{is_success}
 use Rattle.uring_entry.specs.Below.{some_below, least_below}
 use Rattle.uring_entry.specs.Requests.{Requests, Ending, entry_of, has_started, has_ended, has_failed, is_running, is_outstanding, is_soft, is_last, is_joined, is_in_group, some_member, is_in_faulty_group, is_behind_failure, is_cancelled, is_doomed, is_ready, holds_back, is_issuable, is_draining, least_of, with_accepted, with_started, with_ended, with_issued_end, with_cut, chosen_by}
 use Rattle.uring_entry.specs.Preparation.{is_faulty}
-use Rattle.uring_entry.proofs.BelowLemmas.{some_below-none, some_below-some, some_below-out, some_below-same, some_below-further}
+use Rattle.uring_entry.proofs.BelowLemmas.{some_below-none, some_below-some, some_below-out, some_below-same}
 
 -- Groups.
 
@@ -33,80 +33,3 @@ is_joined-inside r m n k joined le lt =
     | inr inside ↦ inside
     ]
 
--- The group of n is the numbers from start on and below end, by a test that tells the last of a group, among as many numbers.
-pub record IsExtent (last : ℕ → Bool) (size n start end : ℕ) : Type 0 where
-  pub from : start ≤ n
-  pub to : n < end
-  pub within : end ≤ size
-  pub before : (k : ℕ) → start ≤ k → k < n → last k ≡ false
-  pub behind : (k : ℕ) → n ≤ k → suc k < end → last k ≡ false
-  pub begins : (k : ℕ) → suc k ≡ start → last k ≡ true
-  pub stops : (k : ℕ) → suc k ≡ end → end < size → last k ≡ true
-
-is_joined-before : (r : Requests) (size n start end m : ℕ) → IsExtent (is_last r) size n start end → m < start → is_joined r m n ≡ false
-is_joined-before r size n zero end m e low = absurd (omega arith)
-is_joined-before r size n (suc k) end m e low =
-    let f : suc k ≤ n = e.from in is_joined-no r m n k (omega arith) (omega arith) (e.begins k refl)
-
-pub is_joined-extent : (r : Requests) (size n start end m : ℕ) → IsExtent (is_last r) size n start end → m ≤ n → is_joined r m n ≡ leb start m
-is_joined-extent r size n start end m e le =
-    elim (cases_lt m start) [
-      inl low ↦ is_joined-before r size n start end m e low ∙ sym (lt-leb start m low)
-    | inr high ↦ is_joined-yes r m n (λ k h lt. e.before k (omega arith) lt) ∙ sym (le-leb start m high)
-    ]
-
-
-and-true : (b : Bool) → (b && true) ≡ b
-and-true true = refl
-and-true false = refl
-
-is_in_group-past : (r : Requests) (size n start end m : ℕ) → IsExtent (is_last r) size n start end → m < size → end ≤ m → is_joined r n m ≡ false
-is_in_group-past r size n start zero m e within past = absurd (let f : n < 0 = e.to in omega arith)
-is_in_group-past r size n start (suc k) m e within past =
-    let f : n < suc k = e.to in is_joined-no r n m k (omega arith) (omega arith) (e.stops k refl (omega arith))
-
-is_in_group-behind : (r : Requests) (size n start end m : ℕ) → IsExtent (is_last r) size n start end → m < size → n < m → is_in_group r m n ≡ (leb start m && ltb m end)
-is_in_group-behind r size n start end m e within behind =
-    let f : start ≤ n = e.from in
-    let low : min m n ≡ n = omega arith in
-    let high : max m n ≡ m = omega arith in
-    ap (λ a. is_joined r a (max m n)) low ∙ ap (is_joined r n) high
-    ∙ elim (cases_lt m end) [
-      inl inside ↦
-        is_joined-yes r n m (λ k h lt. e.behind k h (omega arith))
-        ∙ sym (and_from _ _ (le-leb start m (omega arith)) (lt-ltb m end inside))
-    | inr past ↦ is_in_group-past r size n start end m e within past ∙ sym (and_right _ _ (le-ltb m end past))
-    ]
-
-pub is_in_group-extent : (r : Requests) (size n start end m : ℕ) → IsExtent (is_last r) size n start end → m < size → is_in_group r m n ≡ (leb start m && ltb m end)
-is_in_group-extent r size n start end m e within =
-    elim (cases_lt n m) [
-      inl behind ↦ is_in_group-behind r size n start end m e within behind
-    | inr before ↦
-        let f : n < end = e.to in
-        let low : min m n ≡ m = omega arith in
-        let high : max m n ≡ n = omega arith in
-        ap (λ a. is_joined r a (max m n)) low ∙ ap (is_joined r m) high ∙ is_joined-extent r size n start end m e before
-        ∙ sym (and-true (leb start m)) ∙ ap (λ b. leb start m && b) (sym (lt-ltb m end (omega arith)))
-    ]
-
-and-assoc : (a b c : Bool) → ((a && b) && c) ≡ (a && (b && c))
-and-assoc true b c = refl
-and-assoc false b c = refl
-
--- a group's members are those of its extent
-pub some_member-extent : (r : Requests) (p : Entry → Bool) (n start end : ℕ) → IsExtent (is_last r) (length r.accepted) n start end → some_member r p n ≡ some_below (λ m. leb start m && p (entry_of r m)) end
-unfolding some_member
-some_member-extent r p n start end e =
-    some_below-same _ (λ m. (leb start m && ltb m end) && p (entry_of r m)) (length r.accepted)
-    (λ m lt. ap (λ b. b && p (entry_of r m)) (is_in_group-extent r _ n start end m e lt))
-    ∙ some_below-further _ end (length r.accepted) e.within
-    (λ m past. and_left _ _ (and_right _ _ (le-ltb m end past)))
-    ∙ some_below-same _ _ end (λ m lt. ap (λ b. b && p (entry_of r m)) (ap (λ b. leb start m && b) (lt-ltb m end lt) ∙ and-true (leb start m)))
-
--- the earlier members of a group are those from its start on
-pub is_behind_failure-extent : (r : Requests) (size n start end : ℕ) → IsExtent (is_last r) size n start end → is_behind_failure r n ≡ some_below (λ m. leb start m && (is_soft (entry_of r m) && has_failed r m)) n
-unfolding is_behind_failure
-is_behind_failure-extent r size n start end e =
-    some_below-same _ _ n
-    (λ m lt. ap (λ b. (b && is_soft (entry_of r m)) && has_failed r m) (is_joined-extent r size n start end m e (omega arith)) ∙ and-assoc (leb start m) _ _)
