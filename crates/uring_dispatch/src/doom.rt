@@ -14,8 +14,10 @@ pub(crate) fn is_doomed(requests: &[Request], n: usize) -> bool
     requires { n < length requests.now }
     ensures { (r : Requests) → AreHeld requests.now r → result ≡ spec.is_doomed r n }
 {
-    let request = requests[n];
-    request.is_cancelled || is_behind_failure(requests, n) || is_in_faulty_group(requests, n)
+    if requests[n].is_cancelled {
+        return true;
+    }
+    is_behind_failure(requests, n) || is_in_faulty_group(requests, n)
 }
 
 /// Whether an earlier member of the group of request `n` has a soft link and failed.

@@ -1,5 +1,5 @@
 -- Searches below a bound: what an answer tells, and what gives it.
-use Rattle.std.proofs.Common.{◌≡◌, ℕ, zero, suc, ◌<◌, ◌≤◌, Bool, true, false, ◌||◌, Option, Some, None, cond, refl, sym, ◌∙◌, ap, arith, ◌⊎◌, inl, inr}
+use Rattle.std.proofs.Common.{◌≡◌, ℕ, zero, suc, ◌<◌, ◌≤◌, Bool, true, false, ◌||◌, Option, Some, None, is_some, cond, refl, sym, ◌∙◌, ap, arith, ◌⊎◌, inl, inr}
 use Rattle.std.proofs.lemmas.Bool.{cases_lt, cases_order, cases_Bool, or_parts, or_from, or_left, or_right, both_ways}
 use Rattle.uring_entry.specs.Below.{some_below, least_below, found_or}
 
@@ -74,3 +74,44 @@ pub record IsLeast (p : ℕ → Bool) (n k : ℕ) : Type 0 where
   pub below : k < n
   pub holds : p k ≡ true
   pub before : (j : ℕ) → j < k → p j ≡ false
+
+some_same : (m n : ℕ) → Some m ≡ Some n → m ≡ n
+some_same m n e = cc
+
+none_some : {P : Type 0} (k : ℕ) (o : Option ℕ) → o ≡ None → o ≡ Some k → P
+none_some k o n e = cc
+
+is_some-found : (o : Option ℕ) (b : Bool) (n : ℕ) → is_some (found_or o b n) ≡ (is_some o || b)
+is_some-found (Some m) b n = refl
+is_some-found None true n = refl
+is_some-found None false n = refl
+
+-- there is a least number where there is some
+pub is_some-least_below : (p : ℕ → Bool) (n : ℕ) → is_some (least_below p n) ≡ some_below p n
+is_some-least_below p zero = refl
+is_some-least_below p (suc n) =
+    is_some-found (least_below p n) (p n) n ∙ ap (λ b. b || p n) (is_some-least_below p n)
+
+pub least_below-out : (p : ℕ → Bool) (n : ℕ) → least_below p n ≡ None → (k : ℕ) → k < n → p k ≡ false
+least_below-out p n e = some_below-out p n (sym (is_some-least_below p n) ∙ ap is_some e)
+
+pub least_below-tells : (p : ℕ → Bool) (n k : ℕ) → least_below p n ≡ Some k → IsLeast p n k
+least_below-tells p zero k e = cc
+least_below-tells p (suc n) k e =
+    elim (least_below p n) as (λ o. least_below p n ≡ o → found_or o (p n) n ≡ Some k → IsLeast p (suc n) k) [
+      Some m ↦ λ was is.
+        let same : m ≡ k = cc in
+        let least = least_below-tells p n k (was ∙ ap Some same) in
+        record { below = omega (arith, least.below); holds = least.holds; before = least.before }
+    | None ↦ λ was is.
+        elim (cases_Bool (p n)) [
+          inl holds ↦
+            let same : n ≡ k = some_same n k (ap (λ b. found_or None b n) (sym holds) ∙ is) in
+            record {
+              below = omega arith;
+              holds = ap p (sym same) ∙ holds;
+              before = λ j lt. least_below-out p n was j (omega arith)
+            }
+        | inr fails ↦ none_some k (found_or None (p n) n) (ap (λ b. found_or None b n) fails) is
+        ]
+    ] refl e
