@@ -6,8 +6,8 @@ use Rattle.uring_dispatch.proofs.doom.is_doomed.Goals as goal
 
 pub returns-then-requests-n : goal.returns-then-requests-n
 returns-then-requests-n c = λ r h.
-    let q = read_at _ _ _ c.requires c.index-requests-n.is in
-    sym (is_doomed-cancelled r _ (sym (h.cancelled _) ∙ ap (λ (x : Request). x.is_cancelled) (sym q) ∙ c.if-requests-n.true))
+    let q = read_at c.args.requests.now c.args.n c.index-requests-n.result c.requires c.index-requests-n.is in
+    sym (is_doomed-cancelled r _ (sym (h.cancelled c.args.n) ∙ ap (λ (x : Request). x.is_cancelled) (sym q ∙ c.index-requests-n.is) ∙ c.if-requests-n.true))
 
 pub returns-then-is_behind_failure : goal.returns-then-is_behind_failure
 returns-then-is_behind_failure c = λ r h.
@@ -16,8 +16,8 @@ returns-then-is_behind_failure c = λ r h.
 
 pub returns-else-is_behind_failure : goal.returns-else-is_behind_failure
 returns-else-is_behind_failure c = λ r h.
-    let q = read_at _ _ _ c.requires c.index-requests-n.is in
+    let q = read_at c.args.requests.now c.args.n c.index-requests-n.result c.requires c.index-requests-n.is in
     c.is_in_faulty_group.ensures r h
     ∙ sym
-    (is_doomed-else r _ (sym (h.cancelled _) ∙ ap (λ (x : Request). x.is_cancelled) (sym q) ∙ c.if-requests-n.false)
+    (is_doomed-else r _ (sym (h.cancelled c.args.n) ∙ ap (λ (x : Request). x.is_cancelled) (sym q ∙ c.index-requests-n.is) ∙ c.if-requests-n.false)
         (sym (c.is_behind_failure.ensures r h) ∙ c.if-is_behind_failure.false))
