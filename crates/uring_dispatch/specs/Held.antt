@@ -49,6 +49,19 @@ breaks_links q = is_soft q.entry && has_failed q
 abbrev pub request_at : List Request → ℕ → Request
 request_at held n = slice_index_or held n (fresh zero_entry)
 
+-- a request that came so far
+abbrev pub with_state : Request → State → Request
+with_state q state = record q { state = state }
+
+-- a request that a cancel chose
+abbrev pub chosen : Request → Request
+chosen q = record q { is_cancelled = true }
+
+-- how far a request came that ended
+abbrev pub ended_state : Bool → State
+ended_state true = Succeeded
+ended_state false = Failed
+
 -- The held requests are those of the lists.
 pub record AreHeld (held : List Request) (r : Requests) : Type 0 where
   pub count : length held ≡ length r.accepted

@@ -1,5 +1,5 @@
 -- What the definitions on requests mean, and what each event changes in them.
-use Rattle.std.proofs.Common.{◌≡◌, ℕ, zero, suc, ◌+◌, ◌<◌, ◌≤◌, min, max, ℤ, List, [], ◌∷◌, ◌++◌, length, get_or, Bool, true, false, not, ◌&&◌, ◌||◌, eqb, leb, ltb, Option, Some, None, refl, sym, ◌∙◌, ap, arith, ◌⊎◌, inl, inr}
+use Rattle.std.proofs.Common.{◌≡◌, ℕ, zero, suc, ◌+◌, ◌<◌, ◌≤◌, min, max, ℤ, List, [], ◌∷◌, ◌++◌, length, get_or, Bool, true, false, not, ◌&&◌, ◌||◌, eqb, leb, ltb, Option, Some, None, length-append, ◌==◌, ◌≢◌, refl, sym, ◌∙◌, ap, arith, ◌⊎◌, inl, inr}
 use Rattle.std.specs.List.{list_any}
 use Rattle.std.proofs.Math.ListN.{get_or-append}
 use Rattle.std.proofs.Math.Seq.{get_or-append_seam}
@@ -118,4 +118,80 @@ least_of-goes_on r n e =
     | inr still ↦
         or_right _ _
         (and_from _ _ (and_from _ _ least.holds (ap not still)) (or_right _ _ ready))
+    ]
+
+-- What each event changes.
+
+list_any-push : {X : Type 0} (p : X → Bool) (xs : List X) (x : X) → list_any p (xs ++ x ∷ []) ≡ (list_any p xs || p x)
+list_any-push p xs x = list_any-append p xs (x ∷ []) ∙ ap (λ b. list_any p xs || b) (or-false (p x))
+
+-- an element is added at the end that the test at k passes, or that it doesn't
+added-same : {X : Type 0} (p : X → Bool) (xs : List X) (x : X) → p x ≡ true → list_any p (xs ++ x ∷ []) ≡ true
+added-same p xs x e = list_any-push p xs x ∙ or_right _ _ e
+
+added-other : {X : Type 0} (p : X → Bool) (xs : List X) (x : X) → p x ≡ false → list_any p (xs ++ x ∷ []) ≡ list_any p xs
+added-other p xs x e = list_any-push p xs x ∙ ap (λ b. list_any p xs || b) e ∙ or-false _
+
+pub has_ended-same : (r : Requests) (n : ℕ) (res : ℤ) (bytes : List ℕ) → has_ended (with_ended r n res bytes) n ≡ true
+has_ended-same r n res bytes = added-same (λ e. e.number == n) r.ended _ (eq-eqb n n refl)
+
+pub has_ended-other : (r : Requests) (n : ℕ) (res : ℤ) (bytes : List ℕ) (k : ℕ) → k ≢ n → has_ended (with_ended r n res bytes) k ≡ has_ended r k
+has_ended-other r n res bytes k ne = added-other (λ e. e.number == k) r.ended _ (ne_eqb n k (λ e. ne (sym e)))
+
+pub is_running-ended_same : (r : Requests) (n : ℕ) (res : ℤ) (bytes : List ℕ) → is_running (with_ended r n res bytes) n ≡ false
+is_running-ended_same r n res bytes = and_right _ _ (ap not (has_ended-same r n res bytes))
+
+pub is_running-ended_other : (r : Requests) (n : ℕ) (res : ℤ) (bytes : List ℕ) (k : ℕ) → k ≢ n → is_running (with_ended r n res bytes) k ≡ is_running r k
+is_running-ended_other r n res bytes k ne = ap (λ b. has_started r k && not b) (has_ended-other r n res bytes k ne)
+
+pub is_running-started_same : (r : Requests) (n : ℕ) → has_ended r n ≡ false → is_running (with_started r n) n ≡ true
+is_running-started_same r n e = and_from _ _ (added-same (λ m. m == n) r.started n (eq-eqb n n refl)) (ap not e)
+
+pub is_running-started_other : (r : Requests) (n k : ℕ) → k ≢ n → is_running (with_started r n) k ≡ is_running r k
+is_running-started_other r n k ne =
+    ap (λ b. b && not (has_ended r k)) (added-other (λ m. m == k) r.started n (ne_eqb n k (λ e. ne (sym e))))
+
+list_any-both : {X : Type 0} (p q : X → Bool) (xs : List X) → list_any p xs ≡ false → list_any (λ x. p x && q x) xs ≡ false
+list_any-both p q [] e = refl
+list_any-both p q (x ∷ xs) e =
+    let parts = or_parts (p x) (list_any p xs) e in
+    or_from _ _ (and_left _ _ parts.0) (list_any-both p q xs parts.1)
+
+pub has_failed-unended : (r : Requests) (k : ℕ) → has_ended r k ≡ false → has_failed r k ≡ false
+has_failed-unended r k e = list_any-both (λ x. x.number == k) (λ x. not (is_success (entry_of r k) x.res)) r.ended e
+
+pub has_failed-same : (r : Requests) (n : ℕ) (res : ℤ) (bytes : List ℕ) → has_ended r n ≡ false → has_failed (with_ended r n res bytes) n ≡ not (is_success (entry_of r n) res)
+has_failed-same r n res bytes e =
+    list_any-push (λ x. (x.number == n) && not (is_success (entry_of r n) x.res)) r.ended _
+    ∙ ap (λ b. b || ((n == n) && not (is_success (entry_of r n) res))) (has_failed-unended r n e)
+    ∙ ap (λ b. b && not (is_success (entry_of r n) res)) (eq-eqb n n refl)
+
+pub has_failed-other : (r : Requests) (n : ℕ) (res : ℤ) (bytes : List ℕ) (k : ℕ) → k ≢ n → has_failed (with_ended r n res bytes) k ≡ has_failed r k
+has_failed-other r n res bytes k ne =
+    added-other (λ x. (x.number == k) && not (is_success (entry_of r k) x.res)) r.ended _
+    (and_left _ _ (ne_eqb n k (λ e. ne (sym e))))
+
+-- an element added at the end stands there alone
+pub get_or-push_other : {X : Type 0} (xs : List X) (x : X) (k : ℕ) (d : X) → k ≢ length xs → get_or (xs ++ x ∷ []) k d ≡ get_or xs k d
+get_or-push_other xs x k d ne =
+    elim (cases_lt k (length xs)) [
+      inl low ↦ get_or-append xs (x ∷ []) d k low
+    | inr high ↦
+        get_or_past (xs ++ x ∷ []) k d (omega (arith, length-append xs (x ∷ []))) ∙ sym (get_or_past xs k d high)
+    ]
+
+pub entry_of-accepted_at : (r : Requests) (entry : Entry) → entry_of (with_accepted r entry) (length r.accepted) ≡ entry
+entry_of-accepted_at r entry = get_or-append_seam r.accepted entry [] zero_entry
+
+pub entry_of-accepted_other : (r : Requests) (entry : Entry) (k : ℕ) → k ≢ length r.accepted → entry_of (with_accepted r entry) k ≡ entry_of r k
+entry_of-accepted_other r entry k ne = get_or-push_other r.accepted entry k zero_entry ne
+
+pub has_failed-accepted : (r : Requests) (entry : Entry) (k : ℕ) → has_ended r (length r.accepted) ≡ false → has_failed (with_accepted r entry) k ≡ has_failed r k
+has_failed-accepted r entry k none =
+    elim (cases_eq k (length r.accepted)) [
+      inl same ↦
+        let unended = ap (has_ended r) same ∙ none in
+        has_failed-unended (with_accepted r entry) k unended ∙ sym (has_failed-unended r k unended)
+    | inr other ↦
+        ap (λ e. list_any (λ x. (x.number == k) && not (is_success e x.res)) r.ended) (entry_of-accepted_other r entry k other)
     ]
