@@ -1,0 +1,4 @@
+pub mod Extents
+pub mod Standing
+pub mod Changes
+pub mod Issues

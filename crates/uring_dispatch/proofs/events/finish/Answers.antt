@@ -1,0 +1,17 @@
+use Rattle.std.proofs.Common.{sym, ◌∙◌, ap, rules}
+use Rattle.std.specs.Int.{w32}
+use Rattle.std.proofs.lemmas.Int.{to_z-of_z}
+use Rattle.uring_entry.specs.Success.{is_success}
+use Rattle.uring_dispatch.specs.Held.{ended_state}
+use Rattle.uring_dispatch.specs.declared.held.Request.{Request}
+use Rattle.uring_dispatch.proofs.Changes.{ended-held, running-unended}
+use Rattle.uring_dispatch.proofs.Standing.{read_at}
+use Rattle.uring_dispatch.proofs.events.finish.Goals as goal
+
+pub returns-clause-held : goal.returns-clause-held
+returns-clause-held c = λ r h.
+    let q = read_at c.args.requests.now c.args.n c.index-requests-n.result c.requires c.index-requests-n.is in
+    rw c.set_state.ensures
+    (ended-held _ r _ _ _ _ h c.requires
+        (running-unended _ c.args.n c.index-requests-n.result q (sym c.is_running.ensures ∙ c.if-not-is_running.false))
+        (c.end_state.ensures ∙ ap ended_state (rw (to_z-of_z w32 c.args.outcome.res (search rules)) at c.succeeded.ensures ∙ ap (λ e. is_success e c.args.outcome.res) (ap (λ (x : Request). x.entry) q ∙ h.entry c.args.n))))

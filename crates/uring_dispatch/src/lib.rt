@@ -1,0 +1,14 @@
+//! The dispatcher of an io_uring pair of rings: it numbers the requests that are accepted, and says of each whether it may start, waits, is cancelled or has ended.
+#![tactic(auto)]
+
+mod answers;
+mod doom;
+mod events;
+mod groups;
+mod held;
+mod readiness;
+mod refusal;
+mod target;
+
+pub use answers::{Finished, Issued};
+pub use refusal::ReserveError;
