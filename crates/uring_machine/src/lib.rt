@@ -1,16 +1,14 @@
 //! The step machine: the steps of application and dispatcher in any order, each with its answer.
 #![tactic(auto)]
 
+mod acceptance;
 mod answers;
-mod completions;
-mod laws;
-mod machine;
-mod requests;
-mod runs;
+mod cores;
+mod counts;
 mod steps;
-mod submissions;
+mod telling;
 
 pub use answers::Answer;
-pub use machine::Machine;
-pub use runs::run;
+pub use cores::Core;
+pub use counts::Counts;
 pub use steps::Step;
