@@ -18,7 +18,7 @@ use Rattle.uring_dispatch.specs.declared.held.State.TheVariants.{Waiting, Runnin
 use Rattle.uring_dispatch.specs.Held.{AreHeld, request_at, with_state, chosen, ended_state, is_over, is_running, has_failed, in_over, in_failed, in_running, fresh}
 
 -- a fact of each place, after one place was written
-by_place : {X : Type 0} (f : Request → X) (was now : ℕ → X) (held : List Request) (n : ℕ) (q : Request) → n < length held → ((k : ℕ) → f (request_at held k) ≡ was k) → f q ≡ now n → ((k : ℕ) → k ≢ n → now k ≡ was k) → (k : ℕ) → f (request_at (set held n q) k) ≡ now k
+pub by_place : {X : Type 0} (f : Request → X) (was now : ℕ → X) (held : List Request) (n : ℕ) (q : Request) → n < length held → ((k : ℕ) → f (request_at held k) ≡ was k) → f q ≡ now n → ((k : ℕ) → k ≢ n → now k ≡ was k) → (k : ℕ) → f (request_at (set held n q) k) ≡ now k
 by_place f was now held n q lt before here there k =
     elim (cases_eq k n) [
       inl same ↦

@@ -2,3 +2,4 @@ pub mod Extents
 pub mod Standing
 pub mod Changes
 pub mod Issues
+pub mod Numbers

@@ -63,6 +63,14 @@ pub record HasAccepted (old new : Dispatcher) : Type 0 where
   pub running : new.running ≡ old.running
   pub room : new.room + 1 ≡ old.room
 
+-- a call was ended: nothing but that is new
+pub record HasEndedCall (old new : Dispatcher) : Type 0 where
+  pub accepted : new.accepted ≡ old.accepted
+  pub outstanding : new.outstanding ≡ old.outstanding
+  pub running : new.running ≡ old.running
+  pub room : new.room ≡ old.room
+  pub between : new.is_between_calls ≡ true
+
 -- one of the outstanding requests was started
 pub record HasStarted (old new : Dispatcher) : Type 0 where
   pub accepted : new.accepted ≡ old.accepted

@@ -1,11 +1,11 @@
 //! What happens to the held requests: they are issued, chosen by a cancel, and finished.
 
 ghost use Rattle.std.specs.Prelude.{◌≡◌, ℕ, ◌<◌, true, false, length, slice_set, IfSome};
-ghost use Rattle.uring_entry.specs.Requests.{Requests, with_issued_end};
+ghost use Rattle.uring_entry.specs.Requests.{Requests, with_cut, with_issued_end};
 ghost use Rattle.uring_entry.specs.Requests as spec;
 ghost use Rattle.uring_entry.specs.Preparation.{is_cancel};
 ghost use Rattle.uring_dispatch.specs.Answers.{issued, issued_waiting, after_issue, finished, after_finish};
-ghost use Rattle.uring_dispatch.specs.Dispatcher.{dispatcher_of, HasEnded, IssueCounts, FinishCounts};
+ghost use Rattle.uring_dispatch.specs.Dispatcher.{dispatcher_of, HasEndedCall, HasEnded, IssueCounts, FinishCounts};
 ghost use Rattle.uring_dispatch.specs.Held.{AreHeld, request_at, with_state, chosen, ended_state};
 
 use uring_entry::{Op, Outcome, errno, prepare, succeeded};
@@ -15,6 +15,16 @@ use crate::doom::is_doomed;
 use crate::held::{Request, State};
 use crate::readiness::is_ready;
 use crate::target::target;
+
+/// Notes that a submission call closed behind the last request.
+pub(crate) fn end_call(requests: &mut [Request])
+    ensures held { (r : Requests) → AreHeld requests.old r → AreHeld requests.new (with_cut r) }
+    ensures counts { (capacity : ℕ) → HasEndedCall (dispatcher_of requests.old capacity) (dispatcher_of requests.new capacity) }
+{
+    if let Some(last) = requests.last_mut() {
+        last.ends_call = true;
+    }
+}
 
 /// Issues request `n`: it ends where it is doomed or a cancel that may be carried out, starts where it may, and is left as it is otherwise.
 pub(crate) fn issue(requests: &mut [Request], n: usize) -> Issued

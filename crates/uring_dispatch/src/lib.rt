@@ -2,13 +2,16 @@
 #![tactic(auto)]
 
 mod answers;
+mod dispatcher;
 mod doom;
 mod events;
 mod groups;
 mod held;
 mod readiness;
 mod refusal;
+mod search;
 mod target;
 
 pub use answers::{Finished, Issued};
+pub use dispatcher::Dispatch;
 pub use refusal::ReserveError;
