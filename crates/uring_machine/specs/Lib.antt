@@ -1,3 +1,5 @@
 pub mod World
 pub mod Answers
 pub mod Histories
+pub mod Direct
+pub mod Laws

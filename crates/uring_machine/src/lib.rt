@@ -3,7 +3,7 @@
 
 mod answers;
 mod completions;
-mod laws;
+pub mod laws;
 mod machine;
 mod requests;
 mod runs;

@@ -1,0 +1,4 @@
+pub mod Changes
+pub mod SoundRings
+pub mod Sound
+pub mod RingLaws
