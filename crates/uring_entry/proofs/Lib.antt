@@ -1,3 +1,5 @@
 pub mod Payloads
 pub mod Powers
 pub mod Shapes
+pub mod BelowLemmas
+pub mod RequestLemmas

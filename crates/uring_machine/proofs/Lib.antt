@@ -1,6 +1,9 @@
 pub mod Changes
 pub mod Telling
 pub mod SoundRings
+pub mod SoundRequests
+pub mod Groups
 pub mod Sound
 pub mod RingLaws
 pub mod TakenPlaces
+pub mod RequestLaws

@@ -7,12 +7,15 @@ use Rattle.uring_machine.specs.declared.steps.Step.{Step}
 use Rattle.uring_machine.specs.declared.answers.Answer.{Answer}
 use Rattle.uring_machine.proofs.Changes.{Change, change_of, refuses, fills, stages, stores, loads, begins, takes, drops, closes, runs, dooms, cancels, finishes, flushes, sees_tail, reaps, stores_head, shuts}
 use Rattle.uring_machine.proofs.SoundRings.{IsSoundCompletions, IsSoundSubmission, end_sound, flush_sound, see_tail_sound, reap_sound, store_head_sound, stage_sound, store_sound, load_sound, begin_sound, take_sound, close_sound}
-use Rattle.uring_entry.specs.Submission.{no_submission}
+use Rattle.uring_machine.proofs.SoundRequests.{IsSoundRequests, first_requests, start_sound, finish_sound, doom_sound, cancel_sound}
+use Rattle.uring_machine.proofs.Groups.{call_sound}
+use Rattle.uring_entry.specs.Submission.{no_submission, entries_of, places_from}
 use Rattle.uring_entry.specs.Completions.{no_completion}
 
 pub record IsSound (g : Shape) (w : World) : Type 0 where
   pub submission : IsSoundSubmission g.sq w.submission
   pub completions : IsSoundCompletions g.cq w.completions
+  pub requests : IsSoundRequests w.requests
 
 first_submission : (size : ℕ) → IsSoundSubmission size no_submission
 first_submission size = record { seen_first = omega arith; call_published = omega arith; within_call = omega arith; few = omega arith }
@@ -21,7 +24,7 @@ first_completions : (size : ℕ) → IsSoundCompletions size no_completion
 first_completions size = record { begins = refl; reaped_seen = omega arith; seen_put = omega arith; put_posted = omega arith; seen_head_head = omega arith; head_reaped = omega arith; fits = omega arith }
 
 first_sound : (g : Shape) → IsSound g at_first
-first_sound g = record { submission = first_submission g.sq; completions = first_completions g.cq }
+first_sound g = record { submission = first_submission g.sq; completions = first_completions g.cq; requests = first_requests }
 
 -- a change keeps the submission ring sound
 submission_kept : (g : Shape) (w : World) (s : Step) (a : Answer) → Change g w s a → IsSoundSubmission g.sq w.submission → IsSoundSubmission g.sq (happens g w s a).submission
@@ -65,6 +68,27 @@ completions_kept g w s a (reaps completion e) i = reap_sound g.cq w.completions 
 completions_kept g w s a (stores_head head) i = store_head_sound g.cq w.completions i
 completions_kept g w s a (shuts e) i = i
 
+-- a change keeps the requests sound
+requests_kept : (g : Shape) (w : World) (s : Step) (a : Answer) → Change g w s a → IsSoundRequests w.requests → IsSoundRequests (happens g w s a).requests
+requests_kept g w s a (refuses _ _ same silent) i = subst (λ v. IsSoundRequests v.requests) (sym (same w)) i
+requests_kept g w s a (fills slot entry free) i = i
+requests_kept g w s a (stages word room) i = i
+requests_kept g w s a (stores tail) i = i
+requests_kept g w s a (loads head) i = i
+requests_kept g w s a (begins count is_open no_call) i = i
+requests_kept g w s a (takes entry call place opened left at valid) i = subst (λ o. IsSoundRequests (taking_of w o).requests) (sym opened) i
+requests_kept g w s a (drops call place opened left at invalid) i = subst (λ o. IsSoundRequests (taking_of w o).requests) (sym opened) i
+requests_kept g w s a (closes accepted missed head call opened all) i = subst (λ o. IsSoundRequests (ending_of w o).requests) (sym opened) (call_sound w.requests (entries_of (places_from w.submission call.count)) i.cut_at_end i)
+requests_kept g w s a (runs n outstanding idle spared ready) i = start_sound w.requests n outstanding idle spared ready i
+requests_kept g w s a (dooms n outstanding idle doomed) i = doom_sound w.requests n outstanding i
+requests_kept g w s a (cancels n outstanding idle spared ready cancel) i = cancel_sound w.requests n outstanding spared ready i
+requests_kept g w s a (finishes n res bytes running) i = finish_sound w.requests n res bytes running i
+requests_kept g w s a (flushes moved) i = i
+requests_kept g w s a (sees_tail tail) i = i
+requests_kept g w s a (reaps completion next) i = i
+requests_kept g w s a (stores_head head) i = i
+requests_kept g w s a (shuts no_call) i = i
+
 pub sound_of : (g : Shape) (h : History) → IsLawfulApart g h → IsSound g (world g h)
 sound_of g [] lawful = first_sound g
 sound_of g ((s , a) ∷ before) lawful =
@@ -73,4 +97,5 @@ sound_of g ((s , a) ∷ before) lawful =
     record {
       submission = submission_kept g (world g before) s a c i.submission;
       completions = completions_kept g (world g before) s a c i.completions;
+      requests = requests_kept g (world g before) s a c i.requests;
     }

@@ -1,9 +1,10 @@
 -- What holds of every lawful history.
-use Rattle.std.specs.Prelude.{◌≡◌, ℕ, ◌+◌, ◌≤◌, Bool, true, false, ◌||◌, List, [], ◌∷◌, ◌++◌, length, take, drop}
+use Rattle.std.specs.Prelude.{◌≡◌, ℕ, ◌+◌, ◌≤◌, Bool, true, false, ◌||◌, List, [], ◌∷◌, ◌++◌, length, take, drop, Some}
 use Rattle.std.specs.List.{list_any}
 use Rattle.uring_entry.specs.Shape.{Shape}
 use Rattle.uring_entry.specs.Layout.{Completion}
 use Rattle.uring_entry.specs.Submission.{entries_of}
+use Rattle.uring_entry.specs.Requests.{Requests, least_of, is_running, is_issuable}
 use Rattle.uring_entry.specs.Completions.{Completions}
 use Rattle.uring_machine.specs.World.{World}
 use Rattle.uring_machine.specs.Histories.{Event, History, world, IsLawfulApart}
@@ -35,3 +36,9 @@ takes_in event = closes_call event
 pub record TakenOnceInOrder (g : Shape) (h : History) : Type 0 where
   pub beginning : positions_taken h ≤ length (world g h).submission.published
   pub in_order : entries_taken h ≡ entries_of (take (positions_taken h) (world g h).submission.published)
+
+-- With something outstanding there is a least outstanding request, and it is running, or can be issued.
+pub record LeastCanGoOn (r : Requests) (n : ℕ) : Type 0 where
+  pub least : ℕ
+  pub is_least : least_of r ≡ Some least
+  pub goes_on : (is_running r least || is_issuable r least) ≡ true

@@ -1,9 +1,10 @@
 //! What holds of every lawful history: laws of the definitions alone.
-ghost use Rattle.std.specs.Prelude.{◌≡◌, false, ◌∷◌, ◌++◌};
+ghost use Rattle.std.specs.Prelude.{◌≡◌, ℕ, true, false, ◌∷◌, ◌++◌};
 ghost use Rattle.std.specs.List.{list_any};
 ghost use Rattle.uring_entry.specs.Shape.{Shape, IsShape};
 ghost use Rattle.uring_machine.specs.Histories.{History, world, IsLawfulApart};
-ghost use Rattle.uring_machine.specs.Laws.{ReapedBeginPosted, TakenOnceInOrder, takes_in};
+ghost use Rattle.uring_machine.specs.Laws.{ReapedBeginPosted, TakenOnceInOrder, takes_in, LeastCanGoOn};
+ghost use Rattle.uring_entry.specs.Requests.{is_outstanding};
 ghost use Rattle.uring_machine.specs.declared.steps.Step.TheVariants as step;
 ghost use Rattle.uring_machine.specs.declared.answers.Answer.TheVariants as answer;
 
@@ -22,5 +23,11 @@ pub fn nothing_after_close()
 /// The entries that calls took are those of the published positions, from the first on, each position once.
 pub fn taken_once_in_order()
     ensures { (g : Shape) (h : History) → IsShape g → IsLawfulApart g h → TakenOnceInOrder g h }
+{
+}
+
+/// With something outstanding, the least outstanding request is running, or can be issued.
+pub fn least_can_go_on()
+    ensures { (g : Shape) (h : History) (n : ℕ) → is_outstanding (world g h).requests n ≡ true → LeastCanGoOn (world g h).requests n }
 {
 }
