@@ -6,4 +6,5 @@ pub mod Groups
 pub mod Sound
 pub mod RingLaws
 pub mod TakenPlaces
+pub mod ToldRequests
 pub mod RequestLaws

@@ -1,14 +1,14 @@
 -- What holds of every lawful history.
-use Rattle.std.specs.Prelude.{◌≡◌, ℕ, ◌+◌, ◌≤◌, Bool, true, false, ◌||◌, List, [], ◌∷◌, ◌++◌, length, take, drop, Some}
+use Rattle.std.specs.Prelude.{◌≡◌, ℕ, ◌+◌, ◌<◌, ◌≤◌, ◌==◌, count_by, Bool, true, false, ◌||◌, List, [], ◌∷◌, ◌++◌, length, take, drop, Some}
 use Rattle.std.specs.List.{list_any}
 use Rattle.uring_entry.specs.Shape.{Shape}
 use Rattle.uring_entry.specs.Layout.{Completion}
 use Rattle.uring_entry.specs.Submission.{entries_of}
-use Rattle.uring_entry.specs.Requests.{Requests, least_of, is_running, is_issuable}
+use Rattle.uring_entry.specs.Requests.{Requests, least_of, is_running, is_issuable, is_outstanding}
 use Rattle.uring_entry.specs.Completions.{Completions}
 use Rattle.uring_machine.specs.World.{World}
 use Rattle.uring_machine.specs.Histories.{Event, History, world, IsLawfulApart}
-use Rattle.uring_machine.specs.Direct.{opened_by, closes_call, entries_taken, positions_taken}
+use Rattle.uring_machine.specs.Direct.{opened_by, closes_call, entries_taken, positions_taken, starts, ends}
 use Rattle.uring_machine.specs.declared.steps.Step.TheVariants as step
 use Rattle.uring_machine.specs.declared.answers.Answer.TheVariants as answer
 
@@ -42,3 +42,18 @@ pub record LeastCanGoOn (r : Requests) (n : ℕ) : Type 0 where
   pub least : ℕ
   pub is_least : least_of r ≡ Some least
   pub goes_on : (is_running r least || is_issuable r least) ≡ true
+
+-- how often a request was started, and how often it ended
+abbrev pub times_started : History → ℕ → ℕ
+times_started h n = count_by (λ m. m == n) (starts h)
+
+abbrev pub times_ended : History → ℕ → ℕ
+times_ended h n = count_by (λ e. e.number == n) (ends h)
+
+-- Each request is started at most once, and ends at most once, and only accepted ones do. With none outstanding, each accepted one ended exactly once.
+pub record EachEndsOnce (g : Shape) (h : History) : Type 0 where
+  pub starts_once : (n : ℕ) → times_started h n ≤ 1
+  pub ends_once : (n : ℕ) → times_ended h n ≤ 1
+  pub accepted_start : (n : ℕ) → 0 < times_started h n → n < length (world g h).requests.accepted
+  pub accepted_end : (n : ℕ) → 0 < times_ended h n → n < length (world g h).requests.accepted
+  pub all_end : ((n : ℕ) → is_outstanding (world g h).requests n ≡ false) → (n : ℕ) → n < length (world g h).requests.accepted → times_ended h n ≡ 1

@@ -3,7 +3,7 @@ ghost use Rattle.std.specs.Prelude.{◌≡◌, ℕ, true, false, ◌∷◌, ◌+
 ghost use Rattle.std.specs.List.{list_any};
 ghost use Rattle.uring_entry.specs.Shape.{Shape, IsShape};
 ghost use Rattle.uring_machine.specs.Histories.{History, world, IsLawfulApart};
-ghost use Rattle.uring_machine.specs.Laws.{ReapedBeginPosted, TakenOnceInOrder, takes_in, LeastCanGoOn};
+ghost use Rattle.uring_machine.specs.Laws.{ReapedBeginPosted, TakenOnceInOrder, takes_in, LeastCanGoOn, EachEndsOnce};
 ghost use Rattle.uring_entry.specs.Requests.{is_outstanding};
 ghost use Rattle.uring_machine.specs.declared.steps.Step.TheVariants as step;
 ghost use Rattle.uring_machine.specs.declared.answers.Answer.TheVariants as answer;
@@ -29,5 +29,11 @@ pub fn taken_once_in_order()
 /// With something outstanding, the least outstanding request is running, or can be issued.
 pub fn least_can_go_on()
     ensures { (g : Shape) (h : History) (n : ℕ) → is_outstanding (world g h).requests n ≡ true → LeastCanGoOn (world g h).requests n }
+{
+}
+
+/// Each request is started at most once and ends at most once, and with none outstanding each accepted one ended exactly once.
+pub fn each_ends_once()
+    ensures { (g : Shape) (h : History) → IsShape g → IsLawfulApart g h → EachEndsOnce g h }
 {
 }
