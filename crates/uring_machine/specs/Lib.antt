@@ -1,6 +1,9 @@
 pub mod World
 pub mod Answers
 pub mod Histories
+pub mod Direct
+pub mod Laws
+pub mod Told
 pub mod Contents
 pub mod Core
 pub mod Machine

@@ -1,7 +1,8 @@
 //! What the rings answer, as answers of the machine.
 
 ghost use Rattle.std.specs.Prelude.{◌≡◌};
-ghost use Rattle.uring_machine.specs.Told.{fill_told, index_told, reap_told, next_told};
+ghost use Rattle.uring_machine.specs.Told.{fill_told, index_told};
+ghost use Rattle.uring_machine.specs.Answers.{reap_answer_of, next_answer_of};
 
 use uring_entry::Cqe;
 use uring_rings::{FillAnswer, IndexAnswer};
@@ -31,7 +32,7 @@ pub(crate) fn tell_index(answer: IndexAnswer) -> Answer
 
 /// The answer to a reap.
 pub(crate) fn tell_reap(completion: Option<Cqe>) -> Answer
-    ensures { result ≡ reap_told completion }
+    ensures { result ≡ reap_answer_of completion }
 {
     match completion {
         Some(completion) => Answer::Reaped(completion),
@@ -41,7 +42,7 @@ pub(crate) fn tell_reap(completion: Option<Cqe>) -> Answer
 
 /// The answer with the request that can be issued next.
 pub(crate) fn tell_next(number: Option<u64>) -> Answer
-    ensures { result ≡ next_told number }
+    ensures { result ≡ next_answer_of number }
 {
     match number {
         Some(number) => Answer::Next(number),

@@ -9,10 +9,11 @@ use std::marker::Model;
 
 use uring_dispatch::{Dispatch, Finished, Issued, ReserveError};
 use uring_entry::{Cqe, Op, Outcome, Setup, Sqe};
-use uring_rings::{BeginAnswer, Cq, EndAnswer, FillAnswer, IndexAnswer, Sq, TakeAnswer};
+use uring_rings::{BeginAnswer, Cq, EndAnswer, Sq, TakeAnswer};
 
 use crate::acceptance::accept_call;
 use crate::answers::Answer;
+use crate::conversions::{tell_fill, tell_index, tell_next, tell_reap};
 use crate::counts::Counts;
 use crate::steps::Step;
 use crate::telling::tell;
@@ -138,11 +139,7 @@ impl Core {
         ensures shape { self.new.shape ≡ self.old.shape }
         ensures fits { (h : History) → FitsApart self.old h → FitsApart self.new ((step.Fill slot entry , result) ∷ h) }
     {
-        match self.sq.fill(slot, entry) {
-            FillAnswer::Filled => Answer::Filled,
-            FillAnswer::NoSlot => Answer::NoSlot,
-            FillAnswer::Busy => Answer::Busy,
-        }
+        tell_fill(self.sq.fill(slot, entry))
     }
 
     /// The application stages a word.
@@ -150,10 +147,7 @@ impl Core {
         ensures shape { self.new.shape ≡ self.old.shape }
         ensures fits { (h : History) → FitsApart self.old h → FitsApart self.new ((step.Index word , result) ∷ h) }
     {
-        match self.sq.index(word) {
-            IndexAnswer::Staged => Answer::Staged,
-            IndexAnswer::Full => Answer::Full,
-        }
+        tell_index(self.sq.index(word))
     }
 
     /// The application publishes what is staged.
@@ -275,10 +269,7 @@ impl Core {
         ensures shape { self.new.shape ≡ self.old.shape }
         ensures fits { (h : History) → FitsApart self.old h → FitsApart self.new ((step.Reap , result) ∷ h) }
     {
-        match self.cq.reap() {
-            Some(completion) => Answer::Reaped(completion),
-            None => Answer::Nothing,
-        }
+        tell_reap(self.cq.reap())
     }
 
     /// The application stores the completion ring's head.
@@ -306,9 +297,6 @@ impl Core {
         ensures shape { self.new.shape ≡ self.old.shape }
         ensures fits { (h : History) → FitsApart self.old h → FitsApart self.new ((step.Next , result) ∷ h) }
     {
-        match self.dispatch.next() {
-            Some(number) => Answer::Next(number),
-            None => Answer::Nothing,
-        }
+        tell_next(self.dispatch.next())
     }
 }

@@ -3,8 +3,10 @@
 
 mod acceptance;
 mod answers;
+mod conversions;
 mod cores;
 mod counts;
+pub mod laws;
 mod steps;
 mod telling;
 

@@ -1,0 +1,10 @@
+pub mod Changes
+pub mod Telling
+pub mod SoundRings
+pub mod SoundRequests
+pub mod Groups
+pub mod Sound
+pub mod RingLaws
+pub mod TakenPlaces
+pub mod ToldRequests
+pub mod RequestLaws

@@ -1,0 +1,59 @@
+-- What holds of every lawful history.
+use Rattle.std.specs.Prelude.{◌≡◌, ℕ, ◌+◌, ◌<◌, ◌≤◌, ◌==◌, count_by, Bool, true, false, ◌||◌, List, [], ◌∷◌, ◌++◌, length, take, drop, Some}
+use Rattle.std.specs.List.{list_any}
+use Rattle.uring_entry.specs.Shape.{Shape}
+use Rattle.uring_entry.specs.Layout.{Completion}
+use Rattle.uring_entry.specs.Submission.{entries_of}
+use Rattle.uring_entry.specs.Requests.{Requests, least_of, is_running, is_issuable, is_outstanding}
+use Rattle.uring_entry.specs.Completions.{Completions}
+use Rattle.uring_machine.specs.World.{World}
+use Rattle.uring_machine.specs.Histories.{Event, History, world, IsLawfulApart}
+use Rattle.uring_machine.specs.Direct.{opened_by, closes_call, entries_taken, positions_taken, starts, ends}
+use Rattle.uring_machine.specs.declared.steps.Step.TheVariants as step
+use Rattle.uring_machine.specs.declared.answers.Answer.TheVariants as answer
+
+-- the completions that stand in the ring: put there, and not reaped
+abbrev pub in_ring : Completions → List Completion
+in_ring l = drop (length l.reaped) (take l.put l.posted)
+
+-- the completions that wait in the overflow list
+abbrev pub in_overflow : Completions → List Completion
+in_overflow l = drop l.put l.posted
+
+-- What is posted is, in order, what was reaped, what stands in the ring, and what waits in the overflow list. The ring holds no more than its size above the head that the application stored.
+pub record ReapedBeginPosted (size : ℕ) (l : Completions) : Type 0 where
+  pub in_order : l.posted ≡ l.reaped ++ (in_ring l ++ in_overflow l)
+  pub reaped_put : length l.reaped ≤ l.put
+  pub put_posted : l.put ≤ length l.posted
+  pub ring_holds : l.put ≤ l.head + size
+
+-- whether a call opens, or closes with its entries accepted
+abbrev pub takes_in : Event → Bool
+takes_in (step.Begin count , answer.Call length) = true
+takes_in event = closes_call event
+
+-- The entries that calls took are the ones that a beginning of the published positions has, each position once, in order: that beginning is as long as positions were taken.
+pub record TakenOnceInOrder (g : Shape) (h : History) : Type 0 where
+  pub beginning : positions_taken h ≤ length (world g h).submission.published
+  pub in_order : entries_taken h ≡ entries_of (take (positions_taken h) (world g h).submission.published)
+
+-- With something outstanding there is a least outstanding request, and it is running, or can be issued.
+pub record LeastCanGoOn (r : Requests) (n : ℕ) : Type 0 where
+  pub least : ℕ
+  pub is_least : least_of r ≡ Some least
+  pub goes_on : (is_running r least || is_issuable r least) ≡ true
+
+-- how often a request was started, and how often it ended
+abbrev pub times_started : History → ℕ → ℕ
+times_started h n = count_by (λ m. m == n) (starts h)
+
+abbrev pub times_ended : History → ℕ → ℕ
+times_ended h n = count_by (λ e. e.number == n) (ends h)
+
+-- Each request is started at most once, and ends at most once, and only accepted ones do. With none outstanding, each accepted one ended exactly once.
+pub record EachEndsOnce (g : Shape) (h : History) : Type 0 where
+  pub starts_once : (n : ℕ) → times_started h n ≤ 1
+  pub ends_once : (n : ℕ) → times_ended h n ≤ 1
+  pub accepted_start : (n : ℕ) → 0 < times_started h n → n < length (world g h).requests.accepted
+  pub accepted_end : (n : ℕ) → 0 < times_ended h n → n < length (world g h).requests.accepted
+  pub all_end : ((n : ℕ) → is_outstanding (world g h).requests n ≡ false) → (n : ℕ) → n < length (world g h).requests.accepted → times_ended h n ≡ 1
