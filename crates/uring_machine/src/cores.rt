@@ -16,7 +16,7 @@ use crate::answers::Answer;
 use crate::conversions::{tell_fill, tell_index, tell_next, tell_reap};
 use crate::counts::Counts;
 use crate::steps::Step;
-use crate::telling::tell;
+use crate::posting::tell;
 
 /// A pair of rings and its requests, moved one step at a time, without files: how a running request ends comes from outside.
 #[derive(Drop)]

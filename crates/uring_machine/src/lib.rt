@@ -8,7 +8,7 @@ mod cores;
 mod counts;
 pub mod laws;
 mod steps;
-mod telling;
+mod posting;
 
 pub use answers::Answer;
 pub use cores::Core;
