@@ -3,3 +3,4 @@ pub mod Standing
 pub mod Changes
 pub mod Issues
 pub mod Numbers
+pub mod Views

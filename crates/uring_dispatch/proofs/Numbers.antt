@@ -45,19 +45,29 @@ chosen-counts held m capacity lt =
       between = between-set held m q capacity lt refl
     }
 
+fewer : (new old was is : ℕ) → new + was ≡ old + is → was ≡ 1 → is ≡ 0 → new + 1 ≡ old
+fewer new old was is e w i = omega arith
+
+same_count : (new old was is : ℕ) → new + was ≡ old + is → was ≡ 0 → is ≡ 0 → new ≡ old
+same_count new old was is e w i = omega arith
+
 pub ended-counts : (held : List Request) (n : ℕ) (state : State) (capacity : ℕ) → n < length held → (request_at held n).state ≡ Waiting → in_over state ≡ true → in_running state ≡ false → HasEnded (dispatcher_of held capacity) (dispatcher_of (set held n (with_state (request_at held n) state)) capacity)
 ended-counts held n state capacity lt waiting over still =
     let q : Request = with_state (request_at held n) state in
-    let a = count_by-set (λ x. not (is_over x)) held n q lt in
-    let b = count_by-set is_running held n q lt in
+    let a : count_by (λ x. not (is_over x)) (set held n q) + cond (not (in_over (request_at held n).state)) 1 0 ≡ count_by (λ x. not (is_over x)) held + cond (not (in_over state)) 1 0 =
+        count_by-set (λ x. not (is_over x)) held n q lt
+    in
+    let b : count_by is_running (set held n q) + cond (in_running (request_at held n).state) 1 0 ≡ count_by is_running held + cond (in_running state) 1 0 =
+        count_by-set is_running held n q lt
+    in
     let was : cond (not (in_over (request_at held n).state)) 1 0 ≡ 1 = ap (λ s. cond (not (in_over s)) 1 0) waiting in
     let is : cond (not (in_over state)) 1 0 ≡ 0 = ap (λ t. cond (not t) 1 0) over in
     let ran : cond (in_running (request_at held n).state) 1 0 ≡ 0 = ap (λ s. cond (in_running s) 1 0) waiting in
     let runs : cond (in_running state) 1 0 ≡ 0 = ap (λ t. cond t 1 0) still in
     record {
       accepted = length-set held n q;
-      outstanding = omega arith;
-      running = omega arith;
+      outstanding = fewer _ _ _ _ a was is;
+      running = same_count _ _ _ _ b ran runs;
       room = omega (arith, length-set held n q);
       between = between-set held n q capacity lt refl
     }

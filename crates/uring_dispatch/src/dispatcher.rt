@@ -151,7 +151,7 @@ impl Dispatch {
         requires { IsTrue self.now.is_between_calls }
         ensures { (r : Requests) → Shows self.now r → result ≡ next_of r }
     {
-        search::next(&self.requests).map(|n| n as u64)
+        search::next(&self.requests)
     }
 
     /// The least outstanding request.
@@ -159,7 +159,7 @@ impl Dispatch {
         requires { IsTrue self.now.is_between_calls }
         ensures { (r : Requests) → Shows self.now r → result ≡ least_of r }
     {
-        search::least(&self.requests).map(|n| n as u64)
+        search::least(&self.requests)
     }
 
     /// How many requests were accepted: at most `MAX_ACCEPTED`.
