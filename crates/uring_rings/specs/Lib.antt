@@ -1,0 +1,2 @@
+pub mod SubmissionRing
+pub mod SubmissionAnswers

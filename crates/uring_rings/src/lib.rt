@@ -1,0 +1,11 @@
+//! The two rings of io_uring, over wrapping 32-bit index words and fixed cells: the submission ring with its table of entries, and the completion ring with its overflow list.
+#![tactic(auto)]
+
+mod answers;
+mod indices;
+mod open_call;
+mod submission_ring;
+
+pub use answers::{BeginAnswer, EndAnswer, FillAnswer, IndexAnswer, TakeAnswer, Taken};
+pub use indices::Index;
+pub use submission_ring::Sq;

@@ -1,0 +1,216 @@
+ghost use Rattle.std.specs.Prelude.{◌≡◌, ◌≢◌, ◌%◌, ◌<◌, ◌≤◌, length, IfOk, is_some};
+ghost use Rattle.uring_entry.specs.Shape.{Shape};
+ghost use Rattle.uring_entry.specs.Words.{word_of};
+ghost use Rattle.uring_entry.specs.Submission.{Submission, no_submission, staged, taken, pending, is_busy, stored, loaded};
+ghost use Rattle.uring_rings.specs.SubmissionRing.{ShowsSubmission};
+ghost use Rattle.uring_rings.specs.SubmissionAnswers.{fill_answer, after_fill, index_answer, after_index, begin_answer, after_begin, take_answer, after_take, end_answer, after_end};
+
+use crate::answers::{BeginAnswer, EndAnswer, FillAnswer, IndexAnswer, TakeAnswer, Taken};
+use crate::indices::Index;
+use crate::open_call::OpenCall;
+use std::alloc::{AllocError, Global};
+use std::marker::Model;
+use uring_entry::{Setup, Sqe};
+
+/// The submission ring.
+#[derive(Debug, Drop)]
+pub struct Sq {
+    size: u32,
+    tail: Index,
+    published: Index,
+    head: Index,
+    seen_head: Index,
+    dropped: u32,
+    call: Option<OpenCall>,
+    table: Vec<Sqe>,
+    array: Vec<u32>,
+}
+
+impl Model for Sq {
+    ghost use Rattle.uring_rings.specs.SubmissionRing.{SubmissionQueue, IsSubmissionQueue};
+
+    ghost Value = { SubmissionQueue };
+
+    ghost view = { λ q. record { size = q.size; tail = q.tail.0; published = q.published.0; head = q.head.0; seen_head = q.seen_head.0; dropped = q.dropped; call = q.call; table = q.table.items; array = q.array.items } };
+
+    ghost invariant = { λ q. IsSubmissionQueue (record { size = q.size; tail = q.tail.0; published = q.published.0; head = q.head.0; seen_head = q.seen_head.0; dropped = q.dropped; call = q.call; table = q.table.items; array = q.array.items }) };
+}
+
+impl Sq {
+    /// A ring
+    pub fn new(alloc: Global, setup: &Setup) -> Result<Sq, AllocError>
+        ensures { IfOk result (λ q. ShowsSubmission setup.now q no_submission) }
+    {
+        let size = setup.sq();
+        let start = Index(setup.start());
+        let table = vec![in alloc; Sqe::from_words([0; 16]); size as usize]?;
+        let array = vec![in alloc; 0; size as usize]?;
+        Ok(Sq {
+            size,
+            tail: start,
+            published: start,
+            head: start,
+            seen_head: start,
+            dropped: 0,
+            call: None,
+            table,
+            array,
+        })
+    }
+
+    /// Cell
+    fn cell(&self, index: Index) -> usize
+        ensures value { result ≡ index.0 % self.now.size }
+        ensures within { result < self.now.size }
+        ensures cells { length self.now.array ≡ self.now.size }
+    {
+        index.cell(self.size - 1)
+    }
+
+    /// Writes
+    pub fn fill(&mut self, slot: u32, entry: Sqe) -> FillAnswer
+        ensures answer { (g : Shape) (l : Submission) → ShowsSubmission g self.old l → result ≡ fill_answer g.sq l slot }
+        ensures shows { (g : Shape) (l : Submission) → ShowsSubmission g self.old l → ShowsSubmission g self.new (after_fill l slot entry result) }
+        ensures refused { result ≢ FillAnswer.Filled → self.new ≡ self.old }
+    {
+        if slot >= self.size {
+            return FillAnswer::NoSlot;
+        }
+        if self.is_busy(slot) {
+            return FillAnswer::Busy;
+        }
+        self.table[slot as usize] = entry;
+        FillAnswer::Filled
+    }
+
+    /// Busy
+    fn is_busy(&self, slot: u32) -> bool
+        ensures { (g : Shape) (l : Submission) → ShowsSubmission g self.now l → result ≡ is_busy l slot }
+    {
+        let count = self.published.distance(self.seen_head);
+        for k in 0..count {
+            let cell = self.cell(self.seen_head.after(k));
+            if self.array[cell] == slot {
+                return true;
+            }
+        }
+        false
+    }
+
+    /// Stages
+    pub fn index(&mut self, word: u32) -> IndexAnswer
+        ensures answer { (g : Shape) (l : Submission) → ShowsSubmission g self.old l → result ≡ index_answer g.sq l }
+        ensures shows { (g : Shape) (l : Submission) → ShowsSubmission g self.old l → ShowsSubmission g self.new (after_index l word result) }
+        ensures refused { result ≢ IndexAnswer.Staged → self.new ≡ self.old }
+    {
+        if self.tail.distance(self.seen_head) == self.size {
+            return IndexAnswer::Full;
+        }
+        let cell = self.cell(self.tail);
+        self.array[cell] = word;
+        self.tail = self.tail.after(1);
+        IndexAnswer::Staged
+    }
+
+    /// Publishes
+    pub fn store_tail(&mut self) -> u32
+        ensures answer { (g : Shape) (l : Submission) → ShowsSubmission g self.old l → result ≡ word_of g.start (staged l) }
+        ensures shows { (g : Shape) (l : Submission) → ShowsSubmission g self.old l → ShowsSubmission g self.new (stored g.sq l) }
+    {
+        self.published = self.tail;
+        self.published.0
+    }
+
+    /// Loads
+    pub fn load_head(&mut self) -> u32
+        ensures answer { (g : Shape) (l : Submission) → ShowsSubmission g self.old l → result ≡ word_of g.start (taken l) }
+        ensures shows { (g : Shape) (l : Submission) → ShowsSubmission g self.old l → ShowsSubmission g self.new (loaded l) }
+    {
+        self.seen_head = self.head;
+        self.seen_head.0
+    }
+
+    /// Pending
+    pub fn pending(&self) -> u32
+        ensures { (g : Shape) (l : Submission) → ShowsSubmission g self.now l → result ≡ pending l }
+    {
+        self.published.distance(self.head)
+    }
+
+    /// In call
+    pub fn in_call(&self) -> bool
+        ensures { (g : Shape) (l : Submission) → ShowsSubmission g self.now l → result ≡ is_some l.call }
+    {
+        self.call.is_some()
+    }
+
+    /// Opens
+    pub fn begin(&mut self, n: u32) -> BeginAnswer
+        ensures answer { (g : Shape) (l : Submission) → ShowsSubmission g self.old l → result ≡ begin_answer l n }
+        ensures shows { (g : Shape) (l : Submission) → ShowsSubmission g self.old l → ShowsSubmission g self.new (after_begin l n result) }
+        ensures refused { result ≡ BeginAnswer.InCall → self.new ≡ self.old }
+    {
+        if self.call.is_some() {
+            return BeginAnswer::InCall;
+        }
+        let count = n.min(self.pending());
+        self.call = Some(OpenCall {
+            count,
+            taken: 0,
+            accepted: 0,
+        });
+        BeginAnswer::Call(count)
+    }
+
+    /// Takes
+    pub fn take(&mut self) -> TakeAnswer
+        ensures answer { (g : Shape) (l : Submission) → ShowsSubmission g self.old l → result ≡ take_answer l }
+        ensures shows { (g : Shape) (l : Submission) → ShowsSubmission g self.old l → ShowsSubmission g self.new (after_take l result) }
+        ensures no_call { result ≡ TakeAnswer.NoCall → self.new ≡ self.old }
+        ensures no_more { result ≡ TakeAnswer.NoMore → self.new ≡ self.old }
+    {
+        let Some(call) = self.call else {
+            return TakeAnswer::NoCall;
+        };
+        if call.taken == call.count {
+            return TakeAnswer::NoMore;
+        }
+        let cell = self.cell(self.head.after(call.taken));
+        let word = self.array[cell];
+        let taken = call.taken + 1;
+        if word >= self.size {
+            self.call = Some(OpenCall { taken, ..call });
+            return TakeAnswer::Dropped;
+        }
+        let accepted = call.accepted + 1;
+        self.call = Some(OpenCall {
+            taken,
+            accepted,
+            ..call
+        });
+        TakeAnswer::Entry(self.table[word as usize])
+    }
+
+    /// Ends
+    pub fn end(&mut self) -> EndAnswer
+        ensures answer { (g : Shape) (l : Submission) → ShowsSubmission g self.old l → result ≡ end_answer g l }
+        ensures shows { (g : Shape) (l : Submission) → ShowsSubmission g self.old l → ShowsSubmission g self.new (after_end l result) }
+        ensures no_call { result ≡ EndAnswer.NoCall → self.new ≡ self.old }
+        ensures not_all { result ≡ EndAnswer.NotAll → self.new ≡ self.old }
+    {
+        let Some(call) = self.call else {
+            return EndAnswer::NoCall;
+        };
+        if call.taken < call.count {
+            return EndAnswer::NotAll;
+        }
+        self.call = None;
+        self.head = self.head.after(call.count);
+        self.dropped = self.dropped.wrapping_add(call.count - call.accepted);
+        EndAnswer::Taken(Taken {
+            accepted: call.accepted,
+            dropped: self.dropped,
+            head: self.head.0,
+        })
+    }
+}
