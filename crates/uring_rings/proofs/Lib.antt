@@ -4,3 +4,4 @@ pub mod Places
 pub mod SubmissionWords
 pub mod SubmissionSteps
 pub mod SubmissionCalls
+pub mod CompletionSteps

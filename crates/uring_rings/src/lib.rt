@@ -2,10 +2,12 @@
 #![tactic(auto)]
 
 mod answers;
+mod completion_ring;
 mod indices;
 mod open_call;
 mod submission_ring;
 
 pub use answers::{BeginAnswer, EndAnswer, FillAnswer, IndexAnswer, TakeAnswer, Taken};
+pub use completion_ring::Cq;
 pub use indices::Index;
 pub use submission_ring::Sq;
