@@ -1,20 +1,9 @@
 //! Bytes put into others.
 
 ghost use Rattle.std.specs.Prelude.{◌≡◌, ◌+◌, ◌<◌, ◌≤◌, ◌++◌, length, take, drop, OnOk, OnErr};
-ghost use Rattle.uring_entry.specs.Layout.{padded};
 ghost use Rattle.uring_files.specs.Contents.{max_len, overwritten};
 
 use std::alloc::AllocError;
-
-/// Up to 64 bytes, with zeros behind them.
-pub(crate) fn padded_bytes(bytes: &[u8]) -> [u8; 64]
-    requires { length bytes.now ≤ 64 }
-    ensures { result ≡ padded bytes.now }
-{
-    let mut all = [0; 64];
-    all[..bytes.len()].copy_from_slice(bytes);
-    all
-}
 
 /// Writes some bytes over others from `start` on. Where these end before, zeros fill the gap. All memory is asked for first.
 pub(crate) fn overwrite(all: &mut Vec<u8>, start: usize, bytes: &[u8]) -> Result<(), AllocError>

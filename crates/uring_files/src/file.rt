@@ -1,4 +1,5 @@
-ghost use Rattle.std.specs.Prelude.{◌≡◌, ◌≤◌, ◌↔◌, length, IsTrue, OnOk, OnErr, IsErrOf, slice_get};
+ghost use Rattle.std.specs.Prelude.{◌≡◌, ◌≤◌, ◌↔◌, length, IsTrue, OnOk, OnErr, IsErrOf, slice_get, pos};
+ghost use Rattle.uring_entry.specs.Layout.{padded};
 ghost use Rattle.uring_files.specs.Contents.{empty_file, max_len, read_outcome, is_too_long, is_past_end, written, with_writes_synced};
 
 use std::alloc::Global;
@@ -6,7 +7,7 @@ use std::marker::Model;
 
 use uring_entry::Outcome;
 
-use crate::bytes::{overwrite, padded_bytes};
+use crate::bytes::overwrite;
 use crate::state::FileState;
 
 /// Why a write of a file failed.
@@ -79,11 +80,7 @@ impl File {
     {
         let start = self.bytes.len().min(off as usize);
         let end = self.bytes.len().min(start + len as usize);
-        let found = &self.bytes[start..end];
-        Outcome {
-            res: found.len() as i32,
-            bytes: padded_bytes(found),
-        }
+        found(&self.bytes[start..end])
     }
 
     /// Writes bytes at `off`. A fault changes nothing.
@@ -111,5 +108,18 @@ impl File {
         ensures { self.new ≡ with_writes_synced self.old }
     {
         self.synced = self.writes;
+    }
+}
+
+/// The end of a read that found these bytes.
+fn found(bytes: &[u8]) -> Outcome
+    requires { length bytes.now ≤ 64 }
+    ensures { result ≡ record { res = pos (length bytes.now); bytes = padded bytes.now } }
+{
+    let mut all = [0; 64];
+    all[..bytes.len()].copy_from_slice(bytes);
+    Outcome {
+        res: bytes.len() as i32,
+        bytes: all,
     }
 }

@@ -1,0 +1,53 @@
+-- Bytes written over others.
+use Rattle.std.proofs.Common.{◌≡◌, ℕ, suc, zero, ◌+◌, ◌-◌, ◌<◌, ◌≤◌, ◌∙◌, ap, subst, sym, refl, max, List, [], ◌∷◌, ◌++◌, length, take, drop, replicate, arith, rules, append-nil}
+use Rattle.std.proofs.lemmas.Grind.{common_steps}
+use Rattle.std.proofs.lemmas.List.{take_all, drop_all, take-replicate, length-replicate}
+use Rattle.std.specs.Prelude.{if◌then◌else◌, ◌==◌}
+use Rattle.uring_files.specs.Contents.{overwritten}
+
+pub take-append : (n : ℕ) (xs ys : List ℕ) → take n (xs ++ ys) ≡ take n xs ++ take (n - length xs) ys
+take-append n [] ys = grind (arith, common_steps)
+take-append zero (x ∷ xs) ys = grind (arith, common_steps)
+take-append (suc n) (x ∷ xs) ys = ap (λ zs. x ∷ zs) (take-append n xs ys) ∙ grind (arith, common_steps)
+
+pub drop-append : (n : ℕ) (xs ys : List ℕ) → drop n (xs ++ ys) ≡ drop n xs ++ drop (n - length xs) ys
+drop-append n [] ys = grind (arith, common_steps)
+drop-append zero (x ∷ xs) ys = grind (arith, common_steps)
+drop-append (suc n) (x ∷ xs) ys = drop-append n xs ys ∙ grind (arith, common_steps)
+
+-- what lies before the place where bytes are written
+before : (old : List ℕ) (off m : ℕ) → off - length old ≤ m → take off (old ++ replicate m 0) ≡ take off old ++ replicate (off - length old) 0
+before old off m room = take-append off old (replicate m 0) ∙ ap (λ zs. take off old ++ zs) (take-replicate (off - length old) m 0 room)
+
+-- what lies behind them
+behind : (old : List ℕ) (end m : ℕ) → m ≤ end - length old → drop end (old ++ replicate m 0) ≡ drop end old
+behind old end m few =
+    let nothing : drop (end - length old) (replicate m 0) ≡ [] = drop_all (end - length old) (replicate m 0) (rw length-replicate few) in
+    drop-append end old (replicate m 0) ∙ ap (λ zs. drop end old ++ zs) nothing ∙ append-nil (drop end old)
+
+some_bytes : (n : ℕ) (xs ys : List ℕ) → 1 ≤ n → (if n == 0 then xs else ys) ≡ ys
+
+some_bytes n xs ys some = search rules
+
+-- what is written into bytes that were filled up with zeros
+pub replaced_is : (old new : List ℕ) (off n : ℕ) → 1 ≤ length new → n ≡ max (length old) (off + length new)
+    → take off (take n old ++ replicate (n - length old) 0) ++ new ++ drop (off + length new) (take n old ++ replicate (n - length old) 0) ≡ overwritten old off new
+replaced_is old new off n some size =
+    let whole : take n old ≡ old = take_all n old (omega arith) in
+    let front = before old off (n - length old) (omega arith) in
+    let back = behind old (off + length new) (n - length old) (omega arith) in
+    rw (whole, front, back) (sym (some_bytes (length new) _ _ some))
+
+-- a slice of a vector after its elements were replaced
+pub whole_part : (new old : List ℕ) (len : ℕ) → length new ≡ length old → len ≡ length old → take len (new ++ drop (length new) old) ≡ new
+whole_part new old len same all = grind (arith, common_steps)
+
+-- bytes filled up with zeros and then written over as a slice
+pub filled_and_replaced : (old grown seen put new : List ℕ) (off n len size : ℕ) → len ≡ length old → 1 ≤ length new → n ≡ max len (off + length new)
+    → grown ≡ take n old ++ replicate (n - len) 0 → seen ≡ grown → put ≡ take off seen ++ new ++ drop (off + length new) seen → length put ≡ length seen → size ≡ length grown
+    → take size (put ++ drop (length put) grown) ≡ overwritten old off new
+filled_and_replaced old grown seen put new off n len size len_is some n_is grown_is seen_is put_is same size_is =
+    let filled : grown ≡ take n old ++ replicate (n - length old) 0 = subst (λ m. grown ≡ take n old ++ replicate (n - m) 0) len_is grown_is in
+    let whole = whole_part put grown size (same ∙ ap length seen_is) size_is in
+    let over : take off grown ++ new ++ drop (off + length new) grown ≡ overwritten old off new = rw filled (replaced_is old new off n some (rw (← len_is) n_is)) in
+    whole ∙ put_is ∙ ap (λ xs. take off xs ++ new ++ drop (off + length new) xs) seen_is ∙ over
