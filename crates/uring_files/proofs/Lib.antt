@@ -1,1 +1,2 @@
 mod Overwrites
+pub mod Prepared

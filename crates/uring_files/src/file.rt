@@ -41,7 +41,7 @@ impl Model for File {
 
 impl File {
     /// The most bytes that a file may have.
-    pub(crate) const MAX_LEN: u64 = 65_536;
+    pub(crate) const MAX_LEN: u32 = 65_536;
 
     /// A file of no bytes.
     pub(crate) fn new(alloc: Global) -> File
@@ -92,7 +92,7 @@ impl File {
         ensures no_memory { IsErrOf result WriteFault.NoMemory → IsTrue (is_past_end off (length bytes.now) self.old) }
     {
         if !bytes.is_empty() {
-            if off > File::MAX_LEN - bytes.len() as u64 {
+            if off > u64::from(File::MAX_LEN) - bytes.len() as u64 {
                 return Err(WriteFault::TooLong);
             }
             let Ok(()) = overwrite(&mut self.bytes, off as usize, bytes) else {

@@ -32,7 +32,7 @@ impl Files {
     ghost use Rattle.uring_files.specs.Operations.{IsForFiles, IsOutcome, result_of, after, file_of, state_of, byte_of};
 
     /// The most bytes that a file may have.
-    pub const MAX_LEN: u32 = 65_536;
+    pub const MAX_LEN: u32 = File::MAX_LEN;
 
     /// As many files as `count`, each of no bytes. The only error is that memory for them was refused.
     pub fn new(alloc: Global, count: u32) -> Result<Files, AllocError>

@@ -8,3 +8,6 @@ mod state;
 
 pub use file_table::Files;
 pub use state::FileState;
+
+#[cfg(test)]
+mod tests;
