@@ -1,9 +1,11 @@
 -- Bytes written over others.
-use Rattle.std.proofs.Common.{◌≡◌, ℕ, suc, zero, ◌+◌, ◌-◌, ◌<◌, ◌≤◌, ◌∙◌, ap, subst, sym, refl, max, List, [], ◌∷◌, ◌++◌, length, take, drop, replicate, arith, rules, append-nil}
+use Rattle.std.proofs.Common.{◌≡◌, ℕ, suc, zero, ◌+◌, ◌-◌, ◌<◌, ◌≤◌, ◌∙◌, ap, subst, sym, refl, max, List, [], ◌∷◌, ◌++◌, length, get_or, take, drop, replicate, arith, rules, append-nil}
 use Rattle.std.proofs.lemmas.Grind.{common_steps}
-use Rattle.std.proofs.lemmas.List.{take_all, drop_all, take-replicate, length-replicate}
-use Rattle.std.specs.Prelude.{if◌then◌else◌, ◌==◌}
+use Rattle.std.proofs.lemmas.Bool.Decides.{nat_tests}
+use Rattle.std.proofs.lemmas.List.{take_all, drop_all, take-replicate, length-replicate, places}
+use Rattle.std.specs.Prelude.{if◌then◌else◌, ◌==◌, ◌&&◌, nat_le, nat_lt}
 use Rattle.uring_files.specs.Contents.{overwritten}
+use Rattle.uring_files.specs.Laws.{IsWrittenOver}
 
 pub take-append : (n : ℕ) (xs ys : List ℕ) → take n (xs ++ ys) ≡ take n xs ++ take (n - length xs) ys
 take-append n [] ys = grind (arith, common_steps)
@@ -26,7 +28,6 @@ behind old end m few =
     drop-append end old (replicate m 0) ∙ ap (λ zs. drop end old ++ zs) nothing ∙ append-nil (drop end old)
 
 some_bytes : (n : ℕ) (xs ys : List ℕ) → 1 ≤ n → (if n == 0 then xs else ys) ≡ ys
-
 some_bytes n xs ys some = search rules
 
 -- what is written into bytes that were filled up with zeros
@@ -51,3 +52,18 @@ filled_and_replaced old grown seen put new off n len size len_is some n_is grown
     let whole = whole_part put grown size (same ∙ ap length seen_is) size_is in
     let over : take off grown ++ new ++ drop (off + length new) grown ≡ overwritten old off new = rw filled (replaced_is old new off n some (rw (← len_is) n_is)) in
     whole ∙ put_is ∙ ap (λ xs. take off xs ++ new ++ drop (off + length new) xs) seen_is ∙ over
+
+-- the parts of written-over bytes: each offset
+parts_at : (old new : List ℕ) (off k : ℕ)
+    → get_or (take off old ++ replicate (off - length old) 0 ++ new ++ drop (off + length new) old) k 0
+    ≡ (if nat_le off k && nat_lt k (off + length new) then get_or new (k - off) 0 else get_or old k 0)
+parts_at old new off k = grind (arith, places, nat_tests)
+
+parts_length : (old new : List ℕ) (off : ℕ)
+    → length (take off old ++ replicate (off - length old) 0 ++ new ++ drop (off + length new) old) ≡ max (length old) (off + length new)
+parts_length old new off = grind (arith, places)
+
+-- bytes that were written over, offset by offset
+pub is_written_over : (old new : List ℕ) (off : ℕ) → 1 ≤ length new → IsWrittenOver old new off (overwritten old off new)
+is_written_over old new off some =
+    rw (some_bytes (length new) _ _ some) (record { len = parts_length old new off; bytes = parts_at old new off })

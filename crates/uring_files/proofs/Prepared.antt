@@ -39,4 +39,4 @@ whichever false false false false fd off len target bytes other short = short
 pub prepared : (e : Entry) → fault_of e ≡ None → is_cancel e ≡ false → IsForFiles (operation_of e)
 prepared e none other =
     whichever (opcode_of e == NOP) (opcode_of e == FSYNC) (is_cancel e) (opcode_of e == READ) (fd_of e) (off_of e) (len_of e) (addr_of e) (payload_of e) other
-        (let short = no_length_fault e none in search rules)
+    (let short = no_length_fault e none in search rules)

@@ -2,13 +2,11 @@ ghost use Rattle.std.specs.Prelude.{◌≡◌, ◌≤◌, ◌↔◌, length, IsT
 ghost use Rattle.uring_entry.specs.Layout.{padded};
 ghost use Rattle.uring_files.specs.Contents.{empty_file, max_len, read_outcome, is_too_long, is_past_end, written, with_writes_synced};
 
-use std::alloc::Global;
-use std::marker::Model;
-
-use uring_entry::Outcome;
-
 use crate::bytes::overwrite;
 use crate::state::FileState;
+use std::alloc::Global;
+use std::marker::Model;
+use uring_entry::Outcome;
 
 /// Why a write of a file failed.
 #[derive(Clone, Copy, Debug, PartialEq, Eq)]

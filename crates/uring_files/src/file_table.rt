@@ -1,14 +1,11 @@
 ghost use Rattle.std.specs.Prelude.{◌≡◌, replicate, IfOk, IfSome};
 ghost use Rattle.uring_files.specs.Operations as spec;
 
-use std::alloc::{AllocError, Global};
-use std::marker::Model;
-
-use uring_entry::errno;
-use uring_entry::{Op, Outcome};
-
 use crate::file::{File, WriteFault};
 use crate::state::FileState;
+use std::alloc::{AllocError, Global};
+use std::marker::Model;
+use uring_entry::{Op, Outcome, errno};
 
 /// Files in memory, each named by its descriptor: the first by 0, the next by 1, and so on.
 #[derive(Debug, Drop)]

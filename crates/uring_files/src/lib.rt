@@ -4,6 +4,7 @@
 mod bytes;
 mod file;
 mod file_table;
+pub mod laws;
 mod state;
 
 pub use file_table::Files;

@@ -7,5 +7,5 @@ abbrev pub invariant-loop : goal.invariant-loop
 invariant-loop l = record {
   made : l.files.items ≡ replicate l.counter empty_file;
   size : vec_len l.files ≡ l.counter;
-  room : l.count ≤ vec_capacity l.files
+  room : l.count ≤ vec_capacity l.files;
 }
