@@ -1,31 +1,11 @@
 -- Bytes written over others.
-use Rattle.std.proofs.Common.{◌≡◌, ℕ, suc, zero, ◌+◌, ◌-◌, ◌<◌, ◌≤◌, ◌∙◌, ap, subst, sym, refl, max, List, [], ◌∷◌, ◌++◌, length, get_or, take, drop, replicate, arith, rules, append-nil}
-use Rattle.std.proofs.lemmas.Grind.{common_steps}
+use Rattle.std.proofs.Common.{◌≡◌, ℕ, ◌+◌, ◌-◌, ◌≤◌, ◌∙◌, ap, subst, max, List, ◌++◌, length, get_or, take, drop, replicate, arith, rules}
+use Rattle.std.proofs.lemmas.Grind.{common_steps, same_number_lists}
 use Rattle.std.proofs.lemmas.Bool.Decides.{nat_tests}
-use Rattle.std.proofs.lemmas.List.{take_all, drop_all, take-replicate, length-replicate, places}
+use Rattle.std.proofs.lemmas.List.{take_all, places}
 use Rattle.std.specs.Prelude.{if◌then◌else◌, ◌==◌, ◌&&◌, nat_le, nat_lt}
 use Rattle.uring_files.specs.Contents.{overwritten}
 use Rattle.uring_files.specs.Laws.{IsWrittenOver}
-
-pub take-append : (n : ℕ) (xs ys : List ℕ) → take n (xs ++ ys) ≡ take n xs ++ take (n - length xs) ys
-take-append n [] ys = grind (arith, common_steps)
-take-append zero (x ∷ xs) ys = grind (arith, common_steps)
-take-append (suc n) (x ∷ xs) ys = ap (λ zs. x ∷ zs) (take-append n xs ys) ∙ grind (arith, common_steps)
-
-pub drop-append : (n : ℕ) (xs ys : List ℕ) → drop n (xs ++ ys) ≡ drop n xs ++ drop (n - length xs) ys
-drop-append n [] ys = grind (arith, common_steps)
-drop-append zero (x ∷ xs) ys = grind (arith, common_steps)
-drop-append (suc n) (x ∷ xs) ys = drop-append n xs ys ∙ grind (arith, common_steps)
-
--- what lies before the place where bytes are written
-before : (old : List ℕ) (off m : ℕ) → off - length old ≤ m → take off (old ++ replicate m 0) ≡ take off old ++ replicate (off - length old) 0
-before old off m room = take-append off old (replicate m 0) ∙ ap (λ zs. take off old ++ zs) (take-replicate (off - length old) m 0 room)
-
--- what lies behind them
-behind : (old : List ℕ) (end m : ℕ) → m ≤ end - length old → drop end (old ++ replicate m 0) ≡ drop end old
-behind old end m few =
-    let nothing : drop (end - length old) (replicate m 0) ≡ [] = drop_all (end - length old) (replicate m 0) (rw length-replicate few) in
-    drop-append end old (replicate m 0) ∙ ap (λ zs. drop end old ++ zs) nothing ∙ append-nil (drop end old)
 
 some_bytes : (n : ℕ) (xs ys : List ℕ) → 1 ≤ n → (if n == 0 then xs else ys) ≡ ys
 some_bytes n xs ys some = search rules
@@ -35,9 +15,7 @@ pub replaced_is : (old new : List ℕ) (off n : ℕ) → 1 ≤ length new → n 
     → take off (take n old ++ replicate (n - length old) 0) ++ new ++ drop (off + length new) (take n old ++ replicate (n - length old) 0) ≡ overwritten old off new
 replaced_is old new off n some size =
     let whole : take n old ≡ old = take_all n old (omega arith) in
-    let front = before old off (n - length old) (omega arith) in
-    let back = behind old (off + length new) (n - length old) (omega arith) in
-    rw (whole, front, back) (sym (some_bytes (length new) _ _ some))
+    rw (whole, some_bytes (length new) _ _ some) (same_number_lists _ _ (grind (arith, places)) (λ k within. grind (arith, places)))
 
 -- a slice of a vector after its elements were replaced
 pub whole_part : (new old : List ℕ) (len : ℕ) → length new ≡ length old → len ≡ length old → take len (new ++ drop (length new) old) ≡ new

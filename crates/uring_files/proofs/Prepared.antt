@@ -4,10 +4,9 @@ use Rattle.std.specs.Prelude.{nat_lt, ◌==◌}
 use Rattle.uring_entry.specs.declared.opcode.TheConstants.{NOP, FSYNC, READ}
 use Rattle.uring_entry.specs.Layout.{Entry, opcode_of, fd_of, off_of, len_of, addr_of, payload_of}
 use Rattle.uring_entry.specs.Preparation.{fault_of, has_fault_of, operation_of, is_cancel}
-use Rattle.uring_entry.specs.declared.operation.Op.{Op}
 use Rattle.uring_entry.specs.declared.operation.Op.TheVariants.{Nop, Read, Write, Fsync, Cancel}
 use Rattle.uring_entry.specs.declared.faults.Fault.{Fault}
-use Rattle.uring_entry.specs.declared.faults.Fault.TheVariants.{Flags, Opcode, Ioprio, OpFlags, Reserved, Len, Off}
+use Rattle.uring_entry.specs.declared.faults.Fault.TheVariants.{Flags, Opcode, Ioprio, OpFlags, Reserved, Len}
 use Rattle.uring_files.specs.Operations.{IsForFiles}
 
 -- what isn't found isn't the first

@@ -1,4 +1,4 @@
-use Rattle.std.proofs.Common.{◌≡◌, ◌+◌, ◌≤◌, replicate, vec_len}
+use Rattle.std.proofs.Common.{◌≡◌, ◌≤◌, replicate, vec_len}
 use Rattle.std.specs.Vec.{vec_capacity}
 use Rattle.uring_files.specs.Contents.{empty_file}
 use Rattle.uring_files.proofs.file_table.Files.new.Given as goal
