@@ -1,6 +1,12 @@
+<<<<<<< HEAD
 //! What follows from the definition of a write. The functions do nothing: their contracts are the laws.
 
 ghost use Rattle.uring_files.specs.Laws.{WritesOver, ReadsBack};
+=======
+//! What follows from the definitions of files and their operations. The functions do nothing: their contracts are the laws.
+
+ghost use Rattle.uring_files.specs.Laws.{WritesOver, ReadsBack, FailureChangesNothing, OthersStay, FilesStandAlone, EndsStandAlone};
+>>>>>>> files
 
 /// A write changes the bytes under it and no others. A gap before it has zeros.
 pub fn write_changes_what_lies_under_it()
@@ -11,3 +17,18 @@ pub fn write_changes_what_lies_under_it()
 pub fn read_gives_what_was_written()
     ensures { ReadsBack }
 {}
+<<<<<<< HEAD
+=======
+
+/// An operation that ended with a negative result changed no file.
+pub fn failure_changes_nothing()
+    ensures { FailureChangesNothing }
+{}
+
+/// Each file stands by itself: an operation changes only the file of its descriptor, and neither what it makes of it nor how it ends depends on the others.
+pub fn files_stand_alone()
+    ensures others { OthersStay }
+    ensures files { FilesStandAlone }
+    ensures ends { EndsStandAlone }
+{}
+>>>>>>> files
