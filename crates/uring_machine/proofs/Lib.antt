@@ -8,3 +8,5 @@ pub mod RingLaws
 pub mod TakenPlaces
 pub mod ToldRequests
 pub mod RequestLaws
+pub mod Growth
+pub mod OrderLaws

@@ -154,11 +154,11 @@ first_requests =
 -- A request starts.
 
 -- only the starts change
-start_doom : (r : Requests) (n m : ℕ) → is_doomed (with_started r n) m ≡ is_doomed r m
+pub start_doom : (r : Requests) (n m : ℕ) → is_doomed (with_started r n) m ≡ is_doomed r m
 unfolding is_doomed some_member is_joined is_behind_failure
 start_doom r n m = refl
 
-start_join : (r : Requests) (n k m : ℕ) → is_joined (with_started r n) k m ≡ is_joined r k m
+pub start_join : (r : Requests) (n k m : ℕ) → is_joined (with_started r n) k m ≡ is_joined r k m
 unfolding is_joined
 start_join r n k m = refl
 
@@ -216,7 +216,7 @@ pub record IsChoice (r : Requests) (n : ℕ) (cancelled : List ℕ) : Type 0 whe
   pub added : (m : ℕ) → list_any (λ k. k == m) cancelled ≡ true → (is_cancelled r m ≡ true) ⊎ IsChosen r n m
 
 module _ (r : Requests) (n : ℕ) (res : ℤ) (bytes : List ℕ) (cancelled : List ℕ) (choice : IsChoice r n cancelled) where
-  end_join : (k m : ℕ) → is_joined (ended_as r n res bytes cancelled) k m ≡ is_joined r k m
+  pub end_join : (k m : ℕ) → is_joined (ended_as r n res bytes cancelled) k m ≡ is_joined r k m
   unfolding is_joined
   end_join k m = refl
 
@@ -238,7 +238,7 @@ module _ (r : Requests) (n : ℕ) (res : ℤ) (bytes : List ℕ) (cancelled : Li
   fail_kept k e = any_kept (λ x. (x.number == k) && not (is_success (entry_of r k) x.res)) r.ended _ e
 
   -- who is doomed stays doomed
-  end_doom : (m : ℕ) → is_doomed r m ≡ true → is_doomed (ended_as r n res bytes cancelled) m ≡ true
+  pub end_doom : (m : ℕ) → is_doomed r m ≡ true → is_doomed (ended_as r n res bytes cancelled) m ≡ true
   end_doom m doomed =
       elim (is_doomed-cases r m doomed) [
         inl faulty ↦ is_doomed-faulty (ended_as r n res bytes cancelled) m (end_fault m ∙ faulty)
@@ -375,7 +375,7 @@ module _ (r : Requests) (n : ℕ) where
       })
 
   -- who is chosen by the end of n with this result
-  choice_of : (res : ℤ) → (res ≡ doomed_result r n) ⊎ (res ≡ cancel_result r n) → IsChoice r n (r.cancelled ++ chosen_by r n res)
+  pub choice_of : (res : ℤ) → (res ≡ doomed_result r n) ⊎ (res ≡ cancel_result r n) → IsChoice r n (r.cancelled ++ chosen_by r n res)
   choice_of res how =
       record {
         kept = λ m e. any_kept (λ k. k == m) r.cancelled (chosen_by r n res) e;

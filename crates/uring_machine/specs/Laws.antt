@@ -1,12 +1,14 @@
 -- What holds of every lawful history.
-use Rattle.std.specs.Prelude.{◌≡◌, ℕ, ◌+◌, ◌<◌, ◌≤◌, ◌==◌, count_by, Bool, true, false, ◌||◌, List, [], ◌∷◌, ◌++◌, length, take, drop, Some}
+use Rattle.std.specs.Prelude.{◌≡◌, ℕ, ◌+◌, ◌<◌, ◌≤◌, ◌==◌, count_by, Bool, true, false, ◌||◌, List, [], ◌∷◌, ◌++◌, length, take, drop, Some, slice_get, ◌⊎◌}
 use Rattle.std.specs.List.{list_any}
 use Rattle.uring_entry.specs.Shape.{Shape}
 use Rattle.uring_entry.specs.Layout.{Completion}
 use Rattle.uring_entry.specs.Submission.{entries_of}
-use Rattle.uring_entry.specs.Requests.{Requests, least_of, is_running, is_issuable, is_outstanding}
+use Rattle.uring_entry.specs.Requests.{Requests, least_of, is_running, is_issuable, is_outstanding, is_doomed, doomed_result, is_joined, is_draining, Ending}
 use Rattle.uring_entry.specs.Completions.{Completions}
 use Rattle.uring_machine.specs.World.{World}
+use Rattle.uring_machine.specs.Answers.{IsEnded}
+use Rattle.uring_machine.specs.declared.answers.Answer.{Answer}
 use Rattle.uring_machine.specs.Histories.{Event, History, world, IsLawfulApart}
 use Rattle.uring_machine.specs.Direct.{opened_by, closes_call, entries_taken, positions_taken, starts, ends}
 use Rattle.uring_machine.specs.declared.steps.Step.TheVariants as step
@@ -57,3 +59,16 @@ pub record EachEndsOnce (g : Shape) (h : History) : Type 0 where
   pub accepted_start : (n : ℕ) → 0 < times_started h n → n < length (world g h).requests.accepted
   pub accepted_end : (n : ℕ) → 0 < times_ended h n → n < length (world g h).requests.accepted
   pub all_end : ((n : ℕ) → is_outstanding (world g h).requests n ≡ false) → (n : ℕ) → n < length (world g h).requests.accepted → times_ended h n ≡ 1
+
+-- A doomed request was never started, and each end of it has the result of the doomed: EINVAL where it has a fault itself, else ECANCELED.
+pub record DoomedNeverRun (g : Shape) (h : History) : Type 0 where
+  pub never_run : (n : ℕ) → is_doomed (world g h).requests n ≡ true → times_started h n ≡ 0
+  pub ends_so : (k : ℕ) (e : Ending) → slice_get (ends h) k ≡ Some e → is_doomed (world g h).requests e.number ≡ true → e.res ≡ doomed_result (world g h).requests e.number
+
+-- whether m, a request before n, is one that n waits for: they are members of one group, or one of their groups drains
+abbrev pub waits_for : Requests → ℕ → ℕ → Bool
+waits_for r n m = is_joined r m n || is_draining r m || is_draining r n
+
+-- an Issue of n so answered starts it: it runs, or it is a cancel, which ends at once, and isn't doomed
+abbrev pub Starts : Requests → ℕ → Answer → Type 0
+Starts r n a = (a ≡ answer.Run) ⊎ (IsEnded a × (is_doomed r n ≡ false))

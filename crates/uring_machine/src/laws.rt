@@ -1,10 +1,12 @@
 //! What holds of every lawful history: laws of the definitions alone.
-ghost use Rattle.std.specs.Prelude.{◌≡◌, ℕ, true, false, ◌∷◌, ◌++◌};
+ghost use Rattle.std.specs.Prelude.{◌≡◌, ◌<◌, ℕ, neg_ℤ, List, length, true, false, ◌∷◌, ◌++◌};
 ghost use Rattle.std.specs.List.{list_any};
 ghost use Rattle.uring_entry.specs.Shape.{Shape, IsShape};
 ghost use Rattle.uring_machine.specs.Histories.{History, world, IsLawfulApart};
-ghost use Rattle.uring_machine.specs.Laws.{ReapedBeginPosted, TakenOnceInOrder, takes_in, LeastCanGoOn, EachEndsOnce};
-ghost use Rattle.uring_entry.specs.Requests.{is_outstanding};
+ghost use Rattle.uring_machine.specs.Laws.{ReapedBeginPosted, TakenOnceInOrder, takes_in, LeastCanGoOn, EachEndsOnce, DoomedNeverRun, Starts, waits_for, times_ended};
+ghost use Rattle.uring_entry.specs.Requests.{is_outstanding, is_doomed};
+ghost use Rattle.uring_entry.specs.declared.errno.TheConstants.{ECANCELED};
+ghost use Rattle.uring_machine.specs.declared.answers.Answer.{Answer};
 ghost use Rattle.uring_machine.specs.declared.steps.Step.TheVariants as step;
 ghost use Rattle.uring_machine.specs.declared.answers.Answer.TheVariants as answer;
 
@@ -35,5 +37,20 @@ pub fn least_can_go_on()
 /// Each request is started at most once and ends at most once, and with none outstanding each accepted one ended exactly once.
 pub fn each_ends_once()
     ensures { (g : Shape) (h : History) → IsShape g → IsLawfulApart g h → EachEndsOnce g h }
+{
+}
+
+/// A doomed request is never started, and its end has the result of the doomed; it stays doomed. An `Issue` that ends with -125 (`ECANCELED`) is that of a request that was doomed just before.
+pub fn doomed_never_run()
+    ensures never_run { (g : Shape) (h : History) → IsShape g → IsLawfulApart g h → DoomedNeverRun g h }
+    ensures stay_doomed { (g : Shape) (after before : History) (n : ℕ) → IsShape g → IsLawfulApart g (after ++ before) → n < length (world g before).requests.accepted → is_doomed (world g before).requests n ≡ true → is_doomed (world g (after ++ before)).requests n ≡ true }
+    ensures were_doomed { (g : Shape) (after before : History) (n : ℕ) (bytes : List ℕ) → IsShape g → IsLawfulApart g (after ++ (step.Issue n, answer.Ended (neg_ℤ ECANCELED) bytes) ∷ before) → is_doomed (world g before).requests n ≡ true }
+{
+}
+
+/// Members of a group, and groups of which one drains, start in order: a request starts only after the end of each that it waits for.
+pub fn links_and_drains_hold()
+    ensures { (g : Shape) (after before : History) (m n : ℕ) (a : Answer) → IsShape g → IsLawfulApart g (after ++ (step.Issue n, a) ∷ before) → Starts (world g before).requests n a → m < n
+        → waits_for (world g (after ++ (step.Issue n, a) ∷ before)).requests n m ≡ true → times_ended before m ≡ 1 }
 {
 }
