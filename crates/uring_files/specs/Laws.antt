@@ -1,14 +1,8 @@
-<<<<<<< HEAD
--- What follows from the definition of a write.
-use Rattle.std.specs.Prelude.{◌≡◌, ℕ, ◌+◌, ◌-◌, ◌≤◌, ◌&&◌, nat_le, nat_lt, max, List, length, slice_index, if◌then◌else◌}
-use Rattle.uring_files.specs.Contents.{FileContents, overwritten, written, bytes_at}
-=======
 -- What follows from the definitions of files and their operations.
 use Rattle.std.specs.Prelude.{◌≡◌, ℕ, ℤ, negsuc, true, false, ◌+◌, ◌-◌, ◌≤◌, ◌&&◌, nat_le, nat_lt, max, List, length, slice_index, if◌then◌else◌}
 use Rattle.uring_files.specs.Contents.{FileContents, overwritten, written, bytes_at}
 use Rattle.uring_entry.specs.declared.operation.Op.{Op}
 use Rattle.uring_files.specs.Operations.{file_of, is_on, result_of, is_lengthening, after}
->>>>>>> files
 
 -- Bytes that were written over: each offset under the write has the new byte, and each other the old one. Past the end of the old bytes each counts as 0
 pub record IsWrittenOver (old new : List ℕ) (off : ℕ) (now : List ℕ) : Type 0 where
@@ -22,8 +16,6 @@ WritesOver = (old new : List ℕ) (off : ℕ) → 1 ≤ length new → IsWritten
 -- what was written is read back
 abbrev pub ReadsBack : Type 0
 ReadsBack = (file : FileContents) (new : List ℕ) (off : ℕ) → bytes_at off (length new) (written off new file) ≡ new
-<<<<<<< HEAD
-=======
 
 -- an end with a negative result changes no file
 abbrev pub FailureChangesNothing : Type 0
@@ -45,4 +37,3 @@ FilesStandAlone = (files others : List FileContents) (op : Op) (res : ℤ) (fd :
 abbrev pub EndsStandAlone : Type 0
 EndsStandAlone = (files others : List FileContents) (op : Op) → ((fd : ℤ) → is_on fd op ≡ true → AgreeAt fd files others)
     → (result_of files op ≡ result_of others op) × (is_lengthening files op ≡ is_lengthening others op)
->>>>>>> files

@@ -20,8 +20,6 @@ abbrev pub with_changed : List FileContents → ℤ → (FileContents → FileCo
 with_changed files (pos fd) change = slice_set files fd (change (slice_index_or files fd empty_file))
 with_changed files (negsuc below) change = files
 
-<<<<<<< HEAD
-=======
 -- whether an operation is one on the file of this descriptor
 abbrev pub is_on : ℤ → Op → Bool
 is_on own (Read fd off len) = int_eq own fd
@@ -29,7 +27,6 @@ is_on own (Write fd off len bytes) = int_eq own fd
 is_on own (Fsync fd) = int_eq own fd
 is_on own other = false
 
->>>>>>> files
 -- what can be asked of files: anything but a cancel, and no transfer of more than 64 bytes
 abbrev pub IsForFiles : Op → Type 0
 IsForFiles Nop = Unit {0}
@@ -42,31 +39,17 @@ IsForFiles (Cancel target) = ⊥
 abbrev pub ended_with : ℤ → Outcome
 ended_with res = record { res = res; bytes = no_bytes }
 
-<<<<<<< HEAD
--- an end on a file: EBADF where the descriptor has none
-abbrev pub on_file : Option FileContents → (FileContents → Outcome) → Outcome
-on_file file outcome = option_map_or outcome file (ended_with (neg_ℤ EBADF))
-
--- The outcome that an operation calls for on these files. io_uring_enter(2), EBADF, and write(2), EFBIG
-abbrev pub result_of : List FileContents → Op → Outcome
-result_of files Nop = ended_with (pos 0)
-=======
 -- an end on a file: EBADF where the descriptor has none. io_uring_enter(2), CQE ERRORS
 abbrev pub on_file : Option FileContents → (FileContents → Outcome) → Outcome
 on_file file outcome = option_map_or outcome file (ended_with (neg_ℤ EBADF))
 
 -- The outcome that an operation calls for on these files: 0 where it has nothing to do with them. io_uring_enter(2), IORING_OP_NOP, READ, WRITE and FSYNC; EFBIG at the largest size is our own rule
 abbrev pub result_of : List FileContents → Op → Outcome
->>>>>>> files
 result_of files (Read fd off len) = on_file (file_of files fd) (read_outcome off len)
 result_of files (Write fd off len bytes) =
     on_file (file_of files fd) (λ file. ended_with (if is_too_long off len then neg_ℤ EFBIG else pos len))
 result_of files (Fsync fd) = on_file (file_of files fd) (λ file. ended_with (pos 0))
-<<<<<<< HEAD
-result_of files (Cancel target) = ended_with (pos 0)
-=======
 result_of files other = ended_with (pos 0)
->>>>>>> files
 
 -- whether the outcome called for is that of a write that makes its file longer
 abbrev pub is_lengthening : List FileContents → Op → Bool
@@ -74,20 +57,12 @@ is_lengthening files (Write fd off len bytes) =
     option_map_or (λ file. not (is_too_long off len) && is_past_end off len file) (file_of files fd) false
 is_lengthening files other = false
 
-<<<<<<< HEAD
--- The outcomes that an operation may have on these files: that called for, and ENOMEM for a write that makes its file longer
-=======
 -- The outcomes that an operation may have on these files: that called for, and ENOMEM for a write that makes its file longer. Our own rule
->>>>>>> files
 abbrev pub IsOutcome : List FileContents → Op → Outcome → Type 0
 IsOutcome files op outcome =
     (outcome ≡ result_of files op) ⊎ ((is_lengthening files op ≡ true) × (outcome ≡ ended_with (neg_ℤ ENOMEM)))
 
-<<<<<<< HEAD
--- The files after an end of an operation with this result: a write and a sync change their file where they succeeded, and nothing else changes any
-=======
 -- The files after an end of an operation with this result: a write and a sync change their file where they succeeded, and nothing else changes any. io_uring_enter(2), IORING_OP_WRITE and IORING_OP_FSYNC
->>>>>>> files
 abbrev pub after : List FileContents → Op → ℤ → List FileContents
 after files (Write fd off len bytes) res =
     if int_eq res (pos len) then with_changed files fd (written off (take len bytes)) else files

@@ -1,12 +1,6 @@
-<<<<<<< HEAD
-//! What follows from the definition of a write. The functions do nothing: their contracts are the laws.
-
-ghost use Rattle.uring_files.specs.Laws.{WritesOver, ReadsBack};
-=======
 //! What follows from the definitions of files and their operations. The functions do nothing: their contracts are the laws.
 
 ghost use Rattle.uring_files.specs.Laws.{WritesOver, ReadsBack, FailureChangesNothing, OthersStay, FilesStandAlone, EndsStandAlone};
->>>>>>> files
 
 /// A write changes the bytes under it and no others. A gap before it has zeros.
 pub fn write_changes_what_lies_under_it()
@@ -17,8 +11,6 @@ pub fn write_changes_what_lies_under_it()
 pub fn read_gives_what_was_written()
     ensures { ReadsBack }
 {}
-<<<<<<< HEAD
-=======
 
 /// An operation that ended with a negative result changed no file.
 pub fn failure_changes_nothing()
@@ -31,4 +23,3 @@ pub fn files_stand_alone()
     ensures files { FilesStandAlone }
     ensures ends { EndsStandAlone }
 {}
->>>>>>> files

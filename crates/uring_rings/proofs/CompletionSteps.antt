@@ -14,11 +14,7 @@ use Rattle.uring_rings.specs.CompletionRing.{CompletionQueue, IsCompletionQueue,
 use Rattle.uring_rings.proofs.Counts.{distance_of_words, same_count, word_after, cells_after_write}
 
 -- How many completions were put above the head last loaded.
-<<<<<<< HEAD
-pub put_above : (g : Shape) (q : CompletionQueue) (l : Completions) (d : ℕ) → IsCompletionQueue q → ShowsCompletions g q l → d < 2 ^ 32 → (q.seen_head + d) % 2 ^ 32 ≡ q.tail → d ≡ l.put - l.seen_head
-=======
 pub put_above : (g : Shape) (q : CompletionQueue) (l : Completions) (d : ℕ) → IsCompletionQueue q.size q.cells → ShowsCompletions g q l → d < 2 ^ 32 → (q.seen_head + d) % 2 ^ 32 ≡ q.tail → d ≡ l.put - l.seen_head
->>>>>>> rings
 put_above g q l d i s small leads =
     let limit : g.cq ≤ 8192 = omega (arith, i.limit, s.size) in
     let ordered : l.seen_head ≤ l.put = omega (arith, s.seen_head_first, s.head_first, s.reaped_first, s.seen_tail_first) in
@@ -26,11 +22,7 @@ put_above g q l d i s small leads =
     distance_of_words g.start l.put l.seen_head d small ordered near (ap (λ (w : ℕ). (w + d) % 2 ^ 32) (sym s.seen_head) ∙ leads ∙ s.tail)
 
 -- The oldest of the overflow list is put into the next cell.
-<<<<<<< HEAD
-pub put_shows : (g : Shape) (q : CompletionQueue) (l : Completions) (x : Completion) (rest : List Completion) → IsCompletionQueue q → ShowsCompletions g q l → l.put < l.seen_head + g.cq → q.overflow ≡ x ∷ rest → ShowsCompletions g (record q { tail = (q.tail + 1) % 2 ^ 32; cells = set q.cells (q.tail % q.size) x; overflow = rest }) (record l { put = l.put + 1 })
-=======
 pub put_shows : (g : Shape) (q : CompletionQueue) (l : Completions) (x : Completion) (rest : List Completion) → IsCompletionQueue q.size q.cells → ShowsCompletions g q l → l.put < l.seen_head + g.cq → q.overflow ≡ x ∷ rest → ShowsCompletions g (record q { tail = (q.tail + 1) % 2 ^ 32; cells = set q.cells (q.tail % q.size) x; overflow = rest }) (record l { put = l.put + 1 })
->>>>>>> rings
 put_shows g q l x rest i s room oldest =
     let limit : g.cq ≤ 2 ^ 32 = omega (arith, i.limit, s.size) in
     let some : 0 < length (drop l.put l.posted) = rw (← s.waiting, oldest) (omega arith) in
@@ -40,11 +32,7 @@ put_shows g q l x rest i s room oldest =
     let others : rest ≡ drop (l.put + 1) l.posted = cc in
     let low : length l.reaped ≤ l.put = omega (arith, s.reaped_first, s.seen_tail_first) in
     let near : l.put < length l.reaped + g.cq = omega (arith, s.seen_head_first, s.head_first) in
-<<<<<<< HEAD
-    let cells_length : length q.cells ≡ g.cq = i.cells ∙ s.size in
-=======
     let cells_length : length q.cells ≡ g.cq = i.all_cells ∙ s.size in
->>>>>>> rings
     let cell_of_tail : q.tail % q.size ≡ (g.start + l.put) % 2 ^ 32 % g.cq = ap (λ (n : ℕ). q.tail % n) s.size ∙ ap (λ (n : ℕ). n % g.cq) s.tail in
     record {
       size = s.size;
@@ -63,11 +51,7 @@ put_shows g q l x rest i s room oldest =
       few = omega arith;
       in_order = s.in_order;
       cells = λ k d from to. cells_after_write q.cells (λ (n : ℕ). get_or l.posted n d) d x g.start g.cq (length l.reaped) l.put (q.tail % q.size) (subst IsPowerOfTwo s.size i.power) limit cells_length low near cell_of_tail (first ∙ get_or_default l.posted l.put x d more) (λ n lower upper. s.cells n d lower upper) k from to;
-<<<<<<< HEAD
-      waiting = others
-=======
       waiting = others;
->>>>>>> rings
     }
 
 -- A completion is posted, and waits behind the others.
@@ -92,11 +76,7 @@ wait_shows g q l x room s =
       few = s.few;
       in_order = s.in_order ∙ sym (take-append-le (length l.reaped) l.posted (x ∷ []) reaped_within);
       cells = λ k d from to. s.cells k d from to ∙ sym (get_or_append_left l.posted (x ∷ []) d k (omega (arith, s.put_first)));
-<<<<<<< HEAD
-      waiting = ap (λ (xs : List Completion). xs ++ x ∷ []) s.waiting ∙ sym (drop-append-le l.put l.posted (x ∷ []) s.put_first)
-=======
       waiting = ap (λ (xs : List Completion). xs ++ x ∷ []) s.waiting ∙ sym (drop-append-le l.put l.posted (x ∷ []) s.put_first);
->>>>>>> rings
     }
 
 -- whether the overflow list is empty says whether all was put
@@ -104,11 +84,7 @@ pub all_put : (g : Shape) (q : CompletionQueue) (l : Completions) → ShowsCompl
 all_put g q l s = ap length s.waiting ∙ length-drop l.put l.posted
 
 -- A post puts the completion into the ring, where none waits and a cell is free.
-<<<<<<< HEAD
-pub post_puts : (g : Shape) (q : CompletionQueue) (l : Completions) (x : Completion) (room d : ℕ) → IsCompletionQueue q → ShowsCompletions g q l → length q.overflow ≡ 0 → d < 2 ^ 32 → (q.seen_head + d) % 2 ^ 32 ≡ q.tail → d < q.size → ShowsCompletions g (record q { room = room; posted = (q.posted + 1) % 2 ^ 64; tail = (q.tail + 1) % 2 ^ 32; cells = set q.cells (q.tail % q.size) x }) (with_posted g.cq l x)
-=======
 pub post_puts : (g : Shape) (q : CompletionQueue) (l : Completions) (x : Completion) (room d : ℕ) → IsCompletionQueue q.size q.cells → ShowsCompletions g q l → length q.overflow ≡ 0 → d < 2 ^ 32 → (q.seen_head + d) % 2 ^ 32 ≡ q.tail → d < q.size → ShowsCompletions g (record q { room = room; posted = (q.posted + 1) % 2 ^ 64; tail = (q.tail + 1) % 2 ^ 32; cells = set q.cells (q.tail % q.size) x }) (with_posted g.cq l x)
->>>>>>> rings
 post_puts g q l x room d i s empty small leads free =
     let none : q.overflow ≡ [] = nil_from_length q.overflow empty in
     let waiting = all_put g q l s in
@@ -120,18 +96,10 @@ post_puts g q l x room d i s empty small leads free =
     let open_ring : has_room g.cq l ≡ true = rw (eq-eqb l.put (length l.posted) all, lt-ltb (l.put - l.seen_head) g.cq below) refl in
     let q1 : CompletionQueue = record q { room = room; posted = (q.posted + 1) % 2 ^ 64; overflow = q.overflow ++ x ∷ [] } in
     let l1 : Completions = record l { posted = l.posted ++ x ∷ [] } in
-<<<<<<< HEAD
-    let i1 : IsCompletionQueue q1 = record { power = i.power; limit = i.limit; cells = i.cells } in
-    let alone : q.overflow ++ x ∷ [] ≡ x ∷ [] = ap (λ (xs : List Completion). xs ++ x ∷ []) none in
-    let shown = put_shows g q1 l1 x [] i1 (wait_shows g q l x room s) near alone in
-    let at_none : ShowsCompletions g (record q { room = room; posted = (q.posted + 1) % 2 ^ 64; tail = (q.tail + 1) % 2 ^ 32; cells = set q.cells (q.tail % q.size) x }) (record l1 { put = l.put + 1 }) =
-      subst (λ (xs : List Completion). ShowsCompletions g (record q { room = room; posted = (q.posted + 1) % 2 ^ 64; tail = (q.tail + 1) % 2 ^ 32; cells = set q.cells (q.tail % q.size) x; overflow = xs }) (record l1 { put = l.put + 1 })) (sym none) shown in
-=======
     let alone : q.overflow ++ x ∷ [] ≡ x ∷ [] = ap (λ (xs : List Completion). xs ++ x ∷ []) none in
     let shown = put_shows g q1 l1 x [] i (wait_shows g q l x room s) near alone in
     let at_none : ShowsCompletions g (record q { room = room; posted = (q.posted + 1) % 2 ^ 64; tail = (q.tail + 1) % 2 ^ 32; cells = set q.cells (q.tail % q.size) x }) (record l1 { put = l.put + 1 }) =
     subst (λ (xs : List Completion). ShowsCompletions g (record q { room = room; posted = (q.posted + 1) % 2 ^ 64; tail = (q.tail + 1) % 2 ^ 32; cells = set q.cells (q.tail % q.size) x; overflow = xs }) (record l1 { put = l.put + 1 })) (sym none) shown in
->>>>>>> rings
     subst (λ (b : Bool). ShowsCompletions g (record q { room = room; posted = (q.posted + 1) % 2 ^ 64; tail = (q.tail + 1) % 2 ^ 32; cells = set q.cells (q.tail % q.size) x }) (record l1 { put = cond b (l.put + 1) l.put })) (sym open_ring) at_none
 
 -- A post that finds the ring full, or others waiting, leaves the completion behind them.
@@ -144,11 +112,7 @@ and_false true = refl
 and_false false = refl
 
 -- no cell is free
-<<<<<<< HEAD
-pub full_ring : (g : Shape) (q : CompletionQueue) (l : Completions) (d : ℕ) → IsCompletionQueue q → ShowsCompletions g q l → d < 2 ^ 32 → (q.seen_head + d) % 2 ^ 32 ≡ q.tail → q.size ≤ d → has_room g.cq l ≡ false
-=======
 pub full_ring : (g : Shape) (q : CompletionQueue) (l : Completions) (d : ℕ) → IsCompletionQueue q.size q.cells → ShowsCompletions g q l → d < 2 ^ 32 → (q.seen_head + d) % 2 ^ 32 ≡ q.tail → q.size ≤ d → has_room g.cq l ≡ false
->>>>>>> rings
 full_ring g q l d i s small leads full =
     let above = put_above g q l d i s small leads in
     let beyond : g.cq ≤ l.put - l.seen_head = omega (arith, s.size) in
@@ -162,19 +126,6 @@ others_wait g q l s some =
     rw (ne_eqb l.put (length l.posted) apart) refl
 
 -- the position to be reaped next isn't the tail last loaded
-<<<<<<< HEAD
-pub more_to_reap : (g : Shape) (q : CompletionQueue) (l : Completions) → IsCompletionQueue q → ShowsCompletions g q l → (q.next ≡ q.seen_tail → ⊥) → length l.reaped < l.seen_tail
-more_to_reap g q l i s apart =
-    ⊎_elim
-      (λ (less : length l.reaped < l.seen_tail). less)
-      (λ (all : l.seen_tail ≤ length l.reaped).
-        let same : length l.reaped ≡ l.seen_tail = omega (arith, s.reaped_first) in
-        absurd (apart (s.next ∙ ap (word_of g.start) same ∙ sym s.seen_tail)))
-      (cases_lt (length l.reaped) l.seen_tail)
-
--- what is read from the next cell is the next of the posted
-pub reaps : (g : Shape) (q : CompletionQueue) (l : Completions) (cell : ℕ) (x : Completion) → IsCompletionQueue q → ShowsCompletions g q l → (q.next ≡ q.seen_tail → ⊥) → cell ≡ q.next % q.size → x ≡ get_or q.cells cell x → get_or l.posted (length l.reaped) x ≡ x
-=======
 pub more_to_reap : (g : Shape) (q : CompletionQueue) (l : Completions) → IsCompletionQueue q.size q.cells → ShowsCompletions g q l → (q.next ≡ q.seen_tail → ⊥) → length l.reaped < l.seen_tail
 more_to_reap g q l i s apart =
     ⊎_elim
@@ -186,36 +137,23 @@ more_to_reap g q l i s apart =
 
 -- what is read from the next cell is the next of the posted
 pub reaps : (g : Shape) (q : CompletionQueue) (l : Completions) (cell : ℕ) (x : Completion) → IsCompletionQueue q.size q.cells → ShowsCompletions g q l → (q.next ≡ q.seen_tail → ⊥) → cell ≡ q.next % q.size → x ≡ get_or q.cells cell x → get_or l.posted (length l.reaped) x ≡ x
->>>>>>> rings
 reaps g q l cell x i s apart is_cell read =
     let more = more_to_reap g q l i s apart in
     let cell_is : cell ≡ word_of g.start (length l.reaped) % g.cq = is_cell ∙ ap (λ (n : ℕ). q.next % n) s.size ∙ ap (λ (w : ℕ). w % g.cq) s.next in
     sym (read ∙ ap (λ (n : ℕ). get_or q.cells n x) cell_is ∙ s.cells (length l.reaped) x (omega arith) (omega (arith, s.seen_tail_first)))
 
 -- a reap answers the next of the posted
-<<<<<<< HEAD
-pub reap_answers : (g : Shape) (q : CompletionQueue) (l : Completions) (x : Completion) → IsCompletionQueue q → ShowsCompletions g q l → (q.next ≡ q.seen_tail → ⊥) → get_or l.posted (length l.reaped) x ≡ x → Some x ≡ next_to_reap l
-=======
 pub reap_answers : (g : Shape) (q : CompletionQueue) (l : Completions) (x : Completion) → IsCompletionQueue q.size q.cells → ShowsCompletions g q l → (q.next ≡ q.seen_tail → ⊥) → get_or l.posted (length l.reaped) x ≡ x → Some x ≡ next_to_reap l
->>>>>>> rings
 reap_answers g q l x i s apart next =
     let more = more_to_reap g q l i s apart in
     let within : length l.reaped < length l.posted = omega (arith, s.seen_tail_first, s.put_first) in
     let unequal : length l.reaped ≢ l.seen_tail = λ e. absurd (omega arith) in
     sym (ap (λ (b : Bool). cond b None (slice_get l.posted (length l.reaped))) (ne_eqb (length l.reaped) l.seen_tail unequal)
-<<<<<<< HEAD
-      ∙ slice_get-get_or l.posted (length l.reaped) x within
-      ∙ ap (λ (y : Completion). Some y) next)
-
--- and the ring shows it as reaped
-pub reap_shows : (g : Shape) (q : CompletionQueue) (l : Completions) (x : Completion) (next : ℕ) → IsCompletionQueue q → ShowsCompletions g q l → (q.next ≡ q.seen_tail → ⊥) → get_or l.posted (length l.reaped) x ≡ x → next ≡ (q.next + 1) % 2 ^ 32 → ShowsCompletions g (record q { next = next; reaped = (q.reaped + 1) % 2 ^ 64 }) (with_reaped l x)
-=======
     ∙ slice_get-get_or l.posted (length l.reaped) x within
     ∙ ap (λ (y : Completion). Some y) next)
 
 -- and the ring shows it as reaped
 pub reap_shows : (g : Shape) (q : CompletionQueue) (l : Completions) (x : Completion) (next : ℕ) → IsCompletionQueue q.size q.cells → ShowsCompletions g q l → (q.next ≡ q.seen_tail → ⊥) → get_or l.posted (length l.reaped) x ≡ x → next ≡ (q.next + 1) % 2 ^ 32 → ShowsCompletions g (record q { next = next; reaped = (q.reaped + 1) % 2 ^ 64 }) (with_reaped l x)
->>>>>>> rings
 reap_shows g q l x next i s apart is is_next =
     let more = more_to_reap g q l i s apart in
     let within : length l.reaped < length l.posted = omega (arith, s.seen_tail_first, s.put_first) in
@@ -237,11 +175,7 @@ reap_shows g q l x next i s apart is is_next =
       few = s.few;
       in_order = ap (λ (xs : List Completion). xs ++ x ∷ []) s.in_order ∙ ap (λ (y : Completion). take (length l.reaped) l.posted ++ y ∷ []) (sym is) ∙ sym (take_more l.posted (length l.reaped) x within) ∙ ap (λ (n : ℕ). take n l.posted) (sym longer);
       cells = λ k d from to. s.cells k d (omega arith) to;
-<<<<<<< HEAD
-      waiting = s.waiting
-=======
       waiting = s.waiting;
->>>>>>> rings
     }
 
 -- the dispatcher loads the head
@@ -264,11 +198,7 @@ load_shows g q l s =
       few = omega (arith, s.few, s.seen_head_first);
       in_order = s.in_order;
       cells = s.cells;
-<<<<<<< HEAD
-      waiting = s.waiting
-=======
       waiting = s.waiting;
->>>>>>> rings
     }
 
 -- where no more can be moved, as many are put as a flush puts

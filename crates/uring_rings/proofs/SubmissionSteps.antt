@@ -18,19 +18,11 @@ use Rattle.uring_rings.proofs.Counts.{distance_of_words, word_after, cells_after
 use Rattle.uring_rings.proofs.SubmissionWords.{length-words, words-indexed, words-stored, size_limit, not_named}
 
 -- the size of the set-up is a power of two
-<<<<<<< HEAD
-pub size_power : (g : Shape) (q : SubmissionQueue) (l : Submission) → IsSubmissionQueue q → ShowsSubmission g q l → IsPowerOfTwo g.sq
-size_power g q l i s = subst IsPowerOfTwo s.size i.power
-
--- a word is staged in the next cell
-pub index_shows : (g : Shape) (q : SubmissionQueue) (l : Submission) (d tail cell word : ℕ) → IsSubmissionQueue q → ShowsSubmission g q l → d < 2 ^ 32 → (q.seen_head + d) % 2 ^ 32 ≡ q.tail → (d ≡ q.size → ⊥) → tail ≡ (q.tail + 1) % 2 ^ 32 → cell ≡ q.tail % q.size → ShowsSubmission g (record q { tail = tail; array = set q.array cell word }) (indexed l word)
-=======
 pub size_power : (g : Shape) (q : SubmissionQueue) (l : Submission) → IsSubmissionQueue q.size q.table q.array q.call → ShowsSubmission g q l → IsPowerOfTwo g.sq
 size_power g q l i s = subst IsPowerOfTwo s.size i.power
 
 -- a word is staged in the next cell
 pub index_shows : (g : Shape) (q : SubmissionQueue) (l : Submission) (d tail cell word : ℕ) → IsSubmissionQueue q.size q.table q.array q.call → ShowsSubmission g q l → d < 2 ^ 32 → (q.seen_head + d) % 2 ^ 32 ≡ q.tail → (d ≡ q.size → ⊥) → tail ≡ (q.tail + 1) % 2 ^ 32 → cell ≡ q.tail % q.size → ShowsSubmission g (record q { tail = tail; array = set q.array cell word }) (indexed l word)
->>>>>>> rings
 index_shows g q l d tail cell word i s small leads not_full is_tail is_cell =
     let limit : g.sq ≤ 4096 = size_limit g q l i s in
     let ordered : l.seen_head ≤ staged l = omega (arith, s.seen_first, s.taken_first) in
@@ -78,11 +70,7 @@ place_kept : (size : ℕ) (content : ℕ → Entry) (slot : ℕ) (entry : Entry)
 place_kept size content slot entry word apart = rw (ne_eqb word slot apart) refl
 
 -- a slot that isn't busy is filled
-<<<<<<< HEAD
-pub fill_shows : (g : Shape) (q : SubmissionQueue) (l : Submission) (slot : ℕ) (entry : Entry) → IsSubmissionQueue q → ShowsSubmission g q l → slot < q.size → is_busy l slot ≡ false → ShowsSubmission g (record q { table = set q.table slot entry }) (filled l slot entry)
-=======
 pub fill_shows : (g : Shape) (q : SubmissionQueue) (l : Submission) (slot : ℕ) (entry : Entry) → IsSubmissionQueue q.size q.table q.array q.call → ShowsSubmission g q l → slot < q.size → is_busy l slot ≡ false → ShowsSubmission g (record q { table = set q.table slot entry }) (filled l slot entry)
->>>>>>> rings
 fill_shows g q l slot entry i s below free =
     let within : slot < length q.table = omega (arith, i.slots) in
     record {

@@ -113,29 +113,17 @@ not_named l slot k p free from found named =
     false≢true (sym free ∙ busy)
 
 -- The ring's size is below the limit.
-<<<<<<< HEAD
-pub size_limit : (g : Shape) (q : SubmissionQueue) (l : Submission) → IsSubmissionQueue q → ShowsSubmission g q l → g.sq ≤ 4096
-size_limit g q l i s = omega (arith, i.limit, s.size)
-
--- the loop over the d positions above the head last loaded found one that names the slot
-pub loop_finds : (g : Shape) (q : SubmissionQueue) (l : Submission) (d k slot : ℕ) → IsSubmissionQueue q → ShowsSubmission g q l → d < 2 ^ 32 → (q.seen_head + d) % 2 ^ 32 ≡ q.published → k < d → get_or q.array ((q.seen_head + k) % 2 ^ 32 % q.size) 0 ≡ slot → is_busy l slot ≡ true
-=======
 pub size_limit : (g : Shape) (q : SubmissionQueue) (l : Submission) → IsSubmissionQueue q.size q.table q.array q.call → ShowsSubmission g q l → g.sq ≤ 4096
 size_limit g q l i s = omega (arith, i.limit, s.size)
 
 -- the loop over the d positions above the head last loaded found one that names the slot
 pub loop_finds : (g : Shape) (q : SubmissionQueue) (l : Submission) (d k slot : ℕ) → IsSubmissionQueue q.size q.table q.array q.call → ShowsSubmission g q l → d < 2 ^ 32 → (q.seen_head + d) % 2 ^ 32 ≡ q.published → k < d → get_or q.array ((q.seen_head + k) % 2 ^ 32 % q.size) 0 ≡ slot → is_busy l slot ≡ true
->>>>>>> rings
 loop_finds g q l d k slot i s small leads below named =
     let above = published_above g q l d s (size_limit g q l i s) small leads in
     busy_at g q l k slot s (omega arith) named
 
 -- it found none
-<<<<<<< HEAD
-pub loop_passes : (g : Shape) (q : SubmissionQueue) (l : Submission) (d k slot : ℕ) → IsSubmissionQueue q → ShowsSubmission g q l → d < 2 ^ 32 → (q.seen_head + d) % 2 ^ 32 ≡ q.published → d ≤ k → ((j : ℕ) → j < k → get_or q.array ((q.seen_head + j) % 2 ^ 32 % q.size) 0 ≡ slot → ⊥) → is_busy l slot ≡ false
-=======
 pub loop_passes : (g : Shape) (q : SubmissionQueue) (l : Submission) (d k slot : ℕ) → IsSubmissionQueue q.size q.table q.array q.call → ShowsSubmission g q l → d < 2 ^ 32 → (q.seen_head + d) % 2 ^ 32 ≡ q.published → d ≤ k → ((j : ℕ) → j < k → get_or q.array ((q.seen_head + j) % 2 ^ 32 % q.size) 0 ≡ slot → ⊥) → is_busy l slot ≡ false
->>>>>>> rings
 loop_passes g q l d k slot i s small leads all unnamed =
     let above = published_above g q l d s (size_limit g q l i s) small leads in
     not_busy g q l slot s (λ j within. unnamed j (omega arith))

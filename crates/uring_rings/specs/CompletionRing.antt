@@ -21,17 +21,10 @@ pub record CompletionQueue : Type 0 where
   pub overflow : List Completion
 
 -- what is so whatever happened: the sizes fit one another
-<<<<<<< HEAD
-pub record IsCompletionQueue (q : CompletionQueue) : Type 0 where
-  pub power : IsPowerOfTwo q.size
-  pub limit : q.size ≤ 8192
-  pub cells : length q.cells ≡ q.size
-=======
 pub record IsCompletionQueue (size : ℕ) (cells : List Completion) : Type 0 where
   pub power : IsPowerOfTwo size
   pub limit : size ≤ 8192
   pub all_cells : length cells ≡ size
->>>>>>> rings
 
 -- The ring of the set-up g shows these lists.
 pub record ShowsCompletions (g : Shape) (q : CompletionQueue) (l : Completions) : Type 0 where
@@ -56,8 +49,6 @@ pub record ShowsCompletions (g : Shape) (q : CompletionQueue) (l : Completions) 
   pub cells : (k : ℕ) (d : Completion) → length l.reaped ≤ k → k < l.put → slice_index_or q.cells (word_of g.start k % g.cq) d ≡ slice_index_or l.posted k d
   pub waiting : q.overflow ≡ drop l.put l.posted
 
-<<<<<<< HEAD
-=======
 -- What always holds of the lists that a ring of this size shows: what was reaped begins what was posted, no more was reaped than put nor put than posted, and no more than the size was put above the head that the application stored.
 pub record IsOrderedCompletions (size : ℕ) (l : Completions) : Type 0 where
   pub begins : l.reaped ≡ take (length l.reaped) l.posted
@@ -65,7 +56,6 @@ pub record IsOrderedCompletions (size : ℕ) (l : Completions) : Type 0 where
   pub put : l.put ≤ length l.posted
   pub few : l.put ≤ l.head + size
 
->>>>>>> rings
 -- the lists after a reap that answered this
 abbrev pub after_reap : Completions → Option Completion → Completions
 after_reap l (Some completion) = with_reaped l completion

@@ -21,21 +21,12 @@ pub record SubmissionQueue : Type 0 where
   pub array : List ℕ
 
 -- what is so whatever happened: the sizes fit one another, and a call takes no more than its positions
-<<<<<<< HEAD
-pub record IsSubmissionQueue (q : SubmissionQueue) : Type 0 where
-  pub power : IsPowerOfTwo q.size
-  pub limit : q.size ≤ 4096
-  pub slots : length q.table ≡ q.size
-  pub cells : length q.array ≡ q.size
-  pub call : IfSome q.call (λ call. (call.accepted ≤ call.taken) × (call.taken ≤ call.count))
-=======
 pub record IsSubmissionQueue (size : ℕ) (table : List Entry) (array : List ℕ) (call : Option OpenCall) : Type 0 where
   pub power : IsPowerOfTwo size
   pub limit : size ≤ 4096
   pub slots : length table ≡ size
   pub cells : length array ≡ size
   pub call_fits : IfSome call (λ call. (call.accepted ≤ call.taken) × (call.taken ≤ call.count))
->>>>>>> rings
 
 -- every word that was published, and then the staged ones
 abbrev pub words : Submission → List ℕ
@@ -67,12 +58,9 @@ pub record ShowsSubmission (g : Shape) (q : SubmissionQueue) (l : Submission) : 
   pub cells : (k : ℕ) → l.seen_head ≤ k → k < staged l → slice_index q.array (word_of g.start k % g.sq) ≡ slice_index (words l) k
   -- a position above the head last loaded has what its slot holds
   pub places : (k : ℕ) (p : Place) → l.seen_head ≤ k → slice_get l.published k ≡ Some p → p ≡ place_of g.sq l.content p.word
-<<<<<<< HEAD
-=======
 
 -- What always holds of the lists that a ring of this size shows: the head last loaded, the positions taken, those published and those staged are in this order, and no more than the size is staged above the first of them.
 pub record IsOrderedSubmission (size : ℕ) (l : Submission) : Type 0 where
   pub seen : l.seen_head ≤ taken l
   pub taken : taken l ≤ length l.published
   pub few : staged l ≤ l.seen_head + size
->>>>>>> rings

@@ -1,20 +1,3 @@
-<<<<<<< HEAD
-ghost use Rattle.std.specs.Prelude.{◌≡◌, ◌+◌, ◌-◌, ◌%◌, ◌^◌, ◌<◌, ◌≤◌, length, IfOk, OnOk, OnErr, Option, None, if◌then◌else◌, min, nat_lt, slice_get, slice_set};
-ghost use Rattle.uring_entry.specs.Shape.{Shape};
-ghost use Rattle.uring_entry.specs.Words.{word_of};
-ghost use Rattle.uring_entry.specs.Completions.{Completions, no_completion, with_posted, flushed, with_tail_loaded, with_head_stored, next_to_reap, unreaped};
-ghost use Rattle.uring_rings.specs.CompletionRing.{ShowsCompletions, after_reap};
-
-use std::alloc::{AllocError, Global};
-use std::collections::VecDeque;
-use std::marker::Model;
-
-use uring_entry::{Cqe, Setup};
-
-use crate::indices::Index;
-
-/// The completion ring.
-=======
 ghost use Rattle.std.specs.Prelude.{◌≡◌, ◌+◌, ◌-◌, ◌%◌, ◌^◌, ◌<◌, length, IfOk, OnOk, OnErr, Option, None, if◌then◌else◌, min, nat_lt, slice_get, slice_set};
 ghost use Rattle.uring_entry.specs.Shape.{Shape};
 ghost use Rattle.uring_entry.specs.Words.{word_of};
@@ -30,7 +13,6 @@ use uring_entry::{Cqe, Setup};
 /// The completion ring, with the overflow list of the completions that don't fit it: io_uring(7), and IORING_FEAT_NODROP of io_uring_setup(2). The dispatcher posts completions and stores the tail; the application reaps them and stores the head.
 ///
 /// No call but `new` and `reserve` takes memory.
->>>>>>> rings
 #[derive(Debug, Drop)]
 pub struct Cq {
     size: u32,
@@ -53,15 +35,6 @@ impl Model for Cq {
 
     ghost Value = { CompletionQueue };
 
-<<<<<<< HEAD
-    ghost view = { λ q. record { size = q.size; tail = q.tail.0; head = q.head.0; seen_head = q.seen_head.0; seen_tail = q.seen_tail.0; next = q.next.0; posted = q.posted; reaped = q.reaped; room = q.room; cells = q.cells.items; overflow = q.overflow.items } };
-
-    ghost invariant = { λ q. IsCompletionQueue (record { size = q.size; tail = q.tail.0; head = q.head.0; seen_head = q.seen_head.0; seen_tail = q.seen_tail.0; next = q.next.0; posted = q.posted; reaped = q.reaped; room = q.room; cells = q.cells.items; overflow = q.overflow.items }) × (deque_len q.overflow + q.room ≤ deque_capacity q.overflow) };
-}
-
-impl Cq {
-    /// A ring
-=======
     ghost view = { λ q. record {
       size = q.size;
       tail = q.tail.0;
@@ -84,7 +57,6 @@ impl Cq {
     /// An empty ring of the set-up's size, whose tail and head begin at the set-up's word. No post is promised.
     ///
     /// An error is a refused allocation.
->>>>>>> rings
     pub fn new(alloc: Global, setup: &Setup) -> Result<Cq, AllocError>
         ensures shows { IfOk result (λ q. ShowsCompletions setup.now q no_completion) }
         ensures room { IfOk result (λ q. q.room ≡ 0) }
@@ -107,13 +79,6 @@ impl Cq {
         })
     }
 
-<<<<<<< HEAD
-    /// Promises
-    pub fn reserve(&mut self, n: u64) -> Result<(), AllocError>
-        ensures ok { OnOk result (self.new.room ≡ n) }
-        ensures err { OnErr result (self.new ≡ self.old) }
-        ensures shows { (g : Shape) (l : Completions) → ShowsCompletions g self.old l → ShowsCompletions g self.new l }
-=======
     /// Promises `n` posts from here on, in place of what is left of the last promise, and asks for the memory that they may need. Our own rule: a completion is never lost for want of memory.
     ///
     /// An error is a refused allocation; what is left of the last promise then still stands.
@@ -122,27 +87,18 @@ impl Cq {
         ensures err { OnErr result (self.new ≡ self.old) }
         ensures shows { (g : Shape) (l : Completions) → ShowsCompletions g self.old l →
             ShowsCompletions g self.new l }
->>>>>>> rings
     {
         self.overflow.reserve(n as usize)?;
         self.room = n;
         Ok(())
     }
 
-<<<<<<< HEAD
-    /// Posts
-    pub fn post(&mut self, completion: Cqe)
-        requires { 0 < self.old.room }
-        ensures room { self.new.room + 1 ≡ self.old.room }
-        ensures shows { (g : Shape) (l : Completions) → ShowsCompletions g self.old l → ShowsCompletions g self.new (with_posted g.cq l completion) }
-=======
     /// Posts a completion, which takes one of the posts promised: into the ring where none waits and the ring holds fewer than its size above the head last loaded by `flush`, else behind the others that wait. io_uring_setup(2), IORING_FEAT_NODROP.
     pub fn post(&mut self, completion: Cqe)
         requires { 0 < self.old.room }
         ensures room { self.new.room + 1 ≡ self.old.room }
         ensures shows { (g : Shape) (l : Completions) → ShowsCompletions g self.old l →
             ShowsCompletions g self.new (with_posted g.cq l completion) }
->>>>>>> rings
     {
         self.room -= 1;
         self.posted = self.posted.wrapping_add(1);
@@ -153,48 +109,22 @@ impl Cq {
         }
     }
 
-<<<<<<< HEAD
-    /// Puts
-    fn put(&mut self, completion: Cqe)
-        ensures { self.new ≡ record self.old { tail = (self.old.tail + 1) % 2 ^ 32; cells = slice_set self.old.cells (self.old.tail % self.old.size) completion } }
-    {
-        let cell = self.tail.cell(self.size - 1);
-        self.cells[cell] = completion;
-        self.tail = self.tail.after(1);
-    }
-
-    /// Moves
-    pub fn flush(&mut self) -> u64
-        ensures answer { (g : Shape) (l : Completions) → ShowsCompletions g self.old l → result ≡ (flushed g.cq l).put - l.put }
-        ensures shows { (g : Shape) (l : Completions) → ShowsCompletions g self.old l → ShowsCompletions g self.new (flushed g.cq l) }
-=======
     /// The dispatcher loads the head, and moves as many of the oldest completions that wait as fit into the ring. Answers how many it moved. A step of its own: our own rule.
     pub fn flush(&mut self) -> u64
         ensures answer { (g : Shape) (l : Completions) → ShowsCompletions g self.old l →
             result ≡ (flushed g.cq l).put - l.put }
         ensures shows { (g : Shape) (l : Completions) → ShowsCompletions g self.old l →
             ShowsCompletions g self.new (flushed g.cq l) }
->>>>>>> rings
         ensures room { self.new.room ≡ self.old.room }
     {
         self.seen_head = self.head;
         let mut moved = 0;
-<<<<<<< HEAD
-        while self.advance() {
-=======
         while self.move_oldest() {
->>>>>>> rings
             moved += 1;
         }
         moved
     }
 
-<<<<<<< HEAD
-    /// Moves one
-    fn advance(&mut self) -> bool
-        ensures answer { (g : Shape) (l : Completions) → ShowsCompletions g self.old l → result ≡ nat_lt l.put (min (length l.posted) (l.seen_head + g.cq)) }
-        ensures shows { (g : Shape) (l : Completions) → ShowsCompletions g self.old l → ShowsCompletions g self.new (record l { put = if result then l.put + 1 else l.put }) }
-=======
     /// The application loads the tail: answers its word. io_uring(7), on the completion queue's tail.
     pub fn load_tail(&mut self) -> u32
         ensures answer { (g : Shape) (l : Completions) → ShowsCompletions g self.old l →
@@ -274,7 +204,6 @@ impl Cq {
             result ≡ nat_lt l.put (min (length l.posted) (l.seen_head + g.cq)) }
         ensures shows { (g : Shape) (l : Completions) → ShowsCompletions g self.old l →
             ShowsCompletions g self.new (record l { put = if result then l.put + 1 else l.put }) }
->>>>>>> rings
         ensures fewer { length self.new.overflow + (if result then 1 else 0) ≡ length self.old.overflow }
         ensures room { self.new.room ≡ self.old.room }
     {
@@ -290,69 +219,6 @@ impl Cq {
         }
     }
 
-<<<<<<< HEAD
-    /// Loads
-    pub fn load_tail(&mut self) -> u32
-        ensures answer { (g : Shape) (l : Completions) → ShowsCompletions g self.old l → result ≡ word_of g.start l.put }
-        ensures shows { (g : Shape) (l : Completions) → ShowsCompletions g self.old l → ShowsCompletions g self.new (with_tail_loaded l) }
-        ensures room { self.new.room ≡ self.old.room }
-    {
-        self.seen_tail = self.tail;
-        self.seen_tail.0
-    }
-
-    /// Reaps
-    pub fn reap(&mut self) -> Option<Cqe>
-        ensures answer { (g : Shape) (l : Completions) → ShowsCompletions g self.old l → result ≡ next_to_reap l }
-        ensures shows { (g : Shape) (l : Completions) → ShowsCompletions g self.old l → ShowsCompletions g self.new (after_reap l result) }
-        ensures nothing { result ≡ None → self.new ≡ self.old }
-        ensures room { self.new.room ≡ self.old.room }
-    {
-        if self.next == self.seen_tail {
-            return None;
-        }
-        let cell = self.next.cell(self.size - 1);
-        self.next = self.next.after(1);
-        self.reaped = self.reaped.wrapping_add(1);
-        Some(self.cells[cell])
-    }
-
-    /// Stores
-    pub fn store_head(&mut self) -> u32
-        ensures answer { (g : Shape) (l : Completions) → ShowsCompletions g self.old l → result ≡ word_of g.start (length l.reaped) }
-        ensures shows { (g : Shape) (l : Completions) → ShowsCompletions g self.old l → ShowsCompletions g self.new (with_head_stored l) }
-        ensures room { self.new.room ≡ self.old.room }
-    {
-        self.head = self.next;
-        self.head.0
-    }
-
-    /// Rest
-    pub fn rest(&self, i: u64) -> Option<Cqe>
-        ensures { (g : Shape) (l : Completions) → ShowsCompletions g self.now l → result ≡ slice_get (unreaped l) i }
-    {
-        let in_ring = u64::from(self.tail.distance(self.next));
-        if i < in_ring {
-            let cell = self.next.after(i as u32).cell(self.size - 1);
-            Some(self.cells[cell])
-        } else {
-            self.overflow.get((i - in_ring) as usize).copied()
-        }
-    }
-
-    /// Posted
-    pub fn posted(&self) -> u64
-        ensures { (g : Shape) (l : Completions) → ShowsCompletions g self.now l → result ≡ length l.posted % 2 ^ 64 }
-    {
-        self.posted
-    }
-
-    /// Reaped
-    pub fn reaped(&self) -> u64
-        ensures { (g : Shape) (l : Completions) → ShowsCompletions g self.now l → result ≡ length l.reaped % 2 ^ 64 }
-    {
-        self.reaped
-=======
     /// Writes a completion to the tail's cell, and moves the tail on.
     fn put(&mut self, completion: Cqe)
         ensures { self.new ≡ record self.old {
@@ -363,6 +229,5 @@ impl Cq {
         let cell = self.tail.cell(self.size - 1);
         self.cells[cell] = completion;
         self.tail = self.tail.after(1);
->>>>>>> rings
     }
 }

@@ -1,16 +1,8 @@
-<<<<<<< HEAD
-ghost use Rattle.std.specs.Prelude.{◌≡◌, ◌≢◌, ◌%◌, ◌<◌, ◌≤◌, length, IfOk, is_some};
-ghost use Rattle.uring_entry.specs.Shape.{Shape};
-ghost use Rattle.uring_entry.specs.Words.{word_of};
-ghost use Rattle.uring_entry.specs.Submission.{Submission, no_submission, staged, taken, pending, is_busy, stored, loaded};
-ghost use Rattle.uring_rings.specs.SubmissionRing.{ShowsSubmission};
-=======
 ghost use Rattle.std.specs.Prelude.{◌≡◌, ◌≢◌, ◌%◌, ◌<◌, length, IfOk, is_some};
 ghost use Rattle.uring_entry.specs.Shape.{Shape};
 ghost use Rattle.uring_entry.specs.Words.{word_of};
 ghost use Rattle.uring_entry.specs.Submission.{Submission, no_submission, staged, taken, pending, is_busy, stored, loaded};
 ghost use Rattle.uring_rings.specs.SubmissionRing.{ShowsSubmission, IsOrderedSubmission};
->>>>>>> rings
 ghost use Rattle.uring_rings.specs.SubmissionAnswers.{fill_answer, after_fill, index_answer, after_index, begin_answer, after_begin, take_answer, after_take, end_answer, after_end};
 
 use crate::answers::{BeginAnswer, EndAnswer, FillAnswer, IndexAnswer, TakeAnswer, Taken};
@@ -20,13 +12,9 @@ use std::alloc::{AllocError, Global};
 use std::marker::Model;
 use uring_entry::{Setup, Sqe};
 
-<<<<<<< HEAD
-/// The submission ring.
-=======
 /// The submission ring: an array of index words that name slots of a table of entries, as io_uring(7) has it. The application fills slots, stages words and stores the tail; the dispatcher takes positions in calls and stores the head.
 ///
 /// No call but `new` takes memory. A refusal changes nothing.
->>>>>>> rings
 #[derive(Debug, Drop)]
 pub struct Sq {
     size: u32,
@@ -45,15 +33,6 @@ impl Model for Sq {
 
     ghost Value = { SubmissionQueue };
 
-<<<<<<< HEAD
-    ghost view = { λ q. record { size = q.size; tail = q.tail.0; published = q.published.0; head = q.head.0; seen_head = q.seen_head.0; dropped = q.dropped; call = q.call; table = q.table.items; array = q.array.items } };
-
-    ghost invariant = { λ q. IsSubmissionQueue (record { size = q.size; tail = q.tail.0; published = q.published.0; head = q.head.0; seen_head = q.seen_head.0; dropped = q.dropped; call = q.call; table = q.table.items; array = q.array.items }) };
-}
-
-impl Sq {
-    /// A ring
-=======
     ghost view = { λ q. record {
       size = q.size;
       tail = q.tail.0;
@@ -73,7 +52,6 @@ impl Sq {
     /// An empty ring of the set-up's size, whose tail and head begin at the set-up's word. Every slot holds the zero entry.
     ///
     /// An error is a refused allocation.
->>>>>>> rings
     pub fn new(alloc: Global, setup: &Setup) -> Result<Sq, AllocError>
         ensures { IfOk result (λ q. ShowsSubmission setup.now q no_submission) }
     {
@@ -94,21 +72,6 @@ impl Sq {
         })
     }
 
-<<<<<<< HEAD
-    /// Cell
-    fn cell(&self, index: Index) -> usize
-        ensures value { result ≡ index.0 % self.now.size }
-        ensures within { result < self.now.size }
-        ensures cells { length self.now.array ≡ self.now.size }
-    {
-        index.cell(self.size - 1)
-    }
-
-    /// Writes
-    pub fn fill(&mut self, slot: u32, entry: Sqe) -> FillAnswer
-        ensures answer { (g : Shape) (l : Submission) → ShowsSubmission g self.old l → result ≡ fill_answer g.sq l slot }
-        ensures shows { (g : Shape) (l : Submission) → ShowsSubmission g self.old l → ShowsSubmission g self.new (after_fill l slot entry result) }
-=======
     /// Writes an entry to a slot of the table.
     ///
     /// Refused with `NoSlot`, and then with `Busy`. Our own rule: the table may be read at `take`, since no slot changes while a position that isn't known to be taken names it.
@@ -117,7 +80,6 @@ impl Sq {
             result ≡ fill_answer g.sq l slot }
         ensures shows { (g : Shape) (l : Submission) → ShowsSubmission g self.old l →
             ShowsSubmission g self.new (after_fill l slot entry result) }
->>>>>>> rings
         ensures refused { result ≢ FillAnswer.Filled → self.new ≡ self.old }
     {
         if slot >= self.size {
@@ -130,26 +92,6 @@ impl Sq {
         FillAnswer::Filled
     }
 
-<<<<<<< HEAD
-    /// Busy
-    fn is_busy(&self, slot: u32) -> bool
-        ensures { (g : Shape) (l : Submission) → ShowsSubmission g self.now l → result ≡ is_busy l slot }
-    {
-        let count = self.published.distance(self.seen_head);
-        for k in 0..count {
-            let cell = self.cell(self.seen_head.after(k));
-            if self.array[cell] == slot {
-                return true;
-            }
-        }
-        false
-    }
-
-    /// Stages
-    pub fn index(&mut self, word: u32) -> IndexAnswer
-        ensures answer { (g : Shape) (l : Submission) → ShowsSubmission g self.old l → result ≡ index_answer g.sq l }
-        ensures shows { (g : Shape) (l : Submission) → ShowsSubmission g self.old l → ShowsSubmission g self.new (after_index l word result) }
-=======
     /// Stages a word at the next position, whatever the word: one that isn't below the ring's size names no slot. io_uring(7), on the submission queue's array.
     ///
     /// Refused with `Full`.
@@ -158,7 +100,6 @@ impl Sq {
             result ≡ index_answer g.sq l }
         ensures shows { (g : Shape) (l : Submission) → ShowsSubmission g self.old l →
             ShowsSubmission g self.new (after_index l word result) }
->>>>>>> rings
         ensures refused { result ≢ IndexAnswer.Staged → self.new ≡ self.old }
     {
         if self.tail.distance(self.seen_head) == self.size {
@@ -170,76 +111,43 @@ impl Sq {
         IndexAnswer::Staged
     }
 
-<<<<<<< HEAD
-    /// Publishes
-    pub fn store_tail(&mut self) -> u32
-        ensures answer { (g : Shape) (l : Submission) → ShowsSubmission g self.old l → result ≡ word_of g.start (staged l) }
-        ensures shows { (g : Shape) (l : Submission) → ShowsSubmission g self.old l → ShowsSubmission g self.new (stored g.sq l) }
-=======
     /// Publishes every staged position, and answers the tail's word. A position's entry is what its slot holds now; a slot that two positions name is copied for each. io_uring(7), on the submission queue's tail.
     pub fn store_tail(&mut self) -> u32
         ensures answer { (g : Shape) (l : Submission) → ShowsSubmission g self.old l →
             result ≡ word_of g.start (staged l) }
         ensures shows { (g : Shape) (l : Submission) → ShowsSubmission g self.old l →
             ShowsSubmission g self.new (stored g.sq l) }
->>>>>>> rings
     {
         self.published = self.tail;
         self.published.0
     }
 
-<<<<<<< HEAD
-    /// Loads
-    pub fn load_head(&mut self) -> u32
-        ensures answer { (g : Shape) (l : Submission) → ShowsSubmission g self.old l → result ≡ word_of g.start (taken l) }
-        ensures shows { (g : Shape) (l : Submission) → ShowsSubmission g self.old l → ShowsSubmission g self.new (loaded l) }
-=======
     /// The application loads the head: answers its word, which `end` alone moves. io_uring(7), on the submission queue's head.
     pub fn load_head(&mut self) -> u32
         ensures answer { (g : Shape) (l : Submission) → ShowsSubmission g self.old l →
             result ≡ word_of g.start (taken l) }
         ensures shows { (g : Shape) (l : Submission) → ShowsSubmission g self.old l →
             ShowsSubmission g self.new (loaded l) }
->>>>>>> rings
     {
         self.seen_head = self.head;
         self.seen_head.0
     }
 
-<<<<<<< HEAD
-    /// Pending
-    pub fn pending(&self) -> u32
-        ensures { (g : Shape) (l : Submission) → ShowsSubmission g self.now l → result ≡ pending l }
-=======
     /// The positions published and not taken by a closed call: 0 to the ring's size.
     pub fn pending(&self) -> u32
         ensures value { (g : Shape) (l : Submission) → ShowsSubmission g self.now l → result ≡ pending l }
         ensures ordered { (g : Shape) (l : Submission) → ShowsSubmission g self.now l → IsOrderedSubmission g.sq l }
->>>>>>> rings
     {
         self.published.distance(self.head)
     }
 
-<<<<<<< HEAD
-    /// In call
-=======
     /// Whether a call is open.
->>>>>>> rings
     pub fn in_call(&self) -> bool
         ensures { (g : Shape) (l : Submission) → ShowsSubmission g self.now l → result ≡ is_some l.call }
     {
         self.call.is_some()
     }
 
-<<<<<<< HEAD
-    /// Opens
-    pub fn begin(&mut self, n: u32) -> BeginAnswer
-        ensures answer { (g : Shape) (l : Submission) → ShowsSubmission g self.old l → result ≡ begin_answer l n }
-        ensures shows { (g : Shape) (l : Submission) → ShowsSubmission g self.old l → ShowsSubmission g self.new (after_begin l n result) }
-        ensures refused { result ≡ BeginAnswer.InCall → self.new ≡ self.old }
-    {
-        if self.call.is_some() {
-=======
     /// Opens a call of `n` positions, or of those pending where they are fewer, and answers how many it takes. io_uring_enter(2), on `to_submit`.
     ///
     /// Refused with `InCall`.
@@ -250,7 +158,6 @@ impl Sq {
         ensures refused { result ≡ BeginAnswer.InCall → self.new ≡ self.old }
     {
         if self.in_call() {
->>>>>>> rings
             return BeginAnswer::InCall;
         }
         let count = n.min(self.pending());
@@ -262,12 +169,6 @@ impl Sq {
         BeginAnswer::Call(count)
     }
 
-<<<<<<< HEAD
-    /// Takes
-    pub fn take(&mut self) -> TakeAnswer
-        ensures answer { (g : Shape) (l : Submission) → ShowsSubmission g self.old l → result ≡ take_answer l }
-        ensures shows { (g : Shape) (l : Submission) → ShowsSubmission g self.old l → ShowsSubmission g self.new (after_take l result) }
-=======
     /// Copies the entry of the open call's next position, or answers `Dropped` where its word names no slot. The call goes on behind such a word: our own rule.
     ///
     /// Refused with `NoCall`, and with `NoMore`.
@@ -275,7 +176,6 @@ impl Sq {
         ensures answer { (g : Shape) (l : Submission) → ShowsSubmission g self.old l → result ≡ take_answer l }
         ensures shows { (g : Shape) (l : Submission) → ShowsSubmission g self.old l →
             ShowsSubmission g self.new (after_take l result) }
->>>>>>> rings
         ensures no_call { result ≡ TakeAnswer.NoCall → self.new ≡ self.old }
         ensures no_more { result ≡ TakeAnswer.NoMore → self.new ≡ self.old }
     {
@@ -301,12 +201,6 @@ impl Sq {
         TakeAnswer::Entry(self.table[word as usize])
     }
 
-<<<<<<< HEAD
-    /// Ends
-    pub fn end(&mut self) -> EndAnswer
-        ensures answer { (g : Shape) (l : Submission) → ShowsSubmission g self.old l → result ≡ end_answer g l }
-        ensures shows { (g : Shape) (l : Submission) → ShowsSubmission g self.old l → ShowsSubmission g self.new (after_end l result) }
-=======
     /// Closes the open call: the head moves past its positions, its entries are accepted, and its dropped words are counted. Before that an entry that was taken isn't accepted: our own rule.
     ///
     /// Refused with `NoCall`, and with `NotAll`.
@@ -314,7 +208,6 @@ impl Sq {
         ensures answer { (g : Shape) (l : Submission) → ShowsSubmission g self.old l → result ≡ end_answer g l }
         ensures shows { (g : Shape) (l : Submission) → ShowsSubmission g self.old l →
             ShowsSubmission g self.new (after_end l result) }
->>>>>>> rings
         ensures no_call { result ≡ EndAnswer.NoCall → self.new ≡ self.old }
         ensures not_all { result ≡ EndAnswer.NotAll → self.new ≡ self.old }
     {
@@ -333,8 +226,6 @@ impl Sq {
             head: self.head.0,
         })
     }
-<<<<<<< HEAD
-=======
 
     /// Whether a published position at or after the head last loaded names the slot.
     fn is_busy(&self, slot: u32) -> bool
@@ -358,5 +249,4 @@ impl Sq {
     {
         index.cell(self.size - 1)
     }
->>>>>>> rings
 }

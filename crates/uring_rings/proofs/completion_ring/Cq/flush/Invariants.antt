@@ -10,11 +10,7 @@ invariant-loop-moved l =
     record {
       waiting : l.moved + length l.self.overflow ≡ length l.initial.self.overflow;
       room : l.self.room ≡ l.initial.self.room;
-<<<<<<< HEAD
-      shows : (g : Shape) (m : Completions) → ShowsCompletions g l.initial.self m → ShowsCompletions g l.self (record m { put = m.put + l.moved })
-=======
       shows : (g : Shape) (m : Completions) → ShowsCompletions g l.initial.self m → ShowsCompletions g l.self (record m { put = m.put + l.moved });
->>>>>>> rings
     }
 
 abbrev pub decreases-loop-moved : goal.decreases-loop-moved

@@ -14,11 +14,6 @@ returns-else-is_empty-clause-shows c =
     rw (← c.self.view_is)
     (λ g l s. rw (c.push_back_reserved.ensures.items) (post_waits g _ l c.args.completion _ s
     (elim c.else-is_empty.branch [
-<<<<<<< HEAD
-      else-is_empty-via-then-is_empty+else-distance-self w ↦ full_ring g _ l w.distance.result c.self.invariant.0 s (search rules) (search rules) (search rules)
-    | else-is_empty-via-else-is_empty w ↦ others_wait g _ l s (λ e. eqb-false _ _ (sym c.is_empty.ensures ∙ w.if-is_empty.false) (omega arith))
-=======
       | else-is_empty-via-then-is_empty+else-distance-self w ↦ full_ring g _ l w.distance.result c.self.invariant.0 s (search rules) (search rules) (search rules)
       | else-is_empty-via-else-is_empty w ↦ others_wait g _ l s (λ e. eqb-false _ _ (sym c.is_empty.ensures ∙ w.if-is_empty.false) (omega arith))
->>>>>>> rings
     ])))
