@@ -10,3 +10,4 @@ pub mod ToldRequests
 pub mod RequestLaws
 pub mod Growth
 pub mod OrderLaws
+pub mod CoreSteps

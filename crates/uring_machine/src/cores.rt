@@ -1,5 +1,6 @@
 ghost use Rattle.std.specs.Prelude.{◌≡◌, ◌∷◌, [], IfOk, slice_get};
 ghost use Rattle.uring_entry.specs.Completions.{unreaped};
+ghost use Rattle.uring_entry.specs.Requests.{least_of};
 ghost use Rattle.uring_dispatch.specs.Answers.{operation_running};
 ghost use Rattle.uring_machine.specs.Histories.{History, world};
 ghost use Rattle.uring_machine.specs.declared.steps.Step.TheVariants as step;
@@ -97,11 +98,9 @@ impl Core {
         let entry = self.dispatch.entry(number);
         match (self.dispatch.finish(number, outcome), entry) {
             (Finished::Ended, Some(entry)) => {
-                tell(&mut self.cq, &entry, outcome.res, outcome.bytes);
-                Answer::Ended {
-                    res: outcome.res,
-                    bytes: outcome.bytes,
-                }
+                let Outcome { res, bytes } = outcome;
+                tell(&mut self.cq, &entry, res, bytes);
+                Answer::Ended { res, bytes }
             }
             _ => Answer::NotRunning,
         }
@@ -112,6 +111,13 @@ impl Core {
         ensures { (h : History) → FitsApart self.now h → result ≡ operation_running (world self.now.shape h).requests number }
     {
         self.dispatch.running_op(number)
+    }
+
+    /// The least outstanding request.
+    pub(crate) fn least(&self) -> Option<u64>
+        ensures { (h : History) → FitsApart self.now h → result ≡ least_of (world self.now.shape h).requests }
+    {
+        self.dispatch.least()
     }
 
     /// The completion at this place among those posted and not reaped, the oldest first.
