@@ -1,5 +1,5 @@
 -- What a core shows after a step, from what its parts show.
-use Rattle.std.proofs.Common.{◌≡◌, ℕ, ◌+◌, ◌-◌, ◌*◌, ◌<◌, ◌≤◌, Bool, true, false, cond, not, List, [], ◌∷◌, ◌++◌, length, take, drop, map, Option, Some, None, is_some, slice_get, refl, sym, ap, subst, ◌∙◌, arith, inl, inr, IfSome}
+use Rattle.std.proofs.Common.{◌≡◌, ℕ, ◌+◌, ◌-◌, ◌*◌, ◌^◌, ◌<◌, ◌≤◌, Bool, true, false, cond, not, List, [], ◌∷◌, ◌++◌, length, take, drop, map, Option, Some, None, is_some, slice_get, refl, sym, ap, subst, ◌∙◌, arith, inl, inr, IfSome}
 use Rattle.std.proofs.lemmas.Bool.{cases_lt, cases_Bool, lt-ltb, le-ltb, lt-leb, le-leb}
 use Rattle.std.proofs.lemmas.Grind.{common_steps}
 use Rattle.std.proofs.lemmas.List.{take-append-le, drop-append-le}
@@ -48,6 +48,7 @@ on_submission p w q l s shows call held = record {
   between = s.between;
   room_to_post = subst (λ c. p.dispatcher.outstanding + positions_of c ≤ p.completions.room) (sym call) s.room_to_post;
   room_to_accept = subst (λ c. positions_of c ≤ p.dispatcher.room) (sym call) s.room_to_accept;
+  numbers = subst (λ c. p.dispatcher.accepted + positions_of c ≤ 2 ^ 63 - 1) (sym call) s.numbers;
   posts = s.posts;
 }
 
@@ -63,6 +64,7 @@ on_completions p w q l s shows room posted = record {
   between = s.between;
   room_to_post = subst (λ r. p.dispatcher.outstanding + positions_of w.submission.call ≤ r) (sym room) s.room_to_post;
   room_to_accept = s.room_to_accept;
+  numbers = s.numbers;
   posts = subst (λ cs. length cs + p.dispatcher.outstanding ≤ p.dispatcher.accepted) (sym posted) s.posts;
 }
 

@@ -11,3 +11,4 @@ pub mod RequestLaws
 pub mod Growth
 pub mod OrderLaws
 pub mod CoreSteps
+pub mod CoreCalls

@@ -10,11 +10,11 @@ use std::marker::Model;
 
 use uring_dispatch::{Dispatch, Finished, Issued, ReserveError};
 use uring_entry::{Cqe, Op, Outcome, Setup, Sqe};
-use uring_rings::{BeginAnswer, Cq, EndAnswer, Sq, TakeAnswer};
+use uring_rings::{Cq, EndAnswer, Sq, TakeAnswer};
 
 use crate::acceptance::accept_call;
 use crate::answers::Answer;
-use crate::conversions::{tell_fill, tell_index, tell_next, tell_reap};
+use crate::conversions::{tell_begin, tell_end, tell_fill, tell_index, tell_next, tell_reap};
 use crate::counts::Counts;
 use crate::steps::Step;
 use crate::posting::tell;
@@ -96,13 +96,14 @@ impl Core {
         ensures outcome { (h : History) → FitsApart self.old h → IsFinished (world self.old.shape h) number outcome result }
     {
         let entry = self.dispatch.entry(number);
-        match (self.dispatch.finish(number, outcome), entry) {
-            (Finished::Ended, Some(entry)) => {
+        match self.dispatch.finish(number, outcome) {
+            Finished::Ended => {
+                let Some(entry) = entry else { unreachable!() };
                 let Outcome { res, bytes } = outcome;
                 tell(&mut self.cq, &entry, res, bytes);
-                Answer::Ended { res, bytes }
+                tell_end(res, bytes)
             }
-            _ => Answer::NotRunning,
+            Finished::NotRunning => Answer::NotRunning,
         }
     }
 
@@ -193,10 +194,7 @@ impl Core {
         if self.cq.reserve(ends).is_err() {
             return Answer::Again;
         }
-        match self.sq.begin(count) {
-            BeginAnswer::Call(length) => Answer::Call(length),
-            BeginAnswer::InCall => Answer::InCall,
-        }
+        tell_begin(self.sq.begin(count))
     }
 
     /// The dispatcher copies the call's next position.
@@ -241,16 +239,17 @@ impl Core {
         ensures fits { (h : History) → FitsApart self.old h → FitsApart self.new ((step.Issue number , result) ∷ h) }
     {
         let entry = self.dispatch.entry(number);
-        match (self.dispatch.issue(number), entry) {
-            (Issued::Run(_), _) => Answer::Run,
-            (Issued::Ended(res), Some(entry)) => {
+        match self.dispatch.issue(number) {
+            Issued::Run(_) => Answer::Run,
+            Issued::Ended(res) => {
+                let Some(entry) = entry else { unreachable!() };
                 let bytes = [0; 64];
                 tell(&mut self.cq, &entry, res, bytes);
-                Answer::Ended { res, bytes }
+                tell_end(res, bytes)
             }
-            (Issued::NotReady, _) => Answer::NotReady,
-            (Issued::Running, _) => Answer::Running,
-            _ => Answer::Unknown,
+            Issued::NotReady => Answer::NotReady,
+            Issued::Running => Answer::Running,
+            Issued::Unknown => Answer::Unknown,
         }
     }
 
