@@ -12,3 +12,4 @@ pub mod Growth
 pub mod OrderLaws
 pub mod CoreSteps
 pub mod CoreCalls
+pub mod CoreTakes
