@@ -127,7 +127,7 @@ place_of_call l call fits more within = found (taken l + call.taken) l.published
     found zero (x ∷ xs) below = (x, refl)
     found (suc k) (x ∷ xs) below = found k xs (omega arith)
 
-some_call : (c : Option Call) (call : Call) (P : Call → Type 0) → c ≡ Some call → IfSome c P → P call
+pub some_call : (c : Option Call) (call : Call) (P : Call → Type 0) → c ≡ Some call → IfSome c P → P call
 some_call None call P is holds = cc
 some_call (Some other) call P is holds = let same : other ≡ call = cc in subst P same holds
 
@@ -173,7 +173,7 @@ few_entries places n =
     let k : length (take n places) ≤ n = grind (arith, common_steps) in
     omega arith
 
-held_within : (l : Submission) (size : ℕ) (c : Option Call) → IfSome c (λ call. (call.taken ≤ call.count) × (call.count ≤ pending l)) → length (held_by l c) ≤ positions_of c
+pub held_within : (l : Submission) (size : ℕ) (c : Option Call) → IfSome c (λ call. (call.taken ≤ call.count) × (call.count ≤ pending l)) → length (held_by l c) ≤ positions_of c
 held_within l size None fits = omega arith
 held_within l size (Some call) fits = let k = few_entries (drop (taken l) l.published) call.taken in omega arith
 

@@ -13,3 +13,4 @@ pub mod OrderLaws
 pub mod CoreSteps
 pub mod CoreCalls
 pub mod CoreTakes
+pub mod CoreEnds
