@@ -10,3 +10,8 @@ pub mod ToldRequests
 pub mod RequestLaws
 pub mod Growth
 pub mod OrderLaws
+pub mod DirectSubmission
+pub mod DirectCompletions
+pub mod DirectRequests
+pub mod DirectPlaces
+pub mod ReadOff

@@ -45,7 +45,7 @@ shut_stays g w s a (loads head) i = (record { closed = i.closed; no_call = i.no_
 shut_stays g w s a (begins count is_open no_call) i = absurd (let e = i.closed in cc)
 shut_stays g w s a (takes entry call place e f h k) i = absurd (let o = i.no_call in cc)
 shut_stays g w s a (drops call place e f h k) i = absurd (let o = i.no_call in cc)
-shut_stays g w s a (closes accepted missed head call e f) i = absurd (let o = i.no_call in cc)
+shut_stays g w s a (closes accepted missed head call e f counted) i = absurd (let o = i.no_call in cc)
 shut_stays g w s a (runs n e f h k) i = (record { closed = i.closed; no_call = i.no_call }, refl)
 shut_stays g w s a (dooms n e f h) i = (record { closed = i.closed; no_call = i.no_call }, refl)
 shut_stays g w s a (cancels n e f h k l) i = (record { closed = i.closed; no_call = i.no_call }, refl)

@@ -98,7 +98,7 @@ places_kept g h w s a (loads head) sound i = record { count = count_same takes_p
 places_kept g h w s a (begins count is_open no_call) sound i = begun_places g h w count no_call i
 places_kept g h w s a (takes entry call place opened left at valid) sound i = subst (λ o. TakesPlaces ((step.Take , answer.Entry entry) ∷ h) (taking_of w o)) (sym opened) (took_valid h w entry call place opened at valid i)
 places_kept g h w s a (drops call place opened left at invalid) sound i = subst (λ o. TakesPlaces ((step.Take , answer.Dropped) ∷ h) (taking_of w o)) (sym opened) (took_invalid h w call place opened at invalid i)
-places_kept g h w s a (closes accepted missed head call opened all) sound i = subst (λ o. TakesPlaces ((step.End , answer.Taken accepted missed head) ∷ h) (ending_of w o)) (sym opened) (closed_places g h w accepted missed head call opened all sound i)
+places_kept g h w s a (closes accepted missed head call opened all counted) sound i = subst (λ o. TakesPlaces ((step.End , answer.Taken accepted missed head) ∷ h) (ending_of w o)) (sym opened) (closed_places g h w accepted missed head call opened all sound i)
 places_kept g h w s a (runs n outstanding idle spared ready) sound i = record { count = count_same takes_position (step.Issue n , answer.Run) h refl ∙ i.count; entries = i.entries }
 places_kept g h w s a (dooms n outstanding idle doomed) sound i = record { count = count_same takes_position (step.Issue n , answer.Ended (doomed_result w.requests n) no_bytes) h refl ∙ i.count; entries = i.entries }
 places_kept g h w s a (cancels n outstanding idle spared ready cancel) sound i = record { count = count_same takes_position (step.Issue n , answer.Ended (cancel_result w.requests n) no_bytes) h refl ∙ i.count; entries = i.entries }

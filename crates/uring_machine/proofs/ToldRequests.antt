@@ -25,7 +25,7 @@ told_kept g h w s a (loads head) i = record { started = i.started; ended = i.end
 told_kept g h w s a (begins count is_open no_call) i = record { started = i.started; ended = i.ended }
 told_kept g h w s a (takes entry call place opened left at valid) i = subst (λ o. TellsRequests ((step.Take , answer.Entry entry) ∷ h) (taking_of w o)) (sym opened) (record { started = i.started; ended = i.ended })
 told_kept g h w s a (drops call place opened left at invalid) i = subst (λ o. TellsRequests ((step.Take , answer.Dropped) ∷ h) (taking_of w o)) (sym opened) (record { started = i.started; ended = i.ended })
-told_kept g h w s a (closes accepted missed head call opened all) i = subst (λ o. TellsRequests ((step.End , answer.Taken accepted missed head) ∷ h) (ending_of w o)) (sym opened) (record { started = i.started; ended = i.ended })
+told_kept g h w s a (closes accepted missed head call opened all counted) i = subst (λ o. TellsRequests ((step.End , answer.Taken accepted missed head) ∷ h) (ending_of w o)) (sym opened) (record { started = i.started; ended = i.ended })
 told_kept g h w s a (runs n outstanding idle spared ready) i = record { started = ap (λ xs. xs ++ n ∷ []) i.started; ended = i.ended }
 told_kept g h w s a (dooms n outstanding idle doomed) i = record { started = i.started; ended = ap (λ xs. xs ++ record { number = n; res = doomed_result w.requests n; bytes = no_bytes } ∷ []) i.ended }
 told_kept g h w s a (cancels n outstanding idle spared ready cancel) i = record { started = i.started; ended = ap (λ xs. xs ++ record { number = n; res = cancel_result w.requests n; bytes = no_bytes } ∷ []) i.ended }

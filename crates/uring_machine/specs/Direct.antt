@@ -4,6 +4,7 @@ use Rattle.std.specs.List.{filter_map}
 use Rattle.std.specs.Option.{option_or}
 use Rattle.uring_entry.specs.Layout.{Entry, Completion, zero_entry, user_data_of}
 use Rattle.uring_entry.specs.Success.{is_told}
+use Rattle.uring_entry.specs.Submission.{Call}
 use Rattle.uring_entry.specs.Requests.{Ending}
 use Rattle.uring_machine.specs.Histories.{Event, History}
 use Rattle.uring_machine.specs.declared.steps.Step.{Step}
@@ -54,6 +55,16 @@ takes_position _ = false
 abbrev pub opened_by : Event → Option ℕ
 opened_by (step.Begin count , answer.Call length) = Some length
 opened_by _ = None
+
+-- whether a call opens
+abbrev pub opens_call : Event → Bool
+opens_call (step.Begin count , answer.Call length) = true
+opens_call _ = false
+
+-- how many entries are accepted as the open call closes
+abbrev pub accepted_by : Event → Option ℕ
+accepted_by (step.End , answer.Taken accepted dropped head) = Some accepted
+accepted_by _ = None
 
 -- whether the open call closes
 abbrev pub closes_call : Event → Bool
@@ -107,6 +118,11 @@ last_told tells (event ∷ before) = option_or (tells event) (last_told tells be
 abbrev pub before_last : (Event → Bool) → History → History
 before_last is_kind [] = []
 before_last is_kind (event ∷ before) = if is_kind event then before else before_last is_kind before
+
+-- what stands after the last event of this kind: everything, where there is none
+abbrev pub since_last : (Event → Bool) → History → History
+since_last is_kind [] = []
+since_last is_kind (event ∷ before) = if is_kind event then [] else event ∷ since_last is_kind before
 
 -- The lists.
 
@@ -167,6 +183,21 @@ taken_count h = sum (call_counts h)
 -- the head of the submission ring that the application last loaded, as a count
 abbrev pub loaded_head : History → ℕ
 loaded_head h = taken_count (before_last is_load_head h)
+
+-- the call that is open, which is the last one opened, with the positions taken since
+abbrev pub open_call : History → Option Call
+open_call h =
+    if count_by opens_call h == count_by closes_call h then None else
+    Some (record { count = slice_index_or (told opened_by h) (count_by closes_call h) 0; taken = count_by takes_position (since_last opens_call h) })
+
+-- the sums of a list's beginnings, of which each has an element more, after what was summed before
+abbrev pub sums_from : ℕ → List ℕ → List ℕ
+sums_from before [] = []
+sums_from before (x ∷ xs) = (before + x) ∷ sums_from (before + x) xs
+
+-- how many entries were accepted as each call closed, in order
+abbrev pub cut_counts : History → List ℕ
+cut_counts h = sums_from 0 (told accepted_by h)
 
 -- the entries that calls took, in order, and how many positions they took
 abbrev pub entries_taken : History → List Entry

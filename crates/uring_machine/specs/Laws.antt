@@ -10,7 +10,7 @@ use Rattle.uring_machine.specs.World.{World}
 use Rattle.uring_machine.specs.Answers.{IsEnded}
 use Rattle.uring_machine.specs.declared.answers.Answer.{Answer}
 use Rattle.uring_machine.specs.Histories.{Event, History, world, IsLawfulApart}
-use Rattle.uring_machine.specs.Direct.{opened_by, closes_call, entries_taken, positions_taken, starts, ends}
+use Rattle.uring_machine.specs.Direct.{opens_call, closes_call, entries_taken, positions_taken, starts, ends}
 use Rattle.uring_machine.specs.declared.steps.Step.TheVariants as step
 use Rattle.uring_machine.specs.declared.answers.Answer.TheVariants as answer
 
@@ -31,8 +31,7 @@ pub record ReapedBeginPosted (size : ℕ) (l : Completions) : Type 0 where
 
 -- whether a call opens, or closes with its entries accepted
 abbrev pub takes_in : Event → Bool
-takes_in (step.Begin count , answer.Call length) = true
-takes_in event = closes_call event
+takes_in event = opens_call event || closes_call event
 
 -- The entries that calls took are the ones that a beginning of the published positions has, each position once, in order: that beginning is as long as positions were taken.
 pub record TakenOnceInOrder (g : Shape) (h : History) : Type 0 where

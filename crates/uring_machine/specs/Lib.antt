@@ -3,3 +3,4 @@ pub mod Answers
 pub mod Histories
 pub mod Direct
 pub mod Laws
+pub mod HistoryLists

@@ -3,6 +3,7 @@ ghost use Rattle.std.specs.Prelude.{◌≡◌, ◌<◌, ℕ, neg_ℤ, List, leng
 ghost use Rattle.std.specs.List.{list_any};
 ghost use Rattle.uring_entry.specs.Shape.{Shape, IsShape};
 ghost use Rattle.uring_machine.specs.Histories.{History, world, IsLawfulApart};
+ghost use Rattle.uring_machine.specs.HistoryLists.{OwnSubmission, OwnRequests, OwnCompletions};
 ghost use Rattle.uring_machine.specs.Laws.{ReapedBeginPosted, TakenOnceInOrder, takes_in, LeastCanGoOn, EachEndsOnce, DoomedNeverRun, Starts, waits_for, times_ended};
 ghost use Rattle.uring_entry.specs.Requests.{is_outstanding, is_doomed};
 ghost use Rattle.uring_entry.specs.declared.errno.TheConstants.{ECANCELED};
@@ -52,5 +53,13 @@ pub fn doomed_never_run()
 pub fn links_and_drains_hold()
     ensures { (g : Shape) (after before : History) (m n : ℕ) (a : Answer) → IsShape g → IsLawfulApart g (after ++ (step.Issue n, a) ∷ before) → Starts (world g before).requests n a → m < n
         → waits_for (world g (after ++ (step.Issue n, a) ∷ before)).requests n m ≡ true → times_ended before m ≡ 1 }
+{
+}
+
+/// Each list and count that a history has made is the one that is read straight off its events.
+pub fn lists_are_the_historys_own()
+    ensures submission { (g : Shape) (h : History) → IsShape g → IsLawfulApart g h → OwnSubmission g h }
+    ensures requests { (g : Shape) (h : History) → IsShape g → IsLawfulApart g h → OwnRequests g h }
+    ensures completions { (g : Shape) (h : History) → IsShape g → IsLawfulApart g h → OwnCompletions g h }
 {
 }
