@@ -14,4 +14,5 @@ pub mod DirectSubmission
 pub mod DirectCompletions
 pub mod DirectRequests
 pub mod DirectPlaces
+pub mod Chosen
 pub mod ReadOff

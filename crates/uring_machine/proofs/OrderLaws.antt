@@ -15,7 +15,7 @@ use Rattle.uring_machine.specs.World.{World}
 use Rattle.uring_machine.specs.Answers.{IsEnded}
 use Rattle.uring_machine.specs.Histories.{History, world, IsLawfulApart}
 use Rattle.uring_machine.specs.Direct.{starts, ends, started_by, end_told_by}
-use Rattle.uring_machine.specs.Laws.{DoomedNeverRun, waits_for, Starts, times_started, times_ended}
+use Rattle.uring_machine.specs.Laws.{DoomedNeverRun, waits_for, IsStart, times_started, times_ended}
 use Rattle.uring_machine.specs.declared.steps.Step.{Step}
 use Rattle.uring_machine.specs.declared.steps.Step.TheVariants as step
 use Rattle.uring_machine.specs.declared.answers.Answer.{Answer}
@@ -90,7 +90,7 @@ record Started (w : World) (n : ℕ) : Type 0 where
   accepted : n < length w.requests.accepted
   ready : is_ready w.requests n ≡ true
 
-started_ready : (g : Shape) (w : World) (n : ℕ) (a : Answer) → Change g w (step.Issue n) a → Starts w.requests n a → Started w n
+started_ready : (g : Shape) (w : World) (n : ℕ) (a : Answer) → Change g w (step.Issue n) a → IsStart w.requests n a → Started w n
 started_ready g w n a (refuses _ _ same silent) (inl run) = absurd (refused_no_run n a silent run)
 started_ready g w n a (refuses _ _ same silent) (inr ended) = absurd (refused_no_end n a silent ended.0)
 started_ready g w n a (runs _ outstanding idle spared ready) start = record { accepted = (outstanding_tells w.requests n outstanding).0; ready = ready }
@@ -112,7 +112,7 @@ same_wait r later n m g lt within =
     ∙ ap (λ b. is_joined r m n || b || is_draining later n) (g.same_drain m (omega arith))
     ∙ ap (λ b. is_joined r m n || is_draining r m || b) (g.same_drain n within)
 
-pub waits : (g : Shape) (after before : History) (m n : ℕ) (a : Answer) → IsShape g → IsLawfulApart g (after ++ (step.Issue n , a) ∷ before) → Starts (world g before).requests n a → m < n
+pub waits : (g : Shape) (after before : History) (m n : ℕ) (a : Answer) → IsShape g → IsLawfulApart g (after ++ (step.Issue n , a) ∷ before) → IsStart (world g before).requests n a → m < n
     → waits_for (world g (after ++ (step.Issue n , a) ∷ before)).requests n m ≡ true → times_ended before m ≡ 1
 waits g after before m n a shape lawful start lt waiting =
     let l = lawful_before g after ((step.Issue n , a) ∷ before) lawful in

@@ -2,7 +2,7 @@
 use Rattle.std.proofs.Common.{◌≡◌, ℕ, ◌+◌, ◌≤◌, Bool, true, false, ◌||◌, List, [], ◌∷◌, ◌++◌, length, take, drop, Option, Some, None, is_some, refl, sym, subst, ap, ◌∙◌, cond, eqb, slice_get, arith, append_assoc}
 use Rattle.std.specs.List.{list_any}
 use Rattle.std.proofs.lemmas.Bool.{or_from}
-use Rattle.std.proofs.lemmas.List.{take-append-drop, take-take}
+use Rattle.std.proofs.lemmas.List.{take-append-drop, take-take, length-drop, length-take}
 use Rattle.uring_entry.specs.Shape.{Shape, IsShape}
 use Rattle.uring_entry.specs.Completions.{Completions}
 use Rattle.uring_machine.specs.World.{World, happens, taking_of, ending_of}
@@ -24,6 +24,7 @@ begin_posted size l s =
       reaped_put = within;
       put_posted = s.put_posted;
       ring_holds = omega arith;
+      few_stand = omega (arith, length-drop (length l.reaped) (take l.put l.posted), length-take l.put l.posted);
     }
 
 -- the ring is closed, and no call is open

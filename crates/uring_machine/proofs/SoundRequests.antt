@@ -344,7 +344,7 @@ unfolding target_of
 target_tells r n m e = (least_below-tells (is_candidate r n) (length r.accepted) m e).holds
 
 -- the result 0 is that of no doomed request
-doomed_unlike_zero : (r : Requests) (n : ℕ) → int_eq (doomed_result r n) (pos 0) ≡ false
+pub doomed_unlike_zero : (r : Requests) (n : ℕ) → int_eq (doomed_result r n) (pos 0) ≡ false
 doomed_unlike_zero r n = by_fault (is_faulty (entry_of r n)) where
   by_fault : (faulty : Bool) → int_eq (cond faulty (neg_ℤ EINVAL) (neg_ℤ ECANCELED)) (pos 0) ≡ false
   by_fault true = refl

@@ -22,12 +22,13 @@ in_ring l = drop (length l.reaped) (take l.put l.posted)
 abbrev pub in_overflow : Completions → List Completion
 in_overflow l = drop l.put l.posted
 
--- What is posted is, in order, what was reaped, what stands in the ring, and what waits in the overflow list. The ring holds no more than its size above the head that the application stored.
+-- What is posted is, in order, what was reaped, what stands in the ring, and what waits in the overflow list. No more was put than the ring's size above the head that the application stored.
 pub record ReapedBeginPosted (size : ℕ) (l : Completions) : Type 0 where
   pub in_order : l.posted ≡ l.reaped ++ (in_ring l ++ in_overflow l)
   pub reaped_put : length l.reaped ≤ l.put
   pub put_posted : l.put ≤ length l.posted
   pub ring_holds : l.put ≤ l.head + size
+  pub few_stand : length (in_ring l) ≤ size
 
 -- whether a call opens, or closes with its entries accepted
 abbrev pub takes_in : Event → Bool
@@ -69,5 +70,5 @@ abbrev pub waits_for : Requests → ℕ → ℕ → Bool
 waits_for r n m = is_joined r m n || is_draining r m || is_draining r n
 
 -- an Issue of n so answered starts it: it runs, or it is a cancel, which ends at once, and isn't doomed
-abbrev pub Starts : Requests → ℕ → Answer → Type 0
-Starts r n a = (a ≡ answer.Run) ⊎ (IsEnded a × (is_doomed r n ≡ false))
+abbrev pub IsStart : Requests → ℕ → Answer → Type 0
+IsStart r n a = (a ≡ answer.Run) ⊎ (IsEnded a × (is_doomed r n ≡ false))

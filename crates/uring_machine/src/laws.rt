@@ -1,11 +1,11 @@
 //! What holds of every lawful history: laws of the definitions alone.
-ghost use Rattle.std.specs.Prelude.{◌≡◌, ◌<◌, ℕ, neg_ℤ, List, length, true, false, ◌∷◌, ◌++◌};
+ghost use Rattle.std.specs.Prelude.{◌≡◌, ◌↔◌, ◌<◌, ℕ, neg_ℤ, List, length, true, false, ◌∷◌, ◌++◌};
 ghost use Rattle.std.specs.List.{list_any};
 ghost use Rattle.uring_entry.specs.Shape.{Shape, IsShape};
 ghost use Rattle.uring_machine.specs.Histories.{History, world, IsLawfulApart};
-ghost use Rattle.uring_machine.specs.HistoryLists.{OwnSubmission, OwnRequests, OwnCompletions};
-ghost use Rattle.uring_machine.specs.Laws.{ReapedBeginPosted, TakenOnceInOrder, takes_in, LeastCanGoOn, EachEndsOnce, DoomedNeverRun, Starts, waits_for, times_ended};
-ghost use Rattle.uring_entry.specs.Requests.{is_outstanding, is_doomed};
+ghost use Rattle.uring_machine.specs.HistoryLists.{OwnSubmission, OwnRequests, OwnCompletions, IsChosenIn};
+ghost use Rattle.uring_machine.specs.Laws.{ReapedBeginPosted, TakenOnceInOrder, takes_in, LeastCanGoOn, EachEndsOnce, DoomedNeverRun, IsStart, waits_for, times_ended};
+ghost use Rattle.uring_entry.specs.Requests.{is_outstanding, is_doomed, is_cancelled};
 ghost use Rattle.uring_entry.specs.declared.errno.TheConstants.{ECANCELED};
 ghost use Rattle.uring_machine.specs.declared.answers.Answer.{Answer};
 ghost use Rattle.uring_machine.specs.declared.steps.Step.TheVariants as step;
@@ -51,7 +51,7 @@ pub fn doomed_never_run()
 
 /// Members of a group, and groups of which one drains, start in order: a request starts only after the end of each that it waits for.
 pub fn links_and_drains_hold()
-    ensures { (g : Shape) (after before : History) (m n : ℕ) (a : Answer) → IsShape g → IsLawfulApart g (after ++ (step.Issue n, a) ∷ before) → Starts (world g before).requests n a → m < n
+    ensures { (g : Shape) (after before : History) (m n : ℕ) (a : Answer) → IsShape g → IsLawfulApart g (after ++ (step.Issue n, a) ∷ before) → IsStart (world g before).requests n a → m < n
         → waits_for (world g (after ++ (step.Issue n, a) ∷ before)).requests n m ≡ true → times_ended before m ≡ 1 }
 {
 }
@@ -61,5 +61,6 @@ pub fn lists_are_the_historys_own()
     ensures submission { (g : Shape) (h : History) → IsShape g → IsLawfulApart g h → OwnSubmission g h }
     ensures requests { (g : Shape) (h : History) → IsShape g → IsLawfulApart g h → OwnRequests g h }
     ensures completions { (g : Shape) (h : History) → IsShape g → IsLawfulApart g h → OwnCompletions g h }
+    ensures cancelled { (g : Shape) (h : History) (m : ℕ) → IsShape g → IsLawfulApart g h → (is_cancelled (world g h).requests m ≡ true ↔ IsChosenIn g h m) }
 {
 }
