@@ -4,10 +4,10 @@ use Rattle.std.specs.List.{list_any}
 use Rattle.uring_entry.specs.Shape.{Shape}
 use Rattle.uring_entry.specs.Layout.{Completion}
 use Rattle.uring_entry.specs.Submission.{entries_of}
-use Rattle.uring_entry.specs.Requests.{Requests, least_of, is_running, is_issuable, is_outstanding, is_doomed, doomed_result, is_joined, is_draining, Ending}
+use Rattle.uring_entry.specs.Requests.{Requests, least_of, next_of, is_running, is_outstanding, is_doomed, doomed_result, is_joined, is_draining, Ending}
 use Rattle.uring_entry.specs.Completions.{Completions}
 use Rattle.uring_machine.specs.World.{World}
-use Rattle.uring_machine.specs.Answers.{IsEnded}
+use Rattle.uring_machine.specs.Answers.{IsEnded, issue_answer}
 use Rattle.uring_machine.specs.declared.answers.Answer.{Answer}
 use Rattle.uring_machine.specs.Histories.{Event, History, world, IsLawfulApart}
 use Rattle.uring_machine.specs.Direct.{opens_call, closes_call, entries_taken, positions_taken, starts, ends}
@@ -39,11 +39,16 @@ pub record TakenOnceInOrder (g : Shape) (h : History) : Type 0 where
   pub beginning : positions_taken h ≤ length (world g h).submission.published
   pub in_order : entries_taken h ≡ entries_of (take (positions_taken h) (world g h).submission.published)
 
--- With something outstanding there is a least outstanding request, and it is running, or can be issued.
-pub record LeastCanGoOn (r : Requests) (n : ℕ) : Type 0 where
+-- an Issue so answered isn't refused
+abbrev pub IsIssued : Answer → Type 0
+IsIssued answer.Run = Unit {0}
+IsIssued a = IsEnded a
+
+-- With something outstanding there is a least outstanding request, and it is running, or else it is the next to be issued, and Issue doesn't refuse it.
+pub record LeastCanGoOn (w : World) : Type 0 where
   pub least : ℕ
-  pub is_least : least_of r ≡ Some least
-  pub goes_on : (is_running r least || is_issuable r least) ≡ true
+  pub is_least : least_of w.requests ≡ Some least
+  pub goes_on : (is_running w.requests least ≡ true) ⊎ ((next_of w.requests ≡ Some least) × IsIssued (issue_answer w least))
 
 -- how often a request was started, and how often it ended
 abbrev pub times_started : History → ℕ → ℕ

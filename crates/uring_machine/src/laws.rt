@@ -29,9 +29,9 @@ pub fn taken_once_in_order()
 {
 }
 
-/// With something outstanding, the least outstanding request is running, or can be issued.
+/// With something outstanding, the least outstanding request is running, or it is the next to be issued, and `Issue` doesn't refuse it.
 pub fn least_can_go_on()
-    ensures { (g : Shape) (h : History) (n : ℕ) → is_outstanding (world g h).requests n ≡ true → LeastCanGoOn (world g h).requests n }
+    ensures { (g : Shape) (h : History) (n : ℕ) → is_outstanding (world g h).requests n ≡ true → LeastCanGoOn (world g h) }
 {
 }
 
