@@ -126,10 +126,10 @@ list_any-push : {X : Type 0} (p : X → Bool) (xs : List X) (x : X) → list_any
 list_any-push p xs x = list_any-append p xs (x ∷ []) ∙ ap (λ b. list_any p xs || b) (or-false (p x))
 
 -- an element is added at the end that the test at k passes, or that it doesn't
-added-same : {X : Type 0} (p : X → Bool) (xs : List X) (x : X) → p x ≡ true → list_any p (xs ++ x ∷ []) ≡ true
+pub added-same : {X : Type 0} (p : X → Bool) (xs : List X) (x : X) → p x ≡ true → list_any p (xs ++ x ∷ []) ≡ true
 added-same p xs x e = list_any-push p xs x ∙ or_right _ _ e
 
-added-other : {X : Type 0} (p : X → Bool) (xs : List X) (x : X) → p x ≡ false → list_any p (xs ++ x ∷ []) ≡ list_any p xs
+pub added-other : {X : Type 0} (p : X → Bool) (xs : List X) (x : X) → p x ≡ false → list_any p (xs ++ x ∷ []) ≡ list_any p xs
 added-other p xs x e = list_any-push p xs x ∙ ap (λ b. list_any p xs || b) e ∙ or-false _
 
 pub has_ended-same : (r : Requests) (n : ℕ) (res : ℤ) (bytes : List ℕ) → has_ended (with_ended r n res bytes) n ≡ true

@@ -1,15 +1,13 @@
 -- The events that change something, each with what is known of it because its answer was called for.
-use Rattle.std.proofs.Common.{◌≡◌, ℕ, ◌+◌, ◌<◌, ◌≤◌, ℤ, Bool, true, false, not, nat_lt, nat_le, eqb, List, length, Option, Some, None, is_some, cond, if◌then◌else◌, slice_get, refl, sym, subst, ap, ◌∙◌, ◌⊎◌, inl, inr, arith}
-use Rattle.std.proofs.lemmas.Bool.{ltb-true, ltb-false, leb-true, leb-false, eqb-true, eqb-false}
+use Rattle.std.proofs.Common.{◌≡◌, ℕ, ◌+◌, ℤ, Bool, true, false, not, nat_lt, eqb, List, length, Option, Some, None, is_some, if◌then◌else◌, slice_get, refl, sym, subst, inl, inr}
 use Rattle.uring_entry.specs.Shape.{Shape}
-use Rattle.uring_entry.specs.Words.{word_of}
 use Rattle.uring_entry.specs.Layout.{Entry, Completion}
 use Rattle.uring_entry.specs.Preparation.{is_cancel}
-use Rattle.uring_entry.specs.Submission.{Submission, Call, Place, staged, taken, is_busy, is_full, call_length, entries_of, places_from, dropped, closed}
-use Rattle.uring_entry.specs.Requests.{Requests, entry_of, is_outstanding, is_running, is_doomed, is_ready, doomed_result, cancel_result, no_bytes, next_of}
-use Rattle.uring_entry.specs.Completions.{Completions, put_by_flush, next_to_reap}
+use Rattle.uring_entry.specs.Submission.{Call, Place, taken, is_busy, is_full, call_length, entries_of, places_from}
+use Rattle.uring_entry.specs.Requests.{entry_of, is_outstanding, is_running, is_doomed, is_ready, doomed_result, cancel_result, no_bytes}
+use Rattle.uring_entry.specs.Completions.{next_to_reap}
 use Rattle.uring_machine.specs.World.{World, happens}
-use Rattle.uring_machine.specs.Answers.{CalledForApart, OrAgain, IsEnded, FinishesApart, fill_answer, index_answer, begin_answer, is_spent, entry_answer, place_answer, take_answer_in, take_answer, end_answer_in, end_answer, issue_answer, reap_answer_of, next_answer_of, close_answer}
+use Rattle.uring_machine.specs.Answers.{CalledForApart, OrAgain, FinishesApart, entry_answer, place_answer, take_answer_in, end_answer_in, reap_answer_of, next_answer_of}
 use Rattle.uring_machine.specs.Histories.{Event}
 use Rattle.uring_machine.specs.Direct.{started_by, end_told_by, reaped_by, staged_by, filled_by, entry_taken_by, takes_position, opened_by, opens_call, accepted_by, closes_call, closes_ring, is_store_tail, is_load_head, is_flush, is_load_cq_tail, is_store_cq_head}
 use Rattle.uring_machine.specs.Laws.{takes_in}
@@ -41,7 +39,7 @@ pub record IsSilent (e : Event) : Type 0 where
 
 -- An event whose answer was called for, by what it changes.
 pub data Change (g : Shape) (w : World) : Step → Answer → Type 0 where
-  refuses : (s : Step) (a : Answer) → ((v : World) → happens g v s a ≡ v) → IsSilent (s , a) → Change g w s a
+  refuses : (s : Step) (a : Answer) → ((v : World) → happens g v s a ≡ v) → IsSilent (s, a) → Change g w s a
   fills : (slot : ℕ) (entry : Entry) → is_busy w.submission slot ≡ false → Change g w (step.Fill slot entry) answer.Filled
   stages : (word : ℕ) → is_full g.sq w.submission ≡ false → Change g w (step.Index word) answer.Staged
   stores : (tail : ℕ) → Change g w step.StoreTail (answer.Tail tail)
@@ -117,7 +115,7 @@ module _ (g : Shape) (w : World) where
 
   issue_of : (n : ℕ) (outstanding running doomed ready cancel : Bool) → is_outstanding w.requests n ≡ outstanding → is_running w.requests n ≡ running → is_doomed w.requests n ≡ doomed → is_ready w.requests n ≡ ready → is_cancel (entry_of w.requests n) ≡ cancel
       → Change g w (step.Issue n)
-          (if not outstanding then answer.Unknown else (if running then answer.Running else (if doomed then answer.Ended (doomed_result w.requests n) no_bytes else (if not ready then answer.NotReady else (if cancel then answer.Ended (cancel_result w.requests n) no_bytes else answer.Run)))))
+      (if not outstanding then answer.Unknown else (if running then answer.Running else (if doomed then answer.Ended (doomed_result w.requests n) no_bytes else (if not ready then answer.NotReady else (if cancel then answer.Ended (cancel_result w.requests n) no_bytes else answer.Run)))))
   issue_of n false running doomed ready cancel e f h i j = refuses _ _ (λ v. refl) (silent refl refl refl refl (λ s. refl) refl refl refl refl refl refl refl refl refl refl refl refl refl)
   issue_of n true true doomed ready cancel e f h i j = refuses _ _ (λ v. refl) (silent refl refl refl refl (λ s. refl) refl refl refl refl refl refl refl refl refl refl refl refl refl)
   issue_of n true false true ready cancel e f h i j = dooms n e f h

@@ -1,16 +1,16 @@
 -- Whom cancels chose, read off a history.
-use Rattle.std.proofs.Common.{◌≡◌, ℕ, ◌==◌, ℤ, pos, Bool, true, false, ◌&&◌, ◌||◌, List, [], ◌∷◌, ◌++◌, Option, Some, None, cond, refl, sym, subst, ap, ◌∙◌, ◌⊎◌, inl, inr, arith}
+use Rattle.std.proofs.Common.{◌≡◌, ℕ, ◌==◌, ℤ, pos, Bool, true, false, ◌&&◌, List, [], ◌∷◌, ◌++◌, Option, Some, None, cond, refl, sym, subst, ap, ◌∙◌, ◌⊎◌, inl, inr}
 use Rattle.std.specs.List.{list_any}
 use Rattle.std.specs.Option.{option_to_list}
 use Rattle.std.specs.Ordering.{int_eq}
-use Rattle.std.proofs.lemmas.Bool.{and_parts, and_from, or_cases, or_left, or_right, both_ways, eqb-true, eq-eqb}
+use Rattle.std.proofs.lemmas.Bool.{and_parts, or_cases, or_left, or_right, both_ways, eqb-true, eq-eqb}
 use Rattle.std.proofs.lemmas.Bool.Decides.{Decides-int_eq}
 use Rattle.std.proofs.lemmas.List.Folds.{list_any-append}
 use Rattle.uring_entry.specs.Shape.{Shape}
 use Rattle.uring_entry.specs.Preparation.{is_cancel}
-use Rattle.uring_entry.specs.Requests.{Requests, entry_of, is_cancelled, target_of, result_for, chosen_by, doomed_result, cancel_result, no_bytes, with_issued_end}
+use Rattle.uring_entry.specs.Requests.{Requests, entry_of, is_cancelled, target_of, chosen_by, doomed_result, cancel_result, no_bytes, with_issued_end}
 use Rattle.uring_machine.specs.HistoryLists.{IsChosenIn}
-use Rattle.uring_machine.specs.World.{World, at_first, happens, taking_of, ending_of}
+use Rattle.uring_machine.specs.World.{World, happens, taking_of, ending_of}
 use Rattle.uring_machine.specs.Histories.{Event, History, world, IsLawfulApart}
 use Rattle.uring_machine.specs.declared.steps.Step.{Step}
 use Rattle.uring_machine.specs.declared.steps.Step.TheVariants as step
@@ -80,25 +80,24 @@ new_cancel g w s a (reaps completion next) m gone = inl gone
 new_cancel g w s a (stores_head head) m gone = inl gone
 new_cancel g w s a (shuts no_call) m gone = inl gone
 
-
 one_later : (g : Shape) (e : Event) (h : History) (m : ℕ) → IsChosenIn g h m → IsChosenIn g (e ∷ h) m
 one_later g e h m c = record { after = e ∷ c.after; before = c.before; number = c.number; bytes = c.bytes; split = ap (λ xs. e ∷ xs) c.split; cancel = c.cancel; target = c.target }
 
 pub chosen_in : (g : Shape) (h : History) → IsLawfulApart g h → (m : ℕ) → is_cancelled (world g h).requests m ≡ true → IsChosenIn g h m
 chosen_in g [] lawful m gone = absurd (let f : false ≡ true = gone in cc)
-chosen_in g ((s , a) ∷ before) lawful m gone =
+chosen_in g ((s, a) ∷ before) lawful m gone =
     elim (new_cancel g (world g before) s a (change_of g (world g before) s a lawful.0) m gone) [
-      inl old ↦ one_later g (s , a) before m (chosen_in g before lawful.1 m old)
-    | inr new ↦
-        record {
-          after = [];
-          before = before;
-          number = new.number;
-          bytes = no_bytes;
-          split = ap (λ x. (x , a) ∷ before) new.step_is ∙ ap (λ b. (step.Issue new.number , b) ∷ before) new.answer_is;
-          cancel = new.now.cancel;
-          target = new.now.target;
-        }
+      | inl old ↦ one_later g (s, a) before m (chosen_in g before lawful.1 m old)
+      | inr new ↦
+          record {
+            after = [];
+            before = before;
+            number = new.number;
+            bytes = no_bytes;
+            split = ap (λ x. (x, a) ∷ before) new.step_is ∙ ap (λ b. (step.Issue new.number, b) ∷ before) new.answer_is;
+            cancel = new.now.cancel;
+            target = new.now.target;
+          }
     ]
 
 -- the end of a cancel with the result 0 dooms what it chose
@@ -106,15 +105,15 @@ dooms_now : (r : Requests) (n m : ℕ) → is_cancel (entry_of r n) ≡ true →
 dooms_now r n m cancel target =
     list_any-append (λ k. k == m) r.cancelled (chosen_by r n (pos 0))
     ∙ or_right _ _
-      (ap (λ b. list_any (λ k. k == m) (cond (b && int_eq (pos 0) (pos 0)) (option_to_list (target_of r n)) [])) cancel
-      ∙ ap (λ o. list_any (λ k. k == m) (option_to_list o)) target
-      ∙ or_left (m == m) false (eq-eqb m m refl))
+    (ap (λ b. list_any (λ k. k == m) (cond (b && int_eq (pos 0) (pos 0)) (option_to_list (target_of r n)) [])) cancel
+    ∙ ap (λ o. list_any (λ k. k == m) (option_to_list o)) target
+    ∙ or_left (m == m) false (eq-eqb m m refl))
 
-stays_chosen : (g : Shape) (after before : History) (n m : ℕ) (bytes : List ℕ) → IsLawfulApart g (after ++ (step.Issue n , answer.Ended (pos 0) bytes) ∷ before) → is_cancel (entry_of (world g before).requests n) ≡ true → target_of (world g before).requests n ≡ Some m
-    → is_cancelled (world g (after ++ (step.Issue n , answer.Ended (pos 0) bytes) ∷ before)).requests m ≡ true
+stays_chosen : (g : Shape) (after before : History) (n m : ℕ) (bytes : List ℕ) → IsLawfulApart g (after ++ (step.Issue n, answer.Ended (pos 0) bytes) ∷ before) → is_cancel (entry_of (world g before).requests n) ≡ true → target_of (world g before).requests n ≡ Some m
+    → is_cancelled (world g (after ++ (step.Issue n, answer.Ended (pos 0) bytes) ∷ before)).requests m ≡ true
 stays_chosen g [] before n m bytes lawful cancel target = dooms_now (world g before).requests n m cancel target
-stays_chosen g ((s , a) ∷ after) before n m bytes lawful cancel target =
-    (event_grows g s a (after ++ (step.Issue n , answer.Ended (pos 0) bytes) ∷ before) lawful).stays_cancelled m (stays_chosen g after before n m bytes lawful.1 cancel target)
+stays_chosen g ((s, a) ∷ after) before n m bytes lawful cancel target =
+    (event_grows g s a (after ++ (step.Issue n, answer.Ended (pos 0) bytes) ∷ before) lawful).stays_cancelled m (stays_chosen g after before n m bytes lawful.1 cancel target)
 
 pub chosen_stays : (g : Shape) (h : History) → IsLawfulApart g h → (m : ℕ) → IsChosenIn g h m → is_cancelled (world g h).requests m ≡ true
 chosen_stays g h lawful m c =

@@ -1,5 +1,5 @@
 -- The accepted entries, the cuts and the completions posted, read off a history.
-use Rattle.std.proofs.Common.{◌≡◌, ℕ, ◌+◌, ◌<◌, ◌≤◌, ◌==◌, Bool, true, false, ◌||◌, List, [], ◌∷◌, ◌++◌, length, take, drop, map, sum, Option, Some, None, get_or, cond, refl, sym, subst, ap, ap₂, ◌∙◌, arith, append-nil, take-add}
+use Rattle.std.proofs.Common.{◌≡◌, ℕ, ◌+◌, ◌<◌, ◌==◌, Bool, true, false, ◌||◌, List, [], ◌∷◌, ◌++◌, length, take, map, sum, Some, None, get_or, cond, refl, sym, subst, ap, ap₂, ◌∙◌, arith, append-nil, take-add}
 use Rattle.std.specs.List.{list_any, filter_map, cons_option}
 use Rattle.std.proofs.lemmas.Bool.{or_left, or_right, eq-eqb}
 use Rattle.std.proofs.lemmas.List.{length-append, take-append-le, get_or_append_left}
@@ -8,18 +8,18 @@ use Rattle.std.proofs.lemmas.List.Sums.{sum_by_push, sum_by-cons}
 use Rattle.uring_entry.specs.Shape.{Shape}
 use Rattle.uring_entry.specs.Layout.{Entry, Completion, zero_entry, user_data_of}
 use Rattle.uring_entry.specs.Success.{is_told}
-use Rattle.uring_entry.specs.Submission.{Submission, Call, taken, accepted, entries_of, places_from, place_of, call_length}
+use Rattle.uring_entry.specs.Submission.{Submission, taken, accepted, entries_of, places_from, place_of}
 use Rattle.uring_entry.specs.Completions.{Completions, with_posted, with_end}
-use Rattle.uring_entry.specs.Requests.{Ending, entry_of, doomed_result, cancel_result, no_bytes}
+use Rattle.uring_entry.specs.Requests.{Ending, doomed_result, cancel_result, no_bytes}
 use Rattle.uring_machine.specs.Direct.{accepted_by, closes_ring, told, sums_from, cut_counts, completion_of}
-use Rattle.uring_machine.specs.World.{World, at_first, happens, taking_of, ending_of}
-use Rattle.uring_machine.specs.Histories.{Event, History, world, IsLawfulApart}
+use Rattle.uring_machine.specs.World.{World, happens, taking_of, ending_of}
+use Rattle.uring_machine.specs.Histories.{History, world, IsLawfulApart}
 use Rattle.uring_machine.specs.declared.steps.Step.{Step}
 use Rattle.uring_machine.specs.declared.steps.Step.TheVariants as step
 use Rattle.uring_machine.specs.declared.answers.Answer.{Answer}
 use Rattle.uring_machine.specs.declared.answers.Answer.TheVariants as answer
 use Rattle.uring_machine.proofs.Changes.{Change, change_of, refuses, fills, stages, stores, loads, begins, takes, drops, closes, runs, dooms, cancels, finishes, flushes, sees_tail, reaps, stores_head, shuts}
-use Rattle.uring_machine.proofs.Telling.{count_more, count_same, told_same, before_same}
+use Rattle.uring_machine.proofs.Telling.{told_same}
 use Rattle.uring_machine.proofs.Sound.{IsSound, sound_of}
 
 pub record DirectRequests (h : History) (w : World) : Type 0 where
@@ -49,7 +49,7 @@ same_posts accepted more [] within = refl
 same_posts accepted more (e ∷ es) within =
     ap₂ cons_option
     (ap (λ entry. cond (is_told entry e.res) (Some (record { user_data = user_data_of entry; res = e.res; payload = e.bytes })) None)
-      (get_or_append_left accepted more zero_entry e.number (within e.number (or_left (e.number == e.number) _ (eq-eqb e.number _ refl)))))
+    (get_or_append_left accepted more zero_entry e.number (within e.number (or_left (e.number == e.number) _ (eq-eqb e.number _ refl)))))
     (same_posts accepted more es (λ n there. within n (or_right (e.number == n) _ there)))
 
 -- one end more
@@ -65,16 +65,16 @@ end_posted size l accepted es e posted =
     ∙ ap (λ xs. xs ++ cons_option (completion_of accepted e) []) posted
     ∙ sym (filter_map-append (completion_of accepted) es (e ∷ []))
 
-requests_direct : (g : Shape) (h : History) (w : World) (s : Step) (a : Answer) → Change g w s a → IsSound g w → DirectRequests h w → DirectRequests ((s , a) ∷ h) (happens g w s a)
-requests_direct g h w s a (refuses _ _ same silent) sound i = subst (λ v. DirectRequests ((s , a) ∷ h) v) (sym (same w)) (record { posted = i.posted; taken_in = i.taken_in; counted = ap sum (told_same accepted_by (s , a) h silent.accepts) ∙ i.counted; cuts = i.cuts ∙ ap (sums_from 0) (sym (told_same accepted_by (s , a) h silent.accepts)); shut = i.shut ∙ ap (λ b. b || list_any closes_ring h) (sym silent.shuts_none) })
+requests_direct : (g : Shape) (h : History) (w : World) (s : Step) (a : Answer) → Change g w s a → IsSound g w → DirectRequests h w → DirectRequests ((s, a) ∷ h) (happens g w s a)
+requests_direct g h w s a (refuses _ _ same silent) sound i = subst (λ v. DirectRequests ((s, a) ∷ h) v) (sym (same w)) (record { posted = i.posted; taken_in = i.taken_in; counted = ap sum (told_same accepted_by (s, a) h silent.accepts) ∙ i.counted; cuts = i.cuts ∙ ap (sums_from 0) (sym (told_same accepted_by (s, a) h silent.accepts)); shut = i.shut ∙ ap (λ b. b || list_any closes_ring h) (sym silent.shuts_none) })
 requests_direct g h w s a (fills slot entry free) sound i = record { posted = i.posted; taken_in = i.taken_in; counted = i.counted; cuts = i.cuts; shut = i.shut }
 requests_direct g h w s a (stages word room) sound i = record { posted = i.posted; taken_in = i.taken_in; counted = i.counted; cuts = i.cuts; shut = i.shut }
 requests_direct g h w s a (stores tail) sound i = record { posted = i.posted; taken_in = i.taken_in ∙ ap entries_of (sym (take-append-le (taken w.submission) w.submission.published (map (place_of g.sq w.submission.content) w.submission.fresh) (omega (arith, sound.submission.call_published)))); counted = i.counted; cuts = i.cuts; shut = i.shut }
 requests_direct g h w s a (loads head) sound i = record { posted = i.posted; taken_in = i.taken_in; counted = i.counted; cuts = i.cuts; shut = i.shut }
 requests_direct g h w s a (begins count is_open no_call) sound i = record { posted = i.posted; taken_in = i.taken_in; counted = i.counted; cuts = i.cuts; shut = i.shut }
-requests_direct g h w s a (takes entry call place opened left at valid) sound i = subst (λ o. DirectRequests ((step.Take , answer.Entry entry) ∷ h) (taking_of w o)) (sym opened) (record { posted = i.posted; taken_in = i.taken_in; counted = i.counted; cuts = i.cuts; shut = i.shut })
-requests_direct g h w s a (drops call place opened left at invalid) sound i = subst (λ o. DirectRequests ((step.Take , answer.Dropped) ∷ h) (taking_of w o)) (sym opened) (record { posted = i.posted; taken_in = i.taken_in; counted = i.counted; cuts = i.cuts; shut = i.shut })
-requests_direct g h w s a (closes accepted missed head call opened all counted) sound i = subst (λ o. DirectRequests ((step.End , answer.Taken accepted missed head) ∷ h) (ending_of w o)) (sym opened) (record { posted = i.posted ∙ sym (same_posts w.requests.accepted (entries_of (places_from w.submission call.count)) w.requests.ended sound.requests.ended_accepted); taken_in = ap (λ xs. xs ++ entries_of (places_from w.submission call.count)) i.taken_in ∙ sym (taken_more w.submission call.count); counted = sum_by_push (λ x. x) (told accepted_by h) accepted ∙ omega (arith, i.counted, counted, length-append w.requests.accepted (entries_of (places_from w.submission call.count))); cuts = ap₂ (λ xs n. xs ++ n ∷ []) i.cuts (omega (arith, i.counted, counted, length-append w.requests.accepted (entries_of (places_from w.submission call.count)))) ∙ sym (sums_push 0 (told accepted_by h) accepted); shut = i.shut })
+requests_direct g h w s a (takes entry call place opened left at valid) sound i = subst (λ o. DirectRequests ((step.Take, answer.Entry entry) ∷ h) (taking_of w o)) (sym opened) (record { posted = i.posted; taken_in = i.taken_in; counted = i.counted; cuts = i.cuts; shut = i.shut })
+requests_direct g h w s a (drops call place opened left at invalid) sound i = subst (λ o. DirectRequests ((step.Take, answer.Dropped) ∷ h) (taking_of w o)) (sym opened) (record { posted = i.posted; taken_in = i.taken_in; counted = i.counted; cuts = i.cuts; shut = i.shut })
+requests_direct g h w s a (closes accepted missed head call opened all counted) sound i = subst (λ o. DirectRequests ((step.End, answer.Taken accepted missed head) ∷ h) (ending_of w o)) (sym opened) (record { posted = i.posted ∙ sym (same_posts w.requests.accepted (entries_of (places_from w.submission call.count)) w.requests.ended sound.requests.ended_accepted); taken_in = ap (λ xs. xs ++ entries_of (places_from w.submission call.count)) i.taken_in ∙ sym (taken_more w.submission call.count); counted = sum_by_push (λ x. x) (told accepted_by h) accepted ∙ omega (arith, i.counted, counted, length-append w.requests.accepted (entries_of (places_from w.submission call.count))); cuts = ap₂ (λ xs n. xs ++ n ∷ []) i.cuts (omega (arith, i.counted, counted, length-append w.requests.accepted (entries_of (places_from w.submission call.count)))) ∙ sym (sums_push 0 (told accepted_by h) accepted); shut = i.shut })
 requests_direct g h w s a (runs n outstanding idle spared ready) sound i = record { posted = i.posted; taken_in = i.taken_in; counted = i.counted; cuts = i.cuts; shut = i.shut }
 requests_direct g h w s a (dooms n outstanding idle doomed) sound i = record { posted = end_posted g.cq w.completions w.requests.accepted w.requests.ended (record { number = n; res = doomed_result w.requests n; bytes = no_bytes }) i.posted; taken_in = i.taken_in; counted = i.counted; cuts = i.cuts; shut = i.shut }
 requests_direct g h w s a (cancels n outstanding idle spared ready cancel) sound i = record { posted = end_posted g.cq w.completions w.requests.accepted w.requests.ended (record { number = n; res = cancel_result w.requests n; bytes = no_bytes }) i.posted; taken_in = i.taken_in; counted = i.counted; cuts = i.cuts; shut = i.shut }
@@ -87,5 +87,5 @@ requests_direct g h w s a (shuts no_call) sound i = record { posted = i.posted; 
 
 pub direct_requests : (g : Shape) (h : History) → IsLawfulApart g h → DirectRequests h (world g h)
 direct_requests g [] lawful = record { posted = refl; taken_in = refl; counted = refl; cuts = refl; shut = refl }
-direct_requests g ((s , a) ∷ before) lawful =
+direct_requests g ((s, a) ∷ before) lawful =
     requests_direct g before (world g before) s a (change_of g (world g before) s a lawful.0) (sound_of g before lawful.1) (direct_requests g before lawful.1)

@@ -1,15 +1,15 @@
 -- What stays of the requests as a history goes on.
-use Rattle.std.proofs.Common.{◌≡◌, ℕ, ◌+◌, ◌<◌, ◌≤◌, ℤ, Bool, true, false, List, [], ◌∷◌, ◌++◌, length, refl, sym, subst, ap, ◌∙◌, ◌⊎◌, inl, inr, arith}
+use Rattle.std.proofs.Common.{◌≡◌, ℕ, ◌<◌, ◌≤◌, ℤ, true, List, [], ◌∷◌, ◌++◌, length, refl, sym, subst, ◌∙◌, ◌⊎◌, inl, inr, arith}
 use Rattle.uring_entry.specs.Shape.{Shape}
 use Rattle.uring_entry.specs.Layout.{Entry}
 use Rattle.uring_entry.specs.Submission.{entries_of, places_from}
-use Rattle.uring_entry.specs.Requests.{Requests, entry_of, is_joined, is_draining, is_drain, some_member, is_doomed, is_cancelled, is_behind_failure, doomed_result, cancel_result, no_bytes, with_call, with_started}
+use Rattle.uring_entry.specs.Requests.{Requests, entry_of, is_joined, is_draining, is_drain, some_member, is_doomed, is_cancelled, doomed_result, cancel_result, with_call, with_started}
 use Rattle.uring_machine.specs.World.{World, happens, taking_of, ending_of}
 use Rattle.uring_machine.specs.Histories.{History, world, IsLawfulApart}
 use Rattle.uring_machine.specs.declared.steps.Step.{Step}
 use Rattle.uring_machine.specs.declared.answers.Answer.{Answer}
 use Rattle.uring_machine.proofs.Changes.{Change, change_of, refuses, fills, stages, stores, loads, begins, takes, drops, closes, runs, dooms, cancels, finishes, flushes, sees_tail, reaps, stores_head, shuts}
-use Rattle.uring_machine.proofs.SoundRequests.{IsSoundRequests, IsChoice, ended_as, start_doom, start_join, end_doom, end_join, choice_of, no_choice}
+use Rattle.uring_machine.proofs.SoundRequests.{IsChoice, ended_as, start_doom, start_join, end_doom, end_join, choice_of, no_choice}
 use Rattle.uring_machine.proofs.Groups.{longer, entry_kept, join_kept, member_kept, doom_kept}
 use Rattle.uring_machine.proofs.Sound.{sound_of}
 use Rattle.std.specs.List.{list_any}
@@ -92,15 +92,15 @@ change_grows g w s a (reaps completion next) cut = same_grows w.requests
 change_grows g w s a (stores_head head) cut = same_grows w.requests
 change_grows g w s a (shuts no_call) cut = same_grows w.requests
 
-pub event_grows : (g : Shape) (s : Step) (a : Answer) (before : History) → IsLawfulApart g ((s , a) ∷ before) → Grows (world g before).requests (world g ((s , a) ∷ before)).requests
+pub event_grows : (g : Shape) (s : Step) (a : Answer) (before : History) → IsLawfulApart g ((s, a) ∷ before) → Grows (world g before).requests (world g ((s, a) ∷ before)).requests
 event_grows g s a before lawful = change_grows g (world g before) s a (change_of g (world g before) s a lawful.0) (sound_of g before lawful.1).requests.cut_at_end
 
 pub grows : (g : Shape) (after before : History) → IsLawfulApart g (after ++ before) → Grows (world g before).requests (world g (after ++ before)).requests
 grows g [] before lawful = same_grows (world g before).requests
-grows g ((s , a) ∷ after) before lawful =
-    then_grows (world g before).requests (world g (after ++ before)).requests (world g ((s , a) ∷ after ++ before)).requests (grows g after before lawful.1) (event_grows g s a (after ++ before) lawful)
+grows g ((s, a) ∷ after) before lawful =
+    then_grows (world g before).requests (world g (after ++ before)).requests (world g ((s, a) ∷ after ++ before)).requests (grows g after before lawful.1) (event_grows g s a (after ++ before) lawful)
 
 -- what a history is made of is lawful
 pub lawful_before : (g : Shape) (after before : History) → IsLawfulApart g (after ++ before) → IsLawfulApart g before
 lawful_before g [] before lawful = lawful
-lawful_before g ((s , a) ∷ after) before lawful = lawful_before g after before lawful.1
+lawful_before g ((s, a) ∷ after) before lawful = lawful_before g after before lawful.1

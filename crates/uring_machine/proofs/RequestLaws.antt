@@ -1,9 +1,9 @@
 -- The laws of requests.
-use Rattle.std.proofs.Common.{◌≡◌, ℕ, ◌<◌, ◌≤◌, ◌==◌, Bool, true, false, not, ◌||◌, ◌&&◌, List, [], ◌∷◌, ◌++◌, Option, Some, None, length, count_by, ℤ, if◌then◌else◌, refl, sym, subst, ap, ◌∙◌, ◌⊎◌, inl, inr, arith}
+use Rattle.std.proofs.Common.{◌≡◌, ℕ, ◌<◌, ◌≤◌, ◌==◌, Bool, true, false, not, ◌||◌, List, Option, Some, None, length, count_by, ℤ, if◌then◌else◌, refl, sym, subst, inl, inr, arith}
 use Rattle.std.specs.List.{list_any}
 use Rattle.std.proofs.lemmas.Bool.{and_parts, and_cases, ltb-true, lt-ltb, both_ways, cases_Bool, or_cases, not-false, not-true, false_from_ne_true}
 use Rattle.uring_entry.specs.Shape.{Shape}
-use Rattle.uring_entry.specs.Requests.{Requests, Ending, has_ended, is_outstanding, least_of, next_of, entry_of, is_doomed, is_ready, is_running, is_issuable, doomed_result, cancel_result, no_bytes}
+use Rattle.uring_entry.specs.Requests.{Requests, has_ended, is_outstanding, least_of, next_of, entry_of, is_doomed, is_ready, is_running, is_issuable, doomed_result, cancel_result, no_bytes}
 use Rattle.uring_entry.proofs.BelowLemmas.{least_below-out, least_below-some, least_below-tells}
 use Rattle.uring_entry.proofs.RequestLemmas.{least_of-goes_on}
 use Rattle.uring_machine.specs.Laws.{LeastCanGoOn, EachEndsOnce, IsIssued}
@@ -14,7 +14,7 @@ use Rattle.uring_machine.specs.declared.answers.Answer.TheVariants as answer
 use Rattle.uring_machine.specs.Histories.{History, world, IsLawfulApart}
 use Rattle.uring_machine.proofs.SoundRequests.{IsSoundRequests, count_none, count_some}
 use Rattle.uring_machine.proofs.Sound.{sound_of}
-use Rattle.uring_machine.proofs.ToldRequests.{TellsRequests, tells_requests}
+use Rattle.uring_machine.proofs.ToldRequests.{tells_requests}
 
 -- what can be issued isn't refused
 answer_goes : (outstanding running doomed ready cancel : Bool) (as_doomed as_cancel : ℤ) → outstanding ≡ true → running ≡ false → (doomed || ready) ≡ true
@@ -52,18 +52,18 @@ least_goes_on w n outstanding = by_least (least_of w.requests) refl where
         least = m;
         is_least = e;
         goes_on =
-          elim (or_cases _ _ (least_of-goes_on w.requests m e)) [
-            inl running ↦ inl running
-          | inr issuable ↦ inr (least_is_next w.requests m e issuable, issue_goes w m issuable)
-          ];
+            elim (or_cases _ _ (least_of-goes_on w.requests m e)) [
+              | inl running ↦ inl running
+              | inr issuable ↦ inr (least_is_next w.requests m e issuable, issue_goes w m issuable)
+            ];
       }
 
 -- what is counted is there
 counted : {X : Type 0} (p : X → Bool) (xs : List X) → 0 < count_by p xs → list_any p xs ≡ true
 counted p xs some =
     elim (cases_Bool (list_any p xs)) [
-      inl there ↦ there
-    | inr none ↦ absurd (omega (arith, count_none p xs none))
+      | inl there ↦ there
+      | inr none ↦ absurd (omega (arith, count_none p xs none))
     ]
 
 pub ends_once : (g : Shape) (h : History) → IsLawfulApart g h → EachEndsOnce g h
@@ -79,11 +79,11 @@ ends_once g h lawful =
       accepted_end = λ n some. s.ended_accepted n (counted (λ e. e.number == n) (world g h).requests.ended (subst (λ xs. 0 < count_by (λ e. e.number == n) xs) t.ended some));
       all_end = λ none n within. subst (λ xs. count_by (λ e. e.number == n) xs ≡ 1) ended (exactly_once (world g h).requests n s (none n) within);
     } where
-  exactly_once : (r : Requests) (n : ℕ) → IsSoundRequests r → is_outstanding r n ≡ false → n < length r.accepted → count_by (λ e. e.number == n) r.ended ≡ 1
-  exactly_once r n s none within =
-      let over : has_ended r n ≡ true =
+      exactly_once : (r : Requests) (n : ℕ) → IsSoundRequests r → is_outstanding r n ≡ false → n < length r.accepted → count_by (λ e. e.number == n) r.ended ≡ 1
+      exactly_once r n s none within =
+          let over : has_ended r n ≡ true =
           elim (and_cases _ (not (has_ended r n)) none) [
-            inl out ↦ absurd (both_ways _ out (lt-ltb _ _ within))
-          | inr over ↦ not-false _ over
+            | inl out ↦ absurd (both_ways _ out (lt-ltb _ _ within))
+            | inr over ↦ not-false _ over
           ] in
-      omega (arith, s.ends_once n, count_some (λ e. e.number == n) r.ended over)
+          omega (arith, s.ends_once n, count_some (λ e. e.number == n) r.ended over)

@@ -1,5 +1,5 @@
 -- What holds of everything that a lawful history has made.
-use Rattle.std.proofs.Common.{◌≡◌, ℕ, ◌≤◌, Bool, true, false, List, [], ◌∷◌, length, Option, Some, None, refl, sym, subst, ap, ◌∙◌, arith}
+use Rattle.std.proofs.Common.{ℕ, [], ◌∷◌, refl, sym, subst, arith}
 use Rattle.uring_entry.specs.Shape.{Shape}
 use Rattle.uring_machine.specs.World.{World, at_first, happens, taking_of, ending_of}
 use Rattle.uring_machine.specs.Histories.{History, world, IsLawfulApart}
@@ -91,7 +91,7 @@ requests_kept g w s a (shuts no_call) i = i
 
 pub sound_of : (g : Shape) (h : History) → IsLawfulApart g h → IsSound g (world g h)
 sound_of g [] lawful = first_sound g
-sound_of g ((s , a) ∷ before) lawful =
+sound_of g ((s, a) ∷ before) lawful =
     let i = sound_of g before lawful.1 in
     let c = change_of g (world g before) s a lawful.0 in
     record {

@@ -1,22 +1,19 @@
 -- What holds of the requests of every lawful history, kept by each of their events.
-use Rattle.std.proofs.Common.{◌≡◌, ◌≢◌, ℕ, zero, suc, ◌+◌, ◌==◌, ◌<◌, ◌≤◌, min, max, ℤ, pos, neg_ℤ, List, [], ◌∷◌, ◌++◌, length, Bool, true, false, not, ◌&&◌, ◌||◌, eqb, leb, ltb, Option, Some, None, slice_get, get_or, count_by, cond, refl, sym, subst, ◌∙◌, ap, arith, ◌⊎◌, inl, inr}
+use Rattle.std.proofs.Common.{◌≡◌, ◌≢◌, ℕ, zero, suc, ◌==◌, ◌<◌, ◌≤◌, ℤ, pos, neg_ℤ, List, [], ◌∷◌, ◌++◌, length, Bool, true, false, not, ◌&&◌, ◌||◌, eqb, Option, Some, None, count_by, cond, refl, sym, subst, ◌∙◌, ap, arith, ◌⊎◌, inl, inr}
 use Rattle.std.specs.List.{list_any}
 use Rattle.std.specs.Option.{option_to_list}
 use Rattle.std.specs.Ordering.{int_eq}
-use Rattle.std.proofs.lemmas.Bool.{cases_lt, cases_eq, cases_Bool, and_parts, and_cases, and_from, and_left, and_right, or_cases, or_parts, or_from, or_left, or_right, both_ways, eqb-true, eqb-false, eq-eqb, ne_eqb, ltb-true, lt-ltb, le-leb, not-true, not-false, not_from_true, false_from_ne_true}
+use Rattle.std.proofs.lemmas.Bool.{cases_eq, cases_Bool, and_parts, and_cases, and_from, and_left, and_right, or_cases, or_parts, or_from, or_left, or_right, both_ways, eqb-true, eqb-false, ne_eqb, ltb-true, lt-ltb, not-true, not-false, not_from_true, false_from_ne_true}
 use Rattle.std.proofs.lemmas.Bool.Decides.{Decides-int_eq}
-use Rattle.std.proofs.lemmas.List.{length_push, length-append, get_or_append_left, get_or_push, get_or-append_right}
 use Rattle.std.proofs.lemmas.List.Folds.{list_any-append}
 use Rattle.std.proofs.lemmas.List.Sums.{sum_by_push, sum_by-cons}
-use Rattle.std.proofs.lemmas.Option.{slice_get_within, slice_get-get_or}
-use Rattle.uring_entry.specs.Layout.{Entry, zero_entry}
 use Rattle.uring_entry.specs.Success.{is_success}
 use Rattle.uring_entry.specs.Preparation.{is_faulty, is_cancel}
-use Rattle.uring_entry.specs.declared.errno.TheConstants.{ENOENT, EINVAL, EALREADY, ECANCELED}
-use Rattle.uring_entry.specs.Below.{some_below, least_below}
-use Rattle.uring_entry.specs.Requests.{Requests, Ending, no_request, entry_of, has_started, has_ended, has_failed, is_running, is_outstanding, is_soft, is_last, is_linked, is_joined, is_in_group, some_member, is_draining, is_drain, is_in_faulty_group, is_behind_failure, is_cancelled, is_doomed, is_ready, holds_back, is_candidate, target_of, result_for, cancel_result, doomed_result, no_bytes, chosen_by, with_call, with_started, with_ended, with_issued_end}
-use Rattle.uring_entry.proofs.BelowLemmas.{some_below-none, some_below-some, some_below-out, some_below-same, some_below-between, least_below-tells, IsLeast}
-use Rattle.uring_entry.proofs.RequestLemmas.{is_joined-no, is_joined-yes, is_joined-inside, is_doomed-faulty, is_doomed-behind, is_doomed-cancelled, is_ready-inside}
+use Rattle.uring_entry.specs.declared.errno.TheConstants.{EINVAL, EALREADY, ECANCELED}
+use Rattle.uring_entry.specs.Below.{some_below}
+use Rattle.uring_entry.specs.Requests.{Requests, Ending, no_request, entry_of, has_started, has_ended, has_failed, is_running, is_outstanding, is_soft, is_joined, some_member, is_in_faulty_group, is_behind_failure, is_cancelled, is_doomed, is_ready, is_candidate, target_of, result_for, cancel_result, doomed_result, no_bytes, chosen_by, with_started, with_ended, with_issued_end}
+use Rattle.uring_entry.proofs.BelowLemmas.{some_below-some, least_below-tells}
+use Rattle.uring_entry.proofs.RequestLemmas.{is_doomed-faulty, is_doomed-behind, is_doomed-cancelled, is_ready-inside}
 
 -- Lists with an element more.
 
@@ -46,22 +43,22 @@ pub count_some : {X : Type 0} (p : X → Bool) (xs : List X) → list_any p xs �
 count_some p [] e = absurd (let f : false ≡ true = e in cc)
 count_some p (x ∷ xs) e =
     elim (or_cases _ _ e) [
-      inl here ↦
-        let one : ◌≡◌ {A = ℕ} (cond (p x) 1 0) 1 = ap (λ t. cond t 1 0) here in
-        omega (arith, sum_by-cons (λ y. cond (p y) 1 0) x xs)
-    | inr later ↦ omega (arith, sum_by-cons (λ y. cond (p y) 1 0) x xs, count_some p xs later)
+      | inl here ↦
+          let one : ◌≡◌ {A = ℕ} (cond (p x) 1 0) 1 = ap (λ t. cond t 1 0) here in
+          omega (arith, sum_by-cons (λ y. cond (p y) 1 0) x xs)
+      | inr later ↦ omega (arith, sum_by-cons (λ y. cond (p y) 1 0) x xs, count_some p xs later)
     ]
 
 -- at most once, also with one more that wasn't there
 pub count_once_more : {X : Type 0} (p : X → Bool) (xs : List X) (x : X) → count_by p xs ≤ 1 → (p x ≡ true → list_any p xs ≡ false) → count_by p (xs ++ x ∷ []) ≤ 1
 count_once_more p xs x once absent =
     elim (cases_Bool (p x)) [
-      inl here ↦
-        let one : ◌≡◌ {A = ℕ} (cond (p x) 1 0) 1 = ap (λ t. cond t 1 0) here in
-        omega (arith, sum_by_push (λ y. cond (p y) 1 0) xs x, count_none p xs (absent here))
-    | inr other ↦
-        let none : ◌≡◌ {A = ℕ} (cond (p x) 1 0) 0 = ap (λ t. cond t 1 0) other in
-        omega (arith, sum_by_push (λ y. cond (p y) 1 0) xs x)
+      | inl here ↦
+          let one : ◌≡◌ {A = ℕ} (cond (p x) 1 0) 1 = ap (λ t. cond t 1 0) here in
+          omega (arith, sum_by_push (λ y. cond (p y) 1 0) xs x, count_none p xs (absent here))
+      | inr other ↦
+          let none : ◌≡◌ {A = ℕ} (cond (p x) 1 0) 0 = ap (λ t. cond t 1 0) other in
+          omega (arith, sum_by_push (λ y. cond (p y) 1 0) xs x)
     ]
 
 -- what a search below a bound found
@@ -69,8 +66,8 @@ pub some_below-tells : (p : ℕ → Bool) (n : ℕ) → some_below p n ≡ true 
 some_below-tells p zero e = absurd (let f : false ≡ true = e in cc)
 some_below-tells p (suc n) e =
     elim (or_cases _ _ e) [
-      inl low ↦ let t = some_below-tells p n low in (t.0, omega (arith, t.1), t.2)
-    | inr here ↦ (n, omega arith, here)
+      | inl low ↦ let t = some_below-tells p n low in (t.0, omega (arith, t.1), t.2)
+      | inr here ↦ (n, omega arith, here)
     ]
 
 -- Groups and dooms.
@@ -79,8 +76,8 @@ pub is_doomed-cases : (r : Requests) (n : ℕ) → is_doomed r n ≡ true → (i
 unfolding is_doomed
 is_doomed-cases r n e =
     elim (or_cases _ _ e) [
-      inl first ↦ elim (or_cases _ _ first) [ inl faulty ↦ inl faulty | inr behind ↦ inr (inl behind) ]
-    | inr cancelled ↦ inr (inr cancelled)
+      | inl first ↦ elim (or_cases _ _ first) [ inl faulty ↦ inl faulty | inr behind ↦ inr (inl behind) ]
+      | inr cancelled ↦ inr (inr cancelled)
     ]
 
 -- the member before n that failed
@@ -107,8 +104,8 @@ any_looser : {X : Type 0} (p q : X → Bool) (xs : List X) → list_any (λ x. p
 any_looser p q [] e = e
 any_looser p q (x ∷ xs) e =
     elim (or_cases (p x && q x) _ e) [
-      inl here ↦ or_left (p x) _ (and_parts (p x) (q x) here).0
-    | inr later ↦ or_right (p x) _ (any_looser p q xs later)
+      | inl here ↦ or_left (p x) _ (and_parts (p x) (q x) here).0
+      | inr later ↦ or_right (p x) _ (any_looser p q xs later)
     ]
 
 -- what has failed has ended
@@ -173,16 +170,16 @@ outstanding_tells r n e = let p = and_parts _ _ e in (ltb-true _ _ p.0, not-true
 pub idle_tells : (r : Requests) (n : ℕ) → is_running r n ≡ false → has_ended r n ≡ false → has_started r n ≡ false
 idle_tells r n idle open_end =
     elim (and_cases (has_started r n) _ idle) [
-      inl fresh ↦ fresh
-    | inr over ↦ absurd (both_ways _ open_end (not-false _ over))
+      | inl fresh ↦ fresh
+      | inr over ↦ absurd (both_ways _ open_end (not-false _ over))
     ]
 
 -- a request that is ready is behind no member of its group
 pub ready_first : (r : Requests) (n : ℕ) → is_ready r n ≡ true → (k : ℕ) → k < n → is_joined r k n ≡ true → has_ended r k ≡ true
 ready_first r n ready k lt joined =
     elim (and_cases (not (has_ended r k)) _ (is_ready-inside r n k ready lt)) [
-      inl over ↦ not-false _ over
-    | inr apart ↦ absurd (both_ways _ (or_parts _ _ (or_parts _ _ apart).0).0 joined)
+      | inl over ↦ not-false _ over
+      | inr apart ↦ absurd (both_ways _ (or_parts _ _ (or_parts _ _ apart).0).0 joined)
     ]
 
 pub start_sound : (r : Requests) (n : ℕ) → is_outstanding r n ≡ true → is_running r n ≡ false → is_doomed r n ≡ false → is_ready r n ≡ true → IsSoundRequests r → IsSoundRequests (with_started r n)
@@ -230,8 +227,8 @@ module _ (r : Requests) (n : ℕ) (res : ℤ) (bytes : List ℕ) (cancelled : Li
   fail_other : (k : ℕ) → k ≢ n → has_failed (ended_as r n res bytes cancelled) k ≡ true → has_failed r k ≡ true
   fail_other k differ e =
       elim (any_new (λ x. (x.number == k) && not (is_success (entry_of r k) x.res)) r.ended (record { number = n; res = res; bytes = bytes }) e) [
-        inl old ↦ old
-      | inr new ↦ absurd (differ (sym (eqb-true _ _ (and_parts _ _ new).0)))
+        | inl old ↦ old
+        | inr new ↦ absurd (differ (sym (eqb-true _ _ (and_parts _ _ new).0)))
       ]
 
   fail_kept : (k : ℕ) → has_failed r k ≡ true → has_failed (ended_as r n res bytes cancelled) k ≡ true
@@ -241,33 +238,33 @@ module _ (r : Requests) (n : ℕ) (res : ℤ) (bytes : List ℕ) (cancelled : Li
   pub end_doom : (m : ℕ) → is_doomed r m ≡ true → is_doomed (ended_as r n res bytes cancelled) m ≡ true
   end_doom m doomed =
       elim (is_doomed-cases r m doomed) [
-        inl faulty ↦ is_doomed-faulty (ended_as r n res bytes cancelled) m (end_fault m ∙ faulty)
-      | inr (inl behind) ↦
-          let t = behind_tells r m behind in
-          let f = t.1 in
-          is_doomed-behind (ended_as r n res bytes cancelled) m (behind_from (ended_as r n res bytes cancelled) m t.0 (record { below = f.below; joined = end_join t.0 m ∙ f.joined; soft = f.soft; failed = fail_kept t.0 f.failed }))
-      | inr (inr gone) ↦ is_doomed-cancelled (ended_as r n res bytes cancelled) m (choice.kept m gone)
+        | inl faulty ↦ is_doomed-faulty (ended_as r n res bytes cancelled) m (end_fault m ∙ faulty)
+        | inr (inl behind) ↦
+            let t = behind_tells r m behind in
+            let f = t.1 in
+            is_doomed-behind (ended_as r n res bytes cancelled) m (behind_from (ended_as r n res bytes cancelled) m t.0 (record { below = f.below; joined = end_join t.0 m ∙ f.joined; soft = f.soft; failed = fail_kept t.0 f.failed }))
+        | inr (inr gone) ↦ is_doomed-cancelled (ended_as r n res bytes cancelled) m (choice.kept m gone)
       ]
 
   -- who is doomed newly is a later member of n's group, or chosen
   end_doomed : (m : ℕ) → is_doomed (ended_as r n res bytes cancelled) m ≡ true → (is_doomed r m ≡ true) ⊎ (((n < m) × (is_joined r n m ≡ true)) ⊎ IsChosen r n m)
   end_doomed m doomed =
       elim (is_doomed-cases (ended_as r n res bytes cancelled) m doomed) [
-        inl faulty ↦ inl (is_doomed-faulty r m (sym (end_fault m) ∙ faulty))
-      | inr (inl behind) ↦
-          let t = behind_tells (ended_as r n res bytes cancelled) m behind in
-          let k = t.0 in
-          let f = t.1 in
-          let joined : is_joined r k m ≡ true = sym (end_join k m) ∙ f.joined in
-          elim (cases_eq k n) [
-            inl same ↦ inr (inl (subst (λ j. (j < m) × (is_joined r j m ≡ true)) same (f.below, joined)))
-          | inr differ ↦ inl (is_doomed-behind r m (behind_from r m k (record { below = f.below; joined = joined; soft = f.soft; failed = fail_other k differ f.failed })))
-          ]
-      | inr (inr gone) ↦
-          elim (choice.added m gone) [
-            inl old ↦ inl (is_doomed-cancelled r m old)
-          | inr new ↦ inr (inr new)
-          ]
+        | inl faulty ↦ inl (is_doomed-faulty r m (sym (end_fault m) ∙ faulty))
+        | inr (inl behind) ↦
+            let t = behind_tells (ended_as r n res bytes cancelled) m behind in
+            let k = t.0 in
+            let f = t.1 in
+            let joined : is_joined r k m ≡ true = sym (end_join k m) ∙ f.joined in
+            elim (cases_eq k n) [
+              | inl same ↦ inr (inl (subst (λ j. (j < m) × (is_joined r j m ≡ true)) same (f.below, joined)))
+              | inr differ ↦ inl (is_doomed-behind r m (behind_from r m k (record { below = f.below; joined = joined; soft = f.soft; failed = fail_other k differ f.failed })))
+            ]
+        | inr (inr gone) ↦
+            elim (choice.added m gone) [
+              | inl old ↦ inl (is_doomed-cancelled r m old)
+              | inr new ↦ inr (inr new)
+            ]
       ]
 
   -- who is free stays free, unless chosen
@@ -275,16 +272,16 @@ module _ (r : Requests) (n : ℕ) (res : ℤ) (bytes : List ℕ) (cancelled : Li
   free_kept m unended unchosen f =
       record {
         spared =
-          elim (cases_Bool (is_doomed (ended_as r n res bytes cancelled) m)) [
-            inl doomed ↦
-              absurd
-              (elim (end_doomed m doomed) [
-                inl old ↦ both_ways _ f.spared old
-              | inr (inl later) ↦ both_ways _ unended (f.first n later.0 later.1)
-              | inr (inr chosen) ↦ unchosen chosen
-              ])
-          | inr spared ↦ spared
-          ];
+            elim (cases_Bool (is_doomed (ended_as r n res bytes cancelled) m)) [
+              | inl doomed ↦
+                  absurd
+                  (elim (end_doomed m doomed) [
+                    | inl old ↦ both_ways _ f.spared old
+                    | inr (inl later) ↦ both_ways _ unended (f.first n later.0 later.1)
+                    | inr (inr chosen) ↦ unchosen chosen
+                  ])
+              | inr spared ↦ spared
+            ];
         first = λ k lt e. end_kept k (f.first k lt (sym (end_join k m) ∙ e));
       }
 
@@ -299,7 +296,7 @@ module _ (r : Requests) (n : ℕ) (res : ℤ) (bytes : List ℕ) (cancelled : Li
   ends_doomed_first unended is =
       any_push (is_otherwise r n) r.ended (record { number = n; res = res; bytes = bytes })
       ∙ or_from _ _ (false_from_ne_true _ (λ some. both_ways _ unended (any_looser (λ e. e.number == n) (λ e. not (int_eq e.res (doomed_result r n))) r.ended some)))
-          (and_right (eqb n n) _ (not_from_true _ ((Decides-int_eq res (doomed_result r n)).1 is)))
+      (and_right (eqb n n) _ (not_from_true _ ((Decides-int_eq res (doomed_result r n)).1 is)))
 
   -- how the end of n came: n was doomed, with that result, or free
   end_sound : is_outstanding r n ≡ true → (res ≡ doomed_result r n) ⊎ IsFree r n → IsSoundRequests r → IsSoundRequests (ended_as r n res bytes cancelled)
@@ -313,17 +310,17 @@ module _ (r : Requests) (n : ℕ) (res : ℤ) (bytes : List ℕ) (cancelled : Li
         cut_at_end = s.cut_at_end;
         started_free = λ m e. free_kept m o.1 (λ chosen. both_ways _ chosen.unstarted e) (s.started_free m e);
         ended_how = λ m e. elim (any_new (λ x. x.number == m) r.ended (record { number = n; res = res; bytes = bytes }) e) [
-          inl old ↦
-            elim (s.ended_how m old) [
-              inl doomed ↦ inl (ends_doomed_kept m (λ same. both_ways _ o.1 (subst (λ k. has_ended r k ≡ true) same old)) doomed)
-            | inr free ↦ inr (free_kept m o.1 (λ chosen. both_ways _ chosen.unended old) free)
-            ]
-        | inr new ↦
-            subst (λ k. EndsDoomed (ended_as r n res bytes cancelled) k ⊎ IsFree (ended_as r n res bytes cancelled) k) (eqb-true _ _ new)
-            (elim how [
-              inl is ↦ inl (ends_doomed_first o.1 is)
-            | inr free ↦ inr (free_kept n o.1 (λ chosen. chosen.other refl) free)
-            ])
+          | inl old ↦
+              elim (s.ended_how m old) [
+                | inl doomed ↦ inl (ends_doomed_kept m (λ same. both_ways _ o.1 (subst (λ k. has_ended r k ≡ true) same old)) doomed)
+                | inr free ↦ inr (free_kept m o.1 (λ chosen. both_ways _ chosen.unended old) free)
+              ]
+          | inr new ↦
+              subst (λ k. EndsDoomed (ended_as r n res bytes cancelled) k ⊎ IsFree (ended_as r n res bytes cancelled) k) (eqb-true _ _ new)
+              (elim how [
+                | inl is ↦ inl (ends_doomed_first o.1 is)
+                | inr free ↦ inr (free_kept n o.1 (λ chosen. chosen.other refl) free)
+              ])
         ];
       }
 
@@ -380,18 +377,18 @@ module _ (r : Requests) (n : ℕ) where
       record {
         kept = λ m e. any_kept (λ k. k == m) r.cancelled (chosen_by r n res) e;
         added = λ m e. elim (or_cases _ _ (sym (list_any-append (λ k. k == m) r.cancelled (chosen_by r n res)) ∙ e)) [
-          inl old ↦ inl old
-        | inr new ↦ inr (by_test (is_cancel (entry_of r n) && int_eq res (pos 0)) refl m new)
+          | inl old ↦ inl old
+          | inr new ↦ inr (by_test (is_cancel (entry_of r n) && int_eq res (pos 0)) refl m new)
         ];
       } where
-    by_test : (chooses : Bool) → (is_cancel (entry_of r n) && int_eq res (pos 0)) ≡ chooses → (m : ℕ) → list_any (λ k. k == m) (cond chooses (option_to_list (target_of r n)) []) ≡ true → IsChosen r n m
-    by_test false is m e = absurd (let f : false ≡ true = e in cc)
-    by_test true is m e =
-        let at_zero = (and_parts _ _ is).1 in
-        elim how [
-          inl doomed ↦ absurd (both_ways _ (doomed_unlike_zero r n) (subst (λ x. int_eq x (pos 0) ≡ true) doomed at_zero))
-        | inr cancels ↦ chosen_is (target_of r n) m refl (subst (λ x. int_eq x (pos 0) ≡ true) cancels at_zero) e
-        ]
+        by_test : (chooses : Bool) → (is_cancel (entry_of r n) && int_eq res (pos 0)) ≡ chooses → (m : ℕ) → list_any (λ k. k == m) (cond chooses (option_to_list (target_of r n)) []) ≡ true → IsChosen r n m
+        by_test false is m e = absurd (let f : false ≡ true = e in cc)
+        by_test true is m e =
+            let at_zero = (and_parts _ _ is).1 in
+            elim how [
+              | inl doomed ↦ absurd (both_ways _ (doomed_unlike_zero r n) (subst (λ x. int_eq x (pos 0) ≡ true) doomed at_zero))
+              | inr cancels ↦ chosen_is (target_of r n) m refl (subst (λ x. int_eq x (pos 0) ≡ true) cancels at_zero) e
+            ]
 
 pub doom_sound : (r : Requests) (n : ℕ) → is_outstanding r n ≡ true → IsSoundRequests r → IsSoundRequests (with_issued_end r n (doomed_result r n))
 doom_sound r n outstanding s =

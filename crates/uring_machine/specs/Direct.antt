@@ -1,5 +1,5 @@
 -- Lists and counts read straight off a history: what its events tell, and which of them stand before which.
-use Rattle.std.specs.Prelude.{ℕ, ◌+◌, ℤ, Bool, true, false, not, ◌&&◌, ◌==◌, nat_lt, List, [], ◌∷◌, ◌++◌, length, take, drop, sum, count_by, Option, Some, None, unwrap_or, if◌then◌else◌, slice_index_or}
+use Rattle.std.specs.Prelude.{ℕ, ◌+◌, Bool, true, false, not, ◌&&◌, ◌==◌, nat_lt, List, [], ◌∷◌, ◌++◌, length, take, sum, count_by, Option, Some, None, unwrap_or, if◌then◌else◌, slice_index_or}
 use Rattle.std.specs.List.{filter_map}
 use Rattle.std.specs.Option.{option_or}
 use Rattle.uring_entry.specs.Layout.{Entry, Completion, zero_entry, user_data_of}
@@ -7,94 +7,92 @@ use Rattle.uring_entry.specs.Success.{is_told}
 use Rattle.uring_entry.specs.Submission.{Call}
 use Rattle.uring_entry.specs.Requests.{Ending}
 use Rattle.uring_machine.specs.Histories.{Event, History}
-use Rattle.uring_machine.specs.declared.steps.Step.{Step}
 use Rattle.uring_machine.specs.declared.steps.Step.TheVariants as step
-use Rattle.uring_machine.specs.declared.answers.Answer.{Answer}
 use Rattle.uring_machine.specs.declared.answers.Answer.TheVariants as answer
 
 -- What one event tells.
 
 -- the request that starts
 abbrev pub started_by : Event → Option ℕ
-started_by (step.Issue n , answer.Run) = Some n
+started_by (step.Issue n, answer.Run) = Some n
 started_by _ = None
 
 -- the end of a request
 abbrev pub end_told_by : Event → Option Ending
-end_told_by (step.Issue n , answer.Ended res bytes) = Some (record { number = n; res = res; bytes = bytes })
-end_told_by (step.Finish n , answer.Ended res bytes) = Some (record { number = n; res = res; bytes = bytes })
+end_told_by (step.Issue n, answer.Ended res bytes) = Some (record { number = n; res = res; bytes = bytes })
+end_told_by (step.Finish n, answer.Ended res bytes) = Some (record { number = n; res = res; bytes = bytes })
 end_told_by _ = None
 
 -- the completion that the application reaps
 abbrev pub reaped_by : Event → Option Completion
-reaped_by (step.Reap , answer.Reaped completion) = Some completion
+reaped_by (step.Reap, answer.Reaped completion) = Some completion
 reaped_by _ = None
 
 -- the word that the application stages
 abbrev pub staged_by : Event → Option ℕ
-staged_by (step.Index word , answer.Staged) = Some word
+staged_by (step.Index word, answer.Staged) = Some word
 staged_by _ = None
 
 -- the entry that this slot is filled with
 abbrev pub filled_by : ℕ → Event → Option Entry
-filled_by asked (step.Fill slot entry , answer.Filled) = if asked == slot then Some entry else None
+filled_by asked (step.Fill slot entry, answer.Filled) = if asked == slot then Some entry else None
 filled_by asked _ = None
 
 -- the entry that a call takes
 abbrev pub entry_taken_by : Event → Option Entry
-entry_taken_by (step.Take , answer.Entry entry) = Some entry
+entry_taken_by (step.Take, answer.Entry entry) = Some entry
 entry_taken_by _ = None
 
 -- whether a call takes a position, whose word names a slot or not
 abbrev pub takes_position : Event → Bool
-takes_position (step.Take , answer.Entry entry) = true
-takes_position (step.Take , answer.Dropped) = true
+takes_position (step.Take, answer.Entry entry) = true
+takes_position (step.Take, answer.Dropped) = true
 takes_position _ = false
 
 -- how many positions the call has that opens
 abbrev pub opened_by : Event → Option ℕ
-opened_by (step.Begin count , answer.Call length) = Some length
+opened_by (step.Begin count, answer.Call length) = Some length
 opened_by _ = None
 
 -- whether a call opens
 abbrev pub opens_call : Event → Bool
-opens_call (step.Begin count , answer.Call length) = true
+opens_call (step.Begin count, answer.Call length) = true
 opens_call _ = false
 
 -- how many entries are accepted as the open call closes
 abbrev pub accepted_by : Event → Option ℕ
-accepted_by (step.End , answer.Taken accepted dropped head) = Some accepted
+accepted_by (step.End, answer.Taken accepted dropped head) = Some accepted
 accepted_by _ = None
 
 -- whether the open call closes
 abbrev pub closes_call : Event → Bool
-closes_call (step.End , answer.Taken accepted dropped head) = true
+closes_call (step.End, answer.Taken accepted dropped head) = true
 closes_call _ = false
 
 -- whether the ring closes
 abbrev pub closes_ring : Event → Bool
-closes_ring (step.Close , answer.Shut) = true
+closes_ring (step.Close, answer.Shut) = true
 closes_ring _ = false
 
 -- the loads and stores of the rings' heads and tails, and the flush of the overflow list
 abbrev pub is_store_tail : Event → Bool
-is_store_tail (step.StoreTail , _) = true
+is_store_tail (step.StoreTail, _) = true
 is_store_tail _ = false
 
 abbrev pub is_load_head : Event → Bool
-is_load_head (step.LoadHead , _) = true
+is_load_head (step.LoadHead, _) = true
 is_load_head _ = false
 
 abbrev pub is_flush : Event → Bool
-is_flush (step.Flush , _) = true
+is_flush (step.Flush, _) = true
 is_flush _ = false
 
 abbrev pub is_load_cq_tail : Event → Bool
-is_load_cq_tail (step.LoadCqTail , _) = true
+is_load_cq_tail (step.LoadCqTail, _) = true
 is_load_cq_tail _ = false
 
 abbrev pub is_store_cq_head : Event → Bool
-is_store_cq_head (step.StoreCqHead , _) = true
+is_store_cq_head (step.StoreCqHead, _) = true
 is_store_cq_head _ = false
 
 -- What a history tells.

@@ -1,10 +1,10 @@
 -- The lists that a history has made are those that are read straight off it.
-use Rattle.std.specs.Prelude.{◌≡◌, ℕ, ℤ, pos, neg_ℤ, Bool, true, List, [], ◌∷◌, ◌++◌, map, Option, Some, slice_get, ◌↔◌}
+use Rattle.std.specs.Prelude.{◌≡◌, ℕ, pos, true, List, ◌∷◌, ◌++◌, map, Some, slice_get}
 use Rattle.std.specs.List.{list_any}
 use Rattle.uring_entry.specs.Shape.{Shape}
 use Rattle.uring_entry.specs.Preparation.{is_cancel}
 use Rattle.uring_entry.specs.Submission.{Place, accepted}
-use Rattle.uring_entry.specs.Requests.{entry_of, is_cancelled, target_of}
+use Rattle.uring_entry.specs.Requests.{entry_of, target_of}
 use Rattle.uring_machine.specs.Histories.{History, world}
 use Rattle.uring_machine.specs.Direct.{closes_ring, is_load_cq_tail, before_last, starts, ends, reaps, posts, staged_words, published_words, slot_content, published_entry, open_call, call_counts, cut_counts, loaded_head, stored_head, flushed_head}
 use Rattle.uring_machine.specs.declared.steps.Step.TheVariants as step
@@ -42,6 +42,6 @@ pub record IsChosenIn (g : Shape) (h : History) (m : ℕ) : Type 0 where
   pub before : History
   pub number : ℕ
   pub bytes : List ℕ
-  pub split : h ≡ after ++ (step.Issue number , answer.Ended (pos 0) bytes) ∷ before
+  pub split : h ≡ after ++ (step.Issue number, answer.Ended (pos 0) bytes) ∷ before
   pub cancel : is_cancel (entry_of (world g before).requests number) ≡ true
   pub target : target_of (world g before).requests number ≡ Some m

@@ -1,6 +1,5 @@
 -- What holds of every lawful history.
-use Rattle.std.specs.Prelude.{◌≡◌, ℕ, ◌+◌, ◌<◌, ◌≤◌, ◌==◌, count_by, Bool, true, false, ◌||◌, List, [], ◌∷◌, ◌++◌, length, take, drop, Some, slice_get, ◌⊎◌}
-use Rattle.std.specs.List.{list_any}
+use Rattle.std.specs.Prelude.{◌≡◌, ℕ, ◌+◌, ◌<◌, ◌≤◌, ◌==◌, count_by, Bool, true, false, ◌||◌, List, ◌++◌, length, take, drop, Some, slice_get, ◌⊎◌}
 use Rattle.uring_entry.specs.Shape.{Shape}
 use Rattle.uring_entry.specs.Layout.{Completion}
 use Rattle.uring_entry.specs.Submission.{entries_of}
@@ -9,9 +8,8 @@ use Rattle.uring_entry.specs.Completions.{Completions}
 use Rattle.uring_machine.specs.World.{World}
 use Rattle.uring_machine.specs.Answers.{IsEnded, issue_answer}
 use Rattle.uring_machine.specs.declared.answers.Answer.{Answer}
-use Rattle.uring_machine.specs.Histories.{Event, History, world, IsLawfulApart}
+use Rattle.uring_machine.specs.Histories.{Event, History, world}
 use Rattle.uring_machine.specs.Direct.{opens_call, closes_call, entries_taken, positions_taken, starts, ends}
-use Rattle.uring_machine.specs.declared.steps.Step.TheVariants as step
 use Rattle.uring_machine.specs.declared.answers.Answer.TheVariants as answer
 
 -- the completions that stand in the ring: put there, and not reaped
