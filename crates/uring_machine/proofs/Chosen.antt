@@ -17,7 +17,7 @@ use Rattle.uring_machine.specs.declared.steps.Step.TheVariants as step
 use Rattle.uring_machine.specs.declared.answers.Answer.{Answer}
 use Rattle.uring_machine.specs.declared.answers.Answer.TheVariants as answer
 use Rattle.uring_machine.proofs.Changes.{Change, change_of, refuses, fills, stages, stores, loads, begins, takes, drops, closes, runs, dooms, cancels, finishes, flushes, sees_tail, reaps, stores_head, shuts}
-use Rattle.uring_machine.proofs.SoundRequests.{doomed_unlike_zero}
+use Rattle.uring_machine.proofs.RequestEnds.{doomed_unlike_zero}
 use Rattle.uring_machine.proofs.Growth.{event_grows}
 
 any_both : {X : Type 0} (p : X → Bool) (xs ys : List X) → list_any p (xs ++ ys) ≡ true → (list_any p xs ≡ true) ⊎ (list_any p ys ≡ true)

@@ -11,7 +11,8 @@ use Rattle.uring_entry.specs.Preparation.{is_faulty}
 use Rattle.uring_entry.specs.Requests.{Requests, entry_of, has_failed, is_soft, is_last, is_linked, is_joined, is_in_group, some_member, is_in_faulty_group, is_behind_failure, is_cancelled, is_doomed, with_call}
 use Rattle.uring_entry.proofs.BelowLemmas.{some_below-same, some_below-between}
 use Rattle.uring_entry.proofs.RequestLemmas.{is_joined-no}
-use Rattle.uring_machine.proofs.SoundRequests.{IsSoundRequests, IsFree, EndsDoomed, any_kept, any_push}
+use Rattle.uring_machine.proofs.SoundRequests.{IsSoundRequests, IsFree, EndsDoomed}
+use Rattle.uring_machine.proofs.ListCounts.{any_kept, any_push}
 
 module _ (r : Requests) (entries : List Entry) (cut : (length r.accepted ≡ 0) ⊎ (list_any (λ c. c == length r.accepted) r.cuts ≡ true)) where
   pub longer : length r.accepted ≤ length (with_call r entries).accepted

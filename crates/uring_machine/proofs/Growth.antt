@@ -9,7 +9,8 @@ use Rattle.uring_machine.specs.Histories.{History, world, IsLawfulApart}
 use Rattle.uring_machine.specs.declared.steps.Step.{Step}
 use Rattle.uring_machine.specs.declared.answers.Answer.{Answer}
 use Rattle.uring_machine.proofs.Changes.{Change, change_of, refuses, fills, stages, stores, loads, begins, takes, drops, closes, runs, dooms, cancels, finishes, flushes, sees_tail, reaps, stores_head, shuts}
-use Rattle.uring_machine.proofs.SoundRequests.{IsChoice, ended_as, start_doom, start_join, end_doom, end_join, choice_of, no_choice}
+use Rattle.uring_machine.proofs.RequestEnds.{IsChoice, ended_as, end_doom, end_join, choice_of, no_choice}
+use Rattle.uring_machine.proofs.SoundRequests.{start_doom, start_join}
 use Rattle.uring_machine.proofs.Groups.{longer, entry_kept, join_kept, member_kept, doom_kept}
 use Rattle.uring_machine.proofs.Sound.{sound_of}
 use Rattle.std.specs.List.{list_any}

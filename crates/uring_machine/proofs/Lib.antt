@@ -1,7 +1,10 @@
 pub mod Changes
 pub mod Telling
 pub mod SoundRings
+pub mod ListCounts
+pub mod Dooms
 pub mod SoundRequests
+pub mod RequestEnds
 pub mod Groups
 pub mod Sound
 pub mod RingLaws

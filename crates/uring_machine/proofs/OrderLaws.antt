@@ -18,7 +18,8 @@ use Rattle.uring_machine.specs.declared.steps.Step.TheVariants as step
 use Rattle.uring_machine.specs.declared.answers.Answer.{Answer}
 use Rattle.uring_machine.specs.declared.answers.Answer.TheVariants as answer
 use Rattle.uring_machine.proofs.Changes.{Change, change_of, IsSilent, refuses, runs, dooms, cancels}
-use Rattle.uring_machine.proofs.SoundRequests.{IsSoundRequests, EndsDoomed, is_otherwise, count_none, count_some, outstanding_tells}
+use Rattle.uring_machine.proofs.SoundRequests.{IsSoundRequests, EndsDoomed, is_otherwise, outstanding_tells}
+use Rattle.uring_machine.proofs.ListCounts.{count_none, count_some}
 use Rattle.uring_machine.proofs.Sound.{sound_of}
 use Rattle.uring_machine.proofs.ToldRequests.{tells_requests}
 use Rattle.uring_machine.proofs.Growth.{Grows, grows, event_grows, then_grows, lawful_before}

@@ -12,7 +12,8 @@ use Rattle.uring_machine.specs.World.{World}
 use Rattle.uring_machine.specs.Answers.{issue_answer}
 use Rattle.uring_machine.specs.declared.answers.Answer.TheVariants as answer
 use Rattle.uring_machine.specs.Histories.{History, world, IsLawfulApart}
-use Rattle.uring_machine.proofs.SoundRequests.{IsSoundRequests, count_none, count_some}
+use Rattle.uring_machine.proofs.SoundRequests.{IsSoundRequests}
+use Rattle.uring_machine.proofs.ListCounts.{count_none, count_some}
 use Rattle.uring_machine.proofs.Sound.{sound_of}
 use Rattle.uring_machine.proofs.ToldRequests.{tells_requests}
 

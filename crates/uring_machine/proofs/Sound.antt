@@ -7,7 +7,8 @@ use Rattle.uring_machine.specs.declared.steps.Step.{Step}
 use Rattle.uring_machine.specs.declared.answers.Answer.{Answer}
 use Rattle.uring_machine.proofs.Changes.{Change, change_of, refuses, fills, stages, stores, loads, begins, takes, drops, closes, runs, dooms, cancels, finishes, flushes, sees_tail, reaps, stores_head, shuts}
 use Rattle.uring_machine.proofs.SoundRings.{IsSoundCompletions, IsSoundSubmission, end_sound, flush_sound, see_tail_sound, reap_sound, store_head_sound, stage_sound, store_sound, load_sound, begin_sound, take_sound, close_sound}
-use Rattle.uring_machine.proofs.SoundRequests.{IsSoundRequests, first_requests, start_sound, finish_sound, doom_sound, cancel_sound}
+use Rattle.uring_machine.proofs.SoundRequests.{IsSoundRequests, first_requests, start_sound}
+use Rattle.uring_machine.proofs.RequestEnds.{finish_sound, doom_sound, cancel_sound}
 use Rattle.uring_machine.proofs.Groups.{call_sound}
 use Rattle.uring_entry.specs.Submission.{no_submission, entries_of, places_from}
 use Rattle.uring_entry.specs.Completions.{no_completion}

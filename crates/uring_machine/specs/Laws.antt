@@ -12,41 +12,10 @@ use Rattle.uring_machine.specs.Histories.{Event, History, world}
 use Rattle.uring_machine.specs.Direct.{opens_call, closes_call, entries_taken, positions_taken, starts, ends}
 use Rattle.uring_machine.specs.declared.answers.Answer.TheVariants as answer
 
--- the completions that stand in the ring: put there, and not reaped
-abbrev pub in_ring : Completions → List Completion
-in_ring l = drop (length l.reaped) (take l.put l.posted)
-
--- the completions that wait in the overflow list
-abbrev pub in_overflow : Completions → List Completion
-in_overflow l = drop l.put l.posted
-
--- What is posted is, in order, what was reaped, what stands in the ring, and what waits in the overflow list. No more was put than the ring's size above the head that the application stored.
-pub record ReapedBeginPosted (size : ℕ) (l : Completions) : Type 0 where
-  pub in_order : l.posted ≡ l.reaped ++ (in_ring l ++ in_overflow l)
-  pub reaped_put : length l.reaped ≤ l.put
-  pub put_posted : l.put ≤ length l.posted
-  pub ring_holds : l.put ≤ l.head + size
-  pub few_stand : length (in_ring l) ≤ size
-
--- whether a call opens, or closes with its entries accepted
-abbrev pub takes_in : Event → Bool
-takes_in event = opens_call event || closes_call event
-
 -- The entries that calls took are the ones that a beginning of the published positions has, each position once, in order: that beginning is as long as positions were taken.
 pub record TakenOnceInOrder (g : Shape) (h : History) : Type 0 where
   pub beginning : positions_taken h ≤ length (world g h).submission.published
   pub in_order : entries_taken h ≡ entries_of (take (positions_taken h) (world g h).submission.published)
-
--- an Issue so answered isn't refused
-abbrev pub IsIssued : Answer → Type 0
-IsIssued answer.Run = Unit {0}
-IsIssued a = IsEnded a
-
--- With something outstanding there is a least outstanding request, and it is running, or else it is the next to be issued, and Issue doesn't refuse it.
-pub record LeastCanGoOn (w : World) : Type 0 where
-  pub least : ℕ
-  pub is_least : least_of w.requests ≡ Some least
-  pub goes_on : (is_running w.requests least ≡ true) ⊎ ((next_of w.requests ≡ Some least) × IsIssued (issue_answer w least))
 
 -- how often a request was started, and how often it ended
 abbrev pub times_started : History → ℕ → ℕ
@@ -72,6 +41,37 @@ pub record DoomedNeverRun (g : Shape) (h : History) : Type 0 where
 abbrev pub waits_for : Requests → ℕ → ℕ → Bool
 waits_for r n m = is_joined r m n || is_draining r m || is_draining r n
 
--- an Issue of n so answered starts it: it runs, or it is a cancel, which ends at once, and isn't doomed
+-- an Issue of n so answered starts it: it runs, or it ends at once and isn't doomed, as a cancel does
 abbrev pub IsStart : Requests → ℕ → Answer → Type 0
 IsStart r n a = (a ≡ answer.Run) ⊎ (IsEnded a × (is_doomed r n ≡ false))
+
+-- the completions that stand in the ring: put there, and not reaped
+abbrev pub in_ring : Completions → List Completion
+in_ring l = drop (length l.reaped) (take l.put l.posted)
+
+-- the completions that wait in the overflow list
+abbrev pub in_overflow : Completions → List Completion
+in_overflow l = drop l.put l.posted
+
+-- What is posted is, in order, what was reaped, what stands in the ring, and what waits in the overflow list. No more was put than the ring's size above the head that the application stored.
+pub record ReapedBeginPosted (size : ℕ) (l : Completions) : Type 0 where
+  pub in_order : l.posted ≡ l.reaped ++ (in_ring l ++ in_overflow l)
+  pub reaped_put : length l.reaped ≤ l.put
+  pub put_posted : l.put ≤ length l.posted
+  pub ring_holds : l.put ≤ l.head + size
+  pub few_stand : length (in_ring l) ≤ size
+
+-- whether a call opens, or closes with its entries accepted
+abbrev pub takes_in : Event → Bool
+takes_in event = opens_call event || closes_call event
+
+-- an Issue so answered isn't refused
+abbrev pub IsIssued : Answer → Type 0
+IsIssued answer.Run = Unit {0}
+IsIssued a = IsEnded a
+
+-- With something outstanding there is a least outstanding request, and it is running, or else it is the next to be issued, and Issue doesn't refuse it.
+pub record LeastCanGoOn (w : World) : Type 0 where
+  pub least : ℕ
+  pub is_least : least_of w.requests ≡ Some least
+  pub goes_on : (is_running w.requests least ≡ true) ⊎ ((next_of w.requests ≡ Some least) × IsIssued (issue_answer w least))

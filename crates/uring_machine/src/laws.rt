@@ -11,24 +11,17 @@ ghost use Rattle.uring_machine.specs.declared.answers.Answer.{Answer};
 ghost use Rattle.uring_machine.specs.declared.steps.Step.TheVariants as step;
 ghost use Rattle.uring_machine.specs.declared.answers.Answer.TheVariants as answer;
 
-/// What was reaped begins what was posted; of the rest the older part stands in the completion ring, the newer in the overflow list.
-pub fn reaped_begin_posted()
-    ensures { (g : Shape) (h : History) → IsShape g → IsLawfulApart g h → ReapedBeginPosted g.cq (world g h).completions }
-{}
-
-/// After the ring is closed, no submission call opens or closes.
-pub fn nothing_after_close()
-    ensures { (g : Shape) (after before : History) → IsShape g → IsLawfulApart g (after ++ (step.Close, answer.Shut) ∷ before) → list_any takes_in after ≡ false }
+/// Each list and count that a history has made is the one that is read straight off its events.
+pub fn lists_are_the_historys_own()
+    ensures submission { (g : Shape) (h : History) → IsShape g → IsLawfulApart g h → OwnSubmission g h }
+    ensures requests { (g : Shape) (h : History) → IsShape g → IsLawfulApart g h → OwnRequests g h }
+    ensures completions { (g : Shape) (h : History) → IsShape g → IsLawfulApart g h → OwnCompletions g h }
+    ensures cancelled { (g : Shape) (h : History) (m : ℕ) → IsShape g → IsLawfulApart g h → (is_cancelled (world g h).requests m ≡ true ↔ IsChosenIn g h m) }
 {}
 
 /// The entries that calls took are those of the published positions, from the first on, each position once.
 pub fn taken_once_in_order()
     ensures { (g : Shape) (h : History) → IsShape g → IsLawfulApart g h → TakenOnceInOrder g h }
-{}
-
-/// With something outstanding, the least outstanding request is running, or it is the next to be issued, and `Issue` doesn't refuse it.
-pub fn least_can_go_on()
-    ensures { (g : Shape) (h : History) (n : ℕ) → is_outstanding (world g h).requests n ≡ true → LeastCanGoOn (world g h) }
 {}
 
 /// Each request is started at most once and ends at most once, and with none outstanding each accepted one ended exactly once.
@@ -49,10 +42,17 @@ pub fn links_and_drains_hold()
         → waits_for (world g (after ++ (step.Issue n, a) ∷ before)).requests n m ≡ true → times_ended before m ≡ 1 }
 {}
 
-/// Each list and count that a history has made is the one that is read straight off its events.
-pub fn lists_are_the_historys_own()
-    ensures submission { (g : Shape) (h : History) → IsShape g → IsLawfulApart g h → OwnSubmission g h }
-    ensures requests { (g : Shape) (h : History) → IsShape g → IsLawfulApart g h → OwnRequests g h }
-    ensures completions { (g : Shape) (h : History) → IsShape g → IsLawfulApart g h → OwnCompletions g h }
-    ensures cancelled { (g : Shape) (h : History) (m : ℕ) → IsShape g → IsLawfulApart g h → (is_cancelled (world g h).requests m ≡ true ↔ IsChosenIn g h m) }
+/// What was reaped begins what was posted; of the rest the older part stands in the completion ring, the newer in the overflow list.
+pub fn reaped_begin_posted()
+    ensures { (g : Shape) (h : History) → IsShape g → IsLawfulApart g h → ReapedBeginPosted g.cq (world g h).completions }
+{}
+
+/// After the ring is closed, no submission call opens or closes.
+pub fn nothing_after_close()
+    ensures { (g : Shape) (after before : History) → IsShape g → IsLawfulApart g (after ++ (step.Close, answer.Shut) ∷ before) → list_any takes_in after ≡ false }
+{}
+
+/// With something outstanding, the least outstanding request is running, or it is the next to be issued, and `Issue` doesn't refuse it.
+pub fn least_can_go_on()
+    ensures { (g : Shape) (h : History) (n : ℕ) → is_outstanding (world g h).requests n ≡ true → LeastCanGoOn (world g h) }
 {}
