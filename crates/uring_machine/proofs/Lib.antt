@@ -17,5 +17,6 @@ pub mod DirectSubmission
 pub mod DirectCompletions
 pub mod DirectRequests
 pub mod DirectPlaces
+pub mod DirectPut
 pub mod Chosen
 pub mod ReadOff

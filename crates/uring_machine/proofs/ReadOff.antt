@@ -6,7 +6,8 @@ use Rattle.uring_machine.specs.HistoryLists.{OwnSubmission, OwnRequests, OwnComp
 use Rattle.uring_machine.proofs.DirectSubmission.{direct_submission, calls_direct, call_direct}
 use Rattle.uring_machine.proofs.DirectCompletions.{direct_completions}
 use Rattle.std.specs.List.{filter_map}
-use Rattle.uring_machine.specs.Direct.{completion_of}
+use Rattle.uring_machine.specs.Direct.{completion_of, before_last, is_load_cq_tail}
+use Rattle.uring_machine.proofs.DirectPut.{direct_put, lawful_last}
 use Rattle.uring_machine.proofs.DirectRequests.{direct_requests}
 use Rattle.uring_machine.proofs.DirectPlaces.{direct_places}
 use Rattle.uring_machine.proofs.ToldRequests.{tells_requests}
@@ -36,4 +37,11 @@ own_completions g h lawful =
     let d = direct_completions g h lawful in
     let r = direct_requests g h lawful in
     let t = tells_requests g h lawful in
-    record { posted = r.posted ∙ ap (filter_map (completion_of (world g h).requests.accepted)) (sym t.ended); reaped = d.reaped; head = d.stored; seen_head = d.flushed; seen_tail = d.seen }
+    record {
+      posted = r.posted ∙ ap (filter_map (completion_of (world g h).requests.accepted)) (sym t.ended);
+      put = direct_put g h lawful;
+      reaped = d.reaped;
+      head = d.stored;
+      seen_head = d.flushed;
+      seen_tail = d.seen ∙ direct_put g (before_last is_load_cq_tail h) (lawful_last g is_load_cq_tail h lawful);
+    }
