@@ -158,7 +158,7 @@ published_words h = staged_words (before_last is_store_tail h)
 abbrev pub slot_content : History → ℕ → Entry
 slot_content h slot = unwrap_or (last_told (filled_by slot) h) zero_entry
 
--- what stands before the first store of the tail that comes after the staging of this position, which is published
+-- what stands before the store of the tail that published this position, the first one after its word was staged
 abbrev pub before_published : ℕ → History → History
 before_published position [] = []
 before_published position (event ∷ before) =
@@ -182,7 +182,7 @@ taken_count h = sum (call_counts h)
 abbrev pub loaded_head : History → ℕ
 loaded_head h = taken_count (before_last is_load_head h)
 
--- the call that is open, which is the last one opened, with the positions taken since
+-- the call that is open, where more were opened than closed: the last one opened, with the positions taken since
 abbrev pub open_call : History → Option Call
 open_call h =
     if count_by opens_call h == count_by closes_call h then None else
