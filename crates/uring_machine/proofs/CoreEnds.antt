@@ -1,6 +1,6 @@
 -- What a core shows as a submission call closes, as a request ends, and as the ring is closed.
 use Rattle.std.proofs.Common.{◌≡◌, ℕ, ◌+◌, ◌-◌, ◌^◌, ◌<◌, ◌≤◌, ℤ, Bool, true, false, not, ◌&&◌, cond, eqb, nat_lt, if◌then◌else◌, List, [], ◌∷◌, ◌++◌, length, take, drop, sum, Option, Some, None, is_some, refl, sym, ap, subst, ◌∙◌, arith, inl, inr, IfSome}
-use Rattle.std.proofs.lemmas.Bool.{cases_lt, cases_Bool, eqb-true, eqb-false, eq-eqb, ltb-true, lt-ltb, le-ltb}
+use Rattle.std.proofs.lemmas.Bool.{cases_Bool, and_parts, and_from, eqb-true, eqb-false, lt-ltb, le-ltb}
 use Rattle.std.proofs.lemmas.List.Sums.{sum_by-append}
 use Rattle.std.proofs.lemmas.List.{length-append}
 use Rattle.std.proofs.lemmas.Grind.{common_steps}
@@ -8,10 +8,10 @@ use Rattle.uring_entry.specs.Shape.{Shape}
 use Rattle.uring_entry.specs.Words.{word_of}
 use Rattle.uring_entry.specs.Layout.{Entry, Completion, user_data_of}
 use Rattle.uring_entry.specs.Success.{is_told}
-use Rattle.uring_entry.specs.Submission.{Submission, Call, Place, taken, pending, entries_of, places_from, dropped, closed}
-use Rattle.uring_entry.specs.Requests.{Requests, entry_of, is_outstanding, is_running, is_doomed, is_ready, doomed_result, cancel_result, no_bytes, with_call, with_ended, with_issued_end, with_started}
+use Rattle.uring_entry.specs.Submission.{Submission, Call, Place, no_submission, taken, pending, entries_of, places_from, dropped, closed}
+use Rattle.uring_entry.specs.Requests.{Requests, no_request, entry_of, has_started, has_ended, is_outstanding, is_running, is_doomed, is_ready, doomed_result, cancel_result, no_bytes, with_call, with_ended, with_issued_end, with_started}
 use Rattle.uring_entry.specs.Preparation.{is_cancel, operation_of}
-use Rattle.uring_entry.specs.Completions.{Completions, with_end, with_posted}
+use Rattle.uring_entry.specs.Completions.{Completions, no_completion, with_end, with_posted}
 use Rattle.uring_entry.specs.declared.outcomes.Outcome.{Outcome}
 use Rattle.uring_entry.specs.declared.operation.Op.{Op}
 use Rattle.uring_rings.specs.SubmissionRing.{SubmissionQueue, ShowsSubmission}
@@ -33,6 +33,7 @@ use Rattle.uring_machine.specs.Core.{Parts, ShowsWorld, FitsApart, IsFinished, h
 use Rattle.uring_machine.specs.declared.steps.Step.TheVariants as step
 use Rattle.uring_machine.specs.declared.answers.Answer.{Answer}
 use Rattle.uring_machine.specs.declared.answers.Answer.TheVariants as answer
+use Rattle.uring_machine.proofs.Sound.{sound_of}
 use Rattle.uring_machine.proofs.CoreTakes.{held_accepted, held_within, some_call}
 
 -- End.
@@ -314,3 +315,38 @@ accepts_held p d entries same shows accepted outstanding between = record {
   outstanding = outstanding ∙ ap (λ xs. p.dispatcher.outstanding + length xs) same;
   between = between;
 }
+
+-- what is running is outstanding
+pub finished_there : (p : Parts) (n : ℕ) (h : History) → FitsApart p h → ((r : Requests) → Shows p.dispatcher r → finish.Ended ≡ finished r n) → ((r : Requests) → Shows p.dispatcher r → None ≡ entry_outstanding r n) → ⊥
+finished_there p n h f answered none =
+    let w = world p.shape h in
+    let s = f.shows.requests in
+    let sound = sound_of p.shape h f.lawful in
+    let runs = and_parts (has_started w.requests n) (not (has_ended w.requests n)) (running_there w.requests n (answered w.requests s)) in
+    let below = lt-ltb n (length w.requests.accepted) (sound.requests.started_accepted n runs.0) in
+    let there : is_outstanding w.requests n ≡ true = and_from (nat_lt n (length w.requests.accepted)) (not (has_ended w.requests n)) below runs.1 in
+    let f : ◌≡◌ {A = Option Entry} None (Some (entry_of w.requests n)) = none w.requests s ∙ ap (λ b. cond b (Some (entry_of w.requests n)) None) there in
+    cc
+
+-- New.
+
+pub new_fits : (p : Parts) → ShowsSubmission p.shape p.submissions no_submission → ShowsCompletions p.shape p.completions no_completion → Shows p.dispatcher no_request → p.dispatcher.is_between_calls ≡ true
+    → p.held ≡ [] → p.is_closed ≡ false → FitsApart p []
+new_fits p submission completions requests between held open_ring =
+    let a : p.dispatcher.accepted ≡ 0 = requests.accepted in
+    let o : p.dispatcher.outstanding ≡ 0 = requests.outstanding in
+    record {
+      shows = record {
+        submission = submission;
+        completions = completions;
+        requests = requests;
+        held = held;
+        closed = open_ring;
+        between = between;
+        room_to_post = omega arith;
+        room_to_accept = omega arith;
+        numbers = omega arith;
+        posts = omega arith;
+      };
+      lawful = tt;
+    }
