@@ -10,3 +10,9 @@ pub mod ToldRequests
 pub mod RequestLaws
 pub mod Growth
 pub mod OrderLaws
+pub mod Moves
+pub mod Running
+pub mod FileHistory
+pub mod Fitting
+pub mod Following
+pub mod Outstanding
