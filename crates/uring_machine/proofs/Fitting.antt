@@ -90,16 +90,16 @@ finish_fits core later files n op outcome left a h same fits is allowed leaves n
     }
 
 -- what has no operation to carry out isn't running
-not_running : {X : Type 0} {op : X} (running : Bool) → None ≡ (if running then Some op else None) → running ≡ false
-not_running true e = absurd cc
-not_running false e = refl
+not_running : {X : Type 0} (op : X) (running : Bool) → None ≡ (if running then Some op else None) → running ≡ false
+not_running op true e = absurd cc
+not_running op false e = refl
 
 -- a request that doesn't run is refused
 pub refusal_fits : (core : Parts) (files : List FileContents) (n : ℕ) (h : History) → Fits (record { core = core; files = files }) h → None ≡ operation_running (world core.shape h).requests n
     → Fits (record { core = core; files = files }) ((step.Finish n , answer.NotRunning) ∷ h)
 refusal_fits core files n h fits is =
     let w : World = world core.shape h in
-    let idle : is_running w.requests n ≡ false = not_running (is_running w.requests n) is in
+    let idle : is_running w.requests n ≡ false = not_running (operation_of (entry_of w.requests n)) (is_running w.requests n) is in
     record {
       core = record { shows = fits.core.shows; lawful = (subst (λ b. FinishesApart b answer.NotRunning) (sym idle) refl, fits.core.lawful) };
       files = fits.files;
@@ -107,5 +107,23 @@ refusal_fits core files n h fits is =
     }
 
 -- an event of a fitted history was called for
-pub called_for : (old new : Holding) (s : Step) (a : Answer) (h : History) → new.core.shape ≡ old.core.shape → Fits new ((s , a) ∷ h) → CalledFor old.core.shape (world old.core.shape h) s a
-called_for old new s a h same fits = subst (λ k. CalledFor k (world k h) s a) same fits.lawful.0
+pub called_for : (g : Shape) (core : Parts) (files : List FileContents) (s : Step) (a : Answer) (h : History) → core.shape ≡ g → Fits (record { core = core; files = files }) ((s , a) ∷ h) → CalledFor g (world g h) s a
+called_for g core files s a h same fits = subst (λ k. CalledFor k (world k h) s a) same fits.lawful.0
+
+-- what isn't a Finish is no finish
+pub no_finish : (s : Step) → ((n : ℕ) → s ≡ step.Finish n → ⊥) → IsNoFinish s
+no_finish (step.Fill slot entry) other = tt
+no_finish (step.Index word) other = tt
+no_finish step.StoreTail other = tt
+no_finish step.LoadHead other = tt
+no_finish (step.Begin count) other = tt
+no_finish step.Take other = tt
+no_finish step.End other = tt
+no_finish (step.Issue n) other = tt
+no_finish (step.Finish n) other = other n refl
+no_finish step.Flush other = tt
+no_finish step.LoadCqTail other = tt
+no_finish step.Reap other = tt
+no_finish step.StoreCqHead other = tt
+no_finish step.Close other = tt
+no_finish step.Next other = tt
