@@ -24,3 +24,9 @@ pub mod CoreSteps
 pub mod CoreCalls
 pub mod CoreTakes
 pub mod CoreEnds
+pub mod Moves
+pub mod Running
+pub mod FileHistory
+pub mod Fitting
+pub mod Following
+pub mod Outstanding

@@ -8,3 +8,4 @@ pub mod Told
 pub mod Contents
 pub mod Core
 pub mod Machine
+pub mod Settling

@@ -1,4 +1,5 @@
 ghost use Rattle.std.specs.Prelude.{◌≡◌, ◌∷◌, [], IfOk, slice_get};
+ghost use Rattle.uring_entry.specs.Requests.{least_of};
 ghost use Rattle.uring_entry.specs.Completions.{unreaped};
 ghost use Rattle.uring_entry.specs.Requests.{least_of};
 ghost use Rattle.uring_dispatch.specs.Answers.{operation_running};
@@ -303,5 +304,12 @@ impl Core {
         ensures fits { (h : History) → FitsApart self.old h → FitsApart self.new ((step.Next , result) ∷ h) }
     {
         tell_next(self.dispatch.next())
+    }
+
+    /// The least outstanding request.
+    pub(crate) fn least(&self) -> Option<u64>
+        ensures { (h : History) → FitsApart self.now h → result ≡ least_of (world self.now.shape h).requests }
+    {
+        self.dispatch.least()
     }
 }

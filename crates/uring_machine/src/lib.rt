@@ -7,10 +7,14 @@ mod conversions;
 mod cores;
 mod counts;
 pub mod laws;
+mod machine;
+mod runs;
 mod steps;
 mod posting;
 
 pub use answers::Answer;
 pub use cores::Core;
 pub use counts::Counts;
+pub use machine::Machine;
+pub use runs::run;
 pub use steps::Step;

@@ -1,0 +1,119 @@
+ghost use Rattle.std.specs.Prelude.{◌≡◌, ◌∷◌, [], IfOk, slice_get};
+ghost use Rattle.uring_entry.specs.Completions.{unreaped};
+ghost use Rattle.uring_files.specs.Operations.{state_of, byte_of};
+ghost use Rattle.uring_dispatch.specs.Answers.{operation_running};
+ghost use Rattle.uring_machine.specs.Contents.{CalledFor, files_of};
+ghost use Rattle.uring_machine.specs.Core.{IsCounts};
+ghost use Rattle.uring_machine.specs.Histories.{History, world};
+ghost use Rattle.uring_machine.specs.declared.steps.Step.TheVariants as step;
+
+use std::alloc::{AllocError, Global};
+use std::marker::Model;
+
+use uring_entry::{Cqe, Op, Setup};
+use uring_files::{FileState, Files};
+
+use crate::answers::Answer;
+use crate::cores::Core;
+use crate::counts::Counts;
+use crate::steps::Step;
+
+/// A pair of rings, its requests and files in memory, moved one step at a time.
+///
+/// The two sides of the rings, the application and the dispatcher, take their steps in any order. Each request that runs is carried out on the files when it is finished.
+#[derive(Drop)]
+pub struct Machine {
+    core: Core,
+    files: Files,
+}
+
+impl Model for Machine {
+    ghost use Rattle.uring_machine.specs.Machine.{Holding};
+
+    ghost Value = { Holding };
+
+    ghost use Rattle.uring_machine.specs.Histories.{History};
+    ghost use Rattle.uring_machine.specs.Machine.{Fits};
+
+    ghost view = { λ m. record { core = m.core; files = m.files } };
+
+    ghost invariant = { λ m. (h : History) × Fits (record { core = m.core; files = m.files }) h };
+}
+
+impl Machine {
+    ghost use Rattle.uring_machine.specs.Machine.{Fits};
+
+    /// A machine of this set-up on which nothing has happened, its files empty. `AllocError`: memory was refused.
+    pub fn new(alloc: Global, setup: &Setup) -> Result<Machine, AllocError>
+        ensures shape { IfOk result (λ machine. machine.core.shape ≡ setup.now) }
+        ensures fits { IfOk result (λ machine. Fits machine []) }
+    {
+        Ok(Machine {
+            core: Core::new(alloc, setup)?,
+            files: Files::new(alloc, setup.files())?,
+        })
+    }
+
+    /// Makes one step, and answers it.
+    ///
+    /// Only `Begin` and a `Finish` of a write ask for memory. Where it is refused, `Begin` is answered `Again`, and nothing is consumed; the write ends with -12 (ENOMEM).
+    pub fn step(&mut self, step: Step) -> Answer
+        ensures shape { self.new.core.shape ≡ self.old.core.shape }
+        ensures fits { (h : History) → Fits self.old h → Fits self.new ((step , result) ∷ h) }
+        ensures called { (h : History) → Fits self.old h → CalledFor self.old.core.shape (world self.old.core.shape h) step result }
+    {
+        match step {
+            Step::Finish { number } => self.finish(number),
+            _ => self.core.step(step),
+        }
+    }
+
+    /// The completion at this place among those posted and not reaped, the oldest first.
+    pub fn rest(&self, place: u64) -> Option<Cqe>
+        ensures { (h : History) → Fits self.now h → result ≡ slice_get (unreaped (world self.now.core.shape h).completions) place }
+    {
+        self.core.rest(place)
+    }
+
+    /// How many requests were accepted, are outstanding and run, and how many completions were posted and reaped.
+    pub fn counts(&self) -> Counts
+        ensures { (h : History) → Fits self.now h → IsCounts (world self.now.core.shape h) result }
+    {
+        self.core.counts()
+    }
+
+    /// The operation of the request of this number, where it is running.
+    pub fn running_op(&self, number: u64) -> Option<Op>
+        ensures { (h : History) → Fits self.now h → result ≡ operation_running (world self.now.core.shape h).requests number }
+    {
+        self.core.running_op(number)
+    }
+
+    /// How the file of a descriptor stands, if there is one.
+    pub fn state(&self, fd: i32) -> Option<FileState>
+        ensures { (h : History) → Fits self.now h → result ≡ state_of (files_of self.now.core.shape (world self.now.core.shape h)) fd }
+    {
+        self.files.state(fd)
+    }
+
+    /// The byte at offset `at` of the file of a descriptor, if there is such a file and the offset is below its length.
+    pub fn byte(&self, fd: i32, at: u64) -> Option<u8>
+        ensures { (h : History) → Fits self.now h → result ≡ byte_of (files_of self.now.core.shape (world self.now.core.shape h)) fd at }
+    {
+        self.files.byte(fd, at)
+    }
+
+    /// Carries out the operation of a running request on the files, and ends the request with what that gave.
+    fn finish(&mut self, number: u64) -> Answer
+        ensures shape { self.new.core.shape ≡ self.old.core.shape }
+        ensures fits { (h : History) → Fits self.old h → Fits self.new ((step.Finish number , result) ∷ h) }
+    {
+        match self.core.running_op(number) {
+            Some(op) => {
+                let outcome = self.files.apply(&op);
+                self.core.finish(number, outcome)
+            }
+            None => Answer::NotRunning,
+        }
+    }
+}
