@@ -10,7 +10,7 @@ use Rattle.uring_machine.specs.declared.steps.Step.{Step}
 use Rattle.uring_machine.specs.declared.answers.Answer.{Answer}
 use Rattle.uring_machine.proofs.Changes.{Change, change_of, refuses, fills, stages, stores, loads, begins, takes, drops, closes, runs, dooms, cancels, finishes, flushes, sees_tail, reaps, stores_head, shuts}
 use Rattle.uring_machine.proofs.RequestEnds.{IsChoice, ended_as, end_doom, end_join, choice_of, no_choice}
-use Rattle.uring_machine.proofs.SoundRequests.{start_doom, start_join}
+use Rattle.uring_entry.proofs.EventLemmas.{is_doomed-started, is_joined-started, is_draining-started}
 use Rattle.uring_machine.proofs.Groups.{longer, entry_kept, join_kept, member_kept, doom_kept}
 use Rattle.uring_machine.proofs.Sound.{sound_of}
 use Rattle.std.specs.List.{list_any}
@@ -40,12 +40,8 @@ then_grows r later last a b =
       stays_doomed = λ n lt e. b.stays_doomed n (omega arith) (a.stays_doomed n lt e);
     }
 
-start_drain : (r : Requests) (n m : ℕ) → is_draining (with_started r n) m ≡ is_draining r m
-unfolding some_member is_joined
-start_drain r n m = refl
-
 start_grows : (r : Requests) (n : ℕ) → Grows r (with_started r n)
-start_grows r n = record { longer_then = omega arith; same_entry = λ m lt. refl; same_group = λ k m lt. start_join r n k m; same_drain = λ m lt. start_drain r n m; stays_cancelled = λ m e. e; stays_doomed = λ m lt e. start_doom r n m ∙ e }
+start_grows r n = record { longer_then = omega arith; same_entry = λ m lt. refl; same_group = λ k m lt. is_joined-started r n k m; same_drain = λ m lt. is_draining-started r n m; stays_cancelled = λ m e. e; stays_doomed = λ m lt e. is_doomed-started r n m ∙ e }
 
 end_drain : (r : Requests) (n : ℕ) (res : ℤ) (bytes cancelled : List ℕ) (m : ℕ) → is_draining (ended_as r n res bytes cancelled) m ≡ is_draining r m
 unfolding some_member is_joined

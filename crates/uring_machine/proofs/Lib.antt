@@ -2,7 +2,6 @@ pub mod Changes
 pub mod Telling
 pub mod SoundRings
 pub mod ListCounts
-pub mod Dooms
 pub mod SoundRequests
 pub mod RequestEnds
 pub mod Groups

@@ -1,10 +1,9 @@
--- What passes a test in a list that grows, and below a bound.
-use Rattle.std.proofs.Common.{◌≡◌, ℕ, zero, suc, ◌<◌, ◌≤◌, List, [], ◌∷◌, ◌++◌, Bool, true, false, ◌||◌, count_by, cond, refl, sym, ◌∙◌, ap, arith, ◌⊎◌, inl, inr}
+-- What passes a test in a list that grows.
+use Rattle.std.proofs.Common.{◌&&◌, ◌≡◌, ℕ, ◌≤◌, List, [], ◌∷◌, ◌++◌, Bool, true, false, ◌||◌, count_by, cond, refl, sym, ◌∙◌, ap, arith, ◌⊎◌, inl, inr}
 use Rattle.std.specs.List.{list_any}
-use Rattle.std.proofs.lemmas.Bool.{cases_Bool, or_cases, or_parts, or_left}
+use Rattle.std.proofs.lemmas.Bool.{cases_Bool, and_parts, or_cases, or_left, or_right, or_parts}
 use Rattle.std.proofs.lemmas.List.Folds.{list_any-append}
 use Rattle.std.proofs.lemmas.List.Sums.{sum_by_push, sum_by-cons}
-use Rattle.uring_entry.specs.Below.{some_below}
 
 or-false : (b : Bool) → (b || false) ≡ b
 or-false true = refl
@@ -50,11 +49,11 @@ count_once_more p xs x once absent =
           omega (arith, sum_by_push (λ y. cond (p y) 1 0) xs x)
     ]
 
--- what a search below a bound found
-pub some_below-tells : (p : ℕ → Bool) (n : ℕ) → some_below p n ≡ true → (k : ℕ) × (k < n) × (p k ≡ true)
-some_below-tells p zero e = absurd (let f : false ≡ true = e in cc)
-some_below-tells p (suc n) e =
-    elim (or_cases _ _ e) [
-      | inl low ↦ let t = some_below-tells p n low in (t.0, omega (arith, t.1), t.2)
-      | inr here ↦ (n, omega arith, here)
+-- a stricter test passes no more
+pub any_looser : {X : Type 0} (p q : X → Bool) (xs : List X) → list_any (λ x. p x && q x) xs ≡ true → list_any p xs ≡ true
+any_looser p q [] e = e
+any_looser p q (x ∷ xs) e =
+    elim (or_cases (p x && q x) _ e) [
+      | inl here ↦ or_left (p x) _ (and_parts (p x) (q x) here).0
+      | inr later ↦ or_right (p x) _ (any_looser p q xs later)
     ]

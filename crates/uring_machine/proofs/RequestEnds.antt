@@ -9,11 +9,10 @@ use Rattle.std.proofs.lemmas.List.Folds.{list_any-append}
 use Rattle.uring_entry.specs.Success.{is_success}
 use Rattle.uring_entry.specs.Preparation.{is_faulty, is_cancel}
 use Rattle.uring_entry.specs.declared.errno.TheConstants.{EINVAL, EALREADY, ECANCELED}
-use Rattle.uring_entry.specs.Requests.{Requests, entry_of, has_started, has_ended, has_failed, is_running, is_outstanding, is_joined, some_member, is_in_faulty_group, is_cancelled, is_doomed, is_ready, is_candidate, target_of, result_for, cancel_result, doomed_result, no_bytes, chosen_by, with_ended, with_issued_end}
-use Rattle.uring_entry.proofs.BelowLemmas.{least_below-tells}
+use Rattle.uring_entry.specs.Requests.{Requests, entry_of, has_started, has_ended, has_failed, is_running, is_outstanding, is_joined, some_member, is_in_faulty_group, is_cancelled, is_doomed, is_ready, target_of, result_for, cancel_result, doomed_result, no_bytes, chosen_by, with_ended, with_issued_end}
 use Rattle.uring_entry.proofs.RequestLemmas.{is_doomed-faulty, is_doomed-behind, is_doomed-cancelled}
-use Rattle.uring_machine.proofs.ListCounts.{any_push, any_kept, any_new, count_once_more}
-use Rattle.uring_machine.proofs.Dooms.{is_doomed-cases, behind_tells, behind_from, any_looser}
+use Rattle.uring_machine.proofs.ListCounts.{any_looser, any_push, any_kept, any_new, count_once_more}
+use Rattle.uring_entry.proofs.EventLemmas.{is_doomed-tells, is_behind_failure-tells, is_behind_failure-from, target_of-tells}
 use Rattle.uring_machine.proofs.SoundRequests.{IsFree, is_otherwise, EndsDoomed, IsSoundRequests, outstanding_tells, idle_tells, ready_first}
 
 -- A request ends, and these are the ones that cancels chose so far.
@@ -57,28 +56,28 @@ module _ (r : Requests) (n : ℕ) (res : ℤ) (bytes : List ℕ) (cancelled : Li
   -- who is doomed stays doomed
   pub end_doom : (m : ℕ) → is_doomed r m ≡ true → is_doomed (ended_as r n res bytes cancelled) m ≡ true
   end_doom m doomed =
-      elim (is_doomed-cases r m doomed) [
+      elim (is_doomed-tells r m doomed) [
         | inl faulty ↦ is_doomed-faulty (ended_as r n res bytes cancelled) m (end_fault m ∙ faulty)
         | inr (inl behind) ↦
-            let t = behind_tells r m behind in
+            let t = is_behind_failure-tells r m behind in
             let f = t.1 in
-            is_doomed-behind (ended_as r n res bytes cancelled) m (behind_from (ended_as r n res bytes cancelled) m t.0 (record { below = f.below; joined = end_join t.0 m ∙ f.joined; soft = f.soft; failed = fail_kept t.0 f.failed }))
+            is_doomed-behind (ended_as r n res bytes cancelled) m (is_behind_failure-from (ended_as r n res bytes cancelled) m t.0 (record { before = f.before; joined = end_join t.0 m ∙ f.joined; soft = f.soft; failed = fail_kept t.0 f.failed }))
         | inr (inr gone) ↦ is_doomed-cancelled (ended_as r n res bytes cancelled) m (choice.kept m gone)
       ]
 
   -- who is doomed newly is a later member of n's group, or chosen
   end_doomed : (m : ℕ) → is_doomed (ended_as r n res bytes cancelled) m ≡ true → (is_doomed r m ≡ true) ⊎ (((n < m) × (is_joined r n m ≡ true)) ⊎ IsChosen r n m)
   end_doomed m doomed =
-      elim (is_doomed-cases (ended_as r n res bytes cancelled) m doomed) [
+      elim (is_doomed-tells (ended_as r n res bytes cancelled) m doomed) [
         | inl faulty ↦ inl (is_doomed-faulty r m (sym (end_fault m) ∙ faulty))
         | inr (inl behind) ↦
-            let t = behind_tells (ended_as r n res bytes cancelled) m behind in
+            let t = is_behind_failure-tells (ended_as r n res bytes cancelled) m behind in
             let k = t.0 in
             let f = t.1 in
             let joined : is_joined r k m ≡ true = sym (end_join k m) ∙ f.joined in
             elim (cases_eq k n) [
-              | inl same ↦ inr (inl (subst (λ j. (j < m) × (is_joined r j m ≡ true)) same (f.below, joined)))
-              | inr differ ↦ inl (is_doomed-behind r m (behind_from r m k (record { below = f.below; joined = joined; soft = f.soft; failed = fail_other k differ f.failed })))
+              | inl same ↦ inr (inl (subst (λ j. (j < m) × (is_joined r j m ≡ true)) same (f.before, joined)))
+              | inr differ ↦ inl (is_doomed-behind r m (is_behind_failure-from r m k (record { before = f.before; joined = joined; soft = f.soft; failed = fail_other k differ f.failed })))
             ]
         | inr (inr gone) ↦
             elim (choice.added m gone) [
@@ -156,10 +155,6 @@ finish_sound r n res bytes running s =
 
 -- What a cancel chooses.
 
-target_tells : (r : Requests) (n m : ℕ) → target_of r n ≡ Some m → is_candidate r n m ≡ true
-unfolding target_of
-target_tells r n m e = (least_below-tells (is_candidate r n) (length r.accepted) m e).holds
-
 -- the result 0 is that of no doomed request
 pub doomed_unlike_zero : (r : Requests) (n : ℕ) → int_eq (doomed_result r n) (pos 0) ≡ false
 doomed_unlike_zero r n = by_fault (is_faulty (entry_of r n)) where
@@ -179,7 +174,7 @@ module _ (r : Requests) (n : ℕ) where
   chosen_is None m is at_zero e = absurd (let f : false ≡ true = e in cc)
   chosen_is (Some t) m is at_zero e =
       let same : t ≡ m = eqb-true _ _ (elim (or_cases (t == m) false e) [ inl here ↦ here | inr none ↦ absurd (let f : false ≡ true = none in cc) ]) in
-      let p = and_parts _ _ (target_tells r n t is) in
+      let p = and_parts _ _ (target_of-tells r n t is).holds in
       let q = and_parts _ _ p.0 in
       let u = and_parts _ _ q.0 in
       let o = outstanding_tells r t u.0 in

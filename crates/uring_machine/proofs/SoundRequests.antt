@@ -3,7 +3,8 @@ use Rattle.std.proofs.Common.{◌≡◌, ℕ, ◌==◌, ◌<◌, ◌≤◌, leng
 use Rattle.std.specs.List.{list_any}
 use Rattle.std.specs.Ordering.{int_eq}
 use Rattle.std.proofs.lemmas.Bool.{and_parts, and_cases, or_parts, both_ways, eqb-true, ltb-true, not-true, not-false}
-use Rattle.uring_entry.specs.Requests.{Requests, Ending, no_request, has_started, has_ended, is_running, is_outstanding, is_joined, some_member, is_behind_failure, is_doomed, is_ready, doomed_result, with_started}
+use Rattle.uring_entry.specs.Requests.{Requests, Ending, no_request, has_started, has_ended, is_running, is_outstanding, is_joined, is_doomed, is_ready, doomed_result, with_started}
+use Rattle.uring_entry.proofs.EventLemmas.{is_doomed-started, is_joined-started}
 use Rattle.uring_entry.proofs.RequestLemmas.{is_ready-inside}
 use Rattle.uring_machine.proofs.ListCounts.{any_new, count_once_more}
 
@@ -45,17 +46,9 @@ first_requests =
 
 -- A request starts.
 
--- only the starts change
-pub start_doom : (r : Requests) (n m : ℕ) → is_doomed (with_started r n) m ≡ is_doomed r m
-unfolding is_doomed some_member is_joined is_behind_failure
-start_doom r n m = refl
-
-pub start_join : (r : Requests) (n k m : ℕ) → is_joined (with_started r n) k m ≡ is_joined r k m
-unfolding is_joined
-start_join r n k m = refl
-
+-- a start changes neither groups nor who is doomed
 start_free : (r : Requests) (n m : ℕ) → IsFree r m → IsFree (with_started r n) m
-start_free r n m f = record { spared = start_doom r n m ∙ f.spared; first = λ k lt e. f.first k lt (sym (start_join r n k m) ∙ e) }
+start_free r n m f = record { spared = is_doomed-started r n m ∙ f.spared; first = λ k lt e. f.first k lt (sym (is_joined-started r n k m) ∙ e) }
 
 -- what is outstanding is accepted, and hasn't ended
 pub outstanding_tells : (r : Requests) (n : ℕ) → is_outstanding r n ≡ true → (n < length r.accepted) × (has_ended r n ≡ false)
