@@ -7,6 +7,7 @@ mod doom;
 mod events;
 mod groups;
 mod held;
+pub mod laws;
 mod readiness;
 mod refusal;
 mod search;
@@ -15,3 +16,6 @@ mod target;
 pub use answers::{Finished, Issued};
 pub use dispatcher::Dispatch;
 pub use refusal::ReserveError;
+
+#[cfg(test)]
+mod tests;
