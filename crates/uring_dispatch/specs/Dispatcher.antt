@@ -35,7 +35,7 @@ dispatcher_of held capacity = record {
   running = count_by is_running held;
   room = capacity - length held;
   is_between_calls = (length held == 0) || (request_at held (length held - 1)).ends_call;
-  held = held
+  held = held;
 }
 
 -- what is kept stands for these requests
