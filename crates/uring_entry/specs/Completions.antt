@@ -1,5 +1,5 @@
 -- The completion ring and its overflow list as lists of all that ever happened to them. io_uring(7), on the completion queue; IORING_FEAT_NODROP of io_uring_setup(2) for the overflow list, which is flushed by a step of its own: our own rule.
-use Rattle.std.specs.Prelude.{◌≡◌, ℕ, ◌+◌, ◌-◌, ℤ, Bool, ◌&&◌, ◌==◌, nat_lt, List, [], ◌∷◌, ◌++◌, length, drop, min, Option, None, slice_get, if◌then◌else◌}
+use Rattle.std.specs.Prelude.{ℕ, ◌+◌, ◌-◌, ℤ, Bool, ◌&&◌, ◌==◌, nat_lt, List, [], ◌∷◌, ◌++◌, length, drop, min, Option, None, slice_get, if◌then◌else◌}
 use Rattle.uring_entry.specs.Layout.{Completion, Entry, user_data_of}
 use Rattle.uring_entry.specs.Success.{is_told}
 

@@ -1,7 +1,7 @@
 -- What is wrong with an entry, and what a right one asks for.
-use Rattle.std.specs.Prelude.{◌≡◌, ℕ, ◌-◌, ◌^◌, List, [], ◌∷◌, Option, Bool, true, false, not, ◌==◌, ◌||◌, ◌&&◌, nat_lt, if◌then◌else◌, is_some, find}
+use Rattle.std.specs.Prelude.{ℕ, ◌-◌, ◌^◌, List, [], ◌∷◌, Option, Bool, not, ◌==◌, ◌||◌, ◌&&◌, nat_lt, if◌then◌else◌, is_some, find}
 use Rattle.std.specs.List.{list_any}
-use Rattle.uring_entry.specs.Layout.{Entry, opcode_of, flags_of, ioprio_of, fd_of, off_of, addr_of, len_of, operation_flags_of, reserved_of, payload_of, has_some_of}
+use Rattle.uring_entry.specs.Layout.{Entry, opcode_of, ioprio_of, fd_of, off_of, addr_of, len_of, operation_flags_of, reserved_of, payload_of, has_some_of}
 use Rattle.uring_entry.specs.Flags.{refused}
 use Rattle.uring_entry.specs.declared.faults.Fault.{Fault}
 use Rattle.uring_entry.specs.declared.faults.Fault.TheVariants.{Flags, Opcode, Ioprio, OpFlags, Reserved, Len, Off}

@@ -1,7 +1,6 @@
 -- The submission ring as lists of all that ever happened to it. io_uring(7), on the submission queue; what is refused, and that a call goes on after a word that names no slot, is our own rule.
-use Rattle.std.specs.Prelude.{◌≡◌, ℕ, ◌+◌, ◌-◌, ◌%◌, ◌^◌, Bool, true, ◌==◌, nat_lt, nat_le, List, [], ◌∷◌, ◌++◌, length, take, drop, map, sum, count_by, Option, Some, None, is_none, is_some, if◌then◌else◌, min, slice_get}
+use Rattle.std.specs.Prelude.{ℕ, ◌+◌, ◌-◌, ◌%◌, ◌^◌, Bool, ◌==◌, nat_lt, List, [], ◌∷◌, ◌++◌, length, take, drop, map, sum, count_by, Option, Some, None, is_none, if◌then◌else◌, min}
 use Rattle.std.specs.List.{list_any, filter_map}
-use Rattle.std.specs.Option.{option_and_then}
 use Rattle.uring_entry.specs.Layout.{Entry, zero_entry}
 
 -- A published position: the word of the index array, and the entry of the slot that the word names, as it was when the position was published. A word that names no slot has none.

@@ -1,5 +1,5 @@
 -- When a request has succeeded, and whether its end is told.
-use Rattle.std.specs.Prelude.{ℕ, ℤ, pos, Bool, not, ◌&&◌, ◌==◌, if◌then◌else◌, List}
+use Rattle.std.specs.Prelude.{ℤ, pos, Bool, not, ◌&&◌, if◌then◌else◌}
 use Rattle.std.specs.Ordering.{int_eq}
 use Rattle.uring_entry.specs.Flags.{skip_success}
 use Rattle.uring_entry.specs.Layout.{Entry, len_of, has}

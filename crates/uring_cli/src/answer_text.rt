@@ -1,0 +1,75 @@
+//! The text of an answer.
+
+use std::alloc::AllocError;
+use std::fmt::Write;
+use uring_entry::Cqe;
+use uring_machine::Answer;
+
+/// Appends the text of an answer, without the end of its line.
+pub(crate) fn push_answer(text: &mut String, answer: &Answer) -> Result<(), AllocError> {
+    match answer {
+        Answer::Filled | Answer::Staged | Answer::Shut => text.push_str("ok"),
+        Answer::NoSlot => text.push_str("no slot"),
+        Answer::Busy => text.push_str("busy"),
+        Answer::Full => text.push_str("full"),
+        Answer::Tail(word) => write!(text, "tail {word}"),
+        Answer::Head(word) => write!(text, "head {word}"),
+        Answer::Call(count) => write!(text, "call {count}"),
+        Answer::Closed => text.push_str("closed"),
+        Answer::InCall => text.push_str("in call"),
+        Answer::Spent => text.push_str("spent"),
+        Answer::Again => text.push_str("again"),
+        Answer::Entry(entry) => {
+            let user_data = entry.user_data();
+            write!(text, "entry {user_data}")
+        }
+        Answer::Dropped => text.push_str("dropped"),
+        Answer::NoMore => text.push_str("no more"),
+        Answer::NoCall => text.push_str("no call"),
+        Answer::Taken {
+            accepted,
+            dropped,
+            head,
+        } => write!(text, "taken {accepted} dropped {dropped} head {head}"),
+        Answer::NotAll => text.push_str("not all"),
+        Answer::Run => text.push_str("run"),
+        Answer::Ended { res, .. } => write!(text, "ended {res}"),
+        Answer::NotReady => text.push_str("not ready"),
+        Answer::Running => text.push_str("running"),
+        Answer::Unknown => text.push_str("unknown"),
+        Answer::NotRunning => text.push_str("not running"),
+        Answer::Moved(count) => write!(text, "moved {count}"),
+        Answer::Reaped(completion) => push_completion(text, completion),
+        Answer::Nothing => text.push_str("none"),
+        Answer::Next(number) => write!(text, "next {number}"),
+    }
+}
+
+/// Appends a completion: its user data, its result and its data.
+fn push_completion(text: &mut String, completion: &Cqe) -> Result<(), AllocError> {
+    let user_data = completion.user_data();
+    let res = completion.res();
+    write!(text, "cqe {user_data} {res} ")?;
+    let payload = completion.payload();
+    push_data(text, without_zeros(&payload))
+}
+
+/// Appends bytes as two lower case hexadecimal digits each, or `-` for none.
+fn push_data(text: &mut String, bytes: &[u8]) -> Result<(), AllocError> {
+    if bytes.is_empty() {
+        return text.push('-');
+    }
+    for byte in bytes {
+        write!(text, "{byte:02x}")?;
+    }
+    Ok(())
+}
+
+/// The bytes without the zeros at their end.
+fn without_zeros(bytes: &[u8]) -> &[u8] {
+    let mut bytes = bytes;
+    while let [front @ .., 0] = bytes {
+        bytes = front;
+    }
+    bytes
+}

@@ -1,0 +1,26 @@
+//! What can go wrong in a run of the program.
+
+use crate::option_kinds::OptionsFault;
+use crate::trace_fault::TraceFault;
+
+/// Why a run of the program didn't do what was asked.
+#[derive(Debug, Drop)]
+pub enum Fault {
+    /// A fault of a trace.
+    Trace(TraceFault),
+
+    /// A fault of the command line.
+    Options(OptionsFault),
+}
+
+impl From<TraceFault> for Fault {
+    fn from(fault: TraceFault) -> Fault {
+        Fault::Trace(fault)
+    }
+}
+
+impl From<OptionsFault> for Fault {
+    fn from(fault: OptionsFault) -> Fault {
+        Fault::Options(fault)
+    }
+}

@@ -1,0 +1,59 @@
+//! `uring`: the rings of io_uring, step by step, over lines of text.
+#![tactic(auto)]
+
+mod answer_text;
+mod command_line;
+mod entry_words;
+mod fault;
+mod flag_words;
+mod hex_words;
+mod number_words;
+mod option_kinds;
+mod session;
+mod step_lines;
+mod telling;
+#[cfg(test)]
+mod tests;
+mod trace_fault;
+mod trace_loop;
+
+use crate::command_line::{not_text, options};
+use crate::fault::Fault;
+use crate::option_kinds::Options;
+use crate::telling::tell;
+use crate::trace_fault::TraceFault;
+use crate::trace_loop::trace;
+use std::env;
+use std::io::ErrorKind;
+use std::process::ExitCode;
+
+fn main(rt: HostRuntime) -> ExitCode {
+    match run(&rt) {
+        Ok(()) => ExitCode::SUCCESS,
+        Err(fault) => ExitCode::from(tell(rt.alloc(), &mut rt.stderr(), &fault)),
+    }
+}
+
+/// Does what the command line asks for.
+fn run(rt: &HostRuntime) -> Result<(), Fault> {
+    let alloc = rt.alloc();
+    let args = words(rt)?;
+    let mut words = Vec::with_capacity(alloc, args.len()).map_err(TraceFault::from)?;
+    for arg in &args {
+        words.push(arg.as_str()).map_err(TraceFault::from)?;
+    }
+    match options(alloc, words.as_slice())? {
+        Options::Trace(setup) => Ok(trace(alloc, &mut rt.stdin(), &mut rt.stdout(), &setup)?),
+    }
+}
+
+/// The words of the command line.
+fn words(rt: &HostRuntime) -> Result<Vec<String>, Fault> {
+    match env::args(rt) {
+        Ok(args) => Ok(args.collect(rt.alloc()).map_err(TraceFault::from)?),
+        Err(error) => match error.kind() {
+            ErrorKind::OutOfMemory => Err(Fault::Trace(TraceFault::Memory)),
+            _ => Err(Fault::Options(not_text(rt.alloc()))),
+        },
+    }
+}

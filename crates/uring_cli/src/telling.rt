@@ -1,0 +1,56 @@
+//! What a fault of the program says, and its exit status.
+
+use crate::fault::Fault;
+use crate::option_kinds::OptionsFault;
+use crate::trace_fault::TraceFault;
+use clap::error::ErrorKind;
+use std::alloc::{AllocError, Global};
+use std::io::Write;
+
+/// The exit status where the run failed.
+const FAILED: u8 = 1;
+
+/// The exit status where the command line is refused, or asks for help.
+const REFUSED: u8 = 2;
+
+/// The line for want of memory.
+const OUT_OF_MEMORY: &str = "uring: out of memory\n";
+
+/// Writes what a fault says to `writer`, and answers the exit status, 1 or 2, also where the write fails: 2 for a fault of the command line or a call for help, whose text is clap's own, and 1 for any other, want of memory among them.
+pub fn tell<W: Write>(alloc: Global, writer: &mut W, fault: &Fault) -> u8 {
+    let (text, status) = match text_of(alloc, fault) {
+        Ok(text) => (text, status_of(fault)),
+        Err(_) => {
+            let _ = writer.write_all(OUT_OF_MEMORY.as_bytes());
+            return FAILED;
+        }
+    };
+    let _ = writer.write_all(text.as_bytes());
+    status
+}
+
+/// The exit status of a fault.
+fn status_of(fault: &Fault) -> u8 {
+    match fault {
+        Fault::Trace(_) => FAILED,
+        Fault::Options(OptionsFault::Small) => REFUSED,
+        Fault::Options(OptionsFault::Words(error)) => match error.kind() {
+            ErrorKind::OutOfMemory => FAILED,
+            _ => REFUSED,
+        },
+    }
+}
+
+/// What a fault says.
+fn text_of(alloc: Global, fault: &Fault) -> Result<String, AllocError> {
+    match fault {
+        Fault::Trace(fault) => format!(in alloc; "uring: {fault}\n"),
+        Fault::Options(OptionsFault::Small) => format!(in alloc;
+            "uring: completion ring too small\n"
+        ),
+        Fault::Options(OptionsFault::Words(error)) => match error.kind() {
+            ErrorKind::OutOfMemory => String::from_str(alloc, OUT_OF_MEMORY),
+            _ => format!(in alloc; "{error}"),
+        },
+    }
+}

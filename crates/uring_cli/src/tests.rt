@@ -1,0 +1,4 @@
+mod command_lines;
+mod rows;
+mod streams;
+mod traces;

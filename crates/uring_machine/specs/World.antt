@@ -1,0 +1,103 @@
+-- What all the steps so far have made: the three records of lists, and whether the ring is closed.
+use Rattle.std.specs.Prelude.{ℕ, Bool, true, false, Option, Some, None, length}
+use Rattle.uring_entry.specs.Shape.{Shape}
+use Rattle.uring_entry.specs.Layout.{Entry}
+use Rattle.uring_entry.specs.Submission.{Submission, Call, no_submission, entries_of, places_from, filled, indexed, stored, loaded, begun, took, closed}
+use Rattle.uring_entry.specs.Requests.{Requests, no_request, entry_of, with_call, with_started, with_ended, with_issued_end, no_bytes}
+use Rattle.uring_entry.specs.Completions.{Completions, no_completion, with_end, flushed, with_tail_loaded, with_reaped, with_head_stored}
+use Rattle.uring_machine.specs.declared.steps.Step.{Step}
+use Rattle.uring_machine.specs.declared.steps.Step.TheVariants as step
+use Rattle.uring_machine.specs.declared.answers.Answer.{Answer}
+use Rattle.uring_machine.specs.declared.answers.Answer.TheVariants as answer
+
+pub record World : Type 0 where
+  pub submission : Submission
+  pub requests : Requests
+  pub completions : Completions
+  pub is_closed : Bool
+
+-- nothing has happened
+abbrev pub at_first : World
+at_first = record { submission = no_submission; requests = no_request; completions = no_completion; is_closed = false }
+
+-- A step that was refused, or only answers, makes nothing. What each other makes, by its answer:
+
+abbrev pub filling : World → ℕ → Entry → Answer → World
+filling w slot entry answer.Filled = record w { submission = filled w.submission slot entry }
+filling w slot entry _ = w
+
+abbrev pub staging : World → ℕ → Answer → World
+staging w word answer.Staged = record w { submission = indexed w.submission word }
+staging w word _ = w
+
+abbrev pub beginning : World → ℕ → Answer → World
+beginning w count (answer.Call length) = record w { submission = begun w.submission count }
+beginning w count _ = w
+
+-- the open call takes a position, where a call is open
+abbrev pub taking_of : World → Option Call → World
+taking_of w None = w
+taking_of w (Some call) = record w { submission = took w.submission call }
+
+abbrev pub taking : World → Answer → World
+taking w (answer.Entry entry) = taking_of w w.submission.call
+taking w answer.Dropped = taking_of w w.submission.call
+taking w _ = w
+
+-- the open call closes, and the entries that it took are accepted
+abbrev pub ending_of : World → Option Call → World
+ending_of w None = w
+ending_of w (Some call) =
+    record w {
+      submission = closed w.submission call;
+      requests = with_call w.requests (entries_of (places_from w.submission call.count));
+    }
+
+abbrev pub ending : World → Answer → World
+ending w (answer.Taken accepted dropped head) = ending_of w w.submission.call
+ending w _ = w
+
+-- a request runs, or ends as it is issued
+abbrev pub issuing : Shape → World → ℕ → Answer → World
+issuing g w n answer.Run = record w { requests = with_started w.requests n }
+issuing g w n (answer.Ended res bytes) =
+    record w {
+      requests = with_issued_end w.requests n res;
+      completions = with_end g.cq w.completions (entry_of w.requests n) res no_bytes;
+    }
+issuing g w n _ = w
+
+-- a running request ends
+abbrev pub finishing : Shape → World → ℕ → Answer → World
+finishing g w n (answer.Ended res bytes) =
+    record w {
+      requests = with_ended w.requests n res bytes;
+      completions = with_end g.cq w.completions (entry_of w.requests n) res bytes;
+    }
+finishing g w n _ = w
+
+abbrev pub reaping : World → Answer → World
+reaping w (answer.Reaped completion) = record w { completions = with_reaped w.completions completion }
+reaping w _ = w
+
+abbrev pub closing : World → Answer → World
+closing w answer.Shut = record w { is_closed = true }
+closing w _ = w
+
+-- What a step and its answer make of what there was.
+abbrev pub happens : Shape → World → Step → Answer → World
+happens g w (step.Fill slot entry) a = filling w slot entry a
+happens g w (step.Index word) a = staging w word a
+happens g w step.StoreTail a = record w { submission = stored g.sq w.submission }
+happens g w step.LoadHead a = record w { submission = loaded w.submission }
+happens g w (step.Begin count) a = beginning w count a
+happens g w step.Take a = taking w a
+happens g w step.End a = ending w a
+happens g w (step.Issue n) a = issuing g w n a
+happens g w (step.Finish n) a = finishing g w n a
+happens g w step.Flush a = record w { completions = flushed g.cq w.completions }
+happens g w step.LoadCqTail a = record w { completions = with_tail_loaded w.completions }
+happens g w step.Reap a = reaping w a
+happens g w step.StoreCqHead a = record w { completions = with_head_stored w.completions }
+happens g w step.Close a = closing w a
+happens g w step.Next a = w
