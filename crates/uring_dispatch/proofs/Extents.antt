@@ -6,7 +6,6 @@ use Rattle.std.proofs.lemmas.List.Folds.{list_any_more}
 use Rattle.std.proofs.lemmas.Bool.{cases_lt, and_left, and_right, and_from, le-leb, lt-leb, lt-ltb, le-ltb}
 use Rattle.uring_entry.specs.Layout.{Entry, zero_entry}
 use Rattle.uring_entry.specs.Below.{some_below}
-use Rattle.uring_entry.specs.Requests as spec
 use Rattle.uring_entry.specs.Requests.{Requests, entry_of, is_last, is_linked, is_soft, is_joined, is_in_group, some_member, is_behind_failure}
 use Rattle.uring_entry.proofs.BelowLemmas.{some_below-none, some_below-same, some_below-between}
 use Rattle.uring_entry.proofs.RequestLemmas.{is_joined-yes, is_joined-no}

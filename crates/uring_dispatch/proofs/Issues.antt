@@ -1,17 +1,16 @@
 -- What the issue of a request is answered, by what the code found.
-use Rattle.std.proofs.Common.{◌≡◌, ℕ, ◌<◌, ℤ, pos, negsuc, List, length, Bool, true, false, not, ◌&&◌, ◌||◌, ◌==◌, Option, Some, None, is_some, refl, sym, ◌∙◌, ap, arith, inl, inr}
+use Rattle.std.proofs.Common.{◌≡◌, ℕ, ◌<◌, ℤ, negsuc, List, length, Bool, true, false, not, ◌==◌, Some, None, is_some, refl, sym, ◌∙◌, ap, arith, inl, inr}
 use Rattle.std.specs.Prelude.{if◌then◌else◌}
 use Rattle.std.proofs.lemmas.Bool.{cases_Bool, eqb-true}
 use Rattle.uring_entry.specs.Layout.{Entry, opcode_of, fd_of, off_of, addr_of, len_of, payload_of}
 use Rattle.uring_entry.specs.declared.faults.Fault.{Fault}
 use Rattle.uring_entry.specs.declared.operation.Op.{Op}
 use Rattle.uring_entry.specs.declared.operation.Op.TheVariants.{Nop, Read, Write, Fsync, Cancel}
-use Rattle.uring_entry.specs.declared.opcode.TheConstants.{NOP, FSYNC, ASYNC_CANCEL, READ, WRITE}
+use Rattle.uring_entry.specs.declared.opcode.TheConstants.{NOP, FSYNC, ASYNC_CANCEL, READ}
 use Rattle.uring_entry.specs.Preparation.{fault_of, is_faulty, is_cancel, operation_of}
 use Rattle.uring_entry.specs.Requests.{Requests, entry_of, is_doomed, is_ready, doomed_result, cancel_result}
 use Rattle.uring_entry.proofs.RequestLemmas.{is_doomed-own_fault}
 use Rattle.uring_dispatch.specs.declared.held.Request.{Request}
-use Rattle.uring_dispatch.specs.declared.answers.Issued.{Issued}
 use Rattle.uring_dispatch.specs.declared.answers.Issued.TheVariants.{Run, Ended, NotReady}
 use Rattle.uring_dispatch.specs.Answers.{issued_waiting}
 use Rattle.uring_dispatch.specs.Held.{AreHeld, request_at}

@@ -1,6 +1,5 @@
 -- How many requests are outstanding and running, as the held requests give them.
-use Rattle.std.proofs.Common.{◌≡◌, ℕ, zero, suc, ◌+◌, ◌-◌, ◌<◌, ◌≤◌, List, length, get_or, set, take, Bool, true, false, not, ◌&&◌, ◌||◌, ◌==◌, cond, refl, sym, ◌∙◌, ap, arith}
-use Rattle.std.specs.Prelude.{if◌then◌else◌, nat_lt}
+use Rattle.std.proofs.Common.{◌≡◌, ℕ, zero, suc, ◌+◌, ◌-◌, ◌<◌, ◌≤◌, List, length, set, take, Bool, true, false, not, ◌&&◌, ◌||◌, ◌==◌, cond, refl, sym, ◌∙◌, ap, arith}
 use Rattle.std.specs.List.{count_by}
 use Rattle.std.proofs.lemmas.List.{length-set, take_all}
 use Rattle.std.proofs.lemmas.List.Sums.{sum_by-set, sum_by_more}
@@ -10,9 +9,9 @@ use Rattle.uring_entry.specs.Requests as spec
 use Rattle.uring_entry.specs.Requests.{Requests}
 use Rattle.uring_dispatch.specs.declared.held.Request.{Request}
 use Rattle.uring_dispatch.specs.declared.held.State.{State}
-use Rattle.uring_dispatch.specs.declared.held.State.TheVariants.{Waiting, Running, Succeeded, Failed}
+use Rattle.uring_dispatch.specs.declared.held.State.TheVariants.{Waiting, Succeeded}
 use Rattle.uring_dispatch.specs.Held.{AreHeld, request_at, with_state, chosen, is_over, is_running, in_over, in_running, fresh}
-use Rattle.uring_dispatch.specs.Counts.{count_below, outstanding_in, running_in}
+use Rattle.uring_dispatch.specs.Counts.{count_below}
 use Rattle.uring_dispatch.specs.Dispatcher.{Dispatcher, dispatcher_of, Shows, StandsFor, HasEnded}
 use Rattle.uring_dispatch.proofs.Changes.{by_place}
 

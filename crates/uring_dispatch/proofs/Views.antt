@@ -1,12 +1,12 @@
 -- From what a dispatcher shows to the held requests, and back.
-use Rattle.std.proofs.Common.{◌≡◌, ◌≢◌, ℕ, ◌+◌, ◌-◌, ◌<◌, ◌≤◌, ℤ, List, [], ◌∷◌, ◌++◌, length, get_or, set, Bool, true, false, not, ◌&&◌, ◌||◌, ◌==◌, Option, Some, None, is_some, Result, Ok, Err, refl, sym, ◌∙◌, ap, subst, arith, length-append, inl, inr}
+use Rattle.std.proofs.Common.{◌≡◌, ◌≢◌, ℕ, ◌+◌, ◌-◌, ◌<◌, ◌≤◌, List, [], ◌∷◌, ◌++◌, length, set, true, false, not, ◌&&◌, ◌==◌, Some, None, is_some, Result, Ok, Err, refl, sym, ◌∙◌, ap, subst, arith, length-append, inl, inr}
 use Rattle.std.specs.Prelude.{if◌then◌else◌, IfOk, IfErr}
 use Rattle.std.specs.Result.{result_ok}
 use Rattle.uring_dispatch.specs.declared.answers.Issued.{Issued}
 use Rattle.std.specs.List.{list_any}
 use Rattle.std.proofs.lemmas.List.{get_or_past, length-set}
 use Rattle.std.proofs.Math.Seq.{get_or-append_seam}
-use Rattle.std.proofs.lemmas.Bool.{cases_eq, cases_Bool, and_left, both_ways, false≢true, eq-eqb, ne_eqb, lt-ltb, le-ltb}
+use Rattle.std.proofs.lemmas.Bool.{cases_eq, and_left, both_ways, false≢true, eq-eqb, ne_eqb, lt-ltb, le-ltb}
 use Rattle.uring_entry.specs.Layout.{Entry, zero_entry}
 use Rattle.uring_entry.specs.declared.faults.Fault.{Fault}
 use Rattle.uring_entry.specs.declared.operation.Op.{Op}

@@ -1,4 +1,4 @@
-use Rattle.std.proofs.Common.{◌<◌, sym, ◌∙◌, ap, not, arith, length, below_more}
+use Rattle.std.proofs.Common.{◌<◌, sym, ◌∙◌, ap, not, arith, length}
 use Rattle.uring_entry.specs.Requests.{is_outstanding}
 use Rattle.uring_entry.proofs.BelowLemmas.{least_below-some, least_below-none}
 use Rattle.uring_dispatch.proofs.Standing.{read_at}

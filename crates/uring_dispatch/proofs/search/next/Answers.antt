@@ -1,4 +1,4 @@
-use Rattle.std.proofs.Common.{sym, ◌∙◌, ap, arith, length, below_more}
+use Rattle.std.proofs.Common.{sym, ◌∙◌, arith, length, below_more}
 use Rattle.uring_entry.specs.Requests.{is_issuable}
 use Rattle.uring_entry.proofs.BelowLemmas.{least_below-some, least_below-none}
 use Rattle.uring_dispatch.proofs.search.next.Goals as goal

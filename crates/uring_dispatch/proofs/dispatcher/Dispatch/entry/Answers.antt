@@ -1,7 +1,6 @@
-use Rattle.std.proofs.Common.{◌<◌, length, sym, ◌∙◌, ap, arith}
+use Rattle.std.proofs.Common.{◌<◌, length, sym, ◌∙◌, arith}
 use Rattle.uring_dispatch.proofs.Standing.{read_at}
 use Rattle.uring_dispatch.proofs.Views.{held-from, entry-over, entry-open}
-use Rattle.uring_dispatch.specs.Dispatcher.{Dispatcher}
 use Rattle.uring_dispatch.proofs.dispatcher.Dispatch.entry.Goals as goal
 
 pub returns-then-is_over : goal.returns-then-is_over
