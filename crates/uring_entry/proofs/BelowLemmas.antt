@@ -1,11 +1,6 @@
 -- Searches below a bound: what an answer tells, and what gives it.
-<<<<<<< HEAD
-use Rattle.std.proofs.Common.{◌≡◌, ℕ, zero, suc, ◌<◌, ◌≤◌, Bool, true, false, ◌||◌, Option, Some, None, is_some, cond, refl, sym, ◌∙◌, ap, arith, ◌⊎◌, inl, inr}
-use Rattle.std.proofs.lemmas.Bool.{cases_lt, cases_order, cases_Bool, or_cases, or_parts, or_from, or_left, or_right, both_ways}
-=======
 use Rattle.std.proofs.Common.{◌≡◌, ℕ, zero, suc, ◌<◌, ◌≤◌, Bool, true, false, ◌||◌, Option, Some, None, is_some, refl, sym, ◌∙◌, ap, arith, inl, inr}
 use Rattle.std.proofs.lemmas.Bool.{cases_lt, cases_Bool, or_cases, or_from, or_left, or_right, both_ways}
->>>>>>> dispatch
 use Rattle.uring_entry.specs.Below.{some_below, least_below, found_or}
 
 pub some_below-none : (p : ℕ → Bool) (n : ℕ) → ((k : ℕ) → k < n → p k ≡ false) → some_below p n ≡ false
@@ -33,14 +28,6 @@ some_below-in p (suc n) e =
     elim (or_cases _ _ e) [
       | inl below ↦ let found = some_below-in p n below in (found.0, omega (arith, found.1), found.2)
       | inr here ↦ (n, omega arith, here)
-    ]
-
-pub some_below-in : (p : ℕ → Bool) (n : ℕ) → some_below p n ≡ true → (k : ℕ) × (k < n) × (p k ≡ true)
-some_below-in p zero e = absurd (both_ways false refl e)
-some_below-in p (suc n) e =
-    elim (or_cases _ _ e) [
-      inl below ↦ let found = some_below-in p n below in (found.0, omega (arith, found.1), found.2)
-    | inr here ↦ (n, omega arith, here)
     ]
 
 -- two tests that agree below the bound

@@ -1,15 +1,4 @@
 -- What each event leaves as it was, and who it dooms.
-<<<<<<< HEAD
-use Rattle.std.proofs.Common.{◌≡◌, ◌≢◌, ℕ, zero, suc, ◌+◌, ◌<◌, ◌≤◌, ◌⊎◌, min, max, ℤ, List, [], ◌∷◌, ◌++◌, length, Bool, true, false, not, ◌&&◌, ◌||◌, ◌==◌, leb, Option, Some, refl, sym, ◌∙◌, ap, subst, arith, inl, inr}
-use Rattle.std.specs.List.{list_any}
-use Rattle.std.proofs.lemmas.Bool.{not-true, not-false, cases_lt, cases_eq, cases_Bool, and_parts, and_from, or_cases, or_left, or_right, both_ways, leb-true}
-use Rattle.uring_entry.specs.Layout.{Entry}
-use Rattle.uring_entry.specs.Success.{is_success}
-use Rattle.uring_entry.specs.Below.{some_below}
-use Rattle.uring_entry.specs.Requests.{Requests, entry_of, has_ended, has_failed, is_running, is_last, is_linked, is_soft, is_joined, is_in_group, some_member, is_in_faulty_group, is_draining, is_behind_failure, is_cancelled, is_doomed, is_ready, holds_back, is_candidate, target_of, with_accepted, with_started, with_ended}
-use Rattle.uring_entry.proofs.BelowLemmas.{some_below-some, some_below-in, some_below-same, least_below-tells, IsLeast}
-use Rattle.uring_entry.proofs.RequestLemmas.{is_joined-no, is_doomed-faulty, is_doomed-behind, is_doomed-cancelled, has_failed-unended, has_failed-same, has_failed-other, entry_of-accepted_other}
-=======
 use Rattle.std.proofs.Common.{◌≡◌, ℕ, ◌+◌, ◌<◌, ◌≤◌, ◌⊎◌, ℤ, List, length, Bool, true, false, not, ◌&&◌, ◌||◌, ◌==◌, leb, Some, refl, sym, ◌∙◌, ap, subst, arith, inl, inr}
 use Rattle.std.specs.List.{list_any}
 use Rattle.std.proofs.lemmas.Bool.{not-true, not-false, cases_eq, and_parts, and_from, or_cases, both_ways, leb-true}
@@ -18,7 +7,6 @@ use Rattle.uring_entry.specs.Success.{is_success}
 use Rattle.uring_entry.specs.Requests.{Requests, entry_of, has_ended, has_failed, is_last, is_linked, is_soft, is_joined, is_in_group, some_member, is_in_faulty_group, is_draining, is_behind_failure, is_cancelled, is_doomed, is_candidate, target_of, with_accepted, with_started, with_ended}
 use Rattle.uring_entry.proofs.BelowLemmas.{some_below-some, some_below-in, some_below-same, least_below-tells, IsLeast}
 use Rattle.uring_entry.proofs.RequestLemmas.{is_doomed-faulty, is_doomed-behind, is_doomed-cancelled, has_failed-unended, has_failed-same, has_failed-other, entry_of-accepted_other}
->>>>>>> dispatch
 
 -- What an answer of the definitions tells.
 
@@ -62,13 +50,8 @@ pub is_doomed-tells : (r : Requests) (n : ℕ) → is_doomed r n ≡ true → (i
 unfolding is_doomed
 is_doomed-tells r n e =
     elim (or_cases _ _ e) [
-<<<<<<< HEAD
-      inl group ↦ elim (or_cases _ _ group) [ inl faulty ↦ inl faulty | inr behind ↦ inr (inl behind) ]
-    | inr cancelled ↦ inr (inr cancelled)
-=======
       | inl group ↦ elim (or_cases _ _ group) [ inl faulty ↦ inl faulty | inr behind ↦ inr (inl behind) ]
       | inr cancelled ↦ inr (inr cancelled)
->>>>>>> dispatch
     ]
 
 pub target_of-tells : (r : Requests) (n m : ℕ) → target_of r n ≡ Some m → IsLeast (is_candidate r n) (length r.accepted) m
@@ -108,17 +91,10 @@ is_behind_failure-stays r n res bytes k open_yet e =
     let f = was.1 in
     is_behind_failure-from (with_ended r n res bytes) k was.0
     (record {
-<<<<<<< HEAD
-        before = f.before;
-        joined = is_joined-ended r n res bytes was.0 k ∙ f.joined;
-        soft = f.soft;
-        failed = has_failed-other r n res bytes was.0 (λ same. both_ways _ (has_failed-unended r was.0 (ap (has_ended r) same ∙ open_yet)) f.failed) ∙ f.failed
-=======
       before = f.before;
       joined = is_joined-ended r n res bytes was.0 k ∙ f.joined;
       soft = f.soft;
       failed = has_failed-other r n res bytes was.0 (λ same. both_ways _ (has_failed-unended r was.0 (ap (has_ended r) same ∙ open_yet)) f.failed) ∙ f.failed;
->>>>>>> dispatch
     })
 
 -- the end of n puts behind a failure those that were, and those behind n where it is soft and failed
@@ -128,22 +104,6 @@ is_behind_failure-new r n res bytes k open_yet e =
     let m = is.0 in
     let f = is.1 in
     elim (cases_eq m n) [
-<<<<<<< HEAD
-      inl same ↦
-        inr
-        (let P : ℕ → Type 0 = λ j. IsFailureBefore (with_ended r n res bytes) k j in
-            let g = subst P same f in
-            (g.before, sym (is_joined-ended r n res bytes n k) ∙ g.joined, g.soft, not-true _ (sym (has_failed-same r n res bytes open_yet) ∙ g.failed)))
-    | inr other ↦
-        inl
-        (is_behind_failure-from r k m
-            (record {
-                before = f.before;
-                joined = sym (is_joined-ended r n res bytes m k) ∙ f.joined;
-                soft = f.soft;
-                failed = sym (has_failed-other r n res bytes m other) ∙ f.failed
-            }))
-=======
       | inl same ↦
           inr
           (let P : ℕ → Type 0 = λ j. IsFailureBefore (with_ended r n res bytes) k j in
@@ -158,28 +118,18 @@ is_behind_failure-new r n res bytes k open_yet e =
             soft = f.soft;
             failed = sym (has_failed-other r n res bytes m other) ∙ f.failed;
           }))
->>>>>>> dispatch
     ]
 
 -- who is doomed stays so when another request ends
 pub is_doomed-stays : (r : Requests) (n : ℕ) (res : ℤ) (bytes : List ℕ) (k : ℕ) → has_ended r n ≡ false → is_doomed r k ≡ true → is_doomed (with_ended r n res bytes) k ≡ true
 is_doomed-stays r n res bytes k open_yet e =
     elim (is_doomed-tells r k e) [
-<<<<<<< HEAD
-      inl faulty ↦ is_doomed-faulty (with_ended r n res bytes) k (is_in_faulty_group-ended r n res bytes k ∙ faulty)
-    | inr rest ↦
-        elim rest [
-          inl behind ↦ is_doomed-behind (with_ended r n res bytes) k (is_behind_failure-stays r n res bytes k open_yet behind)
-        | inr cancelled ↦ is_doomed-cancelled (with_ended r n res bytes) k cancelled
-        ]
-=======
       | inl faulty ↦ is_doomed-faulty (with_ended r n res bytes) k (is_in_faulty_group-ended r n res bytes k ∙ faulty)
       | inr rest ↦
           elim rest [
             | inl behind ↦ is_doomed-behind (with_ended r n res bytes) k (is_behind_failure-stays r n res bytes k open_yet behind)
             | inr cancelled ↦ is_doomed-cancelled (with_ended r n res bytes) k cancelled
           ]
->>>>>>> dispatch
     ]
 
 -- An entry that is accepted changes nothing among the earlier requests.
