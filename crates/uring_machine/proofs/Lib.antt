@@ -28,4 +28,3 @@ pub mod Running
 pub mod FileHistory
 pub mod Fitting
 pub mod Following
-pub mod Outstanding

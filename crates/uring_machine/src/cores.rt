@@ -305,11 +305,4 @@ impl Core {
     {
         tell_next(self.dispatch.next())
     }
-
-    /// The least outstanding request.
-    pub(crate) fn least(&self) -> Option<u64>
-        ensures { (h : History) → FitsApart self.now h → result ≡ least_of (world self.now.shape h).requests }
-    {
-        self.dispatch.least()
-    }
 }
