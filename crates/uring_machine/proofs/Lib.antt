@@ -28,3 +28,4 @@ pub mod Running
 pub mod FileHistory
 pub mod Fitting
 pub mod Following
+pub mod WholeLaws
