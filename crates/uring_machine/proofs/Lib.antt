@@ -16,3 +16,5 @@ pub mod FileHistory
 pub mod Fitting
 pub mod Following
 pub mod Outstanding
+pub mod Numbers
+pub mod Settling

@@ -8,10 +8,15 @@ use Rattle.uring_dispatch.specs.Counts.{count_below, outstanding_in}
 -- at most as many as there are numbers
 pub count_below-few : (p : ℕ → Bool) (n : ℕ) → count_below p n ≤ n
 count_below-few p zero = omega arith
-count_below-few p (suc n) = by_test (p n) where
-  by_test : (here : Bool) → count_below p n + (if here then 1 else 0) ≤ suc n
-  by_test true = omega (arith, count_below-few p n)
-  by_test false = omega (arith, count_below-few p n)
+count_below-few p (suc n) =
+    elim (cases_Bool (p n)) [
+      inl here ↦
+        let one : ◌≡◌ {A = ℕ} (cond (p n) 1 0) 1 = ap (λ b. cond b 1 0) here in
+        omega (arith, one, count_below-few p n)
+    | inr other ↦
+        let none : ◌≡◌ {A = ℕ} (cond (p n) 1 0) 0 = ap (λ b. cond b 1 0) other in
+        omega (arith, none, count_below-few p n)
+    ]
 
 -- the count depends on no number but those counted
 count_below-same : (p q : ℕ → Bool) (n : ℕ) → ((k : ℕ) → k < n → p k ≡ q k) → count_below p n ≡ count_below q n
@@ -37,10 +42,20 @@ count_below-less p q (suc n) m lt is isnt same =
 -- none is counted
 count_below-none : (p : ℕ → Bool) (n : ℕ) → count_below p n ≡ 0 → (k : ℕ) → k < n → p k ≡ false
 count_below-none p zero none k lt = absurd (omega arith)
-count_below-none p (suc n) none k lt = by_test (p n) refl none where
-  by_test : (here : Bool) → p n ≡ here → count_below p n + (if here then 1 else 0) ≡ 0 → p k ≡ false
-  by_test true is e = absurd (omega (arith, e))
-  by_test false is e = elim (cases_eq k n) [ inl same ↦ ap p same ∙ is | inr other ↦ count_below-none p n (omega (arith, e)) k (omega arith) ]
+count_below-none p (suc n) none k lt =
+    elim (cases_Bool (p n)) [
+      inl here ↦
+        let one : ◌≡◌ {A = ℕ} (cond (p n) 1 0) 1 = ap (λ b. cond b 1 0) here in
+        absurd (omega (arith, one, none))
+    | inr other ↦ elim (cases_eq k n) [ inl same ↦ ap p same ∙ other | inr differ ↦ count_below-none p n (omega (arith, none)) k (omega arith) ]
+    ]
+
+-- nothing is counted that isn't there
+pub count_below-zero : (p : ℕ → Bool) (n : ℕ) → ((k : ℕ) → k < n → p k ≡ false) → count_below p n ≡ 0
+count_below-zero p zero none = refl
+count_below-zero p (suc n) none =
+    let here : ◌≡◌ {A = ℕ} (cond (p n) 1 0) 0 = ap (λ b. cond b 1 0) (none n (omega arith)) in
+    omega (arith, here, count_below-zero p n (λ k lt. none k (omega arith)))
 
 -- where none is counted, none is outstanding
 pub none_outstanding : (r : Requests) → outstanding_in r ≡ 0 → (n : ℕ) → is_outstanding r n ≡ false
