@@ -1,17 +1,16 @@
 -- What the issue of a request is answered, by what the code found.
-use Rattle.std.proofs.Common.{◌≡◌, ℕ, ◌<◌, ℤ, pos, negsuc, List, length, Bool, true, false, not, ◌&&◌, ◌||◌, ◌==◌, Option, Some, None, is_some, refl, sym, ◌∙◌, ap, arith, inl, inr}
+use Rattle.std.proofs.Common.{◌≡◌, ℕ, ◌<◌, ℤ, negsuc, List, length, Bool, true, false, not, ◌==◌, Some, None, is_some, refl, sym, ◌∙◌, ap, arith, inl, inr}
 use Rattle.std.specs.Prelude.{if◌then◌else◌}
 use Rattle.std.proofs.lemmas.Bool.{cases_Bool, eqb-true}
 use Rattle.uring_entry.specs.Layout.{Entry, opcode_of, fd_of, off_of, addr_of, len_of, payload_of}
 use Rattle.uring_entry.specs.declared.faults.Fault.{Fault}
 use Rattle.uring_entry.specs.declared.operation.Op.{Op}
 use Rattle.uring_entry.specs.declared.operation.Op.TheVariants.{Nop, Read, Write, Fsync, Cancel}
-use Rattle.uring_entry.specs.declared.opcode.TheConstants.{NOP, FSYNC, ASYNC_CANCEL, READ, WRITE}
+use Rattle.uring_entry.specs.declared.opcode.TheConstants.{NOP, FSYNC, ASYNC_CANCEL, READ}
 use Rattle.uring_entry.specs.Preparation.{fault_of, is_faulty, is_cancel, operation_of}
 use Rattle.uring_entry.specs.Requests.{Requests, entry_of, is_doomed, is_ready, doomed_result, cancel_result}
 use Rattle.uring_entry.proofs.RequestLemmas.{is_doomed-own_fault}
 use Rattle.uring_dispatch.specs.declared.held.Request.{Request}
-use Rattle.uring_dispatch.specs.declared.answers.Issued.{Issued}
 use Rattle.uring_dispatch.specs.declared.answers.Issued.TheVariants.{Run, Ended, NotReady}
 use Rattle.uring_dispatch.specs.Answers.{issued_waiting}
 use Rattle.uring_dispatch.specs.Held.{AreHeld, request_at}
@@ -26,12 +25,12 @@ issued-faulty held r n e f h lt is fault =
     let doomed : is_doomed r n ≡ true = is_doomed-own_fault r n (omega (arith, h.count)) faulty in
     sym
     (ap
-        (λ b.
-            if b then Ended (doomed_result r n) else
-            if not (is_ready r n) then NotReady else
-            if is_cancel (entry_of r n) then Ended (cancel_result r n) else Run (operation_of (entry_of r n)))
-        doomed
-        ∙ ap (λ b. Ended (if b then negsuc 21 else negsuc 124)) faulty)
+    (λ b.
+    if b then Ended (doomed_result r n) else
+    if not (is_ready r n) then NotReady else
+    if is_cancel (entry_of r n) then Ended (cancel_result r n) else Run (operation_of (entry_of r n)))
+    doomed
+    ∙ ap (λ b. Ended (if b then negsuc 21 else negsuc 124)) faulty)
 
 pub right-entry : (held : List Request) (r : Requests) (n : ℕ) (e : Entry) → AreHeld held r → e ≡ (request_at held n).entry → fault_of e ≡ None → is_faulty (entry_of r n) ≡ false
 right-entry held r n e h is fault = ap is_faulty (the_entry held r n e h is) ∙ ap is_some fault
@@ -41,9 +40,9 @@ issued-ready : (r : Requests) (n : ℕ) → is_doomed r n ≡ false → is_ready
 issued-ready r n free ready =
     ap
     (λ b.
-        if b then Ended (doomed_result r n) else
-        if not (is_ready r n) then NotReady else
-        if is_cancel (entry_of r n) then Ended (cancel_result r n) else Run (operation_of (entry_of r n)))
+    if b then Ended (doomed_result r n) else
+    if not (is_ready r n) then NotReady else
+    if is_cancel (entry_of r n) then Ended (cancel_result r n) else Run (operation_of (entry_of r n)))
     free
     ∙ ap
     (λ b. if not b then NotReady else if is_cancel (entry_of r n) then Ended (cancel_result r n) else Run (operation_of (entry_of r n)))
@@ -84,11 +83,11 @@ issued-cancel r n res free ready cancel is =
 pub issued-run : (held : List Request) (r : Requests) (n : ℕ) (e : Entry) (op : Op) → AreHeld held r → e ≡ (request_at held n).entry → is_doomed r n ≡ false → is_ready r n ≡ true → op ≡ operation_of e → ((t : ℕ) → op ≡ Cancel t → ⊥) → Run op ≡ issued_waiting r n
 issued-run held r n e op h is free ready does other =
     elim (cases_Bool (is_cancel e)) [
-      inl cancel ↦ absurd (other (addr_of e) (does ∙ cancels e cancel))
-    | inr other_code ↦
-        ap Run (does ∙ ap operation_of (sym (the_entry held r n e h is)))
-        ∙ sym
-        (issued-ready r n free ready
-            ∙ ap (λ b. if b then Ended (cancel_result r n) else Run (operation_of (entry_of r n)))
-            (ap is_cancel (the_entry held r n e h is) ∙ other_code))
+      | inl cancel ↦ absurd (other (addr_of e) (does ∙ cancels e cancel))
+      | inr other_code ↦
+          ap Run (does ∙ ap operation_of (sym (the_entry held r n e h is)))
+          ∙ sym
+          (issued-ready r n free ready
+          ∙ ap (λ b. if b then Ended (cancel_result r n) else Run (operation_of (entry_of r n)))
+          (ap is_cancel (the_entry held r n e h is) ∙ other_code))
     ]

@@ -1,6 +1,5 @@
 -- How many requests are outstanding and running, as the held requests give them.
-use Rattle.std.proofs.Common.{◌≡◌, ℕ, zero, suc, ◌+◌, ◌-◌, ◌<◌, ◌≤◌, List, length, get_or, set, take, Bool, true, false, not, ◌&&◌, ◌||◌, ◌==◌, cond, refl, sym, ◌∙◌, ap, arith}
-use Rattle.std.specs.Prelude.{if◌then◌else◌, nat_lt}
+use Rattle.std.proofs.Common.{◌≡◌, ℕ, zero, suc, ◌+◌, ◌-◌, ◌<◌, ◌≤◌, List, length, set, take, Bool, true, false, not, ◌&&◌, ◌||◌, ◌==◌, cond, refl, sym, ◌∙◌, ap, arith}
 use Rattle.std.specs.List.{count_by}
 use Rattle.std.proofs.lemmas.List.{length-set, take_all}
 use Rattle.std.proofs.lemmas.List.Sums.{sum_by-set, sum_by_more}
@@ -10,9 +9,9 @@ use Rattle.uring_entry.specs.Requests as spec
 use Rattle.uring_entry.specs.Requests.{Requests}
 use Rattle.uring_dispatch.specs.declared.held.Request.{Request}
 use Rattle.uring_dispatch.specs.declared.held.State.{State}
-use Rattle.uring_dispatch.specs.declared.held.State.TheVariants.{Waiting, Running, Succeeded, Failed}
+use Rattle.uring_dispatch.specs.declared.held.State.TheVariants.{Waiting, Succeeded}
 use Rattle.uring_dispatch.specs.Held.{AreHeld, request_at, with_state, chosen, is_over, is_running, in_over, in_running, fresh}
-use Rattle.uring_dispatch.specs.Counts.{count_below, outstanding_in, running_in}
+use Rattle.uring_dispatch.specs.Counts.{count_below}
 use Rattle.uring_dispatch.specs.Dispatcher.{Dispatcher, dispatcher_of, Shows, StandsFor, HasEnded}
 use Rattle.uring_dispatch.proofs.Changes.{by_place}
 
@@ -42,7 +41,7 @@ chosen-counts held m capacity lt =
       outstanding = omega (arith, count_by-set (λ x. not (is_over x)) held m q lt);
       running = omega (arith, count_by-set is_running held m q lt);
       room = ap (λ n. capacity - n) (length-set held m q);
-      between = between-set held m q capacity lt refl
+      between = between-set held m q capacity lt refl;
     }
 
 fewer : (new old was is : ℕ) → new + was ≡ old + is → was ≡ 1 → is ≡ 0 → new + 1 ≡ old
@@ -55,10 +54,10 @@ pub ended-counts : (held : List Request) (n : ℕ) (state : State) (capacity : �
 ended-counts held n state capacity lt waiting over still =
     let q : Request = with_state (request_at held n) state in
     let a : count_by (λ x. not (is_over x)) (set held n q) + cond (not (in_over (request_at held n).state)) 1 0 ≡ count_by (λ x. not (is_over x)) held + cond (not (in_over state)) 1 0 =
-        count_by-set (λ x. not (is_over x)) held n q lt
+    count_by-set (λ x. not (is_over x)) held n q lt
     in
     let b : count_by is_running (set held n q) + cond (in_running (request_at held n).state) 1 0 ≡ count_by is_running held + cond (in_running state) 1 0 =
-        count_by-set is_running held n q lt
+    count_by-set is_running held n q lt
     in
     let was : cond (not (in_over (request_at held n).state)) 1 0 ≡ 1 = ap (λ s. cond (not (in_over s)) 1 0) waiting in
     let is : cond (not (in_over state)) 1 0 ≡ 0 = ap (λ t. cond (not t) 1 0) over in
@@ -69,7 +68,7 @@ ended-counts held n state capacity lt waiting over still =
       outstanding = fewer _ _ _ _ a was is;
       running = same_count _ _ _ _ b ran runs;
       room = omega (arith, length-set held n q);
-      between = between-set held n q capacity lt refl
+      between = between-set held n q capacity lt refl;
     }
 
 -- a cancel ends that chose a request
@@ -77,7 +76,7 @@ pub cancel-counts : (held : List Request) (n m capacity : ℕ) → n < length he
 cancel-counts held n m capacity lt within waiting =
     let after : List Request = set held m (chosen (request_at held m)) in
     let still : (request_at after n).state ≡ Waiting =
-        by_place (λ x. x.state) (λ k. (request_at held k).state) (λ k. (request_at held k).state) held m (chosen (request_at held m)) within (λ k. refl) refl (λ k ne. refl) n ∙ waiting
+    by_place (λ x. x.state) (λ k. (request_at held k).state) (λ k. (request_at held k).state) held m (chosen (request_at held m)) within (λ k. refl) refl (λ k ne. refl) n ∙ waiting
     in
     let there : n < length after = rw (length-set held m (chosen (request_at held m))) lt in
     let choice = chosen-counts held m capacity within in
@@ -87,7 +86,7 @@ cancel-counts held n m capacity lt within waiting =
       outstanding = end.outstanding ∙ choice.outstanding;
       running = end.running ∙ choice.running;
       room = omega (arith, end.room, choice.room);
-      between = end.between ∙ choice.between
+      between = end.between ∙ choice.between;
     }
 
 -- a count of the first held requests is one of the first numbers
@@ -109,13 +108,13 @@ unfolding StandsFor
 shows-held held r capacity h = record {
   accepted = h.count;
   outstanding =
-    counted-all (λ q. not (is_over q)) (spec.is_outstanding r) held
-    (λ k lt.
-        ap not (h.over k)
-        ∙ ap (λ b. b && not (spec.has_ended r k)) (sym (lt-ltb k (length r.accepted) (omega (arith, h.count)))))
-    ∙ ap (count_below (spec.is_outstanding r)) h.count;
+      counted-all (λ q. not (is_over q)) (spec.is_outstanding r) held
+      (λ k lt.
+      ap not (h.over k)
+      ∙ ap (λ b. b && not (spec.has_ended r k)) (sym (lt-ltb k (length r.accepted) (omega (arith, h.count)))))
+      ∙ ap (count_below (spec.is_outstanding r)) h.count;
   running = counted-all is_running (spec.is_running r) held (λ k lt. h.running k) ∙ ap (count_below (spec.is_running r)) h.count;
-  held = h
+  held = h;
 }
 
 pub held-shows : (held : List Request) (r : Requests) (capacity : ℕ) → Shows (dispatcher_of held capacity) r → AreHeld held r

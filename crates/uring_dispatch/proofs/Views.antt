@@ -1,12 +1,12 @@
 -- From what a dispatcher shows to the held requests, and back.
-use Rattle.std.proofs.Common.{◌≡◌, ◌≢◌, ℕ, ◌+◌, ◌-◌, ◌<◌, ◌≤◌, ℤ, List, [], ◌∷◌, ◌++◌, length, get_or, set, Bool, true, false, not, ◌&&◌, ◌||◌, ◌==◌, Option, Some, None, is_some, Result, Ok, Err, refl, sym, ◌∙◌, ap, subst, arith, length-append, inl, inr}
+use Rattle.std.proofs.Common.{◌≡◌, ◌≢◌, ℕ, ◌+◌, ◌-◌, ◌<◌, ◌≤◌, List, [], ◌∷◌, ◌++◌, length, set, true, false, not, ◌&&◌, ◌==◌, Some, None, is_some, Result, Ok, Err, refl, sym, ◌∙◌, ap, subst, arith, length-append, inl, inr}
 use Rattle.std.specs.Prelude.{if◌then◌else◌, IfOk, IfErr}
 use Rattle.std.specs.Result.{result_ok}
 use Rattle.uring_dispatch.specs.declared.answers.Issued.{Issued}
 use Rattle.std.specs.List.{list_any}
 use Rattle.std.proofs.lemmas.List.{get_or_past, length-set}
 use Rattle.std.proofs.Math.Seq.{get_or-append_seam}
-use Rattle.std.proofs.lemmas.Bool.{cases_eq, cases_Bool, and_left, both_ways, false≢true, eq-eqb, ne_eqb, lt-ltb, le-ltb}
+use Rattle.std.proofs.lemmas.Bool.{cases_eq, and_left, both_ways, false≢true, eq-eqb, ne_eqb, lt-ltb, le-ltb}
 use Rattle.uring_entry.specs.Layout.{Entry, zero_entry}
 use Rattle.uring_entry.specs.declared.faults.Fault.{Fault}
 use Rattle.uring_entry.specs.declared.operation.Op.{Op}
@@ -45,7 +45,7 @@ empty-held = record {
   running = λ n. refl;
   over = λ n. refl;
   failed = λ n. refl;
-  sound = λ n e. absurd (false≢true e)
+  sound = λ n e. absurd (false≢true e);
 }
 
 -- past the end nothing is held
@@ -67,9 +67,9 @@ outstanding-past r n le = and_left _ _ (le-ltb n (length r.accepted) le)
 pub by_push : {X : Type 0} (f : Request → X) (was now : ℕ → X) (held : List Request) (q : Request) → ((k : ℕ) → f (request_at held k) ≡ was k) → f q ≡ now (length held) → ((k : ℕ) → k ≢ length held → now k ≡ was k) → (k : ℕ) → f (request_at (held ++ q ∷ []) k) ≡ now k
 by_push f was now held q before here there k =
     elim (cases_eq k (length held)) [
-      inl same ↦
-        ap (λ j. f (request_at (held ++ q ∷ []) j)) same ∙ ap f (get_or-append_seam held q [] (fresh zero_entry)) ∙ here ∙ ap now (sym same)
-    | inr other ↦ ap f (get_or-push_other held q k (fresh zero_entry) other) ∙ before k ∙ sym (there k other)
+      | inl same ↦
+          ap (λ j. f (request_at (held ++ q ∷ []) j)) same ∙ ap f (get_or-append_seam held q [] (fresh zero_entry)) ∙ here ∙ ap now (sym same)
+      | inr other ↦ ap f (get_or-push_other held q k (fresh zero_entry) other) ∙ before k ∙ sym (there k other)
     ]
 
 -- an entry is accepted
@@ -82,28 +82,28 @@ accepted-held held r entry h =
     record {
       count = omega (arith, h.count, length-append held (q ∷ []), length-append r.accepted (entry ∷ []));
       entry =
-        by_push (λ x. x.entry) (entry_of r) (entry_of (with_accepted r entry)) held q h.entry
-        (sym (ap (entry_of (with_accepted r entry)) h.count ∙ entry_of-accepted_at r entry))
-        (λ k ne. entry_of-accepted_other r entry k (λ e. ne (e ∙ sym h.count)));
+          by_push (λ x. x.entry) (entry_of r) (entry_of (with_accepted r entry)) held q h.entry
+          (sym (ap (entry_of (with_accepted r entry)) h.count ∙ entry_of-accepted_at r entry))
+          (λ k ne. entry_of-accepted_other r entry k (λ e. ne (e ∙ sym h.count)));
       ends_call =
-        by_push (λ x. x.ends_call) (λ n. list_any (λ cut. cut == n + 1) r.cuts) (λ n. list_any (λ cut. cut == n + 1) r.cuts) held q h.ends_call
-        (sym (sym (h.ends_call (length held)) ∙ ap (λ (x : Request). x.ends_call) none)) (λ k ne. refl);
+          by_push (λ x. x.ends_call) (λ n. list_any (λ cut. cut == n + 1) r.cuts) (λ n. list_any (λ cut. cut == n + 1) r.cuts) held q h.ends_call
+          (sym (sym (h.ends_call (length held)) ∙ ap (λ (x : Request). x.ends_call) none)) (λ k ne. refl);
       cancelled =
-        by_push (λ x. x.is_cancelled) (spec.is_cancelled r) (spec.is_cancelled r) held q h.cancelled
-        (sym (sym (h.cancelled (length held)) ∙ ap (λ (x : Request). x.is_cancelled) none)) (λ k ne. refl);
+          by_push (λ x. x.is_cancelled) (spec.is_cancelled r) (spec.is_cancelled r) held q h.cancelled
+          (sym (sym (h.cancelled (length held)) ∙ ap (λ (x : Request). x.is_cancelled) none)) (λ k ne. refl);
       running =
-        by_push is_running (spec.is_running r) (spec.is_running r) held q h.running
-        (sym (sym (h.running (length held)) ∙ ap is_running none)) (λ k ne. refl);
+          by_push is_running (spec.is_running r) (spec.is_running r) held q h.running
+          (sym (sym (h.running (length held)) ∙ ap is_running none)) (λ k ne. refl);
       over = by_push is_over (spec.has_ended r) (spec.has_ended r) held q h.over (sym unended) (λ k ne. refl);
       failed =
-        by_push has_failed (spec.has_failed r) (spec.has_failed (with_accepted r entry)) held q h.failed
-        (sym (has_failed-accepted r entry (length held) new_unended ∙ has_failed-unended r (length held) unended))
-        (λ k ne. has_failed-accepted r entry k new_unended);
+          by_push has_failed (spec.has_failed r) (spec.has_failed (with_accepted r entry)) held q h.failed
+          (sym (has_failed-accepted r entry (length held) new_unended ∙ has_failed-unended r (length held) unended))
+          (λ k ne. has_failed-accepted r entry k new_unended);
       sound = λ k e.
-        elim (cases_eq k (length r.accepted)) [
-          inl same ↦ absurd (both_ways _ (running-past held r k h (omega (arith, h.count))) e)
-        | inr other ↦ ap is_faulty (entry_of-accepted_other r entry k other) ∙ h.sound k e
-        ]
+          elim (cases_eq k (length r.accepted)) [
+            | inl same ↦ absurd (both_ways _ (running-past held r k h (omega (arith, h.count))) e)
+            | inr other ↦ ap is_faulty (entry_of-accepted_other r entry k other) ∙ h.sound k e
+          ];
     }
 
 -- a call ends behind the last request
@@ -117,16 +117,16 @@ cut-held held r q h some is =
       count = length-set held n w ∙ h.count;
       entry = by_place (λ x. x.entry) (entry_of r) (entry_of r) held n w lt h.entry (ap (λ (x : Request). x.entry) is ∙ h.entry n) (λ k ne. refl);
       ends_call =
-        by_place (λ x. x.ends_call) (λ k. list_any (λ cut. cut == k + 1) r.cuts) (λ k. list_any (λ cut. cut == k + 1) (r.cuts ++ length r.accepted ∷ [])) held n w lt h.ends_call
-        (sym (added-same (λ cut. cut == n + 1) r.cuts (length r.accepted) (eq-eqb _ _ end)))
-        (λ k ne. added-other (λ cut. cut == k + 1) r.cuts (length r.accepted) (ne_eqb _ _ (λ e. ne (omega (arith, e, end)))));
+          by_place (λ x. x.ends_call) (λ k. list_any (λ cut. cut == k + 1) r.cuts) (λ k. list_any (λ cut. cut == k + 1) (r.cuts ++ length r.accepted ∷ [])) held n w lt h.ends_call
+          (sym (added-same (λ cut. cut == n + 1) r.cuts (length r.accepted) (eq-eqb _ _ end)))
+          (λ k ne. added-other (λ cut. cut == k + 1) r.cuts (length r.accepted) (ne_eqb _ _ (λ e. ne (omega (arith, e, end)))));
       cancelled =
-        by_place (λ x. x.is_cancelled) (spec.is_cancelled r) (spec.is_cancelled r) held n w lt h.cancelled
-        (ap (λ (x : Request). x.is_cancelled) is ∙ h.cancelled n) (λ k ne. refl);
+          by_place (λ x. x.is_cancelled) (spec.is_cancelled r) (spec.is_cancelled r) held n w lt h.cancelled
+          (ap (λ (x : Request). x.is_cancelled) is ∙ h.cancelled n) (λ k ne. refl);
       running = by_place is_running (spec.is_running r) (spec.is_running r) held n w lt h.running (ap is_running is ∙ h.running n) (λ k ne. refl);
       over = by_place is_over (spec.has_ended r) (spec.has_ended r) held n w lt h.over (ap is_over is ∙ h.over n) (λ k ne. refl);
       failed = by_place has_failed (spec.has_failed r) (spec.has_failed r) held n w lt h.failed (ap has_failed is ∙ h.failed n) (λ k ne. refl);
-      sound = h.sound
+      sound = h.sound;
     }
 
 -- What the queries answer.

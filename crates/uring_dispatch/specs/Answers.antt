@@ -1,5 +1,5 @@
 -- What the dispatcher answers, and what becomes of the requests by it.
-use Rattle.std.specs.Prelude.{◌≡◌, ℕ, ℤ, Bool, not, Option, Some, None, List, if◌then◌else◌}
+use Rattle.std.specs.Prelude.{ℕ, not, Option, Some, None, if◌then◌else◌}
 use Rattle.uring_entry.specs.Layout.{Entry}
 use Rattle.uring_entry.specs.Preparation.{is_cancel, operation_of}
 use Rattle.uring_entry.specs.Requests.{Requests, entry_of, is_outstanding, is_running, is_doomed, is_ready, doomed_result, cancel_result, with_started, with_ended, with_issued_end}

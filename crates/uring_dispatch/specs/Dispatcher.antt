@@ -5,7 +5,7 @@ use Rattle.uring_dispatch.specs.declared.held.Request.{Request}
 use Rattle.uring_dispatch.specs.Held.{AreHeld, request_at, is_over, is_running}
 use Rattle.uring_dispatch.specs.Counts.{outstanding_in, running_in}
 use Rattle.uring_dispatch.specs.declared.answers.Issued.{Issued}
-use Rattle.uring_dispatch.specs.declared.answers.Issued.TheVariants.{Run, Ended, NotReady, Running, Unknown}
+use Rattle.uring_dispatch.specs.declared.answers.Issued.TheVariants.{Run, Ended}
 use Rattle.uring_dispatch.specs.declared.answers.Finished.{Finished}
 use Rattle.uring_dispatch.specs.declared.answers.Finished.TheVariants as finish
 
@@ -35,7 +35,7 @@ dispatcher_of held capacity = record {
   running = count_by is_running held;
   room = capacity - length held;
   is_between_calls = (length held == 0) || (request_at held (length held - 1)).ends_call;
-  held = held
+  held = held;
 }
 
 -- what is kept stands for these requests

@@ -3,16 +3,13 @@ ghost use Rattle.uring_entry.specs.Requests.{Requests, no_request, with_accepted
 ghost use Rattle.uring_dispatch.specs.Answers.{issued, after_issue, finished, after_finish, operation_running, entry_outstanding};
 ghost use Rattle.uring_dispatch.specs.Counts.{outstanding_in, running_in};
 
-use std::alloc::Global;
-use std::marker::Model;
-
-use uring_entry::{Op, Outcome, Sqe, prepare};
-
 use crate::answers::{Finished, Issued};
-use crate::events;
 use crate::held::Request;
 use crate::refusal::ReserveError;
-use crate::search;
+use crate::{events, search};
+use std::alloc::Global;
+use std::marker::Model;
+use uring_entry::{Op, Outcome, Sqe, prepare};
 
 /// The requests that were accepted, numbered from 0 in the order of their acceptance, with what was made of them.
 ///
@@ -122,7 +119,7 @@ impl Dispatch {
         if n >= self.accepted() {
             return None;
         }
-        let request = self.requests[n as usize];
+        let request = &self.requests[n as usize];
         if request.is_running() {
             prepare(&request.entry).ok()
         } else {
@@ -138,7 +135,7 @@ impl Dispatch {
         if n >= self.accepted() {
             return None;
         }
-        let request = self.requests[n as usize];
+        let request = &self.requests[n as usize];
         if request.is_over() {
             None
         } else {
@@ -176,7 +173,10 @@ impl Dispatch {
         ensures value { result ≡ self.now.outstanding }
         ensures shown { (r : Requests) → Shows self.now r → result ≡ outstanding_in r }
     {
-        self.requests.iter().filter(|request| !request.is_over()).count() as u64
+        self.requests
+            .iter()
+            .filter(|request| !request.is_over())
+            .count() as u64
     }
 
     /// How many of them were started and haven't ended.
@@ -185,6 +185,9 @@ impl Dispatch {
         ensures value { result ≡ self.now.running }
         ensures shown { (r : Requests) → Shows self.now r → result ≡ running_in r }
     {
-        self.requests.iter().filter(|request| request.is_running()).count() as u64
+        self.requests
+            .iter()
+            .filter(|request| request.is_running())
+            .count() as u64
     }
 }

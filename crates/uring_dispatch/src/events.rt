@@ -8,13 +8,12 @@ ghost use Rattle.uring_dispatch.specs.Answers.{issued, issued_waiting, after_iss
 ghost use Rattle.uring_dispatch.specs.Dispatcher.{dispatcher_of, HasEndedCall, HasEnded, IssueCounts, FinishCounts};
 ghost use Rattle.uring_dispatch.specs.Held.{AreHeld, request_at, with_state, chosen, ended_state};
 
-use uring_entry::{Op, Outcome, errno, prepare, succeeded};
-
 use crate::answers::{Finished, Issued};
 use crate::doom::is_doomed;
 use crate::held::{Request, State};
 use crate::readiness::is_ready;
 use crate::target::target;
+use uring_entry::{Op, Outcome, errno, prepare, succeeded};
 
 /// Notes that a submission call closed behind the last request.
 pub(crate) fn end_call(requests: &mut [Request])
@@ -94,11 +93,12 @@ pub(crate) fn finish(requests: &mut [Request], n: usize, outcome: Outcome) -> Fi
     ensures held { (r : Requests) → AreHeld requests.old r → AreHeld requests.new (after_finish r n outcome result) }
     ensures counts { (capacity : ℕ) → FinishCounts result (dispatcher_of requests.old capacity) (dispatcher_of requests.new capacity) }
 {
-    let request = requests[n];
+    let request = &requests[n];
     if !request.is_running() {
         return Finished::NotRunning;
     }
-    set_state(requests, n, end_state(succeeded(&request.entry, outcome.res)));
+    let state = end_state(succeeded(&request.entry, outcome.res));
+    set_state(requests, n, state);
     Finished::Ended
 }
 

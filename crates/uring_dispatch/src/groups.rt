@@ -7,9 +7,8 @@ ghost use Rattle.uring_entry.specs.Requests as spec;
 ghost use Rattle.uring_entry.specs.Preparation.{is_faulty};
 ghost use Rattle.uring_dispatch.specs.Held.{AreHeld, BeginsGroup, EndsGroup, IsGroup};
 
-use uring_entry::prepare;
-
 use crate::held::{Request, is_drain};
+use uring_entry::prepare;
 
 /// The first member of the group of request `n`.
 pub(crate) fn group_start(requests: &[Request], n: usize) -> usize
@@ -70,5 +69,7 @@ fn has_drain(requests: &[Request]) -> bool
 fn has_fault(requests: &[Request]) -> bool
     ensures { result ≡ list_any (λ q. is_faulty q.entry) requests.now }
 {
-    requests.iter().any(|request| prepare(&request.entry).is_err())
+    requests
+        .iter()
+        .any(|request| prepare(&request.entry).is_err())
 }

@@ -40,8 +40,7 @@ fn holds_back(requests: &[Request], m: usize, is_awaited: bool) -> bool
     requires { m < length requests.now }
     ensures { (r : Requests) → AreHeld requests.now r → result ≡ (not (spec.has_ended r m) && (is_awaited || spec.is_draining r m)) }
 {
-    let request = requests[m];
-    !request.is_over() && (is_awaited || is_draining(requests, m))
+    !requests[m].is_over() && (is_awaited || is_draining(requests, m))
 }
 
 /// Whether something can be done with request `n`: it is to end as doomed, or may start.
@@ -49,6 +48,6 @@ pub(crate) fn is_issuable(requests: &[Request], n: usize) -> bool
     requires { n < length requests.now }
     ensures { (r : Requests) → AreHeld requests.now r → result ≡ spec.is_issuable r n }
 {
-    let request = requests[n];
+    let request = &requests[n];
     !request.is_over() && !request.is_running() && (is_doomed(requests, n) || is_ready(requests, n))
 }

@@ -1,3 +1,6 @@
+ghost use Rattle.std.specs.Prelude.{Some};
+ghost use Rattle.uring_dispatch.specs.Texts.{refusal_text};
+
 use std::error::Error;
 use std::fmt;
 
@@ -12,6 +15,8 @@ pub enum ReserveError {
 }
 
 impl fmt::Display for ReserveError {
+    ghost output = { λ refusal. Some (refusal_text refusal) };
+
     fn fmt<W: fmt::Write>(&self, f: &mut fmt::Formatter<W>) -> fmt::Result {
         f.write_str(match self {
             ReserveError::Spent => "the numbers of requests are spent",

@@ -28,8 +28,8 @@ fn is_candidate(requests: &[Request], n: usize, m: usize) -> bool
     requires target { m < length requests.now }
     ensures { (r : Requests) → AreHeld requests.now r → result ≡ spec.is_candidate r n m }
 {
-    let cancel = requests[n];
-    let request = requests[m];
+    let cancel = &requests[n];
+    let request = &requests[m];
     !request.is_over()
         && m != n
         && request.entry.user_data() == cancel.entry.addr()

@@ -2,19 +2,21 @@
 
 ghost use Rattle.std.specs.Prelude.{IsTrue};
 
-use std::process::Abort;
-use std::test::Fail;
-
-use uring_entry::{Op, Outcome, Sqe};
-
 use crate::answers::{Finished, Issued};
 use crate::dispatcher::Dispatch;
 use crate::refusal::ReserveError;
+use std::process::Abort;
+use std::test::Fail;
+use uring_entry::{Op, Outcome, Sqe};
 
 const NO_FLAGS: u8 = 0;
+
 const DRAIN: u8 = 2;
+
 const LINK: u8 = 4;
+
 const HARDLINK: u8 = 8;
+
 const SKIP: u8 = 64;
 
 /// An entry of a row: its user data and flags, and what else it names.
@@ -108,7 +110,10 @@ static ROWS: [Row; 11] = [
     Row {
         name: "hard_wins_over_soft",
         steps: &[
-            Step::Call(&[Entry::Read(1, LINK | HARDLINK, 4), Entry::Write(2, NO_FLAGS)]),
+            Step::Call(&[
+                Entry::Read(1, LINK | HARDLINK, 4),
+                Entry::Write(2, NO_FLAGS),
+            ]),
             Step::Issue(1, Want::NotReady),
             Step::Issue(0, Want::Run),
             Step::Finish(0, 0),
@@ -259,15 +264,32 @@ fn finish(dispatch: &mut Dispatch, n: u64, res: i32) -> Finished
 }
 
 /// Makes a step of this row.
-fn take(rt: &impl Abort, dispatch: &mut Dispatch, name: &str, step: Step) -> Result<(), ReserveError>
+fn take(
+    rt: &impl Abort,
+    dispatch: &mut Dispatch,
+    name: &str,
+    step: Step,
+) -> Result<(), ReserveError>
     requires { IsTrue dispatch.old.is_between_calls }
     ensures { IsTrue dispatch.new.is_between_calls }
 {
     match step {
         Step::Call(entries) => call(dispatch, entries)?,
-        Step::Issue(n, want) => assert_eq!(rt; issue(dispatch, n), Some(want), "{name} at {step:?}"),
-        Step::Finish(n, res) => assert_eq!(rt; finish(dispatch, n, res), Finished::Ended, "{name} at {step:?}"),
-        Step::NotRunning(n) => assert_eq!(rt; finish(dispatch, n, 0), Finished::NotRunning, "{name} at {step:?}"),
+        Step::Issue(n, want) => assert_eq!(rt;
+            issue(dispatch, n),
+            Some(want),
+            "{name} at {step:?}"
+        ),
+        Step::Finish(n, res) => assert_eq!(rt;
+            finish(dispatch, n, res),
+            Finished::Ended,
+            "{name} at {step:?}"
+        ),
+        Step::NotRunning(n) => assert_eq!(rt;
+            finish(dispatch, n, 0),
+            Finished::NotRunning,
+            "{name} at {step:?}"
+        ),
         Step::Next(want) => assert_eq!(rt; dispatch.next(), want, "{name} at {step:?}"),
     }
     Ok(())
@@ -315,8 +337,14 @@ fn each_call(rt: HostRuntime) -> Result<(), Fail> {
 #[test]
 fn refused_reserves(rt: HostRuntime) {
     let mut dispatch = Dispatch::new(rt.alloc());
-    assert_eq!(rt; dispatch.reserve(Dispatch::MAX_ACCEPTED + 1), Err(ReserveError::Spent));
-    assert_eq!(rt; dispatch.reserve(Dispatch::MAX_ACCEPTED), Err(ReserveError::NoMemory));
+    assert_eq!(rt;
+        dispatch.reserve(Dispatch::MAX_ACCEPTED + 1),
+        Err(ReserveError::Spent)
+    );
+    assert_eq!(rt;
+        dispatch.reserve(Dispatch::MAX_ACCEPTED),
+        Err(ReserveError::NoMemory)
+    );
     assert_eq!(rt; dispatch.reserve(0), Ok(()));
     assert_eq!(rt; dispatch.accepted(), 0);
 }

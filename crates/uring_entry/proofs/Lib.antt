@@ -3,3 +3,4 @@ pub mod Powers
 pub mod Shapes
 pub mod BelowLemmas
 pub mod RequestLemmas
+pub mod EventLemmas

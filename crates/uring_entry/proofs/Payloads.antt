@@ -1,9 +1,9 @@
 -- The 64 bytes of data and the eight words that hold them.
-use Rattle.std.proofs.Common.{◌≡◌, ℕ, ◌+◌, ◌-◌, ◌*◌, ◌<◌, ◌≤◌, ◌∙◌, sym, refl, ap, subst, List, [], ◌∷◌, ◌++◌, length, take, drop, get_or, set, replicate, arith}
+use Rattle.std.proofs.Common.{◌≡◌, ℕ, ◌+◌, ◌*◌, ◌<◌, ◌∙◌, sym, ap, subst, List, [], ◌∷◌, ◌++◌, length, take, drop, set, arith}
 use Rattle.std.proofs.lemmas.Grind.{common_steps, flat_map-append}
 use Rattle.std.proofs.lemmas.List.{take_more_set, drop-take, take-append-drop}
 use Rattle.std.specs.Int.{w64, to_le_bytes}
-use Rattle.uring_entry.specs.Layout.{bytes_of, padded}
+use Rattle.uring_entry.specs.Layout.{bytes_of}
 
 -- eight words and 64 bytes are all of both
 pub all_taken : (i : ℕ) (bytes words : List ℕ) → i ≡ 8 → length bytes ≡ 64 → length words ≡ 8 → take (8 * i) bytes ≡ bytes_of (take i words) → bytes ≡ bytes_of words

@@ -1,17 +1,16 @@
 -- What the definitions on requests mean, and what each event changes in them.
-use Rattle.std.proofs.Common.{◌≡◌, ℕ, zero, suc, ◌+◌, ◌<◌, ◌≤◌, min, max, ℤ, List, [], ◌∷◌, ◌++◌, length, get_or, Bool, true, false, not, ◌&&◌, ◌||◌, eqb, leb, ltb, Option, Some, None, length-append, ◌==◌, ◌≢◌, refl, sym, ◌∙◌, ap, arith, ◌⊎◌, inl, inr}
+use Rattle.std.proofs.Common.{◌≡◌, ℕ, ◌<◌, ◌≤◌, min, max, ℤ, List, [], ◌∷◌, ◌++◌, length, get_or, Bool, true, false, not, ◌&&◌, ◌||◌, leb, Some, None, length-append, ◌==◌, ◌≢◌, refl, sym, ◌∙◌, ap, arith, inl, inr}
 use Rattle.std.specs.List.{list_any}
 use Rattle.std.proofs.Math.ListN.{get_or-append}
 use Rattle.std.proofs.Math.Seq.{get_or-append_seam}
 use Rattle.std.proofs.lemmas.List.{get_or_past}
-use Rattle.std.proofs.lemmas.List.Folds.{list_any-append, list_any_none}
-use Rattle.std.proofs.lemmas.Bool.{cases_lt, cases_order, cases_eq, cases_Bool, and_left, and_right, and_from, and_parts, and_cases, or_parts, or_from, or_left, or_right, both_ways, le-leb, lt-leb, lt-ltb, le-ltb, eq-eqb, ne_eqb, not-true, not-false}
+use Rattle.std.proofs.lemmas.List.Folds.{list_any-append}
+use Rattle.std.proofs.lemmas.Bool.{cases_lt, cases_eq, cases_Bool, and_left, and_right, and_from, and_cases, or_parts, or_from, or_left, or_right, both_ways, le-leb, lt-leb, lt-ltb, eq-eqb, ne_eqb, not-false}
 use Rattle.uring_entry.specs.Layout.{Entry, zero_entry}
 use Rattle.uring_entry.specs.Success.{is_success}
-use Rattle.uring_entry.specs.Below.{some_below, least_below}
-use Rattle.uring_entry.specs.Requests.{Requests, Ending, entry_of, has_started, has_ended, has_failed, is_running, is_outstanding, is_soft, is_last, is_joined, is_in_group, some_member, is_in_faulty_group, is_behind_failure, is_cancelled, is_doomed, is_ready, holds_back, is_issuable, is_draining, is_candidate, target_of, least_of, with_accepted, with_started, with_ended, with_issued_end, with_cut, chosen_by}
+use Rattle.uring_entry.specs.Requests.{Requests, entry_of, has_started, has_ended, has_failed, is_running, is_outstanding, is_last, is_joined, is_in_group, some_member, is_in_faulty_group, is_behind_failure, is_cancelled, is_doomed, is_ready, holds_back, is_issuable, is_candidate, target_of, least_of, with_accepted, with_started, with_ended}
 use Rattle.uring_entry.specs.Preparation.{is_faulty}
-use Rattle.uring_entry.proofs.BelowLemmas.{some_below-none, some_below-some, some_below-out, some_below-same, least_below-none, least_below-some, least_below-tells, IsLeast}
+use Rattle.uring_entry.proofs.BelowLemmas.{some_below-none, some_below-some, least_below-none, least_below-some, least_below-tells, IsLeast}
 
 -- Groups.
 
@@ -29,10 +28,9 @@ is_joined-no r m n k le lt e = ap not (some_below-some (λ j. leb m j && is_last
 pub is_joined-inside : (r : Requests) (m n k : ℕ) → is_joined r m n ≡ true → m ≤ k → k < n → is_last r k ≡ false
 is_joined-inside r m n k joined le lt =
     elim (cases_Bool (is_last r k)) [
-      inl last ↦ absurd (both_ways _ (is_joined-no r m n k le lt last) joined)
-    | inr inside ↦ inside
+      | inl last ↦ absurd (both_ways _ (is_joined-no r m n k le lt last) joined)
+      | inr inside ↦ inside
     ]
-
 
 or-false : (b : Bool) → (b || false) ≡ b
 or-false true = refl
@@ -86,8 +84,8 @@ is_ready-no r n m lt e = ap not (some_below-some (holds_back r n) n m lt e)
 pub is_ready-inside : (r : Requests) (n m : ℕ) → is_ready r n ≡ true → m < n → holds_back r n m ≡ false
 is_ready-inside r n m ready lt =
     elim (cases_Bool (holds_back r n m)) [
-      inl back ↦ absurd (both_ways _ (is_ready-no r n m lt back) ready)
-    | inr free ↦ free
+      | inl back ↦ absurd (both_ways _ (is_ready-no r n m lt back) ready)
+      | inr free ↦ free
     ]
 
 -- What a cancel chooses.
@@ -104,8 +102,8 @@ target_of-some r n m lt e before = least_below-some (is_candidate r n) (length r
 ended-before : (r : Requests) (n m : ℕ) → IsLeast (is_outstanding r) (length r.accepted) n → m < n → has_ended r m ≡ true
 ended-before r n m least lt =
     elim (and_cases _ _ (least.before m lt)) [
-      inl out ↦ absurd (both_ways _ out (lt-ltb m (length r.accepted) (omega (arith, least.below))))
-    | inr over ↦ not-false _ over
+      | inl out ↦ absurd (both_ways _ out (lt-ltb m (length r.accepted) (omega (arith, least.below))))
+      | inr over ↦ not-false _ over
     ]
 
 -- the least outstanding request is running, or can be issued
@@ -114,10 +112,10 @@ least_of-goes_on r n e =
     let least = least_below-tells (is_outstanding r) (length r.accepted) n e in
     let ready = is_ready-yes r n (λ m lt. and_left _ _ (ap not (ended-before r n m least lt))) in
     elim (cases_Bool (is_running r n)) [
-      inl running ↦ or_left _ _ running
-    | inr still ↦
-        or_right _ _
-        (and_from _ _ (and_from _ _ least.holds (ap not still)) (or_right _ _ ready))
+      | inl running ↦ or_left _ _ running
+      | inr still ↦
+          or_right _ _
+          (and_from _ _ (and_from _ _ least.holds (ap not still)) (or_right _ _ ready))
     ]
 
 -- What each event changes.
@@ -175,9 +173,9 @@ has_failed-other r n res bytes k ne =
 pub get_or-push_other : {X : Type 0} (xs : List X) (x : X) (k : ℕ) (d : X) → k ≢ length xs → get_or (xs ++ x ∷ []) k d ≡ get_or xs k d
 get_or-push_other xs x k d ne =
     elim (cases_lt k (length xs)) [
-      inl low ↦ get_or-append xs (x ∷ []) d k low
-    | inr high ↦
-        get_or_past (xs ++ x ∷ []) k d (omega (arith, length-append xs (x ∷ []))) ∙ sym (get_or_past xs k d high)
+      | inl low ↦ get_or-append xs (x ∷ []) d k low
+      | inr high ↦
+          get_or_past (xs ++ x ∷ []) k d (omega (arith, length-append xs (x ∷ []))) ∙ sym (get_or_past xs k d high)
     ]
 
 pub entry_of-accepted_at : (r : Requests) (entry : Entry) → entry_of (with_accepted r entry) (length r.accepted) ≡ entry
@@ -189,9 +187,9 @@ entry_of-accepted_other r entry k ne = get_or-push_other r.accepted entry k zero
 pub has_failed-accepted : (r : Requests) (entry : Entry) (k : ℕ) → has_ended r (length r.accepted) ≡ false → has_failed (with_accepted r entry) k ≡ has_failed r k
 has_failed-accepted r entry k none =
     elim (cases_eq k (length r.accepted)) [
-      inl same ↦
-        let unended = ap (has_ended r) same ∙ none in
-        has_failed-unended (with_accepted r entry) k unended ∙ sym (has_failed-unended r k unended)
-    | inr other ↦
-        ap (λ e. list_any (λ x. (x.number == k) && not (is_success e x.res)) r.ended) (entry_of-accepted_other r entry k other)
+      | inl same ↦
+          let unended = ap (has_ended r) same ∙ none in
+          has_failed-unended (with_accepted r entry) k unended ∙ sym (has_failed-unended r k unended)
+      | inr other ↦
+          ap (λ e. list_any (λ x. (x.number == k) && not (is_success e x.res)) r.ended) (entry_of-accepted_other r entry k other)
     ]

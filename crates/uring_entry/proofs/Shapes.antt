@@ -1,5 +1,5 @@
 -- What a set-up refuses.
-use Rattle.std.proofs.Common.{◌≡◌, ℕ, ◌<◌, ◌≤◌, ◌⊎◌, inl, inr, subst, arith, Option, Some, None, IsNone}
+use Rattle.std.proofs.Common.{◌≡◌, ℕ, ◌≤◌, inl, inr, subst, arith, Option, Some, None, IsNone}
 use Rattle.std.specs.Int.{IsNextPowerOfTwo}
 use Rattle.uring_entry.specs.Shape.{IsOutside, IsBadCq}
 use Rattle.uring_entry.proofs.Powers.{rounded_once}

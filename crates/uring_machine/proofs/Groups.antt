@@ -1,19 +1,18 @@
 -- A call accepts entries, and closes: what stands before it stays.
-use Rattle.std.proofs.Common.{◌≡◌, ◌≢◌, ℕ, zero, suc, ◌+◌, ◌-◌, ◌==◌, ◌<◌, ◌≤◌, min, max, ℤ, neg_ℤ, if◌then◌else◌, List, [], ◌∷◌, ◌++◌, length, Bool, true, false, not, ◌&&◌, ◌||◌, eqb, leb, ltb, Option, Some, None, get_or, cond, refl, sym, subst, ◌∙◌, ap, arith, ◌⊎◌, inl, inr}
+use Rattle.std.proofs.Common.{◌≡◌, ℕ, ◌+◌, ◌-◌, ◌==◌, ◌<◌, ◌≤◌, min, max, neg_ℤ, if◌then◌else◌, List, [], ◌∷◌, length, Bool, true, false, not, ◌&&◌, ◌||◌, leb, refl, sym, subst, ◌∙◌, ap, arith, ◌⊎◌, inl, inr}
 use Rattle.std.specs.List.{list_any}
 use Rattle.std.specs.Ordering.{int_eq}
 use Rattle.uring_entry.specs.declared.errno.TheConstants.{EINVAL, ECANCELED}
-use Rattle.std.proofs.lemmas.Bool.{cases_lt, cases_eq, cases_Bool, and_parts, and_cases, and_from, and_left, and_right, or_cases, or_parts, or_from, or_left, or_right, both_ways, eqb-true, eqb-false, eq-eqb, ne_eqb, ltb-true, lt-ltb, leb-true, le-leb, not-true, not-false}
-use Rattle.std.proofs.lemmas.List.{length-append, get_or_append_left, nil_from_length}
-use Rattle.std.proofs.lemmas.List.Folds.{list_any-append}
+use Rattle.std.proofs.lemmas.Bool.{and_left, or_right, eq-eqb, ne_eqb}
+use Rattle.std.proofs.lemmas.List.{length-append, get_or_append_left}
 use Rattle.uring_entry.specs.Layout.{Entry, zero_entry}
 use Rattle.uring_entry.specs.Success.{is_success}
 use Rattle.uring_entry.specs.Preparation.{is_faulty}
-use Rattle.uring_entry.specs.Below.{some_below}
-use Rattle.uring_entry.specs.Requests.{Requests, Ending, entry_of, has_started, has_ended, has_failed, is_soft, is_last, is_linked, is_joined, is_in_group, some_member, is_draining, is_in_faulty_group, is_behind_failure, is_cancelled, is_doomed, doomed_result, with_call}
+use Rattle.uring_entry.specs.Requests.{Requests, entry_of, has_failed, is_soft, is_last, is_linked, is_joined, is_in_group, some_member, is_in_faulty_group, is_behind_failure, is_cancelled, is_doomed, with_call}
 use Rattle.uring_entry.proofs.BelowLemmas.{some_below-same, some_below-between}
-use Rattle.uring_entry.proofs.RequestLemmas.{is_joined-no, is_joined-yes, is_joined-inside}
-use Rattle.uring_machine.proofs.SoundRequests.{IsSoundRequests, IsFree, EndsDoomed, any_kept, any_push, is_otherwise}
+use Rattle.uring_entry.proofs.RequestLemmas.{is_joined-no}
+use Rattle.uring_machine.proofs.SoundRequests.{IsSoundRequests, IsFree, EndsDoomed}
+use Rattle.uring_machine.proofs.ListCounts.{any_kept, any_push}
 
 module _ (r : Requests) (entries : List Entry) (cut : (length r.accepted ≡ 0) ⊎ (list_any (λ c. c == length r.accepted) r.cuts ≡ true)) where
   pub longer : length r.accepted ≤ length (with_call r entries).accepted
@@ -26,8 +25,8 @@ module _ (r : Requests) (entries : List Entry) (cut : (length r.accepted ≡ 0) 
   last_before : (k : ℕ) → k + 1 ≡ length r.accepted → is_last (with_call r entries) k ≡ true
   last_before k end =
       elim cut [
-        inl none ↦ absurd (omega arith)
-      | inr there ↦ or_right _ _ (any_kept (λ c. c == k + 1) r.cuts (length (with_call r entries).accepted ∷ []) (subst (λ n. list_any (λ c. c == n) r.cuts ≡ true) (sym end) there))
+        | inl none ↦ absurd (omega arith)
+        | inr there ↦ or_right _ _ (any_kept (λ c. c == k + 1) r.cuts (length (with_call r entries).accepted ∷ []) (subst (λ n. list_any (λ c. c == n) r.cuts ≡ true) (sym end) there))
       ]
 
   last_kept : (k : ℕ) → k + 1 < length r.accepted → is_last (with_call r entries) k ≡ is_last r k
@@ -35,9 +34,9 @@ module _ (r : Requests) (entries : List Entry) (cut : (length r.accepted ≡ 0) 
       let l = longer in
       ap (λ e. not (is_linked e) || list_any (λ c. c == k + 1) (with_call r entries).cuts) (entry_kept k (omega arith))
       ∙ ap (λ b. not (is_linked (entry_of r k)) || b) (any_push (λ c. c == k + 1) r.cuts (length (with_call r entries).accepted) ∙ or_none _ _ (ne_eqb _ _ (λ same. omega arith))) where
-    or_none : (x y : Bool) → y ≡ false → (x || y) ≡ x
-    or_none true y e = refl
-    or_none false y e = e
+        or_none : (x y : Bool) → y ≡ false → (x || y) ≡ x
+        or_none true y e = refl
+        or_none false y e = e
 
   pub join_kept : (m n : ℕ) → n < length r.accepted → is_joined (with_call r entries) m n ≡ is_joined r m n
   unfolding is_joined
@@ -57,9 +56,9 @@ module _ (r : Requests) (entries : List Entry) (cut : (length r.accepted ≡ 0) 
   unfolding some_member
   member_kept p n below =
       some_below-between (λ m. is_in_group (with_call r entries) m n && p (entry_of (with_call r entries) m)) (length r.accepted) (length (with_call r entries).accepted) longer
-        (λ k le lt. and_left _ _ (group_apart k n le below))
+      (λ k le lt. and_left _ _ (group_apart k n le below))
       ∙ some_below-same (λ m. is_in_group (with_call r entries) m n && p (entry_of (with_call r entries) m)) (λ m. is_in_group r m n && p (entry_of r m)) (length r.accepted)
-          (λ k lt. ap (λ b. b && p (entry_of (with_call r entries) k)) (group_kept k n lt below) ∙ ap (λ e. is_in_group r k n && p e) (entry_kept k lt))
+      (λ k lt. ap (λ b. b && p (entry_of (with_call r entries) k)) (group_kept k n lt below) ∙ ap (λ e. is_in_group r k n && p e) (entry_kept k lt))
 
   failed_kept : (k : ℕ) → k < length r.accepted → has_failed (with_call r entries) k ≡ has_failed r k
   failed_kept k lt = ap (λ e. list_any (λ x. (x.number == k) && not (is_success e x.res)) r.ended) (entry_kept k lt)
@@ -68,10 +67,10 @@ module _ (r : Requests) (entries : List Entry) (cut : (length r.accepted ≡ 0) 
   unfolding is_behind_failure
   behind_kept n below =
       some_below-same (λ m. is_joined (with_call r entries) m n && is_soft (entry_of (with_call r entries) m) && has_failed (with_call r entries) m) (λ m. is_joined r m n && is_soft (entry_of r m) && has_failed r m) n
-        (λ k lt.
-          ap (λ b. b && is_soft (entry_of (with_call r entries) k) && has_failed (with_call r entries) k) (join_kept k n below)
-          ∙ ap (λ e. is_joined r k n && is_soft e && has_failed (with_call r entries) k) (entry_kept k (omega arith))
-          ∙ ap (λ b. is_joined r k n && is_soft (entry_of r k) && b) (failed_kept k (omega arith)))
+      (λ k lt.
+      ap (λ b. b && is_soft (entry_of (with_call r entries) k) && has_failed (with_call r entries) k) (join_kept k n below)
+      ∙ ap (λ e. is_joined r k n && is_soft e && has_failed (with_call r entries) k) (entry_kept k (omega arith))
+      ∙ ap (λ b. is_joined r k n && is_soft (entry_of r k) && b) (failed_kept k (omega arith)))
 
   pub doom_kept : (n : ℕ) → n < length r.accepted → is_doomed (with_call r entries) n ≡ is_doomed r n
   unfolding is_doomed

@@ -1,7 +1,9 @@
 pub mod Changes
 pub mod Telling
 pub mod SoundRings
+pub mod ListCounts
 pub mod SoundRequests
+pub mod RequestEnds
 pub mod Groups
 pub mod Sound
 pub mod RingLaws
@@ -10,6 +12,17 @@ pub mod ToldRequests
 pub mod RequestLaws
 pub mod Growth
 pub mod OrderLaws
+pub mod DirectSubmission
+pub mod DirectCompletions
+pub mod DirectRequests
+pub mod DirectPlaces
+pub mod DirectPut
+pub mod Chosen
+pub mod ReadOff
+pub mod CoreSteps
+pub mod CoreCalls
+pub mod CoreTakes
+pub mod CoreEnds
 pub mod Moves
 pub mod Running
 pub mod FileHistory

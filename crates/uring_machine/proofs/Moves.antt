@@ -41,7 +41,7 @@ move_of g w s a (loads head) called = stays _ _
 move_of g w s a (begins count is_open no_call) called = stays _ _
 move_of g w s a (takes entry call place opened left at valid) called = subst (λ o. Move w.requests s a (taking_of w o).requests) (sym opened) (stays _ _)
 move_of g w s a (drops call place opened left at invalid) called = subst (λ o. Move w.requests s a (taking_of w o).requests) (sym opened) (stays _ _)
-move_of g w s a (closes accepted missed head call opened all) called = subst (λ o. Move w.requests s a (ending_of w o).requests) (sym opened) (accepts _ _ (entries_of (places_from w.submission call.count)))
+move_of g w s a (closes accepted missed head call opened all told) called = subst (λ o. Move w.requests s a (ending_of w o).requests) (sym opened) (accepts _ _ (entries_of (places_from w.submission call.count)))
 move_of g w s a (runs n outstanding idle spared ready) called =
     starts n (run_no_cancel (is_outstanding w.requests n) (is_running w.requests n) (is_doomed w.requests n) (is_ready w.requests n) (is_cancel (entry_of w.requests n)) (doomed_result w.requests n) (cancel_result w.requests n) called)
 move_of g w s a (dooms n outstanding idle doomed) called = ends_doomed n

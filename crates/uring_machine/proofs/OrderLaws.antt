@@ -1,29 +1,27 @@
 -- The laws of doomed requests, links and drains.
-use Rattle.std.proofs.Common.{◌≡◌, ℕ, ◌<◌, ◌≤◌, ◌==◌, ℤ, pos, neg_ℤ, Bool, true, false, not, ◌||◌, ◌&&◌, List, [], ◌∷◌, ◌++◌, Option, Some, None, length, slice_get, count_by, cond, refl, sym, subst, ap, ◌∙◌, ◌⊎◌, inl, inr, arith}
-use Rattle.std.specs.List.{list_any}
+use Rattle.std.proofs.Common.{◌≡◌, ℕ, ◌<◌, ◌==◌, pos, neg_ℤ, Bool, true, false, not, ◌||◌, List, ◌∷◌, ◌++◌, Option, Some, None, length, slice_get, count_by, cond, refl, sym, subst, ap, ◌∙◌, inl, inr, arith}
 use Rattle.std.specs.Ordering.{int_eq}
-use Rattle.std.proofs.lemmas.Bool.{and_parts, and_cases, and_from, or_parts, or_from, cases_Bool, both_ways, not-false, eq-eqb, true_from_ne_false, false_from_ne_true}
+use Rattle.std.proofs.lemmas.Bool.{and_cases, and_from, both_ways, not-false, eq-eqb, true_from_ne_false, false_from_ne_true}
 use Rattle.std.proofs.lemmas.Bool.Decides.{Decides-int_eq}
 use Rattle.std.proofs.lemmas.List.Folds.{list_any_at}
 use Rattle.std.proofs.lemmas.Option.{slice_get_within, get_or_from_slice_get}
 use Rattle.uring_entry.specs.Shape.{Shape, IsShape}
-use Rattle.uring_entry.specs.Preparation.{is_faulty, is_cancel}
-use Rattle.uring_entry.specs.declared.errno.TheConstants.{ENOENT, EINVAL, EALREADY, ECANCELED}
-use Rattle.uring_entry.specs.Requests.{Requests, Ending, entry_of, has_started, has_ended, is_joined, is_draining, is_doomed, is_ready, is_running, is_outstanding, holds_back, doomed_result, cancel_result, result_for, target_of, no_bytes}
+use Rattle.uring_entry.specs.declared.errno.TheConstants.{EALREADY, ECANCELED}
+use Rattle.uring_entry.specs.Requests.{Requests, Ending, has_started, has_ended, is_joined, is_draining, is_doomed, is_ready, is_running, doomed_result, cancel_result, result_for, target_of}
 use Rattle.uring_entry.proofs.RequestLemmas.{is_ready-inside}
 use Rattle.uring_machine.specs.World.{World}
 use Rattle.uring_machine.specs.Answers.{IsEnded}
 use Rattle.uring_machine.specs.Histories.{History, world, IsLawfulApart}
-use Rattle.uring_machine.specs.Direct.{starts, ends, started_by, end_told_by}
-use Rattle.uring_machine.specs.Laws.{DoomedNeverRun, waits_for, Starts, times_started, times_ended}
-use Rattle.uring_machine.specs.declared.steps.Step.{Step}
+use Rattle.uring_machine.specs.Direct.{started_by}
+use Rattle.uring_machine.specs.Laws.{DoomedNeverRun, waits_for, IsStart, times_ended}
 use Rattle.uring_machine.specs.declared.steps.Step.TheVariants as step
 use Rattle.uring_machine.specs.declared.answers.Answer.{Answer}
 use Rattle.uring_machine.specs.declared.answers.Answer.TheVariants as answer
 use Rattle.uring_machine.proofs.Changes.{Change, change_of, IsSilent, refuses, runs, dooms, cancels}
-use Rattle.uring_machine.proofs.SoundRequests.{IsSoundRequests, IsFree, EndsDoomed, is_otherwise, count_none, count_some, outstanding_tells}
+use Rattle.uring_machine.proofs.SoundRequests.{IsSoundRequests, EndsDoomed, is_otherwise, outstanding_tells}
+use Rattle.uring_machine.proofs.ListCounts.{count_none, count_some}
 use Rattle.uring_machine.proofs.Sound.{sound_of}
-use Rattle.uring_machine.proofs.ToldRequests.{TellsRequests, tells_requests}
+use Rattle.uring_machine.proofs.ToldRequests.{tells_requests}
 use Rattle.uring_machine.proofs.Growth.{Grows, grows, event_grows, then_grows, lawful_before}
 
 unstarted : (r : Requests) (n : ℕ) → IsSoundRequests r → is_doomed r n ≡ true → has_started r n ≡ false
@@ -36,10 +34,10 @@ ends_doomed r k e s at doomed =
     let here = get_or_from_slice_get r.ended k e e at in
     let ended : has_ended r e.number ≡ true = list_any_at (λ x. x.number == e.number) r.ended k e within (ap (λ x. x.number == e.number) here ∙ eq-eqb _ _ refl) in
     let otherwise = λ (d : EndsDoomed r e.number) (differ : int_eq e.res (doomed_result r e.number) ≡ false).
-      both_ways _ d (list_any_at (is_otherwise r e.number) r.ended k e within (ap (is_otherwise r e.number) here ∙ and_from (e.number == e.number) _ (eq-eqb e.number _ refl) (ap not differ))) in
+    both_ways _ d (list_any_at (is_otherwise r e.number) r.ended k e within (ap (is_otherwise r e.number) here ∙ and_from (e.number == e.number) _ (eq-eqb e.number _ refl) (ap not differ))) in
     elim (s.ended_how e.number ended) [
-      inl d ↦ (Decides-int_eq e.res (doomed_result r e.number)).0 (true_from_ne_false _ (otherwise d))
-    | inr free ↦ absurd (both_ways _ free.spared doomed)
+      | inl d ↦ (Decides-int_eq e.res (doomed_result r e.number)).0 (true_from_ne_false _ (otherwise d))
+      | inr free ↦ absurd (both_ways _ free.spared doomed)
     ]
 
 pub never_run : (g : Shape) (h : History) → IsLawfulApart g h → DoomedNeverRun g h
@@ -60,12 +58,12 @@ cancel_unlike r (Some m) = by_running (is_running r m) where
   by_running false = refl
 
 -- an Issue that is refused neither starts nor ends its request
-refused_no_end : (n : ℕ) (a : Answer) → IsSilent (step.Issue n , a) → IsEnded a → ⊥
+refused_no_end : (n : ℕ) (a : Answer) → IsSilent (step.Issue n, a) → IsEnded a → ⊥
 refused_no_end n (answer.Ended res bytes) silent ended = let e = silent.ends in absurd cc
 refused_no_end n _ silent ended = ended
 
-refused_no_run : (n : ℕ) (a : Answer) → IsSilent (step.Issue n , a) → a ≡ answer.Run → ⊥
-refused_no_run n a silent run = let e : started_by (step.Issue n , answer.Run) ≡ None = subst (λ b. started_by (step.Issue n , b) ≡ None) run silent.starts in absurd cc
+refused_no_run : (n : ℕ) (a : Answer) → IsSilent (step.Issue n, a) → a ≡ answer.Run → ⊥
+refused_no_run n a silent run = let e : started_by (step.Issue n, answer.Run) ≡ None = subst (λ b. started_by (step.Issue n, b) ≡ None) run silent.starts in absurd cc
 
 doomed_just_before : (g : Shape) (w : World) (n : ℕ) (a : Answer) (bytes : List ℕ) → Change g w (step.Issue n) a → a ≡ answer.Ended (neg_ℤ ECANCELED) bytes → is_doomed w.requests n ≡ true
 doomed_just_before g w n a bytes (refuses _ _ same silent) is = absurd (refused_no_end n a silent (subst IsEnded (sym is) tt))
@@ -75,9 +73,9 @@ doomed_just_before g w n a bytes (cancels _ outstanding idle spared ready cancel
     let e : cancel_result w.requests n ≡ neg_ℤ ECANCELED = cc in
     absurd (both_ways _ (cancel_unlike w.requests (target_of w.requests n)) ((Decides-int_eq (cancel_result w.requests n) (neg_ℤ ECANCELED)).1 e))
 
-pub were_doomed : (g : Shape) (after before : History) (n : ℕ) (bytes : List ℕ) → IsShape g → IsLawfulApart g (after ++ (step.Issue n , answer.Ended (neg_ℤ ECANCELED) bytes) ∷ before) → is_doomed (world g before).requests n ≡ true
+pub were_doomed : (g : Shape) (after before : History) (n : ℕ) (bytes : List ℕ) → IsShape g → IsLawfulApart g (after ++ (step.Issue n, answer.Ended (neg_ℤ ECANCELED) bytes) ∷ before) → is_doomed (world g before).requests n ≡ true
 were_doomed g after before n bytes shape lawful =
-    let l = lawful_before g after ((step.Issue n , answer.Ended (neg_ℤ ECANCELED) bytes) ∷ before) lawful in
+    let l = lawful_before g after ((step.Issue n, answer.Ended (neg_ℤ ECANCELED) bytes) ∷ before) lawful in
     doomed_just_before g (world g before) n _ bytes (change_of g (world g before) (step.Issue n) _ l.0) refl
 
 pub stay_doomed : (g : Shape) (after before : History) (n : ℕ) → IsShape g → IsLawfulApart g (after ++ before) → n < length (world g before).requests.accepted → is_doomed (world g before).requests n ≡ true → is_doomed (world g (after ++ before)).requests n ≡ true
@@ -90,7 +88,7 @@ record Started (w : World) (n : ℕ) : Type 0 where
   accepted : n < length w.requests.accepted
   ready : is_ready w.requests n ≡ true
 
-started_ready : (g : Shape) (w : World) (n : ℕ) (a : Answer) → Change g w (step.Issue n) a → Starts w.requests n a → Started w n
+started_ready : (g : Shape) (w : World) (n : ℕ) (a : Answer) → Change g w (step.Issue n) a → IsStart w.requests n a → Started w n
 started_ready g w n a (refuses _ _ same silent) (inl run) = absurd (refused_no_run n a silent run)
 started_ready g w n a (refuses _ _ same silent) (inr ended) = absurd (refused_no_end n a silent ended.0)
 started_ready g w n a (runs _ outstanding idle spared ready) start = record { accepted = (outstanding_tells w.requests n outstanding).0; ready = ready }
@@ -102,8 +100,8 @@ started_ready g w n a (cancels _ outstanding idle spared ready cancel) start = r
 waited : (r : Requests) (n m : ℕ) → is_ready r n ≡ true → m < n → waits_for r n m ≡ true → has_ended r m ≡ true
 waited r n m ready lt waits =
     elim (and_cases (not (has_ended r m)) _ (is_ready-inside r n m ready lt)) [
-      inl over ↦ not-false _ over
-    | inr apart ↦ absurd (both_ways _ apart waits)
+      | inl over ↦ not-false _ over
+      | inr apart ↦ absurd (both_ways _ apart waits)
     ]
 
 same_wait : (r later : Requests) (n m : ℕ) → Grows r later → m < n → n < length r.accepted → waits_for later n m ≡ waits_for r n m
@@ -112,13 +110,13 @@ same_wait r later n m g lt within =
     ∙ ap (λ b. is_joined r m n || b || is_draining later n) (g.same_drain m (omega arith))
     ∙ ap (λ b. is_joined r m n || is_draining r m || b) (g.same_drain n within)
 
-pub waits : (g : Shape) (after before : History) (m n : ℕ) (a : Answer) → IsShape g → IsLawfulApart g (after ++ (step.Issue n , a) ∷ before) → Starts (world g before).requests n a → m < n
-    → waits_for (world g (after ++ (step.Issue n , a) ∷ before)).requests n m ≡ true → times_ended before m ≡ 1
+pub waits : (g : Shape) (after before : History) (m n : ℕ) (a : Answer) → IsShape g → IsLawfulApart g (after ++ (step.Issue n, a) ∷ before) → IsStart (world g before).requests n a → m < n
+    → waits_for (world g (after ++ (step.Issue n, a) ∷ before)).requests n m ≡ true → times_ended before m ≡ 1
 waits g after before m n a shape lawful start lt waiting =
-    let l = lawful_before g after ((step.Issue n , a) ∷ before) lawful in
+    let l = lawful_before g after ((step.Issue n, a) ∷ before) lawful in
     let c = change_of g (world g before) (step.Issue n) a l.0 in
     let at = started_ready g (world g before) n a c start in
-    let more = then_grows _ _ _ (event_grows g (step.Issue n) a before l) (grows g after ((step.Issue n , a) ∷ before) lawful) in
+    let more = then_grows _ _ _ (event_grows g (step.Issue n) a before l) (grows g after ((step.Issue n, a) ∷ before) lawful) in
     let ended = waited (world g before).requests n m at.ready lt (sym (same_wait _ _ n m more lt at.accepted) ∙ waiting) in
     let s = (sound_of g before l.1).requests in
     let t = tells_requests g before l.1 in

@@ -15,7 +15,8 @@ use Rattle.uring_machine.specs.declared.answers.Answer.{Answer}
 use Rattle.uring_machine.proofs.Changes.{change_of}
 use Rattle.uring_machine.proofs.Moves.{Move, stays, accepts, starts, ends_doomed, ends_cancel, ends_run, move_of}
 use Rattle.uring_machine.proofs.Sound.{sound_of}
-use Rattle.uring_machine.proofs.SoundRequests.{IsSoundRequests, any_new}
+use Rattle.uring_machine.proofs.ListCounts.{any_new}
+use Rattle.uring_machine.proofs.SoundRequests.{IsSoundRequests}
 
 -- a request's entry stays as more are accepted
 pub entry_stays : (r : Requests) (entries : List Entry) (n : ℕ) → n < length r.accepted → entry_of (with_call r entries) n ≡ entry_of r n

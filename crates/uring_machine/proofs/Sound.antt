@@ -1,5 +1,5 @@
 -- What holds of everything that a lawful history has made.
-use Rattle.std.proofs.Common.{◌≡◌, ℕ, ◌≤◌, Bool, true, false, List, [], ◌∷◌, length, Option, Some, None, refl, sym, subst, ap, ◌∙◌, arith}
+use Rattle.std.proofs.Common.{ℕ, [], ◌∷◌, refl, sym, subst, arith}
 use Rattle.uring_entry.specs.Shape.{Shape}
 use Rattle.uring_machine.specs.World.{World, at_first, happens, taking_of, ending_of}
 use Rattle.uring_machine.specs.Histories.{History, world, IsLawfulApart}
@@ -7,7 +7,8 @@ use Rattle.uring_machine.specs.declared.steps.Step.{Step}
 use Rattle.uring_machine.specs.declared.answers.Answer.{Answer}
 use Rattle.uring_machine.proofs.Changes.{Change, change_of, refuses, fills, stages, stores, loads, begins, takes, drops, closes, runs, dooms, cancels, finishes, flushes, sees_tail, reaps, stores_head, shuts}
 use Rattle.uring_machine.proofs.SoundRings.{IsSoundCompletions, IsSoundSubmission, end_sound, flush_sound, see_tail_sound, reap_sound, store_head_sound, stage_sound, store_sound, load_sound, begin_sound, take_sound, close_sound}
-use Rattle.uring_machine.proofs.SoundRequests.{IsSoundRequests, first_requests, start_sound, finish_sound, doom_sound, cancel_sound}
+use Rattle.uring_machine.proofs.SoundRequests.{IsSoundRequests, first_requests, start_sound}
+use Rattle.uring_machine.proofs.RequestEnds.{finish_sound, doom_sound, cancel_sound}
 use Rattle.uring_machine.proofs.Groups.{call_sound}
 use Rattle.uring_entry.specs.Submission.{no_submission, entries_of, places_from}
 use Rattle.uring_entry.specs.Completions.{no_completion}
@@ -36,7 +37,7 @@ submission_kept g w s a (loads head) i = load_sound g.sq w.submission i
 submission_kept g w s a (begins count is_open no_call) i = begin_sound g.sq w.submission count i
 submission_kept g w s a (takes entry call place e f h k) i = subst (λ o. IsSoundSubmission g.sq (taking_of w o).submission) (sym e) (take_sound g.sq w.submission call e f i)
 submission_kept g w s a (drops call place e f h k) i = subst (λ o. IsSoundSubmission g.sq (taking_of w o).submission) (sym e) (take_sound g.sq w.submission call e f i)
-submission_kept g w s a (closes accepted missed head call e f) i = subst (λ o. IsSoundSubmission g.sq (ending_of w o).submission) (sym e) (close_sound g.sq w.submission call e i)
+submission_kept g w s a (closes accepted missed head call e f counted) i = subst (λ o. IsSoundSubmission g.sq (ending_of w o).submission) (sym e) (close_sound g.sq w.submission call e i)
 submission_kept g w s a (runs n e f h k) i = i
 submission_kept g w s a (dooms n e f h) i = i
 submission_kept g w s a (cancels n e f h k l) i = i
@@ -57,7 +58,7 @@ completions_kept g w s a (loads head) i = i
 completions_kept g w s a (begins count is_open no_call) i = i
 completions_kept g w s a (takes entry call place e f h k) i = subst (λ o. IsSoundCompletions g.cq (taking_of w o).completions) (sym e) i
 completions_kept g w s a (drops call place e f h k) i = subst (λ o. IsSoundCompletions g.cq (taking_of w o).completions) (sym e) i
-completions_kept g w s a (closes accepted missed head call e f) i = subst (λ o. IsSoundCompletions g.cq (ending_of w o).completions) (sym e) i
+completions_kept g w s a (closes accepted missed head call e f counted) i = subst (λ o. IsSoundCompletions g.cq (ending_of w o).completions) (sym e) i
 completions_kept g w s a (runs n e f h k) i = i
 completions_kept g w s a (dooms n e f h) i = end_sound g.cq w.completions _ _ i
 completions_kept g w s a (cancels n e f h k l) i = end_sound g.cq w.completions _ _ i
@@ -78,7 +79,7 @@ requests_kept g w s a (loads head) i = i
 requests_kept g w s a (begins count is_open no_call) i = i
 requests_kept g w s a (takes entry call place opened left at valid) i = subst (λ o. IsSoundRequests (taking_of w o).requests) (sym opened) i
 requests_kept g w s a (drops call place opened left at invalid) i = subst (λ o. IsSoundRequests (taking_of w o).requests) (sym opened) i
-requests_kept g w s a (closes accepted missed head call opened all) i = subst (λ o. IsSoundRequests (ending_of w o).requests) (sym opened) (call_sound w.requests (entries_of (places_from w.submission call.count)) i.cut_at_end i)
+requests_kept g w s a (closes accepted missed head call opened all counted) i = subst (λ o. IsSoundRequests (ending_of w o).requests) (sym opened) (call_sound w.requests (entries_of (places_from w.submission call.count)) i.cut_at_end i)
 requests_kept g w s a (runs n outstanding idle spared ready) i = start_sound w.requests n outstanding idle spared ready i
 requests_kept g w s a (dooms n outstanding idle doomed) i = doom_sound w.requests n outstanding i
 requests_kept g w s a (cancels n outstanding idle spared ready cancel) i = cancel_sound w.requests n outstanding spared ready i
@@ -91,7 +92,7 @@ requests_kept g w s a (shuts no_call) i = i
 
 pub sound_of : (g : Shape) (h : History) → IsLawfulApart g h → IsSound g (world g h)
 sound_of g [] lawful = first_sound g
-sound_of g ((s , a) ∷ before) lawful =
+sound_of g ((s, a) ∷ before) lawful =
     let i = sound_of g before lawful.1 in
     let c = change_of g (world g before) s a lawful.0 in
     record {

@@ -1,14 +1,12 @@
 -- What holds of both rings' lists in every lawful history.
-use Rattle.std.proofs.Common.{◌≡◌, ℕ, ◌+◌, ◌-◌, ◌<◌, ◌≤◌, min, Bool, true, false, nat_lt, eqb, List, [], ◌∷◌, ◌++◌, length, take, drop, map, sum, Option, Some, None, slice_get, get_or, cond, refl, sym, subst, ap, ◌∙◌, ◌⊎◌, inl, inr, arith}
-use Rattle.std.proofs.lemmas.Bool.{ltb-true, ltb-false, eqb-true, eqb-false, cases_Bool, and_parts}
-use Rattle.std.proofs.lemmas.List.{length_push, length-append, length-map, take-append-le, take_more, get_or_past}
+use Rattle.std.proofs.Common.{◌≡◌, ℕ, ◌+◌, ◌-◌, ◌<◌, ◌≤◌, Bool, true, false, eqb, List, [], ◌∷◌, ◌++◌, length, take, map, Option, Some, None, slice_get, cond, refl, sym, ap, ◌∙◌, arith}
+use Rattle.std.proofs.lemmas.Bool.{ltb-true, eqb-true, eqb-false, and_parts}
+use Rattle.std.proofs.lemmas.List.{length_push, length-append, length-map, take-append-le, take_more}
 use Rattle.std.proofs.lemmas.List.Sums.{sum_by_push}
 use Rattle.std.proofs.lemmas.Option.{slice_get_within, get_or_from_slice_get}
-use Rattle.uring_entry.specs.Shape.{Shape}
-use Rattle.uring_entry.specs.Layout.{Entry, Completion}
-use Rattle.uring_entry.specs.Success.{is_told}
+use Rattle.uring_entry.specs.Layout.{Completion}
 use Rattle.uring_entry.specs.Submission.{Submission, Call, Place, staged, taken, pending, is_full, call_length, filled, indexed, stored, loaded, begun, took, closed}
-use Rattle.uring_entry.specs.Completions.{Completions, has_room, put_by_flush, next_to_reap, with_posted, with_end, flushed, with_tail_loaded, with_reaped, with_head_stored}
+use Rattle.uring_entry.specs.Completions.{Completions, has_room, next_to_reap, with_posted, flushed, with_tail_loaded, with_reaped, with_head_stored}
 
 -- The completion ring.
 

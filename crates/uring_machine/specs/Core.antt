@@ -47,6 +47,8 @@ pub record ShowsWorld (p : Parts) (w : World) : Type 0 where
   -- what is outstanding, and what the open call may still accept, will find room to be accepted and to end
   pub room_to_post : p.dispatcher.outstanding + positions_of w.submission.call ≤ p.completions.room
   pub room_to_accept : positions_of w.submission.call ≤ p.dispatcher.room
+  -- numbers stay below 2 ^ 63, those of the open call too
+  pub numbers : p.dispatcher.accepted + positions_of w.submission.call ≤ 2 ^ 63 - 1
   -- no more was posted than has ended
   pub posts : length w.completions.posted + p.dispatcher.outstanding ≤ p.dispatcher.accepted
 

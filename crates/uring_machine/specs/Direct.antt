@@ -1,89 +1,98 @@
 -- Lists and counts read straight off a history: what its events tell, and which of them stand before which.
-use Rattle.std.specs.Prelude.{ℕ, ◌+◌, ℤ, Bool, true, false, not, ◌&&◌, ◌==◌, nat_lt, List, [], ◌∷◌, ◌++◌, length, take, drop, sum, count_by, Option, Some, None, unwrap_or, if◌then◌else◌, slice_index_or}
+use Rattle.std.specs.Prelude.{ℕ, ◌+◌, Bool, true, false, not, ◌&&◌, ◌==◌, nat_lt, List, [], ◌∷◌, ◌++◌, length, take, sum, count_by, Option, Some, None, unwrap_or, if◌then◌else◌, slice_index_or}
 use Rattle.std.specs.List.{filter_map}
 use Rattle.std.specs.Option.{option_or}
 use Rattle.uring_entry.specs.Layout.{Entry, Completion, zero_entry, user_data_of}
 use Rattle.uring_entry.specs.Success.{is_told}
+use Rattle.uring_entry.specs.Submission.{Call}
 use Rattle.uring_entry.specs.Requests.{Ending}
 use Rattle.uring_machine.specs.Histories.{Event, History}
-use Rattle.uring_machine.specs.declared.steps.Step.{Step}
 use Rattle.uring_machine.specs.declared.steps.Step.TheVariants as step
-use Rattle.uring_machine.specs.declared.answers.Answer.{Answer}
 use Rattle.uring_machine.specs.declared.answers.Answer.TheVariants as answer
 
 -- What one event tells.
 
 -- the request that starts
 abbrev pub started_by : Event → Option ℕ
-started_by (step.Issue n , answer.Run) = Some n
+started_by (step.Issue n, answer.Run) = Some n
 started_by _ = None
 
 -- the end of a request
 abbrev pub end_told_by : Event → Option Ending
-end_told_by (step.Issue n , answer.Ended res bytes) = Some (record { number = n; res = res; bytes = bytes })
-end_told_by (step.Finish n , answer.Ended res bytes) = Some (record { number = n; res = res; bytes = bytes })
+end_told_by (step.Issue n, answer.Ended res bytes) = Some (record { number = n; res = res; bytes = bytes })
+end_told_by (step.Finish n, answer.Ended res bytes) = Some (record { number = n; res = res; bytes = bytes })
 end_told_by _ = None
 
 -- the completion that the application reaps
 abbrev pub reaped_by : Event → Option Completion
-reaped_by (step.Reap , answer.Reaped completion) = Some completion
+reaped_by (step.Reap, answer.Reaped completion) = Some completion
 reaped_by _ = None
 
 -- the word that the application stages
 abbrev pub staged_by : Event → Option ℕ
-staged_by (step.Index word , answer.Staged) = Some word
+staged_by (step.Index word, answer.Staged) = Some word
 staged_by _ = None
 
 -- the entry that this slot is filled with
 abbrev pub filled_by : ℕ → Event → Option Entry
-filled_by asked (step.Fill slot entry , answer.Filled) = if asked == slot then Some entry else None
+filled_by asked (step.Fill slot entry, answer.Filled) = if asked == slot then Some entry else None
 filled_by asked _ = None
 
 -- the entry that a call takes
 abbrev pub entry_taken_by : Event → Option Entry
-entry_taken_by (step.Take , answer.Entry entry) = Some entry
+entry_taken_by (step.Take, answer.Entry entry) = Some entry
 entry_taken_by _ = None
 
 -- whether a call takes a position, whose word names a slot or not
 abbrev pub takes_position : Event → Bool
-takes_position (step.Take , answer.Entry entry) = true
-takes_position (step.Take , answer.Dropped) = true
+takes_position (step.Take, answer.Entry entry) = true
+takes_position (step.Take, answer.Dropped) = true
 takes_position _ = false
 
 -- how many positions the call has that opens
 abbrev pub opened_by : Event → Option ℕ
-opened_by (step.Begin count , answer.Call length) = Some length
+opened_by (step.Begin count, answer.Call length) = Some length
 opened_by _ = None
+
+-- whether a call opens
+abbrev pub opens_call : Event → Bool
+opens_call (step.Begin count, answer.Call length) = true
+opens_call _ = false
+
+-- how many entries are accepted as the open call closes
+abbrev pub accepted_by : Event → Option ℕ
+accepted_by (step.End, answer.Taken accepted dropped head) = Some accepted
+accepted_by _ = None
 
 -- whether the open call closes
 abbrev pub closes_call : Event → Bool
-closes_call (step.End , answer.Taken accepted dropped head) = true
+closes_call (step.End, answer.Taken accepted dropped head) = true
 closes_call _ = false
 
 -- whether the ring closes
 abbrev pub closes_ring : Event → Bool
-closes_ring (step.Close , answer.Shut) = true
+closes_ring (step.Close, answer.Shut) = true
 closes_ring _ = false
 
 -- the loads and stores of the rings' heads and tails, and the flush of the overflow list
 abbrev pub is_store_tail : Event → Bool
-is_store_tail (step.StoreTail , _) = true
+is_store_tail (step.StoreTail, _) = true
 is_store_tail _ = false
 
 abbrev pub is_load_head : Event → Bool
-is_load_head (step.LoadHead , _) = true
+is_load_head (step.LoadHead, _) = true
 is_load_head _ = false
 
 abbrev pub is_flush : Event → Bool
-is_flush (step.Flush , _) = true
+is_flush (step.Flush, _) = true
 is_flush _ = false
 
 abbrev pub is_load_cq_tail : Event → Bool
-is_load_cq_tail (step.LoadCqTail , _) = true
+is_load_cq_tail (step.LoadCqTail, _) = true
 is_load_cq_tail _ = false
 
 abbrev pub is_store_cq_head : Event → Bool
-is_store_cq_head (step.StoreCqHead , _) = true
+is_store_cq_head (step.StoreCqHead, _) = true
 is_store_cq_head _ = false
 
 -- What a history tells.
@@ -107,6 +116,11 @@ last_told tells (event ∷ before) = option_or (tells event) (last_told tells be
 abbrev pub before_last : (Event → Bool) → History → History
 before_last is_kind [] = []
 before_last is_kind (event ∷ before) = if is_kind event then before else before_last is_kind before
+
+-- what stands after the last event of this kind: everything, where there is none
+abbrev pub since_last : (Event → Bool) → History → History
+since_last is_kind [] = []
+since_last is_kind (event ∷ before) = if is_kind event then [] else event ∷ since_last is_kind before
 
 -- The lists.
 
@@ -144,7 +158,7 @@ published_words h = staged_words (before_last is_store_tail h)
 abbrev pub slot_content : History → ℕ → Entry
 slot_content h slot = unwrap_or (last_told (filled_by slot) h) zero_entry
 
--- what stands before the first store of the tail that comes after the staging of this position, which is published
+-- what stands before the store of the tail that published this position, the first one after its word was staged
 abbrev pub before_published : ℕ → History → History
 before_published position [] = []
 before_published position (event ∷ before) =
@@ -167,6 +181,21 @@ taken_count h = sum (call_counts h)
 -- the head of the submission ring that the application last loaded, as a count
 abbrev pub loaded_head : History → ℕ
 loaded_head h = taken_count (before_last is_load_head h)
+
+-- the call that is open, where more were opened than closed: the last one opened, with the positions taken since
+abbrev pub open_call : History → Option Call
+open_call h =
+    if count_by opens_call h == count_by closes_call h then None else
+    Some (record { count = slice_index_or (told opened_by h) (count_by closes_call h) 0; taken = count_by takes_position (since_last opens_call h) })
+
+-- the sums of a list's beginnings, of which each has an element more, after what was summed before
+abbrev pub sums_from : ℕ → List ℕ → List ℕ
+sums_from before [] = []
+sums_from before (x ∷ xs) = (before + x) ∷ sums_from (before + x) xs
+
+-- how many entries were accepted as each call closed, in order
+abbrev pub cut_counts : History → List ℕ
+cut_counts h = sums_from 0 (told accepted_by h)
 
 -- the entries that calls took, in order, and how many positions they took
 abbrev pub entries_taken : History → List Entry

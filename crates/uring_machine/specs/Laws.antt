@@ -1,49 +1,21 @@
 -- What holds of every lawful history.
-use Rattle.std.specs.Prelude.{◌≡◌, ℕ, ◌+◌, ◌<◌, ◌≤◌, ◌==◌, count_by, Bool, true, false, ◌||◌, List, [], ◌∷◌, ◌++◌, length, take, drop, Some, slice_get, ◌⊎◌}
-use Rattle.std.specs.List.{list_any}
+use Rattle.std.specs.Prelude.{◌≡◌, ℕ, ◌+◌, ◌<◌, ◌≤◌, ◌==◌, count_by, Bool, true, false, ◌||◌, List, ◌++◌, length, take, drop, Some, slice_get, ◌⊎◌}
 use Rattle.uring_entry.specs.Shape.{Shape}
 use Rattle.uring_entry.specs.Layout.{Completion}
 use Rattle.uring_entry.specs.Submission.{entries_of}
-use Rattle.uring_entry.specs.Requests.{Requests, least_of, is_running, is_issuable, is_outstanding, is_doomed, doomed_result, is_joined, is_draining, Ending}
+use Rattle.uring_entry.specs.Requests.{Requests, least_of, next_of, is_running, is_outstanding, is_doomed, doomed_result, is_joined, is_draining, Ending}
 use Rattle.uring_entry.specs.Completions.{Completions}
 use Rattle.uring_machine.specs.World.{World}
-use Rattle.uring_machine.specs.Answers.{IsEnded}
+use Rattle.uring_machine.specs.Answers.{IsEnded, issue_answer}
 use Rattle.uring_machine.specs.declared.answers.Answer.{Answer}
-use Rattle.uring_machine.specs.Histories.{Event, History, world, IsLawfulApart}
-use Rattle.uring_machine.specs.Direct.{opened_by, closes_call, entries_taken, positions_taken, starts, ends}
-use Rattle.uring_machine.specs.declared.steps.Step.TheVariants as step
+use Rattle.uring_machine.specs.Histories.{Event, History, world}
+use Rattle.uring_machine.specs.Direct.{opens_call, closes_call, entries_taken, positions_taken, starts, ends}
 use Rattle.uring_machine.specs.declared.answers.Answer.TheVariants as answer
-
--- the completions that stand in the ring: put there, and not reaped
-abbrev pub in_ring : Completions → List Completion
-in_ring l = drop (length l.reaped) (take l.put l.posted)
-
--- the completions that wait in the overflow list
-abbrev pub in_overflow : Completions → List Completion
-in_overflow l = drop l.put l.posted
-
--- What is posted is, in order, what was reaped, what stands in the ring, and what waits in the overflow list. The ring holds no more than its size above the head that the application stored.
-pub record ReapedBeginPosted (size : ℕ) (l : Completions) : Type 0 where
-  pub in_order : l.posted ≡ l.reaped ++ (in_ring l ++ in_overflow l)
-  pub reaped_put : length l.reaped ≤ l.put
-  pub put_posted : l.put ≤ length l.posted
-  pub ring_holds : l.put ≤ l.head + size
-
--- whether a call opens, or closes with its entries accepted
-abbrev pub takes_in : Event → Bool
-takes_in (step.Begin count , answer.Call length) = true
-takes_in event = closes_call event
 
 -- The entries that calls took are the ones that a beginning of the published positions has, each position once, in order: that beginning is as long as positions were taken.
 pub record TakenOnceInOrder (g : Shape) (h : History) : Type 0 where
   pub beginning : positions_taken h ≤ length (world g h).submission.published
   pub in_order : entries_taken h ≡ entries_of (take (positions_taken h) (world g h).submission.published)
-
--- With something outstanding there is a least outstanding request, and it is running, or can be issued.
-pub record LeastCanGoOn (r : Requests) (n : ℕ) : Type 0 where
-  pub least : ℕ
-  pub is_least : least_of r ≡ Some least
-  pub goes_on : (is_running r least || is_issuable r least) ≡ true
 
 -- how often a request was started, and how often it ended
 abbrev pub times_started : History → ℕ → ℕ
@@ -69,6 +41,37 @@ pub record DoomedNeverRun (g : Shape) (h : History) : Type 0 where
 abbrev pub waits_for : Requests → ℕ → ℕ → Bool
 waits_for r n m = is_joined r m n || is_draining r m || is_draining r n
 
--- an Issue of n so answered starts it: it runs, or it is a cancel, which ends at once, and isn't doomed
-abbrev pub Starts : Requests → ℕ → Answer → Type 0
-Starts r n a = (a ≡ answer.Run) ⊎ (IsEnded a × (is_doomed r n ≡ false))
+-- an Issue of n so answered starts it: it runs, or it ends at once and isn't doomed, as a cancel does
+abbrev pub IsStart : Requests → ℕ → Answer → Type 0
+IsStart r n a = (a ≡ answer.Run) ⊎ (IsEnded a × (is_doomed r n ≡ false))
+
+-- the completions that stand in the ring: put there, and not reaped
+abbrev pub in_ring : Completions → List Completion
+in_ring l = drop (length l.reaped) (take l.put l.posted)
+
+-- the completions that wait in the overflow list
+abbrev pub in_overflow : Completions → List Completion
+in_overflow l = drop l.put l.posted
+
+-- What is posted is, in order, what was reaped, what stands in the ring, and what waits in the overflow list. No more was put than the ring's size above the head that the application stored.
+pub record ReapedBeginPosted (size : ℕ) (l : Completions) : Type 0 where
+  pub in_order : l.posted ≡ l.reaped ++ (in_ring l ++ in_overflow l)
+  pub reaped_put : length l.reaped ≤ l.put
+  pub put_posted : l.put ≤ length l.posted
+  pub ring_holds : l.put ≤ l.head + size
+  pub few_stand : length (in_ring l) ≤ size
+
+-- whether a call opens, or closes with its entries accepted
+abbrev pub takes_in : Event → Bool
+takes_in event = opens_call event || closes_call event
+
+-- an Issue so answered isn't refused
+abbrev pub IsIssued : Answer → Type 0
+IsIssued answer.Run = Unit {0}
+IsIssued a = IsEnded a
+
+-- With something outstanding there is a least outstanding request, and it is running, or else it is the next to be issued, and Issue doesn't refuse it.
+pub record LeastCanGoOn (w : World) : Type 0 where
+  pub least : ℕ
+  pub is_least : least_of w.requests ≡ Some least
+  pub goes_on : (is_running w.requests least ≡ true) ⊎ ((next_of w.requests ≡ Some least) × IsIssued (issue_answer w least))

@@ -3,6 +3,7 @@ pub mod Answers
 pub mod Histories
 pub mod Direct
 pub mod Laws
+pub mod HistoryLists
 pub mod Told
 pub mod Contents
 pub mod Core

@@ -1,11 +1,12 @@
 //! What the rings answer, as answers of the machine.
 
 ghost use Rattle.std.specs.Prelude.{◌≡◌};
-ghost use Rattle.uring_machine.specs.Told.{fill_told, index_told};
+ghost use Rattle.uring_machine.specs.Told.{fill_told, index_told, begin_told};
+ghost use Rattle.uring_machine.specs.declared.answers.Answer.TheVariants as answer;
 ghost use Rattle.uring_machine.specs.Answers.{reap_answer_of, next_answer_of};
 
 use uring_entry::Cqe;
-use uring_rings::{FillAnswer, IndexAnswer};
+use uring_rings::{BeginAnswer, FillAnswer, IndexAnswer};
 
 use crate::answers::Answer;
 
@@ -48,4 +49,21 @@ pub(crate) fn tell_next(number: Option<u64>) -> Answer
         Some(number) => Answer::Next(number),
         None => Answer::Nothing,
     }
+}
+
+/// The answer to the opening of a call.
+pub(crate) fn tell_begin(answer: BeginAnswer) -> Answer
+    ensures { result ≡ begin_told answer }
+{
+    match answer {
+        BeginAnswer::Call(length) => Answer::Call(length),
+        BeginAnswer::InCall => Answer::InCall,
+    }
+}
+
+/// The end of a request.
+pub(crate) fn tell_end(res: i32, bytes: [u8; 64]) -> Answer
+    ensures { result ≡ answer.Ended res bytes }
+{
+    Answer::Ended { res, bytes }
 }

@@ -1,6 +1,7 @@
 ghost use Rattle.std.specs.Prelude.{◌≡◌, ◌∷◌, [], IfOk, slice_get};
 ghost use Rattle.uring_entry.specs.Requests.{least_of};
 ghost use Rattle.uring_entry.specs.Completions.{unreaped};
+ghost use Rattle.uring_entry.specs.Requests.{least_of};
 ghost use Rattle.uring_dispatch.specs.Answers.{operation_running};
 ghost use Rattle.uring_machine.specs.Histories.{History, world};
 ghost use Rattle.uring_machine.specs.declared.steps.Step.TheVariants as step;
@@ -10,11 +11,11 @@ use std::marker::Model;
 
 use uring_dispatch::{Dispatch, Finished, Issued, ReserveError};
 use uring_entry::{Cqe, Op, Outcome, Setup, Sqe};
-use uring_rings::{BeginAnswer, Cq, EndAnswer, Sq, TakeAnswer};
+use uring_rings::{Cq, EndAnswer, Sq, TakeAnswer};
 
 use crate::acceptance::accept_call;
 use crate::answers::Answer;
-use crate::conversions::{tell_fill, tell_index, tell_next, tell_reap};
+use crate::conversions::{tell_begin, tell_end, tell_fill, tell_index, tell_next, tell_reap};
 use crate::counts::Counts;
 use crate::steps::Step;
 use crate::posting::tell;
@@ -96,15 +97,14 @@ impl Core {
         ensures outcome { (h : History) → FitsApart self.old h → IsFinished (world self.old.shape h) number outcome result }
     {
         let entry = self.dispatch.entry(number);
-        match (self.dispatch.finish(number, outcome), entry) {
-            (Finished::Ended, Some(entry)) => {
-                tell(&mut self.cq, &entry, outcome.res, outcome.bytes);
-                Answer::Ended {
-                    res: outcome.res,
-                    bytes: outcome.bytes,
-                }
+        match self.dispatch.finish(number, outcome) {
+            Finished::Ended => {
+                let Some(entry) = entry else { unreachable!() };
+                let Outcome { res, bytes } = outcome;
+                tell(&mut self.cq, &entry, res, bytes);
+                tell_end(res, bytes)
             }
-            _ => Answer::NotRunning,
+            Finished::NotRunning => Answer::NotRunning,
         }
     }
 
@@ -113,6 +113,13 @@ impl Core {
         ensures { (h : History) → FitsApart self.now h → result ≡ operation_running (world self.now.shape h).requests number }
     {
         self.dispatch.running_op(number)
+    }
+
+    /// The least outstanding request.
+    pub(crate) fn least(&self) -> Option<u64>
+        ensures { (h : History) → FitsApart self.now h → result ≡ least_of (world self.now.shape h).requests }
+    {
+        self.dispatch.least()
     }
 
     /// The completion at this place among those posted and not reaped, the oldest first.
@@ -188,10 +195,7 @@ impl Core {
         if self.cq.reserve(ends).is_err() {
             return Answer::Again;
         }
-        match self.sq.begin(count) {
-            BeginAnswer::Call(length) => Answer::Call(length),
-            BeginAnswer::InCall => Answer::InCall,
-        }
+        tell_begin(self.sq.begin(count))
     }
 
     /// The dispatcher copies the call's next position.
@@ -236,16 +240,17 @@ impl Core {
         ensures fits { (h : History) → FitsApart self.old h → FitsApart self.new ((step.Issue number , result) ∷ h) }
     {
         let entry = self.dispatch.entry(number);
-        match (self.dispatch.issue(number), entry) {
-            (Issued::Run(_), _) => Answer::Run,
-            (Issued::Ended(res), Some(entry)) => {
+        match self.dispatch.issue(number) {
+            Issued::Run(_) => Answer::Run,
+            Issued::Ended(res) => {
+                let Some(entry) = entry else { unreachable!() };
                 let bytes = [0; 64];
                 tell(&mut self.cq, &entry, res, bytes);
-                Answer::Ended { res, bytes }
+                tell_end(res, bytes)
             }
-            (Issued::NotReady, _) => Answer::NotReady,
-            (Issued::Running, _) => Answer::Running,
-            _ => Answer::Unknown,
+            Issued::NotReady => Answer::NotReady,
+            Issued::Running => Answer::Running,
+            Issued::Unknown => Answer::Unknown,
         }
     }
 
@@ -299,12 +304,5 @@ impl Core {
         ensures fits { (h : History) → FitsApart self.old h → FitsApart self.new ((step.Next , result) ∷ h) }
     {
         tell_next(self.dispatch.next())
-    }
-
-    /// The least outstanding request.
-    pub(crate) fn least(&self) -> Option<u64>
-        ensures { (h : History) → FitsApart self.now h → result ≡ least_of (world self.now.shape h).requests }
-    {
-        self.dispatch.least()
     }
 }

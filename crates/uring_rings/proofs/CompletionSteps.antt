@@ -1,8 +1,7 @@
 -- What each call of the completion ring leaves shows the lists after its event.
-use Rattle.std.proofs.Common.{◌≡◌, ◌≢◌, ℕ, ◌+◌, ◌-◌, ◌%◌, ◌^◌, ◌<◌, ◌≤◌, Bool, true, false, eqb, ltb, ◌&&◌, List, [], ◌∷◌, ◌++◌, length, take, drop, set, get_or, cond, min, Option, Some, None, zero, suc, refl, sym, ap, ◌∙◌, subst, inl, inr, ◌⊎◌, ⊎_elim, arith, rules, eq-eqb, ne_eqb, lt-ltb, le-ltb, ltb-false}
-use Rattle.std.proofs.lemmas.Bool.{cases_lt}
-use Rattle.std.proofs.lemmas.Grind.{common_steps}
-use Rattle.std.proofs.lemmas.List.{nil_from_length, length_push, length-drop, length-take-le, take-append-le, drop-append-le, take_more, drop_more, get_or_append_left, get_or_default, get_or_read}
+use Rattle.std.proofs.Common.{◌≡◌, ◌≢◌, ℕ, ◌+◌, ◌-◌, ◌%◌, ◌^◌, ◌<◌, ◌≤◌, Bool, true, false, eqb, ltb, List, [], ◌∷◌, ◌++◌, length, take, drop, set, get_or, cond, min, Some, None, sym, ap, ◌∙◌, subst, ⊎_elim, arith, ne_eqb, ltb-false, ltb-true, eqb-true}
+use Rattle.std.proofs.lemmas.Bool.{cases_lt, and_parts}
+use Rattle.std.proofs.lemmas.List.{nil_from_length, length_push, length-drop, take-append-le, drop-append-le, take_more, drop_more, get_or_append_left, get_or_default}
 use Rattle.std.proofs.lemmas.Option.{slice_get-get_or}
 use Rattle.std.specs.Int.{IsPowerOfTwo}
 use Rattle.std.specs.List.{slice_get}
@@ -11,7 +10,7 @@ use Rattle.uring_entry.specs.Shape.{Shape}
 use Rattle.uring_entry.specs.Words.{word_of}
 use Rattle.uring_entry.specs.Completions.{Completions, has_room, with_posted, with_reaped, next_to_reap, put_by_flush}
 use Rattle.uring_rings.specs.CompletionRing.{CompletionQueue, IsCompletionQueue, ShowsCompletions}
-use Rattle.uring_rings.proofs.Counts.{distance_of_words, same_count, word_after, cells_after_write}
+use Rattle.uring_rings.proofs.Counts.{distance_of_words, word_after, cells_after_write}
 
 -- How many completions were put above the head last loaded.
 pub put_above : (g : Shape) (q : CompletionQueue) (l : Completions) (d : ℕ) → IsCompletionQueue q.size q.cells → ShowsCompletions g q l → d < 2 ^ 32 → (q.seen_head + d) % 2 ^ 32 ≡ q.tail → d ≡ l.put - l.seen_head
@@ -84,16 +83,14 @@ pub all_put : (g : Shape) (q : CompletionQueue) (l : Completions) → ShowsCompl
 all_put g q l s = ap length s.waiting ∙ length-drop l.put l.posted
 
 -- A post puts the completion into the ring, where none waits and a cell is free.
-pub post_puts : (g : Shape) (q : CompletionQueue) (l : Completions) (x : Completion) (room d : ℕ) → IsCompletionQueue q.size q.cells → ShowsCompletions g q l → length q.overflow ≡ 0 → d < 2 ^ 32 → (q.seen_head + d) % 2 ^ 32 ≡ q.tail → d < q.size → ShowsCompletions g (record q { room = room; posted = (q.posted + 1) % 2 ^ 64; tail = (q.tail + 1) % 2 ^ 32; cells = set q.cells (q.tail % q.size) x }) (with_posted g.cq l x)
-post_puts g q l x room d i s empty small leads free =
-    let none : q.overflow ≡ [] = nil_from_length q.overflow empty in
+pub post_puts : (g : Shape) (q : CompletionQueue) (l : Completions) (x : Completion) (room : ℕ) → IsCompletionQueue q.size q.cells → ShowsCompletions g q l → has_room g.cq l ≡ true → ShowsCompletions g (record q { room = room; posted = (q.posted + 1) % 2 ^ 64; tail = (q.tail + 1) % 2 ^ 32; cells = set q.cells (q.tail % q.size) x }) (with_posted g.cq l x)
+post_puts g q l x room i s open_ring =
+    let (empty, below) = and_parts (eqb l.put (length l.posted)) (ltb (l.put - l.seen_head) g.cq) open_ring in
+    let all : l.put ≡ length l.posted = eqb-true l.put (length l.posted) empty in
+    let free : l.put - l.seen_head < g.cq = ltb-true (l.put - l.seen_head) g.cq below in
     let waiting = all_put g q l s in
-    let all : l.put ≡ length l.posted = omega (arith, s.put_first) in
-    let above = put_above g q l d i s small leads in
-    let below : l.put - l.seen_head < g.cq = omega (arith, s.size) in
-    let ordered : l.seen_head ≤ l.put = omega (arith, s.seen_head_first, s.head_first, s.reaped_first, s.seen_tail_first) in
+    let none : q.overflow ≡ [] = nil_from_length q.overflow (omega arith) in
     let near : l.put < l.seen_head + g.cq = omega arith in
-    let open_ring : has_room g.cq l ≡ true = rw (eq-eqb l.put (length l.posted) all, lt-ltb (l.put - l.seen_head) g.cq below) refl in
     let q1 : CompletionQueue = record q { room = room; posted = (q.posted + 1) % 2 ^ 64; overflow = q.overflow ++ x ∷ [] } in
     let l1 : Completions = record l { posted = l.posted ++ x ∷ [] } in
     let alone : q.overflow ++ x ∷ [] ≡ x ∷ [] = ap (λ (xs : List Completion). xs ++ x ∷ []) none in
@@ -106,24 +103,6 @@ post_puts g q l x room d i s empty small leads free =
 pub post_waits : (g : Shape) (q : CompletionQueue) (l : Completions) (x : Completion) (room : ℕ) → ShowsCompletions g q l → has_room g.cq l ≡ false → ShowsCompletions g (record q { room = room; posted = (q.posted + 1) % 2 ^ 64; overflow = q.overflow ++ x ∷ [] }) (with_posted g.cq l x)
 post_waits g q l x room s full =
     subst (λ (b : Bool). ShowsCompletions g (record q { room = room; posted = (q.posted + 1) % 2 ^ 64; overflow = q.overflow ++ x ∷ [] }) (record l { posted = l.posted ++ x ∷ []; put = cond b (l.put + 1) l.put })) (sym full) (wait_shows g q l x room s)
-
-and_false : (b : Bool) → (b && false) ≡ false
-and_false true = refl
-and_false false = refl
-
--- no cell is free
-pub full_ring : (g : Shape) (q : CompletionQueue) (l : Completions) (d : ℕ) → IsCompletionQueue q.size q.cells → ShowsCompletions g q l → d < 2 ^ 32 → (q.seen_head + d) % 2 ^ 32 ≡ q.tail → q.size ≤ d → has_room g.cq l ≡ false
-full_ring g q l d i s small leads full =
-    let above = put_above g q l d i s small leads in
-    let beyond : g.cq ≤ l.put - l.seen_head = omega (arith, s.size) in
-    rw (le-ltb (l.put - l.seen_head) g.cq beyond) (and_false (eqb l.put (length l.posted)))
-
--- others wait
-pub others_wait : (g : Shape) (q : CompletionQueue) (l : Completions) → ShowsCompletions g q l → (length q.overflow ≡ 0 → ⊥) → has_room g.cq l ≡ false
-others_wait g q l s some =
-    let waiting = all_put g q l s in
-    let apart : l.put ≢ length l.posted = λ e. some (omega arith) in
-    rw (ne_eqb l.put (length l.posted) apart) refl
 
 -- the position to be reaped next isn't the tail last loaded
 pub more_to_reap : (g : Shape) (q : CompletionQueue) (l : Completions) → IsCompletionQueue q.size q.cells → ShowsCompletions g q l → (q.next ≡ q.seen_tail → ⊥) → length l.reaped < l.seen_tail

@@ -1,10 +1,9 @@
 -- Index words and the counts that they stand for, over plain numbers.
-use Rattle.std.proofs.Common.{◌≡◌, ◌≢◌, List, length, set, get_or, ℕ, ◌+◌, ◌-◌, ◌*◌, ◌/◌, ◌%◌, ◌^◌, ◌<◌, ◌≤◌, refl, sym, ap, ◌∙◌, subst, ⊎_elim, arith, rules}
+use Rattle.std.proofs.Common.{◌≡◌, ◌≢◌, List, length, set, get_or, ℕ, ◌+◌, ◌-◌, ◌*◌, ◌/◌, ◌%◌, ◌^◌, ◌<◌, ◌≤◌, sym, ap, ◌∙◌, subst, ⊎_elim, arith}
 use Rattle.std.proofs.lemmas.Bool.{cases_lt, cases_eq, cases_order}
 use Rattle.std.proofs.lemmas.Nat.{and_mask, pow_below, mod_below, div-add-mod'}
 use Rattle.std.proofs.lemmas.Grind.{get_or-set_at}
 use Rattle.std.proofs.lemmas.List.{get_or-set_other}
-use Rattle.std.proofs.Math.Nat.{mul-le-mul_right}
 use Rattle.std.proofs.Math.Pow.{mod-mod-pow}
 use Rattle.std.specs.Int.RustNames.{bit_and}
 use Rattle.std.specs.Int.{IsPowerOfTwo}

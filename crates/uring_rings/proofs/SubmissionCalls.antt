@@ -1,26 +1,22 @@
 -- What the submission calls take, and what their end leaves.
-use Rattle.std.proofs.Common.{◌≡◌, ◌≢◌, ℕ, ◌+◌, ◌-◌, ◌%◌, ◌^◌, ◌<◌, ◌≤◌, Bool, true, false, eqb, List, [], ◌∷◌, ◌++◌, length, take, drop, map, set, sum, get_or, cond, Option, Some, None, zero, suc, refl, sym, ap, ◌∙◌, subst, inl, inr, ⊎_elim, arith, rules, eq-eqb, ne_eqb, lt-ltb, le-ltb, ltb}
-use Rattle.std.proofs.lemmas.Grind.{common_steps}
-use Rattle.std.proofs.lemmas.List.{length-append, length-drop, length-take-le}
+use Rattle.std.proofs.Common.{◌≡◌, ◌≢◌, ℕ, ◌+◌, ◌-◌, ◌%◌, ◌^◌, ◌<◌, ◌≤◌, Bool, length, take, drop, get_or, cond, Option, Some, None, refl, sym, ap, ◌∙◌, subst, arith, eq-eqb, ne_eqb, lt-ltb, le-ltb, ltb}
+use Rattle.std.proofs.lemmas.List.{length-drop, length-take-le}
 use Rattle.std.proofs.lemmas.List.Sums.{sum_by_push}
-use Rattle.std.proofs.lemmas.Option.{slice_get_within, get_or_from_slice_get, slice_get-get_or, same_Some, MatchOption-at_some}
-use Rattle.std.specs.Int.{IsPowerOfTwo}
+use Rattle.std.proofs.lemmas.Option.{same_Some}
 use Rattle.std.specs.List.{slice_get}
 use Rattle.std.specs.Option.{option_map, option_and_then, IfSome}
 use Rattle.uring_entry.specs.Layout.{Entry}
 use Rattle.uring_entry.specs.Shape.{Shape}
 use Rattle.uring_entry.specs.Words.{word_of}
-use Rattle.uring_entry.specs.Submission.{Submission, Place, Call, taken, staged, pending, dropped, dropped_in, place_of, entries_of, places_from, took, closed}
-use Rattle.uring_rings.specs.declared.answers.TakeAnswer.{TakeAnswer}
+use Rattle.uring_entry.specs.Submission.{Submission, Place, Call, taken, pending, dropped, dropped_in, place_of, entries_of, places_from, closed}
 use Rattle.uring_rings.specs.declared.answers.TakeAnswer.TheVariants.{Entry as Given, Dropped, NoMore}
-use Rattle.uring_rings.specs.declared.answers.EndAnswer.{EndAnswer}
 use Rattle.uring_rings.specs.declared.answers.EndAnswer.TheVariants.{Taken as Closed, NotAll}
 use Rattle.uring_rings.specs.declared.open_call.OpenCall.{OpenCall}
-use Rattle.uring_rings.specs.SubmissionRing.{SubmissionQueue, IsSubmissionQueue, ShowsSubmission, words, progress}
-use Rattle.uring_rings.specs.SubmissionAnswers.{take_answer, take_in, given, after_take, taken_on, end_of, end_answer, closed_on, after_end}
-use Rattle.uring_rings.proofs.Counts.{distance_of_words, word_after, cells_after_write}
+use Rattle.uring_rings.specs.SubmissionRing.{SubmissionQueue, ShowsSubmission, progress}
+use Rattle.uring_rings.specs.SubmissionAnswers.{take_answer, take_in, given, taken_on, end_of, end_answer, closed_on}
+use Rattle.uring_rings.proofs.Counts.{word_after}
 use Rattle.uring_rings.proofs.Places.{entry_more, dropped_more, entries_and_dropped, dropped_beyond}
-use Rattle.uring_rings.proofs.SubmissionWords.{ReadsPlace, reads_place}
+use Rattle.uring_rings.proofs.SubmissionWords.{reads_place}
 
 -- An open call of the ring is the lists' open call.
 pub record IsOpen (l : Submission) (open_call : OpenCall) (o : Option Call) : Type 0 where

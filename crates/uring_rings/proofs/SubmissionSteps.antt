@@ -1,17 +1,16 @@
 -- What each call of the submission ring leaves shows the lists after its event.
-use Rattle.std.proofs.Common.{◌≡◌, ◌≢◌, ℕ, ◌+◌, ◌-◌, ◌%◌, ◌^◌, ◌<◌, ◌≤◌, Bool, true, false, eqb, List, [], ◌∷◌, ◌++◌, length, take, drop, map, set, sum, get_or, cond, Option, Some, None, zero, suc, refl, sym, ap, ◌∙◌, subst, inl, inr, ⊎_elim, arith, rules, eq-eqb, ne_eqb}
+use Rattle.std.proofs.Common.{◌≡◌, ◌≢◌, ℕ, ◌+◌, ◌-◌, ◌%◌, ◌^◌, ◌<◌, ◌≤◌, false, eqb, List, [], ◌∷◌, ◌++◌, length, take, drop, map, set, get_or, cond, Option, Some, None, zero, suc, refl, sym, ap, ◌∙◌, subst, ⊎_elim, arith, eq-eqb, ne_eqb}
 use Rattle.std.proofs.lemmas.Bool.{cases_eq, cases_lt}
-use Rattle.std.proofs.lemmas.Grind.{common_steps, get_or-set_at}
-use Rattle.std.proofs.lemmas.List.{get_or_append_left, get_or_push, length-map, length-append, length-drop, length-set, take-append-le, drop-append-le, get_or-set_same, get_or-set_other}
-use Rattle.std.proofs.lemmas.Option.{slice_get_within, get_or_from_slice_get, slice_get-get_or, same_Some, MatchOption-at_some}
+use Rattle.std.proofs.lemmas.Grind.{get_or-set_at}
+use Rattle.std.proofs.lemmas.List.{get_or_append_left, get_or_push, length-map, length-append, length-drop, length-set, take-append-le, drop-append-le, get_or-set_other}
+use Rattle.std.proofs.lemmas.Option.{get_or_from_slice_get, slice_get-get_or, same_Some}
 use Rattle.std.specs.Int.{IsPowerOfTwo}
 use Rattle.std.specs.List.{slice_get}
 use Rattle.std.specs.Option.{option_map, IfSome}
 use Rattle.uring_entry.specs.Layout.{Entry}
 use Rattle.uring_entry.specs.Shape.{Shape}
 use Rattle.uring_entry.specs.Words.{word_of}
-use Rattle.uring_entry.specs.Submission.{Submission, Place, Call, taken, staged, pending, dropped, dropped_in, place_of, entries_of, places_from, is_busy, filled, indexed, stored, took, closed}
-use Rattle.uring_rings.specs.declared.open_call.OpenCall.{OpenCall}
+use Rattle.uring_entry.specs.Submission.{Submission, Place, Call, taken, staged, pending, dropped_in, place_of, entries_of, places_from, is_busy, filled, indexed, stored}
 use Rattle.uring_rings.specs.SubmissionRing.{SubmissionQueue, IsSubmissionQueue, ShowsSubmission, words, progress}
 use Rattle.uring_rings.proofs.Elements.{slice_get-append_left, slice_get-append_right}
 use Rattle.uring_rings.proofs.Counts.{distance_of_words, word_after, cells_after_write}

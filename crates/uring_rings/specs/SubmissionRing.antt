@@ -1,5 +1,5 @@
 -- What the submission ring keeps, and how that shows the lists of all that happened on it.
-use Rattle.std.specs.Prelude.{◌≡◌, ℕ, ◌+◌, ◌%◌, ◌<◌, ◌≤◌, List, ◌++◌, length, map, Option, Some, IfSome, slice_get, slice_index, slice_index_or}
+use Rattle.std.specs.Prelude.{◌≡◌, ℕ, ◌+◌, ◌%◌, ◌<◌, ◌≤◌, List, ◌++◌, length, map, Option, Some, IfSome, slice_get, slice_index}
 use Rattle.std.specs.Int.{IsPowerOfTwo}
 use Rattle.std.specs.Option.{option_map}
 use Rattle.uring_entry.specs.Layout.{Entry}

@@ -1,6 +1,6 @@
 use uring_entry::Sqe;
 
-/// What `Sq::fill` answers. Both refusals are our own rule.
+/// What `Sq::fill` answers. The refusals, in this order, are our own rule.
 #[derive(Clone, Copy, Debug, PartialEq, Eq)]
 pub enum FillAnswer {
     /// The slot isn't below the ring's size.
@@ -13,17 +13,17 @@ pub enum FillAnswer {
     Filled,
 }
 
-/// What `Sq::index` answers.
+/// What `Sq::index` answers. io_uring(7), on a submission queue that is full.
 #[derive(Clone, Copy, Debug, PartialEq, Eq)]
 pub enum IndexAnswer {
-    /// As many positions are staged or published above the head that the application last loaded as the ring has cells.
+    /// As many positions as the ring's size are staged or published at or after the head that the application last loaded.
     Full,
 
     /// The word is staged at the next position.
     Staged,
 }
 
-/// What `Sq::begin` answers.
+/// What `Sq::begin` answers. The refusal is our own rule.
 #[derive(Clone, Copy, Debug, PartialEq, Eq)]
 pub enum BeginAnswer {
     /// A call is open.
@@ -33,23 +33,23 @@ pub enum BeginAnswer {
     Call(u32),
 }
 
-/// What `Sq::take` answers.
+/// What `Sq::take` answers. The refusals, in this order, are our own rule.
 #[derive(Clone, Copy, Debug, PartialEq, Eq)]
 pub enum TakeAnswer {
     /// No call is open.
     NoCall,
 
-    /// All positions of the call are taken.
+    /// All positions of the open call are taken.
     NoMore,
 
-    /// The position's entry.
+    /// The next position's entry.
     Entry(Sqe),
 
-    /// The position's word names no slot; `end` counts it among the dropped.
+    /// The next position's word names no slot. `end` counts it among the dropped.
     Dropped,
 }
 
-/// What `Sq::end` answers.
+/// What `Sq::end` answers. The refusals, in this order, are our own rule.
 #[derive(Clone, Copy, Debug, PartialEq, Eq)]
 pub enum EndAnswer {
     /// No call is open.

@@ -1,7 +1,7 @@
 ghost use Rattle.std.specs.Prelude.{◌≡◌, ◌+◌, ◌-◌, ◌%◌, ◌^◌, ◌<◌, length, IfOk, OnOk, OnErr, Option, None, if◌then◌else◌, min, nat_lt, slice_get, slice_set};
 ghost use Rattle.uring_entry.specs.Shape.{Shape};
 ghost use Rattle.uring_entry.specs.Words.{word_of};
-ghost use Rattle.uring_entry.specs.Completions.{Completions, no_completion, with_posted, flushed, with_tail_loaded, with_head_stored, next_to_reap, unreaped};
+ghost use Rattle.uring_entry.specs.Completions.{Completions, no_completion, has_room, with_posted, flushed, with_tail_loaded, with_head_stored, next_to_reap, unreaped};
 ghost use Rattle.uring_rings.specs.CompletionRing.{ShowsCompletions, IsOrderedCompletions, after_reap};
 
 use crate::indices::Index;
@@ -16,13 +16,19 @@ use uring_entry::{Cqe, Setup};
 #[derive(Debug, Drop)]
 pub struct Cq {
     size: u32,
+    // behind the last completion put into the ring
     tail: Index,
+    // as the application last stored it
     head: Index,
+    // the head as the dispatcher last loaded it
     seen_head: Index,
+    // the tail as the application last loaded it
     seen_tail: Index,
+    // the position that is reaped next
     next: Index,
     posted: u64,
     reaped: u64,
+    // the posts that are promised
     room: u64,
     cells: Vec<Cqe>,
     overflow: VecDeque<Cqe>,
@@ -100,9 +106,10 @@ impl Cq {
         ensures shows { (g : Shape) (l : Completions) → ShowsCompletions g self.old l →
             ShowsCompletions g self.new (with_posted g.cq l completion) }
     {
+        let fits = self.has_free_cell();
         self.room -= 1;
         self.posted = self.posted.wrapping_add(1);
-        if self.overflow.is_empty() && self.tail.distance(self.seen_head) < self.size {
+        if fits {
             self.put(completion);
         } else {
             self.overflow.push_back_reserved(completion);
@@ -196,6 +203,13 @@ impl Cq {
             result ≡ length l.reaped % 2 ^ 64 }
     {
         self.reaped
+    }
+
+    /// Whether a completion that is posted goes into the ring: none waits, and the ring holds fewer than its size above the head last loaded.
+    fn has_free_cell(&self) -> bool
+        ensures { (g : Shape) (l : Completions) → ShowsCompletions g self.now l → result ≡ has_room g.cq l }
+    {
+        self.overflow.is_empty() && self.tail.distance(self.seen_head) < self.size
     }
 
     /// Moves the oldest completion that waits into the ring, if there is one and the ring holds fewer than its size above the head last loaded. Answers whether it did.

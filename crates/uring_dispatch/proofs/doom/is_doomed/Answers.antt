@@ -20,4 +20,4 @@ returns-else-is_behind_failure c = λ r h.
     c.is_in_faulty_group.ensures r h
     ∙ sym
     (is_doomed-else r _ (sym (h.cancelled c.args.n) ∙ ap (λ (x : Request). x.is_cancelled) (sym q ∙ c.index-requests-n.is) ∙ c.if-requests-n.false)
-        (sym (c.is_behind_failure.ensures r h) ∙ c.if-is_behind_failure.false))
+    (sym (c.is_behind_failure.ensures r h) ∙ c.if-is_behind_failure.false))

@@ -1,4 +1,4 @@
-use Rattle.std.proofs.Common.{sym, ◌∙◌, ap, refl, negsuc}
+use Rattle.std.proofs.Common.{sym, ap, refl, negsuc}
 use Rattle.uring_dispatch.specs.Held.{in_over}
 use Rattle.uring_dispatch.proofs.Changes.{issued_end-held, cancel-held, none_chosen}
 use Rattle.uring_dispatch.proofs.Numbers.{cancel-counts}

@@ -28,14 +28,14 @@ returns-in-Cancel-clause-answer c = λ r h.
     let q = read_at c.args.requests.now c.args.n c.index-requests-n.result c.requires.within c.index-requests-n.is in
     rw (to_z-of_z w32 c.cancel.result (search rules))
     (issued-cancel r _ _ (sym (c.is_doomed.ensures r h) ∙ c.if-is_doomed.false) (sym (c.is_ready.ensures r h) ∙ c.if-not-is_ready.false)
-        (is_cancel-entry _ r _ _ _ _ h (ap (λ (x : Request). x.entry) (sym c.index-requests-n.is ∙ q)) c.in-Ok.ensures.right.1 c.in-Cancel.is) (c.cancel.ensures.answer r h))
+    (is_cancel-entry _ r _ _ _ _ h (ap (λ (x : Request). x.entry) (sym c.index-requests-n.is ∙ q)) c.in-Ok.ensures.right.1 c.in-Cancel.is) (c.cancel.ensures.answer r h))
 
 pub returns-in-Cancel-clause-held : goal.returns-in-Cancel-clause-held
 returns-in-Cancel-clause-held c = λ r h.
     let q = read_at c.args.requests.now c.args.n c.index-requests-n.result c.requires.within c.index-requests-n.is in
     rw (to_z-of_z w32 c.cancel.result (search rules))
     (c.cancel.ensures.held r h
-        (is_cancel-entry _ r _ _ _ _ h (ap (λ (x : Request). x.entry) (sym c.index-requests-n.is ∙ q)) c.in-Ok.ensures.right.1 c.in-Cancel.is))
+    (is_cancel-entry _ r _ _ _ _ h (ap (λ (x : Request). x.entry) (sym c.index-requests-n.is ∙ q)) c.in-Ok.ensures.right.1 c.in-Cancel.is))
 
 pub returns-clause-answer : goal.returns-clause-answer
 returns-clause-answer c = λ r h.

@@ -6,7 +6,7 @@ abbrev pub invariant-loop-end : goal.invariant-loop-end
 invariant-loop-end l = record {
   to : l.n < l.end;
   within : l.end ≤ length l.requests;
-  joined : (k : ℕ) → l.n ≤ k → suc k < l.end → ends_group (request_at l.requests k) ≡ false
+  joined : (k : ℕ) → l.n ≤ k → suc k < l.end → ends_group (request_at l.requests k) ≡ false;
 }
 
 abbrev pub decreases-loop-end : goal.decreases-loop-end

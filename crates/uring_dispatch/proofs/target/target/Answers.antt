@@ -6,7 +6,7 @@ pub returns-then-is_candidate-clause-target : goal.returns-then-is_candidate-cla
 returns-then-is_candidate-clause-target c = λ r h.
     sym
     (target_of-some r _ c.loop-m.m (omega (arith, h.count)) (sym (c.is_candidate.ensures r h) ∙ c.if-is_candidate.true)
-        (c.loop-m.invariant r h))
+    (c.loop-m.invariant r h))
 
 pub loop-m-preserved : goal.loop-m-preserved
 loop-m-preserved c = λ r h.

@@ -1,4 +1,4 @@
-use Rattle.std.proofs.Common.{◌++◌, ap, ◌∙◌, length}
+use Rattle.std.proofs.Common.{◌++◌, ap, length}
 use Rattle.std.proofs.lemmas.List.{drop-replicate}
 use Rattle.uring_entry.proofs.payload.padded_bytes.Goals as goal
 

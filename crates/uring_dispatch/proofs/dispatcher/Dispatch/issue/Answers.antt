@@ -17,4 +17,4 @@ pub returns-clause-counts : goal.returns-clause-counts
 returns-clause-counts c =
     rw (← c.self.view_is)
     (counts-list _ _ _ c.issue.new.requests _ (with_items_is c.self.inside.requests c.issue.new.requests (omega arith))
-        (rw c.deref_mut.ensures.value at (c.issue.ensures.counts (vec_capacity c.self.inside.requests))))
+    (rw c.deref_mut.ensures.value at (c.issue.ensures.counts (vec_capacity c.self.inside.requests))))

@@ -12,7 +12,7 @@ returns-then-is_running c = λ r s.
     let h = held-from _ _ _ r c.self.view_is s in
     let lt : c.args.n < length c.self.inside.requests.items = omega (arith, h.count, s.accepted, c.accepted.ensures.value, c.if-n-accepted.false) in
     c.ok.ensures.value
-    ∙ operation-some _ r _ c.index.result.now _ h (read_at _ _ _ lt c.index.ensures) (sym c.is_running.ensures ∙ c.if-is_running.true)
+    ∙ operation-some _ r _ c.index-request.result.now _ h (read_at _ _ _ lt c.index-request.ensures) (sym c.is_running.ensures ∙ c.if-is_running.true)
     c.prepare.ensures.right c.prepare.ensures.faulty
 
 pub returns-else-is_running : goal.returns-else-is_running
@@ -20,4 +20,4 @@ returns-else-is_running c = λ r s.
     let h = held-from _ _ _ r c.self.view_is s in
     let lt : c.args.n < length c.self.inside.requests.items = omega (arith, h.count, s.accepted, c.accepted.ensures.value, c.if-n-accepted.false) in
     operation-none r _
-    (sym (h.running c.args.n) ∙ ap is_running (sym (read_at _ _ _ lt c.index.ensures)) ∙ sym c.is_running.ensures ∙ c.if-is_running.false)
+    (sym (h.running c.args.n) ∙ ap is_running (sym (read_at _ _ _ lt c.index-request.ensures)) ∙ sym c.is_running.ensures ∙ c.if-is_running.false)

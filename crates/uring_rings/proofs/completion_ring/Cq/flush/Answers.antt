@@ -1,7 +1,6 @@
-use Rattle.std.proofs.Common.{◌≡◌, ◌+◌, ℕ, sym, ap, ◌∙◌, subst, arith, rules, add_assoc}
-use Rattle.uring_entry.specs.Shape.{Shape}
-use Rattle.uring_entry.specs.Completions.{Completions, put_by_flush}
-use Rattle.uring_rings.specs.CompletionRing.{CompletionQueue, ShowsCompletions}
+use Rattle.std.proofs.Common.{◌≡◌, ◌+◌, ℕ, ◌∙◌, subst, arith, add_assoc}
+use Rattle.uring_entry.specs.Completions.{put_by_flush}
+use Rattle.uring_rings.specs.CompletionRing.{ShowsCompletions}
 use Rattle.uring_rings.proofs.CompletionSteps.{load_shows, all_moved}
 use Rattle.uring_rings.proofs.completion_ring.Cq.flush.Goals as goal
 

@@ -1,4 +1,4 @@
-use Rattle.std.proofs.Common.{◌≡◌, ℕ, ◌+◌, length}
+use Rattle.std.proofs.Common.{◌≡◌, ◌+◌, length}
 use Rattle.uring_entry.specs.Shape.{Shape}
 use Rattle.uring_entry.specs.Completions.{Completions}
 use Rattle.uring_rings.specs.CompletionRing.{ShowsCompletions}

@@ -1,4 +1,4 @@
-use Rattle.std.proofs.Common.{◌≡◌, ◌<◌, ◌+◌, sym, arith, rules}
+use Rattle.std.proofs.Common.{◌<◌, ◌+◌, arith, rules}
 use Rattle.uring_rings.proofs.CompletionSteps.{put_above, put_shows}
 use Rattle.uring_rings.proofs.completion_ring.Cq.move_oldest.Goals as goal
 

@@ -1,4 +1,4 @@
-use Rattle.std.proofs.Common.{◌≡◌, sym, ◌∙◌, arith, rules}
+use Rattle.std.proofs.Common.{sym, ◌∙◌, rules}
 use Rattle.std.proofs.lemmas.Bool.{eqb-false}
 use Rattle.uring_rings.proofs.CompletionSteps.{reaps, reap_answers, reap_shows}
 use Rattle.uring_rings.proofs.completion_ring.Cq.reap.Goals as goal

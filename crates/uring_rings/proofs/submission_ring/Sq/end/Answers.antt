@@ -1,4 +1,4 @@
-use Rattle.std.proofs.Common.{◌≡◌, sym, arith, rules}
+use Rattle.std.proofs.Common.{rules}
 use Rattle.uring_rings.proofs.SubmissionCalls.{is_done, end_answers, end_shows}
 use Rattle.uring_rings.proofs.submission_ring.Sq.end.Goals as goal
 

@@ -1,4 +1,4 @@
-use Rattle.std.proofs.Common.{◌≡◌, sym, ◌∙◌, subst, arith, rules}
+use Rattle.std.proofs.Common.{sym, ◌∙◌, subst, rules}
 use Rattle.uring_rings.specs.SubmissionRing.{SubmissionQueue, ShowsSubmission}
 use Rattle.uring_rings.proofs.SubmissionSteps.{fill_shows}
 use Rattle.uring_rings.proofs.submission_ring.Sq.fill.Goals as goal

@@ -1,4 +1,4 @@
-use Rattle.std.proofs.Common.{◌≡◌, sym, arith, rules}
+use Rattle.std.proofs.Common.{rules}
 use Rattle.uring_rings.proofs.SubmissionSteps.{index_shows}
 use Rattle.uring_rings.proofs.submission_ring.Sq.index.Goals as goal
 

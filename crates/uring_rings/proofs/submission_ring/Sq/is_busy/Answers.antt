@@ -1,4 +1,4 @@
-use Rattle.std.proofs.Common.{◌≡◌, ℕ, ◌+◌, ◌-◌, ◌%◌, ◌<◌, ◌≤◌, length, sym, ap, ◌∙◌, arith, rules}
+use Rattle.std.proofs.Common.{ℕ, ◌%◌, sym, ap, ◌∙◌, rules}
 use Rattle.uring_rings.specs.SubmissionRing.{SubmissionQueue}
 use Rattle.uring_rings.proofs.Elements.{read_cell}
 use Rattle.uring_rings.proofs.SubmissionWords.{loop_finds, loop_passes}

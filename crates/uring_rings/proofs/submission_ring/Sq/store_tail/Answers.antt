@@ -1,4 +1,3 @@
-use Rattle.std.proofs.Common.{◌≡◌, sym, arith, rules}
 use Rattle.uring_rings.proofs.SubmissionSteps.{store_shows}
 use Rattle.uring_rings.proofs.submission_ring.Sq.store_tail.Goals as goal
 
