@@ -29,3 +29,6 @@ pub mod FileHistory
 pub mod Fitting
 pub mod Following
 pub mod WholeLaws
+pub mod Outstanding
+pub mod Numbers
+pub mod Settling

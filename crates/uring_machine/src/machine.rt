@@ -1,10 +1,11 @@
-ghost use Rattle.std.specs.Prelude.{◌≡◌, ◌∷◌, [], IfOk, slice_get};
+ghost use Rattle.std.specs.Prelude.{◌≡◌, ◌≤◌, ◌∷◌, [], IfOk, slice_get};
 ghost use Rattle.uring_entry.specs.Completions.{unreaped};
 ghost use Rattle.uring_files.specs.Operations.{state_of, byte_of};
 ghost use Rattle.uring_dispatch.specs.Answers.{operation_running};
 ghost use Rattle.uring_machine.specs.Contents.{CalledFor, files_of};
 ghost use Rattle.uring_machine.specs.Core.{IsCounts};
 ghost use Rattle.uring_machine.specs.Histories.{History, world};
+ghost use Rattle.uring_machine.specs.Settling.{HasSettled, IsSettled};
 ghost use Rattle.uring_machine.specs.declared.steps.Step.TheVariants as step;
 
 use std::alloc::{AllocError, Global};
@@ -101,6 +102,44 @@ impl Machine {
         ensures { (h : History) → Fits self.now h → result ≡ byte_of (files_of self.now.core.shape (world self.now.core.shape h)) fd at }
     {
         self.files.byte(fd, at)
+    }
+
+    /// Ends every outstanding request, and answers how many steps that took: at most two for each. Each is an `Issue` or a `Finish`.
+    ///
+    /// Until nothing is outstanding it issues the next request, and finishes it if it runs; where none can be issued, it finishes the least that runs.
+    pub fn settle_idle(&mut self) -> u64
+        ensures shape { self.new.core.shape ≡ self.old.core.shape }
+        ensures settled { (h : History) → Fits self.old h → IsSettled self.new h result }
+    {
+        let outstanding = self.core.counts().outstanding;
+        let mut steps = 0;
+        for _ in 0..outstanding {
+            steps += self.settle_one();
+        }
+        steps
+    }
+
+    /// Ends one outstanding request: the next, or where none can be issued the least outstanding one, which then runs. Answers the steps made.
+    fn settle_one(&mut self) -> u64
+        requires { 1 ≤ self.old.core.dispatcher.outstanding }
+        ensures shape { self.new.core.shape ≡ self.old.core.shape }
+        ensures steps { result ≤ 2 }
+        ensures settled { (h : History) → Fits self.old h → HasSettled self.old self.new h result 1 }
+    {
+        let Some(least) = self.core.least() else { unreachable!() };
+        match self.step(Step::Next) {
+            Answer::Next(number) => match self.step(Step::Issue { number }) {
+                Answer::Run => {
+                    self.finish(number);
+                    2
+                }
+                _ => 1,
+            },
+            _ => {
+                self.finish(least);
+                1
+            }
+        }
     }
 
     /// Carries out the operation of a running request on the files, and ends the request with what that gave.
