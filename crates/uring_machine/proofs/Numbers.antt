@@ -45,7 +45,7 @@ few_kept g w s a (takes entry call place opened left at valid) called i =
     subst (λ o. AreFew (taking_of w o)) (sym opened) (subst (λ o. length w.requests.accepted + positions_of o ≤ 2 ^ 63 - 1) opened i)
 few_kept g w s a (drops call place opened left at invalid) called i =
     subst (λ o. AreFew (taking_of w o)) (sym opened) (subst (λ o. length w.requests.accepted + positions_of o ≤ 2 ^ 63 - 1) opened i)
-few_kept g w s a (closes accepted missed head call opened all) called i =
+few_kept g w s a (closes accepted missed head call opened all many) called i =
     let before : length w.requests.accepted + call.count ≤ 2 ^ 63 - 1 = subst (λ o. length w.requests.accepted + positions_of o ≤ 2 ^ 63 - 1) opened i in
     subst (λ o. AreFew (ending_of w o)) (sym opened) (omega (arith, before, few_entries w call, length-append w.requests.accepted (entries_of (places_from w.submission call.count))))
 few_kept g w s a (runs n outstanding idle spared ready) called i = i

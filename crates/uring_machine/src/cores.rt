@@ -1,5 +1,4 @@
 ghost use Rattle.std.specs.Prelude.{◌≡◌, ◌∷◌, [], IfOk, slice_get};
-ghost use Rattle.uring_entry.specs.Requests.{least_of};
 ghost use Rattle.uring_entry.specs.Completions.{unreaped};
 ghost use Rattle.uring_entry.specs.Requests.{least_of};
 ghost use Rattle.uring_dispatch.specs.Answers.{operation_running};

@@ -18,3 +18,6 @@ pub use counts::Counts;
 pub use machine::Machine;
 pub use runs::run;
 pub use steps::Step;
+
+#[cfg(test)]
+mod tests;
