@@ -31,3 +31,4 @@ pub mod Following
 pub mod Outstanding
 pub mod Numbers
 pub mod Settling
+pub mod WholeLaws

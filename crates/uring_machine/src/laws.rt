@@ -3,6 +3,7 @@ ghost use Rattle.std.specs.Prelude.{◌≡◌, ◌↔◌, ◌<◌, ℕ, neg_ℤ,
 ghost use Rattle.std.specs.List.{list_any};
 ghost use Rattle.uring_entry.specs.Shape.{Shape, IsShape};
 ghost use Rattle.uring_machine.specs.Histories.{History, world, IsLawfulApart};
+ghost use Rattle.uring_machine.specs.Contents.{IsLawful};
 ghost use Rattle.uring_machine.specs.HistoryLists.{OwnSubmission, OwnRequests, OwnCompletions, IsChosenIn};
 ghost use Rattle.uring_machine.specs.Laws.{ReapedBeginPosted, TakenOnceInOrder, takes_in, LeastCanGoOn, EachEndsOnce, DoomedNeverRun, IsStart, waits_for, times_ended};
 ghost use Rattle.uring_entry.specs.Requests.{is_outstanding, is_doomed, is_cancelled};
@@ -55,4 +56,10 @@ pub fn nothing_after_close()
 /// With something outstanding, the least outstanding request is running, or it is the next to be issued, and `Issue` doesn't refuse it.
 pub fn least_can_go_on()
     ensures { (g : Shape) (h : History) (n : ℕ) → is_outstanding (world g h).requests n ≡ true → LeastCanGoOn (world g h) }
+{}
+
+/// What is lawful is lawful apart from what operations gave, so that every law holds of it. A finish never ends with -125 (`ECANCELED`), so that each such end is that of a request that was doomed just before.
+pub fn operations_never_cancel()
+    ensures apart { (g : Shape) (h : History) → IsLawful g h → IsLawfulApart g h }
+    ensures never { (g : Shape) (after before : History) (n : ℕ) (bytes : List ℕ) → IsLawful g (after ++ (step.Finish n, answer.Ended (neg_ℤ ECANCELED) bytes) ∷ before) → ⊥ }
 {}
