@@ -60,7 +60,7 @@ few_kept g w s a (shuts no_call) called i = i
 
 few_accepted : (g : Shape) (h : History) → IsLawfulApart g h → AreFew (world g h)
 few_accepted g [] lawful = omega arith
-few_accepted g ((s , a) ∷ before) lawful = few_kept g (world g before) s a (change_of g (world g before) s a lawful.0) lawful.0 (few_accepted g before lawful.1)
+few_accepted g ((s, a) ∷ before) lawful = few_kept g (world g before) s a (change_of g (world g before) s a lawful.0) lawful.0 (few_accepted g before lawful.1)
 
 -- fewer than 2 ^ 63 are outstanding
 pub few_outstanding : (g : Shape) (h : History) → IsLawfulApart g h → outstanding_in (world g h).requests ≤ 2 ^ 63 - 1

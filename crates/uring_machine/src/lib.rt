@@ -8,9 +8,9 @@ mod cores;
 mod counts;
 pub mod laws;
 mod machine;
+mod posting;
 mod runs;
 mod steps;
-mod posting;
 
 pub use answers::Answer;
 pub use cores::Core;

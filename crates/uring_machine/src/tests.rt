@@ -1,9 +1,8 @@
 mod rows;
 mod settling;
 
-use uring_entry::{Cqe, Sqe};
-
 use crate::{Answer, Step};
+use uring_entry::{Cqe, Sqe};
 
 /// The application writes an entry to a slot.
 fn fill(slot: u32, entry: Sqe) -> Step {

@@ -1,13 +1,12 @@
 //! Steps in turn, each with its answer.
 
 use super::*;
+use crate::{Machine, run};
 use bitflags::Flags;
 use std::alloc::Global;
 use std::process::Abort;
 use std::test::Fail;
 use uring_entry::{Setup, SqeFlags};
-
-use crate::{Machine, run};
 
 /// A step and the answer that it is to have.
 type Row = (Step, Answer);
@@ -68,7 +67,12 @@ fn full_across_the_wrap(rt: HostRuntime) -> Result<(), Fail> {
         (Step::LoadHead, Answer::Head(2)),
         (index(0), Answer::Staged),
     ];
-    check(&rt, rt.alloc(), Setup::new(4, Some(4), 2, 4_294_967_294)?, &rows)
+    check(
+        &rt,
+        rt.alloc(),
+        Setup::new(4, Some(4), 2, 4_294_967_294)?,
+        &rows,
+    )
 }
 
 #[test]

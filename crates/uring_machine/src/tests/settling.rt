@@ -1,13 +1,12 @@
 //! What a machine tells of itself, and that it settles.
 
 use super::*;
+use crate::{Counts, Machine};
 use bitflags::Flags;
 use std::alloc::Global;
 use std::test::Fail;
 use uring_entry::{Op, Setup, SqeFlags};
 use uring_files::FileState;
-
-use crate::{Counts, Machine};
 
 /// A new machine with rings of these sizes and 2 files.
 fn machine(alloc: Global, sq: u32, cq: u32) -> Result<Machine, Fail> {
@@ -89,7 +88,10 @@ fn completions_rest_until_reaped(rt: HostRuntime) -> Result<(), Fail> {
 #[test]
 fn write_reaches_its_file(rt: HostRuntime) -> Result<(), Fail> {
     let mut machine = machine(rt.alloc(), 4, 4)?;
-    submit(&mut machine, &[Sqe::write(1, 0, 0, 2, b"ab"), Sqe::fsync(2, 0, 1)]);
+    submit(
+        &mut machine,
+        &[Sqe::write(1, 0, 0, 2, b"ab"), Sqe::fsync(2, 0, 1)],
+    );
     machine.step(issue(1));
     assert_eq!(rt; machine.running_op(0), None);
     assert_eq!(rt; machine.running_op(1), Some(Op::Fsync { fd: 1 }));
