@@ -8,3 +8,4 @@ pub mod Words
 pub mod Submission
 pub mod Requests
 pub mod Completions
+pub mod Texts

@@ -1,3 +1,6 @@
+ghost use Rattle.std.specs.Prelude.{Some};
+ghost use Rattle.uring_entry.specs.Texts.{refusal_text};
+
 use std::error::Error;
 use std::fmt;
 
@@ -15,6 +18,8 @@ pub enum BadSetup {
 }
 
 impl fmt::Display for BadSetup {
+    ghost output = { λ refusal. Some (refusal_text refusal) };
+
     fn fmt<W: fmt::Write>(&self, f: &mut fmt::Formatter<W>) -> fmt::Result {
         f.write_str(match self {
             BadSetup::BadSq => "the submission ring has 1 to 4096 entries",

@@ -1,3 +1,6 @@
+ghost use Rattle.std.specs.Prelude.{Some};
+ghost use Rattle.uring_entry.specs.Texts.{fault_text};
+
 use std::error::Error;
 use std::fmt;
 
@@ -27,6 +30,8 @@ pub enum Fault {
 }
 
 impl fmt::Display for Fault {
+    ghost output = { λ fault. Some (fault_text fault) };
+
     fn fmt<W: fmt::Write>(&self, f: &mut fmt::Formatter<W>) -> fmt::Result {
         f.write_str(match self {
             Fault::Flags => "a flag that is not served",

@@ -87,18 +87,18 @@ same_shown p w d q s same between shows shown room =
     }
 
 pub spent_goes : (p : Parts) (d : Dispatcher) (count n : ℕ) → MayOpen p count n → 2 ^ 63 - 1 < p.dispatcher.accepted + n → d ≡ p.dispatcher
-    → (h : History) → FitsApart p h → FitsApart (record p { dispatcher = d }) ((step.Begin count , answer.Spent) ∷ h)
+    → (h : History) → FitsApart p h → FitsApart (record p { dispatcher = d }) ((step.Begin count, answer.Spent) ∷ h)
 spent_goes p d count n may spent same h f =
-    subst (λ e. FitsApart (record p { dispatcher = e }) ((step.Begin count , answer.Spent) ∷ h)) (sym same) (record {
+    subst (λ e. FitsApart (record p { dispatcher = e }) ((step.Begin count, answer.Spent) ∷ h)) (sym same) (record {
       shows = f.shows;
       lawful = (subst (λ a. OrAgain a answer.Spent) (sym (begin_answer_spent p (world p.shape h) count n may f.shows spent)) refl, f.lawful);
     })
 
 pub again_goes : (p : Parts) (d : Dispatcher) (q : CompletionQueue) (count n : ℕ) → MayOpen p count n → p.dispatcher.accepted + n ≤ 2 ^ 63 - 1
     → IsSameCount p.dispatcher d → d.is_between_calls ≡ true → ((r : Requests) → Shows p.dispatcher r → Shows d r) → q ≡ p.completions
-    → (h : History) → FitsApart p h → FitsApart (record p { dispatcher = d; completions = q }) ((step.Begin count , answer.Again) ∷ h)
+    → (h : History) → FitsApart p h → FitsApart (record p { dispatcher = d; completions = q }) ((step.Begin count, answer.Again) ∷ h)
 again_goes p d q count n may numbers same between shows kept h f =
-    subst (λ c. FitsApart (record p { dispatcher = d; completions = c }) ((step.Begin count , answer.Again) ∷ h)) (sym kept) (record {
+    subst (λ c. FitsApart (record p { dispatcher = d; completions = c }) ((step.Begin count, answer.Again) ∷ h)) (sym kept) (record {
       shows = same_shown p (world p.shape h) d p.completions f.shows same between (shows _ f.shows.requests) f.shows.completions (omega arith);
       lawful = (subst (λ a. OrAgain a answer.Again) (sym (begin_answer_call p (world p.shape h) count n may f.shows numbers)) (inr refl), f.lawful);
     })
@@ -136,7 +136,7 @@ pub call_goes : (p : Parts) (s' : SubmissionQueue) (q : CompletionQueue) (d : Di
     → ((g : Shape) (l : Completions) → ShowsCompletions g p.completions l → ShowsCompletions g q l) → q.room ≡ p.dispatcher.outstanding + n
     → ((g : Shape) (l : Submission) → ShowsSubmission g p.submissions l → r ≡ ring.begin_answer l count)
     → ((g : Shape) (l : Submission) → ShowsSubmission g p.submissions l → ShowsSubmission g s' (ring.after_begin l count r))
-    → (h : History) → FitsApart p h → FitsApart (record p { submissions = s'; completions = q; dispatcher = d }) ((step.Begin count , begin_told r) ∷ h)
+    → (h : History) → FitsApart p h → FitsApart (record p { submissions = s'; completions = q; dispatcher = d }) ((step.Begin count, begin_told r) ∷ h)
 call_goes p s' q d count n r may numbers same fits between shows kept room answered shown h f =
     let w = world p.shape h in
     let s = f.shows in
@@ -144,7 +144,7 @@ call_goes p s' q d count n r may numbers same fits between shows kept room answe
     let length = may.positions p.shape w.submission s.submission in
     let is : r ≡ begin.Call n = opened w.submission count n r none length (answered p.shape w.submission s.submission) in
     let after : ShowsSubmission p.shape s' (begun w.submission count) = subst (λ b. ShowsSubmission p.shape s' (ring.after_begin w.submission count b)) is (shown p.shape w.submission s.submission) in
-    subst (λ b. FitsApart (record p { submissions = s'; completions = q; dispatcher = d }) ((step.Begin count , begin_told b) ∷ h)) (sym is) (record {
+    subst (λ b. FitsApart (record p { submissions = s'; completions = q; dispatcher = d }) ((step.Begin count, begin_told b) ∷ h)) (sym is) (record {
       shows = begun_shows p w s' q d count n s (none_since w.submission.call none) length after (kept p.shape w.completions s.completions) room same fits between (shows w.requests s.requests) numbers;
       lawful = (subst (λ a. OrAgain a (answer.Call n)) (sym (begin_answer_call p w count n may s numbers)) (inl refl), f.lawful);
     })

@@ -56,8 +56,8 @@ sum_more ns n = grind (arith, common_steps)
 all_taken : (g : Shape) (l : Submission) (call : Call) (t : Taken) → ended_as.Taken t ≡ ring.end_of g l (Some call) → eqb call.taken call.count ≡ true
 all_taken g l call t e =
     elim (cases_Bool (eqb call.taken call.count)) [
-      inl all ↦ all
-    | inr more ↦ absurd (let f : ended_as.Taken t ≡ ended_as.NotAll = e ∙ ap (λ b. cond b (ended_as.Taken (record { accepted = length (entries_of (places_from l call.count)); dropped = dropped (closed l call); head = word_of g.start (taken (closed l call)) })) ended_as.NotAll) more in cc)
+      | inl all ↦ all
+      | inr more ↦ absurd (let f : ended_as.Taken t ≡ ended_as.NotAll = e ∙ ap (λ b. cond b (ended_as.Taken (record { accepted = length (entries_of (places_from l call.count)); dropped = dropped (closed l call); head = word_of g.start (taken (closed l call)) })) ended_as.NotAll) more in cc)
     ]
 
 told_taken : (g : Shape) (l : Submission) (call : Call) (t : Taken) → ended_as.Taken t ≡ ring.end_of g l (Some call)
@@ -65,7 +65,7 @@ told_taken : (g : Shape) (l : Submission) (call : Call) (t : Taken) → ended_as
 told_taken g l call t e =
     let all = all_taken g l call t e in
     let f : ended_as.Taken t ≡ ended_as.Taken (record { accepted = length (entries_of (places_from l call.count)); dropped = dropped (closed l call); head = word_of g.start (taken (closed l call)) }) =
-      e ∙ ap (λ b. cond b (ended_as.Taken (record { accepted = length (entries_of (places_from l call.count)); dropped = dropped (closed l call); head = word_of g.start (taken (closed l call)) })) ended_as.NotAll) all in
+    e ∙ ap (λ b. cond b (ended_as.Taken (record { accepted = length (entries_of (places_from l call.count)); dropped = dropped (closed l call); head = word_of g.start (taken (closed l call)) })) ended_as.NotAll) all in
     cc
 
 closed_shows : (p : Parts) (w : World) (q : SubmissionQueue) (d : Dispatcher) (call : Call) → ShowsWorld p w → w.submission.call ≡ Some call → call.taken ≡ call.count → Accepts p d
@@ -109,7 +109,7 @@ pub end_goes : (p : Parts) (q : SubmissionQueue) (d : Dispatcher) (t : Taken)
     → ((g : Shape) (l : Submission) → ShowsSubmission g p.submissions l → ended_as.Taken t ≡ ring.end_answer g l)
     → ((g : Shape) (l : Submission) → ShowsSubmission g p.submissions l → ShowsSubmission g q (ring.after_end l (ended_as.Taken t)))
     → Accepts p d
-    → (h : History) → FitsApart p h → FitsApart (record p { submissions = q; dispatcher = d; held = [] }) ((step.End , answer.Taken t.accepted t.dropped t.head) ∷ h)
+    → (h : History) → FitsApart p h → FitsApart (record p { submissions = q; dispatcher = d; held = [] }) ((step.End, answer.Taken t.accepted t.dropped t.head) ∷ h)
 end_goes p q d t answered shown accepts h f =
     let w = world p.shape h in
     let s = f.shows in
@@ -122,18 +122,18 @@ end_not_all : (g : Shape) (w : World) (c : Option Call) → IfSome c (λ call. (
 end_not_all g w None fits e = absurd (let f : ended_as.NotAll ≡ ended_as.NoCall = e in cc)
 end_not_all g w (Some call) fits e =
     elim (cases_Bool (eqb call.taken call.count)) [
-      inl all ↦ absurd (let f : ended_as.NotAll ≡ ended_as.Taken _ = e ∙ ap (λ b. cond b (ended_as.Taken (record { accepted = length (entries_of (places_from w.submission call.count)); dropped = dropped (closed w.submission call); head = word_of g.start (taken (closed w.submission call)) })) ended_as.NotAll) all in cc)
-    | inr more ↦
-        let ne = eqb-false call.taken call.count more in
-        let less : nat_lt call.taken call.count ≡ true = lt-ltb call.taken call.count (omega arith) in
-        rw less refl
+      | inl all ↦ absurd (let f : ended_as.NotAll ≡ ended_as.Taken _ = e ∙ ap (λ b. cond b (ended_as.Taken (record { accepted = length (entries_of (places_from w.submission call.count)); dropped = dropped (closed w.submission call); head = word_of g.start (taken (closed w.submission call)) })) ended_as.NotAll) all in cc)
+      | inr more ↦
+          let ne = eqb-false call.taken call.count more in
+          let less : nat_lt call.taken call.count ≡ true = lt-ltb call.taken call.count (omega arith) in
+          rw less refl
     ]
 
 pub end_not_all_goes : (p : Parts) (q : SubmissionQueue)
     → ((g : Shape) (l : Submission) → ShowsSubmission g p.submissions l → ended_as.NotAll ≡ ring.end_answer g l) → q ≡ p.submissions
-    → (h : History) → FitsApart p h → FitsApart (record p { submissions = q }) ((step.End , answer.NotAll) ∷ h)
+    → (h : History) → FitsApart p h → FitsApart (record p { submissions = q }) ((step.End, answer.NotAll) ∷ h)
 end_not_all_goes p q answered same h f =
-    subst (λ s. FitsApart (record p { submissions = s }) ((step.End , answer.NotAll) ∷ h)) (sym same) (record {
+    subst (λ s. FitsApart (record p { submissions = s }) ((step.End, answer.NotAll) ∷ h)) (sym same) (record {
       shows = f.shows;
       lawful = (end_not_all p.shape (world p.shape h) (world p.shape h).submission.call f.shows.submission.call_fits (answered p.shape _ f.shows.submission), f.lawful);
     })
@@ -147,8 +147,8 @@ one_more size l completion = omega (arith, length-append l.posted (completion �
 few_posted : (size : ℕ) (l : Completions) (entry : Entry) (res : ℤ) (bytes : List ℕ) → length (with_end size l entry res bytes).posted ≤ length l.posted + 1
 few_posted size l entry res bytes =
     elim (cases_Bool (is_told entry res)) [
-      inl told ↦ rw told (one_more size l (record { user_data = user_data_of entry; res = res; payload = bytes }))
-    | inr skipped ↦ rw skipped (omega arith)
+      | inl told ↦ rw told (one_more size l (record { user_data = user_data_of entry; res = res; payload = bytes }))
+      | inr skipped ↦ rw skipped (omega arith)
     ]
 
 -- The parts after an end: one request less is outstanding, and one promised post less is left at most.
@@ -179,8 +179,8 @@ ended_shows p w d q r entry res bytes s shows accepted outstanding room between 
 pub entry_there : (r : Requests) (n : ℕ) (entry : Entry) → Some entry ≡ entry_outstanding r n → entry ≡ entry_of r n
 entry_there r n entry e =
     elim (cases_Bool (is_outstanding r n)) [
-      inl there ↦ let f : Some entry ≡ Some (entry_of r n) = e ∙ ap (λ b. cond b (Some (entry_of r n)) None) there in cc
-    | inr gone ↦ absurd (let f : Some entry ≡ None = e ∙ ap (λ b. cond b (Some (entry_of r n)) None) gone in cc)
+      | inl there ↦ let f : Some entry ≡ Some (entry_of r n) = e ∙ ap (λ b. cond b (Some (entry_of r n)) None) there in cc
+      | inr gone ↦ absurd (let f : Some entry ≡ None = e ∙ ap (λ b. cond b (Some (entry_of r n)) None) gone in cc)
     ]
 
 -- Issue.
@@ -207,7 +207,7 @@ issue_same w n = told_chain (not (is_outstanding w.requests n)) (is_running w.re
 
 pub run_goes : (p : Parts) (d : Dispatcher) (n : ℕ) (op : Op)
     → ((r : Requests) → Shows p.dispatcher r → issue.Run op ≡ issued r n) → ((r : Requests) → Shows p.dispatcher r → Shows d (with_started r n)) → HasStarted p.dispatcher d
-    → (h : History) → FitsApart p h → FitsApart (record p { dispatcher = d }) ((step.Issue n , answer.Run) ∷ h)
+    → (h : History) → FitsApart p h → FitsApart (record p { dispatcher = d }) ((step.Issue n, answer.Run) ∷ h)
 run_goes p d n op answered shows counts h f =
     let w = world p.shape h in
     let s = f.shows in
@@ -238,14 +238,14 @@ pub issue_ended_goes : (p : Parts) (d : Dispatcher) (q : CompletionQueue) (n : �
     → ((r : Requests) → Shows p.dispatcher r → issue.Ended res ≡ issued r n) → ((r : Requests) → Shows p.dispatcher r → Some entry ≡ entry_outstanding r n)
     → ((r : Requests) → Shows p.dispatcher r → Shows d (with_issued_end r n res)) → HasEnded p.dispatcher d
     → ((g : Shape) (l : Completions) → ShowsCompletions g p.completions l → ShowsCompletions g q (with_end g.cq l entry res no_bytes)) → p.completions.room ≤ q.room + 1
-    → (h : History) → FitsApart p h → FitsApart (record p { dispatcher = d; completions = q }) ((step.Issue n , answer.Ended res no_bytes) ∷ h)
+    → (h : History) → FitsApart p h → FitsApart (record p { dispatcher = d; completions = q }) ((step.Issue n, answer.Ended res no_bytes) ∷ h)
 issue_ended_goes p d q n res entry answered there shows counts shown left h f =
     let w = world p.shape h in
     let s = f.shows in
     let same = entry_there w.requests n entry (there w.requests s.requests) in
     record {
       shows = ended_shows p w d q (with_issued_end w.requests n res) (entry_of w.requests n) res no_bytes s (shows w.requests s.requests) counts.accepted counts.outstanding counts.room counts.between
-        (subst (λ e. ShowsCompletions p.shape q (with_end p.shape.cq w.completions e res no_bytes)) same (shown p.shape w.completions s.completions)) left;
+          (subst (λ e. ShowsCompletions p.shape q (with_end p.shape.cq w.completions e res no_bytes)) same (shown p.shape w.completions s.completions)) left;
       lawful = (ap issue_told (answered w.requests s.requests) ∙ issue_same w n, f.lawful);
     }
 
@@ -253,8 +253,8 @@ issue_ended_goes p d q n res entry answered there shows counts shown left h f =
 pub ended_there : (r : Requests) (n : ℕ) (res : ℤ) → issue.Ended res ≡ issued r n → None ≡ entry_outstanding r n → ⊥
 ended_there r n res e none =
     elim (cases_Bool (is_outstanding r n)) [
-      inl there ↦ let f : ◌≡◌ {A = Option Entry} None (Some (entry_of r n)) = none ∙ ap (λ b. cond b (Some (entry_of r n)) None) there in cc
-    | inr gone ↦ let f : issue.Ended res ≡ issue.Unknown = e ∙ ap (λ b. cond (not b) issue.Unknown (if is_running r n then issue.Running else issued_waiting r n)) gone in cc
+      | inl there ↦ let f : ◌≡◌ {A = Option Entry} None (Some (entry_of r n)) = none ∙ ap (λ b. cond b (Some (entry_of r n)) None) there in cc
+      | inr gone ↦ let f : issue.Ended res ≡ issue.Unknown = e ∙ ap (λ b. cond (not b) issue.Unknown (if is_running r n then issue.Running else issued_waiting r n)) gone in cc
     ]
 
 -- Finish.
@@ -263,22 +263,22 @@ ended_there r n res e none =
 running_there : (r : Requests) (n : ℕ) → finish.Ended ≡ finished r n → is_running r n ≡ true
 running_there r n e =
     elim (cases_Bool (is_running r n)) [
-      inl runs ↦ runs
-    | inr not_running ↦ absurd (let f : finish.Ended ≡ finish.NotRunning = e ∙ ap (λ b. cond b finish.Ended finish.NotRunning) not_running in cc)
+      | inl runs ↦ runs
+      | inr not_running ↦ absurd (let f : finish.Ended ≡ finish.NotRunning = e ∙ ap (λ b. cond b finish.Ended finish.NotRunning) not_running in cc)
     ]
 
 pub finish_goes : (p : Parts) (d : Dispatcher) (q : CompletionQueue) (n : ℕ) (res : ℤ) (bytes : List ℕ) (entry : Entry)
     → ((r : Requests) → Shows p.dispatcher r → finish.Ended ≡ finished r n) → ((r : Requests) → Shows p.dispatcher r → Some entry ≡ entry_outstanding r n)
     → ((r : Requests) → Shows p.dispatcher r → Shows d (with_ended r n res bytes)) → HasFinished p.dispatcher d
     → ((g : Shape) (l : Completions) → ShowsCompletions g p.completions l → ShowsCompletions g q (with_end g.cq l entry res bytes)) → p.completions.room ≤ q.room + 1
-    → (h : History) → FitsApart p h → FitsApart (record p { dispatcher = d; completions = q }) ((step.Finish n , answer.Ended res bytes) ∷ h)
+    → (h : History) → FitsApart p h → FitsApart (record p { dispatcher = d; completions = q }) ((step.Finish n, answer.Ended res bytes) ∷ h)
 finish_goes p d q n res bytes entry answered there shows counts shown left h f =
     let w = world p.shape h in
     let s = f.shows in
     let same = entry_there w.requests n entry (there w.requests s.requests) in
     record {
       shows = ended_shows p w d q (with_ended w.requests n res bytes) (entry_of w.requests n) res bytes s (shows w.requests s.requests) counts.accepted counts.outstanding counts.room counts.between
-        (subst (λ e. ShowsCompletions p.shape q (with_end p.shape.cq w.completions e res bytes)) same (shown p.shape w.completions s.completions)) left;
+          (subst (λ e. ShowsCompletions p.shape q (with_end p.shape.cq w.completions e res bytes)) same (shown p.shape w.completions s.completions)) left;
       lawful = (subst (λ b. FinishesApart b (answer.Ended res bytes)) (sym (running_there w.requests n (answered w.requests s.requests))) tt, f.lawful);
     }
 
@@ -289,7 +289,7 @@ finish_told p n outcome answered h f = rw (running_there (world p.shape h).reque
 -- Close.
 
 pub close_goes : (p : Parts) → ((g : Shape) (l : Submission) → ShowsSubmission g p.submissions l → false ≡ is_some l.call)
-    → (h : History) → FitsApart p h → FitsApart (record p { is_closed = true }) ((step.Close , answer.Shut) ∷ h)
+    → (h : History) → FitsApart p h → FitsApart (record p { is_closed = true }) ((step.Close, answer.Shut) ∷ h)
 close_goes p no_call h f = record {
   shows = record {
     submission = f.shows.submission;

@@ -77,8 +77,8 @@ told_if f false x y = refl
 fill_same : (g : Shape) (w : World) (slot : ℕ) → fill_told (ring.fill_answer g.sq w.submission slot) ≡ fill_answer g w slot
 fill_same g w slot =
     elim (cases_lt slot g.sq) [
-      inl below ↦ rw (lt-ltb slot g.sq below, lt-leb g.sq slot below) (told_if fill_told (is_busy w.submission slot) fill.Busy fill.Filled)
-    | inr above ↦ rw (le-ltb slot g.sq above, le-leb g.sq slot above) refl
+      | inl below ↦ rw (lt-ltb slot g.sq below, lt-leb g.sq slot below) (told_if fill_told (is_busy w.submission slot) fill.Busy fill.Filled)
+      | inr above ↦ rw (le-ltb slot g.sq above, le-leb g.sq slot above) refl
     ]
 
 fill_shows : (p : Parts) (w : World) (q : SubmissionQueue) (slot : ℕ) (entry : Entry) (r : FillAnswer) → ShowsWorld p w → ShowsSubmission p.shape q (ring.after_fill w.submission slot entry r)
@@ -90,7 +90,7 @@ fill_shows p w q slot entry fill.Busy s shows = on_submission p w q w.submission
 pub fill_goes : (p : Parts) (q : SubmissionQueue) (slot : ℕ) (entry : Entry) (r : FillAnswer)
     → ((g : Shape) (l : Submission) → ShowsSubmission g p.submissions l → r ≡ ring.fill_answer g.sq l slot)
     → ((g : Shape) (l : Submission) → ShowsSubmission g p.submissions l → ShowsSubmission g q (ring.after_fill l slot entry r))
-    → (h : History) → FitsApart p h → FitsApart (record p { submissions = q }) ((step.Fill slot entry , fill_told r) ∷ h)
+    → (h : History) → FitsApart p h → FitsApart (record p { submissions = q }) ((step.Fill slot entry, fill_told r) ∷ h)
 fill_goes p q slot entry r answered shown h f = record {
   shows = fill_shows p (world p.shape h) q slot entry r f.shows (shown p.shape _ f.shows.submission);
   lawful = (ap fill_told (answered p.shape _ f.shows.submission) ∙ fill_same p.shape (world p.shape h) slot, f.lawful);
@@ -110,7 +110,7 @@ index_shows p w q word index.Full s shows = on_submission p w q w.submission s s
 pub index_goes : (p : Parts) (q : SubmissionQueue) (word : ℕ) (r : IndexAnswer)
     → ((g : Shape) (l : Submission) → ShowsSubmission g p.submissions l → r ≡ ring.index_answer g.sq l)
     → ((g : Shape) (l : Submission) → ShowsSubmission g p.submissions l → ShowsSubmission g q (ring.after_index l word r))
-    → (h : History) → FitsApart p h → FitsApart (record p { submissions = q }) ((step.Index word , index_told r) ∷ h)
+    → (h : History) → FitsApart p h → FitsApart (record p { submissions = q }) ((step.Index word, index_told r) ∷ h)
 index_goes p q word r answered shown h f = record {
   shows = index_shows p (world p.shape h) q word r f.shows (shown p.shape _ f.shows.submission);
   lawful = (ap index_told (answered p.shape _ f.shows.submission) ∙ told_if index_told _ index.Full index.Staged, f.lawful);
@@ -129,7 +129,7 @@ held_stored size l (Some call) fits within = ap entries_of (took_before (taken l
 pub store_tail_goes : (p : Parts) (q : SubmissionQueue) (tail : ℕ)
     → ((g : Shape) (l : Submission) → ShowsSubmission g p.submissions l → tail ≡ word_of g.start (staged l))
     → ((g : Shape) (l : Submission) → ShowsSubmission g p.submissions l → ShowsSubmission g q (stored g.sq l))
-    → (h : History) → FitsApart p h → FitsApart (record p { submissions = q }) ((step.StoreTail , answer.Tail tail) ∷ h)
+    → (h : History) → FitsApart p h → FitsApart (record p { submissions = q }) ((step.StoreTail, answer.Tail tail) ∷ h)
 store_tail_goes p q tail answered shown h f =
     let s = f.shows.submission in
     let l = (world p.shape h).submission in
@@ -141,7 +141,7 @@ store_tail_goes p q tail answered shown h f =
 pub load_head_goes : (p : Parts) (q : SubmissionQueue) (head : ℕ)
     → ((g : Shape) (l : Submission) → ShowsSubmission g p.submissions l → head ≡ word_of g.start (taken l))
     → ((g : Shape) (l : Submission) → ShowsSubmission g p.submissions l → ShowsSubmission g q (loaded l))
-    → (h : History) → FitsApart p h → FitsApart (record p { submissions = q }) ((step.LoadHead , answer.Head head) ∷ h)
+    → (h : History) → FitsApart p h → FitsApart (record p { submissions = q }) ((step.LoadHead, answer.Head head) ∷ h)
 load_head_goes p q head answered shown h f =
     let s = f.shows.submission in
     let l = (world p.shape h).submission in
@@ -160,7 +160,7 @@ pub flush_goes : (p : Parts) (q : CompletionQueue) (moved : ℕ)
     → ((g : Shape) (l : Completions) → ShowsCompletions g p.completions l → moved ≡ (flushed g.cq l).put - l.put)
     → ((g : Shape) (l : Completions) → ShowsCompletions g p.completions l → ShowsCompletions g q (flushed g.cq l))
     → q.room ≡ p.completions.room
-    → (h : History) → FitsApart p h → FitsApart (record p { completions = q }) ((step.Flush , answer.Moved moved) ∷ h)
+    → (h : History) → FitsApart p h → FitsApart (record p { completions = q }) ((step.Flush, answer.Moved moved) ∷ h)
 flush_goes p q moved answered shown room h f = record {
   shows = on_completions p (world p.shape h) q (flushed p.shape.cq (world p.shape h).completions) f.shows (shown p.shape _ f.shows.completions) room refl;
   lawful = (ap (λ n. answer.Moved n) (answered p.shape _ f.shows.completions), f.lawful);
@@ -170,7 +170,7 @@ pub load_cq_tail_goes : (p : Parts) (q : CompletionQueue) (tail : ℕ)
     → ((g : Shape) (l : Completions) → ShowsCompletions g p.completions l → tail ≡ word_of g.start l.put)
     → ((g : Shape) (l : Completions) → ShowsCompletions g p.completions l → ShowsCompletions g q (with_tail_loaded l))
     → q.room ≡ p.completions.room
-    → (h : History) → FitsApart p h → FitsApart (record p { completions = q }) ((step.LoadCqTail , answer.Tail tail) ∷ h)
+    → (h : History) → FitsApart p h → FitsApart (record p { completions = q }) ((step.LoadCqTail, answer.Tail tail) ∷ h)
 load_cq_tail_goes p q tail answered shown room h f = record {
   shows = on_completions p (world p.shape h) q (with_tail_loaded (world p.shape h).completions) f.shows (shown p.shape _ f.shows.completions) room refl;
   lawful = (ap (λ n. answer.Tail n) (answered p.shape _ f.shows.completions), f.lawful);
@@ -185,7 +185,7 @@ pub reap_goes : (p : Parts) (q : CompletionQueue) (r : Option Completion)
     → ((g : Shape) (l : Completions) → ShowsCompletions g p.completions l → r ≡ next_to_reap l)
     → ((g : Shape) (l : Completions) → ShowsCompletions g p.completions l → ShowsCompletions g q (after_reap l r))
     → q.room ≡ p.completions.room
-    → (h : History) → FitsApart p h → FitsApart (record p { completions = q }) ((step.Reap , reap_answer_of r) ∷ h)
+    → (h : History) → FitsApart p h → FitsApart (record p { completions = q }) ((step.Reap, reap_answer_of r) ∷ h)
 reap_goes p q r answered shown room h f = record {
   shows = reap_shows p (world p.shape h) q r f.shows (shown p.shape _ f.shows.completions) room;
   lawful = (ap reap_answer_of (answered p.shape _ f.shows.completions), f.lawful);
@@ -195,7 +195,7 @@ pub store_cq_head_goes : (p : Parts) (q : CompletionQueue) (head : ℕ)
     → ((g : Shape) (l : Completions) → ShowsCompletions g p.completions l → head ≡ word_of g.start (length l.reaped))
     → ((g : Shape) (l : Completions) → ShowsCompletions g p.completions l → ShowsCompletions g q (with_head_stored l))
     → q.room ≡ p.completions.room
-    → (h : History) → FitsApart p h → FitsApart (record p { completions = q }) ((step.StoreCqHead , answer.Head head) ∷ h)
+    → (h : History) → FitsApart p h → FitsApart (record p { completions = q }) ((step.StoreCqHead, answer.Head head) ∷ h)
 store_cq_head_goes p q head answered shown room h f = record {
   shows = on_completions p (world p.shape h) q (with_head_stored (world p.shape h).completions) f.shows (shown p.shape _ f.shows.completions) room refl;
   lawful = (ap (λ n. answer.Head n) (answered p.shape _ f.shows.completions), f.lawful);

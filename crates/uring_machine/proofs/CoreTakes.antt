@@ -65,8 +65,8 @@ no_entries place e = simp e
 not_all : (l : Submission) (call : Call) (r : TakeAnswer) → r ≡ ring.take_in l (Some call) → (r ≡ took_as.NoMore → ⊥) → eqb call.taken call.count ≡ false
 not_all l call r e other =
     elim (cases_Bool (eqb call.taken call.count)) [
-      inl all ↦ absurd (other (e ∙ ap (λ b. cond b took_as.NoMore (ring.given (option_and_then (λ place. place.entry) (slice_get l.published (taken l + call.taken))))) all))
-    | inr more ↦ more
+      | inl all ↦ absurd (other (e ∙ ap (λ b. cond b took_as.NoMore (ring.given (option_and_then (λ place. place.entry) (slice_get l.published (taken l + call.taken))))) all))
+      | inr more ↦ more
     ]
 
 given_by : (l : Submission) (call : Call) (r : TakeAnswer) → r ≡ ring.take_in l (Some call) → eqb call.taken call.count ≡ false
@@ -113,7 +113,7 @@ take_entry p w q entry (Some call) s is e shown =
     let so_far : p.held ≡ entries_of (take call.taken (drop (taken w.submission) w.submission.published)) = s.held ∙ ap (held_by w.submission) is in
     record {
       shows = taken_shows p w q call (p.held ++ entry ∷ []) s is shown
-        (sym (held_more w.submission call place.0 place.1 ∙ ap (λ xs. xs ++ entries_of (place.0 ∷ [])) (sym so_far) ∙ ap (λ xs. p.held ++ xs) (one_entry place.0 entry place.2)));
+          (sym (held_more w.submission call place.0 place.1 ∙ ap (λ xs. xs ++ entries_of (place.0 ∷ [])) (sym so_far) ∙ ap (λ xs. p.held ++ xs) (one_entry place.0 entry place.2)));
       answered = answered_entry w call place.0 entry more place.1 place.2;
     }
 
@@ -141,7 +141,7 @@ take_dropped p w q (Some call) s is e shown =
     let so_far : p.held ≡ entries_of (take call.taken (drop (taken w.submission) w.submission.published)) = s.held ∙ ap (held_by w.submission) is in
     record {
       shows = taken_shows p w q call p.held s is shown
-        (sym (held_more w.submission call place.0 place.1 ∙ ap (λ xs. entries_of (take call.taken (drop (taken w.submission) w.submission.published)) ++ xs) (no_entries place.0 none) ∙ nothing_more _ ∙ sym so_far));
+          (sym (held_more w.submission call place.0 place.1 ∙ ap (λ xs. entries_of (take call.taken (drop (taken w.submission) w.submission.published)) ++ xs) (no_entries place.0 none) ∙ nothing_more _ ∙ sym so_far));
       answered = answered_dropped w call place.0 more place.1 none;
     }
   where
@@ -151,7 +151,7 @@ take_dropped p w q (Some call) s is e shown =
 pub take_entry_goes : (p : Parts) (q : SubmissionQueue) (entry : Entry)
     → ((g : Shape) (l : Submission) → ShowsSubmission g p.submissions l → took_as.Entry entry ≡ ring.take_answer l)
     → ((g : Shape) (l : Submission) → ShowsSubmission g p.submissions l → ShowsSubmission g q (ring.after_take l (took_as.Entry entry)))
-    → (h : History) → FitsApart p h → FitsApart (record p { submissions = q; held = p.held ++ entry ∷ [] }) ((step.Take , answer.Entry entry) ∷ h)
+    → (h : History) → FitsApart p h → FitsApart (record p { submissions = q; held = p.held ++ entry ∷ [] }) ((step.Take, answer.Entry entry) ∷ h)
 take_entry_goes p q entry answered shown h f =
     let w = world p.shape h in
     let t = take_entry p w q entry w.submission.call f.shows refl (answered p.shape w.submission f.shows.submission) (shown p.shape w.submission f.shows.submission) in
@@ -160,7 +160,7 @@ take_entry_goes p q entry answered shown h f =
 pub take_dropped_goes : (p : Parts) (q : SubmissionQueue)
     → ((g : Shape) (l : Submission) → ShowsSubmission g p.submissions l → took_as.Dropped ≡ ring.take_answer l)
     → ((g : Shape) (l : Submission) → ShowsSubmission g p.submissions l → ShowsSubmission g q (ring.after_take l took_as.Dropped))
-    → (h : History) → FitsApart p h → FitsApart (record p { submissions = q }) ((step.Take , answer.Dropped) ∷ h)
+    → (h : History) → FitsApart p h → FitsApart (record p { submissions = q }) ((step.Take, answer.Dropped) ∷ h)
 take_dropped_goes p q answered shown h f =
     let w = world p.shape h in
     let t = take_dropped p w q w.submission.call f.shows refl (answered p.shape w.submission f.shows.submission) (shown p.shape w.submission f.shows.submission) in

@@ -45,12 +45,12 @@ apart_called g w step.Next a called = called
 
 pub lawful_apart : (g : Shape) (h : History) → IsLawful g h → IsLawfulApart g h
 lawful_apart g [] lawful = tt
-lawful_apart g ((s , a) ∷ before) lawful = (apart_called g (world g before) s a lawful.0, lawful_apart g before lawful.1)
+lawful_apart g ((s, a) ∷ before) lawful = (apart_called g (world g before) s a lawful.0, lawful_apart g before lawful.1)
 
 -- what came before in a lawful history is lawful
 lawful_before : (g : Shape) (after before : History) → IsLawful g (after ++ before) → IsLawful g before
 lawful_before g [] before lawful = lawful
-lawful_before g ((s , a) ∷ after) before lawful = lawful_before g after before lawful.1
+lawful_before g ((s, a) ∷ after) before lawful = lawful_before g after before lawful.1
 
 -- no operation gives ECANCELED
 
@@ -99,7 +99,7 @@ ends_not : (files : List FileContents) (r : Requests) (n : ℕ) (b : Bool) (byte
 ends_not files r n true bytes e = outcome_not files _ (record { res = neg_ℤ ECANCELED; bytes = bytes }) e (unfold_negsuc 124)
 ends_not files r n false bytes e = cc
 
-pub finish_never_cancels : (g : Shape) (after before : History) (n : ℕ) (bytes : List ℕ) → IsLawful g (after ++ (step.Finish n , answer.Ended (neg_ℤ ECANCELED) bytes) ∷ before) → ⊥
+pub finish_never_cancels : (g : Shape) (after before : History) (n : ℕ) (bytes : List ℕ) → IsLawful g (after ++ (step.Finish n, answer.Ended (neg_ℤ ECANCELED) bytes) ∷ before) → ⊥
 finish_never_cancels g after before n bytes lawful =
     let called = (lawful_before g after _ lawful).0 in
     ends_not (files_of g (world g before)) (world g before).requests n (is_running (world g before).requests n) bytes called

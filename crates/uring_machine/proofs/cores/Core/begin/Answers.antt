@@ -26,13 +26,15 @@ returns-in-Err-NoMemory-clause-fits c =
     c.reserve.ensures.counts c.reserve.ensures.between c.reserve.ensures.shows refl)
 
 pub invariant_of-self-2 : goal.invariant_of-self-2
-invariant_of-self-2 c =
-    (c.self.invariant.0, core_after _ _ _ refl (call_goes _ c.begin.new.self c.reserve-2.new.self c.reserve.new.self c.args.count c.from-length.result c.begin.result
-    (may_open _ c.args.count _ _ _ _ c.if-self.false c.if-in_call.false c.in_call.ensures c.pending.ensures.value c.min.ensures c.from-length.ensures)
-    (within_unless _ _ (λ above. let bad = c.reserve.ensures.spent.1 above in let is = c.in-Ok.is in cc))
-    c.reserve.ensures.counts c.in-Ok.ensures.ok c.reserve.ensures.between c.reserve.ensures.shows c.reserve-2.ensures.shows
-    (on_success c.reserve-2.result _ (sym c.is_err.ensures.value ∙ c.if-is_err.false) c.reserve-2.ensures.ok ∙ ap (λ n. n + c.from-length.result) c.outstanding.ensures.value)
-    c.begin.ensures.answer c.begin.ensures.shows) c.self.invariant.1)
+invariant_of-self-2 c = (
+  c.self.invariant.0,
+  core_after _ _ _ refl (call_goes _ c.begin.new.self c.reserve-2.new.self c.reserve.new.self c.args.count c.from-length.result c.begin.result
+      (may_open _ c.args.count _ _ _ _ c.if-self.false c.if-in_call.false c.in_call.ensures c.pending.ensures.value c.min.ensures c.from-length.ensures)
+      (within_unless _ _ (λ above. let bad = c.reserve.ensures.spent.1 above in let is = c.in-Ok.is in cc))
+      c.reserve.ensures.counts c.in-Ok.ensures.ok c.reserve.ensures.between c.reserve.ensures.shows c.reserve-2.ensures.shows
+      (on_success c.reserve-2.result _ (sym c.is_err.ensures.value ∙ c.if-is_err.false) c.reserve-2.ensures.ok ∙ ap (λ n. n + c.from-length.result) c.outstanding.ensures.value)
+      c.begin.ensures.answer c.begin.ensures.shows) c.self.invariant.1,
+)
 
 pub returns-clause-fits : goal.returns-clause-fits
 returns-clause-fits c =

@@ -13,8 +13,11 @@ accept_call-requires c = rw c.deref.ensures.value (held_accepted _ c.self.invari
 
 pub invariant_of-self : goal.invariant_of-self
 invariant_of-self c =
-    rw (c.clear.ensures.items, c.clear.ensures.capacity) (c.self.invariant.0, core_after _ _ _ refl (end_goes _ c.end.new.self c.accept_call.new.dispatch c.in-Taken.taken c.in-Taken.ensures.answer c.in-Taken.ensures.shows
-    (accepts_held _ c.accept_call.new.dispatch c.deref.result.now c.deref.ensures.value c.accept_call.ensures.shows c.accept_call.ensures.accepted c.accept_call.ensures.outstanding c.accept_call.ensures.between)) c.self.invariant.1)
+    rw (c.clear.ensures.items, c.clear.ensures.capacity) (
+      c.self.invariant.0,
+      core_after _ _ _ refl (end_goes _ c.end.new.self c.accept_call.new.dispatch c.in-Taken.taken c.in-Taken.ensures.answer c.in-Taken.ensures.shows
+          (accepts_held _ c.accept_call.new.dispatch c.deref.result.now c.deref.ensures.value c.accept_call.ensures.shows c.accept_call.ensures.accepted c.accept_call.ensures.outstanding c.accept_call.ensures.between)) c.self.invariant.1,
+    )
 
 pub returns-in-Taken-clause-fits : goal.returns-in-Taken-clause-fits
 returns-in-Taken-clause-fits c =
