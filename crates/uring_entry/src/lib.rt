@@ -25,3 +25,6 @@ pub use outcomes::Outcome;
 pub use preparation::prepare;
 pub use set_up::Setup;
 pub use success::succeeded;
+
+#[cfg(test)]
+mod tests;

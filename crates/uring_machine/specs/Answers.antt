@@ -1,12 +1,12 @@
 -- The answers that are called for: by step, and in each step the refusals in their order.
-use Rattle.std.specs.Prelude.{◌≡◌, ℕ, ◌+◌, ◌-◌, ◌^◌, ℤ, Bool, true, false, not, ◌==◌, nat_lt, nat_le, List, [], ◌∷◌, length, Option, Some, None, is_some, if◌then◌else◌, ◌⊎◌, slice_get}
+use Rattle.std.specs.Prelude.{◌≡◌, ℕ, ◌+◌, ◌-◌, ◌^◌, Bool, true, false, not, ◌==◌, nat_lt, nat_le, length, Option, Some, None, is_some, if◌then◌else◌, ◌⊎◌, slice_get}
 use Rattle.uring_entry.specs.Shape.{Shape}
 use Rattle.uring_entry.specs.Words.{word_of}
 use Rattle.uring_entry.specs.Layout.{Entry, Completion}
 use Rattle.uring_entry.specs.Preparation.{is_cancel}
-use Rattle.uring_entry.specs.Submission.{Submission, Call, Place, staged, taken, is_busy, is_full, call_length, entries_of, places_from, dropped, closed}
-use Rattle.uring_entry.specs.Requests.{Requests, entry_of, is_outstanding, is_running, is_doomed, is_ready, doomed_result, cancel_result, no_bytes, next_of}
-use Rattle.uring_entry.specs.Completions.{Completions, put_by_flush, next_to_reap}
+use Rattle.uring_entry.specs.Submission.{Call, Place, staged, taken, is_busy, is_full, call_length, entries_of, places_from, dropped, closed}
+use Rattle.uring_entry.specs.Requests.{entry_of, is_outstanding, is_running, is_doomed, is_ready, doomed_result, cancel_result, no_bytes, next_of}
+use Rattle.uring_entry.specs.Completions.{put_by_flush, next_to_reap}
 use Rattle.uring_machine.specs.World.{World}
 use Rattle.uring_machine.specs.declared.steps.Step.{Step}
 use Rattle.uring_machine.specs.declared.steps.Step.TheVariants as step

@@ -1,5 +1,5 @@
 -- Histories: the steps made on a new machine, each with its answer.
-use Rattle.std.specs.Prelude.{◌≡◌, ℕ, ℤ, Bool, List, [], ◌∷◌, ◌++◌, Option, Some, None}
+use Rattle.std.specs.Prelude.{List, [], ◌∷◌}
 use Rattle.uring_entry.specs.Shape.{Shape}
 use Rattle.uring_machine.specs.World.{World, at_first, happens}
 use Rattle.uring_machine.specs.Answers.{CalledForApart}
@@ -17,9 +17,9 @@ History = List Event
 -- what a history has made
 abbrev pub world : Shape → History → World
 world g [] = at_first
-world g ((step , answer) ∷ before) = happens g (world g before) step answer
+world g ((step, answer) ∷ before) = happens g (world g before) step answer
 
 -- each answer is called for by what came before it, apart from what operations gave
 abbrev pub IsLawfulApart : Shape → History → Type 0
 IsLawfulApart g [] = Unit {0}
-IsLawfulApart g ((step , answer) ∷ before) = CalledForApart g (world g before) step answer × IsLawfulApart g before
+IsLawfulApart g ((step, answer) ∷ before) = CalledForApart g (world g before) step answer × IsLawfulApart g before

@@ -1,5 +1,5 @@
 -- What all the steps so far have made: the three records of lists, and whether the ring is closed.
-use Rattle.std.specs.Prelude.{ℕ, ◌+◌, ℤ, Bool, true, false, List, [], ◌∷◌, ◌++◌, Option, Some, None, length}
+use Rattle.std.specs.Prelude.{ℕ, Bool, true, false, Option, Some, None, length}
 use Rattle.uring_entry.specs.Shape.{Shape}
 use Rattle.uring_entry.specs.Layout.{Entry}
 use Rattle.uring_entry.specs.Submission.{Submission, Call, no_submission, entries_of, places_from, filled, indexed, stored, loaded, begun, took, closed}

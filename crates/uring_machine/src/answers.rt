@@ -65,7 +65,10 @@ pub enum Answer {
     Run,
 
     /// To Issue and Finish: the request ended with this result and these bytes.
-    Ended { res: i32, bytes: [u8; 64] },
+    Ended {
+        res: i32,
+        bytes: [u8; 64],
+    },
 
     /// To Issue: the request waits for others.
     NotReady,

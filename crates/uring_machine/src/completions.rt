@@ -1,8 +1,6 @@
-use std::alloc::{AllocError, Global};
-
-use uring_entry::{Cqe, Setup};
-
 use crate::answers::Answer;
+use std::alloc::{AllocError, Global};
+use uring_entry::{Cqe, Setup};
 
 /// The completion ring and its overflow list as one plain list of all completions.
 #[derive(Drop)]

@@ -1,12 +1,10 @@
-use std::alloc::{AllocError, Global};
-
-use uring_entry::{Cqe, Setup};
-
 use crate::answers::Answer;
 use crate::completions::Completions;
 use crate::requests::{Issued, Requests};
 use crate::steps::Step;
 use crate::submissions::Submissions;
+use std::alloc::{AllocError, Global};
+use uring_entry::{Cqe, Setup};
 
 /// A pair of rings and its requests, moved one step at a time. It serves no-ops.
 #[derive(Drop)]

@@ -1,6 +1,5 @@
-use std::alloc::{AllocError, Global};
-
 use bitflags::Flags;
+use std::alloc::{AllocError, Global};
 use uring_entry::{Sqe, SqeFlags, errno, opcode, prepare};
 
 /// Where a request stands.
@@ -91,7 +90,11 @@ impl Requests {
                 self.outstanding = self.outstanding.saturating_sub(1);
                 Issued::Ended {
                     user_data: request.user_data,
-                    res: if request.is_faulty { -errno::EINVAL } else { -errno::ECANCELED },
+                    res: if request.is_faulty {
+                        -errno::EINVAL
+                    } else {
+                        -errno::ECANCELED
+                    },
                 }
             }
             State::Waiting => {
@@ -114,7 +117,10 @@ impl Requests {
 
     /// The least request that can be issued.
     pub(crate) fn next(&self) -> Option<u64> {
-        let at = self.all.iter().position(|request| request.state == State::Waiting)?;
+        let at = self
+            .all
+            .iter()
+            .position(|request| request.state == State::Waiting)?;
         Some(at as u64)
     }
 }

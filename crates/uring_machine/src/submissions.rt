@@ -1,9 +1,7 @@
+use crate::answers::Answer;
 use std::alloc::{AllocError, Global};
 use std::collections::VecDeque;
-
 use uring_entry::{Setup, Sqe};
-
-use crate::answers::Answer;
 
 /// The submission call that is open.
 #[derive(Clone, Copy)]
@@ -78,7 +76,12 @@ impl Submissions {
 
     /// Writes an entry to a slot.
     pub(crate) fn fill(&mut self, slot: u32, entry: Sqe) -> Answer {
-        if self.words.iter().take(self.published).any(|word| *word == slot) {
+        if self
+            .words
+            .iter()
+            .take(self.published)
+            .any(|word| *word == slot)
+        {
             return Answer::Busy;
         }
         match self.table.get_mut(slot as usize) {

@@ -1,0 +1,3 @@
+mod entries;
+mod preparation_table;
+mod set_ups;
