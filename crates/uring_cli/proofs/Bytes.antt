@@ -1,7 +1,6 @@
 -- The 128 bytes of an entry and the 16 words that hold them.
 use Rattle.std.proofs.Common.{◌≡◌, ℕ, ◌+◌, ◌*◌, ◌<◌, ◌∙◌, sym, ap, subst, List, [], ◌∷◌, ◌++◌, length, take, drop, set, arith}
 use Rattle.std.proofs.lemmas.Grind.{common_steps}
-
 use Rattle.uring_entry.specs.Layout.{bytes_of}
 
 -- sixteen words and 128 bytes are all of both
@@ -11,4 +10,3 @@ all_taken i bytes words i_is bytes_length words_length same =
     let a : take 128 bytes ≡ bytes = grind (arith, common_steps) in
     let b : take 16 words ≡ words = grind (arith, common_steps) in
     sym a ∙ e ∙ ap bytes_of b
-

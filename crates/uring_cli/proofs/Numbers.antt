@@ -24,9 +24,9 @@ unfolding is_numeral
 digits_from b bs e =
     elim (chosen (eqb b 48) (eqb (length bs) 0) (list_all is_ascii_digit (b ∷ bs)) true e) [
       | inl p ↦
-        let zero_is : b ≡ 48 = eqb-true b 48 p.0 in
-        let none : bs ≡ [] = nil_from_length bs (eqb-true (length bs) 0 p.1) in
-        rw (zero_is, none) refl
+          let zero_is : b ≡ 48 = eqb-true b 48 p.0 in
+          let none : bs ≡ [] = nil_from_length bs (eqb-true (length bs) 0 p.1) in
+          rw (zero_is, none) refl
       | inr p ↦ p.1
     ]
 
@@ -39,7 +39,7 @@ numeral_digits (b ∷ bs) e = digits_from b bs e
 pub numeral_utf8 : (w : List ℕ) → is_numeral w ≡ true → IsUtf8 w
 numeral_utf8 w e = IsUtf8-from_ascii w (IsAscii-from_digits w (own.to w (numeral_digits w e)))
 
-some_length : (w : List ℕ) → is_numeral w ≡ true → 0 < length w
+pub some_length : (w : List ℕ) → is_numeral w ≡ true → 0 < length w
 unfolding is_numeral
 some_length [] e = absurd cc
 some_length (b ∷ bs) e = omega arith
@@ -62,7 +62,7 @@ unfolding number_of
 not_numeral limit w e = rw e refl
 
 -- what a word's number is
-number_parts : (limit : ℕ) (w : List ℕ) (n : ℕ) → number_of limit w ≡ Some n → (is_numeral w ≡ true) × (digits_value 10 w ≡ n) × (n < limit)
+pub number_parts : (limit : ℕ) (w : List ℕ) (n : ℕ) → number_of limit w ≡ Some n → (is_numeral w ≡ true) × (digits_value 10 w ≡ n) × (n < limit)
 unfolding number_of
 number_parts limit w n e =
     let t = test_some (is_numeral w && ltb (digits_value 10 w) limit) (Some (digits_value 10 w)) n e in
@@ -91,8 +91,8 @@ no_number limit w e le =
       | inl t ↦ elim (cases_lt (digits_value 10 w) limit) [
         | inr above ↦ rw (t, le-ltb (digits_value 10 w) limit above) refl
         | inl lt ↦
-          let found : number_of (2 ^ 64) w ≡ Some (digits_value 10 w) = rw (t, lt-ltb (digits_value 10 w) (2 ^ 64) (omega arith)) refl in
-          absurd cc
+            let found : number_of (2 ^ 64) w ≡ Some (digits_value 10 w) = rw (t, lt-ltb (digits_value 10 w) (2 ^ 64) (omega arith)) refl in
+            absurd cc
       ]
     ]
 

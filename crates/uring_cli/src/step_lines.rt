@@ -1,31 +1,33 @@
 //! The lines that are steps.
 
-ghost use Rattle.std.specs.Prelude.{◌≡◌, map};
+ghost use Rattle.std.specs.Prelude.{◌≡◌, ◌≤◌, ◌^◌, IfOk, MatchOption, length, map};
+ghost use Rattle.uring_cli.specs.Words.{words_of};
+ghost use Rattle.uring_cli.specs.Spelling.{IsStep, IsBad};
 ghost use Rattle.uring_cli.specs.Reading.{ReadsStep, ReadsFill, form_of, number_of, step_of_one, step_of_two};
-ghost use Rattle.std.specs.Prelude.{◌^◌};
 
 use crate::entry_words::read_entry;
 use crate::names::is;
 use crate::number_words::{number, small_number};
-use arrayvec::ArrayVec;
+use std::alloc::{AllocError, Global};
 use uring_machine::Step;
 
 /// Most bytes of a line that is a step: our own rule.
 pub(crate) const LONGEST_LINE: usize = 300;
 
-/// Most words of a line that is a step.
-const MOST_WORDS: usize = 8;
+/// The step that a line of at most 300 bytes spells, or `None` where it spells none.
+pub(crate) fn read_step(alloc: Global, line: &[u8]) -> Result<Option<Step>, AllocError>
+    requires { length line.now ≤ 300 }
+    ensures { IfOk result (λ read. MatchOption read (IsBad line.now) (IsStep line.now)) }
+{
+    let words = split(alloc, line)?;
+    Ok(read_words(words.as_slice()))
+}
 
-/// The step that a line spells, or `None` where it spells none.
-pub(crate) fn read_step(line: &[u8]) -> Option<Step> {
-    if line.len() > LONGEST_LINE {
-        return None;
-    }
-    let mut words: ArrayVec<&[u8], MOST_WORDS> = ArrayVec::new();
-    for word in line.split(|byte| *byte == b' ') {
-        words.try_push(word).ok()?;
-    }
-    read_words(words.as_slice())
+/// The words of a line: what stands between its spaces.
+fn split(alloc: Global, line: &[u8]) -> Result<Vec<&[u8]>, AllocError>
+    ensures { IfOk result (λ words. map (λ word. word.now) words.items ≡ words_of line.now) }
+{
+    line.split(|byte| *byte == b' ').collect(alloc)
 }
 
 /// The step that these words spell.
