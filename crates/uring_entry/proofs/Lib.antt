@@ -1,3 +1,6 @@
 pub mod Payloads
 pub mod Powers
 pub mod Shapes
+pub mod BelowLemmas
+pub mod RequestLemmas
+pub mod EventLemmas

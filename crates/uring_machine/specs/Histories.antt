@@ -23,3 +23,9 @@ world g ((step, answer) ∷ before) = happens g (world g before) step answer
 abbrev pub IsLawfulApart : Shape → History → Type 0
 IsLawfulApart g [] = Unit {0}
 IsLawfulApart g ((step, answer) ∷ before) = CalledForApart g (world g before) step answer × IsLawfulApart g before
+
+-- a history followed by steps, each with its answer
+abbrev pub followed : History → List Step → List Answer → History
+followed before [] answers = before
+followed before (step ∷ steps) [] = before
+followed before (step ∷ steps) (answer ∷ answers) = followed ((step, answer) ∷ before) steps answers

@@ -1,16 +1,20 @@
 //! The step machine: the steps of application and dispatcher in any order, each with its answer.
 #![tactic(auto)]
 
+mod acceptance;
 mod answers;
-mod completions;
-mod laws;
+mod conversions;
+mod cores;
+mod counts;
+pub mod laws;
 mod machine;
-mod requests;
 mod runs;
 mod steps;
-mod submissions;
+mod posting;
 
 pub use answers::Answer;
+pub use cores::Core;
+pub use counts::Counts;
 pub use machine::Machine;
 pub use runs::run;
 pub use steps::Step;

@@ -1,118 +1,158 @@
-use crate::answers::Answer;
-use crate::completions::Completions;
-use crate::requests::{Issued, Requests};
-use crate::steps::Step;
-use crate::submissions::Submissions;
-use std::alloc::{AllocError, Global};
-use uring_entry::{Cqe, Setup};
+ghost use Rattle.std.specs.Prelude.{◌≡◌, ◌≤◌, ◌∷◌, [], IfOk, slice_get};
+ghost use Rattle.uring_entry.specs.Completions.{unreaped};
+ghost use Rattle.uring_files.specs.Operations.{state_of, byte_of};
+ghost use Rattle.uring_dispatch.specs.Answers.{operation_running};
+ghost use Rattle.uring_machine.specs.Contents.{CalledFor, files_of};
+ghost use Rattle.uring_machine.specs.Core.{IsCounts};
+ghost use Rattle.uring_machine.specs.Histories.{History, world};
+ghost use Rattle.uring_machine.specs.Settling.{HasSettled, IsSettled};
+ghost use Rattle.uring_machine.specs.declared.steps.Step.TheVariants as step;
 
-/// A pair of rings and its requests, moved one step at a time. It serves no-ops.
+use std::alloc::{AllocError, Global};
+use std::marker::Model;
+
+use uring_entry::{Cqe, Op, Setup};
+use uring_files::{FileState, Files};
+
+use crate::answers::Answer;
+use crate::cores::Core;
+use crate::counts::Counts;
+use crate::steps::Step;
+
+/// A pair of rings, its requests and files in memory, moved one step at a time.
+///
+/// The two sides of the rings, the application and the dispatcher, take their steps in any order. Each request that runs is carried out on the files when it is finished.
 #[derive(Drop)]
 pub struct Machine {
-    submissions: Submissions,
-    requests: Requests,
-    completions: Completions,
-    is_closed: bool,
+    core: Core,
+    files: Files,
+}
+
+impl Model for Machine {
+    ghost use Rattle.uring_machine.specs.Machine.{Holding};
+
+    ghost Value = { Holding };
+
+    ghost use Rattle.uring_machine.specs.Histories.{History};
+    ghost use Rattle.uring_machine.specs.Machine.{Fits};
+
+    ghost view = { λ m. record { core = m.core; files = m.files } };
+
+    ghost invariant = { λ m. (h : History) × Fits (record { core = m.core; files = m.files }) h };
 }
 
 impl Machine {
-    /// A machine of this set-up on which nothing has happened. `AllocError`: memory was refused.
-    pub fn new(alloc: Global, setup: &Setup) -> Result<Machine, AllocError> {
+    ghost use Rattle.uring_machine.specs.Machine.{Fits};
+
+    /// A machine of this set-up on which nothing has happened, its files empty. `AllocError`: memory was refused.
+    pub fn new(alloc: Global, setup: &Setup) -> Result<Machine, AllocError>
+        ensures shape { IfOk result (λ machine. machine.core.shape ≡ setup.now) }
+        ensures fits { IfOk result (λ machine. Fits machine []) }
+    {
         Ok(Machine {
-            submissions: Submissions::new(alloc, setup)?,
-            requests: Requests::new(alloc),
-            completions: Completions::new(alloc, setup),
-            is_closed: false,
+            core: Core::new(alloc, setup)?,
+            files: Files::new(alloc, setup.files())?,
         })
     }
 
-    /// Makes one step, and answers it. Only `Begin` asks for memory; where it is refused the answer is `Again`, and nothing is consumed.
-    pub fn step(&mut self, step: Step) -> Answer {
+    /// Makes one step, and answers it.
+    ///
+    /// Only `Begin` and a `Finish` of a write ask for memory. Where it is refused, `Begin` is answered `Again`, and nothing is consumed; the write ends with -12 (ENOMEM).
+    pub fn step(&mut self, step: Step) -> Answer
+        ensures shape { self.new.core.shape ≡ self.old.core.shape }
+        ensures fits { (h : History) → Fits self.old h → Fits self.new ((step , result) ∷ h) }
+        ensures called { (h : History) → Fits self.old h → CalledFor self.old.core.shape (world self.old.core.shape h) step result }
+    {
         match step {
-            Step::Fill { slot, entry } => self.submissions.fill(slot, entry),
-            Step::Index { word } => self.submissions.index(word),
-            Step::StoreTail => self.submissions.store_tail(),
-            Step::LoadHead => self.submissions.load_head(),
-            Step::Begin { count } => self.begin(count),
-            Step::Take => self.submissions.take(),
-            Step::End => self.end(),
-            Step::Issue { number } => self.issue(number),
             Step::Finish { number } => self.finish(number),
-            Step::Flush => self.completions.flush(),
-            Step::LoadCqTail => self.completions.load_tail(),
-            Step::Reap => self.completions.reap(),
-            Step::StoreCqHead => self.completions.store_head(),
-            Step::Close => self.close(),
-            Step::Next => self.next(),
+            _ => self.core.step(step),
         }
     }
 
-    /// Opens a call, once all the memory that its requests will take is there.
-    fn begin(&mut self, count: u32) -> Answer {
-        if self.is_closed {
-            return Answer::Closed;
-        }
-        if self.submissions.in_call() {
-            return Answer::InCall;
-        }
-        let length = self.submissions.call_length(count);
-        let ends = self.requests.outstanding().saturating_add(length);
-        if self.requests.reserve(length).is_err() || self.completions.reserve(ends).is_err() {
-            return Answer::Again;
-        }
-        self.submissions.begin(length);
-        Answer::Call((length & 0xffff_ffff) as u32)
+    /// The completion at this place among those posted and not reaped, the oldest first.
+    pub fn rest(&self, place: u64) -> Option<Cqe>
+        ensures { (h : History) → Fits self.now h → result ≡ slice_get (unreaped (world self.now.core.shape h).completions) place }
+    {
+        self.core.rest(place)
     }
 
-    /// Closes the call, and accepts its entries.
-    fn end(&mut self) -> Answer {
-        let answer = self.submissions.end();
-        if matches!(answer, Answer::Taken { .. }) {
-            self.requests.accept(self.submissions.held());
-            self.submissions.clear_held();
-        }
-        answer
+    /// How many requests were accepted, are outstanding and run, and how many completions were posted and reaped.
+    pub fn counts(&self) -> Counts
+        ensures { (h : History) → Fits self.now h → IsCounts (world self.now.core.shape h) result }
+    {
+        self.core.counts()
     }
 
-    /// Issues a request, which ends at once where it is doomed.
-    fn issue(&mut self, number: u64) -> Answer {
-        match self.requests.issue(number) {
-            Issued::Run => Answer::Run,
-            Issued::Running => Answer::Running,
-            Issued::Unknown => Answer::Unknown,
-            Issued::Ended { user_data, res } => self.ended(user_data, res),
+    /// The operation of the request of this number, where it is running.
+    pub fn running_op(&self, number: u64) -> Option<Op>
+        ensures { (h : History) → Fits self.now h → result ≡ operation_running (world self.now.core.shape h).requests number }
+    {
+        self.core.running_op(number)
+    }
+
+    /// How the file of a descriptor stands, if there is one.
+    pub fn state(&self, fd: i32) -> Option<FileState>
+        ensures { (h : History) → Fits self.now h → result ≡ state_of (files_of self.now.core.shape (world self.now.core.shape h)) fd }
+    {
+        self.files.state(fd)
+    }
+
+    /// The byte at offset `at` of the file of a descriptor, if there is such a file and the offset is below its length.
+    pub fn byte(&self, fd: i32, at: u64) -> Option<u8>
+        ensures { (h : History) → Fits self.now h → result ≡ byte_of (files_of self.now.core.shape (world self.now.core.shape h)) fd at }
+    {
+        self.files.byte(fd, at)
+    }
+
+    /// Ends every outstanding request, and answers how many steps that took: at most two for each. Each is an `Issue` or a `Finish`.
+    ///
+    /// Until nothing is outstanding it issues the next request, and finishes it if it runs; where none can be issued, it finishes the least that runs.
+    pub fn settle_idle(&mut self) -> u64
+        ensures shape { self.new.core.shape ≡ self.old.core.shape }
+        ensures settled { (h : History) → Fits self.old h → IsSettled self.new h result }
+    {
+        let outstanding = self.core.counts().outstanding;
+        let mut steps = 0;
+        for _ in 0..outstanding {
+            steps += self.settle_one();
+        }
+        steps
+    }
+
+    /// Ends one outstanding request: the next, or where none can be issued the least outstanding one, which then runs. Answers the steps made.
+    fn settle_one(&mut self) -> u64
+        requires { 1 ≤ self.old.core.dispatcher.outstanding }
+        ensures shape { self.new.core.shape ≡ self.old.core.shape }
+        ensures steps { result ≤ 2 }
+        ensures settled { (h : History) → Fits self.old h → HasSettled self.old self.new h result 1 }
+    {
+        let Some(least) = self.core.least() else { unreachable!() };
+        match self.step(Step::Next) {
+            Answer::Next(number) => match self.step(Step::Issue { number }) {
+                Answer::Run => {
+                    self.finish(number);
+                    2
+                }
+                _ => 1,
+            },
+            _ => {
+                self.finish(least);
+                1
+            }
         }
     }
 
-    /// Finishes a running request, which is a no-op.
-    fn finish(&mut self, number: u64) -> Answer {
-        match self.requests.finish(number) {
-            Some(user_data) => self.ended(user_data, 0),
+    /// Carries out the operation of a running request on the files, and ends the request with what that gave.
+    fn finish(&mut self, number: u64) -> Answer
+        ensures shape { self.new.core.shape ≡ self.old.core.shape }
+        ensures fits { (h : History) → Fits self.old h → Fits self.new ((step.Finish number , result) ∷ h) }
+    {
+        match self.core.running_op(number) {
+            Some(op) => {
+                let outcome = self.files.apply(&op);
+                self.core.finish(number, outcome)
+            }
             None => Answer::NotRunning,
-        }
-    }
-
-    /// Posts the completion of a request that ended.
-    fn ended(&mut self, user_data: u64, res: i32) -> Answer {
-        let bytes = [0; 64];
-        self.completions.post(Cqe::new(user_data, res, bytes));
-        Answer::Ended { res, bytes }
-    }
-
-    /// Closes the ring.
-    fn close(&mut self) -> Answer {
-        if self.submissions.in_call() {
-            return Answer::InCall;
-        }
-        self.is_closed = true;
-        Answer::Shut
-    }
-
-    /// The least request that can be issued.
-    fn next(&self) -> Answer {
-        match self.requests.next() {
-            Some(number) => Answer::Next(number),
-            None => Answer::Nothing,
         }
     }
 }

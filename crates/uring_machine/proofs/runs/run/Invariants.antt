@@ -1,6 +1,13 @@
-use Rattle.std.proofs.Common.{◌≡◌, ◌≤◌, length, vec_len, vec_capacity}
+use Rattle.std.proofs.Common.{◌≡◌, ◌≤◌, length, take, vec_len, vec_capacity}
+use Rattle.uring_machine.specs.Histories.{History, followed}
+use Rattle.uring_machine.specs.Machine.{Fits}
 use Rattle.uring_machine.proofs.runs.run.Given as goal
 
--- an answer a step, and room for the rest
+-- an answer a step, room for the rest, and the history so far
 abbrev pub invariant-loop-step : goal.invariant-loop-step
-invariant-loop-step l = (vec_len l.answers ≡ l.step-index) × (length l.steps ≤ vec_capacity l.answers)
+invariant-loop-step l = record {
+  answers : vec_len l.answers ≡ l.step-index;
+  room : length l.steps ≤ vec_capacity l.answers;
+  shape : l.machine.core.shape ≡ l.initial.machine.core.shape;
+  fits : (h : History) → Fits l.initial.machine h → Fits l.machine (followed h (take l.step-index l.steps) l.answers.items);
+}

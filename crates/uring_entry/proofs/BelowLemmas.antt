@@ -1,0 +1,125 @@
+-- Searches below a bound: what an answer tells, and what gives it.
+use Rattle.std.proofs.Common.{◌≡◌, ℕ, zero, suc, ◌<◌, ◌≤◌, Bool, true, false, ◌||◌, Option, Some, None, is_some, refl, sym, ◌∙◌, ap, arith, inl, inr}
+use Rattle.std.proofs.lemmas.Bool.{cases_lt, cases_Bool, or_cases, or_from, or_left, or_right, both_ways}
+use Rattle.uring_entry.specs.Below.{some_below, least_below, found_or}
+
+pub some_below-none : (p : ℕ → Bool) (n : ℕ) → ((k : ℕ) → k < n → p k ≡ false) → some_below p n ≡ false
+some_below-none p zero h = refl
+some_below-none p (suc n) h = or_from _ _ (some_below-none p n (λ k lt. h k (omega arith))) (h n (omega arith))
+
+pub some_below-some : (p : ℕ → Bool) (n k : ℕ) → k < n → p k ≡ true → some_below p n ≡ true
+some_below-some p zero k lt e = absurd (omega arith)
+some_below-some p (suc n) k lt e =
+    elim (cases_lt k n) [
+      | inl low ↦ or_left _ _ (some_below-some p n k low e)
+      | inr high ↦ or_right _ _ (let same : k ≡ n = omega arith in ap p (sym same) ∙ e)
+    ]
+
+pub some_below-out : (p : ℕ → Bool) (n : ℕ) → some_below p n ≡ false → (k : ℕ) → k < n → p k ≡ false
+some_below-out p n e k lt =
+    elim (cases_Bool (p k)) [
+      | inl holds ↦ absurd (both_ways _ e (some_below-some p n k lt holds))
+      | inr fails ↦ fails
+    ]
+
+pub some_below-in : (p : ℕ → Bool) (n : ℕ) → some_below p n ≡ true → (k : ℕ) × (k < n) × (p k ≡ true)
+some_below-in p zero e = absurd (both_ways false refl e)
+some_below-in p (suc n) e =
+    elim (or_cases _ _ e) [
+      | inl below ↦ let found = some_below-in p n below in (found.0, omega (arith, found.1), found.2)
+      | inr here ↦ (n, omega arith, here)
+    ]
+
+-- two tests that agree below the bound
+pub some_below-same : (p q : ℕ → Bool) (n : ℕ) → ((k : ℕ) → k < n → p k ≡ q k) → some_below p n ≡ some_below q n
+some_below-same p q zero h = refl
+some_below-same p q (suc n) h =
+    ap (λ b. b || p n) (some_below-same p q n (λ k lt. h k (omega arith))) ∙ ap (λ b. some_below q n || b) (h n (omega arith))
+
+pub some_below-raised : (p : ℕ → Bool) (n m : ℕ) → n ≤ m → some_below p n ≡ true → some_below p m ≡ true
+some_below-raised p n zero le e = let same : n ≡ 0 = omega arith in ap (some_below p) (sym same) ∙ e
+some_below-raised p n (suc m) le e =
+    elim (cases_lt n (suc m)) [
+      | inl low ↦ or_left _ _ (some_below-raised p n m (omega arith) e)
+      | inr high ↦ let same : n ≡ suc m = omega arith in ap (some_below p) (sym same) ∙ e
+    ]
+
+-- a bound that goes further, over numbers at which the test fails
+pub some_below-between : (p : ℕ → Bool) (n m : ℕ) → n ≤ m → ((k : ℕ) → n ≤ k → k < m → p k ≡ false) → some_below p m ≡ some_below p n
+some_below-between p n m le h =
+    elim (cases_Bool (some_below p n)) [
+      | inl e ↦ some_below-raised p n m le e ∙ sym e
+      | inr e ↦
+          some_below-none p m
+          (λ k lt. elim (cases_lt k n) [ inl low ↦ some_below-out p n e k low | inr high ↦ h k high lt ])
+          ∙ sym e
+    ]
+
+pub least_below-none : (p : ℕ → Bool) (n : ℕ) → ((k : ℕ) → k < n → p k ≡ false) → least_below p n ≡ None
+least_below-none p zero h = refl
+least_below-none p (suc n) h =
+    ap (λ o. found_or o (p n) n) (least_below-none p n (λ k lt. h k (omega arith))) ∙ ap (λ b. found_or None b n) (h n (omega arith))
+
+pub least_below-some : (p : ℕ → Bool) (n k : ℕ) → k < n → p k ≡ true → ((j : ℕ) → j < k → p j ≡ false) → least_below p n ≡ Some k
+least_below-some p zero k lt e before = absurd (omega arith)
+least_below-some p (suc n) k lt e before =
+    elim (cases_lt k n) [
+      | inl low ↦ ap (λ o. found_or o (p n) n) (least_below-some p n k low e before)
+      | inr high ↦
+          let same : k ≡ n = omega arith in
+          ap (λ o. found_or o (p n) n) (least_below-none p n (λ j lt2. before j (omega arith)))
+          ∙ ap (λ b. found_or None b n) (ap p (sym same) ∙ e) ∙ ap Some (sym same)
+    ]
+
+pub least_below-same : (p q : ℕ → Bool) (n : ℕ) → ((k : ℕ) → k < n → p k ≡ q k) → least_below p n ≡ least_below q n
+least_below-same p q zero h = refl
+least_below-same p q (suc n) h =
+    ap (λ o. found_or o (p n) n) (least_below-same p q n (λ k lt. h k (omega arith)))
+    ∙ ap (λ b. found_or (least_below q n) b n) (h n (omega arith))
+
+-- what the least number is
+pub record IsLeast (p : ℕ → Bool) (n k : ℕ) : Type 0 where
+  pub below : k < n
+  pub holds : p k ≡ true
+  pub before : (j : ℕ) → j < k → p j ≡ false
+
+some_same : (m n : ℕ) → Some m ≡ Some n → m ≡ n
+some_same m n e = cc
+
+none_some : {P : Type 0} (k : ℕ) (o : Option ℕ) → o ≡ None → o ≡ Some k → P
+none_some k o n e = cc
+
+is_some-found : (o : Option ℕ) (b : Bool) (n : ℕ) → is_some (found_or o b n) ≡ (is_some o || b)
+is_some-found (Some m) b n = refl
+is_some-found None true n = refl
+is_some-found None false n = refl
+
+-- there is a least number where there is some
+pub is_some-least_below : (p : ℕ → Bool) (n : ℕ) → is_some (least_below p n) ≡ some_below p n
+is_some-least_below p zero = refl
+is_some-least_below p (suc n) =
+    is_some-found (least_below p n) (p n) n ∙ ap (λ b. b || p n) (is_some-least_below p n)
+
+pub least_below-out : (p : ℕ → Bool) (n : ℕ) → least_below p n ≡ None → (k : ℕ) → k < n → p k ≡ false
+least_below-out p n e = some_below-out p n (sym (is_some-least_below p n) ∙ ap is_some e)
+
+pub least_below-tells : (p : ℕ → Bool) (n k : ℕ) → least_below p n ≡ Some k → IsLeast p n k
+least_below-tells p zero k e = cc
+least_below-tells p (suc n) k e =
+    elim (least_below p n) as (λ o. least_below p n ≡ o → found_or o (p n) n ≡ Some k → IsLeast p (suc n) k) [
+      | Some m ↦ λ was is.
+          let same : m ≡ k = cc in
+          let least = least_below-tells p n k (was ∙ ap Some same) in
+          record { below = omega (arith, least.below); holds = least.holds; before = least.before }
+      | None ↦ λ was is.
+          elim (cases_Bool (p n)) [
+            | inl holds ↦
+                let same : n ≡ k = some_same n k (ap (λ b. found_or None b n) (sym holds) ∙ is) in
+                record {
+                  below = omega arith;
+                  holds = ap p (sym same) ∙ holds;
+                  before = λ j lt. least_below-out p n was j (omega arith);
+                }
+            | inr fails ↦ none_some k (found_or None (p n) n) (ap (λ b. found_or None b n) fails) is
+          ]
+    ] refl e

@@ -1,0 +1,2 @@
+mod Overwrites
+pub mod Prepared

@@ -1,0 +1,14 @@
+//! The files that reads, writes and syncs of an io_uring pair of rings work on: bytes in memory, each file by its descriptor. Its `specs/` define what an operation does to the files and how it ends.
+#![tactic(auto)]
+
+mod bytes;
+mod file;
+mod file_table;
+pub mod laws;
+mod state;
+
+pub use file_table::Files;
+pub use state::FileState;
+
+#[cfg(test)]
+mod tests;

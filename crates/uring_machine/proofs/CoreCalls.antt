@@ -1,0 +1,167 @@
+-- What a core shows as a submission call opens, takes a position, and closes.
+use Rattle.std.proofs.Common.{◌≡◌, ℕ, ◌+◌, ◌-◌, ◌^◌, ◌<◌, ◌≤◌, min, Bool, true, false, cond, eqb, nat_lt, List, [], ◌∷◌, ◌++◌, length, take, drop, Option, Some, None, is_some, slice_get, refl, sym, ap, subst, ◌∙◌, arith, inl, inr, IfSome}
+use Rattle.std.specs.Prelude.{Result, Ok, Err, is_err, OnOk}
+use Rattle.std.specs.Option.{option_and_then}
+use Rattle.std.proofs.lemmas.Bool.{cases_lt, cases_Bool, eqb-true, eqb-false, eq-eqb, ltb-true, lt-ltb, le-ltb}
+use Rattle.std.proofs.lemmas.List.Elements.{filter_map-append}
+use Rattle.std.proofs.lemmas.List.Sums.{sum_by-append}
+use Rattle.std.proofs.lemmas.Grind.{common_steps}
+use Rattle.uring_entry.specs.Shape.{Shape}
+use Rattle.uring_entry.specs.Words.{word_of}
+use Rattle.uring_entry.specs.Layout.{Entry}
+use Rattle.uring_entry.specs.Submission.{Submission, Call, Place, taken, pending, call_length, entries_of, places_from, dropped, begun, took, closed}
+use Rattle.uring_entry.specs.Requests.{Requests, with_call}
+use Rattle.uring_entry.specs.Completions.{Completions}
+use Rattle.uring_rings.specs.SubmissionRing.{SubmissionQueue, ShowsSubmission}
+use Rattle.uring_rings.specs.SubmissionAnswers as ring
+use Rattle.uring_rings.specs.CompletionRing.{CompletionQueue, ShowsCompletions}
+use Rattle.uring_rings.specs.declared.answers.BeginAnswer.{BeginAnswer}
+use Rattle.uring_rings.specs.declared.answers.BeginAnswer.TheVariants as begin
+use Rattle.uring_rings.specs.declared.answers.TakeAnswer.{TakeAnswer}
+use Rattle.uring_rings.specs.declared.answers.TakeAnswer.TheVariants as take_told
+use Rattle.uring_rings.specs.declared.answers.EndAnswer.{EndAnswer}
+use Rattle.uring_rings.specs.declared.answers.EndAnswer.TheVariants as end_told
+use Rattle.uring_rings.specs.declared.answers.Taken.{Taken}
+use Rattle.uring_rings.proofs.Places.{places_more, entries_and_dropped}
+use Rattle.uring_dispatch.specs.Dispatcher.{Dispatcher, Shows, IsSameCount}
+use Rattle.uring_machine.specs.World.{World, taking_of, ending_of, beginning}
+use Rattle.uring_machine.specs.Answers.{OrAgain, begin_answer, is_spent, take_answer_in, end_answer_in}
+use Rattle.uring_machine.specs.Histories.{Event, History, world}
+use Rattle.uring_machine.specs.Told.{begin_told}
+use Rattle.uring_machine.specs.Core.{Parts, ShowsWorld, FitsApart, held_by, positions_of}
+use Rattle.uring_machine.specs.declared.steps.Step.TheVariants as step
+use Rattle.uring_machine.specs.declared.answers.Answer.{Answer}
+use Rattle.uring_machine.specs.declared.answers.Answer.TheVariants as answer
+
+-- Begin.
+
+-- What is known once a call may open: the ring isn't closed, no call is open, and this is how many positions the call takes.
+pub record MayOpen (p : Parts) (count length : ℕ) : Type 0 where
+  pub not_closed : p.is_closed ≡ false
+  pub no_call : (g : Shape) (l : Submission) → ShowsSubmission g p.submissions l → false ≡ is_some l.call
+  pub positions : (g : Shape) (l : Submission) → ShowsSubmission g p.submissions l → length ≡ call_length l count
+
+open_answer : (b c : Bool) (s o : Answer) → b ≡ false → c ≡ false → cond b answer.Closed (cond c answer.InCall s) ≡ s
+open_answer b c s o e f = rw (e, f) refl
+
+begin_answer_open : (p : Parts) (w : World) (count length_of_call : ℕ) → MayOpen p count length_of_call → ShowsWorld p w
+    → begin_answer w count ≡ cond (nat_lt (2 ^ 63 - 1) (length w.requests.accepted + length_of_call)) answer.Spent (answer.Call length_of_call)
+begin_answer_open p w count n may s =
+    let closed : w.is_closed ≡ false = sym s.closed ∙ may.not_closed in
+    let none : is_some w.submission.call ≡ false = sym (may.no_call p.shape w.submission s.submission) in
+    open_answer w.is_closed (is_some w.submission.call) _ answer.Spent closed none
+    ∙ ap (λ k. cond (nat_lt (2 ^ 63 - 1) (length w.requests.accepted + k)) answer.Spent (answer.Call k)) (sym (may.positions p.shape w.submission s.submission))
+
+begin_answer_spent : (p : Parts) (w : World) (count n : ℕ) → MayOpen p count n → ShowsWorld p w → 2 ^ 63 - 1 < p.dispatcher.accepted + n → begin_answer w count ≡ answer.Spent
+begin_answer_spent p w count n may s spent =
+    begin_answer_open p w count n may s
+    ∙ ap (λ b. cond b answer.Spent (answer.Call n)) (lt-ltb (2 ^ 63 - 1) (length w.requests.accepted + n) (subst (λ a. 2 ^ 63 - 1 < a + n) s.requests.accepted spent))
+
+begin_answer_call : (p : Parts) (w : World) (count n : ℕ) → MayOpen p count n → ShowsWorld p w → p.dispatcher.accepted + n ≤ 2 ^ 63 - 1 → begin_answer w count ≡ answer.Call n
+begin_answer_call p w count n may s room =
+    begin_answer_open p w count n may s
+    ∙ ap (λ b. cond b answer.Spent (answer.Call n)) (le-ltb (2 ^ 63 - 1) (length w.requests.accepted + n) (subst (λ a. a + n ≤ 2 ^ 63 - 1) s.requests.accepted room))
+
+-- a dispatcher with the same counts, and rings that show what they did
+same_shown : (p : Parts) (w : World) (d : Dispatcher) (q : CompletionQueue) → ShowsWorld p w → IsSameCount p.dispatcher d → d.is_between_calls ≡ true → Shows d w.requests
+    → ShowsCompletions p.shape q w.completions → p.completions.room ≤ q.room → ShowsWorld (record p { dispatcher = d; completions = q }) w
+same_shown p w d q s same between shows shown room =
+    let a = same.accepted in
+    let o = same.outstanding in
+    let r = same.room in
+    let h = s.room_to_post in
+    let i = s.room_to_accept in
+    let n = s.numbers in
+    let ps = s.posts in
+    record {
+      submission = s.submission;
+      completions = shown;
+      requests = shows;
+      held = s.held;
+      closed = s.closed;
+      between = between;
+      room_to_post = omega arith;
+      room_to_accept = omega arith;
+      numbers = omega arith;
+      posts = omega arith;
+    }
+
+pub spent_goes : (p : Parts) (d : Dispatcher) (count n : ℕ) → MayOpen p count n → 2 ^ 63 - 1 < p.dispatcher.accepted + n → d ≡ p.dispatcher
+    → (h : History) → FitsApart p h → FitsApart (record p { dispatcher = d }) ((step.Begin count , answer.Spent) ∷ h)
+spent_goes p d count n may spent same h f =
+    subst (λ e. FitsApart (record p { dispatcher = e }) ((step.Begin count , answer.Spent) ∷ h)) (sym same) (record {
+      shows = f.shows;
+      lawful = (subst (λ a. OrAgain a answer.Spent) (sym (begin_answer_spent p (world p.shape h) count n may f.shows spent)) refl, f.lawful);
+    })
+
+pub again_goes : (p : Parts) (d : Dispatcher) (q : CompletionQueue) (count n : ℕ) → MayOpen p count n → p.dispatcher.accepted + n ≤ 2 ^ 63 - 1
+    → IsSameCount p.dispatcher d → d.is_between_calls ≡ true → ((r : Requests) → Shows p.dispatcher r → Shows d r) → q ≡ p.completions
+    → (h : History) → FitsApart p h → FitsApart (record p { dispatcher = d; completions = q }) ((step.Begin count , answer.Again) ∷ h)
+again_goes p d q count n may numbers same between shows kept h f =
+    subst (λ c. FitsApart (record p { dispatcher = d; completions = c }) ((step.Begin count , answer.Again) ∷ h)) (sym kept) (record {
+      shows = same_shown p (world p.shape h) d p.completions f.shows same between (shows _ f.shows.requests) f.shows.completions (omega arith);
+      lawful = (subst (λ a. OrAgain a answer.Again) (sym (begin_answer_call p (world p.shape h) count n may f.shows numbers)) (inr refl), f.lawful);
+    })
+
+none_since : (c : Option Call) → false ≡ is_some c → c ≡ None
+none_since None e = refl
+none_since (Some call) e = cc
+
+opened : (l : Submission) (count n : ℕ) (r : BeginAnswer) → false ≡ is_some l.call → n ≡ call_length l count → r ≡ ring.begin_answer l count → r ≡ begin.Call n
+opened l count n r none length answered = answered ∙ ap (ring.begin_beside l count) (none_since l.call none) ∙ ap (λ k. begin.Call k) (sym length)
+
+begun_shows : (p : Parts) (w : World) (s' : SubmissionQueue) (q : CompletionQueue) (d : Dispatcher) (count n : ℕ) → ShowsWorld p w → w.submission.call ≡ None → n ≡ call_length w.submission count
+    → ShowsSubmission p.shape s' (begun w.submission count) → ShowsCompletions p.shape q w.completions → q.room ≡ p.dispatcher.outstanding + n
+    → IsSameCount p.dispatcher d → n ≤ d.room → d.is_between_calls ≡ true → Shows d w.requests → p.dispatcher.accepted + n ≤ 2 ^ 63 - 1
+    → ShowsWorld (record p { submissions = s'; completions = q; dispatcher = d }) (record w { submission = begun w.submission count })
+begun_shows p w s' q d count n s none length shown kept room same fits between shows numbers =
+    let a = same.accepted in
+    let o = same.outstanding in
+    let ps = s.posts in
+    record {
+      submission = shown;
+      completions = kept;
+      requests = shows;
+      held = s.held ∙ ap (held_by w.submission) none;
+      closed = s.closed;
+      between = between;
+      room_to_post = subst (λ k. d.outstanding + k ≤ q.room) length (omega arith);
+      room_to_accept = subst (λ k. k ≤ d.room) length fits;
+      numbers = subst (λ k. d.accepted + k ≤ 2 ^ 63 - 1) length (omega arith);
+      posts = omega arith;
+    }
+
+pub call_goes : (p : Parts) (s' : SubmissionQueue) (q : CompletionQueue) (d : Dispatcher) (count n : ℕ) (r : BeginAnswer) → MayOpen p count n → p.dispatcher.accepted + n ≤ 2 ^ 63 - 1
+    → IsSameCount p.dispatcher d → n ≤ d.room → d.is_between_calls ≡ true → ((r : Requests) → Shows p.dispatcher r → Shows d r)
+    → ((g : Shape) (l : Completions) → ShowsCompletions g p.completions l → ShowsCompletions g q l) → q.room ≡ p.dispatcher.outstanding + n
+    → ((g : Shape) (l : Submission) → ShowsSubmission g p.submissions l → r ≡ ring.begin_answer l count)
+    → ((g : Shape) (l : Submission) → ShowsSubmission g p.submissions l → ShowsSubmission g s' (ring.after_begin l count r))
+    → (h : History) → FitsApart p h → FitsApart (record p { submissions = s'; completions = q; dispatcher = d }) ((step.Begin count , begin_told r) ∷ h)
+call_goes p s' q d count n r may numbers same fits between shows kept room answered shown h f =
+    let w = world p.shape h in
+    let s = f.shows in
+    let none : false ≡ is_some w.submission.call = may.no_call p.shape w.submission s.submission in
+    let length = may.positions p.shape w.submission s.submission in
+    let is : r ≡ begin.Call n = opened w.submission count n r none length (answered p.shape w.submission s.submission) in
+    let after : ShowsSubmission p.shape s' (begun w.submission count) = subst (λ b. ShowsSubmission p.shape s' (ring.after_begin w.submission count b)) is (shown p.shape w.submission s.submission) in
+    subst (λ b. FitsApart (record p { submissions = s'; completions = q; dispatcher = d }) ((step.Begin count , begin_told b) ∷ h)) (sym is) (record {
+      shows = begun_shows p w s' q d count n s (none_since w.submission.call none) length after (kept p.shape w.completions s.completions) room same fits between (shows w.requests s.requests) numbers;
+      lawful = (subst (λ a. OrAgain a (answer.Call n)) (sym (begin_answer_call p w count n may s numbers)) (inl refl), f.lawful);
+    })
+
+pub may_open : (p : Parts) (count waiting least n : ℕ) (in_call : Bool) → p.is_closed ≡ false → in_call ≡ false → ((g : Shape) (l : Submission) → ShowsSubmission g p.submissions l → in_call ≡ is_some l.call)
+    → ((g : Shape) (l : Submission) → ShowsSubmission g p.submissions l → waiting ≡ pending l) → least ≡ min count waiting → n ≡ least → MayOpen p count n
+may_open p count waiting least n in_call open_ring no_call told waits is same = record {
+  not_closed = open_ring;
+  no_call = λ g l s. sym no_call ∙ told g l s;
+  positions = λ g l s. same ∙ is ∙ ap (λ k. min count k) (waits g l s);
+}
+
+-- what isn't above a bound is within it
+pub within_unless : (a b : ℕ) → (a < b → ⊥) → b ≤ a
+within_unless a b not_above = elim (cases_lt a b) [ inl above ↦ absurd (not_above above) | inr within ↦ within ]
+
+-- what holds of a success
+pub on_success : {A E : Type 0} (r : Result A E) (P : Type 0) → is_err r ≡ false → OnOk r P → P
+on_success (Ok x) P e holds = holds
+on_success (Err x) P e holds = cc

@@ -1,0 +1,91 @@
+-- The accepted entries, the cuts and the completions posted, read off a history.
+use Rattle.std.proofs.Common.{◌≡◌, ℕ, ◌+◌, ◌<◌, ◌==◌, Bool, true, false, ◌||◌, List, [], ◌∷◌, ◌++◌, length, take, map, sum, Some, None, get_or, cond, refl, sym, subst, ap, ap₂, ◌∙◌, arith, append-nil, take-add}
+use Rattle.std.specs.List.{list_any, filter_map, cons_option}
+use Rattle.std.proofs.lemmas.Bool.{or_left, or_right, eq-eqb}
+use Rattle.std.proofs.lemmas.List.{length-append, take-append-le, get_or_append_left}
+use Rattle.std.proofs.lemmas.List.Elements.{filter_map-append}
+use Rattle.std.proofs.lemmas.List.Sums.{sum_by_push, sum_by-cons}
+use Rattle.uring_entry.specs.Shape.{Shape}
+use Rattle.uring_entry.specs.Layout.{Entry, Completion, zero_entry, user_data_of}
+use Rattle.uring_entry.specs.Success.{is_told}
+use Rattle.uring_entry.specs.Submission.{Submission, taken, accepted, entries_of, places_from, place_of}
+use Rattle.uring_entry.specs.Completions.{Completions, with_posted, with_end}
+use Rattle.uring_entry.specs.Requests.{Ending, doomed_result, cancel_result, no_bytes}
+use Rattle.uring_machine.specs.Direct.{accepted_by, closes_ring, told, sums_from, cut_counts, completion_of}
+use Rattle.uring_machine.specs.World.{World, happens, taking_of, ending_of}
+use Rattle.uring_machine.specs.Histories.{History, world, IsLawfulApart}
+use Rattle.uring_machine.specs.declared.steps.Step.{Step}
+use Rattle.uring_machine.specs.declared.steps.Step.TheVariants as step
+use Rattle.uring_machine.specs.declared.answers.Answer.{Answer}
+use Rattle.uring_machine.specs.declared.answers.Answer.TheVariants as answer
+use Rattle.uring_machine.proofs.Changes.{Change, change_of, refuses, fills, stages, stores, loads, begins, takes, drops, closes, runs, dooms, cancels, finishes, flushes, sees_tail, reaps, stores_head, shuts}
+use Rattle.uring_machine.proofs.Telling.{told_same}
+use Rattle.uring_machine.proofs.Sound.{IsSound, sound_of}
+
+pub record DirectRequests (h : History) (w : World) : Type 0 where
+  pub posted : w.completions.posted ≡ filter_map (completion_of w.requests.accepted) w.requests.ended
+  pub taken_in : w.requests.accepted ≡ accepted w.submission
+  pub counted : sum (told accepted_by h) ≡ length w.requests.accepted
+  pub cuts : w.requests.cuts ≡ cut_counts h
+  pub shut : w.is_closed ≡ list_any closes_ring h
+
+-- the positions of a call more
+taken_more : (l : Submission) (count : ℕ) → entries_of (take (sum (l.calls ++ count ∷ [])) l.published) ≡ entries_of (take (taken l) l.published) ++ entries_of (places_from l count)
+taken_more l count =
+    ap (λ n. entries_of (take n l.published)) (sum_by_push (λ x. x) l.calls count)
+    ∙ ap entries_of (take-add (taken l) count l.published)
+    ∙ filter_map-append (λ p. p.entry) (take (taken l) l.published) (places_from l count)
+
+-- a sum more
+sums_push : (before : ℕ) (xs : List ℕ) (x : ℕ) → sums_from before (xs ++ x ∷ []) ≡ sums_from before xs ++ (before + (sum xs + x)) ∷ []
+sums_push before [] x = ap (λ n. n ∷ []) (omega arith)
+sums_push before (y ∷ xs) x =
+    ap (λ ns. (before + y) ∷ ns)
+    (sums_push (before + y) xs x ∙ ap (λ n. sums_from (before + y) xs ++ n ∷ []) (omega (arith, sum_by-cons (λ k. k) y xs)))
+
+-- the entries accepted later are those of no end so far
+same_posts : (accepted more : List Entry) (es : List Ending) → ((n : ℕ) → list_any (λ e. e.number == n) es ≡ true → n < length accepted) → filter_map (completion_of (accepted ++ more)) es ≡ filter_map (completion_of accepted) es
+same_posts accepted more [] within = refl
+same_posts accepted more (e ∷ es) within =
+    ap₂ cons_option
+    (ap (λ entry. cond (is_told entry e.res) (Some (record { user_data = user_data_of entry; res = e.res; payload = e.bytes })) None)
+    (get_or_append_left accepted more zero_entry e.number (within e.number (or_left (e.number == e.number) _ (eq-eqb e.number _ refl)))))
+    (same_posts accepted more es (λ n there. within n (or_right (e.number == n) _ there)))
+
+-- one end more
+posted_or_not : (size : ℕ) (l : Completions) (told_so : Bool) (c : Completion) → (cond told_so (with_posted size l c) l).posted ≡ l.posted ++ cons_option (cond told_so (Some c) None) []
+posted_or_not size l true c = refl
+posted_or_not size l false c = sym (append-nil l.posted)
+
+end_posted : (size : ℕ) (l : Completions) (accepted : List Entry) (es : List Ending) (e : Ending) → l.posted ≡ filter_map (completion_of accepted) es
+    → (with_end size l (get_or accepted e.number zero_entry) e.res e.bytes).posted ≡ filter_map (completion_of accepted) (es ++ e ∷ [])
+end_posted size l accepted es e posted =
+    let entry = get_or accepted e.number zero_entry in
+    posted_or_not size l (is_told entry e.res) (record { user_data = user_data_of entry; res = e.res; payload = e.bytes })
+    ∙ ap (λ xs. xs ++ cons_option (completion_of accepted e) []) posted
+    ∙ sym (filter_map-append (completion_of accepted) es (e ∷ []))
+
+requests_direct : (g : Shape) (h : History) (w : World) (s : Step) (a : Answer) → Change g w s a → IsSound g w → DirectRequests h w → DirectRequests ((s, a) ∷ h) (happens g w s a)
+requests_direct g h w s a (refuses _ _ same silent) sound i = subst (λ v. DirectRequests ((s, a) ∷ h) v) (sym (same w)) (record { posted = i.posted; taken_in = i.taken_in; counted = ap sum (told_same accepted_by (s, a) h silent.accepts) ∙ i.counted; cuts = i.cuts ∙ ap (sums_from 0) (sym (told_same accepted_by (s, a) h silent.accepts)); shut = i.shut ∙ ap (λ b. b || list_any closes_ring h) (sym silent.shuts_none) })
+requests_direct g h w s a (fills slot entry free) sound i = record { posted = i.posted; taken_in = i.taken_in; counted = i.counted; cuts = i.cuts; shut = i.shut }
+requests_direct g h w s a (stages word room) sound i = record { posted = i.posted; taken_in = i.taken_in; counted = i.counted; cuts = i.cuts; shut = i.shut }
+requests_direct g h w s a (stores tail) sound i = record { posted = i.posted; taken_in = i.taken_in ∙ ap entries_of (sym (take-append-le (taken w.submission) w.submission.published (map (place_of g.sq w.submission.content) w.submission.fresh) (omega (arith, sound.submission.call_published)))); counted = i.counted; cuts = i.cuts; shut = i.shut }
+requests_direct g h w s a (loads head) sound i = record { posted = i.posted; taken_in = i.taken_in; counted = i.counted; cuts = i.cuts; shut = i.shut }
+requests_direct g h w s a (begins count is_open no_call) sound i = record { posted = i.posted; taken_in = i.taken_in; counted = i.counted; cuts = i.cuts; shut = i.shut }
+requests_direct g h w s a (takes entry call place opened left at valid) sound i = subst (λ o. DirectRequests ((step.Take, answer.Entry entry) ∷ h) (taking_of w o)) (sym opened) (record { posted = i.posted; taken_in = i.taken_in; counted = i.counted; cuts = i.cuts; shut = i.shut })
+requests_direct g h w s a (drops call place opened left at invalid) sound i = subst (λ o. DirectRequests ((step.Take, answer.Dropped) ∷ h) (taking_of w o)) (sym opened) (record { posted = i.posted; taken_in = i.taken_in; counted = i.counted; cuts = i.cuts; shut = i.shut })
+requests_direct g h w s a (closes accepted missed head call opened all counted) sound i = subst (λ o. DirectRequests ((step.End, answer.Taken accepted missed head) ∷ h) (ending_of w o)) (sym opened) (record { posted = i.posted ∙ sym (same_posts w.requests.accepted (entries_of (places_from w.submission call.count)) w.requests.ended sound.requests.ended_accepted); taken_in = ap (λ xs. xs ++ entries_of (places_from w.submission call.count)) i.taken_in ∙ sym (taken_more w.submission call.count); counted = sum_by_push (λ x. x) (told accepted_by h) accepted ∙ omega (arith, i.counted, counted, length-append w.requests.accepted (entries_of (places_from w.submission call.count))); cuts = ap₂ (λ xs n. xs ++ n ∷ []) i.cuts (omega (arith, i.counted, counted, length-append w.requests.accepted (entries_of (places_from w.submission call.count)))) ∙ sym (sums_push 0 (told accepted_by h) accepted); shut = i.shut })
+requests_direct g h w s a (runs n outstanding idle spared ready) sound i = record { posted = i.posted; taken_in = i.taken_in; counted = i.counted; cuts = i.cuts; shut = i.shut }
+requests_direct g h w s a (dooms n outstanding idle doomed) sound i = record { posted = end_posted g.cq w.completions w.requests.accepted w.requests.ended (record { number = n; res = doomed_result w.requests n; bytes = no_bytes }) i.posted; taken_in = i.taken_in; counted = i.counted; cuts = i.cuts; shut = i.shut }
+requests_direct g h w s a (cancels n outstanding idle spared ready cancel) sound i = record { posted = end_posted g.cq w.completions w.requests.accepted w.requests.ended (record { number = n; res = cancel_result w.requests n; bytes = no_bytes }) i.posted; taken_in = i.taken_in; counted = i.counted; cuts = i.cuts; shut = i.shut }
+requests_direct g h w s a (finishes n res bytes running) sound i = record { posted = end_posted g.cq w.completions w.requests.accepted w.requests.ended (record { number = n; res = res; bytes = bytes }) i.posted; taken_in = i.taken_in; counted = i.counted; cuts = i.cuts; shut = i.shut }
+requests_direct g h w s a (flushes moved) sound i = record { posted = i.posted; taken_in = i.taken_in; counted = i.counted; cuts = i.cuts; shut = i.shut }
+requests_direct g h w s a (sees_tail tail) sound i = record { posted = i.posted; taken_in = i.taken_in; counted = i.counted; cuts = i.cuts; shut = i.shut }
+requests_direct g h w s a (reaps completion next) sound i = record { posted = i.posted; taken_in = i.taken_in; counted = i.counted; cuts = i.cuts; shut = i.shut }
+requests_direct g h w s a (stores_head head) sound i = record { posted = i.posted; taken_in = i.taken_in; counted = i.counted; cuts = i.cuts; shut = i.shut }
+requests_direct g h w s a (shuts no_call) sound i = record { posted = i.posted; taken_in = i.taken_in; counted = i.counted; cuts = i.cuts; shut = refl }
+
+pub direct_requests : (g : Shape) (h : History) → IsLawfulApart g h → DirectRequests h (world g h)
+direct_requests g [] lawful = record { posted = refl; taken_in = refl; counted = refl; cuts = refl; shut = refl }
+direct_requests g ((s, a) ∷ before) lawful =
+    requests_direct g before (world g before) s a (change_of g (world g before) s a lawful.0) (sound_of g before lawful.1) (direct_requests g before lawful.1)

@@ -1,0 +1,95 @@
+-- The submission ring's lists, read off a history.
+use Rattle.std.proofs.Common.{◌≡◌, ℕ, ◌+◌, ◌==◌, Bool, true, false, List, [], ◌∷◌, ◌++◌, length, take, map, sum, count_by, get_or, Option, Some, None, unwrap_or, if◌then◌else◌, cond, refl, sym, subst, ap, ap₂, ◌∙◌, arith, append-nil, append_assoc}
+use Rattle.std.specs.Option.{option_or}
+use Rattle.std.proofs.lemmas.Bool.{eq-eqb, ne_eqb}
+use Rattle.std.proofs.lemmas.List.{length_push, map-append, take_at, get_or_push}
+use Rattle.uring_entry.specs.Shape.{Shape}
+use Rattle.uring_entry.specs.Layout.{Entry, zero_entry}
+use Rattle.uring_entry.specs.Submission.{Call, place_of, call_length}
+use Rattle.uring_entry.specs.Requests.{doomed_result, cancel_result, no_bytes}
+use Rattle.uring_machine.specs.Direct.{filled_by, staged_by, takes_position, opens_call, opened_by, closes_call, is_store_tail, is_load_head, told, last_told, since_last, staged_words, published_words, slot_content, open_call, call_counts, taken_count, loaded_head}
+use Rattle.uring_machine.specs.World.{World, happens, taking_of, ending_of}
+use Rattle.uring_machine.specs.Histories.{Event, History, world, IsLawfulApart}
+use Rattle.uring_machine.specs.declared.steps.Step.{Step}
+use Rattle.uring_machine.specs.declared.steps.Step.TheVariants as step
+use Rattle.uring_machine.specs.declared.answers.Answer.{Answer}
+use Rattle.uring_machine.specs.declared.answers.Answer.TheVariants as answer
+use Rattle.uring_machine.proofs.Changes.{Change, change_of, refuses, fills, stages, stores, loads, begins, takes, drops, closes, runs, dooms, cancels, finishes, flushes, sees_tail, reaps, stores_head, shuts}
+use Rattle.uring_machine.proofs.Telling.{count_more, count_same, told_same, before_same}
+
+-- how many positions the open call has
+abbrev pub open_counts : Option Call → List ℕ
+open_counts None = []
+open_counts (Some call) = call.count ∷ []
+
+-- the open call has taken this many
+abbrev pub TakenSince : Option Call → ℕ → Type 0
+TakenSince None n = Unit {0}
+TakenSince (Some call) n = call.taken ≡ n
+
+pub record DirectSubmission (h : History) (w : World) : Type 0 where
+  pub content : (slot : ℕ) → w.submission.content slot ≡ slot_content h slot
+  pub published : map (λ place. place.word) w.submission.published ≡ published_words h
+  pub staged : published_words h ++ w.submission.fresh ≡ staged_words h
+  pub opened : told opened_by h ≡ w.submission.calls ++ open_counts w.submission.call
+  pub closed : count_by closes_call h ≡ length w.submission.calls
+  pub openings : count_by opens_call h ≡ length w.submission.calls + length (open_counts w.submission.call)
+  pub seen : w.submission.seen_head ≡ loaded_head h
+  pub since : TakenSince w.submission.call (count_by takes_position (since_last opens_call h))
+
+-- an event that neither opens a call nor takes a position
+same_since : (e : Event) (h : History) (call : Option Call) → opens_call e ≡ false → takes_position e ≡ false → TakenSince call (count_by takes_position (since_last opens_call h)) → TakenSince call (count_by takes_position (since_last opens_call (e ∷ h)))
+same_since e h None other idle i = tt
+same_since e h (Some call) other idle i =
+    i ∙ sym (count_same takes_position e (since_last opens_call h) idle) ∙ ap (λ b. count_by takes_position (cond b [] (e ∷ since_last opens_call h))) (sym other)
+
+-- what a slot holds once one is filled
+fill_tells : (here : Bool) (entry : Entry) (last : Option Entry) → unwrap_or (option_or (if here then Some entry else None) last) zero_entry ≡ (if here then entry else unwrap_or last zero_entry)
+fill_tells true entry last = refl
+fill_tells false entry last = refl
+
+words_of_places : (size : ℕ) (content : ℕ → Entry) (words : List ℕ) → map (λ p. p.word) (map (place_of size content) words) ≡ words
+words_of_places size content [] = refl
+words_of_places size content (word ∷ words) = ap (λ xs. word ∷ xs) (words_of_places size content words)
+
+-- the calls that closed are the first of those that opened
+own_calls : (h : History) (w : World) → told opened_by h ≡ w.submission.calls ++ open_counts w.submission.call → count_by closes_call h ≡ length w.submission.calls → call_counts h ≡ w.submission.calls
+own_calls h w opened closed = ap₂ (λ n xs. take n xs) closed opened ∙ take_at w.submission.calls (open_counts w.submission.call) (length w.submission.calls) refl
+
+submission_direct : (g : Shape) (h : History) (w : World) (s : Step) (a : Answer) → Change g w s a → DirectSubmission h w → DirectSubmission ((s, a) ∷ h) (happens g w s a)
+submission_direct g h w s a (refuses _ _ same silent) i = subst (λ v. DirectSubmission ((s, a) ∷ h) v) (sym (same w)) (record { content = λ slot. i.content slot ∙ sym (ap (λ o. unwrap_or (option_or o (last_told (filled_by slot) h)) zero_entry) (silent.fills slot)); published = i.published ∙ ap staged_words (sym (before_same is_store_tail (s, a) h silent.stores_tail)); staged = ap (λ b. staged_words b ++ w.submission.fresh) (before_same is_store_tail (s, a) h silent.stores_tail) ∙ i.staged ∙ sym (told_same staged_by (s, a) h silent.stages); opened = told_same opened_by (s, a) h silent.opens ∙ i.opened; closed = count_same closes_call (s, a) h silent.closes ∙ i.closed; openings = count_same opens_call (s, a) h silent.opens_none ∙ i.openings; seen = i.seen ∙ ap taken_count (sym (before_same is_load_head (s, a) h silent.loads_head)); since = same_since (s, a) h w.submission.call silent.opens_none silent.takes i.since })
+submission_direct g h w s a (fills slot entry free) i = record { content = λ asked. ap (λ o. if asked == slot then entry else o) (i.content asked) ∙ sym (fill_tells (asked == slot) entry (last_told (filled_by asked) h)); published = i.published; staged = i.staged; opened = i.opened; closed = count_same closes_call (step.Fill slot entry, answer.Filled) h refl ∙ i.closed; openings = count_same opens_call (step.Fill slot entry, answer.Filled) h refl ∙ i.openings; seen = i.seen; since = same_since (step.Fill slot entry, answer.Filled) h w.submission.call refl refl i.since }
+submission_direct g h w s a (stages word room) i = record { content = i.content; published = i.published; staged = sym (append_assoc (published_words h) w.submission.fresh (word ∷ [])) ∙ ap (λ xs. xs ++ word ∷ []) i.staged; opened = i.opened; closed = count_same closes_call (step.Index word, answer.Staged) h refl ∙ i.closed; openings = count_same opens_call (step.Index word, answer.Staged) h refl ∙ i.openings; seen = i.seen; since = same_since (step.Index word, answer.Staged) h w.submission.call refl refl i.since }
+submission_direct g h w s a (stores tail) i = record { content = i.content; published = map-append (λ p. p.word) w.submission.published (map (place_of g.sq w.submission.content) w.submission.fresh) ∙ ap₂ (λ xs ys. xs ++ ys) i.published (words_of_places g.sq w.submission.content w.submission.fresh) ∙ i.staged; staged = append-nil (staged_words h); opened = i.opened; closed = count_same closes_call (step.StoreTail, answer.Tail tail) h refl ∙ i.closed; openings = count_same opens_call (step.StoreTail, answer.Tail tail) h refl ∙ i.openings; seen = i.seen; since = same_since (step.StoreTail, answer.Tail tail) h w.submission.call refl refl i.since }
+submission_direct g h w s a (loads head) i = record { content = i.content; published = i.published; staged = i.staged; opened = i.opened; closed = count_same closes_call (step.LoadHead, answer.Head head) h refl ∙ i.closed; openings = count_same opens_call (step.LoadHead, answer.Head head) h refl ∙ i.openings; seen = ap sum (sym (own_calls h w i.opened i.closed)); since = same_since (step.LoadHead, answer.Head head) h w.submission.call refl refl i.since }
+submission_direct g h w s a (begins count is_open no_call) i = record { content = i.content; published = i.published; staged = i.staged; opened = ap (λ xs. xs ++ call_length w.submission count ∷ []) (i.opened ∙ ap (λ o. w.submission.calls ++ open_counts o) no_call ∙ append-nil w.submission.calls); closed = count_same closes_call (step.Begin count, answer.Call (call_length w.submission count)) h refl ∙ i.closed; openings = count_more opens_call (step.Begin count, answer.Call (call_length w.submission count)) h refl ∙ omega (arith, i.openings, ap (λ o. length (open_counts o)) no_call); seen = i.seen; since = refl }
+submission_direct g h w s a (takes entry call place opened left at valid) i = subst (λ o. DirectSubmission ((step.Take, answer.Entry entry) ∷ h) (taking_of w o)) (sym opened) (record { content = i.content; published = i.published; staged = i.staged; opened = i.opened ∙ ap (λ o. w.submission.calls ++ open_counts o) opened; closed = count_same closes_call (step.Take, answer.Entry entry) h refl ∙ i.closed; openings = count_same opens_call (step.Take, answer.Entry entry) h refl ∙ i.openings ∙ ap (λ o. length w.submission.calls + length (open_counts o)) opened; seen = i.seen; since = omega (arith, count_more takes_position (step.Take, answer.Entry entry) (since_last opens_call h) refl, subst (λ o. TakenSince o (count_by takes_position (since_last opens_call h))) opened i.since) })
+submission_direct g h w s a (drops call place opened left at invalid) i = subst (λ o. DirectSubmission ((step.Take, answer.Dropped) ∷ h) (taking_of w o)) (sym opened) (record { content = i.content; published = i.published; staged = i.staged; opened = i.opened ∙ ap (λ o. w.submission.calls ++ open_counts o) opened; closed = count_same closes_call (step.Take, answer.Dropped) h refl ∙ i.closed; openings = count_same opens_call (step.Take, answer.Dropped) h refl ∙ i.openings ∙ ap (λ o. length w.submission.calls + length (open_counts o)) opened; seen = i.seen; since = omega (arith, count_more takes_position (step.Take, answer.Dropped) (since_last opens_call h) refl, subst (λ o. TakenSince o (count_by takes_position (since_last opens_call h))) opened i.since) })
+submission_direct g h w s a (closes accepted missed head call opened all counted) i = subst (λ o. DirectSubmission ((step.End, answer.Taken accepted missed head) ∷ h) (ending_of w o)) (sym opened) (record { content = i.content; published = i.published; staged = i.staged; opened = i.opened ∙ ap (λ o. w.submission.calls ++ open_counts o) opened ∙ sym (append-nil (w.submission.calls ++ call.count ∷ [])); closed = count_more closes_call (step.End, answer.Taken accepted missed head) h refl ∙ omega (arith, i.closed, length_push w.submission.calls call.count); openings = count_same opens_call (step.End, answer.Taken accepted missed head) h refl ∙ omega (arith, i.openings, ap (λ o. length (open_counts o)) opened, length_push w.submission.calls call.count); seen = i.seen; since = tt })
+submission_direct g h w s a (runs n outstanding idle spared ready) i = record { content = i.content; published = i.published; staged = i.staged; opened = i.opened; closed = count_same closes_call (step.Issue n, answer.Run) h refl ∙ i.closed; openings = count_same opens_call (step.Issue n, answer.Run) h refl ∙ i.openings; seen = i.seen; since = same_since (step.Issue n, answer.Run) h w.submission.call refl refl i.since }
+submission_direct g h w s a (dooms n outstanding idle doomed) i = record { content = i.content; published = i.published; staged = i.staged; opened = i.opened; closed = count_same closes_call (step.Issue n, answer.Ended (doomed_result w.requests n) no_bytes) h refl ∙ i.closed; openings = count_same opens_call (step.Issue n, answer.Ended (doomed_result w.requests n) no_bytes) h refl ∙ i.openings; seen = i.seen; since = same_since (step.Issue n, answer.Ended (doomed_result w.requests n) no_bytes) h w.submission.call refl refl i.since }
+submission_direct g h w s a (cancels n outstanding idle spared ready cancel) i = record { content = i.content; published = i.published; staged = i.staged; opened = i.opened; closed = count_same closes_call (step.Issue n, answer.Ended (cancel_result w.requests n) no_bytes) h refl ∙ i.closed; openings = count_same opens_call (step.Issue n, answer.Ended (cancel_result w.requests n) no_bytes) h refl ∙ i.openings; seen = i.seen; since = same_since (step.Issue n, answer.Ended (cancel_result w.requests n) no_bytes) h w.submission.call refl refl i.since }
+submission_direct g h w s a (finishes n res bytes running) i = record { content = i.content; published = i.published; staged = i.staged; opened = i.opened; closed = count_same closes_call (step.Finish n, answer.Ended res bytes) h refl ∙ i.closed; openings = count_same opens_call (step.Finish n, answer.Ended res bytes) h refl ∙ i.openings; seen = i.seen; since = same_since (step.Finish n, answer.Ended res bytes) h w.submission.call refl refl i.since }
+submission_direct g h w s a (flushes moved) i = record { content = i.content; published = i.published; staged = i.staged; opened = i.opened; closed = count_same closes_call (step.Flush, answer.Moved moved) h refl ∙ i.closed; openings = count_same opens_call (step.Flush, answer.Moved moved) h refl ∙ i.openings; seen = i.seen; since = same_since (step.Flush, answer.Moved moved) h w.submission.call refl refl i.since }
+submission_direct g h w s a (sees_tail tail) i = record { content = i.content; published = i.published; staged = i.staged; opened = i.opened; closed = count_same closes_call (step.LoadCqTail, answer.Tail tail) h refl ∙ i.closed; openings = count_same opens_call (step.LoadCqTail, answer.Tail tail) h refl ∙ i.openings; seen = i.seen; since = same_since (step.LoadCqTail, answer.Tail tail) h w.submission.call refl refl i.since }
+submission_direct g h w s a (reaps completion next) i = record { content = i.content; published = i.published; staged = i.staged; opened = i.opened; closed = count_same closes_call (step.Reap, answer.Reaped completion) h refl ∙ i.closed; openings = count_same opens_call (step.Reap, answer.Reaped completion) h refl ∙ i.openings; seen = i.seen; since = same_since (step.Reap, answer.Reaped completion) h w.submission.call refl refl i.since }
+submission_direct g h w s a (stores_head head) i = record { content = i.content; published = i.published; staged = i.staged; opened = i.opened; closed = count_same closes_call (step.StoreCqHead, answer.Head head) h refl ∙ i.closed; openings = count_same opens_call (step.StoreCqHead, answer.Head head) h refl ∙ i.openings; seen = i.seen; since = same_since (step.StoreCqHead, answer.Head head) h w.submission.call refl refl i.since }
+submission_direct g h w s a (shuts no_call) i = record { content = i.content; published = i.published; staged = i.staged; opened = i.opened; closed = count_same closes_call (step.Close, answer.Shut) h refl ∙ i.closed; openings = count_same opens_call (step.Close, answer.Shut) h refl ∙ i.openings; seen = i.seen; since = same_since (step.Close, answer.Shut) h w.submission.call refl refl i.since }
+
+pub direct_submission : (g : Shape) (h : History) → IsLawfulApart g h → DirectSubmission h (world g h)
+direct_submission g [] lawful = record { content = λ slot. refl; published = refl; staged = refl; opened = refl; closed = refl; openings = refl; seen = refl; since = tt }
+direct_submission g ((s, a) ∷ before) lawful = submission_direct g before (world g before) s a (change_of g (world g before) s a lawful.0) (direct_submission g before lawful.1)
+
+pub calls_direct : (h : History) (w : World) → DirectSubmission h w → call_counts h ≡ w.submission.calls
+calls_direct h w i = own_calls h w i.opened i.closed
+
+-- the call that is open
+pub call_direct : (h : History) (w : World) → DirectSubmission h w → w.submission.call ≡ open_call h
+call_direct h w i = by_call w.submission.call i.opened i.openings i.since where
+  by_call : (call : Option Call) → told opened_by h ≡ w.submission.calls ++ open_counts call → count_by opens_call h ≡ length w.submission.calls + length (open_counts call) → TakenSince call (count_by takes_position (since_last opens_call h)) → call ≡ open_call h
+  by_call None opened openings since =
+      ap (λ b. if b then None else Some (record { count = get_or (told opened_by h) (count_by closes_call h) 0; taken = count_by takes_position (since_last opens_call h) })) (sym (eq-eqb (count_by opens_call h) (count_by closes_call h) (omega (arith, i.closed))))
+  by_call (Some call) opened openings since =
+      let at : get_or (told opened_by h) (count_by closes_call h) 0 ≡ call.count = ap₂ (λ xs n. get_or xs n 0) opened i.closed ∙ get_or_push w.submission.calls call.count 0 (length w.submission.calls) refl in
+      ap₂ (λ count taken. Some (record { count = count; taken = taken })) (sym at) since
+      ∙ ap (λ b. if b then None else Some (record { count = get_or (told opened_by h) (count_by closes_call h) 0; taken = count_by takes_position (since_last opens_call h) })) (sym (ne_eqb (count_by opens_call h) (count_by closes_call h) (λ same. omega (arith, i.closed, openings, same))))

@@ -1,0 +1,85 @@
+-- What an event makes of the files of a history.
+use Rattle.std.proofs.Common.{◌≡◌, ℕ, ℤ, negsuc, ◌==◌, List, [], ◌∷◌, ◌++◌, length, Bool, true, false, if◌then◌else◌, refl, sym, subst, ◌∙◌, ap, arith}
+use Rattle.std.specs.List.{list_any}
+use Rattle.std.proofs.lemmas.Bool.{or_left, or_right, eqb-true, eq-eqb}
+use Rattle.uring_entry.specs.Shape.{Shape}
+use Rattle.uring_entry.specs.Layout.{Entry, opcode_of, addr_of}
+use Rattle.uring_entry.specs.Preparation.{is_faulty, is_cancel, operation_of}
+use Rattle.uring_entry.specs.Requests.{Requests, Ending, entry_of, doomed_result, cancel_result, no_bytes, with_call, with_started, with_ended, with_issued_end}
+use Rattle.uring_entry.specs.declared.opcode.TheConstants.{NOP, FSYNC, ASYNC_CANCEL}
+use Rattle.uring_entry.specs.declared.errno.TheConstants.{EINVAL, ECANCELED}
+use Rattle.uring_entry.specs.declared.operation.Op.{Op}
+use Rattle.uring_entry.specs.declared.operation.Op.TheVariants.{Nop, Read, Write, Fsync, Cancel}
+use Rattle.uring_files.specs.Contents.{FileContents}
+use Rattle.uring_files.specs.Operations.{after}
+use Rattle.uring_machine.specs.Contents.{files_after, files_of}
+use Rattle.uring_machine.specs.Core.{IsNoFinish}
+use Rattle.uring_machine.specs.Histories.{History, world, IsLawfulApart}
+use Rattle.uring_machine.specs.declared.steps.Step.{Step}
+use Rattle.uring_machine.specs.declared.answers.Answer.{Answer}
+use Rattle.uring_machine.proofs.Changes.{change_of}
+use Rattle.uring_machine.proofs.Moves.{Move, stays, accepts, starts, ends_doomed, ends_cancel, ends_run, move_of}
+use Rattle.uring_machine.proofs.Running.{entry_stays}
+use Rattle.uring_machine.proofs.Sound.{sound_of}
+use Rattle.uring_machine.proofs.SoundRequests.{IsSoundRequests}
+
+-- the files depend on no entries but those of what ended
+files_same : (r q : Requests) (files : List FileContents) (ends : List Ending) → ((n : ℕ) → list_any (λ e. e.number == n) ends ≡ true → entry_of q n ≡ entry_of r n)
+    → files_after q files ends ≡ files_after r files ends
+files_same r q files [] same = refl
+files_same r q files (e ∷ later) same =
+    ap (λ x. files_after q (after files (operation_of x) e.res) later) (same e.number (or_left _ _ (eq-eqb e.number e.number refl)))
+    ∙ files_same r q (after files (operation_of (entry_of r e.number)) e.res) later (λ n there. same n (or_right (e.number == n) _ there))
+
+-- the last end comes last
+files_more : (r : Requests) (files : List FileContents) (ends : List Ending) (e : Ending) → files_after r files (ends ++ e ∷ []) ≡ after (files_after r files ends) (operation_of (entry_of r e.number)) e.res
+files_more r files [] e = refl
+files_more r files (first ∷ later) e = files_more r (after files (operation_of (entry_of r first.number)) first.res) later e
+
+-- Ends that change no file.
+
+failed : (files : List FileContents) (op : Op) (below : ℕ) → after files op (negsuc below) ≡ files
+failed files Nop below = refl
+failed files (Read fd off len) below = refl
+failed files (Write fd off len bytes) below = refl
+failed files (Fsync fd) below = refl
+failed files (Cancel target) below = refl
+
+doomed_changes_none : (files : List FileContents) (r : Requests) (n : ℕ) → after files (operation_of (entry_of r n)) (doomed_result r n) ≡ files
+doomed_changes_none files r n = by_fault (is_faulty (entry_of r n)) where
+  by_fault : (faulty : Bool) → after files (operation_of (entry_of r n)) (if faulty then negsuc 21 else negsuc 124) ≡ files
+  by_fault true = failed files (operation_of (entry_of r n)) 21
+  by_fault false = failed files (operation_of (entry_of r n)) 124
+
+asks_cancel : (code target : ℕ) (sync other : Op) → code ≡ ASYNC_CANCEL → (if code == NOP then Nop else (if code == FSYNC then sync else (if code == ASYNC_CANCEL then Cancel target else other))) ≡ Cancel target
+asks_cancel code target sync other e = rw e refl
+
+cancel_changes_none : (files : List FileContents) (e : Entry) (res : ℤ) → is_cancel e ≡ true → after files (operation_of e) res ≡ files
+cancel_changes_none files e res cancel = ap (λ op. after files op res) (asks_cancel (opcode_of e) (addr_of e) _ _ (eqb-true _ _ cancel))
+
+-- what an end makes of the files
+pub files_ended : (r : Requests) (n : ℕ) (res : ℤ) (bytes : List ℕ) (files : List FileContents)
+    → files_after (with_ended r n res bytes) files (with_ended r n res bytes).ended ≡ after (files_after r files r.ended) (operation_of (entry_of r n)) res
+files_ended r n res bytes files =
+    files_same r (with_ended r n res bytes) files (with_ended r n res bytes).ended (λ m there. refl)
+    ∙ files_more r files r.ended (record { number = n; res = res; bytes = bytes })
+
+issued_end : (r : Requests) (n : ℕ) (res : ℤ) (files : List FileContents)
+    → files_after (with_issued_end r n res) files (with_issued_end r n res).ended ≡ after (files_after r files r.ended) (operation_of (entry_of r n)) res
+issued_end r n res files =
+    files_same r (with_issued_end r n res) files (with_issued_end r n res).ended (λ m there. refl)
+    ∙ files_more r files r.ended (record { number = n; res = res; bytes = no_bytes })
+
+move_keeps : (r q : Requests) (s : Step) (a : Answer) (files : List FileContents) → Move r s a q → IsNoFinish s → IsSoundRequests r → files_after q files q.ended ≡ files_after r files r.ended
+move_keeps r q s a files (stays _ _) other i = refl
+move_keeps r q s a files (accepts _ _ entries) other i = files_same r (with_call r entries) files r.ended (λ n there. entry_stays r entries n (i.ended_accepted n there))
+move_keeps r q s a files (starts n no_cancel) other i = files_same r (with_started r n) files r.ended (λ m there. refl)
+move_keeps r q s a files (ends_doomed n) other i = issued_end r n (doomed_result r n) files ∙ doomed_changes_none (files_after r files r.ended) r n
+move_keeps r q s a files (ends_cancel n cancel) other i = issued_end r n (cancel_result r n) files ∙ cancel_changes_none (files_after r files r.ended) (entry_of r n) (cancel_result r n) cancel
+move_keeps r q s a files (ends_run n res bytes) other i = absurd other
+
+-- a step but a finish leaves the files as they are
+pub files_kept : (g : Shape) (s : Step) (a : Answer) (before : History) → IsLawfulApart g ((s , a) ∷ before) → IsNoFinish s → files_of g (world g ((s , a) ∷ before)) ≡ files_of g (world g before)
+files_kept g s a before lawful other =
+    move_keeps (world g before).requests _ s a _ (move_of g (world g before) s a (change_of g (world g before) s a lawful.0) lawful.0) other
+    (sound_of g before lawful.1).requests

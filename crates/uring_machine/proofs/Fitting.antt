@@ -1,0 +1,129 @@
+-- That a machine fits a history with one more event.
+use Rattle.std.proofs.Common.{◌≡◌, ℕ, ℤ, List, [], ◌∷◌, Bool, true, false, Option, Some, None, if◌then◌else◌, refl, sym, subst, ◌∙◌, ap}
+use Rattle.uring_entry.specs.Shape.{Shape}
+use Rattle.uring_entry.specs.Preparation.{operation_of}
+use Rattle.uring_entry.specs.Requests.{Requests, entry_of, is_running}
+use Rattle.uring_entry.specs.declared.operation.Op.{Op}
+use Rattle.uring_entry.specs.declared.outcomes.Outcome.{Outcome}
+use Rattle.uring_dispatch.specs.Answers.{operation_running}
+use Rattle.uring_files.specs.Contents.{FileContents}
+use Rattle.uring_files.specs.Operations.{after, IsOutcome, IsForFiles}
+use Rattle.uring_machine.specs.World.{World}
+use Rattle.uring_machine.specs.Answers.{CalledForApart, FinishesApart}
+use Rattle.uring_machine.specs.Contents.{CalledFor, IsLawful, EndsOn, files_of}
+use Rattle.uring_machine.specs.Core.{Parts, FitsApart, IsNoFinish, IsFinished}
+use Rattle.uring_machine.specs.Histories.{History, world, IsLawfulApart}
+use Rattle.uring_machine.specs.Machine.{Holding, Fits}
+use Rattle.uring_machine.specs.declared.steps.Step.{Step}
+use Rattle.uring_machine.specs.declared.steps.Step.TheVariants as step
+use Rattle.uring_machine.specs.declared.answers.Answer.{Answer}
+use Rattle.uring_machine.specs.declared.answers.Answer.TheVariants as answer
+use Rattle.uring_machine.proofs.FileHistory.{files_kept, files_ended}
+use Rattle.uring_machine.proofs.Running.{running_asks}
+
+-- but for a finish, answers are called for as they are apart from files
+called_apart : (g : Shape) (w : World) (s : Step) (a : Answer) → IsNoFinish s → CalledForApart g w s a → CalledFor g w s a
+called_apart g w (step.Fill slot entry) a other called = called
+called_apart g w (step.Index word) a other called = called
+called_apart g w step.StoreTail a other called = called
+called_apart g w step.LoadHead a other called = called
+called_apart g w (step.Begin count) a other called = called
+called_apart g w step.Take a other called = called
+called_apart g w step.End a other called = called
+called_apart g w (step.Issue n) a other called = called
+called_apart g w (step.Finish n) a other called = absurd other
+called_apart g w step.Flush a other called = called
+called_apart g w step.LoadCqTail a other called = called
+called_apart g w step.Reap a other called = called
+called_apart g w step.StoreCqHead a other called = called
+called_apart g w step.Close a other called = called
+called_apart g w step.Next a other called = called
+
+-- the machine with another core of its shape
+pub step_fits : (core later : Parts) (files : List FileContents) (s : Step) (a : Answer) (h : History) → later.shape ≡ core.shape → IsNoFinish s
+    → Fits (record { core = core; files = files }) h → FitsApart later ((s , a) ∷ h) → Fits (record { core = later; files = files }) ((s , a) ∷ h)
+step_fits core later files s a h same other fits next =
+    let g : Shape = later.shape in
+    record {
+      core = next;
+      files = subst (λ k. files ≡ files_of k (world k h)) (sym same) fits.files ∙ sym (files_kept g s a h next.lawful other);
+      lawful = (called_apart g (world g h) s a other next.lawful.0, subst (λ k. IsLawful k h) (sym same) fits.lawful);
+    }
+
+-- what runs has this operation
+runs_with : (r : Requests) (n : ℕ) (op : Op) → Some op ≡ operation_running r n → (is_running r n ≡ true) × (op ≡ operation_of (entry_of r n))
+runs_with r n op e = by_running (is_running r n) e where
+  by_running : (running : Bool) → Some op ≡ (if running then Some (operation_of (entry_of r n)) else None) → (running ≡ true) × (op ≡ operation_of (entry_of r n))
+  by_running true f = (refl, cc)
+  by_running false f = absurd cc
+
+-- what runs can be asked of files
+pub asks_files : (core : Parts) (files : List FileContents) (n : ℕ) (op : Op) → ((h : History) × Fits (record { core = core; files = files }) h)
+    → ((h : History) → FitsApart core h → Some op ≡ operation_running (world core.shape h).requests n) → IsForFiles op
+asks_files core files n op some is =
+    let h : History = some.0 in
+    let fits = some.1 in
+    let r = runs_with (world core.shape h).requests n op (is h fits.core) in
+    subst IsForFiles (sym r.1) (running_asks core.shape h n fits.core.lawful r.0)
+
+-- a running request ended
+pub finish_fits : (core later : Parts) (files : List FileContents) (n : ℕ) (op : Op) (outcome : Outcome) (left : List FileContents) (a : Answer) (h : History) → later.shape ≡ core.shape
+    → Fits (record { core = core; files = files }) h → Some op ≡ operation_running (world core.shape h).requests n
+    → IsOutcome files op outcome → left ≡ after files op outcome.res
+    → FitsApart later ((step.Finish n , a) ∷ h) → IsFinished (world core.shape h) n outcome a
+    → Fits (record { core = later; files = left }) ((step.Finish n , a) ∷ h)
+finish_fits core later files n op outcome left a h same fits is allowed leaves next finished =
+    let g : Shape = core.shape in
+    let r : Requests = (world g h).requests in
+    let runs = runs_with r n op is in
+    let ends : a ≡ answer.Ended outcome.res outcome.bytes = finished ∙ ap (λ b. if b then answer.Ended outcome.res outcome.bytes else answer.NotRunning) runs.0 in
+    let called : CalledFor g (world g h) (step.Finish n) (answer.Ended outcome.res outcome.bytes) =
+        subst (λ b. EndsOn (files_of g (world g h)) r n b (answer.Ended outcome.res outcome.bytes)) (sym runs.0)
+        (subst (λ fs. IsOutcome fs (operation_of (entry_of r n)) outcome) fits.files (subst (λ o. IsOutcome files o outcome) runs.1 allowed)) in
+    let now : left ≡ files_of g (world g ((step.Finish n , answer.Ended outcome.res outcome.bytes) ∷ h)) =
+        leaves ∙ ap (λ o. after files o outcome.res) runs.1 ∙ ap (λ fs. after fs (operation_of (entry_of r n)) outcome.res) fits.files
+        ∙ sym (files_ended r n outcome.res outcome.bytes _) in
+    record {
+      core = next;
+      files = subst (λ k. left ≡ files_of k (world k ((step.Finish n , a) ∷ h))) (sym same) (subst (λ b. left ≡ files_of g (world g ((step.Finish n , b) ∷ h))) (sym ends) now);
+      lawful = subst (λ k. IsLawful k ((step.Finish n , a) ∷ h)) (sym same) (subst (λ b. CalledFor g (world g h) (step.Finish n) b) (sym ends) called, fits.lawful);
+    }
+
+-- what has no operation to carry out isn't running
+not_running : {X : Type 0} (op : X) (running : Bool) → None ≡ (if running then Some op else None) → running ≡ false
+not_running op true e = absurd cc
+not_running op false e = refl
+
+-- a request that doesn't run is refused
+pub refusal_fits : (core : Parts) (files : List FileContents) (n : ℕ) (h : History) → Fits (record { core = core; files = files }) h → None ≡ operation_running (world core.shape h).requests n
+    → Fits (record { core = core; files = files }) ((step.Finish n , answer.NotRunning) ∷ h)
+refusal_fits core files n h fits is =
+    let w : World = world core.shape h in
+    let idle : is_running w.requests n ≡ false = not_running (operation_of (entry_of w.requests n)) (is_running w.requests n) is in
+    record {
+      core = record { shows = fits.core.shows; lawful = (subst (λ b. FinishesApart b answer.NotRunning) (sym idle) refl, fits.core.lawful) };
+      files = fits.files;
+      lawful = (subst (λ b. EndsOn (files_of core.shape w) w.requests n b answer.NotRunning) (sym idle) refl, fits.lawful);
+    }
+
+-- an event of a fitted history was called for
+pub called_for : (g : Shape) (core : Parts) (files : List FileContents) (s : Step) (a : Answer) (h : History) → core.shape ≡ g → Fits (record { core = core; files = files }) ((s , a) ∷ h) → CalledFor g (world g h) s a
+called_for g core files s a h same fits = subst (λ k. CalledFor k (world k h) s a) same fits.lawful.0
+
+-- what isn't a Finish is no finish
+pub no_finish : (s : Step) → ((n : ℕ) → s ≡ step.Finish n → ⊥) → IsNoFinish s
+no_finish (step.Fill slot entry) other = tt
+no_finish (step.Index word) other = tt
+no_finish step.StoreTail other = tt
+no_finish step.LoadHead other = tt
+no_finish (step.Begin count) other = tt
+no_finish step.Take other = tt
+no_finish step.End other = tt
+no_finish (step.Issue n) other = tt
+no_finish (step.Finish n) other = other n refl
+no_finish step.Flush other = tt
+no_finish step.LoadCqTail other = tt
+no_finish step.Reap other = tt
+no_finish step.StoreCqHead other = tt
+no_finish step.Close other = tt
+no_finish step.Next other = tt

@@ -1,0 +1,103 @@
+-- What stays of the requests as a history goes on.
+use Rattle.std.proofs.Common.{◌≡◌, ℕ, ◌<◌, ◌≤◌, ℤ, true, List, [], ◌∷◌, ◌++◌, length, refl, sym, subst, ◌∙◌, ◌⊎◌, inl, inr, arith}
+use Rattle.uring_entry.specs.Shape.{Shape}
+use Rattle.uring_entry.specs.Layout.{Entry}
+use Rattle.uring_entry.specs.Submission.{entries_of, places_from}
+use Rattle.uring_entry.specs.Requests.{Requests, entry_of, is_joined, is_draining, is_drain, some_member, is_doomed, is_cancelled, doomed_result, cancel_result, with_call, with_started}
+use Rattle.uring_machine.specs.World.{World, happens, taking_of, ending_of}
+use Rattle.uring_machine.specs.Histories.{History, world, IsLawfulApart}
+use Rattle.uring_machine.specs.declared.steps.Step.{Step}
+use Rattle.uring_machine.specs.declared.answers.Answer.{Answer}
+use Rattle.uring_machine.proofs.Changes.{Change, change_of, refuses, fills, stages, stores, loads, begins, takes, drops, closes, runs, dooms, cancels, finishes, flushes, sees_tail, reaps, stores_head, shuts}
+use Rattle.uring_machine.proofs.RequestEnds.{IsChoice, ended_as, end_doom, end_join, choice_of, no_choice}
+use Rattle.uring_entry.proofs.EventLemmas.{is_doomed-started, is_joined-started, is_draining-started}
+use Rattle.uring_machine.proofs.Groups.{longer, entry_kept, join_kept, member_kept, doom_kept}
+use Rattle.uring_machine.proofs.Sound.{sound_of}
+use Rattle.std.specs.List.{list_any}
+use Rattle.std.proofs.Common.{◌==◌}
+
+-- of the requests accepted by then, the entries and the groups stay, and the doomed stay doomed
+pub record Grows (r later : Requests) : Type 0 where
+  pub longer_then : length r.accepted ≤ length later.accepted
+  pub same_entry : (n : ℕ) → n < length r.accepted → entry_of later n ≡ entry_of r n
+  pub same_group : (m n : ℕ) → n < length r.accepted → is_joined later m n ≡ is_joined r m n
+  pub same_drain : (n : ℕ) → n < length r.accepted → is_draining later n ≡ is_draining r n
+  pub stays_cancelled : (n : ℕ) → is_cancelled r n ≡ true → is_cancelled later n ≡ true
+  pub stays_doomed : (n : ℕ) → n < length r.accepted → is_doomed r n ≡ true → is_doomed later n ≡ true
+
+same_grows : (r : Requests) → Grows r r
+same_grows r = record { longer_then = omega arith; same_entry = λ n lt. refl; same_group = λ m n lt. refl; same_drain = λ n lt. refl; stays_cancelled = λ n e. e; stays_doomed = λ n lt e. e }
+
+pub then_grows : (r later last : Requests) → Grows r later → Grows later last → Grows r last
+then_grows r later last a b =
+    let l = a.longer_then in
+    record {
+      longer_then = omega (arith, b.longer_then);
+      same_entry = λ n lt. b.same_entry n (omega arith) ∙ a.same_entry n lt;
+      same_group = λ m n lt. b.same_group m n (omega arith) ∙ a.same_group m n lt;
+      same_drain = λ n lt. b.same_drain n (omega arith) ∙ a.same_drain n lt;
+      stays_cancelled = λ n e. b.stays_cancelled n (a.stays_cancelled n e);
+      stays_doomed = λ n lt e. b.stays_doomed n (omega arith) (a.stays_doomed n lt e);
+    }
+
+start_grows : (r : Requests) (n : ℕ) → Grows r (with_started r n)
+start_grows r n = record { longer_then = omega arith; same_entry = λ m lt. refl; same_group = λ k m lt. is_joined-started r n k m; same_drain = λ m lt. is_draining-started r n m; stays_cancelled = λ m e. e; stays_doomed = λ m lt e. is_doomed-started r n m ∙ e }
+
+end_drain : (r : Requests) (n : ℕ) (res : ℤ) (bytes cancelled : List ℕ) (m : ℕ) → is_draining (ended_as r n res bytes cancelled) m ≡ is_draining r m
+unfolding some_member is_joined
+end_drain r n res bytes cancelled m = refl
+
+end_grows : (r : Requests) (n : ℕ) (res : ℤ) (bytes cancelled : List ℕ) → IsChoice r n cancelled → Grows r (ended_as r n res bytes cancelled)
+end_grows r n res bytes cancelled choice =
+    record {
+      longer_then = omega arith;
+      same_entry = λ m lt. refl;
+      same_group = λ k m lt. end_join r n res bytes cancelled choice k m;
+      same_drain = λ m lt. end_drain r n res bytes cancelled m;
+      stays_cancelled = choice.kept;
+      stays_doomed = λ m lt e. end_doom r n res bytes cancelled choice m e;
+    }
+
+call_grows : (r : Requests) (entries : List Entry) → (length r.accepted ≡ 0) ⊎ (list_any (λ c. c == length r.accepted) r.cuts ≡ true) → Grows r (with_call r entries)
+call_grows r entries cut =
+    record {
+      longer_then = longer r entries cut;
+      same_entry = entry_kept r entries cut;
+      same_group = join_kept r entries cut;
+      same_drain = member_kept r entries cut is_drain;
+      stays_cancelled = λ n e. e;
+      stays_doomed = λ n lt e. doom_kept r entries cut n lt ∙ e;
+    }
+
+change_grows : (g : Shape) (w : World) (s : Step) (a : Answer) → Change g w s a → (length w.requests.accepted ≡ 0) ⊎ (list_any (λ c. c == length w.requests.accepted) w.requests.cuts ≡ true) → Grows w.requests (happens g w s a).requests
+change_grows g w s a (refuses _ _ same silent) cut = subst (λ v. Grows w.requests v.requests) (sym (same w)) (same_grows w.requests)
+change_grows g w s a (fills slot entry free) cut = same_grows w.requests
+change_grows g w s a (stages word room) cut = same_grows w.requests
+change_grows g w s a (stores tail) cut = same_grows w.requests
+change_grows g w s a (loads head) cut = same_grows w.requests
+change_grows g w s a (begins count is_open no_call) cut = same_grows w.requests
+change_grows g w s a (takes entry call place opened left at valid) cut = subst (λ o. Grows w.requests (taking_of w o).requests) (sym opened) (same_grows w.requests)
+change_grows g w s a (drops call place opened left at invalid) cut = subst (λ o. Grows w.requests (taking_of w o).requests) (sym opened) (same_grows w.requests)
+change_grows g w s a (closes accepted missed head call opened all counted) cut = subst (λ o. Grows w.requests (ending_of w o).requests) (sym opened) (call_grows w.requests (entries_of (places_from w.submission call.count)) cut)
+change_grows g w s a (runs n outstanding idle spared ready) cut = start_grows w.requests n
+change_grows g w s a (dooms n outstanding idle doomed) cut = end_grows w.requests n _ _ _ (choice_of w.requests n (doomed_result w.requests n) (inl refl))
+change_grows g w s a (cancels n outstanding idle spared ready cancel) cut = end_grows w.requests n _ _ _ (choice_of w.requests n (cancel_result w.requests n) (inr refl))
+change_grows g w s a (finishes n res bytes running) cut = end_grows w.requests n res bytes w.requests.cancelled (no_choice w.requests n)
+change_grows g w s a (flushes moved) cut = same_grows w.requests
+change_grows g w s a (sees_tail tail) cut = same_grows w.requests
+change_grows g w s a (reaps completion next) cut = same_grows w.requests
+change_grows g w s a (stores_head head) cut = same_grows w.requests
+change_grows g w s a (shuts no_call) cut = same_grows w.requests
+
+pub event_grows : (g : Shape) (s : Step) (a : Answer) (before : History) → IsLawfulApart g ((s, a) ∷ before) → Grows (world g before).requests (world g ((s, a) ∷ before)).requests
+event_grows g s a before lawful = change_grows g (world g before) s a (change_of g (world g before) s a lawful.0) (sound_of g before lawful.1).requests.cut_at_end
+
+pub grows : (g : Shape) (after before : History) → IsLawfulApart g (after ++ before) → Grows (world g before).requests (world g (after ++ before)).requests
+grows g [] before lawful = same_grows (world g before).requests
+grows g ((s, a) ∷ after) before lawful =
+    then_grows (world g before).requests (world g (after ++ before)).requests (world g ((s, a) ∷ after ++ before)).requests (grows g after before lawful.1) (event_grows g s a (after ++ before) lawful)
+
+-- what a history is made of is lawful
+pub lawful_before : (g : Shape) (after before : History) → IsLawfulApart g (after ++ before) → IsLawfulApart g before
+lawful_before g [] before lawful = lawful
+lawful_before g ((s, a) ∷ after) before lawful = lawful_before g after before lawful.1

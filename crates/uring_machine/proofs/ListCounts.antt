@@ -1,0 +1,59 @@
+-- What passes a test in a list that grows.
+use Rattle.std.proofs.Common.{◌&&◌, ◌≡◌, ℕ, ◌≤◌, List, [], ◌∷◌, ◌++◌, Bool, true, false, ◌||◌, count_by, cond, refl, sym, ◌∙◌, ap, arith, ◌⊎◌, inl, inr}
+use Rattle.std.specs.List.{list_any}
+use Rattle.std.proofs.lemmas.Bool.{cases_Bool, and_parts, or_cases, or_left, or_right, or_parts}
+use Rattle.std.proofs.lemmas.List.Folds.{list_any-append}
+use Rattle.std.proofs.lemmas.List.Sums.{sum_by_push, sum_by-cons}
+
+or-false : (b : Bool) → (b || false) ≡ b
+or-false true = refl
+or-false false = refl
+
+pub any_push : {X : Type 0} (p : X → Bool) (xs : List X) (x : X) → list_any p (xs ++ x ∷ []) ≡ (list_any p xs || p x)
+any_push p xs x = list_any-append p xs (x ∷ []) ∙ ap (λ b. list_any p xs || b) (or-false (p x))
+
+-- what passes stays, and what passes newly is the new element
+pub any_kept : {X : Type 0} (p : X → Bool) (xs ys : List X) → list_any p xs ≡ true → list_any p (xs ++ ys) ≡ true
+any_kept p xs ys e = list_any-append p xs ys ∙ or_left _ _ e
+
+pub any_new : {X : Type 0} (p : X → Bool) (xs : List X) (x : X) → list_any p (xs ++ x ∷ []) ≡ true → (list_any p xs ≡ true) ⊎ (p x ≡ true)
+any_new p xs x e = or_cases _ _ (sym (any_push p xs x) ∙ e)
+
+-- a count of what passes
+pub count_none : {X : Type 0} (p : X → Bool) (xs : List X) → list_any p xs ≡ false → count_by p xs ≡ 0
+count_none p [] e = refl
+count_none p (x ∷ xs) e =
+    let b = or_parts _ _ e in
+    let none : ◌≡◌ {A = ℕ} (cond (p x) 1 0) 0 = ap (λ t. cond t 1 0) b.0 in
+    omega (arith, sum_by-cons (λ y. cond (p y) 1 0) x xs, count_none p xs b.1)
+
+pub count_some : {X : Type 0} (p : X → Bool) (xs : List X) → list_any p xs ≡ true → 1 ≤ count_by p xs
+count_some p [] e = absurd (let f : false ≡ true = e in cc)
+count_some p (x ∷ xs) e =
+    elim (or_cases _ _ e) [
+      | inl here ↦
+          let one : ◌≡◌ {A = ℕ} (cond (p x) 1 0) 1 = ap (λ t. cond t 1 0) here in
+          omega (arith, sum_by-cons (λ y. cond (p y) 1 0) x xs)
+      | inr later ↦ omega (arith, sum_by-cons (λ y. cond (p y) 1 0) x xs, count_some p xs later)
+    ]
+
+-- at most once, also with one more that wasn't there
+pub count_once_more : {X : Type 0} (p : X → Bool) (xs : List X) (x : X) → count_by p xs ≤ 1 → (p x ≡ true → list_any p xs ≡ false) → count_by p (xs ++ x ∷ []) ≤ 1
+count_once_more p xs x once absent =
+    elim (cases_Bool (p x)) [
+      | inl here ↦
+          let one : ◌≡◌ {A = ℕ} (cond (p x) 1 0) 1 = ap (λ t. cond t 1 0) here in
+          omega (arith, sum_by_push (λ y. cond (p y) 1 0) xs x, count_none p xs (absent here))
+      | inr other ↦
+          let none : ◌≡◌ {A = ℕ} (cond (p x) 1 0) 0 = ap (λ t. cond t 1 0) other in
+          omega (arith, sum_by_push (λ y. cond (p y) 1 0) xs x)
+    ]
+
+-- a stricter test passes no more
+pub any_looser : {X : Type 0} (p q : X → Bool) (xs : List X) → list_any (λ x. p x && q x) xs ≡ true → list_any p xs ≡ true
+any_looser p q [] e = e
+any_looser p q (x ∷ xs) e =
+    elim (or_cases (p x && q x) _ e) [
+      | inl here ↦ or_left (p x) _ (and_parts (p x) (q x) here).0
+      | inr later ↦ or_right (p x) _ (any_looser p q xs later)
+    ]

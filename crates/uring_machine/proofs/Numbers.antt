@@ -1,0 +1,67 @@
+-- How many requests a lawful history accepts.
+use Rattle.std.proofs.Common.{◌≡◌, ℕ, ◌+◌, ◌-◌, ◌^◌, ◌≤◌, Bool, true, false, List, [], ◌∷◌, length, take, drop, Option, Some, None, is_some, ltb, if◌then◌else◌, refl, sym, subst, arith, inl, inr}
+use Rattle.std.proofs.lemmas.Bool.{ltb-false}
+use Rattle.std.proofs.lemmas.List.{length-append, length-take}
+use Rattle.uring_entry.specs.Shape.{Shape}
+use Rattle.uring_entry.specs.Submission.{Call, taken, call_length, entries_of, places_from}
+use Rattle.uring_entry.specs.Requests.{is_outstanding}
+use Rattle.uring_rings.proofs.Places.{entries_and_dropped}
+use Rattle.uring_dispatch.specs.Counts.{outstanding_in}
+use Rattle.uring_machine.specs.World.{World, happens, taking_of, ending_of}
+use Rattle.uring_machine.specs.Answers.{CalledForApart, OrAgain, is_spent}
+use Rattle.uring_machine.specs.Core.{positions_of}
+use Rattle.uring_machine.specs.Histories.{History, world, IsLawfulApart}
+use Rattle.uring_machine.specs.declared.steps.Step.{Step}
+use Rattle.uring_machine.specs.declared.answers.Answer.{Answer}
+use Rattle.uring_machine.specs.declared.answers.Answer.TheVariants as answer
+use Rattle.uring_machine.proofs.Changes.{Change, change_of, refuses, fills, stages, stores, loads, begins, takes, drops, closes, runs, dooms, cancels, finishes, flushes, sees_tail, reaps, stores_head, shuts}
+use Rattle.uring_machine.proofs.Outstanding.{count_below-few}
+
+-- the requests accepted, with those that the open call may still accept, are fewer than 2 ^ 63
+abbrev AreFew : World → Type 0
+AreFew w = length w.requests.accepted + positions_of w.submission.call ≤ 2 ^ 63 - 1
+
+-- where a call opens the numbers aren't spent
+not_spent : (is_closed in_call spent : Bool) (count : ℕ) → OrAgain (if is_closed then answer.Closed else (if in_call then answer.InCall else (if spent then answer.Spent else answer.Call count))) (answer.Call count) → spent ≡ false
+not_spent is_closed in_call false count called = refl
+not_spent true in_call true count called = absurd cc
+not_spent false true true count called = absurd cc
+not_spent false false true count called = absurd cc
+
+-- a call accepts no more than its positions
+few_entries : (w : World) (call : Call) → length (entries_of (places_from w.submission call.count)) ≤ call.count
+few_entries w call =
+    omega (arith, entries_and_dropped (places_from w.submission call.count), length-take call.count (drop (taken w.submission) w.submission.published))
+
+few_kept : (g : Shape) (w : World) (s : Step) (a : Answer) → Change g w s a → CalledForApart g w s a → AreFew w → AreFew (happens g w s a)
+few_kept g w s a (refuses _ _ same silent) called i = subst AreFew (sym (same w)) i
+few_kept g w s a (fills slot entry free) called i = i
+few_kept g w s a (stages word room) called i = i
+few_kept g w s a (stores tail) called i = i
+few_kept g w s a (loads head) called i = i
+few_kept g w s a (begins count is_open no_call) called i =
+    ltb-false _ _ (not_spent w.is_closed (is_some w.submission.call) (is_spent w (call_length w.submission count)) (call_length w.submission count) called)
+few_kept g w s a (takes entry call place opened left at valid) called i =
+    subst (λ o. AreFew (taking_of w o)) (sym opened) (subst (λ o. length w.requests.accepted + positions_of o ≤ 2 ^ 63 - 1) opened i)
+few_kept g w s a (drops call place opened left at invalid) called i =
+    subst (λ o. AreFew (taking_of w o)) (sym opened) (subst (λ o. length w.requests.accepted + positions_of o ≤ 2 ^ 63 - 1) opened i)
+few_kept g w s a (closes accepted missed head call opened all) called i =
+    let before : length w.requests.accepted + call.count ≤ 2 ^ 63 - 1 = subst (λ o. length w.requests.accepted + positions_of o ≤ 2 ^ 63 - 1) opened i in
+    subst (λ o. AreFew (ending_of w o)) (sym opened) (omega (arith, before, few_entries w call, length-append w.requests.accepted (entries_of (places_from w.submission call.count))))
+few_kept g w s a (runs n outstanding idle spared ready) called i = i
+few_kept g w s a (dooms n outstanding idle doomed) called i = i
+few_kept g w s a (cancels n outstanding idle spared ready cancel) called i = i
+few_kept g w s a (finishes n res bytes running) called i = i
+few_kept g w s a (flushes moved) called i = i
+few_kept g w s a (sees_tail tail) called i = i
+few_kept g w s a (reaps completion next) called i = i
+few_kept g w s a (stores_head head) called i = i
+few_kept g w s a (shuts no_call) called i = i
+
+few_accepted : (g : Shape) (h : History) → IsLawfulApart g h → AreFew (world g h)
+few_accepted g [] lawful = omega arith
+few_accepted g ((s , a) ∷ before) lawful = few_kept g (world g before) s a (change_of g (world g before) s a lawful.0) lawful.0 (few_accepted g before lawful.1)
+
+-- fewer than 2 ^ 63 are outstanding
+pub few_outstanding : (g : Shape) (h : History) → IsLawfulApart g h → outstanding_in (world g h).requests ≤ 2 ^ 63 - 1
+few_outstanding g h lawful = omega (arith, few_accepted g h lawful, count_below-few (is_outstanding (world g h).requests) (length (world g h).requests.accepted))

@@ -1,0 +1,77 @@
+-- How many requests are outstanding.
+use Rattle.std.proofs.Common.{◌≡◌, ◌≢◌, ℕ, zero, suc, ◌+◌, ◌<◌, ◌≤◌, ◌==◌, Bool, true, false, not, ◌&&◌, ltb, cond, if◌then◌else◌, ℤ, List, length, refl, sym, ◌∙◌, ap, arith, inl, inr}
+use Rattle.std.proofs.lemmas.Bool.{cases_lt, cases_eq, cases_Bool, and_parts, and_from, both_ways, ltb-true, lt-ltb, not-true, not-false, false_from_ne_true}
+use Rattle.uring_entry.specs.Requests.{Requests, has_ended, is_outstanding, with_started, with_ended, with_issued_end}
+use Rattle.uring_entry.proofs.RequestLemmas.{has_ended-same, has_ended-other}
+use Rattle.uring_dispatch.specs.Counts.{count_below, outstanding_in}
+
+-- at most as many as there are numbers
+pub count_below-few : (p : ℕ → Bool) (n : ℕ) → count_below p n ≤ n
+count_below-few p zero = omega arith
+count_below-few p (suc n) =
+    elim (cases_Bool (p n)) [
+      inl here ↦
+        let one : ◌≡◌ {A = ℕ} (cond (p n) 1 0) 1 = ap (λ b. cond b 1 0) here in
+        omega (arith, one, count_below-few p n)
+    | inr other ↦
+        let none : ◌≡◌ {A = ℕ} (cond (p n) 1 0) 0 = ap (λ b. cond b 1 0) other in
+        omega (arith, none, count_below-few p n)
+    ]
+
+-- the count depends on no number but those counted
+count_below-same : (p q : ℕ → Bool) (n : ℕ) → ((k : ℕ) → k < n → p k ≡ q k) → count_below p n ≡ count_below q n
+count_below-same p q zero same = refl
+count_below-same p q (suc n) same =
+    let here : ◌≡◌ {A = ℕ} (cond (p n) 1 0) (cond (q n) 1 0) = ap (λ b. cond b 1 0) (same n (omega arith)) in
+    omega (arith, here, count_below-same p q n (λ k lt. same k (omega arith)))
+
+-- a number less
+count_below-less : (p q : ℕ → Bool) (n m : ℕ) → m < n → p m ≡ true → q m ≡ false → ((k : ℕ) → k ≢ m → q k ≡ p k) → count_below q n + 1 ≡ count_below p n
+count_below-less p q zero m lt is isnt same = absurd (omega arith)
+count_below-less p q (suc n) m lt is isnt same =
+    elim (cases_eq n m) [
+      inl here ↦
+        let one : ◌≡◌ {A = ℕ} (cond (p n) 1 0) 1 = ap (λ b. cond b 1 0) (ap p here ∙ is) in
+        let none : ◌≡◌ {A = ℕ} (cond (q n) 1 0) 0 = ap (λ b. cond b 1 0) (ap q here ∙ isnt) in
+        omega (arith, one, none, count_below-same q p n (λ k below. same k (λ e. omega (arith, e, here, below))))
+    | inr other ↦
+        let equal : ◌≡◌ {A = ℕ} (cond (q n) 1 0) (cond (p n) 1 0) = ap (λ b. cond b 1 0) (same n other) in
+        omega (arith, equal, count_below-less p q n m (omega arith) is isnt same)
+    ]
+
+-- none is counted
+count_below-none : (p : ℕ → Bool) (n : ℕ) → count_below p n ≡ 0 → (k : ℕ) → k < n → p k ≡ false
+count_below-none p zero none k lt = absurd (omega arith)
+count_below-none p (suc n) none k lt =
+    elim (cases_Bool (p n)) [
+      inl here ↦
+        let one : ◌≡◌ {A = ℕ} (cond (p n) 1 0) 1 = ap (λ b. cond b 1 0) here in
+        absurd (omega (arith, one, none))
+    | inr other ↦ elim (cases_eq k n) [ inl same ↦ ap p same ∙ other | inr differ ↦ count_below-none p n (omega (arith, none)) k (omega arith) ]
+    ]
+
+-- nothing is counted that isn't there
+pub count_below-zero : (p : ℕ → Bool) (n : ℕ) → ((k : ℕ) → k < n → p k ≡ false) → count_below p n ≡ 0
+count_below-zero p zero none = refl
+count_below-zero p (suc n) none =
+    let here : ◌≡◌ {A = ℕ} (cond (p n) 1 0) 0 = ap (λ b. cond b 1 0) (none n (omega arith)) in
+    omega (arith, here, count_below-zero p n (λ k lt. none k (omega arith)))
+
+-- where none is counted, none is outstanding
+pub none_outstanding : (r : Requests) → outstanding_in r ≡ 0 → (n : ℕ) → is_outstanding r n ≡ false
+none_outstanding r none n = by_bound (ltb n (length r.accepted)) refl where
+  by_bound : (within : Bool) → ltb n (length r.accepted) ≡ within → (within && not (has_ended r n)) ≡ false
+  by_bound true is = ap (λ b. b && not (has_ended r n)) (sym is) ∙ count_below-none (is_outstanding r) (length r.accepted) none n (ltb-true _ _ is)
+  by_bound false is = refl
+
+-- an end of an outstanding request makes it one less
+pub ended_less : (r : Requests) (n : ℕ) (res : ℤ) (bytes : List ℕ) → is_outstanding r n ≡ true → outstanding_in (with_ended r n res bytes) + 1 ≡ outstanding_in r
+ended_less r n res bytes outstanding =
+    let within = ltb-true _ _ (and_parts _ _ outstanding).0 in
+    count_below-less (is_outstanding r) (is_outstanding (with_ended r n res bytes)) (length r.accepted) n within outstanding
+    (gone (ltb n (length r.accepted)) _ (has_ended-same r n res bytes))
+    (λ k other. ap (λ b. ltb k (length r.accepted) && not b) (has_ended-other r n res bytes k other)) where
+  gone : (within ended : Bool) → ended ≡ true → (within && not ended) ≡ false
+  gone true true e = refl
+  gone false true e = refl
+  gone within false e = absurd (let f : false ≡ true = e in cc)

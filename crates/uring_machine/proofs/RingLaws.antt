@@ -1,0 +1,74 @@
+-- What the laws of the rings say, from what is sound.
+use Rattle.std.proofs.Common.{◌≡◌, ℕ, ◌≤◌, true, false, [], ◌∷◌, ◌++◌, length, take, drop, Option, Some, None, is_some, refl, sym, subst, ap, ◌∙◌, cond, arith, append_assoc}
+use Rattle.std.specs.List.{list_any}
+use Rattle.std.proofs.lemmas.Bool.{or_from}
+use Rattle.std.proofs.lemmas.List.{take-append-drop, take-take, length-drop, length-take}
+use Rattle.uring_entry.specs.Shape.{Shape, IsShape}
+use Rattle.uring_entry.specs.Completions.{Completions}
+use Rattle.uring_machine.specs.World.{World, happens}
+use Rattle.uring_machine.specs.Histories.{History, world, IsLawfulApart}
+use Rattle.uring_machine.specs.Laws.{ReapedBeginPosted, takes_in, in_ring, in_overflow}
+use Rattle.uring_machine.specs.declared.steps.Step.{Step}
+use Rattle.uring_machine.specs.declared.steps.Step.TheVariants as step
+use Rattle.uring_machine.specs.declared.answers.Answer.{Answer}
+use Rattle.uring_machine.specs.declared.answers.Answer.TheVariants as answer
+use Rattle.uring_machine.proofs.Changes.{Change, change_of, refuses, fills, stages, stores, loads, begins, takes, drops, closes, runs, dooms, cancels, finishes, flushes, sees_tail, reaps, stores_head, shuts}
+use Rattle.uring_machine.proofs.SoundRings.{IsSoundCompletions}
+
+pub begin_posted : (size : ℕ) (l : Completions) → IsSoundCompletions size l → ReapedBeginPosted size l
+begin_posted size l s =
+    let within : length l.reaped ≤ l.put = omega arith in
+    record {
+      in_order = sym (take-append-drop l.put l.posted) ∙ ap (λ xs. xs ++ drop l.put l.posted) (sym (take-append-drop (length l.reaped) (take l.put l.posted)) ∙ ap (λ xs. xs ++ in_ring l) (take-take (length l.reaped) l.put l.posted within ∙ sym s.begins)) ∙ append_assoc l.reaped (in_ring l) (in_overflow l);
+      reaped_put = within;
+      put_posted = s.put_posted;
+      ring_holds = omega arith;
+      few_stand = omega (arith, length-drop (length l.reaped) (take l.put l.posted), length-take l.put l.posted);
+    }
+
+-- the ring is closed, and no call is open
+record IsShut (w : World) : Type 0 where
+  closed : w.is_closed ≡ true
+  no_call : w.submission.call ≡ None
+
+-- what stands after the ring is closed
+record StaysShut (w : World) (after : History) : Type 0 where
+  shut : IsShut w
+  none_in : list_any takes_in after ≡ false
+
+shut_stays : (g : Shape) (w : World) (s : Step) (a : Answer) → Change g w s a → IsShut w → IsShut (happens g w s a) × (takes_in (s, a) ≡ false)
+shut_stays g w s a (refuses _ _ same silent) i = (subst (λ v. IsShut v) (sym (same w)) i, silent.takes_into)
+shut_stays g w s a (fills slot entry free) i = (record { closed = i.closed; no_call = i.no_call }, refl)
+shut_stays g w s a (stages word room) i = (record { closed = i.closed; no_call = i.no_call }, refl)
+shut_stays g w s a (stores tail) i = (record { closed = i.closed; no_call = i.no_call }, refl)
+shut_stays g w s a (loads head) i = (record { closed = i.closed; no_call = i.no_call }, refl)
+shut_stays g w s a (begins count is_open no_call) i = absurd (let e = i.closed in cc)
+shut_stays g w s a (takes entry call place e f h k) i = absurd (let o = i.no_call in cc)
+shut_stays g w s a (drops call place e f h k) i = absurd (let o = i.no_call in cc)
+shut_stays g w s a (closes accepted missed head call e f counted) i = absurd (let o = i.no_call in cc)
+shut_stays g w s a (runs n e f h k) i = (record { closed = i.closed; no_call = i.no_call }, refl)
+shut_stays g w s a (dooms n e f h) i = (record { closed = i.closed; no_call = i.no_call }, refl)
+shut_stays g w s a (cancels n e f h k l) i = (record { closed = i.closed; no_call = i.no_call }, refl)
+shut_stays g w s a (finishes n res bytes e) i = (record { closed = i.closed; no_call = i.no_call }, refl)
+shut_stays g w s a (flushes moved) i = (record { closed = i.closed; no_call = i.no_call }, refl)
+shut_stays g w s a (sees_tail tail) i = (record { closed = i.closed; no_call = i.no_call }, refl)
+shut_stays g w s a (reaps completion e) i = (record { closed = i.closed; no_call = i.no_call }, refl)
+shut_stays g w s a (stores_head head) i = (record { closed = i.closed; no_call = i.no_call }, refl)
+shut_stays g w s a (shuts e) i = (record { closed = refl; no_call = i.no_call }, refl)
+
+open_none : (w : World) → answer.Shut ≡ (cond (is_some w.submission.call) answer.InCall answer.Shut) → w.submission.call ≡ None
+open_none w e = by_call w.submission.call e where
+  by_call : (call : Option Rattle.uring_entry.specs.Submission.Call) → answer.Shut ≡ (cond (is_some call) answer.InCall answer.Shut) → call ≡ None
+  by_call None e = refl
+  by_call (Some call) e = absurd cc
+
+stays_shut : (g : Shape) (after before : History) → IsLawfulApart g (after ++ (step.Close, answer.Shut) ∷ before) → StaysShut (world g (after ++ (step.Close, answer.Shut) ∷ before)) after
+stays_shut g [] before lawful = record { shut = record { closed = refl; no_call = open_none (world g before) lawful.0 }; none_in = refl }
+stays_shut g ((s, a) ∷ after) before lawful =
+    let i = stays_shut g after before lawful.1 in
+    let c = change_of g (world g (after ++ (step.Close, answer.Shut) ∷ before)) s a lawful.0 in
+    let k = shut_stays g _ s a c i.shut in
+    record { shut = k.0; none_in = or_from _ _ k.1 i.none_in }
+
+pub nothing_after : (g : Shape) (after before : History) → IsShape g → IsLawfulApart g (after ++ (step.Close, answer.Shut) ∷ before) → list_any takes_in after ≡ false
+nothing_after g after before shape lawful = (stays_shut g after before lawful).none_in

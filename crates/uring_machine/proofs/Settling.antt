@@ -1,0 +1,202 @@
+-- What the steps make that settle requests.
+use Rattle.std.proofs.Common.{◌≡◌, ℕ, ◌+◌, ◌*◌, ◌-◌, ◌^◌, ◌≤◌, ℤ, Bool, true, false, not, ◌&&◌, ◌||◌, List, [], ◌∷◌, ◌++◌, length, Option, Some, None, if◌then◌else◌, refl, sym, subst, ◌∙◌, ap, arith, inl, inr, append_assoc, length-append}
+use Rattle.std.specs.List.{list_any, list_all}
+use Rattle.std.proofs.lemmas.Bool.{and_parts, and_from, or_cases, both_ways, not-true, not-false, ltb-true}
+use Rattle.std.proofs.lemmas.List.Folds.{list_all-append}
+use Rattle.uring_entry.specs.Shape.{Shape}
+use Rattle.uring_entry.specs.Preparation.{is_cancel}
+use Rattle.uring_entry.specs.Requests.{Requests, entry_of, has_started, has_ended, is_outstanding, is_running, is_issuable, is_doomed, is_ready, doomed_result, cancel_result, no_bytes, next_of, least_of, with_started}
+use Rattle.uring_entry.proofs.BelowLemmas.{least_below-tells, least_below-out}
+use Rattle.uring_entry.proofs.RequestLemmas.{least_of-goes_on, is_running-started_same}
+use Rattle.uring_dispatch.specs.Counts.{outstanding_in}
+use Rattle.uring_machine.specs.World.{World, issuing, finishing}
+use Rattle.uring_machine.specs.Answers.{IsEnded, FinishesApart, issue_answer, next_answer_of}
+use Rattle.uring_machine.specs.Histories.{History, world, IsLawfulApart}
+use Rattle.uring_files.specs.Contents.{FileContents}
+use Rattle.uring_machine.specs.Core.{Parts, FitsApart}
+use Rattle.uring_machine.specs.Machine.{Holding, Fits}
+use Rattle.uring_machine.specs.Settling.{is_issue_or_finish, HasSettled, IsSettled}
+use Rattle.uring_machine.specs.declared.steps.Step.TheVariants as step
+use Rattle.uring_machine.specs.declared.answers.Answer.{Answer}
+use Rattle.uring_machine.specs.declared.answers.Answer.TheVariants as answer
+use Rattle.uring_machine.proofs.Numbers.{few_outstanding}
+use Rattle.uring_machine.proofs.Outstanding.{ended_less, none_outstanding, count_below-zero}
+
+-- Ends, each of which leaves one outstanding request less.
+
+issue_less : (g : Shape) (w : World) (n : ℕ) (a : Answer) → is_outstanding w.requests n ≡ true → IsEnded a → outstanding_in (issuing g w n a).requests + 1 ≡ outstanding_in w.requests
+issue_less g w n (answer.Ended res bytes) outstanding ended = ended_less w.requests n res no_bytes outstanding
+issue_less g w n _ outstanding ended = absurd ended
+
+finish_less : (g : Shape) (w : World) (n : ℕ) (a : Answer) → is_outstanding w.requests n ≡ true → IsEnded a → outstanding_in (finishing g w n a).requests + 1 ≡ outstanding_in w.requests
+finish_less g w n (answer.Ended res bytes) outstanding ended = ended_less w.requests n res bytes outstanding
+finish_less g w n _ outstanding ended = absurd ended
+
+-- what can be issued and doesn't run then, ends
+answer_ends : (outstanding running doomed ready cancel : Bool) (as_doomed as_cancel : ℤ) (a : Answer) → outstanding ≡ true → running ≡ false → (doomed || ready) ≡ true
+    → a ≡ (if not outstanding then answer.Unknown else (if running then answer.Running else (if doomed then answer.Ended as_doomed no_bytes else (if not ready then answer.NotReady else (if cancel then answer.Ended as_cancel no_bytes else answer.Run)))))
+    → (a ≡ answer.Run → ⊥) → IsEnded a
+answer_ends false running doomed ready cancel as_doomed as_cancel a o r d is other = absurd cc
+answer_ends true true doomed ready cancel as_doomed as_cancel a o r d is other = absurd cc
+answer_ends true false true ready cancel as_doomed as_cancel a o r d is other = subst IsEnded (sym is) tt
+answer_ends true false false false cancel as_doomed as_cancel a o r d is other = absurd (let f : false ≡ true = d in cc)
+answer_ends true false false true true as_doomed as_cancel a o r d is other = subst IsEnded (sym is) tt
+answer_ends true false false true false as_doomed as_cancel a o r d is other = absurd (other is)
+
+-- what can be issued is outstanding, and doesn't run
+issuable_tells : (r : Requests) (n : ℕ) → is_issuable r n ≡ true → (is_outstanding r n ≡ true) × (is_running r n ≡ false) × ((is_doomed r n || is_ready r n) ≡ true)
+issuable_tells r n issuable =
+    let p = and_parts _ _ issuable in
+    let q = and_parts _ _ p.0 in
+    (q.0, not-true _ q.1, p.1)
+
+-- the next can be issued
+next_tells : (r : Requests) (n : ℕ) → answer.Next n ≡ next_answer_of (next_of r) → is_issuable r n ≡ true
+next_tells r n e = by_next (next_of r) refl e where
+  by_next : (next : Option ℕ) → next_of r ≡ next → answer.Next n ≡ next_answer_of next → is_issuable r n ≡ true
+  by_next None is f = absurd cc
+  by_next (Some m) is f = let same : m ≡ n = cc in subst (λ k. is_issuable r k ≡ true) same (least_below-tells (is_issuable r) (length r.accepted) m is).holds
+
+-- where there is no next, the least outstanding request runs
+least_runs : (r : Requests) (n : ℕ) (a : Answer) → a ≡ next_answer_of (next_of r) → ((k : ℕ) → a ≡ answer.Next k → ⊥) → least_of r ≡ Some n → is_running r n ≡ true
+least_runs r n a is other least = by_next (next_of r) refl is where
+  by_next : (next : Option ℕ) → next_of r ≡ next → a ≡ next_answer_of next → is_running r n ≡ true
+  by_next (Some m) next f = absurd (other m f)
+  by_next None next f =
+      elim (or_cases _ _ (least_of-goes_on r n least)) [
+        inl running ↦ running
+      | inr issuable ↦ absurd (both_ways _ (least_below-out (is_issuable r) (length r.accepted) next n (least_below-tells (is_outstanding r) (length r.accepted) n least).below) issuable)
+      ]
+
+-- a machine that answered Next fits what it fitted
+pub next_fits : (m : Holding) (a : Answer) (h : History) → Fits m ((step.Next , a) ∷ h) → Fits m h
+next_fits m a h fits = record { core = record { shows = fits.core.shows; lawful = fits.core.lawful.1 }; files = fits.files; lawful = fits.lawful.1 }
+
+-- how many are outstanding
+pub outstanding_of : (m : Holding) (h : History) → Fits m h → m.core.dispatcher.outstanding ≡ outstanding_in (world m.core.shape h).requests
+outstanding_of m h fits = fits.core.shows.requests.outstanding
+
+-- one less is one less of what is held
+one_fewer : (old new : Holding) (h later : History) → new.core.shape ≡ old.core.shape → Fits old h → Fits new later → outstanding_in (world new.core.shape later).requests + 1 ≡ outstanding_in (world new.core.shape h).requests
+    → new.core.dispatcher.outstanding + 1 ≡ old.core.dispatcher.outstanding
+one_fewer old new h later same fits reached less =
+    omega (arith, less, outstanding_of new later reached, outstanding_of old h fits, ap (λ g. outstanding_in (world g h).requests) same)
+
+-- the next request ran, and was finished
+pub settled_run : (old asked new : Holding) (n : ℕ) (a b c : Answer) (h : History) → asked.core.shape ≡ old.core.shape → new.core.shape ≡ asked.core.shape → a ≡ answer.Next n → b ≡ answer.Run
+    → Fits old h → Fits asked ((step.Next , a) ∷ h) → Fits new ((step.Finish n , c) ∷ (step.Issue n , b) ∷ h) → HasSettled old new h 2 1
+settled_run old asked new n a b c h same kept next ran fits asked_fits new_fits =
+    let g : Shape = new.core.shape in
+    let r : Requests = (world g h).requests in
+    let now : Fits new ((step.Finish n , c) ∷ (step.Issue n , answer.Run) ∷ h) = subst (λ d. Fits new ((step.Finish n , c) ∷ (step.Issue n , d) ∷ h)) ran new_fits in
+    let issuable : is_issuable r n ≡ true = next_tells r n (subst (λ k. answer.Next n ≡ next_answer_of (next_of (world k h).requests)) (sym kept) (sym next ∙ asked_fits.core.lawful.0)) in
+    let tells = issuable_tells r n issuable in
+    let unended : has_ended r n ≡ false = not-true _ (and_parts _ _ tells.0).1 in
+    record {
+      events = (step.Finish n , c) ∷ (step.Issue n , b) ∷ [];
+      issues_and_finishes = refl;
+      fits = new_fits;
+      many = refl;
+      few = omega arith;
+      fewer =
+        one_fewer old new h ((step.Finish n , c) ∷ (step.Issue n , answer.Run) ∷ h) (kept ∙ same) fits now
+        (finish_less g (world g ((step.Issue n , answer.Run) ∷ h)) n c tells.0 (subst (λ running. FinishesApart running c) (is_running-started_same r n unended) now.core.lawful.0));
+    }
+
+-- the next request ended as it was issued
+pub settled_end : (old asked new : Holding) (n : ℕ) (a b : Answer) (h : History) → asked.core.shape ≡ old.core.shape → new.core.shape ≡ asked.core.shape → a ≡ answer.Next n → (b ≡ answer.Run → ⊥)
+    → Fits old h → Fits asked ((step.Next , a) ∷ h) → Fits new ((step.Issue n , b) ∷ h) → HasSettled old new h 1 1
+settled_end old asked new n a b h same kept next other fits asked_fits new_fits =
+    let g : Shape = new.core.shape in
+    let r : Requests = (world g h).requests in
+    let issuable : is_issuable r n ≡ true = next_tells r n (subst (λ k. answer.Next n ≡ next_answer_of (next_of (world k h).requests)) (sym kept) (sym next ∙ asked_fits.core.lawful.0)) in
+    let tells = issuable_tells r n issuable in
+    record {
+      events = (step.Issue n , b) ∷ [];
+      issues_and_finishes = refl;
+      fits = new_fits;
+      many = refl;
+      few = omega arith;
+      fewer =
+        one_fewer old new h ((step.Issue n , b) ∷ h) (kept ∙ same) fits new_fits
+        (issue_less g (world g h) n b tells.0
+            (answer_ends (is_outstanding r n) (is_running r n) (is_doomed r n) (is_ready r n) (is_cancel (entry_of r n)) (doomed_result r n) (cancel_result r n) b tells.0 tells.1 tells.2 new_fits.core.lawful.0 other));
+    }
+
+-- the least outstanding request ran, and was finished
+pub settled_finish : (old asked new : Holding) (n : ℕ) (a b : Answer) (h : History) → asked.core.shape ≡ old.core.shape → new.core.shape ≡ asked.core.shape → ((k : ℕ) → a ≡ answer.Next k → ⊥)
+    → Fits old h → Some n ≡ least_of (world old.core.shape h).requests → Fits asked ((step.Next , a) ∷ h) → Fits new ((step.Finish n , b) ∷ h) → HasSettled old new h 1 1
+settled_finish old asked new n a b h same kept other fits least asked_fits new_fits =
+    let g : Shape = new.core.shape in
+    let r : Requests = (world g h).requests in
+    let is : least_of r ≡ Some n = subst (λ k. least_of (world k h).requests ≡ Some n) (sym (kept ∙ same)) (sym least) in
+    let running : is_running r n ≡ true = least_runs r n a (subst (λ k. a ≡ next_answer_of (next_of (world k h).requests)) (sym kept) asked_fits.core.lawful.0) other is in
+    record {
+      events = (step.Finish n , b) ∷ [];
+      issues_and_finishes = refl;
+      fits = new_fits;
+      many = refl;
+      few = omega arith;
+      fewer =
+        one_fewer old new h ((step.Finish n , b) ∷ h) (kept ∙ same) fits new_fits
+        (finish_less g (world g h) n b (least_below-tells (is_outstanding r) (length r.accepted) n is).holds (subst (λ running. FinishesApart running b) running new_fits.core.lawful.0));
+    }
+
+-- something is outstanding, so there is a least
+pub some_least : (m : Holding) (h : History) → Fits m h → 1 ≤ m.core.dispatcher.outstanding → None ≡ least_of (world m.core.shape h).requests → ⊥
+some_least m h fits some none =
+    let r : Requests = (world m.core.shape h).requests in
+    let zero_of : outstanding_in r ≡ 0 = count_below-zero (is_outstanding r) (length r.accepted) (least_below-out (is_outstanding r) (length r.accepted) (sym none)) in
+    omega (arith, some, zero_of, outstanding_of m h fits)
+
+-- what was settled so far, and what is settled then
+pub settled_more : (first old new : Holding) (h : History) (count more ended : ℕ) → HasSettled first old h count ended → ((k : History) → Fits old k → HasSettled old new k more 1) → HasSettled first new h (count + more) (ended + 1)
+settled_more first old new h count more ended before next =
+    let last = next (before.events ++ h) before.fits in
+    record {
+      events = last.events ++ before.events;
+      issues_and_finishes = list_all-append is_issue_or_finish last.events before.events ∙ and_from _ _ last.issues_and_finishes before.issues_and_finishes;
+      fits = subst (λ k. Fits new k) (sym (append_assoc last.events before.events h)) last.fits;
+      many = omega (arith, length-append last.events before.events, last.many, before.many);
+      few = omega (arith, last.few, before.few);
+      fewer = omega (arith, last.fewer, before.fewer);
+    }
+
+-- nothing was settled yet
+pub settled_none : (m : Holding) (h : History) → Fits m h → HasSettled m m h 0 0
+settled_none m h fits = record { events = []; issues_and_finishes = refl; fits = fits; many = refl; few = omega arith; fewer = omega arith }
+
+-- all that was outstanding was settled
+pub settled_all : (old new : Holding) (h : History) (count ended : ℕ) → new.core.shape ≡ old.core.shape → Fits old h → ended ≡ outstanding_in (world old.core.shape h).requests → HasSettled old new h count ended → IsSettled new h count
+settled_all old new h count ended same fits all s =
+    record {
+      events = s.events;
+      issues_and_finishes = s.issues_and_finishes;
+      fits = s.fits;
+      many = s.many;
+      few = omega (arith, s.few, all, ap (λ g. outstanding_in (world g h).requests) same);
+      none_outstanding =
+        none_outstanding (world new.core.shape (s.events ++ h)).requests
+        (omega (arith, s.fewer, all, outstanding_of old h fits, outstanding_of new (s.events ++ h) s.fits));
+    }
+
+-- this number is how many are outstanding
+pub record IsCounted (m : Holding) (n : ℕ) : Type 0 where
+  pub history : History
+  pub fits : Fits m history
+  pub same : n ≡ m.core.dispatcher.outstanding
+  pub few : n ≤ 2 ^ 63 - 1
+
+pub counted : (core : Parts) (files : List FileContents) (now : Holding) (n : ℕ) → record { core = core; files = files } ≡ now → ((h : History) × Fits (record { core = core; files = files }) h)
+    → ((h : History) → FitsApart core h → n ≡ outstanding_in (world core.shape h).requests) → IsCounted now n
+counted core files now n is some counts =
+    subst (λ m. IsCounted m n) is
+    (let h : History = some.0 in
+     let fits = some.1 in
+     let many : n ≡ outstanding_in (world core.shape h).requests = counts h fits.core in
+     record {
+       history = h;
+       fits = fits;
+       same = many ∙ sym (outstanding_of (record { core = core; files = files }) h fits);
+       few = omega (arith, many, few_outstanding core.shape h fits.core.lawful);
+     })

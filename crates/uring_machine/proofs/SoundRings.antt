@@ -1,0 +1,160 @@
+-- What holds of both rings' lists in every lawful history.
+use Rattle.std.proofs.Common.{◌≡◌, ℕ, ◌+◌, ◌-◌, ◌<◌, ◌≤◌, Bool, true, false, eqb, List, [], ◌∷◌, ◌++◌, length, take, map, Option, Some, None, slice_get, cond, refl, sym, ap, ◌∙◌, arith}
+use Rattle.std.proofs.lemmas.Bool.{ltb-true, eqb-true, eqb-false, and_parts}
+use Rattle.std.proofs.lemmas.List.{length_push, length-append, length-map, take-append-le, take_more}
+use Rattle.std.proofs.lemmas.List.Sums.{sum_by_push}
+use Rattle.std.proofs.lemmas.Option.{slice_get_within, get_or_from_slice_get}
+use Rattle.uring_entry.specs.Layout.{Completion}
+use Rattle.uring_entry.specs.Submission.{Submission, Call, Place, staged, taken, pending, is_full, call_length, filled, indexed, stored, loaded, begun, took, closed}
+use Rattle.uring_entry.specs.Completions.{Completions, has_room, next_to_reap, with_posted, flushed, with_tail_loaded, with_reaped, with_head_stored}
+
+-- The completion ring.
+
+pub record IsSoundCompletions (size : ℕ) (l : Completions) : Type 0 where
+  pub begins : l.reaped ≡ take (length l.reaped) l.posted
+  pub reaped_seen : length l.reaped ≤ l.seen_tail
+  pub seen_put : l.seen_tail ≤ l.put
+  pub put_posted : l.put ≤ length l.posted
+  pub seen_head_head : l.seen_head ≤ l.head
+  pub head_reaped : l.head ≤ length l.reaped
+  pub fits : l.put ≤ l.seen_head + size
+
+posted_begins : (xs ys : List Completion) (c : Completion) → length xs ≤ length ys → xs ≡ take (length xs) ys → xs ≡ take (length xs) (ys ++ c ∷ [])
+posted_begins xs ys c within e = e ∙ sym (take-append-le (length xs) ys (c ∷ []) within)
+
+pub post_sound : (size : ℕ) (l : Completions) (c : Completion) → IsSoundCompletions size l → IsSoundCompletions size (with_posted size l c)
+post_sound size l c s = by_room (has_room size l) refl where
+  room_tells : has_room size l ≡ true → (l.put ≡ length l.posted) × (l.put - l.seen_head < size)
+  room_tells e = let p = and_parts _ _ e in (eqb-true _ _ p.0, ltb-true _ _ p.1)
+
+  by_room : (room : Bool) → has_room size l ≡ room → IsSoundCompletions size (record l { posted = l.posted ++ c ∷ []; put = cond room (l.put + 1) l.put })
+  by_room true e =
+      let r = room_tells e in
+      record {
+        begins = posted_begins l.reaped l.posted c (omega arith) s.begins;
+        reaped_seen = s.reaped_seen;
+        seen_put = omega arith;
+        put_posted = omega (arith, length_push l.posted c);
+        seen_head_head = s.seen_head_head;
+        head_reaped = s.head_reaped;
+        fits = omega arith;
+      }
+  by_room false e =
+      record {
+        begins = posted_begins l.reaped l.posted c (omega arith) s.begins;
+        reaped_seen = s.reaped_seen;
+        seen_put = s.seen_put;
+        put_posted = omega (arith, length_push l.posted c);
+        seen_head_head = s.seen_head_head;
+        head_reaped = s.head_reaped;
+        fits = s.fits;
+      }
+
+pub end_sound : (size : ℕ) (l : Completions) (c : Completion) (told : Bool) → IsSoundCompletions size l → IsSoundCompletions size (cond told (with_posted size l c) l)
+end_sound size l c true s = post_sound size l c s
+end_sound size l c false s = s
+
+pub flush_sound : (size : ℕ) (l : Completions) → IsSoundCompletions size l → IsSoundCompletions size (flushed size l)
+flush_sound size l s =
+    record {
+      begins = s.begins;
+      reaped_seen = s.reaped_seen;
+      seen_put = omega arith;
+      put_posted = omega arith;
+      seen_head_head = omega arith;
+      head_reaped = s.head_reaped;
+      fits = omega arith;
+    }
+
+pub see_tail_sound : (size : ℕ) (l : Completions) → IsSoundCompletions size l → IsSoundCompletions size (with_tail_loaded l)
+see_tail_sound size l s =
+    record {
+      begins = s.begins;
+      reaped_seen = omega arith;
+      seen_put = omega arith;
+      put_posted = s.put_posted;
+      seen_head_head = s.seen_head_head;
+      head_reaped = s.head_reaped;
+      fits = s.fits;
+    }
+
+next_tells : (l : Completions) (c : Completion) → next_to_reap l ≡ Some c → (eqb (length l.reaped) l.seen_tail ≡ false) × (slice_get l.posted (length l.reaped) ≡ Some c)
+next_tells l c e = by_end (eqb (length l.reaped) l.seen_tail) e where
+  by_end : (at_end : Bool) → cond at_end None (slice_get l.posted (length l.reaped)) ≡ Some c → (at_end ≡ false) × (slice_get l.posted (length l.reaped) ≡ Some c)
+  by_end true e = absurd cc
+  by_end false e = (refl, e)
+
+pub reap_sound : (size : ℕ) (l : Completions) (c : Completion) → next_to_reap l ≡ Some c → IsSoundCompletions size l → IsSoundCompletions size (with_reaped l c)
+reap_sound size l c e s =
+    let t = next_tells l c e in
+    let differ = eqb-false _ _ t.0 in
+    let within = slice_get_within _ _ _ t.1 in
+    let n = length_push l.reaped c in
+    record {
+      begins = ap (λ xs. xs ++ c ∷ []) s.begins ∙ ap (λ x. take (length l.reaped) l.posted ++ x ∷ []) (sym (get_or_from_slice_get l.posted (length l.reaped) c c t.1)) ∙ sym (take_more l.posted (length l.reaped) c within) ∙ ap (λ k. take k l.posted) (sym n);
+      reaped_seen = omega arith;
+      seen_put = s.seen_put;
+      put_posted = s.put_posted;
+      seen_head_head = s.seen_head_head;
+      head_reaped = omega arith;
+      fits = s.fits;
+    }
+
+pub store_head_sound : (size : ℕ) (l : Completions) → IsSoundCompletions size l → IsSoundCompletions size (with_head_stored l)
+store_head_sound size l s =
+    record {
+      begins = s.begins;
+      reaped_seen = s.reaped_seen;
+      seen_put = s.seen_put;
+      put_posted = s.put_posted;
+      seen_head_head = omega arith;
+      head_reaped = omega arith;
+      fits = s.fits;
+    }
+
+-- The submission ring.
+
+-- how many positions the open call has, and how many of them it took
+abbrev pub open_count : Option Call → ℕ
+open_count None = 0
+open_count (Some call) = call.count
+
+abbrev pub open_taken : Option Call → ℕ
+open_taken None = 0
+open_taken (Some call) = call.taken
+
+pub record IsSoundSubmission (size : ℕ) (l : Submission) : Type 0 where
+  pub seen_first : l.seen_head ≤ taken l
+  pub call_published : taken l + open_count l.call ≤ length l.published
+  pub within_call : open_taken l.call ≤ open_count l.call
+  pub few : staged l ≤ l.seen_head + size
+
+pub stage_sound : (size : ℕ) (l : Submission) (word : ℕ) → is_full size l ≡ false → IsSoundSubmission size l → IsSoundSubmission size (indexed l word)
+stage_sound size l word e s =
+    let differ = eqb-false _ _ e in
+    record { seen_first = s.seen_first; call_published = s.call_published; within_call = s.within_call; few = omega (arith, length_push l.fresh word) }
+
+pub store_sound : (size : ℕ) (l : Submission) → IsSoundSubmission size l → IsSoundSubmission size (stored size l)
+store_sound size l s =
+    let n = length-append l.published (map (Rattle.uring_entry.specs.Submission.place_of size l.content) l.fresh) in
+    let m = length-map l.fresh (Rattle.uring_entry.specs.Submission.place_of size l.content) in
+    record { seen_first = s.seen_first; call_published = omega arith; within_call = s.within_call; few = omega arith }
+
+pub load_sound : (size : ℕ) (l : Submission) → IsSoundSubmission size l → IsSoundSubmission size (loaded l)
+load_sound size l s = record { seen_first = omega arith; call_published = s.call_published; within_call = s.within_call; few = omega arith }
+
+pub begin_sound : (size : ℕ) (l : Submission) (count : ℕ) → IsSoundSubmission size l → IsSoundSubmission size (begun l count)
+begin_sound size l count s = record { seen_first = s.seen_first; call_published = omega arith; within_call = omega arith; few = s.few }
+
+pub take_sound : (size : ℕ) (l : Submission) (call : Call) → l.call ≡ Some call → eqb call.taken call.count ≡ false → IsSoundSubmission size l → IsSoundSubmission size (took l call)
+take_sound size l call e f s =
+    let differ = eqb-false _ _ f in
+    let c = ap open_count e in
+    let t = ap open_taken e in
+    record { seen_first = s.seen_first; call_published = omega arith; within_call = omega arith; few = s.few }
+
+pub close_sound : (size : ℕ) (l : Submission) (call : Call) → l.call ≡ Some call → IsSoundSubmission size l → IsSoundSubmission size (closed l call)
+close_sound size l call e s =
+    let c = ap open_count e in
+    let n = sum_by_push (λ x. x) l.calls call.count in
+    record { seen_first = omega arith; call_published = omega arith; within_call = omega arith; few = s.few }

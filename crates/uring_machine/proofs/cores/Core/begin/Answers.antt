@@ -1,0 +1,44 @@
+use Rattle.std.proofs.Common.{◌≡◌, ◌+◌, ◌-◌, ◌^◌, ◌<◌, ◌≤◌, refl, sym, ◌∙◌, ap, arith, Err}
+use Rattle.uring_machine.proofs.CoreSteps.{core_after}
+use Rattle.uring_machine.proofs.CoreCalls.{MayOpen, spent_goes, again_goes, call_goes, may_open, within_unless, on_success}
+use Rattle.uring_machine.proofs.cores.Core.begin.Goals as goal
+
+pub overflow_add-ends : goal.overflow_add-ends
+overflow_add-ends c =
+    let f = c.self.invariant.1.2 in
+    let numbers = f.shows.numbers in
+    let posts = f.shows.posts in
+    let outstanding = c.outstanding.ensures.value in
+    omega arith
+
+pub returns-in-Err-Spent-clause-fits : goal.returns-in-Err-Spent-clause-fits
+returns-in-Err-Spent-clause-fits c =
+    rw (← c.self.view_is) (spent_goes _ c.reserve.new.self c.args.count c.from-length.result
+    (may_open _ c.args.count _ _ _ _ c.if-self.false c.if-in_call.false c.in_call.ensures c.pending.ensures.value c.min.ensures c.from-length.ensures)
+    (c.reserve.ensures.spent.0 (c.in-Err-Spent.is ∙ ap Err c.in-Err-Spent.field-0-is))
+    c.in-Err-Spent.ensures.err)
+
+pub returns-in-Err-NoMemory-clause-fits : goal.returns-in-Err-NoMemory-clause-fits
+returns-in-Err-NoMemory-clause-fits c =
+    rw (← c.self.view_is) (again_goes _ c.reserve.new.self _ c.args.count c.from-length.result
+    (may_open _ c.args.count _ _ _ _ c.if-self.false c.if-in_call.false c.in_call.ensures c.pending.ensures.value c.min.ensures c.from-length.ensures)
+    (within_unless _ _ (λ above. let bad = c.reserve.ensures.spent.1 above in let is = c.in-Err-NoMemory.is in let no = c.in-Err-NoMemory.field-0-is in cc))
+    c.reserve.ensures.counts c.reserve.ensures.between c.reserve.ensures.shows refl)
+
+pub invariant_of-self-2 : goal.invariant_of-self-2
+invariant_of-self-2 c =
+    (c.self.invariant.0, core_after _ _ _ refl (call_goes _ c.begin.new.self c.reserve-2.new.self c.reserve.new.self c.args.count c.from-length.result c.begin.result
+    (may_open _ c.args.count _ _ _ _ c.if-self.false c.if-in_call.false c.in_call.ensures c.pending.ensures.value c.min.ensures c.from-length.ensures)
+    (within_unless _ _ (λ above. let bad = c.reserve.ensures.spent.1 above in let is = c.in-Ok.is in cc))
+    c.reserve.ensures.counts c.in-Ok.ensures.ok c.reserve.ensures.between c.reserve.ensures.shows c.reserve-2.ensures.shows
+    (on_success c.reserve-2.result _ (sym c.is_err.ensures.value ∙ c.if-is_err.false) c.reserve-2.ensures.ok ∙ ap (λ n. n + c.from-length.result) c.outstanding.ensures.value)
+    c.begin.ensures.answer c.begin.ensures.shows) c.self.invariant.1)
+
+pub returns-clause-fits : goal.returns-clause-fits
+returns-clause-fits c =
+    rw (c.tell_begin.ensures, ← c.self.view_is) (call_goes _ c.begin.new.self c.reserve-2.new.self c.reserve.new.self c.args.count c.from-length.result c.begin.result
+    (may_open _ c.args.count _ _ _ _ c.if-self.false c.if-in_call.false c.in_call.ensures c.pending.ensures.value c.min.ensures c.from-length.ensures)
+    (within_unless _ _ (λ above. let bad = c.reserve.ensures.spent.1 above in let is = c.in-Ok.is in cc))
+    c.reserve.ensures.counts c.in-Ok.ensures.ok c.reserve.ensures.between c.reserve.ensures.shows c.reserve-2.ensures.shows
+    (on_success c.reserve-2.result _ (sym c.is_err.ensures.value ∙ c.if-is_err.false) c.reserve-2.ensures.ok ∙ ap (λ n. n + c.from-length.result) c.outstanding.ensures.value)
+    c.begin.ensures.answer c.begin.ensures.shows)

@@ -1,0 +1,212 @@
+-- Lists and counts read straight off a history: what its events tell, and which of them stand before which.
+use Rattle.std.specs.Prelude.{ℕ, ◌+◌, Bool, true, false, not, ◌&&◌, ◌==◌, nat_lt, List, [], ◌∷◌, ◌++◌, length, take, sum, count_by, Option, Some, None, unwrap_or, if◌then◌else◌, slice_index_or}
+use Rattle.std.specs.List.{filter_map}
+use Rattle.std.specs.Option.{option_or}
+use Rattle.uring_entry.specs.Layout.{Entry, Completion, zero_entry, user_data_of}
+use Rattle.uring_entry.specs.Success.{is_told}
+use Rattle.uring_entry.specs.Submission.{Call}
+use Rattle.uring_entry.specs.Requests.{Ending}
+use Rattle.uring_machine.specs.Histories.{Event, History}
+use Rattle.uring_machine.specs.declared.steps.Step.TheVariants as step
+use Rattle.uring_machine.specs.declared.answers.Answer.TheVariants as answer
+
+-- What one event tells.
+
+-- the request that starts
+abbrev pub started_by : Event → Option ℕ
+started_by (step.Issue n, answer.Run) = Some n
+started_by _ = None
+
+-- the end of a request
+abbrev pub end_told_by : Event → Option Ending
+end_told_by (step.Issue n, answer.Ended res bytes) = Some (record { number = n; res = res; bytes = bytes })
+end_told_by (step.Finish n, answer.Ended res bytes) = Some (record { number = n; res = res; bytes = bytes })
+end_told_by _ = None
+
+-- the completion that the application reaps
+abbrev pub reaped_by : Event → Option Completion
+reaped_by (step.Reap, answer.Reaped completion) = Some completion
+reaped_by _ = None
+
+-- the word that the application stages
+abbrev pub staged_by : Event → Option ℕ
+staged_by (step.Index word, answer.Staged) = Some word
+staged_by _ = None
+
+-- the entry that this slot is filled with
+abbrev pub filled_by : ℕ → Event → Option Entry
+filled_by asked (step.Fill slot entry, answer.Filled) = if asked == slot then Some entry else None
+filled_by asked _ = None
+
+-- the entry that a call takes
+abbrev pub entry_taken_by : Event → Option Entry
+entry_taken_by (step.Take, answer.Entry entry) = Some entry
+entry_taken_by _ = None
+
+-- whether a call takes a position, whose word names a slot or not
+abbrev pub takes_position : Event → Bool
+takes_position (step.Take, answer.Entry entry) = true
+takes_position (step.Take, answer.Dropped) = true
+takes_position _ = false
+
+-- how many positions the call has that opens
+abbrev pub opened_by : Event → Option ℕ
+opened_by (step.Begin count, answer.Call length) = Some length
+opened_by _ = None
+
+-- whether a call opens
+abbrev pub opens_call : Event → Bool
+opens_call (step.Begin count, answer.Call length) = true
+opens_call _ = false
+
+-- how many entries are accepted as the open call closes
+abbrev pub accepted_by : Event → Option ℕ
+accepted_by (step.End, answer.Taken accepted dropped head) = Some accepted
+accepted_by _ = None
+
+-- whether the open call closes
+abbrev pub closes_call : Event → Bool
+closes_call (step.End, answer.Taken accepted dropped head) = true
+closes_call _ = false
+
+-- whether the ring closes
+abbrev pub closes_ring : Event → Bool
+closes_ring (step.Close, answer.Shut) = true
+closes_ring _ = false
+
+-- the loads and stores of the rings' heads and tails, and the flush of the overflow list
+abbrev pub is_store_tail : Event → Bool
+is_store_tail (step.StoreTail, _) = true
+is_store_tail _ = false
+
+abbrev pub is_load_head : Event → Bool
+is_load_head (step.LoadHead, _) = true
+is_load_head _ = false
+
+abbrev pub is_flush : Event → Bool
+is_flush (step.Flush, _) = true
+is_flush _ = false
+
+abbrev pub is_load_cq_tail : Event → Bool
+is_load_cq_tail (step.LoadCqTail, _) = true
+is_load_cq_tail _ = false
+
+abbrev pub is_store_cq_head : Event → Bool
+is_store_cq_head (step.StoreCqHead, _) = true
+is_store_cq_head _ = false
+
+-- What a history tells.
+
+-- what is told, behind what was told before
+abbrev pub with_told : {A : Type 0} → List A → Option A → List A
+with_told before None = before
+with_told before (Some x) = before ++ x ∷ []
+
+-- what the events tell, the oldest first
+abbrev pub told : {A : Type 0} → (Event → Option A) → History → List A
+told tells [] = []
+told tells (event ∷ before) = with_told (told tells before) (tells event)
+
+-- what was told last
+abbrev pub last_told : {A : Type 0} → (Event → Option A) → History → Option A
+last_told tells [] = None
+last_told tells (event ∷ before) = option_or (tells event) (last_told tells before)
+
+-- what stands before the last event of this kind: nothing, where there is none
+abbrev pub before_last : (Event → Bool) → History → History
+before_last is_kind [] = []
+before_last is_kind (event ∷ before) = if is_kind event then before else before_last is_kind before
+
+-- what stands after the last event of this kind: everything, where there is none
+abbrev pub since_last : (Event → Bool) → History → History
+since_last is_kind [] = []
+since_last is_kind (event ∷ before) = if is_kind event then [] else event ∷ since_last is_kind before
+
+-- The lists.
+
+-- the requests that were started, in order
+abbrev pub starts : History → List ℕ
+starts h = told started_by h
+
+-- the ends of requests, in order
+abbrev pub ends : History → List Ending
+ends h = told end_told_by h
+
+-- the completions that the application reaped, in order
+abbrev pub reaps : History → List Completion
+reaps h = told reaped_by h
+
+-- the completion of an end, where these entries were accepted: none, for a success that its entry asks to skip
+abbrev pub completion_of : List Entry → Ending → Option Completion
+completion_of accepted e =
+    let entry = slice_index_or accepted e.number zero_entry in
+    if is_told entry e.res then Some (record { user_data = user_data_of entry; res = e.res; payload = e.bytes }) else None
+
+-- the completions posted, in order, where these entries were accepted
+abbrev pub posts : List Entry → History → List Completion
+posts accepted h = filter_map (completion_of accepted) (ends h)
+
+-- the words staged, in order
+abbrev pub staged_words : History → List ℕ
+staged_words h = told staged_by h
+
+-- the words of the published positions: those staged before the last store of the tail
+abbrev pub published_words : History → List ℕ
+published_words h = staged_words (before_last is_store_tail h)
+
+-- what a slot holds: what it was last filled with, else the zero entry
+abbrev pub slot_content : History → ℕ → Entry
+slot_content h slot = unwrap_or (last_told (filled_by slot) h) zero_entry
+
+-- what stands before the store of the tail that published this position, the first one after its word was staged
+abbrev pub before_published : ℕ → History → History
+before_published position [] = []
+before_published position (event ∷ before) =
+    if is_store_tail event && not (nat_lt position (length (published_words before))) then before else before_published position before
+
+-- the entry that a published position has, where the table has size slots: what its slot held as it was published, where its word names a slot
+abbrev pub published_entry : ℕ → History → ℕ → Option Entry
+published_entry size h position =
+    let word = slice_index_or (staged_words h) position 0 in
+    if nat_lt word size then Some (slot_content (before_published position h) word) else None
+
+-- how many positions each call had that was closed, in order: the calls opened, but for the one that is open
+abbrev pub call_counts : History → List ℕ
+call_counts h = take (count_by closes_call h) (told opened_by h)
+
+-- how many positions closed calls took
+abbrev pub taken_count : History → ℕ
+taken_count h = sum (call_counts h)
+
+-- the head of the submission ring that the application last loaded, as a count
+abbrev pub loaded_head : History → ℕ
+loaded_head h = taken_count (before_last is_load_head h)
+
+-- the call that is open, where more were opened than closed: the last one opened, with the positions taken since
+abbrev pub open_call : History → Option Call
+open_call h =
+    if count_by opens_call h == count_by closes_call h then None else
+    Some (record { count = slice_index_or (told opened_by h) (count_by closes_call h) 0; taken = count_by takes_position (since_last opens_call h) })
+
+-- the sums of a list's beginnings, of which each has an element more, after what was summed before
+abbrev pub sums_from : ℕ → List ℕ → List ℕ
+sums_from before [] = []
+sums_from before (x ∷ xs) = (before + x) ∷ sums_from (before + x) xs
+
+-- how many entries were accepted as each call closed, in order
+abbrev pub cut_counts : History → List ℕ
+cut_counts h = sums_from 0 (told accepted_by h)
+
+-- the entries that calls took, in order, and how many positions they took
+abbrev pub entries_taken : History → List Entry
+entries_taken h = told entry_taken_by h
+
+abbrev pub positions_taken : History → ℕ
+positions_taken h = count_by takes_position h
+
+-- the head of the completion ring that the application last stored, and the one that the dispatcher last loaded, as counts
+abbrev pub stored_head : History → ℕ
+stored_head h = length (reaps (before_last is_store_cq_head h))
+
+abbrev pub flushed_head : History → ℕ
+flushed_head h = stored_head (before_last is_flush h)

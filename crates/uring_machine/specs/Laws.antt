@@ -1,0 +1,77 @@
+-- What holds of every lawful history.
+use Rattle.std.specs.Prelude.{◌≡◌, ℕ, ◌+◌, ◌<◌, ◌≤◌, ◌==◌, count_by, Bool, true, false, ◌||◌, List, ◌++◌, length, take, drop, Some, slice_get, ◌⊎◌}
+use Rattle.uring_entry.specs.Shape.{Shape}
+use Rattle.uring_entry.specs.Layout.{Completion}
+use Rattle.uring_entry.specs.Submission.{entries_of}
+use Rattle.uring_entry.specs.Requests.{Requests, least_of, next_of, is_running, is_outstanding, is_doomed, doomed_result, is_joined, is_draining, Ending}
+use Rattle.uring_entry.specs.Completions.{Completions}
+use Rattle.uring_machine.specs.World.{World}
+use Rattle.uring_machine.specs.Answers.{IsEnded, issue_answer}
+use Rattle.uring_machine.specs.declared.answers.Answer.{Answer}
+use Rattle.uring_machine.specs.Histories.{Event, History, world}
+use Rattle.uring_machine.specs.Direct.{opens_call, closes_call, entries_taken, positions_taken, starts, ends}
+use Rattle.uring_machine.specs.declared.answers.Answer.TheVariants as answer
+
+-- The entries that calls took are the ones that a beginning of the published positions has, each position once, in order: that beginning is as long as positions were taken.
+pub record TakenOnceInOrder (g : Shape) (h : History) : Type 0 where
+  pub beginning : positions_taken h ≤ length (world g h).submission.published
+  pub in_order : entries_taken h ≡ entries_of (take (positions_taken h) (world g h).submission.published)
+
+-- how often a request was started, and how often it ended
+abbrev pub times_started : History → ℕ → ℕ
+times_started h n = count_by (λ m. m == n) (starts h)
+
+abbrev pub times_ended : History → ℕ → ℕ
+times_ended h n = count_by (λ e. e.number == n) (ends h)
+
+-- Each request is started at most once, and ends at most once, and only accepted ones do. With none outstanding, each accepted one ended exactly once.
+pub record EachEndsOnce (g : Shape) (h : History) : Type 0 where
+  pub starts_once : (n : ℕ) → times_started h n ≤ 1
+  pub ends_once : (n : ℕ) → times_ended h n ≤ 1
+  pub accepted_start : (n : ℕ) → 0 < times_started h n → n < length (world g h).requests.accepted
+  pub accepted_end : (n : ℕ) → 0 < times_ended h n → n < length (world g h).requests.accepted
+  pub all_end : ((n : ℕ) → is_outstanding (world g h).requests n ≡ false) → (n : ℕ) → n < length (world g h).requests.accepted → times_ended h n ≡ 1
+
+-- A doomed request was never started, and each end of it has the result of the doomed: EINVAL where it has a fault itself, else ECANCELED.
+pub record DoomedNeverRun (g : Shape) (h : History) : Type 0 where
+  pub never_run : (n : ℕ) → is_doomed (world g h).requests n ≡ true → times_started h n ≡ 0
+  pub ends_so : (k : ℕ) (e : Ending) → slice_get (ends h) k ≡ Some e → is_doomed (world g h).requests e.number ≡ true → e.res ≡ doomed_result (world g h).requests e.number
+
+-- whether m, a request before n, is one that n waits for: they are members of one group, or one of their groups drains
+abbrev pub waits_for : Requests → ℕ → ℕ → Bool
+waits_for r n m = is_joined r m n || is_draining r m || is_draining r n
+
+-- an Issue of n so answered starts it: it runs, or it ends at once and isn't doomed, as a cancel does
+abbrev pub IsStart : Requests → ℕ → Answer → Type 0
+IsStart r n a = (a ≡ answer.Run) ⊎ (IsEnded a × (is_doomed r n ≡ false))
+
+-- the completions that stand in the ring: put there, and not reaped
+abbrev pub in_ring : Completions → List Completion
+in_ring l = drop (length l.reaped) (take l.put l.posted)
+
+-- the completions that wait in the overflow list
+abbrev pub in_overflow : Completions → List Completion
+in_overflow l = drop l.put l.posted
+
+-- What is posted is, in order, what was reaped, what stands in the ring, and what waits in the overflow list. No more was put than the ring's size above the head that the application stored.
+pub record ReapedBeginPosted (size : ℕ) (l : Completions) : Type 0 where
+  pub in_order : l.posted ≡ l.reaped ++ (in_ring l ++ in_overflow l)
+  pub reaped_put : length l.reaped ≤ l.put
+  pub put_posted : l.put ≤ length l.posted
+  pub ring_holds : l.put ≤ l.head + size
+  pub few_stand : length (in_ring l) ≤ size
+
+-- whether a call opens, or closes with its entries accepted
+abbrev pub takes_in : Event → Bool
+takes_in event = opens_call event || closes_call event
+
+-- an Issue so answered isn't refused
+abbrev pub IsIssued : Answer → Type 0
+IsIssued answer.Run = Unit {0}
+IsIssued a = IsEnded a
+
+-- With something outstanding there is a least outstanding request, and it is running, or else it is the next to be issued, and Issue doesn't refuse it.
+pub record LeastCanGoOn (w : World) : Type 0 where
+  pub least : ℕ
+  pub is_least : least_of w.requests ≡ Some least
+  pub goes_on : (is_running w.requests least ≡ true) ⊎ ((next_of w.requests ≡ Some least) × IsIssued (issue_answer w least))

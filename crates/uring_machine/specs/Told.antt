@@ -1,0 +1,24 @@
+-- What rings and dispatcher answer, as answers of the machine.
+use Rattle.std.specs.Prelude.{ℕ, Option, Some, None}
+use Rattle.uring_entry.specs.Layout.{Completion}
+use Rattle.uring_rings.specs.declared.answers.FillAnswer.{FillAnswer}
+use Rattle.uring_rings.specs.declared.answers.FillAnswer.TheVariants as fill
+use Rattle.uring_rings.specs.declared.answers.IndexAnswer.{IndexAnswer}
+use Rattle.uring_rings.specs.declared.answers.IndexAnswer.TheVariants as index
+use Rattle.uring_rings.specs.declared.answers.BeginAnswer.{BeginAnswer}
+use Rattle.uring_rings.specs.declared.answers.BeginAnswer.TheVariants as begin
+use Rattle.uring_machine.specs.declared.answers.Answer.{Answer}
+use Rattle.uring_machine.specs.declared.answers.Answer.TheVariants as answer
+
+abbrev pub fill_told : FillAnswer → Answer
+fill_told fill.Filled = answer.Filled
+fill_told fill.NoSlot = answer.NoSlot
+fill_told fill.Busy = answer.Busy
+
+abbrev pub index_told : IndexAnswer → Answer
+index_told index.Staged = answer.Staged
+index_told index.Full = answer.Full
+
+abbrev pub begin_told : BeginAnswer → Answer
+begin_told (begin.Call length) = answer.Call length
+begin_told begin.InCall = answer.InCall

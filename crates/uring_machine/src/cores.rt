@@ -1,0 +1,308 @@
+ghost use Rattle.std.specs.Prelude.{◌≡◌, ◌∷◌, [], IfOk, slice_get};
+ghost use Rattle.uring_entry.specs.Requests.{least_of};
+ghost use Rattle.uring_entry.specs.Completions.{unreaped};
+ghost use Rattle.uring_entry.specs.Requests.{least_of};
+ghost use Rattle.uring_dispatch.specs.Answers.{operation_running};
+ghost use Rattle.uring_machine.specs.Histories.{History, world};
+ghost use Rattle.uring_machine.specs.declared.steps.Step.TheVariants as step;
+
+use std::alloc::{AllocError, Global};
+use std::marker::Model;
+
+use uring_dispatch::{Dispatch, Finished, Issued, ReserveError};
+use uring_entry::{Cqe, Op, Outcome, Setup, Sqe};
+use uring_rings::{Cq, EndAnswer, Sq, TakeAnswer};
+
+use crate::acceptance::accept_call;
+use crate::answers::Answer;
+use crate::conversions::{tell_begin, tell_end, tell_fill, tell_index, tell_next, tell_reap};
+use crate::counts::Counts;
+use crate::steps::Step;
+use crate::posting::tell;
+
+/// A pair of rings and its requests, moved one step at a time, without files: how a running request ends comes from outside.
+#[derive(Drop)]
+pub struct Core {
+    setup: Setup,
+    sq: Sq,
+    cq: Cq,
+    dispatch: Dispatch,
+
+    /// The entries that the open call took, in order.
+    held: Vec<Sqe>,
+    is_closed: bool,
+}
+
+impl Model for Core {
+    ghost use Rattle.uring_machine.specs.Core.{Parts};
+
+    ghost Value = { Parts };
+
+    ghost use Rattle.std.specs.Prelude.{◌≤◌, vec_capacity};
+    ghost use Rattle.uring_machine.specs.Core.{IsCore};
+
+    ghost view = { λ c. record { shape = c.setup; submissions = c.sq; completions = c.cq; dispatcher = c.dispatch; held = c.held.items; is_closed = c.is_closed } };
+
+    ghost invariant = { λ c. (c.setup.sq ≤ vec_capacity c.held) × IsCore (record { shape = c.setup; submissions = c.sq; completions = c.cq; dispatcher = c.dispatch; held = c.held.items; is_closed = c.is_closed }) };
+}
+
+impl Core {
+    ghost use Rattle.uring_machine.specs.Core.{FitsApart, IsNoFinish, IsFinished, IsCounts};
+
+    /// A core of this set-up on which nothing has happened. `AllocError`: memory was refused.
+    pub fn new(alloc: Global, setup: &Setup) -> Result<Core, AllocError>
+        ensures shape { IfOk result (λ core. core.shape ≡ setup.now) }
+        ensures fits { IfOk result (λ core. FitsApart core []) }
+    {
+        let held = Vec::with_capacity(alloc, setup.sq() as usize)?;
+        Ok(Core {
+            setup: *setup,
+            sq: Sq::new(alloc, setup)?,
+            cq: Cq::new(alloc, setup)?,
+            dispatch: Dispatch::new(alloc),
+            held,
+            is_closed: false,
+        })
+    }
+
+    /// Makes one step, which is no finish, and answers it. Only `Begin` asks for memory; where it is refused the answer is `Again`, and nothing is consumed.
+    pub fn step(&mut self, step: Step) -> Answer
+        requires { IsNoFinish step }
+        ensures shape { self.new.shape ≡ self.old.shape }
+        ensures fits { (h : History) → FitsApart self.old h → FitsApart self.new ((step , result) ∷ h) }
+    {
+        match step {
+            Step::Fill { slot, entry } => self.fill(slot, entry),
+            Step::Index { word } => self.index(word),
+            Step::StoreTail => self.store_tail(),
+            Step::LoadHead => self.load_head(),
+            Step::Begin { count } => self.begin(count),
+            Step::Take => self.take(),
+            Step::End => self.end(),
+            Step::Issue { number } => self.issue(number),
+            Step::Finish { .. } => unreachable!(),
+            Step::Flush => self.flush(),
+            Step::LoadCqTail => self.load_cq_tail(),
+            Step::Reap => self.reap(),
+            Step::StoreCqHead => self.store_cq_head(),
+            Step::Close => self.close(),
+            Step::Next => self.next(),
+        }
+    }
+
+    /// Ends the running request of this number with an outcome from outside, and posts its completion; `NotRunning` where it isn't running, and then nothing changes.
+    pub fn finish(&mut self, number: u64, outcome: Outcome) -> Answer
+        ensures shape { self.new.shape ≡ self.old.shape }
+        ensures fits { (h : History) → FitsApart self.old h → FitsApart self.new ((step.Finish number , result) ∷ h) }
+        ensures outcome { (h : History) → FitsApart self.old h → IsFinished (world self.old.shape h) number outcome result }
+    {
+        let entry = self.dispatch.entry(number);
+        match self.dispatch.finish(number, outcome) {
+            Finished::Ended => {
+                let Some(entry) = entry else { unreachable!() };
+                let Outcome { res, bytes } = outcome;
+                tell(&mut self.cq, &entry, res, bytes);
+                tell_end(res, bytes)
+            }
+            Finished::NotRunning => Answer::NotRunning,
+        }
+    }
+
+    /// The operation of the request of this number, where it is running.
+    pub fn running_op(&self, number: u64) -> Option<Op>
+        ensures { (h : History) → FitsApart self.now h → result ≡ operation_running (world self.now.shape h).requests number }
+    {
+        self.dispatch.running_op(number)
+    }
+
+    /// The least outstanding request.
+    pub(crate) fn least(&self) -> Option<u64>
+        ensures { (h : History) → FitsApart self.now h → result ≡ least_of (world self.now.shape h).requests }
+    {
+        self.dispatch.least()
+    }
+
+    /// The completion at this place among those posted and not reaped, the oldest first.
+    pub fn rest(&self, place: u64) -> Option<Cqe>
+        ensures { (h : History) → FitsApart self.now h → result ≡ slice_get (unreaped (world self.now.shape h).completions) place }
+    {
+        self.cq.rest(place)
+    }
+
+    /// How many requests were accepted, are outstanding and run, and how many completions were posted and reaped.
+    pub fn counts(&self) -> Counts
+        ensures { (h : History) → FitsApart self.now h → IsCounts (world self.now.shape h) result }
+    {
+        Counts {
+            accepted: self.dispatch.accepted(),
+            outstanding: self.dispatch.outstanding(),
+            running: self.dispatch.running(),
+            posted: self.cq.posted(),
+            reaped: self.cq.reaped(),
+        }
+    }
+
+    /// The application writes an entry to a slot.
+    fn fill(&mut self, slot: u32, entry: Sqe) -> Answer
+        ensures shape { self.new.shape ≡ self.old.shape }
+        ensures fits { (h : History) → FitsApart self.old h → FitsApart self.new ((step.Fill slot entry , result) ∷ h) }
+    {
+        tell_fill(self.sq.fill(slot, entry))
+    }
+
+    /// The application stages a word.
+    fn index(&mut self, word: u32) -> Answer
+        ensures shape { self.new.shape ≡ self.old.shape }
+        ensures fits { (h : History) → FitsApart self.old h → FitsApart self.new ((step.Index word , result) ∷ h) }
+    {
+        tell_index(self.sq.index(word))
+    }
+
+    /// The application publishes what is staged.
+    fn store_tail(&mut self) -> Answer
+        ensures shape { self.new.shape ≡ self.old.shape }
+        ensures fits { (h : History) → FitsApart self.old h → FitsApart self.new ((step.StoreTail , result) ∷ h) }
+    {
+        Answer::Tail(self.sq.store_tail())
+    }
+
+    /// The application loads the submission ring's head.
+    fn load_head(&mut self) -> Answer
+        ensures shape { self.new.shape ≡ self.old.shape }
+        ensures fits { (h : History) → FitsApart self.old h → FitsApart self.new ((step.LoadHead , result) ∷ h) }
+    {
+        Answer::Head(self.sq.load_head())
+    }
+
+    /// The dispatcher opens a call, once there is room for all its requests and for the ends of these and of all outstanding ones.
+    fn begin(&mut self, count: u32) -> Answer
+        ensures shape { self.new.shape ≡ self.old.shape }
+        ensures fits { (h : History) → FitsApart self.old h → FitsApart self.new ((step.Begin count , result) ∷ h) }
+    {
+        if self.is_closed {
+            return Answer::Closed;
+        }
+        if self.sq.in_call() {
+            return Answer::InCall;
+        }
+        let length = u64::from(count.min(self.sq.pending()));
+        let ends = self.dispatch.outstanding() + length;
+        match self.dispatch.reserve(length) {
+            Ok(()) => {}
+            Err(ReserveError::Spent) => return Answer::Spent,
+            Err(ReserveError::NoMemory) => return Answer::Again,
+        }
+        if self.cq.reserve(ends).is_err() {
+            return Answer::Again;
+        }
+        tell_begin(self.sq.begin(count))
+    }
+
+    /// The dispatcher copies the call's next position.
+    fn take(&mut self) -> Answer
+        ensures shape { self.new.shape ≡ self.old.shape }
+        ensures fits { (h : History) → FitsApart self.old h → FitsApart self.new ((step.Take , result) ∷ h) }
+    {
+        match self.sq.take() {
+            TakeAnswer::Entry(entry) => {
+                self.held.push_reserved(entry);
+                Answer::Entry(entry)
+            }
+            TakeAnswer::Dropped => Answer::Dropped,
+            TakeAnswer::NoMore => Answer::NoMore,
+            TakeAnswer::NoCall => Answer::NoCall,
+        }
+    }
+
+    /// The dispatcher closes the call, and accepts its entries.
+    fn end(&mut self) -> Answer
+        ensures shape { self.new.shape ≡ self.old.shape }
+        ensures fits { (h : History) → FitsApart self.old h → FitsApart self.new ((step.End , result) ∷ h) }
+    {
+        match self.sq.end() {
+            EndAnswer::Taken(taken) => {
+                accept_call(&mut self.dispatch, &self.held);
+                self.held.clear();
+                Answer::Taken {
+                    accepted: taken.accepted,
+                    dropped: taken.dropped,
+                    head: taken.head,
+                }
+            }
+            EndAnswer::NoCall => Answer::NoCall,
+            EndAnswer::NotAll => Answer::NotAll,
+        }
+    }
+
+    /// The dispatcher issues a request.
+    fn issue(&mut self, number: u64) -> Answer
+        ensures shape { self.new.shape ≡ self.old.shape }
+        ensures fits { (h : History) → FitsApart self.old h → FitsApart self.new ((step.Issue number , result) ∷ h) }
+    {
+        let entry = self.dispatch.entry(number);
+        match self.dispatch.issue(number) {
+            Issued::Run(_) => Answer::Run,
+            Issued::Ended(res) => {
+                let Some(entry) = entry else { unreachable!() };
+                let bytes = [0; 64];
+                tell(&mut self.cq, &entry, res, bytes);
+                tell_end(res, bytes)
+            }
+            Issued::NotReady => Answer::NotReady,
+            Issued::Running => Answer::Running,
+            Issued::Unknown => Answer::Unknown,
+        }
+    }
+
+    /// The dispatcher loads the completion ring's head, and moves what fits out of the overflow list.
+    fn flush(&mut self) -> Answer
+        ensures shape { self.new.shape ≡ self.old.shape }
+        ensures fits { (h : History) → FitsApart self.old h → FitsApart self.new ((step.Flush , result) ∷ h) }
+    {
+        Answer::Moved(self.cq.flush())
+    }
+
+    /// The application loads the completion ring's tail.
+    fn load_cq_tail(&mut self) -> Answer
+        ensures shape { self.new.shape ≡ self.old.shape }
+        ensures fits { (h : History) → FitsApart self.old h → FitsApart self.new ((step.LoadCqTail , result) ∷ h) }
+    {
+        Answer::Tail(self.cq.load_tail())
+    }
+
+    /// The application copies the next completion.
+    fn reap(&mut self) -> Answer
+        ensures shape { self.new.shape ≡ self.old.shape }
+        ensures fits { (h : History) → FitsApart self.old h → FitsApart self.new ((step.Reap , result) ∷ h) }
+    {
+        tell_reap(self.cq.reap())
+    }
+
+    /// The application stores the completion ring's head.
+    fn store_cq_head(&mut self) -> Answer
+        ensures shape { self.new.shape ≡ self.old.shape }
+        ensures fits { (h : History) → FitsApart self.old h → FitsApart self.new ((step.StoreCqHead , result) ∷ h) }
+    {
+        Answer::Head(self.cq.store_head())
+    }
+
+    /// The dispatcher closes the ring.
+    fn close(&mut self) -> Answer
+        ensures shape { self.new.shape ≡ self.old.shape }
+        ensures fits { (h : History) → FitsApart self.old h → FitsApart self.new ((step.Close , result) ∷ h) }
+    {
+        if self.sq.in_call() {
+            return Answer::InCall;
+        }
+        self.is_closed = true;
+        Answer::Shut
+    }
+
+    /// The dispatcher asks for the least request that can be issued.
+    fn next(&mut self) -> Answer
+        ensures shape { self.new.shape ≡ self.old.shape }
+        ensures fits { (h : History) → FitsApart self.old h → FitsApart self.new ((step.Next , result) ∷ h) }
+    {
+        tell_next(self.dispatch.next())
+    }
+}

@@ -1,0 +1,89 @@
+-- Index words and the counts that they stand for, over plain numbers.
+use Rattle.std.proofs.Common.{◌≡◌, ◌≢◌, List, length, set, get_or, ℕ, ◌+◌, ◌-◌, ◌*◌, ◌/◌, ◌%◌, ◌^◌, ◌<◌, ◌≤◌, sym, ap, ◌∙◌, subst, ⊎_elim, arith}
+use Rattle.std.proofs.lemmas.Bool.{cases_lt, cases_eq, cases_order}
+use Rattle.std.proofs.lemmas.Nat.{and_mask, pow_below, mod_below, div-add-mod'}
+use Rattle.std.proofs.lemmas.Grind.{get_or-set_at}
+use Rattle.std.proofs.lemmas.List.{get_or-set_other}
+use Rattle.std.proofs.Math.Pow.{mod-mod-pow}
+use Rattle.std.specs.Int.RustNames.{bit_and}
+use Rattle.std.specs.Int.{IsPowerOfTwo}
+
+-- The number that leads from the word of one count to the word of another is their difference.
+pub distance_of_words : (s a b d : ℕ) → d < 2 ^ 32 → b ≤ a → a < b + 2 ^ 32 → ((s + b) % 2 ^ 32 + d) % 2 ^ 32 ≡ (s + a) % 2 ^ 32 → d ≡ a - b
+distance_of_words s a b d small ordered near leads = omega arith
+
+-- Counts less than 2 ^ 32 apart have one word only where they are equal.
+pub same_count : (s a b : ℕ) → a ≤ b → b < a + 2 ^ 32 → (s + a) % 2 ^ 32 ≡ (s + b) % 2 ^ 32 → a ≡ b
+same_count s a b ordered near same = omega arith
+
+-- A word goes on as its count does.
+pub word_after : (s k n : ℕ) → ((s + k) % 2 ^ 32 + n) % 2 ^ 32 ≡ (s + (k + n)) % 2 ^ 32
+word_after s k n = omega arith
+
+-- a quotient that is greater makes a number greater by n at least
+quotients_in_order : (n p q : ℕ) → p < q → p * n + n ≤ q * n
+quotients_in_order n p q less = grind arith
+
+-- Numbers less than n apart have one remainder only where they are equal.
+pub same_remainder : (n a b : ℕ) → 0 < n → a ≤ b → b < a + n → a % n ≡ b % n → a ≡ b
+same_remainder n a b some ordered near same =
+    let left : a / n * n + a % n ≡ a = div-add-mod' a n in
+    let right : b / n * n + b % n ≡ b = div-add-mod' b n in
+    ⊎_elim
+    (λ (e : a / n ≡ b / n). let f : a / n * n ≡ b / n * n = ap (λ q. q * n) e in omega arith)
+    (⊎_elim
+    (λ (l : a / n < b / n). let f = quotients_in_order n (a / n) (b / n) l in omega arith)
+    (λ (l : b / n < a / n). let f = quotients_in_order n (b / n) (a / n) l in omega arith))
+    (cases_order (a / n) (b / n))
+
+-- In a ring whose size is a power of two, up to 2 ^ 32, the cell of a count's word is the count's own.
+pub cell_of_word : (j k x : ℕ) → j + k ≡ 32 → x % 2 ^ 32 % 2 ^ k ≡ x % 2 ^ k
+cell_of_word j k x whole = subst (λ (w : ℕ). x % 2 ^ w % 2 ^ k ≡ x % 2 ^ k) whole (mod-mod-pow x j k)
+
+-- a mask, which is one less than a power of two, keeps the remainder
+pub cell_by_mask : (x mask : ℕ) → IsPowerOfTwo (mask + 1) → bit_and x mask ≡ x % (mask + 1)
+cell_by_mask x mask (k, e) =
+    let m : 2 ^ k - 1 ≡ mask = omega arith in
+    subst (λ (w : ℕ). bit_and x w ≡ x % (mask + 1)) m (and_mask x k ∙ ap (λ (n : ℕ). x % n) (sym e))
+
+-- a power of two that is at most 2 ^ 32 has an exponent of at most 32
+exponent_fits : (k : ℕ) → 2 ^ k ≤ 2 ^ 32 → k ≤ 32
+exponent_fits k fits =
+    ⊎_elim (λ (big : 32 < k). let more = pow_below 32 k big in omega arith) (λ (small : k ≤ 32). small) (cases_lt 32 k)
+
+-- the cell of a count's word, in a ring whose size is a power of two
+pub cell_of_count : (n s k : ℕ) → IsPowerOfTwo n → n ≤ 2 ^ 32 → (s + k) % 2 ^ 32 % n ≡ (s + k) % n
+cell_of_count n s k (e, is) fits =
+    let small : 2 ^ e ≤ 2 ^ 32 = omega arith in
+    let bound : e ≤ 32 = exponent_fits e small in
+    let whole : (32 - e) + e ≡ 32 = omega arith in
+    subst (λ (m : ℕ). (s + k) % 2 ^ 32 % m ≡ (s + k) % m) (sym is) (cell_of_word (32 - e) e (s + k) whole)
+
+-- Counts less than the size apart have one cell only where they are equal.
+pub same_cell : (n s j k : ℕ) → IsPowerOfTwo n → n ≤ 2 ^ 32 → j ≤ k → k < j + n → (s + j) % 2 ^ 32 % n ≡ (s + k) % 2 ^ 32 % n → j ≡ k
+same_cell n s j k power fits ordered near same =
+    let some : 0 < n = omega arith in
+    let left = cell_of_count n s j power fits in
+    let right = cell_of_count n s k power fits in
+    let one : (s + j) % n ≡ (s + k) % n = sym left ∙ same ∙ right in
+    let lower : s + j ≤ s + k = omega arith in
+    let upper : s + k < s + j + n = omega arith in
+    let equal : s + j ≡ s + k = same_remainder n (s + j) (s + k) some lower upper one in
+    omega arith
+
+-- A write to the cell of the next count leaves the cells of the counts before it, as many as the ring has.
+pub cells_after_write : {A : Type 0} (array : List A) (value_at : ℕ → A) (d x : A) (start size low tail cell : ℕ) → IsPowerOfTwo size → size ≤ 2 ^ 32 → length array ≡ size → low ≤ tail → tail < low + size → cell ≡ (start + tail) % 2 ^ 32 % size → x ≡ value_at tail → ((k : ℕ) → low ≤ k → k < tail → get_or array ((start + k) % 2 ^ 32 % size) d ≡ value_at k) → (k : ℕ) → low ≤ k → k < tail + 1 → get_or (set array cell x) ((start + k) % 2 ^ 32 % size) d ≡ value_at k
+cells_after_write {A} array value_at d x start size low tail cell power fits len ordered near is_cell is_value held k from to =
+    let some : 0 < size = omega arith in
+    let within : cell < length array = rw (len, is_cell) (mod_below _ size some) in
+    ⊎_elim
+    (λ (here : k ≡ tail).
+    let at : (start + k) % 2 ^ 32 % size ≡ cell = ap (λ (n : ℕ). (start + n) % 2 ^ 32 % size) here ∙ sym is_cell in
+    get_or-set_at array cell ((start + k) % 2 ^ 32 % size) x d at within ∙ is_value ∙ ap value_at (sym here))
+    (λ (there : k ≡ tail → ⊥).
+    let before : k ≤ tail = omega arith in
+    let close : tail < k + size = omega arith in
+    let less : k < tail = omega arith in
+    let apart : (start + k) % 2 ^ 32 % size ≢ cell = λ e. there (same_cell size start k tail power fits before close (e ∙ is_cell)) in
+    get_or-set_other array cell ((start + k) % 2 ^ 32 % size) x d apart ∙ held k from less)
+    (cases_eq k tail)

@@ -1,0 +1,43 @@
+-- The entries and the dropped words among published places.
+use Rattle.std.proofs.Common.{◌≡◌, ℕ, ◌+◌, ◌<◌, List, [], ◌∷◌, ◌++◌, length, take, drop, get_or, cond, Option, Some, None, refl, ap, ◌∙◌, arith, suc}
+use Rattle.std.proofs.lemmas.List.{take_more, get_or-drop, length-drop, length_push, append-nil}
+use Rattle.std.proofs.lemmas.List.Elements.{filter_map-append}
+use Rattle.std.proofs.lemmas.List.Sums.{sum_by-append, sum_by-cons}
+use Rattle.std.proofs.lemmas.Option.{slice_get_within, get_or_from_slice_get}
+use Rattle.std.proofs.Math.Seq.{take-add}
+use Rattle.std.specs.List.{slice_get, cons_option}
+use Rattle.std.specs.Prelude.{is_none}
+use Rattle.uring_entry.specs.Layout.{Entry}
+use Rattle.uring_entry.specs.Submission.{Place, entries_of, dropped_in}
+
+one_more : (o : Option Entry) (xs : List Entry) (m n : ℕ) → length xs + m ≡ n → length (cons_option o xs) + (cond (is_none o) 1 0 + m) ≡ suc n
+one_more None xs m n e = omega arith
+one_more (Some x) xs m n e = omega arith
+
+-- each place has an entry, or its word is dropped
+pub entries_and_dropped : (places : List Place) → length (entries_of places) + dropped_in places ≡ length places
+entries_and_dropped [] = refl
+entries_and_dropped (p ∷ places) =
+    rw sum_by-cons (one_more p.entry (entries_of places) (dropped_in places) (length places) (entries_and_dropped places))
+
+-- the next place, at the end of those taken
+pub places_more : (places : List Place) (n t : ℕ) (p : Place) → slice_get places (n + t) ≡ Some p → take (t + 1) (drop n places) ≡ take t (drop n places) ++ p ∷ []
+places_more places n t p found =
+    let within : n + t < length places = slice_get_within places (n + t) p found in
+    let here : get_or (drop n places) t p ≡ p = get_or-drop n places t p ∙ get_or_from_slice_get places (n + t) p p found in
+    let short : t < length (drop n places) = simp length-drop (omega arith) in
+    take_more (drop n places) t p short ∙ ap (λ (q : Place). take t (drop n places) ++ q ∷ []) here
+
+-- one more place with an entry is one more entry
+pub entry_more : (places : List Place) (n t : ℕ) (p : Place) (e : Entry) → slice_get places (n + t) ≡ Some p → p.entry ≡ Some e → length (entries_of (take (t + 1) (drop n places))) ≡ length (entries_of (take t (drop n places))) + 1
+entry_more places n t p e found has =
+    rw (places_more places n t p found, filter_map-append, has) (length_push _ _)
+
+-- one more place with no entry is no more entry
+pub dropped_more : (places : List Place) (n t : ℕ) (p : Place) → slice_get places (n + t) ≡ Some p → p.entry ≡ None → length (entries_of (take (t + 1) (drop n places))) ≡ length (entries_of (take t (drop n places)))
+dropped_more places n t p found has =
+    rw (places_more places n t p found, filter_map-append, has) (ap length (append-nil _))
+
+-- the words dropped among the first n + m places
+pub dropped_beyond : (places : List Place) (n m : ℕ) → dropped_in (take (n + m) places) ≡ dropped_in (take n places) + dropped_in (take m (drop n places))
+dropped_beyond places n m = rw take-add (sum_by-append _ (take n places) (take m (drop n places)))

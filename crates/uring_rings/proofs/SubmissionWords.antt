@@ -1,0 +1,128 @@
+-- The words that were published or staged, by their positions, and the cells that hold them.
+use Rattle.std.proofs.Common.{◌≡◌, ◌≢◌, ℕ, ◌+◌, ◌-◌, ◌%◌, ◌^◌, ◌<◌, ◌≤◌, true, false, eqb, List, [], ◌∷◌, ◌++◌, length, drop, map, get_or, Some, None, refl, sym, ap, ◌∙◌, arith, eq-eqb, ne_eqb}
+use Rattle.std.proofs.lemmas.List.{get_or_append_left, get_or-map, get_or-drop, length-map, length-append, length-drop, append_assoc, map-append, append-nil}
+use Rattle.std.proofs.lemmas.List.Folds.{list_any_at, list_any_none}
+use Rattle.std.proofs.lemmas.Bool.{false≢true}
+use Rattle.std.proofs.lemmas.Option.{slice_get_within, get_or_from_slice_get, slice_get-get_or}
+use Rattle.std.specs.List.{slice_get}
+use Rattle.uring_entry.specs.Layout.{Entry}
+use Rattle.uring_entry.specs.Shape.{Shape}
+use Rattle.uring_entry.specs.Words.{word_of}
+use Rattle.uring_entry.specs.Submission.{Submission, Place, staged, place_of, stored, indexed, is_busy}
+use Rattle.uring_rings.specs.SubmissionRing.{SubmissionQueue, IsSubmissionQueue, ShowsSubmission, words}
+use Rattle.uring_rings.proofs.Counts.{word_after, distance_of_words}
+
+-- there are as many words as staged positions
+pub length-words : (l : Submission) → length (words l) ≡ staged l
+length-words l = simp (length-append, length-map)
+
+-- the word of a published position is its place's
+pub word_published : (l : Submission) (k : ℕ) (p : Place) → slice_get l.published k ≡ Some p → get_or (words l) k 0 ≡ p.word
+word_published l k p found =
+    let within : k < length l.published = slice_get_within l.published k p found in
+    let mapped : k < length (map (λ (q : Place). q.word) l.published) = simp length-map within in
+    get_or_append_left (map (λ (q : Place). q.word) l.published) l.fresh 0 k mapped
+    ∙ get_or-map (λ (q : Place). q.word) l.published k p 0 within
+    ∙ ap (λ (q : Place). q.word) (get_or_from_slice_get l.published k p p found)
+
+-- each published position has a place
+pub place_at : (l : Submission) (k : ℕ) → k < length l.published → (p : Place) × (slice_get l.published k ≡ Some p)
+place_at l k within =
+    let none : Place = record { word = 0; entry = None } in
+    (get_or l.published k none, slice_get-get_or l.published k none within)
+
+-- one more word is staged
+pub words-indexed : (l : Submission) (word : ℕ) → words (indexed l word) ≡ words l ++ word ∷ []
+words-indexed l word = sym (append_assoc (map (λ (q : Place). q.word) l.published) l.fresh (word ∷ []))
+
+-- a place keeps its word
+words_of_places : (size : ℕ) (content : ℕ → Entry) (ws : List ℕ) → map (λ (q : Place). q.word) (map (place_of size content) ws) ≡ ws
+words_of_places size content [] = refl
+words_of_places size content (w ∷ ws) = ap (λ (vs : List ℕ). w ∷ vs) (words_of_places size content ws)
+
+-- publishing changes no word
+pub words-stored : (size : ℕ) (l : Submission) → words (stored size l) ≡ words l
+words-stored size l =
+    append-nil (map (λ (q : Place). q.word) (l.published ++ map (place_of size l.content) l.fresh))
+    ∙ map-append (λ (q : Place). q.word) l.published (map (place_of size l.content) l.fresh)
+    ∙ ap (λ (ws : List ℕ). map (λ (q : Place). q.word) l.published ++ ws) (words_of_places size l.content l.fresh)
+
+-- What is read k cells on from the word of a count: the word of a published position.
+pub record ReadsPlace (g : Shape) (q : SubmissionQueue) (l : Submission) (count word k : ℕ) : Type 0 where
+  pub place : Place
+  pub found : slice_get l.published (count + k) ≡ Some place
+  pub read : get_or q.array ((word + k) % 2 ^ 32 % q.size) 0 ≡ place.word
+
+pub reads_place : (g : Shape) (q : SubmissionQueue) (l : Submission) (count word k : ℕ) → ShowsSubmission g q l → word ≡ word_of g.start count → l.seen_head ≤ count → count + k < length l.published → ReadsPlace g q l count word k
+reads_place g q l count word k s is_word seen within =
+    let (p, found) = place_at l (count + k) within in
+    let from : l.seen_head ≤ count + k = omega arith in
+    let to : count + k < staged l = omega arith in
+    let on : (word + k) % 2 ^ 32 ≡ word_of g.start (count + k) =
+    ap (λ (w : ℕ). (w + k) % 2 ^ 32) is_word ∙ word_after g.start count k in
+    let cell : (word + k) % 2 ^ 32 % q.size ≡ word_of g.start (count + k) % g.sq =
+    ap (λ (w : ℕ). w % q.size) on ∙ ap (λ (n : ℕ). word_of g.start (count + k) % n) s.size in
+    record {
+      place = p;
+      found = found;
+      read = ap (λ (i : ℕ). get_or q.array i 0) cell ∙ s.cells (count + k) from to ∙ word_published l (count + k) p found;
+    }
+
+-- the distance of the published tail from the head last loaded
+pub published_above : (g : Shape) (q : SubmissionQueue) (l : Submission) (d : ℕ) → ShowsSubmission g q l → g.sq ≤ 4096 → d < 2 ^ 32 → (q.seen_head + d) % 2 ^ 32 ≡ q.published → d ≡ length l.published - l.seen_head
+published_above g q l d s limit small leads =
+    let ordered : l.seen_head ≤ length l.published = omega (arith, s.seen_first, s.taken_first) in
+    let near : length l.published < l.seen_head + 2 ^ 32 = omega (arith, s.few) in
+    distance_of_words g.start (length l.published) l.seen_head d small ordered near (ap (λ (w : ℕ). (w + d) % 2 ^ 32) (sym s.seen_head) ∙ leads ∙ s.published)
+
+-- a slot that a cell above the head last loaded names is busy
+pub busy_at : (g : Shape) (q : SubmissionQueue) (l : Submission) (k slot : ℕ) → ShowsSubmission g q l → l.seen_head + k < length l.published → get_or q.array ((q.seen_head + k) % 2 ^ 32 % q.size) 0 ≡ slot → is_busy l slot ≡ true
+busy_at g q l k slot s within named =
+    let r = reads_place g q l l.seen_head q.seen_head k s s.seen_head (omega arith) within in
+    let short : k < length (drop l.seen_head l.published) = simp length-drop (omega arith) in
+    let here : get_or (drop l.seen_head l.published) k r.place ≡ r.place =
+    get_or-drop l.seen_head l.published k r.place ∙ get_or_from_slice_get l.published (l.seen_head + k) r.place r.place r.found in
+    let same : r.place.word ≡ slot = sym r.read ∙ named in
+    list_any_at (λ (p : Place). eqb p.word slot) (drop l.seen_head l.published) k r.place short (ap (λ (p : Place). eqb p.word slot) here ∙ eq-eqb r.place.word slot same)
+
+-- a slot that no such cell names isn't
+pub not_busy : (g : Shape) (q : SubmissionQueue) (l : Submission) (slot : ℕ) → ShowsSubmission g q l → ((k : ℕ) → l.seen_head + k < length l.published → get_or q.array ((q.seen_head + k) % 2 ^ 32 % q.size) 0 ≡ slot → ⊥) → is_busy l slot ≡ false
+not_busy g q l slot s unnamed =
+    list_any_none (λ (p : Place). eqb p.word slot) (drop l.seen_head l.published)
+    (λ k d short.
+    let within : l.seen_head + k < length l.published = let h = simp length-drop at short in omega arith in
+    let r = reads_place g q l l.seen_head q.seen_head k s s.seen_head (omega arith) within in
+    let here : get_or (drop l.seen_head l.published) k d ≡ r.place =
+    get_or-drop l.seen_head l.published k d ∙ get_or_from_slice_get l.published (l.seen_head + k) r.place d r.found in
+    ap (λ (p : Place). eqb p.word slot) here ∙ ne_eqb r.place.word slot (λ e. unnamed k within (r.read ∙ e)))
+
+-- a place above the head last loaded doesn't name a slot that isn't busy
+pub not_named : (l : Submission) (slot k : ℕ) (p : Place) → is_busy l slot ≡ false → l.seen_head ≤ k → slice_get l.published k ≡ Some p → p.word ≢ slot
+not_named l slot k p free from found named =
+    let within : k < length l.published = slice_get_within l.published k p found in
+    let short : k - l.seen_head < length (drop l.seen_head l.published) = simp length-drop (omega arith) in
+    let place : l.seen_head + (k - l.seen_head) ≡ k = omega arith in
+    let here : get_or (drop l.seen_head l.published) (k - l.seen_head) p ≡ p =
+    get_or-drop l.seen_head l.published (k - l.seen_head) p
+    ∙ ap (λ (n : ℕ). get_or l.published n p) place
+    ∙ get_or_from_slice_get l.published k p p found in
+    let busy : is_busy l slot ≡ true =
+    list_any_at (λ (r : Place). eqb r.word slot) (drop l.seen_head l.published) (k - l.seen_head) p short
+    (ap (λ (r : Place). eqb r.word slot) here ∙ eq-eqb p.word slot named) in
+    false≢true (sym free ∙ busy)
+
+-- The ring's size is below the limit.
+pub size_limit : (g : Shape) (q : SubmissionQueue) (l : Submission) → IsSubmissionQueue q.size q.table q.array q.call → ShowsSubmission g q l → g.sq ≤ 4096
+size_limit g q l i s = omega (arith, i.limit, s.size)
+
+-- the loop over the d positions above the head last loaded found one that names the slot
+pub loop_finds : (g : Shape) (q : SubmissionQueue) (l : Submission) (d k slot : ℕ) → IsSubmissionQueue q.size q.table q.array q.call → ShowsSubmission g q l → d < 2 ^ 32 → (q.seen_head + d) % 2 ^ 32 ≡ q.published → k < d → get_or q.array ((q.seen_head + k) % 2 ^ 32 % q.size) 0 ≡ slot → is_busy l slot ≡ true
+loop_finds g q l d k slot i s small leads below named =
+    let above = published_above g q l d s (size_limit g q l i s) small leads in
+    busy_at g q l k slot s (omega arith) named
+
+-- it found none
+pub loop_passes : (g : Shape) (q : SubmissionQueue) (l : Submission) (d k slot : ℕ) → IsSubmissionQueue q.size q.table q.array q.call → ShowsSubmission g q l → d < 2 ^ 32 → (q.seen_head + d) % 2 ^ 32 ≡ q.published → d ≤ k → ((j : ℕ) → j < k → get_or q.array ((q.seen_head + j) % 2 ^ 32 % q.size) 0 ≡ slot → ⊥) → is_busy l slot ≡ false
+loop_passes g q l d k slot i s small leads all unnamed =
+    let above = published_above g q l d s (size_limit g q l i s) small leads in
+    not_busy g q l slot s (λ j within. unnamed j (omega arith))

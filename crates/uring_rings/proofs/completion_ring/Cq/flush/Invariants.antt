@@ -1,0 +1,17 @@
+use Rattle.std.proofs.Common.{◌≡◌, ◌+◌, length}
+use Rattle.uring_entry.specs.Shape.{Shape}
+use Rattle.uring_entry.specs.Completions.{Completions}
+use Rattle.uring_rings.specs.CompletionRing.{ShowsCompletions}
+use Rattle.uring_rings.proofs.completion_ring.Cq.flush.Given as goal
+
+-- as many completions have left the overflow list as were moved, and the ring shows them as put
+abbrev pub invariant-loop-moved : goal.invariant-loop-moved
+invariant-loop-moved l =
+    record {
+      waiting : l.moved + length l.self.overflow ≡ length l.initial.self.overflow;
+      room : l.self.room ≡ l.initial.self.room;
+      shows : (g : Shape) (m : Completions) → ShowsCompletions g l.initial.self m → ShowsCompletions g l.self (record m { put = m.put + l.moved });
+    }
+
+abbrev pub decreases-loop-moved : goal.decreases-loop-moved
+decreases-loop-moved l = length l.self.overflow

@@ -1,0 +1,3 @@
+pub mod SubmissionRing
+pub mod SubmissionAnswers
+pub mod CompletionRing

@@ -1,0 +1,3 @@
+mod completions;
+mod index_words;
+mod submissions;
