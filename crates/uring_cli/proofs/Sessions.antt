@@ -4,10 +4,13 @@ use Rattle.std.specs.Prelude.{IfOk, OnOk, MatchOption, is_ok}
 use Rattle.std.specs.List.{AllByRecursion}
 use Rattle.std.proofs.lemmas.Bool.{lt-ltb, le-ltb, ltb-false}
 use Rattle.std.proofs.lemmas.List.{append-nil, take_all, take-append-le, length-append, length-take, nil_from_length}
+use Rattle.uring_entry.specs.Shape.{Shape}
 use Rattle.uring_machine.specs.Histories.{Event}
+use Rattle.uring_machine.specs.Contents.{IsLawful}
+use Rattle.uring_machine.specs.Machine.{Holding, Fits}
 use Rattle.uring_machine.specs.declared.steps.Step.{Step}
 use Rattle.uring_cli.specs.Spelling.{IsStep, IsBad}
-use Rattle.uring_cli.specs.Exchanges.{Exchange, IsExchange, Answers, AreLines, IsUnbroken, IsReadAs, answer_text, asked, told, ended}
+use Rattle.uring_cli.specs.Exchanges.{Exchange, IsExchange, Answers, AreLines, IsUnbroken, IsReadAs, answer_text, asked, told, ended, history_of, with_event}
 use Rattle.uring_cli.specs.Sessions.{Keeps300, AppendsAnswer, Holds}
 use Rattle.uring_cli.specs.Traces.{IsWhole, IsBeginning, IsEnded}
 
@@ -47,15 +50,17 @@ kept_full line kept is_long b h le =
     }
 
 -- one byte more of a line
-pub took_byte : (kept kept' : List ℕ) (is_long is_long' : Bool) (before text : List ℕ) (b : ℕ) → b ≢ 10 → ((line : List ℕ) → Keeps300 line kept is_long → Keeps300 (line ++ b ∷ []) kept' is_long')
-    → Holds kept is_long before text → Holds kept' is_long' (before ++ b ∷ []) text
-took_byte kept kept' is_long is_long' before text b ne more h = record {
+pub took_byte : (shape : Shape) (m : Holding) (kept kept' : List ℕ) (is_long is_long' : Bool) (before text : List ℕ) (b : ℕ) → b ≢ 10 → ((line : List ℕ) → Keeps300 line kept is_long → Keeps300 (line ++ b ∷ []) kept' is_long')
+    → Holds shape m kept is_long before text → Holds shape m kept' is_long' (before ++ b ∷ []) text
+took_byte shape m kept kept' is_long is_long' before text b ne more h = record {
   exchanges = h.exchanges;
   line = h.line ++ b ∷ [];
   answers = h.answers;
   unbroken = unbroken_more h.line b ne h.unbroken;
   parts = ap (λ (l : List ℕ). l ++ b ∷ []) h.parts ∙ append_assoc (asked h.exchanges) h.line (b ∷ []);
   keeps = more h.line h.keeps;
+  same = h.same;
+  fits = h.fits;
 }
 
 -- a line that is kept whole
@@ -66,52 +71,55 @@ pub read_again : (line kept : List ℕ) (read : Option Step) → MatchOption rea
 read_again line kept read h k = subst (λ (l : List ℕ). MatchOption read (IsBad l) (IsStep l)) (line_is_kept line kept k) h
 
 -- one exchange more
-answered : (xs : List Exchange) (line text before after : List ℕ) → Answers xs (text ++ before) → IsUnbroken line → (a : AppendsAnswer line before after)
-    → Answers (record { line = line; event = a.event } ∷ xs) (text ++ (after ++ 10 ∷ []))
-answered xs line text before after h u a = record {
+answered : (shape : Shape) (m m' : Holding) (xs : List Exchange) (line text before after : List ℕ) → Answers shape xs (text ++ before) → IsUnbroken line → m.core.shape ≡ shape → Fits m (history_of xs) → (a : AppendsAnswer m m' line before after)
+    → Answers shape (record { line = line; event = a.event } ∷ xs) (text ++ (after ++ 10 ∷ []))
+answered shape m m' xs line text before after h u same fits a = record {
+  lawful = subst (λ (g : Shape). IsLawful g (with_event a.event (history_of xs))) (a.same ∙ same) (a.fits (history_of xs) fits).lawful;
   each = (record { unbroken = u; read = a.read }, h.each);
   all = ap (λ (t : List ℕ). text ++ (t ++ 10 ∷ [])) a.appended ∙ simp append_assoc (refl) ∙ ap (λ (t : List ℕ). t ++ ended (answer_text a.event)) h.all;
 }
 
 -- the answer to a line that has its end
-pub ended_line : (kept : List ℕ) (is_long : Bool) (bytes text before after : List ℕ) → ((line : List ℕ) → Keeps300 line kept is_long → AppendsAnswer line before after)
-    → Holds kept is_long bytes (text ++ before) → Holds [] false (bytes ++ 10 ∷ []) (text ++ (after ++ 10 ∷ []))
-ended_line kept is_long bytes text before after answer h =
+pub ended_line : (shape : Shape) (m m' : Holding) (kept : List ℕ) (is_long : Bool) (bytes text before after : List ℕ) → ((line : List ℕ) → Keeps300 line kept is_long → AppendsAnswer m m' line before after)
+    → Holds shape m kept is_long bytes (text ++ before) → Holds shape m' [] false (bytes ++ 10 ∷ []) (text ++ (after ++ 10 ∷ []))
+ended_line shape m m' kept is_long bytes text before after answer h =
     let a = answer h.line h.keeps in
     record {
       exchanges = record { line = h.line; event = a.event } ∷ h.exchanges;
       line = [];
-      answers = answered h.exchanges h.line text before after h.answers h.unbroken a;
+      answers = answered shape m m' h.exchanges h.line text before after h.answers h.unbroken h.same h.fits a;
       unbroken = tt;
       parts = ap (λ (l : List ℕ). l ++ 10 ∷ []) h.parts ∙ simp (append_assoc, append-nil);
       keeps = record { first = refl; long = refl };
+      same = a.same ∙ h.same;
+      fits = a.fits (history_of h.exchanges) h.fits;
     }
 
 -- the answer to a last line that has begun
-pub ended_last : (kept : List ℕ) (is_long : Bool) (bytes text before after : List ℕ) → 0 < length kept → ((line : List ℕ) → Keeps300 line kept is_long → AppendsAnswer line before after)
-    → Holds kept is_long bytes (text ++ before) → IsWhole bytes (text ++ (after ++ 10 ∷ []))
-ended_last kept is_long bytes text before after lt answer h =
+pub ended_last : (shape : Shape) (m m' : Holding) (kept : List ℕ) (is_long : Bool) (bytes text before after : List ℕ) → 0 < length kept → ((line : List ℕ) → Keeps300 line kept is_long → AppendsAnswer m m' line before after)
+    → Holds shape m kept is_long bytes (text ++ before) → IsWhole shape bytes (text ++ (after ++ 10 ∷ []))
+ended_last shape m m' kept is_long bytes text before after lt answer h =
     let a = answer h.line h.keeps in
     let size : length kept ≡ length (take 300 h.line) = ap length h.keeps.first in
     let some : 0 < length h.line = omega (arith, length-take 300 h.line) in
-    (record { line = h.line; event = a.event } ∷ h.exchanges, answered h.exchanges h.line text before after h.answers h.unbroken a, inr (some, h.parts))
+    (record { line = h.line; event = a.event } ∷ h.exchanges, answered shape m m' h.exchanges h.line text before after h.answers h.unbroken h.same h.fits a, inr (some, h.parts))
 
 whole_lines : (xs : List Exchange) (bytes : List ℕ) → bytes ≡ asked xs → AreLines xs bytes
 whole_lines [] bytes e = e
 whole_lines (x ∷ xs) bytes e = inl e
 
 -- no last line has begun
-pub ended_none : (kept : List ℕ) (is_long : Bool) (bytes text : List ℕ) → length kept ≡ 0 → Holds kept is_long bytes text → IsWhole bytes text
-ended_none kept is_long bytes text none h =
+pub ended_none : (shape : Shape) (m : Holding) (kept : List ℕ) (is_long : Bool) (bytes text : List ℕ) → length kept ≡ 0 → Holds shape m kept is_long bytes text → IsWhole shape bytes text
+ended_none shape m kept is_long bytes text none h =
     let size : length kept ≡ length (take 300 h.line) = ap length h.keeps.first in
     let empty : length h.line ≡ 0 = omega (arith, length-take 300 h.line) in
     let line_is : h.line ≡ [] = nil_from_length h.line empty in
     (h.exchanges, h.answers, whole_lines h.exchanges bytes (h.parts ∙ ap (λ (l : List ℕ). asked h.exchanges ++ l) line_is ∙ append-nil (asked h.exchanges)))
 
 -- what a session holds, for the outcomes that end a trace early
-pub held_ended : (kept : List ℕ) (is_long : Bool) (bytes text : List ℕ) → Holds kept is_long bytes text → IsEnded bytes text
-held_ended kept is_long bytes text h = (h.exchanges, h.line, h.answers, h.unbroken, h.parts)
+pub held_ended : (shape : Shape) (m : Holding) (kept : List ℕ) (is_long : Bool) (bytes text : List ℕ) → Holds shape m kept is_long bytes text → IsEnded shape bytes text
+held_ended shape m kept is_long bytes text h = (h.exchanges, h.line, h.answers, h.unbroken, h.parts)
 
-pub held_beginning : (kept : List ℕ) (is_long : Bool) (bytes text more : List ℕ) → Holds kept is_long bytes text → IsBeginning (bytes ++ more) text
-held_beginning kept is_long bytes text more h =
+pub held_beginning : (shape : Shape) (m : Holding) (kept : List ℕ) (is_long : Bool) (bytes text more : List ℕ) → Holds shape m kept is_long bytes text → IsBeginning shape (bytes ++ more) text
+held_beginning shape m kept is_long bytes text more h =
     (h.exchanges, h.line ++ more, h.answers, ap (λ (l : List ℕ). l ++ more) h.parts ∙ append_assoc (asked h.exchanges) h.line more)

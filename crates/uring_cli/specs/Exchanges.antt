@@ -1,7 +1,9 @@
 -- The lines of a trace, each with its answer. The language of a trace is our own rule.
 use Rattle.std.specs.Prelude.{◌≡◌, ◌≢◌, ℕ, ◌<◌, ◌⊎◌, List, [], ◌∷◌, ◌++◌, length, Option, Some, None, codes}
 use Rattle.std.specs.List.{AllByRecursion}
+use Rattle.uring_entry.specs.Shape.{Shape}
 use Rattle.uring_machine.specs.Histories.{Event, History}
+use Rattle.uring_machine.specs.Contents.{IsLawful}
 use Rattle.uring_cli.specs.Spelling.{IsStep, IsBad}
 use Rattle.uring_cli.specs.Text.{text_of}
 
@@ -50,9 +52,10 @@ abbrev pub history_of : List Exchange → History
 history_of [] = []
 history_of (x ∷ before) = with_event x.event (history_of before)
 
--- the exchanges answer their lines, and the text is their answers
-pub record Answers (xs : List Exchange) (text : List ℕ) : Type 0 where
+-- the exchanges answer their lines, each answer is called for by the steps before it, and the text is the answers
+pub record Answers (shape : Shape) (xs : List Exchange) (text : List ℕ) : Type 0 where
   pub each : AllByRecursion IsExchange xs
+  pub lawful : IsLawful shape (history_of xs)
   pub all : text ≡ told xs
 
 -- The bytes are the lines, of which the last may lack its end where it has some byte.

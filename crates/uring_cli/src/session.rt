@@ -1,6 +1,7 @@
 //! A machine at the end of a stream of lines.
 
 ghost use Rattle.std.specs.Prelude.{◌≡◌, ◌≢◌, ◌≤◌, ℕ, List, [], ◌∷◌, ◌++◌, IfOk, IfErr, OnOk, MatchOption, vec_len, vec_capacity, string_bytes};
+ghost use Rattle.uring_entry.specs.Shape.{Shape};
 ghost use Rattle.uring_cli.specs.Spelling.{IsStep, IsBad};
 ghost use Rattle.uring_cli.specs.Traces.{IsWhole};
 
@@ -29,7 +30,7 @@ impl Session {
 
     /// A new machine, and no line begun.
     pub(crate) fn new(alloc: Global, setup: &Setup) -> Result<Session, TraceFault>
-        ensures ok { IfOk result (λ s. Has s [] []) }
+        ensures ok { IfOk result (λ s. Has setup.now s [] []) }
         ensures err { IfErr result (λ e. e ≡ TraceFault.Memory) }
     {
         let kept = Vec::with_capacity(alloc, LONGEST_LINE)?;
@@ -43,7 +44,7 @@ impl Session {
 
     /// Takes in the next bytes, and appends the answers to the lines that they end.
     pub(crate) fn feed(&mut self, bytes: &[u8], text: &mut String) -> Result<(), TraceFault>
-        ensures ok { OnOk result ((before told : List ℕ) → Has self.old before (told ++ string_bytes text.old) → Has self.new (before ++ bytes.now) (told ++ string_bytes text.new)) }
+        ensures ok { OnOk result ((shape : Shape) (before told : List ℕ) → Has shape self.old before (told ++ string_bytes text.old) → Has shape self.new (before ++ bytes.now) (told ++ string_bytes text.new)) }
         ensures err { IfErr result (λ e. e ≡ TraceFault.Memory) }
     {
         for byte in bytes {
@@ -54,7 +55,7 @@ impl Session {
 
     /// Appends the answer to the last line, where it has begun without its end.
     pub(crate) fn finish(&mut self, text: &mut String) -> Result<(), TraceFault>
-        ensures ok { OnOk result ((before told : List ℕ) → Has self.old before (told ++ string_bytes text.old) → IsWhole before (told ++ string_bytes text.new)) }
+        ensures ok { OnOk result ((shape : Shape) (before told : List ℕ) → Has shape self.old before (told ++ string_bytes text.old) → IsWhole shape before (told ++ string_bytes text.new)) }
         ensures err { IfErr result (λ e. e ≡ TraceFault.Memory) }
     {
         if self.kept.is_empty() {
@@ -66,7 +67,7 @@ impl Session {
 
     /// Takes in a byte, and appends the answer to the line that it ends.
     fn take(&mut self, byte: u8, text: &mut String) -> Result<(), TraceFault>
-        ensures ok { OnOk result ((before told : List ℕ) → Has self.old before (told ++ string_bytes text.old) → Has self.new (before ++ byte ∷ []) (told ++ string_bytes text.new)) }
+        ensures ok { OnOk result ((shape : Shape) (before told : List ℕ) → Has shape self.old before (told ++ string_bytes text.old) → Has shape self.new (before ++ byte ∷ []) (told ++ string_bytes text.new)) }
         ensures err { IfErr result (λ e. e ≡ TraceFault.Memory) }
     {
         if byte == b'\n' {
@@ -80,7 +81,7 @@ impl Session {
     /// Takes in a byte of the line.
     fn keep(&mut self, byte: u8)
         requires { byte ≢ 10 }
-        ensures { (before told : List ℕ) → Has self.old before told → Has self.new (before ++ byte ∷ []) told }
+        ensures { (shape : Shape) (before told : List ℕ) → Has shape self.old before told → Has shape self.new (before ++ byte ∷ []) told }
     {
         if self.kept.len() < LONGEST_LINE {
             let Ok(()) = self.kept.push(byte) else {
@@ -93,7 +94,7 @@ impl Session {
 
     /// Answers the line, and begins the next one.
     fn end_line(&mut self, text: &mut String) -> Result<(), AllocError>
-        ensures { OnOk result ((before told : List ℕ) → Has self.old before (told ++ string_bytes text.old) → Has self.new (before ++ 10 ∷ []) (told ++ string_bytes text.new)) }
+        ensures { OnOk result ((shape : Shape) (before told : List ℕ) → Has shape self.old before (told ++ string_bytes text.old) → Has shape self.new (before ++ 10 ∷ []) (told ++ string_bytes text.new)) }
     {
         self.answer_line(text)?;
         self.kept.clear();
@@ -103,7 +104,7 @@ impl Session {
 
     /// Appends the answer to the line, without its end.
     fn answer_line(&mut self, text: &mut String) -> Result<(), AllocError>
-        ensures { OnOk result ((line : List ℕ) → Keeps300 line self.old.kept.items self.old.is_long → AppendsAnswer line (string_bytes text.old) (string_bytes text.new)) }
+        ensures { OnOk result ((line : List ℕ) → Keeps300 line self.old.kept.items self.old.is_long → AppendsAnswer self.old.machine self.new.machine line (string_bytes text.old) (string_bytes text.new)) }
     {
         match self.line_step()? {
             Some(step) => {

@@ -24,7 +24,7 @@ pub fn trace<R: Read, W: Write>(
     writer: &mut W,
     setup: &Setup,
 ) -> Result<(), TraceFault>
-    ensures { Traces result (R.remaining reader.old) (R.remaining reader.new) (W.contents writer.old) (W.contents writer.new) }
+    ensures { Traces setup.now result (R.remaining reader.old) (R.remaining reader.new) (W.contents writer.old) (W.contents writer.new) }
 {
     let mut session = Session::new(alloc, setup)?;
     let mut chunk = [0; CHUNK];

@@ -7,4 +7,4 @@ use Rattle.uring_cli.proofs.trace_loop.trace.Given as goal
 abbrev pub invariant-loop : goal.invariant-loop
 invariant-loop g l =
     (bytes : List ℕ) × (text : List ℕ) × Consumes (g.R.Read.remaining l.fn.reader) (g.R.Read.remaining l.reader) bytes
-    × Appends (g.W.Write.contents l.fn.writer) (g.W.Write.contents l.writer) text × Has l.session bytes text
+    × Appends (g.W.Write.contents l.fn.writer) (g.W.Write.contents l.writer) text × Has l.setup l.session bytes text
