@@ -10,7 +10,7 @@ use Rattle.uring_dispatch.specs.declared.answers.Issued.TheVariants.{Run, Ended,
 use Rattle.uring_dispatch.specs.declared.answers.Finished.{Finished}
 use Rattle.uring_dispatch.specs.declared.answers.Finished.TheVariants as finish
 
--- what the issue of a request that was not started is answered: it ends where it is doomed or a cancel, runs where it is ready, and else waits
+-- what the issue of a request that was not started is answered: it ends where it is doomed, or is a cancel that may start; another runs where it may start; and else it waits
 abbrev pub issued_waiting : Requests → ℕ → Issued
 issued_waiting r n =
     if is_doomed r n then Ended (doomed_result r n) else

@@ -79,7 +79,7 @@ move_keeps r q s a files (ends_cancel n cancel) other i = issued_end r n (cancel
 move_keeps r q s a files (ends_run n res bytes) other i = absurd other
 
 -- a step but a finish leaves the files as they are
-pub files_kept : (g : Shape) (s : Step) (a : Answer) (before : History) → IsLawfulApart g ((s , a) ∷ before) → IsNoFinish s → files_of g (world g ((s , a) ∷ before)) ≡ files_of g (world g before)
+pub files_kept : (g : Shape) (s : Step) (a : Answer) (before : History) → IsLawfulApart g ((s, a) ∷ before) → IsNoFinish s → files_of g (world g ((s, a) ∷ before)) ≡ files_of g (world g before)
 files_kept g s a before lawful other =
     move_keeps (world g before).requests _ s a _ (move_of g (world g before) s a (change_of g (world g before) s a lawful.0) lawful.0) other
     (sound_of g before lawful.1).requests

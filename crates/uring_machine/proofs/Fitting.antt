@@ -41,7 +41,7 @@ called_apart g w step.Next a other called = called
 
 -- the machine with another core of its shape
 pub step_fits : (core later : Parts) (files : List FileContents) (s : Step) (a : Answer) (h : History) → later.shape ≡ core.shape → IsNoFinish s
-    → Fits (record { core = core; files = files }) h → FitsApart later ((s , a) ∷ h) → Fits (record { core = later; files = files }) ((s , a) ∷ h)
+    → Fits (record { core = core; files = files }) h → FitsApart later ((s, a) ∷ h) → Fits (record { core = later; files = files }) ((s, a) ∷ h)
 step_fits core later files s a h same other fits next =
     let g : Shape = later.shape in
     record {
@@ -70,23 +70,23 @@ asks_files core files n op some is =
 pub finish_fits : (core later : Parts) (files : List FileContents) (n : ℕ) (op : Op) (outcome : Outcome) (left : List FileContents) (a : Answer) (h : History) → later.shape ≡ core.shape
     → Fits (record { core = core; files = files }) h → Some op ≡ operation_running (world core.shape h).requests n
     → IsOutcome files op outcome → left ≡ after files op outcome.res
-    → FitsApart later ((step.Finish n , a) ∷ h) → IsFinished (world core.shape h) n outcome a
-    → Fits (record { core = later; files = left }) ((step.Finish n , a) ∷ h)
+    → FitsApart later ((step.Finish n, a) ∷ h) → IsFinished (world core.shape h) n outcome a
+    → Fits (record { core = later; files = left }) ((step.Finish n, a) ∷ h)
 finish_fits core later files n op outcome left a h same fits is allowed leaves next finished =
     let g : Shape = core.shape in
     let r : Requests = (world g h).requests in
     let runs = runs_with r n op is in
     let ends : a ≡ answer.Ended outcome.res outcome.bytes = finished ∙ ap (λ b. if b then answer.Ended outcome.res outcome.bytes else answer.NotRunning) runs.0 in
     let called : CalledFor g (world g h) (step.Finish n) (answer.Ended outcome.res outcome.bytes) =
-        subst (λ b. EndsOn (files_of g (world g h)) r n b (answer.Ended outcome.res outcome.bytes)) (sym runs.0)
-        (subst (λ fs. IsOutcome fs (operation_of (entry_of r n)) outcome) fits.files (subst (λ o. IsOutcome files o outcome) runs.1 allowed)) in
-    let now : left ≡ files_of g (world g ((step.Finish n , answer.Ended outcome.res outcome.bytes) ∷ h)) =
-        leaves ∙ ap (λ o. after files o outcome.res) runs.1 ∙ ap (λ fs. after fs (operation_of (entry_of r n)) outcome.res) fits.files
-        ∙ sym (files_ended r n outcome.res outcome.bytes _) in
+    subst (λ b. EndsOn (files_of g (world g h)) r n b (answer.Ended outcome.res outcome.bytes)) (sym runs.0)
+    (subst (λ fs. IsOutcome fs (operation_of (entry_of r n)) outcome) fits.files (subst (λ o. IsOutcome files o outcome) runs.1 allowed)) in
+    let now : left ≡ files_of g (world g ((step.Finish n, answer.Ended outcome.res outcome.bytes) ∷ h)) =
+    leaves ∙ ap (λ o. after files o outcome.res) runs.1 ∙ ap (λ fs. after fs (operation_of (entry_of r n)) outcome.res) fits.files
+    ∙ sym (files_ended r n outcome.res outcome.bytes _) in
     record {
       core = next;
-      files = subst (λ k. left ≡ files_of k (world k ((step.Finish n , a) ∷ h))) (sym same) (subst (λ b. left ≡ files_of g (world g ((step.Finish n , b) ∷ h))) (sym ends) now);
-      lawful = subst (λ k. IsLawful k ((step.Finish n , a) ∷ h)) (sym same) (subst (λ b. CalledFor g (world g h) (step.Finish n) b) (sym ends) called, fits.lawful);
+      files = subst (λ k. left ≡ files_of k (world k ((step.Finish n, a) ∷ h))) (sym same) (subst (λ b. left ≡ files_of g (world g ((step.Finish n, b) ∷ h))) (sym ends) now);
+      lawful = subst (λ k. IsLawful k ((step.Finish n, a) ∷ h)) (sym same) (subst (λ b. CalledFor g (world g h) (step.Finish n) b) (sym ends) called, fits.lawful);
     }
 
 -- what has no operation to carry out isn't running
@@ -96,7 +96,7 @@ not_running op false e = refl
 
 -- a request that doesn't run is refused
 pub refusal_fits : (core : Parts) (files : List FileContents) (n : ℕ) (h : History) → Fits (record { core = core; files = files }) h → None ≡ operation_running (world core.shape h).requests n
-    → Fits (record { core = core; files = files }) ((step.Finish n , answer.NotRunning) ∷ h)
+    → Fits (record { core = core; files = files }) ((step.Finish n, answer.NotRunning) ∷ h)
 refusal_fits core files n h fits is =
     let w : World = world core.shape h in
     let idle : is_running w.requests n ≡ false = not_running (operation_of (entry_of w.requests n)) (is_running w.requests n) is in
@@ -107,7 +107,7 @@ refusal_fits core files n h fits is =
     }
 
 -- an event of a fitted history was called for
-pub called_for : (g : Shape) (core : Parts) (files : List FileContents) (s : Step) (a : Answer) (h : History) → core.shape ≡ g → Fits (record { core = core; files = files }) ((s , a) ∷ h) → CalledFor g (world g h) s a
+pub called_for : (g : Shape) (core : Parts) (files : List FileContents) (s : Step) (a : Answer) (h : History) → core.shape ≡ g → Fits (record { core = core; files = files }) ((s, a) ∷ h) → CalledFor g (world g h) s a
 called_for g core files s a h same fits = subst (λ k. CalledFor k (world k h) s a) same fits.lawful.0
 
 -- what isn't a Finish is no finish

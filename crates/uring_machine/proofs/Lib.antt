@@ -28,7 +28,7 @@ pub mod Running
 pub mod FileHistory
 pub mod Fitting
 pub mod Following
-pub mod WholeLaws
 pub mod Outstanding
 pub mod Numbers
 pub mod Settling
+pub mod WholeLaws

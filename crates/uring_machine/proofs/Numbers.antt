@@ -45,7 +45,7 @@ few_kept g w s a (takes entry call place opened left at valid) called i =
     subst (λ o. AreFew (taking_of w o)) (sym opened) (subst (λ o. length w.requests.accepted + positions_of o ≤ 2 ^ 63 - 1) opened i)
 few_kept g w s a (drops call place opened left at invalid) called i =
     subst (λ o. AreFew (taking_of w o)) (sym opened) (subst (λ o. length w.requests.accepted + positions_of o ≤ 2 ^ 63 - 1) opened i)
-few_kept g w s a (closes accepted missed head call opened all) called i =
+few_kept g w s a (closes accepted missed head call opened all many) called i =
     let before : length w.requests.accepted + call.count ≤ 2 ^ 63 - 1 = subst (λ o. length w.requests.accepted + positions_of o ≤ 2 ^ 63 - 1) opened i in
     subst (λ o. AreFew (ending_of w o)) (sym opened) (omega (arith, before, few_entries w call, length-append w.requests.accepted (entries_of (places_from w.submission call.count))))
 few_kept g w s a (runs n outstanding idle spared ready) called i = i
@@ -60,7 +60,7 @@ few_kept g w s a (shuts no_call) called i = i
 
 few_accepted : (g : Shape) (h : History) → IsLawfulApart g h → AreFew (world g h)
 few_accepted g [] lawful = omega arith
-few_accepted g ((s , a) ∷ before) lawful = few_kept g (world g before) s a (change_of g (world g before) s a lawful.0) lawful.0 (few_accepted g before lawful.1)
+few_accepted g ((s, a) ∷ before) lawful = few_kept g (world g before) s a (change_of g (world g before) s a lawful.0) lawful.0 (few_accepted g before lawful.1)
 
 -- fewer than 2 ^ 63 are outstanding
 pub few_outstanding : (g : Shape) (h : History) → IsLawfulApart g h → outstanding_in (world g h).requests ≤ 2 ^ 63 - 1

@@ -10,12 +10,12 @@ pub count_below-few : (p : ℕ → Bool) (n : ℕ) → count_below p n ≤ n
 count_below-few p zero = omega arith
 count_below-few p (suc n) =
     elim (cases_Bool (p n)) [
-      inl here ↦
-        let one : ◌≡◌ {A = ℕ} (cond (p n) 1 0) 1 = ap (λ b. cond b 1 0) here in
-        omega (arith, one, count_below-few p n)
-    | inr other ↦
-        let none : ◌≡◌ {A = ℕ} (cond (p n) 1 0) 0 = ap (λ b. cond b 1 0) other in
-        omega (arith, none, count_below-few p n)
+      | inl here ↦
+          let one : ◌≡◌ {A = ℕ} (cond (p n) 1 0) 1 = ap (λ b. cond b 1 0) here in
+          omega (arith, one, count_below-few p n)
+      | inr other ↦
+          let none : ◌≡◌ {A = ℕ} (cond (p n) 1 0) 0 = ap (λ b. cond b 1 0) other in
+          omega (arith, none, count_below-few p n)
     ]
 
 -- the count depends on no number but those counted
@@ -30,13 +30,13 @@ count_below-less : (p q : ℕ → Bool) (n m : ℕ) → m < n → p m ≡ true �
 count_below-less p q zero m lt is isnt same = absurd (omega arith)
 count_below-less p q (suc n) m lt is isnt same =
     elim (cases_eq n m) [
-      inl here ↦
-        let one : ◌≡◌ {A = ℕ} (cond (p n) 1 0) 1 = ap (λ b. cond b 1 0) (ap p here ∙ is) in
-        let none : ◌≡◌ {A = ℕ} (cond (q n) 1 0) 0 = ap (λ b. cond b 1 0) (ap q here ∙ isnt) in
-        omega (arith, one, none, count_below-same q p n (λ k below. same k (λ e. omega (arith, e, here, below))))
-    | inr other ↦
-        let equal : ◌≡◌ {A = ℕ} (cond (q n) 1 0) (cond (p n) 1 0) = ap (λ b. cond b 1 0) (same n other) in
-        omega (arith, equal, count_below-less p q n m (omega arith) is isnt same)
+      | inl here ↦
+          let one : ◌≡◌ {A = ℕ} (cond (p n) 1 0) 1 = ap (λ b. cond b 1 0) (ap p here ∙ is) in
+          let none : ◌≡◌ {A = ℕ} (cond (q n) 1 0) 0 = ap (λ b. cond b 1 0) (ap q here ∙ isnt) in
+          omega (arith, one, none, count_below-same q p n (λ k below. same k (λ e. omega (arith, e, here, below))))
+      | inr other ↦
+          let equal : ◌≡◌ {A = ℕ} (cond (q n) 1 0) (cond (p n) 1 0) = ap (λ b. cond b 1 0) (same n other) in
+          omega (arith, equal, count_below-less p q n m (omega arith) is isnt same)
     ]
 
 -- none is counted
@@ -44,10 +44,10 @@ count_below-none : (p : ℕ → Bool) (n : ℕ) → count_below p n ≡ 0 → (k
 count_below-none p zero none k lt = absurd (omega arith)
 count_below-none p (suc n) none k lt =
     elim (cases_Bool (p n)) [
-      inl here ↦
-        let one : ◌≡◌ {A = ℕ} (cond (p n) 1 0) 1 = ap (λ b. cond b 1 0) here in
-        absurd (omega (arith, one, none))
-    | inr other ↦ elim (cases_eq k n) [ inl same ↦ ap p same ∙ other | inr differ ↦ count_below-none p n (omega (arith, none)) k (omega arith) ]
+      | inl here ↦
+          let one : ◌≡◌ {A = ℕ} (cond (p n) 1 0) 1 = ap (λ b. cond b 1 0) here in
+          absurd (omega (arith, one, none))
+      | inr other ↦ elim (cases_eq k n) [ inl same ↦ ap p same ∙ other | inr differ ↦ count_below-none p n (omega (arith, none)) k (omega arith) ]
     ]
 
 -- nothing is counted that isn't there
@@ -71,7 +71,7 @@ ended_less r n res bytes outstanding =
     count_below-less (is_outstanding r) (is_outstanding (with_ended r n res bytes)) (length r.accepted) n within outstanding
     (gone (ltb n (length r.accepted)) _ (has_ended-same r n res bytes))
     (λ k other. ap (λ b. ltb k (length r.accepted) && not b) (has_ended-other r n res bytes k other)) where
-  gone : (within ended : Bool) → ended ≡ true → (within && not ended) ≡ false
-  gone true true e = refl
-  gone false true e = refl
-  gone within false e = absurd (let f : false ≡ true = e in cc)
+      gone : (within ended : Bool) → ended ≡ true → (within && not ended) ≡ false
+      gone true true e = refl
+      gone false true e = refl
+      gone within false e = absurd (let f : false ≡ true = e in cc)

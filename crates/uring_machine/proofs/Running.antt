@@ -36,7 +36,7 @@ no_cancel_kept r q s a (ends_run m res bytes) i none = none
 
 pub no_cancel : (g : Shape) (h : History) → IsLawfulApart g h → NoCancel (world g h).requests
 no_cancel g [] lawful = λ n started. absurd (let f : false ≡ true = started in cc)
-no_cancel g ((s , a) ∷ before) lawful =
+no_cancel g ((s, a) ∷ before) lawful =
     no_cancel_kept (world g before).requests _ s a (move_of g (world g before) s a (change_of g (world g before) s a lawful.0) lawful.0)
     (sound_of g before lawful.1).requests (no_cancel g before lawful.1)
 
@@ -54,5 +54,5 @@ running_asks g h n lawful running =
     let i : IsSoundRequests r = (sound_of g h lawful).requests in
     let started : has_started r n ≡ true = (and_parts _ _ running).0 in
     let right : is_faulty (entry_of r n) ≡ false =
-        false_from_ne_true _ (λ faulty. both_ways _ (i.started_free n started).spared (is_doomed-own_fault r n (i.started_accepted n started) faulty)) in
+    false_from_ne_true _ (λ faulty. both_ways _ (i.started_free n started).spared (is_doomed-own_fault r n (i.started_accepted n started) faulty)) in
     prepared (entry_of r n) (without_fault (entry_of r n) right) (no_cancel g h lawful n started)

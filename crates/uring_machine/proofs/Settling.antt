@@ -64,12 +64,12 @@ least_runs r n a is other least = by_next (next_of r) refl is where
   by_next (Some m) next f = absurd (other m f)
   by_next None next f =
       elim (or_cases _ _ (least_of-goes_on r n least)) [
-        inl running ↦ running
-      | inr issuable ↦ absurd (both_ways _ (least_below-out (is_issuable r) (length r.accepted) next n (least_below-tells (is_outstanding r) (length r.accepted) n least).below) issuable)
+        | inl running ↦ running
+        | inr issuable ↦ absurd (both_ways _ (least_below-out (is_issuable r) (length r.accepted) next n (least_below-tells (is_outstanding r) (length r.accepted) n least).below) issuable)
       ]
 
 -- a machine that answered Next fits what it fitted
-pub next_fits : (m : Holding) (a : Answer) (h : History) → Fits m ((step.Next , a) ∷ h) → Fits m h
+pub next_fits : (m : Holding) (a : Answer) (h : History) → Fits m ((step.Next, a) ∷ h) → Fits m h
 next_fits m a h fits = record { core = record { shows = fits.core.shows; lawful = fits.core.lawful.1 }; files = fits.files; lawful = fits.lawful.1 }
 
 -- how many are outstanding
@@ -84,62 +84,62 @@ one_fewer old new h later same fits reached less =
 
 -- the next request ran, and was finished
 pub settled_run : (old asked new : Holding) (n : ℕ) (a b c : Answer) (h : History) → asked.core.shape ≡ old.core.shape → new.core.shape ≡ asked.core.shape → a ≡ answer.Next n → b ≡ answer.Run
-    → Fits old h → Fits asked ((step.Next , a) ∷ h) → Fits new ((step.Finish n , c) ∷ (step.Issue n , b) ∷ h) → HasSettled old new h 2 1
+    → Fits old h → Fits asked ((step.Next, a) ∷ h) → Fits new ((step.Finish n, c) ∷ (step.Issue n, b) ∷ h) → HasSettled old new h 2 1
 settled_run old asked new n a b c h same kept next ran fits asked_fits new_fits =
     let g : Shape = new.core.shape in
     let r : Requests = (world g h).requests in
-    let now : Fits new ((step.Finish n , c) ∷ (step.Issue n , answer.Run) ∷ h) = subst (λ d. Fits new ((step.Finish n , c) ∷ (step.Issue n , d) ∷ h)) ran new_fits in
+    let now : Fits new ((step.Finish n, c) ∷ (step.Issue n, answer.Run) ∷ h) = subst (λ d. Fits new ((step.Finish n, c) ∷ (step.Issue n, d) ∷ h)) ran new_fits in
     let issuable : is_issuable r n ≡ true = next_tells r n (subst (λ k. answer.Next n ≡ next_answer_of (next_of (world k h).requests)) (sym kept) (sym next ∙ asked_fits.core.lawful.0)) in
     let tells = issuable_tells r n issuable in
     let unended : has_ended r n ≡ false = not-true _ (and_parts _ _ tells.0).1 in
     record {
-      events = (step.Finish n , c) ∷ (step.Issue n , b) ∷ [];
+      events = (step.Finish n, c) ∷ (step.Issue n, b) ∷ [];
       issues_and_finishes = refl;
       fits = new_fits;
       many = refl;
       few = omega arith;
       fewer =
-        one_fewer old new h ((step.Finish n , c) ∷ (step.Issue n , answer.Run) ∷ h) (kept ∙ same) fits now
-        (finish_less g (world g ((step.Issue n , answer.Run) ∷ h)) n c tells.0 (subst (λ running. FinishesApart running c) (is_running-started_same r n unended) now.core.lawful.0));
+          one_fewer old new h ((step.Finish n, c) ∷ (step.Issue n, answer.Run) ∷ h) (kept ∙ same) fits now
+          (finish_less g (world g ((step.Issue n, answer.Run) ∷ h)) n c tells.0 (subst (λ running. FinishesApart running c) (is_running-started_same r n unended) now.core.lawful.0));
     }
 
 -- the next request ended as it was issued
 pub settled_end : (old asked new : Holding) (n : ℕ) (a b : Answer) (h : History) → asked.core.shape ≡ old.core.shape → new.core.shape ≡ asked.core.shape → a ≡ answer.Next n → (b ≡ answer.Run → ⊥)
-    → Fits old h → Fits asked ((step.Next , a) ∷ h) → Fits new ((step.Issue n , b) ∷ h) → HasSettled old new h 1 1
+    → Fits old h → Fits asked ((step.Next, a) ∷ h) → Fits new ((step.Issue n, b) ∷ h) → HasSettled old new h 1 1
 settled_end old asked new n a b h same kept next other fits asked_fits new_fits =
     let g : Shape = new.core.shape in
     let r : Requests = (world g h).requests in
     let issuable : is_issuable r n ≡ true = next_tells r n (subst (λ k. answer.Next n ≡ next_answer_of (next_of (world k h).requests)) (sym kept) (sym next ∙ asked_fits.core.lawful.0)) in
     let tells = issuable_tells r n issuable in
     record {
-      events = (step.Issue n , b) ∷ [];
+      events = (step.Issue n, b) ∷ [];
       issues_and_finishes = refl;
       fits = new_fits;
       many = refl;
       few = omega arith;
       fewer =
-        one_fewer old new h ((step.Issue n , b) ∷ h) (kept ∙ same) fits new_fits
-        (issue_less g (world g h) n b tells.0
-            (answer_ends (is_outstanding r n) (is_running r n) (is_doomed r n) (is_ready r n) (is_cancel (entry_of r n)) (doomed_result r n) (cancel_result r n) b tells.0 tells.1 tells.2 new_fits.core.lawful.0 other));
+          one_fewer old new h ((step.Issue n, b) ∷ h) (kept ∙ same) fits new_fits
+          (issue_less g (world g h) n b tells.0
+          (answer_ends (is_outstanding r n) (is_running r n) (is_doomed r n) (is_ready r n) (is_cancel (entry_of r n)) (doomed_result r n) (cancel_result r n) b tells.0 tells.1 tells.2 new_fits.core.lawful.0 other));
     }
 
 -- the least outstanding request ran, and was finished
 pub settled_finish : (old asked new : Holding) (n : ℕ) (a b : Answer) (h : History) → asked.core.shape ≡ old.core.shape → new.core.shape ≡ asked.core.shape → ((k : ℕ) → a ≡ answer.Next k → ⊥)
-    → Fits old h → Some n ≡ least_of (world old.core.shape h).requests → Fits asked ((step.Next , a) ∷ h) → Fits new ((step.Finish n , b) ∷ h) → HasSettled old new h 1 1
+    → Fits old h → Some n ≡ least_of (world old.core.shape h).requests → Fits asked ((step.Next, a) ∷ h) → Fits new ((step.Finish n, b) ∷ h) → HasSettled old new h 1 1
 settled_finish old asked new n a b h same kept other fits least asked_fits new_fits =
     let g : Shape = new.core.shape in
     let r : Requests = (world g h).requests in
     let is : least_of r ≡ Some n = subst (λ k. least_of (world k h).requests ≡ Some n) (sym (kept ∙ same)) (sym least) in
     let running : is_running r n ≡ true = least_runs r n a (subst (λ k. a ≡ next_answer_of (next_of (world k h).requests)) (sym kept) asked_fits.core.lawful.0) other is in
     record {
-      events = (step.Finish n , b) ∷ [];
+      events = (step.Finish n, b) ∷ [];
       issues_and_finishes = refl;
       fits = new_fits;
       many = refl;
       few = omega arith;
       fewer =
-        one_fewer old new h ((step.Finish n , b) ∷ h) (kept ∙ same) fits new_fits
-        (finish_less g (world g h) n b (least_below-tells (is_outstanding r) (length r.accepted) n is).holds (subst (λ running. FinishesApart running b) running new_fits.core.lawful.0));
+          one_fewer old new h ((step.Finish n, b) ∷ h) (kept ∙ same) fits new_fits
+          (finish_less g (world g h) n b (least_below-tells (is_outstanding r) (length r.accepted) n is).holds (subst (λ running. FinishesApart running b) running new_fits.core.lawful.0));
     }
 
 -- something is outstanding, so there is a least
@@ -176,8 +176,8 @@ settled_all old new h count ended same fits all s =
       many = s.many;
       few = omega (arith, s.few, all, ap (λ g. outstanding_in (world g h).requests) same);
       none_outstanding =
-        none_outstanding (world new.core.shape (s.events ++ h)).requests
-        (omega (arith, s.fewer, all, outstanding_of old h fits, outstanding_of new (s.events ++ h) s.fits));
+          none_outstanding (world new.core.shape (s.events ++ h)).requests
+          (omega (arith, s.fewer, all, outstanding_of old h fits, outstanding_of new (s.events ++ h) s.fits));
     }
 
 -- this number is how many are outstanding
@@ -192,11 +192,11 @@ pub counted : (core : Parts) (files : List FileContents) (now : Holding) (n : �
 counted core files now n is some counts =
     subst (λ m. IsCounted m n) is
     (let h : History = some.0 in
-     let fits = some.1 in
-     let many : n ≡ outstanding_in (world core.shape h).requests = counts h fits.core in
-     record {
-       history = h;
-       fits = fits;
-       same = many ∙ sym (outstanding_of (record { core = core; files = files }) h fits);
-       few = omega (arith, many, few_outstanding core.shape h fits.core.lawful);
-     })
+    let fits = some.1 in
+    let many : n ≡ outstanding_in (world core.shape h).requests = counts h fits.core in
+    record {
+      history = h;
+      fits = fits;
+      same = many ∙ sym (outstanding_of (record { core = core; files = files }) h fits);
+      few = omega (arith, many, few_outstanding core.shape h fits.core.lawful);
+    })

@@ -36,4 +36,4 @@ CalledFor g w s a = CalledForApart g w s a
 -- each answer is called for by what came before it
 abbrev pub IsLawful : Shape → History → Type 0
 IsLawful g [] = Unit {0}
-IsLawful g ((s , a) ∷ before) = CalledFor g (world g before) s a × IsLawful g before
+IsLawful g ((s, a) ∷ before) = CalledFor g (world g before) s a × IsLawful g before

@@ -9,8 +9,8 @@ use Rattle.uring_machine.specs.declared.steps.Step.TheVariants as step
 
 -- whether an event is an Issue or a Finish
 abbrev pub is_issue_or_finish : Event → Bool
-is_issue_or_finish (step.Issue n , answer) = true
-is_issue_or_finish (step.Finish n , answer) = true
+is_issue_or_finish (step.Issue n, answer) = true
+is_issue_or_finish (step.Finish n, answer) = true
 is_issue_or_finish event = false
 
 -- A machine that fitted this history fits it followed by so many events, each an Issue or a Finish, which ended so many requests: at most two for each.

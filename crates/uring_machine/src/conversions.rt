@@ -5,10 +5,9 @@ ghost use Rattle.uring_machine.specs.Told.{fill_told, index_told, begin_told};
 ghost use Rattle.uring_machine.specs.declared.answers.Answer.TheVariants as answer;
 ghost use Rattle.uring_machine.specs.Answers.{reap_answer_of, next_answer_of};
 
+use crate::answers::Answer;
 use uring_entry::Cqe;
 use uring_rings::{BeginAnswer, FillAnswer, IndexAnswer};
-
-use crate::answers::Answer;
 
 /// The answer to a fill.
 pub(crate) fn tell_fill(answer: FillAnswer) -> Answer

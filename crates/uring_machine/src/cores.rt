@@ -1,24 +1,21 @@
 ghost use Rattle.std.specs.Prelude.{◌≡◌, ◌∷◌, [], IfOk, slice_get};
-ghost use Rattle.uring_entry.specs.Requests.{least_of};
 ghost use Rattle.uring_entry.specs.Completions.{unreaped};
 ghost use Rattle.uring_entry.specs.Requests.{least_of};
 ghost use Rattle.uring_dispatch.specs.Answers.{operation_running};
 ghost use Rattle.uring_machine.specs.Histories.{History, world};
 ghost use Rattle.uring_machine.specs.declared.steps.Step.TheVariants as step;
 
-use std::alloc::{AllocError, Global};
-use std::marker::Model;
-
-use uring_dispatch::{Dispatch, Finished, Issued, ReserveError};
-use uring_entry::{Cqe, Op, Outcome, Setup, Sqe};
-use uring_rings::{Cq, EndAnswer, Sq, TakeAnswer};
-
 use crate::acceptance::accept_call;
 use crate::answers::Answer;
 use crate::conversions::{tell_begin, tell_end, tell_fill, tell_index, tell_next, tell_reap};
 use crate::counts::Counts;
-use crate::steps::Step;
 use crate::posting::tell;
+use crate::steps::Step;
+use std::alloc::{AllocError, Global};
+use std::marker::Model;
+use uring_dispatch::{Dispatch, Finished, Issued, ReserveError};
+use uring_entry::{Cqe, Op, Outcome, Setup, Sqe};
+use uring_rings::{Cq, EndAnswer, Sq, TakeAnswer};
 
 /// A pair of rings and its requests, moved one step at a time, without files: how a running request ends comes from outside.
 #[derive(Drop)]
@@ -69,7 +66,7 @@ impl Core {
     pub fn step(&mut self, step: Step) -> Answer
         requires { IsNoFinish step }
         ensures shape { self.new.shape ≡ self.old.shape }
-        ensures fits { (h : History) → FitsApart self.old h → FitsApart self.new ((step , result) ∷ h) }
+        ensures fits { (h : History) → FitsApart self.old h → FitsApart self.new ((step, result) ∷ h) }
     {
         match step {
             Step::Fill { slot, entry } => self.fill(slot, entry),
@@ -93,7 +90,7 @@ impl Core {
     /// Ends the running request of this number with an outcome from outside, and posts its completion; `NotRunning` where it isn't running, and then nothing changes.
     pub fn finish(&mut self, number: u64, outcome: Outcome) -> Answer
         ensures shape { self.new.shape ≡ self.old.shape }
-        ensures fits { (h : History) → FitsApart self.old h → FitsApart self.new ((step.Finish number , result) ∷ h) }
+        ensures fits { (h : History) → FitsApart self.old h → FitsApart self.new ((step.Finish number, result) ∷ h) }
         ensures outcome { (h : History) → FitsApart self.old h → IsFinished (world self.old.shape h) number outcome result }
     {
         let entry = self.dispatch.entry(number);
@@ -145,7 +142,7 @@ impl Core {
     /// The application writes an entry to a slot.
     fn fill(&mut self, slot: u32, entry: Sqe) -> Answer
         ensures shape { self.new.shape ≡ self.old.shape }
-        ensures fits { (h : History) → FitsApart self.old h → FitsApart self.new ((step.Fill slot entry , result) ∷ h) }
+        ensures fits { (h : History) → FitsApart self.old h → FitsApart self.new ((step.Fill slot entry, result) ∷ h) }
     {
         tell_fill(self.sq.fill(slot, entry))
     }
@@ -153,7 +150,7 @@ impl Core {
     /// The application stages a word.
     fn index(&mut self, word: u32) -> Answer
         ensures shape { self.new.shape ≡ self.old.shape }
-        ensures fits { (h : History) → FitsApart self.old h → FitsApart self.new ((step.Index word , result) ∷ h) }
+        ensures fits { (h : History) → FitsApart self.old h → FitsApart self.new ((step.Index word, result) ∷ h) }
     {
         tell_index(self.sq.index(word))
     }
@@ -161,7 +158,7 @@ impl Core {
     /// The application publishes what is staged.
     fn store_tail(&mut self) -> Answer
         ensures shape { self.new.shape ≡ self.old.shape }
-        ensures fits { (h : History) → FitsApart self.old h → FitsApart self.new ((step.StoreTail , result) ∷ h) }
+        ensures fits { (h : History) → FitsApart self.old h → FitsApart self.new ((step.StoreTail, result) ∷ h) }
     {
         Answer::Tail(self.sq.store_tail())
     }
@@ -169,7 +166,7 @@ impl Core {
     /// The application loads the submission ring's head.
     fn load_head(&mut self) -> Answer
         ensures shape { self.new.shape ≡ self.old.shape }
-        ensures fits { (h : History) → FitsApart self.old h → FitsApart self.new ((step.LoadHead , result) ∷ h) }
+        ensures fits { (h : History) → FitsApart self.old h → FitsApart self.new ((step.LoadHead, result) ∷ h) }
     {
         Answer::Head(self.sq.load_head())
     }
@@ -177,7 +174,7 @@ impl Core {
     /// The dispatcher opens a call, once there is room for all its requests and for the ends of these and of all outstanding ones.
     fn begin(&mut self, count: u32) -> Answer
         ensures shape { self.new.shape ≡ self.old.shape }
-        ensures fits { (h : History) → FitsApart self.old h → FitsApart self.new ((step.Begin count , result) ∷ h) }
+        ensures fits { (h : History) → FitsApart self.old h → FitsApart self.new ((step.Begin count, result) ∷ h) }
     {
         if self.is_closed {
             return Answer::Closed;
@@ -201,7 +198,7 @@ impl Core {
     /// The dispatcher copies the call's next position.
     fn take(&mut self) -> Answer
         ensures shape { self.new.shape ≡ self.old.shape }
-        ensures fits { (h : History) → FitsApart self.old h → FitsApart self.new ((step.Take , result) ∷ h) }
+        ensures fits { (h : History) → FitsApart self.old h → FitsApart self.new ((step.Take, result) ∷ h) }
     {
         match self.sq.take() {
             TakeAnswer::Entry(entry) => {
@@ -217,7 +214,7 @@ impl Core {
     /// The dispatcher closes the call, and accepts its entries.
     fn end(&mut self) -> Answer
         ensures shape { self.new.shape ≡ self.old.shape }
-        ensures fits { (h : History) → FitsApart self.old h → FitsApart self.new ((step.End , result) ∷ h) }
+        ensures fits { (h : History) → FitsApart self.old h → FitsApart self.new ((step.End, result) ∷ h) }
     {
         match self.sq.end() {
             EndAnswer::Taken(taken) => {
@@ -237,7 +234,7 @@ impl Core {
     /// The dispatcher issues a request.
     fn issue(&mut self, number: u64) -> Answer
         ensures shape { self.new.shape ≡ self.old.shape }
-        ensures fits { (h : History) → FitsApart self.old h → FitsApart self.new ((step.Issue number , result) ∷ h) }
+        ensures fits { (h : History) → FitsApart self.old h → FitsApart self.new ((step.Issue number, result) ∷ h) }
     {
         let entry = self.dispatch.entry(number);
         match self.dispatch.issue(number) {
@@ -257,7 +254,7 @@ impl Core {
     /// The dispatcher loads the completion ring's head, and moves what fits out of the overflow list.
     fn flush(&mut self) -> Answer
         ensures shape { self.new.shape ≡ self.old.shape }
-        ensures fits { (h : History) → FitsApart self.old h → FitsApart self.new ((step.Flush , result) ∷ h) }
+        ensures fits { (h : History) → FitsApart self.old h → FitsApart self.new ((step.Flush, result) ∷ h) }
     {
         Answer::Moved(self.cq.flush())
     }
@@ -265,7 +262,7 @@ impl Core {
     /// The application loads the completion ring's tail.
     fn load_cq_tail(&mut self) -> Answer
         ensures shape { self.new.shape ≡ self.old.shape }
-        ensures fits { (h : History) → FitsApart self.old h → FitsApart self.new ((step.LoadCqTail , result) ∷ h) }
+        ensures fits { (h : History) → FitsApart self.old h → FitsApart self.new ((step.LoadCqTail, result) ∷ h) }
     {
         Answer::Tail(self.cq.load_tail())
     }
@@ -273,7 +270,7 @@ impl Core {
     /// The application copies the next completion.
     fn reap(&mut self) -> Answer
         ensures shape { self.new.shape ≡ self.old.shape }
-        ensures fits { (h : History) → FitsApart self.old h → FitsApart self.new ((step.Reap , result) ∷ h) }
+        ensures fits { (h : History) → FitsApart self.old h → FitsApart self.new ((step.Reap, result) ∷ h) }
     {
         tell_reap(self.cq.reap())
     }
@@ -281,7 +278,7 @@ impl Core {
     /// The application stores the completion ring's head.
     fn store_cq_head(&mut self) -> Answer
         ensures shape { self.new.shape ≡ self.old.shape }
-        ensures fits { (h : History) → FitsApart self.old h → FitsApart self.new ((step.StoreCqHead , result) ∷ h) }
+        ensures fits { (h : History) → FitsApart self.old h → FitsApart self.new ((step.StoreCqHead, result) ∷ h) }
     {
         Answer::Head(self.cq.store_head())
     }
@@ -289,7 +286,7 @@ impl Core {
     /// The dispatcher closes the ring.
     fn close(&mut self) -> Answer
         ensures shape { self.new.shape ≡ self.old.shape }
-        ensures fits { (h : History) → FitsApart self.old h → FitsApart self.new ((step.Close , result) ∷ h) }
+        ensures fits { (h : History) → FitsApart self.old h → FitsApart self.new ((step.Close, result) ∷ h) }
     {
         if self.sq.in_call() {
             return Answer::InCall;
@@ -301,7 +298,7 @@ impl Core {
     /// The dispatcher asks for the least request that can be issued.
     fn next(&mut self) -> Answer
         ensures shape { self.new.shape ≡ self.old.shape }
-        ensures fits { (h : History) → FitsApart self.old h → FitsApart self.new ((step.Next , result) ∷ h) }
+        ensures fits { (h : History) → FitsApart self.old h → FitsApart self.new ((step.Next, result) ∷ h) }
     {
         tell_next(self.dispatch.next())
     }

@@ -8,9 +8,9 @@ mod cores;
 mod counts;
 pub mod laws;
 mod machine;
+mod posting;
 mod runs;
 mod steps;
-mod posting;
 
 pub use answers::Answer;
 pub use cores::Core;
@@ -18,3 +18,6 @@ pub use counts::Counts;
 pub use machine::Machine;
 pub use runs::run;
 pub use steps::Step;
+
+#[cfg(test)]
+mod tests;

@@ -8,16 +8,14 @@ ghost use Rattle.uring_machine.specs.Histories.{History, world};
 ghost use Rattle.uring_machine.specs.Settling.{HasSettled, IsSettled};
 ghost use Rattle.uring_machine.specs.declared.steps.Step.TheVariants as step;
 
-use std::alloc::{AllocError, Global};
-use std::marker::Model;
-
-use uring_entry::{Cqe, Op, Setup};
-use uring_files::{FileState, Files};
-
 use crate::answers::Answer;
 use crate::cores::Core;
 use crate::counts::Counts;
 use crate::steps::Step;
+use std::alloc::{AllocError, Global};
+use std::marker::Model;
+use uring_entry::{Cqe, Op, Setup};
+use uring_files::{FileState, Files};
 
 /// A pair of rings, its requests and files in memory, moved one step at a time.
 ///
@@ -60,7 +58,7 @@ impl Machine {
     /// Only `Begin` and a `Finish` of a write ask for memory. Where it is refused, `Begin` is answered `Again`, and nothing is consumed; the write ends with -12 (ENOMEM).
     pub fn step(&mut self, step: Step) -> Answer
         ensures shape { self.new.core.shape ≡ self.old.core.shape }
-        ensures fits { (h : History) → Fits self.old h → Fits self.new ((step , result) ∷ h) }
+        ensures fits { (h : History) → Fits self.old h → Fits self.new ((step, result) ∷ h) }
         ensures called { (h : History) → Fits self.old h → CalledFor self.old.core.shape (world self.old.core.shape h) step result }
     {
         match step {
@@ -126,7 +124,9 @@ impl Machine {
         ensures steps { result ≤ 2 }
         ensures settled { (h : History) → Fits self.old h → HasSettled self.old self.new h result 1 }
     {
-        let Some(least) = self.core.least() else { unreachable!() };
+        let Some(least) = self.core.least() else {
+            unreachable!()
+        };
         match self.step(Step::Next) {
             Answer::Next(number) => match self.step(Step::Issue { number }) {
                 Answer::Run => {
@@ -145,7 +145,7 @@ impl Machine {
     /// Carries out the operation of a running request on the files, and ends the request with what that gave.
     fn finish(&mut self, number: u64) -> Answer
         ensures shape { self.new.core.shape ≡ self.old.core.shape }
-        ensures fits { (h : History) → Fits self.old h → Fits self.new ((step.Finish number , result) ∷ h) }
+        ensures fits { (h : History) → Fits self.old h → Fits self.new ((step.Finish number, result) ∷ h) }
     {
         match self.core.running_op(number) {
             Some(op) => {

@@ -2,11 +2,10 @@ ghost use Rattle.std.specs.Prelude.{◌≡◌, length, IfOk, OnErr};
 ghost use Rattle.uring_machine.specs.Histories.{History, followed};
 ghost use Rattle.uring_machine.specs.Machine.{Fits};
 
-use std::alloc::{AllocError, Global};
-
 use crate::answers::Answer;
 use crate::machine::Machine;
 use crate::steps::Step;
+use std::alloc::{AllocError, Global};
 
 /// Makes these steps in order, and gives their answers. Room for all answers is asked for first: at `AllocError` no step was made.
 pub fn run(alloc: Global, machine: &mut Machine, steps: &[Step]) -> Result<Vec<Answer>, AllocError>

@@ -29,6 +29,6 @@ pub returns-in_default-step-clause-settled : goal.returns-in_default-step-clause
 returns-in_default-step-clause-settled c = λ h fits.
     let asked = c.step.ensures.fits h fits in
     let least : (k : History) → Fits c.args.self.now k → Some c.in-Some.least ≡ least_of (world c.args.self.now.core.shape k).requests =
-        rw (← c.self.view_is) (λ k f. sym c.in-Some.is ∙ c.least.ensures k f.core) in
+    rw (← c.self.view_is) (λ k f. sym c.in-Some.is ∙ c.least.ensures k f.core) in
     settled_finish c.args.self.now c.step.new.self c.finish-in_default-step.new.self c.in-Some.least c.step.result c.finish-in_default-step.result h c.step.ensures.shape c.finish-in_default-step.ensures.shape
     c.in_default-step.not-Next fits (least h fits) asked (c.finish-in_default-step.ensures.fits h (next_fits c.step.new.self c.step.result h asked))
