@@ -9,7 +9,7 @@ use Rattle.uring_entry.specs.Shape.{Shape}
 use Rattle.uring_machine.specs.Machine.{Holding}
 use Rattle.uring_cli.specs.Sessions.{Holds}
 use Rattle.uring_cli.specs.Traces.{Traces, Writes, ReadsAll, WritesText, IsWhole, IsBeginning, IsCutShort}
-use Rattle.uring_cli.proofs.Sessions.{held_beginning}
+use Rattle.uring_cli.proofs.Sessions.{held_beginning, held_ended}
 
 abbrev Answer : Type 0
 Answer = Result (Unit {0}) TraceFault
@@ -107,3 +107,18 @@ goes_on shape answer a r r' d w w' m m' kept kept' is_long is_long' more none ne
 -- a read that was interrupted
 pub tried_again : (shape : Shape) (a r r' d w : Known) (m : Holding) (kept : List ℕ) (is_long : Bool) → So shape a r d w m kept is_long → Keeps r r' → So shape a r' d w m kept is_long
 tried_again shape a r r' d w m kept is_long so h = (so.0, so.1, Consumes-kept a r r' so.0 so.2 h, so.3, so.4)
+
+-- nothing read yet
+pub at_start : (shape : Shape) (a d : Known) (m : Holding) (kept : List ℕ) (is_long : Bool) → Holds shape m kept is_long [] [] → So shape a a d d m kept is_long
+at_start shape a d m kept is_long h = ([], [], Consumes-nil a, Appends-nil d, h)
+
+-- a read that failed
+pub read_failed : (shape : Shape) (a r r' d w : Known) (m : Holding) (kept : List ℕ) (is_long : Bool) → So shape a r d w m kept is_long → Keeps r r' → Traces shape (Err fault.Read) a r' d w
+read_failed shape a r r' d w m kept is_long so h = record {
+  bytes = so.0;
+  text = so.1;
+  consumed = Consumes-kept a r r' so.0 so.2 h;
+  appended = so.3;
+  written = held_ended shape m kept is_long so.0 so.1 so.4;
+  whole = tt;
+}
