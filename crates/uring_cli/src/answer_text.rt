@@ -1,12 +1,22 @@
 //! The text of an answer.
 
-use std::alloc::AllocError;
+ghost use Rattle.std.specs.Prelude.{◌≡◌, ◌++◌, OnOk, string_bytes};
+ghost use Rattle.uring_cli.specs.Words.{hex_or_dash};
+ghost use Rattle.uring_cli.specs.Text.{text_of, completion_text, trimmed};
+
+use std::alloc::{AllocError, Global};
 use std::fmt::Write;
 use uring_entry::Cqe;
 use uring_machine::Answer;
 
 /// Appends the text of an answer, without the end of its line.
-pub(crate) fn push_answer(text: &mut String, answer: &Answer) -> Result<(), AllocError> {
+pub(crate) fn push_answer(
+    alloc: Global,
+    text: &mut String,
+    answer: &Answer,
+) -> Result<(), AllocError>
+    ensures { OnOk result (string_bytes text.new ≡ string_bytes text.old ++ text_of answer.now) }
+{
     match answer {
         Answer::Filled | Answer::Staged | Answer::Shut => text.push_str("ok"),
         Answer::NoSlot => text.push_str("no slot"),
@@ -39,37 +49,41 @@ pub(crate) fn push_answer(text: &mut String, answer: &Answer) -> Result<(), Allo
         Answer::Unknown => text.push_str("unknown"),
         Answer::NotRunning => text.push_str("not running"),
         Answer::Moved(count) => write!(text, "moved {count}"),
-        Answer::Reaped(completion) => push_completion(text, completion),
+        Answer::Reaped(completion) => push_completion(alloc, text, completion),
         Answer::Nothing => text.push_str("none"),
         Answer::Next(number) => write!(text, "next {number}"),
     }
 }
 
 /// Appends a completion: its user data, its result and its data.
-fn push_completion(text: &mut String, completion: &Cqe) -> Result<(), AllocError> {
+fn push_completion(alloc: Global, text: &mut String, completion: &Cqe) -> Result<(), AllocError>
+    ensures { OnOk result (string_bytes text.new ≡ string_bytes text.old ++ completion_text completion.now) }
+{
     let user_data = completion.user_data();
     let res = completion.res();
     write!(text, "cqe {user_data} {res} ")?;
     let payload = completion.payload();
-    push_data(text, without_zeros(&payload))
+    push_data(alloc, text, without_zeros(&payload))
 }
 
 /// Appends bytes as two lower case hexadecimal digits each, or `-` for none.
-fn push_data(text: &mut String, bytes: &[u8]) -> Result<(), AllocError> {
+fn push_data(alloc: Global, text: &mut String, bytes: &[u8]) -> Result<(), AllocError>
+    ensures { OnOk result (string_bytes text.new ≡ string_bytes text.old ++ hex_or_dash bytes.now) }
+{
     if bytes.is_empty() {
-        return text.push('-');
+        return text.push_str("-");
     }
-    for byte in bytes {
-        write!(text, "{byte:02x}")?;
-    }
-    Ok(())
+    let digits = hex::encode(alloc, bytes)?;
+    text.push_str(digits.as_str())
 }
 
 /// The bytes without the zeros at their end.
-fn without_zeros(bytes: &[u8]) -> &[u8] {
-    let mut bytes = bytes;
-    while let [front @ .., 0] = bytes {
-        bytes = front;
+fn without_zeros(bytes: &[u8]) -> &[u8]
+    ensures { result.now ≡ trimmed bytes.now }
+{
+    let mut used = bytes.len();
+    while used > 0 && bytes[used - 1] == 0 {
+        used -= 1;
     }
-    bytes
+    &bytes[..used]
 }

@@ -1,5 +1,9 @@
 //! The run of a trace over two streams.
 
+ghost use Rattle.std.specs.Prelude.{◌≡◌, ◌≤◌, ◌++◌, ℕ, List, [], length, take, IfOk, IfErr};
+ghost use Rattle.std.specs.Io.KnownBytes.{Appends};
+ghost use Rattle.uring_cli.specs.Traces.{Traces, WritesText};
+
 use crate::session::Session;
 use crate::trace_fault::TraceFault;
 use std::alloc::Global;
@@ -19,19 +23,22 @@ pub fn trace<R: Read, W: Write>(
     reader: &mut R,
     writer: &mut W,
     setup: &Setup,
-) -> Result<(), TraceFault> {
+) -> Result<(), TraceFault>
+    ensures { Traces setup.now result (R.remaining reader.old) (R.remaining reader.new) (W.contents writer.old) (W.contents writer.new) }
+{
     let mut session = Session::new(alloc, setup)?;
-    let mut text = String::new(alloc);
     let mut chunk = [0; CHUNK];
     for _ in 0..u64::MAX {
         match reader.read(&mut chunk) {
             Ok(0) => {
+                let mut text = String::new(alloc);
                 session.finish(&mut text)?;
-                return write_text(writer, &mut text);
+                return write_all(writer, text.as_bytes());
             }
             Ok(count) => {
+                let mut text = String::new(alloc);
                 session.feed(&chunk[..count], &mut text)?;
-                write_text(writer, &mut text)?;
+                write_all(writer, text.as_bytes())?;
             }
             Err(error) => {
                 if error.kind() != ErrorKind::Interrupted {
@@ -43,29 +50,36 @@ pub fn trace<R: Read, W: Write>(
     Err(TraceFault::Read)
 }
 
-/// Writes the text, and empties it.
-fn write_text<W: Write>(writer: &mut W, text: &mut String) -> Result<(), TraceFault> {
-    write_all(writer, text.as_bytes())?;
-    text.clear();
-    Ok(())
-}
-
 /// Writes all these bytes.
-fn write_all<W: Write>(writer: &mut W, bytes: &[u8]) -> Result<(), TraceFault> {
+fn write_all<W: Write>(writer: &mut W, bytes: &[u8]) -> Result<(), TraceFault>
+    ensures { (written : List ℕ) × Appends (W.contents writer.old) (W.contents writer.new) written × WritesText result bytes.now written }
+{
     let mut rest = bytes;
     for _ in 0..u64::MAX {
         if rest.is_empty() {
             return Ok(());
         }
-        match writer.write(rest) {
-            Ok(0) => return Err(TraceFault::Write),
-            Ok(count) => rest = &rest[count..],
-            Err(error) => {
-                if error.kind() != ErrorKind::Interrupted {
-                    return Err(TraceFault::Write);
-                }
+        let count = write_some(writer, rest)?;
+        rest = rest.split_at(count).1;
+    }
+    Err(TraceFault::Write)
+}
+
+/// Writes some of these bytes, and answers how many: none where the write was interrupted.
+fn write_some<W: Write>(writer: &mut W, bytes: &[u8]) -> Result<usize, TraceFault>
+    ensures bound { IfOk result (λ count. count ≤ length bytes.now) }
+    ensures ok { IfOk result (λ count. Appends (W.contents writer.old) (W.contents writer.new) (take count bytes.now)) }
+    ensures err { IfErr result (λ e. (e ≡ TraceFault.Write) × Appends (W.contents writer.old) (W.contents writer.new) []) }
+{
+    match writer.write(bytes) {
+        Ok(0) => Err(TraceFault::Write),
+        Ok(count) => Ok(count),
+        Err(error) => {
+            if error.kind() == ErrorKind::Interrupted {
+                Ok(0)
+            } else {
+                Err(TraceFault::Write)
             }
         }
     }
-    Err(TraceFault::Write)
 }

@@ -1,5 +1,10 @@
-use Rattle.std.proofs.Common.{length}
+use Rattle.std.proofs.Common.{◌≡◌, ◌≤◌, length, take}
+use Rattle.uring_cli.specs.Text.{trimmed}
 use Rattle.uring_cli.proofs.answer_text.without_zeros.Given as goal
 
-abbrev pub decreases-loop-bytes : goal.decreases-loop-bytes
-decreases-loop-bytes l = length l.bytes
+-- what is cut off doesn't count
+abbrev pub invariant-loop-used : goal.invariant-loop-used
+invariant-loop-used l = (l.used ≤ length l.bytes) × (trimmed (take l.used l.bytes) ≡ trimmed l.bytes)
+
+abbrev pub decreases-loop-used : goal.decreases-loop-used
+decreases-loop-used l = l.used
