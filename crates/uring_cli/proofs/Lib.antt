@@ -9,3 +9,4 @@ pub mod Sessions
 pub mod Traces
 pub mod HexLaws
 pub mod FormLaws
+pub mod CommandLine

@@ -5,3 +5,4 @@ pub mod Text
 pub mod Exchanges
 pub mod Sessions
 pub mod Traces
+pub mod CommandLine

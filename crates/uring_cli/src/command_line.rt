@@ -1,5 +1,12 @@
 //! The command line.
 
+ghost use Rattle.std.specs.Prelude.{◌≡◌, IfOk, IfErr, false, map};
+ghost use Rattle.clap.specs.Words.{app_of, rule_of, subcommand_of};
+ghost use Rattle.clap.specs.declared.builder.command.Command.TheViews.{out-Command};
+ghost use Rattle.clap.specs.Walk.{rows_of};
+ghost use Rattle.clap.specs.Matches.{found_of};
+ghost use Rattle.uring_cli.specs.CommandLine.{option_rule, trace_app, uring, trace_rows, given, IsTraceOver, IsRefusedOver, IsWords, AskedBy, RefusedBy};
+
 use crate::option_kinds::{Options, OptionsFault};
 use clap::builder::ValueParser;
 use clap::error::ErrorKind;
@@ -50,19 +57,28 @@ and RAW 128 bytes, in lower case hexadecimal.";
 /// Reads a command line, whose first word is the program's name.
 ///
 /// `Small` comes where the numbers give a completion ring that is smaller after rounding than the submission ring, and `Words` for any other fault of the command line, for a call for help, and where memory is refused. Numbers may have a leading `+` or leading zeros.
-pub fn options<'a>(alloc: Global, args: &'a [&'a str]) -> Result<Options, OptionsFault> {
+pub fn options<'a>(alloc: Global, args: &'a [&'a str]) -> Result<Options, OptionsFault>
+    ensures ok { IfOk result (AskedBy (trace_rows (subcommand_of uring (map (λ word. word.now) args.now)))) }
+    ensures err { IfErr result (RefusedBy (trace_rows (subcommand_of uring (map (λ word. word.now) args.now)))) }
+{
     let mut command = uring_command(alloc)?;
     let matches = command.try_get_matches_from_mut(args)?;
     match matches.subcommand_matches("trace") {
-        Some(matches) => {
-            let sq = given_number(matches, "sq", &mut command)?;
-            let cq = given_number(matches, "cq", &mut command)?;
-            let files = given_number(matches, "files", &mut command)?;
-            let start = given_number(matches, "start", &mut command)?;
-            trace_over(sq, cq, files, start, &mut command)
-        }
+        Some(matches) => trace_of(matches, &mut command),
         None => trace_over(None, None, None, None, &mut command),
     }
+}
+
+/// A trace over the set-up that the options of `uring trace` give.
+fn trace_of(matches: &ArgMatches<'_>, command: &mut Command<'_>) -> Result<Options, OptionsFault>
+    ensures ok { IfOk result (AskedBy (rows_of (found_of matches.now))) }
+    ensures err { IfErr result (RefusedBy (rows_of (found_of matches.now))) }
+{
+    let sq = given_number(matches, "sq", command)?;
+    let cq = given_number(matches, "cq", command)?;
+    let files = given_number(matches, "files", command)?;
+    let start = given_number(matches, "start", command)?;
+    trace_over(sq, cq, files, start, command)
 }
 
 /// A trace over the set-up of these numbers, and of the defaults for those that are absent.
@@ -72,7 +88,10 @@ fn trace_over(
     files: Option<u32>,
     start: Option<u32>,
     command: &mut Command<'_>,
-) -> Result<Options, OptionsFault> {
+) -> Result<Options, OptionsFault>
+    ensures ok { IfOk result (IsTraceOver sq cq files start) }
+    ensures err { IfErr result (IsRefusedOver sq cq) }
+{
     let sq = sq.unwrap_or(DEFAULT_SQ);
     let files = files.unwrap_or(DEFAULT_FILES);
     let start = start.unwrap_or(DEFAULT_START);
@@ -89,7 +108,10 @@ fn given_number(
     matches: &ArgMatches<'_>,
     id: &str,
     command: &mut Command<'_>,
-) -> Result<Option<u32>, OptionsFault> {
+) -> Result<Option<u32>, OptionsFault>
+    ensures ok { IfOk result (λ number. number ≡ given (rows_of (found_of matches.now)) id.now) }
+    ensures err { IfErr result IsWords }
+{
     match matches.try_get_one::<u32>(id) {
         Ok(number) => Ok(number),
         Err(_) => Err(refused("a number has up to 32 bits", command)),
@@ -97,7 +119,9 @@ fn given_number(
 }
 
 /// The fault of a number that is out of its range.
-fn refused(message: &str, command: &mut Command<'_>) -> OptionsFault {
+fn refused(message: &str, command: &mut Command<'_>) -> OptionsFault
+    ensures { IsWords result }
+{
     match command.error(ErrorKind::ValueValidation, message) {
         Ok(error) => OptionsFault::Words(error),
         Err(error) => OptionsFault::from(error),
@@ -105,7 +129,10 @@ fn refused(message: &str, command: &mut Command<'_>) -> OptionsFault {
 }
 
 /// The program's command line.
-fn uring_command<'a>(alloc: Global) -> Result<Command<'a>, AllocError> {
+fn uring_command<'a>(alloc: Global) -> Result<Command<'a>, AllocError>
+    ensures app { IfOk result (λ command. app_of command ≡ uring) }
+    ensures local { IfOk result (λ command. (out-Command command).has_globals ≡ false) }
+{
     Command::new(alloc, "uring")
         .about("The rings of io_uring, step by step")
         .long_about(
@@ -115,7 +142,10 @@ fn uring_command<'a>(alloc: Global) -> Result<Command<'a>, AllocError> {
 }
 
 /// The command line of `uring trace`.
-fn trace_command<'a>(alloc: Global) -> Result<Command<'a>, AllocError> {
+fn trace_command<'a>(alloc: Global) -> Result<Command<'a>, AllocError>
+    ensures app { IfOk result (λ command. app_of command ≡ trace_app) }
+    ensures local { IfOk result (λ command. (out-Command command).has_globals ≡ false) }
+{
     let sq = number_option(
         alloc,
         "sq",
@@ -150,12 +180,10 @@ fn trace_command<'a>(alloc: Global) -> Result<Command<'a>, AllocError> {
 }
 
 /// An option that takes a number.
-fn number_option<'a>(
-    alloc: Global,
-    id: &'a str,
-    help: &'a str,
-    parser: ValueParser<'a>,
-) -> Arg<'a> {
+fn number_option<'a>(alloc: Global, id: &'a str, help: &'a str, parser: ValueParser<'a>) -> Arg<'a>
+    ensures rule { rule_of result ≡ option_rule id.now parser.entry }
+    ensures local { result.global ≡ false }
+{
     Arg::new(alloc, id)
         .long(id)
         .value_name("N")

@@ -35,6 +35,10 @@ impl From<clap::Error> for OptionsFault {
 }
 
 impl From<AllocError> for OptionsFault {
+    ghost use Rattle.uring_cli.specs.CommandLine.{IsWords};
+
+    ghost from_gives = { λ _ fault. IsWords fault };
+
     fn from(error: AllocError) -> OptionsFault {
         OptionsFault::Words(clap::Error::from(error))
     }
