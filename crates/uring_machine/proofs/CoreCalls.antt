@@ -1,34 +1,22 @@
 -- What a core shows as a submission call opens, takes a position, and closes.
-use Rattle.std.proofs.Common.{◌≡◌, ℕ, ◌+◌, ◌-◌, ◌^◌, ◌<◌, ◌≤◌, min, Bool, true, false, cond, eqb, nat_lt, List, [], ◌∷◌, ◌++◌, length, take, drop, Option, Some, None, is_some, slice_get, refl, sym, ap, subst, ◌∙◌, arith, inl, inr, IfSome}
+use Rattle.std.proofs.Common.{◌≡◌, ℕ, ◌+◌, ◌-◌, ◌^◌, ◌<◌, ◌≤◌, min, Bool, true, false, cond, nat_lt, ◌∷◌, length, Option, Some, None, is_some, refl, sym, ap, subst, ◌∙◌, arith, inl, inr}
 use Rattle.std.specs.Prelude.{Result, Ok, Err, is_err, OnOk}
-use Rattle.std.specs.Option.{option_and_then}
-use Rattle.std.proofs.lemmas.Bool.{cases_lt, cases_Bool, eqb-true, eqb-false, eq-eqb, ltb-true, lt-ltb, le-ltb}
-use Rattle.std.proofs.lemmas.List.Elements.{filter_map-append}
-use Rattle.std.proofs.lemmas.List.Sums.{sum_by-append}
-use Rattle.std.proofs.lemmas.Grind.{common_steps}
+use Rattle.std.proofs.lemmas.Bool.{cases_lt, lt-ltb, le-ltb}
 use Rattle.uring_entry.specs.Shape.{Shape}
-use Rattle.uring_entry.specs.Words.{word_of}
-use Rattle.uring_entry.specs.Layout.{Entry}
-use Rattle.uring_entry.specs.Submission.{Submission, Call, Place, taken, pending, call_length, entries_of, places_from, dropped, begun, took, closed}
-use Rattle.uring_entry.specs.Requests.{Requests, with_call}
+use Rattle.uring_entry.specs.Submission.{Submission, Call, pending, call_length, begun}
+use Rattle.uring_entry.specs.Requests.{Requests}
 use Rattle.uring_entry.specs.Completions.{Completions}
 use Rattle.uring_rings.specs.SubmissionRing.{SubmissionQueue, ShowsSubmission}
 use Rattle.uring_rings.specs.SubmissionAnswers as ring
 use Rattle.uring_rings.specs.CompletionRing.{CompletionQueue, ShowsCompletions}
 use Rattle.uring_rings.specs.declared.answers.BeginAnswer.{BeginAnswer}
 use Rattle.uring_rings.specs.declared.answers.BeginAnswer.TheVariants as begin
-use Rattle.uring_rings.specs.declared.answers.TakeAnswer.{TakeAnswer}
-use Rattle.uring_rings.specs.declared.answers.TakeAnswer.TheVariants as take_told
-use Rattle.uring_rings.specs.declared.answers.EndAnswer.{EndAnswer}
-use Rattle.uring_rings.specs.declared.answers.EndAnswer.TheVariants as end_told
-use Rattle.uring_rings.specs.declared.answers.Taken.{Taken}
-use Rattle.uring_rings.proofs.Places.{places_more, entries_and_dropped}
 use Rattle.uring_dispatch.specs.Dispatcher.{Dispatcher, Shows, IsSameCount}
-use Rattle.uring_machine.specs.World.{World, taking_of, ending_of, beginning}
-use Rattle.uring_machine.specs.Answers.{OrAgain, begin_answer, is_spent, take_answer_in, end_answer_in}
-use Rattle.uring_machine.specs.Histories.{Event, History, world}
+use Rattle.uring_machine.specs.World.{World}
+use Rattle.uring_machine.specs.Answers.{OrAgain, begin_answer}
+use Rattle.uring_machine.specs.Histories.{History, world}
 use Rattle.uring_machine.specs.Told.{begin_told}
-use Rattle.uring_machine.specs.Core.{Parts, ShowsWorld, FitsApart, held_by, positions_of}
+use Rattle.uring_machine.specs.Core.{Parts, ShowsWorld, FitsApart, held_by}
 use Rattle.uring_machine.specs.declared.steps.Step.TheVariants as step
 use Rattle.uring_machine.specs.declared.answers.Answer.{Answer}
 use Rattle.uring_machine.specs.declared.answers.Answer.TheVariants as answer

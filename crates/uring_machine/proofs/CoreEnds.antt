@@ -1,14 +1,13 @@
 -- What a core shows as a submission call closes, as a request ends, and as the ring is closed.
-use Rattle.std.proofs.Common.{◌≡◌, ℕ, ◌+◌, ◌-◌, ◌^◌, ◌<◌, ◌≤◌, ℤ, Bool, true, false, not, ◌&&◌, cond, eqb, nat_lt, if◌then◌else◌, List, [], ◌∷◌, ◌++◌, length, take, drop, sum, Option, Some, None, is_some, refl, sym, ap, subst, ◌∙◌, arith, inl, inr, IfSome}
+use Rattle.std.proofs.Common.{◌≡◌, ℕ, ◌+◌, ◌-◌, ◌^◌, ◌≤◌, ℤ, Bool, true, false, not, cond, eqb, nat_lt, if◌then◌else◌, List, [], ◌∷◌, ◌++◌, length, sum, Option, Some, None, is_some, refl, sym, ap, subst, ◌∙◌, arith, inl, inr, IfSome}
 use Rattle.std.proofs.lemmas.Bool.{cases_Bool, and_parts, and_from, eqb-true, eqb-false, lt-ltb, le-ltb}
-use Rattle.std.proofs.lemmas.List.Sums.{sum_by-append}
 use Rattle.std.proofs.lemmas.List.{length-append}
 use Rattle.std.proofs.lemmas.Grind.{common_steps}
 use Rattle.uring_entry.specs.Shape.{Shape}
 use Rattle.uring_entry.specs.Words.{word_of}
 use Rattle.uring_entry.specs.Layout.{Entry, Completion, user_data_of}
 use Rattle.uring_entry.specs.Success.{is_told}
-use Rattle.uring_entry.specs.Submission.{Submission, Call, Place, no_submission, taken, pending, entries_of, places_from, dropped, closed}
+use Rattle.uring_entry.specs.Submission.{Submission, Call, no_submission, taken, pending, entries_of, places_from, dropped, closed}
 use Rattle.uring_entry.specs.Requests.{Requests, no_request, entry_of, has_started, has_ended, is_outstanding, is_running, is_doomed, is_ready, doomed_result, cancel_result, no_bytes, with_call, with_ended, with_issued_end, with_started}
 use Rattle.uring_entry.specs.Preparation.{is_cancel, operation_of}
 use Rattle.uring_entry.specs.Completions.{Completions, no_completion, with_end, with_posted}
@@ -17,24 +16,22 @@ use Rattle.uring_entry.specs.declared.operation.Op.{Op}
 use Rattle.uring_rings.specs.SubmissionRing.{SubmissionQueue, ShowsSubmission}
 use Rattle.uring_rings.specs.SubmissionAnswers as ring
 use Rattle.uring_rings.specs.CompletionRing.{CompletionQueue, ShowsCompletions}
-use Rattle.uring_rings.specs.declared.answers.EndAnswer.{EndAnswer}
 use Rattle.uring_rings.specs.declared.answers.EndAnswer.TheVariants as ended_as
 use Rattle.uring_rings.specs.declared.answers.Taken.{Taken}
 use Rattle.uring_dispatch.specs.Dispatcher.{Dispatcher, Shows, HasStarted, HasEnded, HasFinished}
 use Rattle.uring_dispatch.specs.Answers.{issued, issued_waiting, finished, entry_outstanding}
 use Rattle.uring_dispatch.specs.declared.answers.Issued.{Issued}
 use Rattle.uring_dispatch.specs.declared.answers.Issued.TheVariants as issue
-use Rattle.uring_dispatch.specs.declared.answers.Finished.{Finished}
 use Rattle.uring_dispatch.specs.declared.answers.Finished.TheVariants as finish
 use Rattle.uring_machine.specs.World.{World, ending_of}
-use Rattle.uring_machine.specs.Answers.{end_answer_in, issue_answer, FinishesApart, close_answer}
-use Rattle.uring_machine.specs.Histories.{Event, History, world}
+use Rattle.uring_machine.specs.Answers.{end_answer_in, issue_answer, FinishesApart}
+use Rattle.uring_machine.specs.Histories.{History, world}
 use Rattle.uring_machine.specs.Core.{Parts, ShowsWorld, FitsApart, IsFinished, held_by, positions_of}
 use Rattle.uring_machine.specs.declared.steps.Step.TheVariants as step
 use Rattle.uring_machine.specs.declared.answers.Answer.{Answer}
 use Rattle.uring_machine.specs.declared.answers.Answer.TheVariants as answer
 use Rattle.uring_machine.proofs.Sound.{sound_of}
-use Rattle.uring_machine.proofs.CoreTakes.{held_accepted, held_within, some_call}
+use Rattle.uring_machine.proofs.CoreTakes.{held_within}
 
 -- End.
 

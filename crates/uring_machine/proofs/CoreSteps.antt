@@ -1,13 +1,12 @@
 -- What a core shows after a step, from what its parts show.
-use Rattle.std.proofs.Common.{◌≡◌, ℕ, ◌+◌, ◌-◌, ◌*◌, ◌^◌, ◌<◌, ◌≤◌, Bool, true, false, cond, not, List, [], ◌∷◌, ◌++◌, length, take, drop, map, Option, Some, None, is_some, slice_get, refl, sym, ap, subst, ◌∙◌, arith, inl, inr, IfSome}
-use Rattle.std.proofs.lemmas.Bool.{cases_lt, cases_Bool, lt-ltb, le-ltb, lt-leb, le-leb}
+use Rattle.std.proofs.Common.{◌≡◌, ℕ, ◌+◌, ◌-◌, ◌^◌, ◌≤◌, Bool, true, false, cond, List, ◌∷◌, ◌++◌, length, take, drop, Option, Some, None, refl, sym, ap, subst, ◌∙◌, arith, inl, inr, IfSome}
+use Rattle.std.proofs.lemmas.Bool.{cases_lt, lt-ltb, le-ltb, lt-leb, le-leb}
 use Rattle.std.proofs.lemmas.Grind.{common_steps}
-use Rattle.std.proofs.lemmas.List.{take-append-le, drop-append-le}
 use Rattle.uring_entry.specs.Shape.{Shape, IsShape}
 use Rattle.uring_entry.specs.Words.{word_of}
 use Rattle.uring_entry.specs.Layout.{Entry, Completion}
-use Rattle.uring_entry.specs.Submission.{Submission, Call, Place, staged, taken, pending, is_busy, entries_of, places_from, filled, indexed, stored, loaded}
-use Rattle.uring_entry.specs.Completions.{Completions, put_by_flush, next_to_reap, flushed, with_tail_loaded, with_reaped, with_head_stored}
+use Rattle.uring_entry.specs.Submission.{Submission, Call, Place, staged, taken, pending, is_busy, entries_of, filled, indexed, stored, loaded}
+use Rattle.uring_entry.specs.Completions.{Completions, next_to_reap, flushed, with_tail_loaded, with_reaped, with_head_stored}
 use Rattle.uring_rings.specs.SubmissionRing.{SubmissionQueue, ShowsSubmission}
 use Rattle.uring_rings.specs.SubmissionAnswers as ring
 use Rattle.uring_rings.specs.CompletionRing.{CompletionQueue, ShowsCompletions, after_reap}
@@ -15,14 +14,12 @@ use Rattle.uring_rings.specs.declared.answers.FillAnswer.{FillAnswer}
 use Rattle.uring_rings.specs.declared.answers.FillAnswer.TheVariants as fill
 use Rattle.uring_rings.specs.declared.answers.IndexAnswer.{IndexAnswer}
 use Rattle.uring_rings.specs.declared.answers.IndexAnswer.TheVariants as index
-use Rattle.uring_machine.specs.World.{World, happens, filling, staging, reaping}
-use Rattle.uring_machine.specs.Answers.{CalledForApart, fill_answer, index_answer, reap_answer_of}
-use Rattle.uring_machine.specs.Histories.{Event, History, world, IsLawfulApart}
+use Rattle.uring_machine.specs.World.{World, filling, staging, reaping}
+use Rattle.uring_machine.specs.Answers.{fill_answer, reap_answer_of}
+use Rattle.uring_machine.specs.Histories.{Event, History, world}
 use Rattle.uring_machine.specs.Told.{fill_told, index_told}
 use Rattle.uring_machine.specs.Core.{Parts, ShowsWorld, FitsApart, IsCore, held_by, positions_of}
-use Rattle.uring_machine.specs.declared.steps.Step.{Step}
 use Rattle.uring_machine.specs.declared.steps.Step.TheVariants as step
-use Rattle.uring_machine.specs.declared.answers.Answer.{Answer}
 use Rattle.uring_machine.specs.declared.answers.Answer.TheVariants as answer
 
 -- a core that fits one event more is a core

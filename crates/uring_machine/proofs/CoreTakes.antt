@@ -1,27 +1,20 @@
 -- What a core shows as a submission call takes a position, and as it closes.
 use Rattle.std.specs.Option.{option_and_then}
-use Rattle.std.proofs.Common.{◌≡◌, ℕ, zero, suc, ◌+◌, ◌-◌, ◌^◌, ◌<◌, ◌≤◌, Bool, true, false, cond, eqb, nat_lt, List, [], ◌∷◌, ◌++◌, length, take, drop, Option, Some, None, slice_get, refl, sym, ap, subst, ◌∙◌, arith, inl, inr, IfSome}
-use Rattle.std.proofs.lemmas.Bool.{cases_lt, cases_Bool, eqb-true, eqb-false, eq-eqb, ltb-true, lt-ltb, le-ltb}
+use Rattle.std.proofs.Common.{◌≡◌, ℕ, zero, suc, ◌+◌, ◌-◌, ◌^◌, ◌<◌, ◌≤◌, false, cond, eqb, List, [], ◌∷◌, ◌++◌, length, take, drop, Option, Some, None, slice_get, refl, sym, ap, subst, ◌∙◌, arith, inl, inr, IfSome}
+use Rattle.std.proofs.lemmas.Bool.{cases_Bool, eqb-false}
 use Rattle.std.proofs.lemmas.List.Elements.{filter_map-append}
-use Rattle.std.proofs.lemmas.List.Sums.{sum_by-append}
 use Rattle.std.proofs.lemmas.Grind.{common_steps}
 use Rattle.uring_entry.specs.Shape.{Shape}
-use Rattle.uring_entry.specs.Words.{word_of}
 use Rattle.uring_entry.specs.Layout.{Entry}
-use Rattle.uring_entry.specs.Submission.{Submission, Call, Place, taken, pending, staged, entries_of, places_from, dropped, took, closed}
-use Rattle.uring_entry.specs.Requests.{Requests, with_call}
+use Rattle.uring_entry.specs.Submission.{Submission, Call, Place, taken, pending, staged, entries_of, took}
 use Rattle.uring_rings.specs.SubmissionRing.{SubmissionQueue, ShowsSubmission}
 use Rattle.uring_rings.specs.SubmissionAnswers as ring
 use Rattle.uring_rings.specs.declared.answers.TakeAnswer.{TakeAnswer}
 use Rattle.uring_rings.specs.declared.answers.TakeAnswer.TheVariants as took_as
-use Rattle.uring_rings.specs.declared.answers.EndAnswer.{EndAnswer}
-use Rattle.uring_rings.specs.declared.answers.EndAnswer.TheVariants as ended_as
-use Rattle.uring_rings.specs.declared.answers.Taken.{Taken}
 use Rattle.uring_rings.proofs.Places.{places_more, entries_and_dropped}
-use Rattle.uring_dispatch.specs.Dispatcher.{Dispatcher, Shows}
-use Rattle.uring_machine.specs.World.{World, taking_of, ending_of}
-use Rattle.uring_machine.specs.Answers.{take_answer_in, end_answer_in}
-use Rattle.uring_machine.specs.Histories.{Event, History, world}
+use Rattle.uring_machine.specs.World.{World, taking_of}
+use Rattle.uring_machine.specs.Answers.{take_answer_in}
+use Rattle.uring_machine.specs.Histories.{History, world}
 use Rattle.uring_machine.specs.Core.{Parts, ShowsWorld, FitsApart, held_by, positions_of}
 use Rattle.uring_machine.specs.declared.steps.Step.TheVariants as step
 use Rattle.uring_machine.specs.declared.answers.Answer.{Answer}

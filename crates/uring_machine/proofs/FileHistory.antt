@@ -1,5 +1,5 @@
 -- What an event makes of the files of a history.
-use Rattle.std.proofs.Common.{◌≡◌, ℕ, ℤ, negsuc, ◌==◌, List, [], ◌∷◌, ◌++◌, length, Bool, true, false, if◌then◌else◌, refl, sym, subst, ◌∙◌, ap, arith}
+use Rattle.std.proofs.Common.{◌≡◌, ℕ, ℤ, negsuc, ◌==◌, List, [], ◌∷◌, ◌++◌, Bool, true, false, if◌then◌else◌, refl, ◌∙◌, ap}
 use Rattle.std.specs.List.{list_any}
 use Rattle.std.proofs.lemmas.Bool.{or_left, or_right, eqb-true, eq-eqb}
 use Rattle.uring_entry.specs.Shape.{Shape}
@@ -7,7 +7,6 @@ use Rattle.uring_entry.specs.Layout.{Entry, opcode_of, addr_of}
 use Rattle.uring_entry.specs.Preparation.{is_faulty, is_cancel, operation_of}
 use Rattle.uring_entry.specs.Requests.{Requests, Ending, entry_of, doomed_result, cancel_result, no_bytes, with_call, with_started, with_ended, with_issued_end}
 use Rattle.uring_entry.specs.declared.opcode.TheConstants.{NOP, FSYNC, ASYNC_CANCEL}
-use Rattle.uring_entry.specs.declared.errno.TheConstants.{EINVAL, ECANCELED}
 use Rattle.uring_entry.specs.declared.operation.Op.{Op}
 use Rattle.uring_entry.specs.declared.operation.Op.TheVariants.{Nop, Read, Write, Fsync, Cancel}
 use Rattle.uring_files.specs.Contents.{FileContents}

@@ -1,5 +1,5 @@
 -- That a machine fits a history with one more event.
-use Rattle.std.proofs.Common.{◌≡◌, ℕ, ℤ, List, [], ◌∷◌, Bool, true, false, Option, Some, None, if◌then◌else◌, refl, sym, subst, ◌∙◌, ap}
+use Rattle.std.proofs.Common.{◌≡◌, ℕ, List, ◌∷◌, Bool, true, false, Some, None, if◌then◌else◌, refl, sym, subst, ◌∙◌, ap}
 use Rattle.uring_entry.specs.Shape.{Shape}
 use Rattle.uring_entry.specs.Preparation.{operation_of}
 use Rattle.uring_entry.specs.Requests.{Requests, entry_of, is_running}
@@ -12,8 +12,8 @@ use Rattle.uring_machine.specs.World.{World}
 use Rattle.uring_machine.specs.Answers.{CalledForApart, FinishesApart}
 use Rattle.uring_machine.specs.Contents.{CalledFor, IsLawful, EndsOn, files_of}
 use Rattle.uring_machine.specs.Core.{Parts, FitsApart, IsNoFinish, IsFinished}
-use Rattle.uring_machine.specs.Histories.{History, world, IsLawfulApart}
-use Rattle.uring_machine.specs.Machine.{Holding, Fits}
+use Rattle.uring_machine.specs.Histories.{History, world}
+use Rattle.uring_machine.specs.Machine.{Fits}
 use Rattle.uring_machine.specs.declared.steps.Step.{Step}
 use Rattle.uring_machine.specs.declared.steps.Step.TheVariants as step
 use Rattle.uring_machine.specs.declared.answers.Answer.{Answer}

@@ -1,5 +1,5 @@
 -- What an event makes of the requests, each with what is known of it because its answer was called for.
-use Rattle.std.proofs.Common.{◌≡◌, ℕ, ℤ, Bool, true, false, not, List, cond, if◌then◌else◌, refl, sym, subst, ◌∙◌}
+use Rattle.std.proofs.Common.{◌≡◌, ℕ, ℤ, Bool, true, false, not, List, if◌then◌else◌, refl, sym, subst}
 use Rattle.uring_entry.specs.Shape.{Shape}
 use Rattle.uring_entry.specs.Layout.{Entry}
 use Rattle.uring_entry.specs.Preparation.{is_cancel}

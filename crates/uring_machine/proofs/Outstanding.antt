@@ -1,7 +1,7 @@
 -- How many requests are outstanding.
-use Rattle.std.proofs.Common.{◌≡◌, ◌≢◌, ℕ, zero, suc, ◌+◌, ◌<◌, ◌≤◌, ◌==◌, Bool, true, false, not, ◌&&◌, ltb, cond, if◌then◌else◌, ℤ, List, length, refl, sym, ◌∙◌, ap, arith, inl, inr}
-use Rattle.std.proofs.lemmas.Bool.{cases_lt, cases_eq, cases_Bool, and_parts, and_from, both_ways, ltb-true, lt-ltb, not-true, not-false, false_from_ne_true}
-use Rattle.uring_entry.specs.Requests.{Requests, has_ended, is_outstanding, with_started, with_ended, with_issued_end}
+use Rattle.std.proofs.Common.{◌≡◌, ◌≢◌, ℕ, zero, suc, ◌+◌, ◌<◌, ◌≤◌, Bool, true, false, not, ◌&&◌, ltb, cond, ℤ, List, length, refl, sym, ◌∙◌, ap, arith, inl, inr}
+use Rattle.std.proofs.lemmas.Bool.{cases_eq, cases_Bool, and_parts, ltb-true}
+use Rattle.uring_entry.specs.Requests.{Requests, has_ended, is_outstanding, with_ended}
 use Rattle.uring_entry.proofs.RequestLemmas.{has_ended-same, has_ended-other}
 use Rattle.uring_dispatch.specs.Counts.{count_below, outstanding_in}
 

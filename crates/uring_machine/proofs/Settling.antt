@@ -1,17 +1,16 @@
 -- What the steps make that settle requests.
-use Rattle.std.proofs.Common.{◌≡◌, ℕ, ◌+◌, ◌*◌, ◌-◌, ◌^◌, ◌≤◌, ℤ, Bool, true, false, not, ◌&&◌, ◌||◌, List, [], ◌∷◌, ◌++◌, length, Option, Some, None, if◌then◌else◌, refl, sym, subst, ◌∙◌, ap, arith, inl, inr, append_assoc, length-append}
-use Rattle.std.specs.List.{list_any, list_all}
-use Rattle.std.proofs.lemmas.Bool.{and_parts, and_from, or_cases, both_ways, not-true, not-false, ltb-true}
+use Rattle.std.proofs.Common.{◌≡◌, ℕ, ◌+◌, ◌-◌, ◌^◌, ◌≤◌, ℤ, Bool, true, false, not, ◌||◌, List, [], ◌∷◌, ◌++◌, length, Option, Some, None, if◌then◌else◌, refl, sym, subst, ◌∙◌, ap, arith, inl, inr, append_assoc, length-append}
+use Rattle.std.proofs.lemmas.Bool.{and_parts, and_from, or_cases, both_ways, not-true}
 use Rattle.std.proofs.lemmas.List.Folds.{list_all-append}
 use Rattle.uring_entry.specs.Shape.{Shape}
 use Rattle.uring_entry.specs.Preparation.{is_cancel}
-use Rattle.uring_entry.specs.Requests.{Requests, entry_of, has_started, has_ended, is_outstanding, is_running, is_issuable, is_doomed, is_ready, doomed_result, cancel_result, no_bytes, next_of, least_of, with_started}
+use Rattle.uring_entry.specs.Requests.{Requests, entry_of, has_ended, is_outstanding, is_running, is_issuable, is_doomed, is_ready, doomed_result, cancel_result, no_bytes, next_of, least_of}
 use Rattle.uring_entry.proofs.BelowLemmas.{least_below-tells, least_below-out}
 use Rattle.uring_entry.proofs.RequestLemmas.{least_of-goes_on, is_running-started_same}
 use Rattle.uring_dispatch.specs.Counts.{outstanding_in}
 use Rattle.uring_machine.specs.World.{World, issuing, finishing}
-use Rattle.uring_machine.specs.Answers.{IsEnded, FinishesApart, issue_answer, next_answer_of}
-use Rattle.uring_machine.specs.Histories.{History, world, IsLawfulApart}
+use Rattle.uring_machine.specs.Answers.{IsEnded, FinishesApart, next_answer_of}
+use Rattle.uring_machine.specs.Histories.{History, world}
 use Rattle.uring_files.specs.Contents.{FileContents}
 use Rattle.uring_machine.specs.Core.{Parts, FitsApart}
 use Rattle.uring_machine.specs.Machine.{Holding, Fits}

@@ -1,5 +1,5 @@
 -- The files of a history.
-use Rattle.std.specs.Prelude.{◌≡◌, ℕ, ℤ, List, [], ◌∷◌, replicate, Bool, true, false, ◌⊎◌}
+use Rattle.std.specs.Prelude.{◌≡◌, ℕ, List, [], ◌∷◌, replicate, Bool, true, false}
 use Rattle.uring_entry.specs.Shape.{Shape}
 use Rattle.uring_entry.specs.Preparation.{operation_of}
 use Rattle.uring_entry.specs.Requests.{Requests, Ending, entry_of, is_running}
@@ -7,7 +7,7 @@ use Rattle.uring_files.specs.Contents.{FileContents, empty_file}
 use Rattle.uring_files.specs.Operations.{after, IsOutcome}
 use Rattle.uring_machine.specs.World.{World}
 use Rattle.uring_machine.specs.Answers.{CalledForApart}
-use Rattle.uring_machine.specs.Histories.{Event, History, world}
+use Rattle.uring_machine.specs.Histories.{History, world}
 use Rattle.uring_machine.specs.declared.steps.Step.{Step}
 use Rattle.uring_machine.specs.declared.steps.Step.TheVariants as step
 use Rattle.uring_machine.specs.declared.answers.Answer.{Answer}

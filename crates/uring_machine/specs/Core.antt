@@ -1,5 +1,5 @@
 -- What rings and dispatcher hold, and the history that this fits.
-use Rattle.std.specs.Prelude.{◌≡◌, ℕ, ◌+◌, ◌-◌, ◌^◌, ◌≤◌, Bool, true, List, [], ◌∷◌, ◌++◌, length, Option, Some, None, if◌then◌else◌}
+use Rattle.std.specs.Prelude.{◌≡◌, ℕ, ◌+◌, ◌-◌, ◌^◌, ◌≤◌, Bool, true, List, [], length, Option, Some, None, if◌then◌else◌}
 use Rattle.uring_entry.specs.Shape.{Shape, IsShape}
 use Rattle.uring_entry.specs.Layout.{Entry}
 use Rattle.uring_entry.specs.Submission.{Submission, Call, entries_of, places_from}

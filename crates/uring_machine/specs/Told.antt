@@ -1,6 +1,4 @@
 -- What rings and dispatcher answer, as answers of the machine.
-use Rattle.std.specs.Prelude.{ℕ, Option, Some, None}
-use Rattle.uring_entry.specs.Layout.{Completion}
 use Rattle.uring_rings.specs.declared.answers.FillAnswer.{FillAnswer}
 use Rattle.uring_rings.specs.declared.answers.FillAnswer.TheVariants as fill
 use Rattle.uring_rings.specs.declared.answers.IndexAnswer.{IndexAnswer}

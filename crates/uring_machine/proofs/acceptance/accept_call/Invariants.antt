@@ -1,4 +1,4 @@
-use Rattle.std.proofs.Common.{◌≡◌, ◌+◌, ◌-◌, ◌≤◌, ◌++◌, length, take}
+use Rattle.std.proofs.Common.{◌≡◌, ◌+◌, ◌++◌, take}
 use Rattle.uring_entry.specs.Requests.{Requests}
 use Rattle.uring_dispatch.specs.Dispatcher.{Shows}
 use Rattle.uring_machine.proofs.acceptance.accept_call.Given as goal

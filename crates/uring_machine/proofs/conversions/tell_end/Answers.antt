@@ -1,7 +1,6 @@
 use Rattle.std.proofs.Common.{refl, rules}
 use Rattle.std.specs.Int.{w32}
 use Rattle.std.proofs.lemmas.Int.{to_z-of_z}
-use Rattle.uring_machine.specs.declared.answers.Answer.TheVariants as answer
 use Rattle.uring_machine.proofs.conversions.tell_end.Goals as goal
 
 pub returns : goal.returns

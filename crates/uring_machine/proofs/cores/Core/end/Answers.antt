@@ -1,11 +1,7 @@
-use Rattle.std.proofs.Common.{◌≡◌, ◌+◌, ◌≤◌, List, length, refl, sym, ap, ◌∙◌, subst}
-use Rattle.uring_entry.specs.Layout.{Entry}
-use Rattle.uring_entry.specs.Requests.{Requests, with_call}
-use Rattle.uring_dispatch.specs.Dispatcher.{Dispatcher, Shows}
-use Rattle.uring_machine.specs.Core.{Parts}
+use Rattle.std.proofs.Common.{refl}
 use Rattle.uring_machine.proofs.CoreSteps.{core_after}
 use Rattle.uring_machine.proofs.CoreTakes.{held_accepted}
-use Rattle.uring_machine.proofs.CoreEnds.{Accepts, accepts_held, end_goes, end_not_all_goes}
+use Rattle.uring_machine.proofs.CoreEnds.{accepts_held, end_goes, end_not_all_goes}
 use Rattle.uring_machine.proofs.cores.Core.end.Goals as goal
 
 pub accept_call-requires : goal.accept_call-requires

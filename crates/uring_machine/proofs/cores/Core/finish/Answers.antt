@@ -2,7 +2,7 @@ use Rattle.std.proofs.Common.{refl, sym, ◌∙◌, rules}
 use Rattle.std.specs.Int.{w32}
 use Rattle.std.proofs.lemmas.Int.{to_z-of_z}
 use Rattle.uring_machine.proofs.CoreSteps.{core_after}
-use Rattle.uring_machine.proofs.CoreEnds.{finish_goes, finish_told, finished_there}
+use Rattle.uring_machine.proofs.CoreEnds.{finish_goes, finished_there}
 use Rattle.uring_machine.proofs.cores.Core.finish.Goals as goal
 
 pub unreachable-requires : goal.unreachable-requires

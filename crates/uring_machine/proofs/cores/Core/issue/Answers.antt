@@ -2,7 +2,7 @@ use Rattle.std.proofs.Common.{refl, sym, ◌∙◌, rules}
 use Rattle.std.specs.Int.{w32}
 use Rattle.std.proofs.lemmas.Int.{to_z-of_z}
 use Rattle.uring_machine.proofs.CoreSteps.{core_after}
-use Rattle.uring_machine.proofs.CoreEnds.{run_goes, issue_ended_goes, ended_there}
+use Rattle.uring_machine.proofs.CoreEnds.{run_goes, issue_ended_goes}
 use Rattle.uring_machine.proofs.cores.Core.issue.Goals as goal
 
 pub invariant_of-self : goal.invariant_of-self

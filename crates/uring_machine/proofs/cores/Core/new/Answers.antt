@@ -1,4 +1,4 @@
-use Rattle.std.proofs.Common.{◌≤◌, refl, [], arith, vec_capacity}
+use Rattle.std.proofs.Common.{refl, [], arith}
 use Rattle.uring_machine.proofs.CoreEnds.{new_fits}
 use Rattle.uring_machine.proofs.cores.Core.new.Goals as goal
 

@@ -1,4 +1,4 @@
-use Rattle.std.proofs.Common.{◌≡◌, ◌<◌, ◌≤◌, refl, sym, arith, length, vec_len, vec_capacity}
+use Rattle.std.proofs.Common.{refl, arith}
 use Rattle.uring_machine.proofs.CoreSteps.{core_after}
 use Rattle.uring_machine.proofs.CoreTakes.{take_entry_goes, take_dropped_goes, held_has_room}
 use Rattle.uring_machine.proofs.cores.Core.take.Goals as goal
