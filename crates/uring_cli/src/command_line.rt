@@ -7,7 +7,8 @@ ghost use Rattle.clap.specs.Walk.{rows_of};
 ghost use Rattle.clap.specs.Matches.{found_of};
 ghost use Rattle.uring_cli.specs.CommandLine.{option_rule, trace_app, uring, trace_rows, given, IsTraceOver, IsRefusedOver, IsWords, AskedBy, RefusedBy};
 
-use crate::option_kinds::{Options, OptionsFault};
+use crate::option_kinds::Options;
+use crate::options_fault::OptionsFault;
 use clap::builder::ValueParser;
 use clap::error::ErrorKind;
 use clap::{Arg, ArgAction, ArgMatches, Command, value_parser};

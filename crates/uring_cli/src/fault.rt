@@ -1,6 +1,6 @@
 //! What can go wrong in a run of the program.
 
-use crate::option_kinds::OptionsFault;
+use crate::options_fault::OptionsFault;
 use crate::trace_fault::TraceFault;
 
 /// Why a run of the program didn't do what was asked.

@@ -10,6 +10,7 @@ mod hex_words;
 mod names;
 mod number_words;
 mod option_kinds;
+mod options_fault;
 mod session;
 mod step_lines;
 mod telling;

@@ -1,7 +1,7 @@
 //! What a fault of the program says, and its exit status.
 
 use crate::fault::Fault;
-use crate::option_kinds::OptionsFault;
+use crate::options_fault::OptionsFault;
 use crate::trace_fault::TraceFault;
 use clap::error::ErrorKind;
 use std::alloc::{AllocError, Global};

@@ -13,8 +13,8 @@ use Rattle.uring_entry.specs.Requests as spec
 use Rattle.uring_entry.specs.Requests.{Requests, entry_of, with_started, with_ended, with_issued_end, no_bytes, chosen_by, target_of}
 use Rattle.uring_entry.proofs.RequestLemmas.{has_ended-same, has_ended-other, is_running-ended_same, is_running-ended_other, is_running-started_same, is_running-started_other, has_failed-unended, has_failed-same, has_failed-other, added-same, added-other}
 use Rattle.uring_dispatch.specs.declared.held.Request.{Request}
-use Rattle.uring_dispatch.specs.declared.held.State.{State}
-use Rattle.uring_dispatch.specs.declared.held.State.TheVariants.{Waiting, Running, Succeeded, Failed}
+use Rattle.uring_dispatch.specs.declared.progress.State.{State}
+use Rattle.uring_dispatch.specs.declared.progress.State.TheVariants.{Waiting, Running, Succeeded, Failed}
 use Rattle.uring_dispatch.specs.Held.{AreHeld, request_at, with_state, chosen, ended_state, is_over, is_running, has_failed, in_over, in_failed, in_running, fresh}
 
 -- a fact of each place, after one place was written

@@ -11,7 +11,7 @@ use Rattle.uring_entry.specs.Preparation.{fault_of, is_faulty, is_cancel, operat
 use Rattle.uring_entry.specs.Requests.{Requests, entry_of, is_doomed, is_ready, doomed_result, cancel_result}
 use Rattle.uring_entry.proofs.RequestLemmas.{is_doomed-own_fault}
 use Rattle.uring_dispatch.specs.declared.held.Request.{Request}
-use Rattle.uring_dispatch.specs.declared.answers.Issued.TheVariants.{Run, Ended, NotReady}
+use Rattle.uring_dispatch.specs.declared.issue_answer.Issued.TheVariants.{Run, Ended, NotReady}
 use Rattle.uring_dispatch.specs.Answers.{issued_waiting}
 use Rattle.uring_dispatch.specs.Held.{AreHeld, request_at}
 

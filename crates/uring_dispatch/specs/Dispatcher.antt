@@ -4,10 +4,10 @@ use Rattle.uring_entry.specs.Requests.{Requests}
 use Rattle.uring_dispatch.specs.declared.held.Request.{Request}
 use Rattle.uring_dispatch.specs.Held.{AreHeld, request_at, is_over, is_running}
 use Rattle.uring_dispatch.specs.Counts.{outstanding_in, running_in}
-use Rattle.uring_dispatch.specs.declared.answers.Issued.{Issued}
-use Rattle.uring_dispatch.specs.declared.answers.Issued.TheVariants.{Run, Ended}
-use Rattle.uring_dispatch.specs.declared.answers.Finished.{Finished}
-use Rattle.uring_dispatch.specs.declared.answers.Finished.TheVariants as finish
+use Rattle.uring_dispatch.specs.declared.issue_answer.Issued.{Issued}
+use Rattle.uring_dispatch.specs.declared.issue_answer.Issued.TheVariants.{Run, Ended}
+use Rattle.uring_dispatch.specs.declared.finish_answer.Finished.{Finished}
+use Rattle.uring_dispatch.specs.declared.finish_answer.Finished.TheVariants as finish
 
 -- what the dispatcher keeps of the requests. Only `Shows` says what it means
 abbrev pub Held : Type 0

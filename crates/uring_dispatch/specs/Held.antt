@@ -6,8 +6,8 @@ use Rattle.uring_entry.specs.Preparation.{is_faulty}
 use Rattle.uring_entry.specs.Requests as spec
 use Rattle.uring_entry.specs.Requests.{Requests, entry_of, is_linked, is_soft}
 use Rattle.uring_dispatch.specs.declared.held.Request.{Request}
-use Rattle.uring_dispatch.specs.declared.held.State.{State}
-use Rattle.uring_dispatch.specs.declared.held.State.TheVariants.{Waiting, Running, Succeeded, Failed}
+use Rattle.uring_dispatch.specs.declared.progress.State.{State}
+use Rattle.uring_dispatch.specs.declared.progress.State.TheVariants.{Waiting, Running, Succeeded, Failed}
 
 -- a request as it is accepted
 abbrev pub fresh : Entry → Request

@@ -3,8 +3,9 @@ ghost use Rattle.uring_entry.specs.Requests.{Requests, no_request, with_accepted
 ghost use Rattle.uring_dispatch.specs.Answers.{issued, after_issue, finished, after_finish, operation_running, entry_outstanding};
 ghost use Rattle.uring_dispatch.specs.Counts.{outstanding_in, running_in};
 
-use crate::answers::{Finished, Issued};
+use crate::finish_answer::Finished;
 use crate::held::Request;
+use crate::issue_answer::Issued;
 use crate::refusal::ReserveError;
 use crate::{events, search};
 use std::alloc::Global;

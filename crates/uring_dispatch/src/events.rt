@@ -8,9 +8,11 @@ ghost use Rattle.uring_dispatch.specs.Answers.{issued, issued_waiting, after_iss
 ghost use Rattle.uring_dispatch.specs.Dispatcher.{dispatcher_of, HasEndedCall, HasEnded, IssueCounts, FinishCounts};
 ghost use Rattle.uring_dispatch.specs.Held.{AreHeld, request_at, with_state, chosen, ended_state};
 
-use crate::answers::{Finished, Issued};
 use crate::doom::is_doomed;
-use crate::held::{Request, State};
+use crate::finish_answer::Finished;
+use crate::held::Request;
+use crate::issue_answer::Issued;
+use crate::progress::State;
 use crate::readiness::is_ready;
 use crate::target::target;
 use uring_entry::{Op, Outcome, errno, prepare, succeeded};

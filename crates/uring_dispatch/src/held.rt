@@ -3,24 +3,9 @@ ghost use Rattle.uring_entry.specs.Requests as spec;
 ghost use Rattle.uring_entry.specs.Layout.{has};
 ghost use Rattle.uring_entry.specs.Flags.{io_drain, io_link, io_hardlink};
 
+use crate::progress::State;
 use bitflags::Flags;
 use uring_entry::{Sqe, SqeFlags};
-
-/// How far a request has come.
-#[derive(Clone, Copy, Debug, PartialEq, Eq)]
-pub(crate) enum State {
-    /// It hasn't started.
-    Waiting,
-
-    /// It was started, and hasn't ended.
-    Running,
-
-    /// It ended with success.
-    Succeeded,
-
-    /// It ended without success.
-    Failed,
-}
 
 /// A request that was accepted.
 #[derive(Clone, Copy)]

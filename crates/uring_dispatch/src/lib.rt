@@ -1,21 +1,25 @@
 //! The dispatcher of an io_uring pair of rings: it numbers the requests that are accepted, and says of each whether it may start, waits, is cancelled or has ended.
 #![tactic(auto)]
 
-mod answers;
 mod dispatcher;
 mod doom;
 mod events;
+mod finish_answer;
 mod groups;
 mod held;
+mod issue_answer;
 pub mod laws;
+mod progress;
 mod readiness;
 mod refusal;
 mod search;
 mod target;
 
-pub use answers::{Finished, Issued};
 pub use dispatcher::Dispatch;
+pub use finish_answer::Finished;
+pub use issue_answer::Issued;
 pub use refusal::ReserveError;
+pub use uring_entry::{BadSetup, Cqe, Fault, Op, Outcome, Setup, Sqe, SqeFlags};
 
 #[cfg(test)]
 mod tests;

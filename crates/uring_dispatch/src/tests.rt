@@ -2,8 +2,9 @@
 
 ghost use Rattle.std.specs.Prelude.{IsTrue};
 
-use crate::answers::{Finished, Issued};
 use crate::dispatcher::Dispatch;
+use crate::finish_answer::Finished;
+use crate::issue_answer::Issued;
 use crate::refusal::ReserveError;
 use std::process::Abort;
 use std::test::Fail;

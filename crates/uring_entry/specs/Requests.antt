@@ -112,9 +112,13 @@ is_doomed r n = is_in_faulty_group r n || is_behind_failure r n || is_cancelled 
 
 -- Who may start.
 
--- whether m, a request before n, keeps n from starting: it hasn't ended, and is a member of n's group, or its group or n's drains. io_uring_enter(2), IOSQE_IO_LINK and IOSQE_IO_DRAIN
+-- whether n waits for m, a request before it: they are members of one group, or one of their groups drains. io_uring_enter(2), IOSQE_IO_LINK and IOSQE_IO_DRAIN
+abbrev pub waits_for : Requests → ℕ → ℕ → Bool
+waits_for r n m = is_joined r m n || is_draining r m || is_draining r n
+
+-- whether m keeps n from starting: n waits for it, and it hasn't ended
 abbrev pub holds_back : Requests → ℕ → ℕ → Bool
-holds_back r n m = not (has_ended r m) && (is_joined r m n || is_draining r m || is_draining r n)
+holds_back r n m = not (has_ended r m) && waits_for r n m
 
 unfoldable pub is_ready : Requests → ℕ → Bool
 is_ready r n = not (some_below (holds_back r n) n)

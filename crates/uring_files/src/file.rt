@@ -4,19 +4,10 @@ ghost use Rattle.uring_files.specs.Contents.{empty_file, max_len, read_outcome, 
 
 use crate::bytes::overwrite;
 use crate::state::FileState;
+use crate::write_fault::WriteFault;
 use std::alloc::Global;
 use std::marker::Model;
 use uring_entry::Outcome;
-
-/// Why a write of a file failed.
-#[derive(Clone, Copy, Debug, PartialEq, Eq)]
-pub(crate) enum WriteFault {
-    /// The file would pass its largest size.
-    TooLong,
-
-    /// Memory for the file's growth was refused.
-    NoMemory,
-}
 
 /// A file in memory, with counts of its successful writes.
 #[derive(Debug, Drop)]

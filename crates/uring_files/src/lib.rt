@@ -6,9 +6,11 @@ mod file;
 mod file_table;
 pub mod laws;
 mod state;
+mod write_fault;
 
 pub use file_table::Files;
 pub use state::FileState;
+pub use uring_entry::{BadSetup, Cqe, Fault, Op, Outcome, Setup, Sqe, SqeFlags};
 
 #[cfg(test)]
 mod tests;

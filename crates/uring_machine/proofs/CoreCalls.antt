@@ -9,8 +9,8 @@ use Rattle.uring_entry.specs.Completions.{Completions}
 use Rattle.uring_rings.specs.SubmissionRing.{SubmissionQueue, ShowsSubmission}
 use Rattle.uring_rings.specs.SubmissionAnswers as ring
 use Rattle.uring_rings.specs.CompletionRing.{CompletionQueue, ShowsCompletions}
-use Rattle.uring_rings.specs.declared.answers.BeginAnswer.{BeginAnswer}
-use Rattle.uring_rings.specs.declared.answers.BeginAnswer.TheVariants as begin
+use Rattle.uring_rings.specs.declared.answers.begin_answer.BeginAnswer.{BeginAnswer}
+use Rattle.uring_rings.specs.declared.answers.begin_answer.BeginAnswer.TheVariants as begin
 use Rattle.uring_dispatch.specs.Dispatcher.{Dispatcher, Shows, IsSameCount}
 use Rattle.uring_machine.specs.World.{World}
 use Rattle.uring_machine.specs.Answers.{OrAgain, begin_answer}

@@ -16,13 +16,13 @@ use Rattle.uring_entry.specs.declared.operation.Op.{Op}
 use Rattle.uring_rings.specs.SubmissionRing.{SubmissionQueue, ShowsSubmission}
 use Rattle.uring_rings.specs.SubmissionAnswers as ring
 use Rattle.uring_rings.specs.CompletionRing.{CompletionQueue, ShowsCompletions}
-use Rattle.uring_rings.specs.declared.answers.EndAnswer.TheVariants as ended_as
-use Rattle.uring_rings.specs.declared.answers.Taken.{Taken}
+use Rattle.uring_rings.specs.declared.answers.end_answer.EndAnswer.TheVariants as ended_as
+use Rattle.uring_rings.specs.declared.answers.taken_counts.Taken.{Taken}
 use Rattle.uring_dispatch.specs.Dispatcher.{Dispatcher, Shows, HasStarted, HasEnded, HasFinished}
 use Rattle.uring_dispatch.specs.Answers.{issued, issued_waiting, finished, entry_outstanding}
-use Rattle.uring_dispatch.specs.declared.answers.Issued.{Issued}
-use Rattle.uring_dispatch.specs.declared.answers.Issued.TheVariants as issue
-use Rattle.uring_dispatch.specs.declared.answers.Finished.TheVariants as finish
+use Rattle.uring_dispatch.specs.declared.issue_answer.Issued.{Issued}
+use Rattle.uring_dispatch.specs.declared.issue_answer.Issued.TheVariants as issue
+use Rattle.uring_dispatch.specs.declared.finish_answer.Finished.TheVariants as finish
 use Rattle.uring_machine.specs.World.{World, ending_of}
 use Rattle.uring_machine.specs.Answers.{end_answer_in, issue_answer, FinishesApart}
 use Rattle.uring_machine.specs.Histories.{History, world}

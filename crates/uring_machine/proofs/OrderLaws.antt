@@ -7,13 +7,13 @@ use Rattle.std.proofs.lemmas.List.Folds.{list_any_at}
 use Rattle.std.proofs.lemmas.Option.{slice_get_within, get_or_from_slice_get}
 use Rattle.uring_entry.specs.Shape.{Shape, IsShape}
 use Rattle.uring_entry.specs.declared.errno.TheConstants.{EALREADY, ECANCELED}
-use Rattle.uring_entry.specs.Requests.{Requests, Ending, has_started, has_ended, is_joined, is_draining, is_doomed, is_ready, is_running, doomed_result, cancel_result, result_for, target_of}
+use Rattle.uring_entry.specs.Requests.{Requests, Ending, has_started, has_ended, is_joined, is_draining, is_doomed, is_ready, is_running, waits_for, doomed_result, cancel_result, result_for, target_of}
 use Rattle.uring_entry.proofs.RequestLemmas.{is_ready-inside}
 use Rattle.uring_machine.specs.World.{World}
 use Rattle.uring_machine.specs.Answers.{IsEnded}
 use Rattle.uring_machine.specs.Histories.{History, world, IsLawfulApart}
 use Rattle.uring_machine.specs.Direct.{started_by}
-use Rattle.uring_machine.specs.Laws.{DoomedNeverRun, waits_for, IsStart, times_ended}
+use Rattle.uring_machine.specs.Laws.{DoomedNeverRun, IsStart, times_ended}
 use Rattle.uring_machine.specs.declared.steps.Step.TheVariants as step
 use Rattle.uring_machine.specs.declared.answers.Answer.{Answer}
 use Rattle.uring_machine.specs.declared.answers.Answer.TheVariants as answer

@@ -1,9 +1,9 @@
 -- What holds of every lawful history.
-use Rattle.std.specs.Prelude.{◌≡◌, ℕ, ◌+◌, ◌<◌, ◌≤◌, ◌==◌, count_by, Bool, true, false, ◌||◌, List, ◌++◌, length, take, drop, Some, slice_get, ◌⊎◌}
+use Rattle.std.specs.Prelude.{◌≡◌, ℕ, ◌+◌, ◌<◌, ◌≤◌, ◌==◌, count_by, Bool, true, false, List, ◌++◌, length, take, drop, Some, slice_get, ◌⊎◌}
 use Rattle.uring_entry.specs.Shape.{Shape}
 use Rattle.uring_entry.specs.Layout.{Completion}
 use Rattle.uring_entry.specs.Submission.{entries_of}
-use Rattle.uring_entry.specs.Requests.{Requests, least_of, next_of, is_running, is_outstanding, is_doomed, doomed_result, is_joined, is_draining, Ending}
+use Rattle.uring_entry.specs.Requests.{Requests, least_of, next_of, is_running, is_outstanding, is_doomed, doomed_result, Ending}
 use Rattle.uring_entry.specs.Completions.{Completions}
 use Rattle.uring_machine.specs.World.{World}
 use Rattle.uring_machine.specs.Answers.{IsEnded, issue_answer}
@@ -36,10 +36,6 @@ pub record EachEndsOnce (g : Shape) (h : History) : Type 0 where
 pub record DoomedNeverRun (g : Shape) (h : History) : Type 0 where
   pub never_run : (n : ℕ) → is_doomed (world g h).requests n ≡ true → times_started h n ≡ 0
   pub ends_so : (k : ℕ) (e : Ending) → slice_get (ends h) k ≡ Some e → is_doomed (world g h).requests e.number ≡ true → e.res ≡ doomed_result (world g h).requests e.number
-
--- whether m, a request before n, is one that n waits for: they are members of one group, or one of their groups drains
-abbrev pub waits_for : Requests → ℕ → ℕ → Bool
-waits_for r n m = is_joined r m n || is_draining r m || is_draining r n
 
 -- an Issue of n so answered starts it: it runs, or it ends at once and isn't doomed, as a cancel does
 abbrev pub IsStart : Requests → ℕ → Answer → Type 0

@@ -9,8 +9,8 @@ use Rattle.uring_entry.specs.Layout.{Entry}
 use Rattle.uring_entry.specs.Shape.{Shape}
 use Rattle.uring_entry.specs.Words.{word_of}
 use Rattle.uring_entry.specs.Submission.{Submission, Place, Call, taken, pending, dropped, dropped_in, place_of, entries_of, places_from, closed}
-use Rattle.uring_rings.specs.declared.answers.TakeAnswer.TheVariants.{Entry as Given, Dropped, NoMore}
-use Rattle.uring_rings.specs.declared.answers.EndAnswer.TheVariants.{Taken as Closed, NotAll}
+use Rattle.uring_rings.specs.declared.answers.take_answer.TakeAnswer.TheVariants.{Entry as Given, Dropped, NoMore}
+use Rattle.uring_rings.specs.declared.answers.end_answer.EndAnswer.TheVariants.{Taken as Closed, NotAll}
 use Rattle.uring_rings.specs.declared.open_call.OpenCall.{OpenCall}
 use Rattle.uring_rings.specs.SubmissionRing.{SubmissionQueue, ShowsSubmission, progress}
 use Rattle.uring_rings.specs.SubmissionAnswers.{take_answer, take_in, given, taken_on, end_of, end_answer, closed_on}

@@ -13,6 +13,7 @@ pub use answers::{BeginAnswer, EndAnswer, FillAnswer, IndexAnswer, TakeAnswer, T
 pub use completion_ring::Cq;
 pub use indices::Index;
 pub use submission_ring::Sq;
+pub use uring_entry::{BadSetup, Cqe, Fault, Op, Outcome, Setup, Sqe, SqeFlags};
 
 #[cfg(test)]
 mod tests;

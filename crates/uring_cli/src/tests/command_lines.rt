@@ -3,7 +3,8 @@
 use super::streams::FullWriter;
 use crate::command_line::options;
 use crate::fault::Fault;
-use crate::option_kinds::{Options, OptionsFault};
+use crate::option_kinds::Options;
+use crate::options_fault::OptionsFault;
 use crate::telling::tell;
 use crate::trace_fault::TraceFault;
 use std::alloc::{AllocError, Global};

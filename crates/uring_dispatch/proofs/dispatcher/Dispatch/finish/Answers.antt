@@ -1,6 +1,6 @@
 use Rattle.std.proofs.Common.{sym, ap, arith}
 use Rattle.std.specs.Prelude.{if◌then◌else◌}
-use Rattle.uring_dispatch.specs.declared.answers.Finished.TheVariants as Finished
+use Rattle.uring_dispatch.specs.declared.finish_answer.Finished.TheVariants as Finished
 use Rattle.std.proofs.lemmas.List.{with_items_is}
 use Rattle.uring_dispatch.proofs.Views.{shows-list, held-from, shows-past}
 use Rattle.uring_dispatch.proofs.dispatcher.Dispatch.finish.Goals as goal

@@ -18,13 +18,3 @@ pub enum Issued {
     /// It isn't outstanding: no such number was given, or it has ended.
     Unknown,
 }
-
-/// What the finish of a request is answered.
-#[derive(Clone, Copy, Debug, PartialEq, Eq)]
-pub enum Finished {
-    /// It ended.
-    Ended,
-
-    /// It isn't running.
-    NotRunning,
-}
