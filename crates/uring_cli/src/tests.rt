@@ -1,4 +1,5 @@
 mod command_lines;
+mod growth;
 mod rows;
 mod streams;
 mod traces;

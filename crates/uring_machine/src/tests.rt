@@ -1,3 +1,4 @@
+mod growth;
 mod rows;
 mod settling;
 
