@@ -55,7 +55,7 @@ up to 2^32 - 1, CODE up to 255; FD has 32 bits and a sign. FLAGS is - or letters
 D drain, L link, H hard link, A async, S skip success. HEX is - or 1 to 64 bytes
 and RAW 128 bytes, in lower case hexadecimal.";
 
-/// Reads a command line, whose first word is the program's name.
+/// Reads a command line, whose first word is the program's name: `uring`, or `uring trace` with options for the entries of the submission ring (`--sq`, 1 to 4,096, else 4) and of the completion ring (`--cq`, 1 to 8,192, else twice as many), for the files (`--files`, 1 to 64, else 2) and for the word at which both rings begin (`--start`, 32 bits, else 0). Our own rule.
 ///
 /// `Small` comes where the numbers give a completion ring that is smaller after rounding than the submission ring, and `Words` for any other fault of the command line, for a call for help, and where memory is refused. Numbers may have a leading `+` or leading zeros.
 pub fn options<'a>(alloc: Global, args: &'a [&'a str]) -> Result<Options, OptionsFault>

@@ -12,7 +12,7 @@ use std::alloc::Global;
 use std::marker::Model;
 use uring_entry::{Op, Outcome, Sqe, prepare};
 
-/// The requests that were accepted, numbered from 0 in the order of their acceptance, with what was made of them.
+/// The requests that were accepted, numbered from 0 in the order of their acceptance, with what was made of them. Which of them wait, are doomed or may start is that of io_uring_enter(2), IOSQE_IO_DRAIN, IOSQE_IO_LINK, IOSQE_IO_HARDLINK and IORING_OP_ASYNC_CANCEL; the numbers, and that a request is issued by its number, are our own rule.
 ///
 /// A submission call gives its entries one by one to `accept` and ends with `end_call`; every other call is made between submission calls.
 #[derive(Drop)]
@@ -45,9 +45,9 @@ impl Dispatch {
         }
     }
 
-    /// Asks for the memory of `count` more requests.
+    /// Asks for the memory of `count` more requests, any number: so many can be accepted from here on.
     ///
-    /// `Spent` comes where they and those accepted so far are more than `MAX_ACCEPTED`; otherwise `NoMemory` where memory is refused. Neither changes anything.
+    /// `Spent` comes where they and those accepted so far are more than `MAX_ACCEPTED`; otherwise `NoMemory` where memory is refused. Neither changes anything. Our own rule.
     pub fn reserve(&mut self, count: u64) -> Result<(), ReserveError>
         requires { IsTrue self.old.is_between_calls }
         ensures ok { OnOk result (count ≤ self.new.room) }
@@ -68,6 +68,8 @@ impl Dispatch {
     }
 
     /// Accepts an entry: its number is that of the requests accepted before it. It becomes one of the open submission call's.
+    ///
+    /// Condition: its memory was asked for by `reserve`.
     pub fn accept(&mut self, entry: Sqe)
         requires { 0 < self.old.room }
         ensures shows { (r : Requests) → Shows self.old r → Shows self.new (with_accepted r entry) }
@@ -86,7 +88,9 @@ impl Dispatch {
         events::end_call(&mut self.requests);
     }
 
-    /// Issues request `n`. It ends at once where it is doomed, with -22 (EINVAL) where it has a fault itself and else with -125 (ECANCELED), or where it is a cancel that may start; otherwise it starts where it may. A refusal changes nothing.
+    /// Issues request `n`, any number. It ends at once where it is doomed, with -22 (EINVAL) where it has a fault itself and else with -125 (ECANCELED), or where it is a cancel that may start, with 0, -2 (ENOENT) or -114 (EALREADY); otherwise it starts where it may.
+    ///
+    /// Refused with `Unknown` where it isn't outstanding, with `Running` where it runs already, and with `NotReady` where it isn't doomed and waits for earlier requests. A refusal changes nothing. The order of these is our own rule.
     pub fn issue(&mut self, n: u64) -> Issued
         requires { IsTrue self.old.is_between_calls }
         ensures answer { (r : Requests) → Shows self.old r → result ≡ issued r n }
@@ -99,7 +103,7 @@ impl Dispatch {
         events::issue(&mut self.requests, n as usize)
     }
 
-    /// Ends request `n`, which is running, with this outcome. A refusal changes nothing.
+    /// Ends request `n` with this outcome. Refused with `NotRunning` where it isn't running, and then nothing changes. Our own rule.
     pub fn finish(&mut self, n: u64, outcome: Outcome) -> Finished
         requires { IsTrue self.old.is_between_calls }
         ensures answer { (r : Requests) → Shows self.old r → result ≡ finished r n }
@@ -112,7 +116,7 @@ impl Dispatch {
         events::finish(&mut self.requests, n as usize, outcome)
     }
 
-    /// The operation of request `n`, where it is running.
+    /// The operation of request `n`: `Some` exactly where it is running.
     pub fn running_op(&self, n: u64) -> Option<Op>
         requires { IsTrue self.now.is_between_calls }
         ensures { (r : Requests) → Shows self.now r → result ≡ operation_running r n }
@@ -128,7 +132,7 @@ impl Dispatch {
         }
     }
 
-    /// The entry of request `n`, where it is outstanding.
+    /// The entry of request `n`: `Some` exactly where it is outstanding, that is accepted and not ended.
     pub fn entry(&self, n: u64) -> Option<Sqe>
         requires { IsTrue self.now.is_between_calls }
         ensures { (r : Requests) → Shows self.now r → result ≡ entry_outstanding r n }
@@ -144,7 +148,7 @@ impl Dispatch {
         }
     }
 
-    /// The least request that `issue` doesn't refuse.
+    /// The least request that `issue` doesn't refuse, if there is one. Our own rule.
     pub fn next(&self) -> Option<u64>
         requires { IsTrue self.now.is_between_calls }
         ensures { (r : Requests) → Shows self.now r → result ≡ next_of r }
@@ -152,7 +156,7 @@ impl Dispatch {
         search::next(&self.requests)
     }
 
-    /// The least outstanding request.
+    /// The least outstanding request, if there is one.
     pub fn least(&self) -> Option<u64>
         requires { IsTrue self.now.is_between_calls }
         ensures { (r : Requests) → Shows self.now r → result ≡ least_of r }

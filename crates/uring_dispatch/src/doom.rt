@@ -1,4 +1,4 @@
-//! Who is doomed: not started any more, but ended as cancelled. io_uring_enter(2), IOSQE_IO_LINK, for the members behind a failure; that it reaches all of them, that a fault dooms its whole group, and that a cancel dooms a request whatever it waits for, are our own rules.
+//! Who is doomed: not started any more, but ended as cancelled. io_uring_enter(2), IOSQE_IO_LINK, for the members behind a failure, and IOSQE_IO_HARDLINK, for those behind a fault; that a failure reaches all of them, that a fault dooms those before it too, and that a cancel dooms a request whatever it waits for, are our own rules.
 
 ghost use Rattle.std.specs.Prelude.{◌≡◌, ◌<◌, length};
 ghost use Rattle.std.specs.List.{list_any};

@@ -1,4 +1,4 @@
-/// What the finish of a request is answered.
+/// What the finish of a request is answered. Our own rule.
 #[derive(Clone, Copy, Debug, PartialEq, Eq)]
 pub enum Finished {
     /// It ended.

@@ -1,15 +1,15 @@
 use uring_entry::Op;
 
-/// What the issue of a request is answered.
+/// What the issue of a request is answered. The refusals are our own rule.
 #[derive(Clone, Copy, Debug, PartialEq, Eq)]
 pub enum Issued {
     /// It was started, with this operation.
     Run(Op),
 
-    /// It ended with this result: it was doomed, or is a cancel.
+    /// It ended with this result: -22 or -125 where it was doomed; 0, -2 or -114 where it is a cancel. io_uring_enter(2), CQE ERRORS, IOSQE_IO_LINK and IORING_OP_ASYNC_CANCEL.
     Ended(i32),
 
-    /// It waits for earlier requests.
+    /// It waits for earlier requests. io_uring_enter(2), IOSQE_IO_LINK and IOSQE_IO_DRAIN.
     NotReady,
 
     /// It was started before, and hasn't ended.

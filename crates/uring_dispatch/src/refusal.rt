@@ -4,7 +4,7 @@ ghost use Rattle.uring_dispatch.specs.Texts.{refusal_text};
 use std::error::Error;
 use std::fmt;
 
-/// Why no room was made for requests.
+/// Why no room was made for requests: told in this order.
 #[derive(Clone, Copy, Debug, PartialEq, Eq)]
 pub enum ReserveError {
     /// The numbers of requests are spent: those accepted so far and these are more than 2^63 - 1. Our own rule.

@@ -1,4 +1,4 @@
--- The completion ring and its overflow list as lists of all that ever happened to them. io_uring(7), on the completion queue; IORING_FEAT_NODROP of io_uring_setup(2) for the overflow list, which is flushed by a step of its own: our own rule.
+-- The completion ring and its overflow list as lists of all that ever happened to them. io_uring(7), Reading completion events; io_uring_setup(2), IORING_FEAT_NODROP, for the overflow list, which is flushed by a step of its own: our own rule.
 use Rattle.std.specs.Prelude.{ℕ, ◌+◌, ◌-◌, ℤ, Bool, ◌&&◌, ◌==◌, nat_lt, List, [], ◌∷◌, ◌++◌, length, drop, min, Option, None, slice_get, if◌then◌else◌}
 use Rattle.uring_entry.specs.Layout.{Completion, Entry, user_data_of}
 use Rattle.uring_entry.specs.Success.{is_told}
@@ -22,7 +22,7 @@ pub record Completions : Type 0 where
 abbrev pub no_completion : Completions
 no_completion = record { posted = []; put = 0; reaped = []; head = 0; seen_head = 0; seen_tail = 0 }
 
--- whether a completion goes into a ring of this size: none waits in the overflow list, and there is room above the head last loaded
+-- whether a completion goes into a ring of this size: none waits in the overflow list, and there is room above the head last loaded. io_uring_setup(2), IORING_FEAT_NODROP; that the head counts as last loaded is our own rule
 abbrev pub has_room : ℕ → Completions → Bool
 has_room size l = (l.put == length l.posted) && nat_lt (l.put - l.seen_head) size
 
@@ -45,7 +45,7 @@ abbrev pub with_posted : ℕ → Completions → Completion → Completions
 with_posted size l completion =
     record l { posted = l.posted ++ completion ∷ []; put = if has_room size l then l.put + 1 else l.put }
 
--- the end of a request with this entry: its completion is posted, unless it is to be skipped
+-- the end of a request with this entry: its completion is posted, unless it is to be skipped. io_uring(7), DESCRIPTION, and io_uring_enter(2), IOSQE_CQE_SKIP_SUCCESS
 abbrev pub with_end : ℕ → Completions → Entry → ℤ → List ℕ → Completions
 with_end size l entry res bytes =
     if is_told entry res then with_posted size l (record { user_data = user_data_of entry; res = res; payload = bytes }) else l

@@ -1,4 +1,4 @@
--- The flag bits of an entry. io_uring_enter(2), IOSQE_IO_DRAIN, IOSQE_IO_LINK, IOSQE_IO_HARDLINK and IOSQE_CQE_SKIP_SUCCESS; IOSQE_ASYNC changes nothing here.
+-- The flag bits of an entry, with the numbers of <linux/io_uring.h>. io_uring_enter(2), IOSQE_IO_DRAIN, IOSQE_IO_LINK, IOSQE_IO_HARDLINK and IOSQE_CQE_SKIP_SUCCESS; IOSQE_ASYNC changes nothing here.
 use Rattle.std.specs.Prelude.{ℕ}
 
 abbrev pub io_drain : ℕ

@@ -8,11 +8,11 @@ use Rattle.std.specs.Int.RustNames.{bit_and}
 abbrev pub Entry : Type 0
 Entry = List ℕ
 
--- the entry that every slot holds at first
+-- the entry that every slot holds at first. Our own rule
 abbrev pub zero_entry : Entry
 zero_entry = replicate 16 0
 
--- The fields, by the words that hold them; byte 0 is the low byte of word 0.
+-- The fields, by the words that hold them; byte 0 is the low byte of word 0. io_uring_enter(2), struct io_uring_sqe
 abbrev pub opcode_of : Entry → ℕ
 opcode_of e = slice_index e 0 % 2 ^ 8
 
@@ -40,7 +40,7 @@ operation_flags_of e = slice_index e 3 / 2 ^ 32
 abbrev pub user_data_of : Entry → ℕ
 user_data_of e = slice_index e 4
 
--- bytes 40 to 63, as three words
+-- bytes 40 to 63, as three words. That they mean nothing is our own rule
 abbrev pub reserved_of : Entry → List ℕ
 reserved_of e = take 3 (drop 5 e)
 
@@ -48,7 +48,7 @@ reserved_of e = take 3 (drop 5 e)
 abbrev pub bytes_of : List ℕ → List ℕ
 bytes_of words = flat_map (to_le_bytes w64) words
 
--- the 64 bytes of data: words 8 to 15
+-- the 64 bytes of data: words 8 to 15. Our own rule
 abbrev pub payload_of : Entry → List ℕ
 payload_of e = bytes_of (drop 8 e)
 
@@ -79,13 +79,13 @@ pub record HasData (e : Entry) (words bytes : List ℕ) : Type 0 where
   pub first : take 8 e ≡ words
   pub payload : payload_of e ≡ padded bytes
 
--- A completion: the user data of its request, the result, and the bytes that a read gave. io_uring(7), struct io_uring_cqe, for the first two; the bytes are our own rule
+-- A completion: the user data of its request, the result, and the bytes that a read gave. io_uring(7), Reading completion events, struct io_uring_cqe, for the first two; the bytes are our own rule
 pub record Completion : Type 0 where
   pub user_data : ℕ
   pub res : ℤ
   pub payload : List ℕ
 
--- the words of a completion: user data, then the result in the low half of the second word and no flags in its high half, then the bytes
+-- the words of a completion: user data, then the result in the low half of the second word and no flags in its high half, then the bytes. io_uring(7), struct io_uring_cqe, for the first two
 pub record HasWords (c : Completion) (words : List ℕ) : Type 0 where
   pub size : length words ≡ 10
   pub first : take 2 words ≡ c.user_data ∷ cast_unsigned w32 c.res ∷ []

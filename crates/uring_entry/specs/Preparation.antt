@@ -9,7 +9,7 @@ use Rattle.uring_entry.specs.declared.operation.Op.{Op}
 use Rattle.uring_entry.specs.declared.operation.Op.TheVariants.{Nop, Read, Write, Fsync, Cancel}
 use Rattle.uring_entry.specs.declared.opcode.TheConstants.{NOP, FSYNC, ASYNC_CANCEL, READ, WRITE}
 
--- the operations that are served. io_uring_enter(2), IORING_OP_NOP, FSYNC, ASYNC_CANCEL, READ and WRITE; which are served is our own rule
+-- the operations that are served, with the numbers of <linux/io_uring.h>. io_uring_enter(2), IORING_OP_NOP, FSYNC, ASYNC_CANCEL, READ and WRITE; which are served is our own rule
 abbrev pub served : List ℕ
 served = NOP ∷ FSYNC ∷ ASYNC_CANCEL ∷ READ ∷ WRITE ∷ []
 
@@ -29,7 +29,7 @@ is_transfer e = is_read e || is_write e
 abbrev pub is_cancel : Entry → Bool
 is_cancel e = opcode_of e == ASYNC_CANCEL
 
--- Whether the entry has this fault. io_uring_enter(2), EINVAL, for the operation; the others are our own rule
+-- Whether the entry has this fault. io_uring_enter(2), CQE ERRORS, EINVAL, for invalid flags and operations; which they are, and the other faults, are our own rule
 abbrev pub has_fault_of : Entry → Fault → Bool
 has_fault_of e Flags = has_some_of refused e
 has_fault_of e Opcode = not (is_served (opcode_of e))
@@ -51,7 +51,7 @@ fault_of e = find (has_fault_of e) faults_in_order
 abbrev pub is_faulty : Entry → Bool
 is_faulty e = is_some (fault_of e)
 
--- What an entry without a fault asks for. io_uring_enter(2), at each operation
+-- What an entry without a fault asks for. io_uring_enter(2), at each operation; that a write's bytes stand in the entry is our own rule
 abbrev pub operation_of : Entry → Op
 operation_of e =
     if opcode_of e == NOP then Nop else

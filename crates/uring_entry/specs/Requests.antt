@@ -43,11 +43,11 @@ entry_of r n = slice_index_or r.accepted n zero_entry
 abbrev pub is_linked : Entry → Bool
 is_linked e = has io_link e || has io_hardlink e
 
--- a failure dooms the members behind it: IO_LINK, and not IO_HARDLINK
+-- a failure dooms the members behind it: IO_LINK, and not IO_HARDLINK. io_uring_enter(2), IOSQE_IO_LINK and IOSQE_IO_HARDLINK
 abbrev pub is_soft : Entry → Bool
 is_soft e = has io_link e && not (has io_hardlink e)
 
--- the group drains
+-- the group drains. io_uring_enter(2), IOSQE_IO_DRAIN
 abbrev pub is_drain : Entry → Bool
 is_drain e = has io_drain e
 
@@ -67,7 +67,7 @@ is_outstanding r n = nat_lt n (length r.accepted) && not (has_ended r n)
 abbrev pub is_running : Requests → ℕ → Bool
 is_running r n = has_started r n && not (has_ended r n)
 
--- ended without success
+-- ended without success. io_uring_enter(2), IOSQE_IO_LINK: any unexpected result is an error
 abbrev pub has_failed : Requests → ℕ → Bool
 has_failed r n = list_any (λ e. (e.number == n) && not (is_success (entry_of r n) e.res)) r.ended
 
@@ -93,7 +93,7 @@ some_member r p n = some_below (λ m. is_in_group r m n && p (entry_of r m)) (le
 abbrev pub is_draining : Requests → ℕ → Bool
 is_draining r n = some_member r is_drain n
 
--- whether some member of n's group has a fault
+-- whether some member of n's group has a fault. io_uring_enter(2), IOSQE_IO_HARDLINK, for the members behind it; that it dooms the others too is our own rule
 abbrev pub is_in_faulty_group : Requests → ℕ → Bool
 is_in_faulty_group r n = some_member r is_faulty n
 
@@ -103,10 +103,11 @@ is_in_faulty_group r n = some_member r is_faulty n
 unfoldable pub is_behind_failure : Requests → ℕ → Bool
 is_behind_failure r n = some_below (λ m. is_joined r m n && is_soft (entry_of r m) && has_failed r m) n
 
--- a cancel chose n
+-- a cancel chose n before it started
 abbrev pub is_cancelled : Requests → ℕ → Bool
 is_cancelled r n = list_any (λ m. m == n) r.cancelled
 
+-- whether n is doomed, for one of the three reasons
 unfoldable pub is_doomed : Requests → ℕ → Bool
 is_doomed r n = is_in_faulty_group r n || is_behind_failure r n || is_cancelled r n
 
@@ -120,10 +121,11 @@ waits_for r n m = is_joined r m n || is_draining r m || is_draining r n
 abbrev pub holds_back : Requests → ℕ → ℕ → Bool
 holds_back r n m = not (has_ended r m) && waits_for r n m
 
+-- whether n may start: it waits for nobody that hasn't ended
 unfoldable pub is_ready : Requests → ℕ → Bool
 is_ready r n = not (some_below (holds_back r n) n)
 
--- whether something can be done with n: it is to end as doomed, or may start
+-- whether something can be done with n: it is to end as doomed, or may start. A doomed request waits for nothing: our own rule
 abbrev pub is_issuable : Requests → ℕ → Bool
 is_issuable r n = is_outstanding r n && not (is_running r n) && (is_doomed r n || is_ready r n)
 
@@ -137,7 +139,7 @@ least_of r = least_below (is_outstanding r) (length r.accepted)
 
 -- How doomed requests and cancels end.
 
--- the result of a doomed request: EINVAL where it has a fault itself, else ECANCELED
+-- the result of a doomed request: EINVAL where it has a fault itself, else ECANCELED. io_uring_enter(2), CQE ERRORS and IOSQE_IO_LINK
 abbrev pub doomed_result : Requests → ℕ → ℤ
 doomed_result r n = if is_faulty (entry_of r n) then neg_ℤ EINVAL else neg_ℤ ECANCELED
 
@@ -154,6 +156,7 @@ abbrev pub result_for : Requests → Option ℕ → ℤ
 result_for r None = neg_ℤ ENOENT
 result_for r (Some m) = if is_running r m then neg_ℤ EALREADY else pos 0
 
+-- what the cancel n ends with
 abbrev pub cancel_result : Requests → ℕ → ℤ
 cancel_result r n = result_for r (target_of r n)
 
@@ -182,7 +185,7 @@ with_ended r n res bytes = record r { ended = r.ended ++ record { number = n; re
 abbrev pub no_bytes : List ℕ
 no_bytes = replicate 64 0
 
--- who is doomed by the end of n with this result: what a cancel chose that ended with 0
+-- who is doomed by the end of n with this result: what a cancel chose that ended with 0. Our own rule, also for one that waits in a chain or for a drain
 abbrev pub chosen_by : Requests → ℕ → ℤ → List ℕ
 chosen_by r n res = if is_cancel (entry_of r n) && int_eq res (pos 0) then option_to_list (target_of r n) else []
 

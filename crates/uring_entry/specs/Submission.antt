@@ -1,9 +1,9 @@
--- The submission ring as lists of all that ever happened to it. io_uring(7), on the submission queue; what is refused, and that a call goes on after a word that names no slot, is our own rule.
+-- The submission ring as lists of all that ever happened to it. io_uring(7), Submitting I/O requests; what is refused, and that a call goes on after a word that names no slot, is our own rule.
 use Rattle.std.specs.Prelude.{ℕ, ◌+◌, ◌-◌, ◌%◌, ◌^◌, Bool, ◌==◌, nat_lt, List, [], ◌∷◌, ◌++◌, length, take, drop, map, sum, count_by, Option, Some, None, is_none, if◌then◌else◌, min}
 use Rattle.std.specs.List.{list_any, filter_map}
 use Rattle.uring_entry.specs.Layout.{Entry, zero_entry}
 
--- A published position: the word of the index array, and the entry of the slot that the word names, as it was when the position was published. A word that names no slot has none.
+-- A published position: the word of the index array, and the entry of the slot that the word names, as it was when the position was published: our own rule. A word that names no slot has none.
 pub record Place : Type 0 where
   pub word : ℕ
   pub entry : Option Entry
@@ -59,7 +59,7 @@ dropped_in places = count_by (λ place. is_none place.entry) places
 abbrev pub accepted : Submission → List Entry
 accepted l = entries_of (take (taken l) l.published)
 
--- the count of dropped words, which wraps at 32 bits
+-- the count of dropped words, which wraps at 32 bits. io_uring_setup(2), on dropped
 abbrev pub dropped : Submission → ℕ
 dropped l = dropped_in (take (taken l) l.published) % 2 ^ 32
 
@@ -67,15 +67,15 @@ dropped l = dropped_in (take (taken l) l.published) % 2 ^ 32
 abbrev pub places_from : Submission → ℕ → List Place
 places_from l count = take count (drop (taken l) l.published)
 
--- whether a slot may not be filled: a published position that the application doesn't know to be taken names it
+-- whether a slot may not be filled: a published position that the application doesn't know to be taken names it. Our own rule
 abbrev pub is_busy : Submission → ℕ → Bool
 is_busy l slot = list_any (λ place. place.word == slot) (drop l.seen_head l.published)
 
--- whether no further position may be staged
+-- whether no further position may be staged: as many as the ring has entries are staged or published above the head last loaded. Our own rule
 abbrev pub is_full : ℕ → Submission → Bool
 is_full size l = staged l - l.seen_head == size
 
--- how many positions a call asked for n may take
+-- how many positions a call asked for n takes. io_uring_enter(2), to_submit and RETURN VALUE
 abbrev pub call_length : Submission → ℕ → ℕ
 call_length l n = min n (pending l)
 
@@ -93,7 +93,7 @@ indexed l word = record l { fresh = l.fresh ++ word ∷ [] }
 abbrev pub place_of : ℕ → (ℕ → Entry) → ℕ → Place
 place_of size content word = record { word = word; entry = if nat_lt word size then Some (content word) else None }
 
--- the tail is stored: everything staged is published
+-- the tail is stored: everything staged is published. io_uring(7), Submitting I/O requests
 abbrev pub stored : ℕ → Submission → Submission
 stored size l = record l { published = l.published ++ map (place_of size l.content) l.fresh; fresh = [] }
 

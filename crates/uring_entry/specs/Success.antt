@@ -1,4 +1,4 @@
--- When a request has succeeded, and whether its end is told.
+-- When a request has succeeded, and whether its end posts a completion.
 use Rattle.std.specs.Prelude.{ℤ, pos, Bool, not, ◌&&◌, if◌then◌else◌}
 use Rattle.std.specs.Ordering.{int_eq}
 use Rattle.uring_entry.specs.Flags.{skip_success}
@@ -9,6 +9,6 @@ use Rattle.uring_entry.specs.Preparation.{is_transfer}
 abbrev pub is_success : Entry → ℤ → Bool
 is_success e res = int_eq res (pos (if is_transfer e then len_of e else 0))
 
--- whether an end is told by a completion: all but a success that the entry asks to skip. io_uring_enter(2), IOSQE_CQE_SKIP_SUCCESS
+-- whether an end with this result posts a completion: each does but a success that the entry asks to skip. io_uring_enter(2), IOSQE_CQE_SKIP_SUCCESS
 abbrev pub is_told : Entry → ℤ → Bool
 is_told e res = not (has skip_success e && is_success e res)

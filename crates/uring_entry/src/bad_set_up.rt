@@ -4,7 +4,7 @@ ghost use Rattle.uring_entry.specs.Texts.{refusal_text};
 use std::error::Error;
 use std::fmt;
 
-/// Why a set-up is refused. The limits are our own rule; the rounding is that of io_uring_setup(2).
+/// Why a set-up is refused, as io_uring_setup(2) refuses sizes out of bounds with EINVAL. The limits are our own rule; the rounding is that of io_uring_setup(2), IORING_SETUP_CQSIZE.
 #[derive(Clone, Copy, Debug, PartialEq, Eq)]
 pub enum BadSetup {
     /// The submission ring asked for isn't of 1 to 4,096 entries.
@@ -13,7 +13,7 @@ pub enum BadSetup {
     /// The completion ring asked for isn't of 1 to 8,192 entries, or is smaller after rounding than the submission ring.
     BadCq,
 
-    /// There aren't 1 to 64 files.
+    /// The number of files asked for isn't from 1 to 64.
     BadFiles,
 }
 

@@ -5,7 +5,7 @@ use std::marker::Model;
 
 /// A completion: the user data of its request, the result, and 64 bytes, those that a read gave first and zeros behind them.
 ///
-/// It has 80 bytes, held as 10 words. The first 16 are placed as in `struct io_uring_cqe`, io_uring(7), with flags that are always 0; the bytes behind them are our own rule.
+/// It has 80 bytes, held as 10 words. The first 16 are placed as in `struct io_uring_cqe`, io_uring(7), Reading completion events, with flags that are always 0; the bytes behind them are our own rule.
 #[derive(Clone, Copy, Debug, PartialEq, Eq)]
 pub struct Cqe {
     user_data: u64,
@@ -26,7 +26,7 @@ impl Model for Cqe {
 impl Cqe {
     ghost use Rattle.uring_entry.specs.Layout.{HasWords};
 
-    /// The completion of a request with this user data.
+    /// The completion of a request with this user data: any result, any bytes.
     pub fn new(user_data: u64, res: i32, payload: [u8; 64]) -> Cqe
         ensures { result ≡ record { user_data = user_data; res = res; payload = payload } }
     {
@@ -54,14 +54,14 @@ impl Cqe {
         self.user_data
     }
 
-    /// The result: 0 or more where the operation was carried out, else the negative of an error number.
+    /// The result: 0 or more where the operation was carried out, else the negative of an error number. io_uring(7), DESCRIPTION.
     pub fn res(&self) -> i32
         ensures { result ≡ self.now.res }
     {
         self.res
     }
 
-    /// The bytes.
+    /// The 64 bytes: our own rule.
     pub fn payload(&self) -> [u8; 64]
         ensures { result ≡ self.now.payload }
     {

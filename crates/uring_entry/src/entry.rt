@@ -41,7 +41,7 @@ impl Sqe {
         self.words
     }
 
-    /// The operation: byte 0.
+    /// The operation: byte 0. `opcode` names those that are served.
     pub fn opcode(&self) -> u8
         ensures { result ≡ opcode_of self.now }
     {
@@ -62,7 +62,7 @@ impl Sqe {
         (self.words[0] >> 16 & 0xffff) as u16
     }
 
-    /// The file: bytes 4 to 7, signed.
+    /// The descriptor of the file: bytes 4 to 7, signed.
     pub fn fd(&self) -> i32
         ensures { result ≡ fd_of self.now }
     {
@@ -76,14 +76,14 @@ impl Sqe {
         self.words[1]
     }
 
-    /// The user data that a cancel names: bytes 16 to 23.
+    /// The user data that a cancel names: bytes 16 to 23. No other operation uses them: our own rule.
     pub fn addr(&self) -> u64
         ensures { result ≡ addr_of self.now }
     {
         self.words[2]
     }
 
-    /// How many bytes to move: bytes 24 to 27.
+    /// How many bytes to move: bytes 24 to 27. More than 64 are a fault.
     pub fn len(&self) -> u32
         ensures { result ≡ len_of self.now }
     {
@@ -97,7 +97,7 @@ impl Sqe {
         (self.words[3] >> 32) as u32
     }
 
-    /// What the completion repeats: bytes 32 to 39.
+    /// What the completion repeats unchanged: bytes 32 to 39.
     pub fn user_data(&self) -> u64
         ensures { result ≡ user_data_of self.now }
     {
@@ -111,21 +111,21 @@ impl Sqe {
         self.words[5] != 0 || self.words[6] != 0 || self.words[7] != 0
     }
 
-    /// The data: bytes 64 to 127, byte 0 of the data in the low byte of word 8.
+    /// The data of a write: bytes 64 to 127, byte 0 of the data in the low byte of word 8. A write takes the first `len` of them.
     pub fn payload(&self) -> [u8; 64]
         ensures { result ≡ payload_of self.now }
     {
         bytes_of_words(&self.words[8..])
     }
 
-    /// A no-op with these flag bits.
+    /// A no-op with these flag bits, every other field zero. io_uring_enter(2), IORING_OP_NOP.
     pub fn nop(user_data: u64, flags: u8) -> Sqe
         ensures { result ≡ without_data (header NOP flags (pos 0) 0 0 0 user_data) }
     {
         Sqe::with_opcode(opcode::NOP, user_data, flags)
     }
 
-    /// A read of `len` bytes of file `fd` from offset `off` on.
+    /// A read of `len` bytes of file `fd` from offset `off` on, in bytes. io_uring_enter(2), IORING_OP_READ. Any numbers make an entry; above 64 bytes, and at offset 2^64 - 1, it is a faulty one.
     pub fn read(user_data: u64, flags: u8, fd: i32, off: u64, len: u32) -> Sqe
         ensures { result ≡ without_data (header READ flags fd off 0 len user_data) }
     {
@@ -133,7 +133,7 @@ impl Sqe {
         from_header([first, off, 0, u64::from(len), user_data, 0, 0, 0])
     }
 
-    /// A write of 0 to 64 bytes to file `fd` at offset `off`.
+    /// A write of 0 to 64 bytes to file `fd` at offset `off`, in bytes. io_uring_enter(2), IORING_OP_WRITE. At offset 2^64 - 1 it is a faulty entry.
     pub fn write(user_data: u64, flags: u8, fd: i32, off: u64, bytes: &[u8]) -> Sqe
         requires { length bytes.now ≤ 64 }
         ensures { HasData result (header WRITE flags fd off 0 (length bytes.now) user_data) bytes.now }
@@ -147,7 +147,7 @@ impl Sqe {
         Sqe { words }
     }
 
-    /// A note of which writes of file `fd` are safe.
+    /// An fsync: a note of which writes of file `fd` are safe. io_uring_enter(2), IORING_OP_FSYNC.
     pub fn fsync(user_data: u64, flags: u8, fd: i32) -> Sqe
         ensures { result ≡ without_data (header FSYNC flags fd 0 0 0 user_data) }
     {
@@ -155,7 +155,7 @@ impl Sqe {
         from_header([first, 0, 0, 0, user_data, 0, 0, 0])
     }
 
-    /// A cancel of a request with the user data `target`.
+    /// A cancel of a request with the user data `target`. io_uring_enter(2), IORING_OP_ASYNC_CANCEL.
     pub fn cancel(user_data: u64, flags: u8, target: u64) -> Sqe
         ensures { result ≡ without_data (header ASYNC_CANCEL flags (pos 0) 0 target 0 user_data) }
     {
@@ -163,7 +163,7 @@ impl Sqe {
         from_header([first, 0, target, 0, user_data, 0, 0, 0])
     }
 
-    /// An entry of any operation, every other field zero.
+    /// An entry of any operation, served or not, every other field zero.
     pub fn with_opcode(code: u8, user_data: u64, flags: u8) -> Sqe
         ensures { result ≡ without_data (header code flags (pos 0) 0 0 0 user_data) }
     {

@@ -5,6 +5,8 @@ use std::error::Error;
 use std::fmt;
 
 /// What is wrong with an entry. Where several things are, the first in this order is told; each ends its request with -22 (EINVAL).
+///
+/// io_uring_enter(2), CQE ERRORS, has this result for invalid flags and operations. Which they are, the other faults and the order are our own rule.
 #[derive(Clone, Copy, Debug, PartialEq, Eq)]
 pub enum Fault {
     /// A flag that isn't served is set: bit 0 (fixed file), bit 5 (buffer select) or bit 7.

@@ -2,7 +2,7 @@ ghost use Rattle.std.specs.Prelude.{⊤, [], ◌∷◌, codes};
 
 use bitflags::{Flag, Flags, bitflag_items};
 
-/// The flags of an entry, the `IOSQE_` bits of io_uring_enter(2).
+/// The flags of an entry, the `IOSQE_` bits of io_uring_enter(2), with the numbers of `<linux/io_uring.h>`. `ASYNC` changes nothing, and `REFUSED` are the bits that aren't served: bit 0 (fixed file), bit 5 (buffer select) and bit 7. Both are our own rule.
 #[derive(Clone, Copy, PartialEq, Eq, Debug)]
 pub struct SqeFlags(u8);
 

@@ -1,4 +1,4 @@
-//! The operation codes that are served: the numbers of `enum io_uring_op`, io_uring_enter(2).
+//! The operation codes that are served, of those in io_uring_enter(2), with the numbers of `<linux/io_uring.h>`.
 
 /// Does nothing.
 pub const NOP: u8 = 0;

@@ -1,17 +1,19 @@
-/// What a prepared entry asks for.
+/// What a prepared entry asks for. `fd` is the descriptor of a file, whether there is one or not; `off` is in bytes, below 2^64 - 1; `len` is 0 to 64 bytes.
+///
+/// io_uring_enter(2), at each operation. That a write has its bytes in itself, and the ranges, are our own rule.
 #[derive(Clone, Copy, Debug, PartialEq, Eq)]
 pub enum Op {
     /// Nothing.
     Nop,
 
-    /// The bytes of a file from an offset on, at most 64.
+    /// `len` bytes of a file from an offset on.
     Read {
         fd: i32,
         off: u64,
         len: u32,
     },
 
-    /// The first `len` of the bytes, at most 64, put into a file at an offset.
+    /// The first `len` of these bytes put into a file at an offset.
     Write {
         fd: i32,
         off: u64,

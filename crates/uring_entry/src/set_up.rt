@@ -5,7 +5,7 @@ ghost use Rattle.uring_entry.specs.Shape.{IsBadCq};
 use crate::bad_set_up::BadSetup;
 use std::marker::Model;
 
-/// The sizes of a pair of rings, the number of its files, and the word at which both rings begin.
+/// The sizes of a pair of rings, the number of its files, and the word at which both rings begin. io_uring_setup(2); the files and the word are our own rule.
 #[derive(Clone, Copy, Debug, PartialEq, Eq)]
 pub struct Setup {
     sq: u32,
@@ -29,18 +29,18 @@ impl Model for Setup {
 impl Setup {
     ghost use Rattle.uring_entry.specs.Shape.{IsShape, IsSetUp, IsBadSq, IsBadCq, IsBadFiles};
 
-    /// Most entries of the submission ring.
+    /// Most entries of the submission ring: our own rule.
     pub const MAX_SQ: u32 = 4096;
 
-    /// Most entries of the completion ring.
+    /// Most entries of the completion ring: our own rule.
     pub const MAX_CQ: u32 = 8192;
 
-    /// Most files.
+    /// Most files: our own rule.
     pub const MAX_FILES: u32 = 64;
 
     /// A set-up with a submission ring of `sq` entries (1 to 4,096) and a completion ring of `cq` entries (1 to 8,192), or of twice the submission ring's, each rounded up to a power of two; `files` files (1 to 64); and rings that begin at the index word `start`.
     ///
-    /// `BadSq`, `BadCq` and `BadFiles` come in that order, each where its limit is broken; `BadCq` also where the completion ring is smaller after rounding than the submission ring. Sizes are rounded as in io_uring_setup(2); the limits are our own rule.
+    /// `BadSq`, `BadCq` and `BadFiles` come in that order, each where its limit is broken; `BadCq` also where the completion ring is smaller after rounding than the submission ring. Sizes are rounded as in io_uring_setup(2), IORING_SETUP_CQSIZE; the limits are our own rule, and so is that a completion ring of the submission ring's size is taken.
     pub fn new(sq: u32, cq: Option<u32>, files: u32, start: u32) -> Result<Setup, BadSetup>
         ensures ok { IfOk result (λ s. IsSetUp sq cq files start s) }
         ensures bad_sq { IsErrOf result BadSetup.BadSq ↔ IsBadSq sq }

@@ -24,7 +24,7 @@ max_len = 65536
 abbrev pub bytes_at : ℕ → ℕ → FileContents → List ℕ
 bytes_at off len file = take len (drop off file.bytes)
 
--- how a read ends: with the number of bytes that lie there, and these bytes
+-- how a read ends: with the number of bytes that lie there, and these bytes. io_uring_enter(2), IORING_OP_READ
 abbrev pub read_outcome : ℕ → ℕ → FileContents → Outcome
 read_outcome off len file =
     record { res = pos (min len (length file.bytes - off)); bytes = padded (bytes_at off len file) }
@@ -37,7 +37,7 @@ is_too_long off len = not (len == 0) && nat_lt max_len (off + len)
 abbrev pub is_past_end : ℕ → ℕ → FileContents → Bool
 is_past_end off len file = not (len == 0) && nat_lt (length file.bytes) (off + len)
 
--- bytes with others written over them from off on: what lies before, zeros where that ends before off, the new bytes, and what lies behind them. No bytes change nothing
+-- bytes with others written over them from off on: what lies before, zeros where that ends before off, the new bytes, and what lies behind them. No bytes change nothing. io_uring_enter(2), IORING_OP_WRITE
 abbrev pub overwritten : List ℕ → ℕ → List ℕ → List ℕ
 overwritten old off new =
     if length new == 0 then old
@@ -47,6 +47,6 @@ overwritten old off new =
 abbrev pub written : ℕ → List ℕ → FileContents → FileContents
 written off new file = record file { bytes = overwritten file.bytes off new; writes = (file.writes + 1) % 2 ^ 64 }
 
--- a file after a sync: its successful writes so far are noted as safe
+-- a file after a sync: its successful writes so far are noted as safe. io_uring_enter(2), IORING_OP_FSYNC
 abbrev pub with_writes_synced : FileContents → FileContents
 with_writes_synced file = record file { synced = file.writes }

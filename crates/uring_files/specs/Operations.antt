@@ -1,4 +1,4 @@
--- What the operations do on the files, and how they end. A file's descriptor is its place in the list.
+-- What the operations do on the files, and how they end. A file's descriptor is its place in the list: our own rule.
 use Rattle.std.specs.Prelude.{◌≡◌, ℕ, ℤ, pos, negsuc, neg_ℤ, Bool, true, false, not, ◌&&◌, ◌≤◌, ◌⊎◌, List, length, take, Option, slice_get, slice_set, slice_index_or, if◌then◌else◌, None}
 use Rattle.std.specs.Option.{option_map, option_map_or, option_and_then}
 use Rattle.std.specs.Ordering.{int_eq}

@@ -29,7 +29,7 @@ impl Files {
     ghost use Rattle.uring_files.specs.Contents.{empty_file, max_len};
     ghost use Rattle.uring_files.specs.Operations.{IsForFiles, IsOutcome, result_of, after, file_of, state_of, byte_of};
 
-    /// The most bytes that a file may have.
+    /// The most bytes that a file may have: our own rule.
     pub const MAX_LEN: u32 = File::MAX_LEN;
 
     /// As many files as `count`, each of no bytes. The only error is that memory for them was refused.
@@ -43,15 +43,15 @@ impl Files {
         Ok(Files { files })
     }
 
-    /// Carries out an operation, and answers how it ended. A result of 0 or more is that of a success, and one below 0 the negative of an error number; such an end changes no file.
+    /// Carries out an operation, any but a cancel, that moves at most 64 bytes, and answers how it ended. A result of 0 or more is that of a success, and one below 0 the negative of an error number; such an end changes no file.
     ///
     /// - A no-op gives 0.
-    /// - Any other operation ends with -9 (EBADF) where there is no file of its descriptor, before anything else is looked at.
+    /// - Any other operation ends with -9 (EBADF) where its descriptor is negative or not below the number of files, before anything else is looked at.
     /// - A read gives the bytes from its offset on, as many as it asks for and as the file has, and answers how many: 0 at or past the file's end.
     /// - A write of no bytes gives 0 at any offset, and counts as a successful write. One that would pass `MAX_LEN` ends with -27 (EFBIG), and one that lengthens its file with -12 (ENOMEM) where memory was refused. Else it answers how many bytes it wrote, and a gap between the file's end and its offset is filled with zeros.
     /// - A sync gives 0, and notes the successful writes of its file so far as safe.
     ///
-    /// Only a write that lengthens its file takes memory. What the operations do is that of io_uring_enter(2); the largest size, and that files are in memory, is our own rule.
+    /// Only a write that lengthens its file takes memory. What the operations do is that of io_uring_enter(2), IORING_OP_NOP, READ, WRITE and FSYNC, and EBADF of its CQE ERRORS. The largest size, that a write past it changes nothing, and that files are in memory, are our own rule.
     pub fn apply(&mut self, op: &Op) -> Outcome
         requires { IsForFiles op.now }
         ensures outcome { IsOutcome self.old op.now result }
@@ -71,7 +71,7 @@ impl Files {
         }
     }
 
-    /// How the file of a descriptor stands, if there is one.
+    /// How the file of a descriptor stands: `None` where there is none.
     pub fn state(&self, fd: i32) -> Option<FileState>
         ensures value { result ≡ state_of self.now fd }
         ensures limit { IfSome result (λ state. state.len ≤ max_len) }
@@ -79,7 +79,7 @@ impl Files {
         self.file(fd).map(File::state)
     }
 
-    /// The byte at offset `at` of the file of a descriptor, if there is such a file and the offset is below its length.
+    /// The byte at offset `at` of the file of a descriptor: `None` where there is no such file, or the offset isn't below its length.
     pub fn byte(&self, fd: i32, at: u64) -> Option<u8>
         ensures { result ≡ byte_of self.now fd at }
     {

@@ -1,4 +1,4 @@
-/// How a file stands.
+/// How a file stands. Our own rule.
 #[derive(Clone, Copy, Debug, PartialEq, Eq)]
 pub struct FileState {
     /// The file's length in bytes: at most 65,536.

@@ -1,4 +1,4 @@
--- The answers that are called for: by step, and in each step the refusals in their order.
+-- The answers that are called for: by step, and in each step the refusals in their order, which is our own rule.
 use Rattle.std.specs.Prelude.{◌≡◌, ℕ, ◌+◌, ◌-◌, ◌^◌, Bool, true, false, not, ◌==◌, nat_lt, nat_le, length, Option, Some, None, is_some, if◌then◌else◌, ◌⊎◌, slice_get}
 use Rattle.uring_entry.specs.Shape.{Shape}
 use Rattle.uring_entry.specs.Words.{word_of}
@@ -13,20 +13,22 @@ use Rattle.uring_machine.specs.declared.steps.Step.TheVariants as step
 use Rattle.uring_machine.specs.declared.answers.Answer.{Answer}
 use Rattle.uring_machine.specs.declared.answers.Answer.TheVariants as answer
 
+-- a slot that isn't there, one that a position names which the application doesn't know to be taken, or else a slot that is filled. Our own rule
 abbrev pub fill_answer : Shape → World → ℕ → Answer
 fill_answer g w slot =
     if nat_le g.sq slot then answer.NoSlot else
     if is_busy w.submission slot then answer.Busy else
     answer.Filled
 
+-- a ring that is full, or else a word that is staged. Our own rule
 abbrev pub index_answer : Shape → World → Answer
 index_answer g w = if is_full g.sq w.submission then answer.Full else answer.Staged
 
--- request numbers stay below 2 ^ 63
+-- no more than 2 ^ 63 - 1 requests are ever accepted: our own rule
 abbrev pub is_spent : World → ℕ → Bool
 is_spent w count = nat_lt (2 ^ 63 - 1) (length w.requests.accepted + count)
 
--- the answer to Begin where memory is there
+-- the answer to Begin where memory is there. io_uring_enter(2), to_submit, for the length of the call; the refusals are our own rule
 abbrev pub begin_answer : World → ℕ → Answer
 begin_answer w count =
     if w.is_closed then answer.Closed else
@@ -34,19 +36,22 @@ begin_answer w count =
     if is_spent w (call_length w.submission count) then answer.Spent else
     answer.Call (call_length w.submission count)
 
--- where a call would open, memory may be refused instead
+-- where a call would open, memory may be refused instead. io_uring_enter(2), ERRORS, EAGAIN
 abbrev pub OrAgain : Answer → Answer → Type 0
 OrAgain (answer.Call length) a = (a ≡ answer.Call length) ⊎ (a ≡ answer.Again)
 OrAgain refusal a = a ≡ refusal
 
+-- an entry, or a word that names no slot
 abbrev pub entry_answer : Option Entry → Answer
 entry_answer None = answer.Dropped
 entry_answer (Some entry) = answer.Entry entry
 
+-- the next position of a call, if there is one
 abbrev pub place_answer : Option Place → Answer
 place_answer None = answer.NoMore
 place_answer (Some place) = entry_answer place.entry
 
+-- no call, a call with all positions taken, or else its next position
 abbrev pub take_answer_in : World → Option Call → Answer
 take_answer_in w None = answer.NoCall
 take_answer_in w (Some call) =
@@ -56,6 +61,7 @@ take_answer_in w (Some call) =
 abbrev pub take_answer : World → Answer
 take_answer w = take_answer_in w w.submission.call
 
+-- no call, a call with positions left, or else how many entries are accepted, the words dropped so far with this call's, and the head behind the call
 abbrev pub end_answer_in : Shape → World → Option Call → Answer
 end_answer_in g w None = answer.NoCall
 end_answer_in g w (Some call) =
@@ -65,7 +71,7 @@ end_answer_in g w (Some call) =
 abbrev pub end_answer : Shape → World → Answer
 end_answer g w = end_answer_in g w w.submission.call
 
--- a doomed request ends; one that may start runs, or ends where it is a cancel
+-- a request that isn't outstanding, or that runs already; a doomed one ends; one that may start runs, or ends where it is a cancel
 abbrev pub issue_answer : World → ℕ → Answer
 issue_answer w n =
     if not (is_outstanding w.requests n) then answer.Unknown else
@@ -85,14 +91,17 @@ abbrev pub FinishesApart : Bool → Answer → Type 0
 FinishesApart true a = IsEnded a
 FinishesApart false a = a ≡ answer.NotRunning
 
+-- the next completion that the tail last loaded shows, if there is one. io_uring(7), Reading completion events
 abbrev pub reap_answer_of : Option Completion → Answer
 reap_answer_of None = answer.Nothing
 reap_answer_of (Some completion) = answer.Reaped completion
 
+-- the least request that can be issued, if there is one. Our own rule
 abbrev pub next_answer_of : Option ℕ → Answer
 next_answer_of None = answer.Nothing
 next_answer_of (Some n) = answer.Next n
 
+-- a call that is open, or else the ring is closed, also where it was before. Our own rule
 abbrev pub close_answer : World → Answer
 close_answer w = if is_some w.submission.call then answer.InCall else answer.Shut
 

@@ -1,4 +1,4 @@
--- What rings and dispatcher answer, as answers of the machine.
+-- What the submission ring answers, as answers of the machine.
 use Rattle.uring_rings.specs.declared.answers.fill_answer.FillAnswer.{FillAnswer}
 use Rattle.uring_rings.specs.declared.answers.fill_answer.FillAnswer.TheVariants as fill
 use Rattle.uring_rings.specs.declared.answers.index_answer.IndexAnswer.{IndexAnswer}

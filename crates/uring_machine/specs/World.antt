@@ -39,6 +39,7 @@ abbrev pub taking_of : World → Option Call → World
 taking_of w None = w
 taking_of w (Some call) = record w { submission = took w.submission call }
 
+-- a position was taken, whether its word names a slot or not
 abbrev pub taking : World → Answer → World
 taking w (answer.Entry entry) = taking_of w w.submission.call
 taking w answer.Dropped = taking_of w w.submission.call

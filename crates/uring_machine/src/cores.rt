@@ -62,7 +62,7 @@ impl Core {
         })
     }
 
-    /// Makes one step, which is no finish, and answers it. Only `Begin` asks for memory; where it is refused the answer is `Again`, and nothing is consumed.
+    /// Makes one step, and answers it. Condition: it is no `Finish`, which is a call of its own. Only `Begin` asks for memory; where it is refused the answer is `Again`, and nothing is consumed.
     pub fn step(&mut self, step: Step) -> Answer
         requires { IsNoFinish step }
         ensures shape { self.new.shape ≡ self.old.shape }
@@ -87,7 +87,7 @@ impl Core {
         }
     }
 
-    /// Ends the running request of this number with an outcome from outside, and posts its completion; `NotRunning` where it isn't running, and then nothing changes.
+    /// Ends the running request of this number with an outcome from outside, any one, and posts its completion, unless it succeeded and is to be skipped; `NotRunning` where it isn't running, and then nothing changes.
     pub fn finish(&mut self, number: u64, outcome: Outcome) -> Answer
         ensures shape { self.new.shape ≡ self.old.shape }
         ensures fits { (h : History) → FitsApart self.old h → FitsApart self.new ((step.Finish number, result) ∷ h) }
@@ -105,7 +105,7 @@ impl Core {
         }
     }
 
-    /// The operation of the request of this number, where it is running.
+    /// The operation of the request of this number: `Some` exactly where it is running.
     pub fn running_op(&self, number: u64) -> Option<Op>
         ensures { (h : History) → FitsApart self.now h → result ≡ operation_running (world self.now.shape h).requests number }
     {
@@ -119,7 +119,7 @@ impl Core {
         self.dispatch.least()
     }
 
-    /// The completion at this place among those posted and not reaped, the oldest first.
+    /// The completion at this place, from 0, among those posted and not reaped, the oldest first: `None` past the last.
     pub fn rest(&self, place: u64) -> Option<Cqe>
         ensures { (h : History) → FitsApart self.now h → result ≡ slice_get (unreaped (world self.now.shape h).completions) place }
     {

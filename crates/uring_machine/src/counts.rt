@@ -1,4 +1,4 @@
-/// How far a machine has come.
+/// How far a machine has come. Each number is at most 2^63 - 1.
 #[derive(Clone, Copy, Debug, PartialEq, Eq)]
 pub struct Counts {
     /// The requests accepted.

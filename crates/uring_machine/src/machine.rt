@@ -55,7 +55,7 @@ impl Machine {
 
     /// Makes one step, and answers it.
     ///
-    /// Only `Begin` and a `Finish` of a write ask for memory. Where it is refused, `Begin` is answered `Again`, and nothing is consumed; the write ends with -12 (ENOMEM).
+    /// Only `Begin` and the `Finish` of a write that lengthens its file ask for memory. Where it is refused, `Begin` is answered `Again`, and nothing is consumed; the write ends with -12 (ENOMEM).
     pub fn step(&mut self, step: Step) -> Answer
         ensures shape { self.new.core.shape ≡ self.old.core.shape }
         ensures fits { (h : History) → Fits self.old h → Fits self.new ((step, result) ∷ h) }
@@ -67,7 +67,7 @@ impl Machine {
         }
     }
 
-    /// The completion at this place among those posted and not reaped, the oldest first.
+    /// The completion at this place, from 0, among those posted and not reaped, the oldest first: `None` past the last.
     pub fn rest(&self, place: u64) -> Option<Cqe>
         ensures { (h : History) → Fits self.now h → result ≡ slice_get (unreaped (world self.now.core.shape h).completions) place }
     {
@@ -81,21 +81,21 @@ impl Machine {
         self.core.counts()
     }
 
-    /// The operation of the request of this number, where it is running.
+    /// The operation of the request of this number: `Some` exactly where it is running.
     pub fn running_op(&self, number: u64) -> Option<Op>
         ensures { (h : History) → Fits self.now h → result ≡ operation_running (world self.now.core.shape h).requests number }
     {
         self.core.running_op(number)
     }
 
-    /// How the file of a descriptor stands, if there is one.
+    /// How the file of a descriptor stands: `None` where there is none.
     pub fn state(&self, fd: i32) -> Option<FileState>
         ensures { (h : History) → Fits self.now h → result ≡ state_of (files_of self.now.core.shape (world self.now.core.shape h)) fd }
     {
         self.files.state(fd)
     }
 
-    /// The byte at offset `at` of the file of a descriptor, if there is such a file and the offset is below its length.
+    /// The byte at offset `at` of the file of a descriptor: `None` where there is no such file, or the offset isn't below its length.
     pub fn byte(&self, fd: i32, at: u64) -> Option<u8>
         ensures { (h : History) → Fits self.now h → result ≡ byte_of (files_of self.now.core.shape (world self.now.core.shape h)) fd at }
     {

@@ -1,6 +1,6 @@
 use uring_entry::Sqe;
 
-/// One step of the application or of the dispatcher, the kernel's side of the rings.
+/// One step of the application or of the dispatcher, the kernel's side of the rings. Any number may stand in a step: what is out of range is refused, or dropped. `Answer` tells each refusal.
 #[derive(Clone, Copy, Debug, PartialEq, Eq)]
 pub enum Step {
     /// The application writes an entry to a slot of the entry table.

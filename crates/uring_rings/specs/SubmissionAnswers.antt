@@ -26,7 +26,7 @@ after_fill l slot entry Filled = filled l slot entry
 after_fill l slot entry NoSlot = l
 after_fill l slot entry Busy = l
 
--- A word is staged unless the ring is full. io_uring(7), on the submission queue's tail
+-- A word is staged unless the ring is full. Our own rule: io_uring(7) leaves it to the application
 abbrev pub index_answer : ℕ → Submission → IndexAnswer
 index_answer size l = if is_full size l then Full else Staged
 

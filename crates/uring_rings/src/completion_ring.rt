@@ -10,7 +10,7 @@ use std::collections::VecDeque;
 use std::marker::Model;
 use uring_entry::{Cqe, Setup};
 
-/// The completion ring, with the overflow list of the completions that don't fit it: io_uring(7), and IORING_FEAT_NODROP of io_uring_setup(2). The dispatcher posts completions and stores the tail; the application reaps them and stores the head.
+/// The completion ring, with the overflow list of the completions that don't fit it: io_uring(7), Reading completion events, and io_uring_setup(2), IORING_FEAT_NODROP. The dispatcher posts completions and stores the tail; the application reaps them and stores the head.
 ///
 /// No call but `new` and `reserve` takes memory.
 #[derive(Debug, Drop)]
@@ -85,7 +85,7 @@ impl Cq {
         })
     }
 
-    /// Promises `n` posts from here on, in place of what is left of the last promise, and asks for the memory that they may need. Our own rule: a completion is never lost for want of memory.
+    /// Promises `n` posts from here on, any number, in place of what is left of the last promise, and asks for the memory that they may need. Our own rule: a completion is never lost for want of memory.
     ///
     /// An error is a refused allocation; what is left of the last promise then still stands.
     pub fn reserve(&mut self, n: u64) -> Result<(), AllocError>
@@ -99,7 +99,9 @@ impl Cq {
         Ok(())
     }
 
-    /// Posts a completion, which takes one of the posts promised: into the ring where none waits and the ring holds fewer than its size above the head last loaded by `flush`, else behind the others that wait. io_uring_setup(2), IORING_FEAT_NODROP.
+    /// Posts a completion, which takes one of the posts promised: into the ring where none waits and the ring holds fewer than its size above the head last loaded by `flush`, else behind the others that wait. io_uring_setup(2), IORING_FEAT_NODROP; that the head counts as last loaded is our own rule.
+    ///
+    /// Condition: a post is promised.
     pub fn post(&mut self, completion: Cqe)
         requires { 0 < self.old.room }
         ensures room { self.new.room + 1 ≡ self.old.room }
@@ -116,7 +118,7 @@ impl Cq {
         }
     }
 
-    /// The dispatcher loads the head, and moves as many of the oldest completions that wait as fit into the ring. Answers how many it moved. A step of its own: our own rule.
+    /// The dispatcher loads the head, and moves as many of the oldest completions that wait as fit into the ring. Answers how many it moved, at most the ring's size. A step of its own: our own rule.
     pub fn flush(&mut self) -> u64
         ensures answer { (g : Shape) (l : Completions) → ShowsCompletions g self.old l →
             result ≡ (flushed g.cq l).put - l.put }
@@ -132,7 +134,7 @@ impl Cq {
         moved
     }
 
-    /// The application loads the tail: answers its word. io_uring(7), on the completion queue's tail.
+    /// The application loads the tail: answers its word. io_uring(7), Reading completion events.
     pub fn load_tail(&mut self) -> u32
         ensures answer { (g : Shape) (l : Completions) → ShowsCompletions g self.old l →
             result ≡ word_of g.start l.put }
@@ -144,7 +146,7 @@ impl Cq {
         self.seen_tail.0
     }
 
-    /// Copies the next completion. None, with nothing changed, where all that stood in the ring when the tail was last loaded were reaped. io_uring(7), on the completion queue.
+    /// Copies the next completion. None, with nothing changed, where all that stood in the ring when the tail was last loaded were reaped. io_uring(7), Reading completion events.
     pub fn reap(&mut self) -> Option<Cqe>
         ensures answer { (g : Shape) (l : Completions) → ShowsCompletions g self.old l → result ≡ next_to_reap l }
         ensures shows { (g : Shape) (l : Completions) → ShowsCompletions g self.old l →
@@ -161,7 +163,7 @@ impl Cq {
         Some(self.cells[cell])
     }
 
-    /// The application stores the head, behind what it reaped: answers its word. io_uring(7), on the completion queue's head.
+    /// The application stores the head, behind what it reaped: answers its word. io_uring(7), Reading completion events.
     pub fn store_head(&mut self) -> u32
         ensures answer { (g : Shape) (l : Completions) → ShowsCompletions g self.old l →
             result ≡ word_of g.start (length l.reaped) }

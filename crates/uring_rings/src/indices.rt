@@ -1,7 +1,7 @@
 ghost use Rattle.std.specs.Prelude.{◌≡◌, ◌+◌, ◌%◌, ◌^◌};
 ghost use Rattle.std.specs.Int.{IsPowerOfTwo};
 
-/// An index word of a ring: a head or a tail, which runs freely and wraps at 32 bits. io_uring(7), on the ring's head and tail.
+/// An index word of a ring: a head or a tail, which runs freely and wraps at 32 bits. io_uring(7), Submitting I/O requests.
 #[derive(Clone, Copy, Debug, PartialEq, Eq)]
 pub struct Index(pub u32);
 

@@ -12,7 +12,7 @@ use std::alloc::{AllocError, Global};
 use std::marker::Model;
 use uring_entry::{Setup, Sqe};
 
-/// The submission ring: an array of index words that name slots of a table of entries, as io_uring(7) has it. The application fills slots, stages words and stores the tail; the dispatcher takes positions in calls and stores the head.
+/// The submission ring: an array of index words that name slots of a table of entries, as in io_uring(7), Submitting I/O requests. The application fills slots, stages words and stores the tail; the dispatcher takes positions in calls and stores the head.
 ///
 /// No call but `new` takes memory. A refusal changes nothing.
 #[derive(Debug, Drop)]
@@ -53,7 +53,7 @@ impl Model for Sq {
 }
 
 impl Sq {
-    /// An empty ring of the set-up's size, whose tail and head begin at the set-up's word. Every slot holds the zero entry.
+    /// An empty ring of the set-up's size, whose tail and head begin at the set-up's word. Every slot holds the zero entry: our own rule.
     ///
     /// An error is a refused allocation.
     pub fn new(alloc: Global, setup: &Setup) -> Result<Sq, AllocError>
@@ -78,7 +78,7 @@ impl Sq {
 
     /// Writes an entry to a slot of the table.
     ///
-    /// Refused with `NoSlot`, and then with `Busy`. Our own rule: the table may be read at `take`, since no slot changes while a position that isn't known to be taken names it.
+    /// Refused with `NoSlot` where the slot isn't below the ring's size, else with `Busy` where a published position names it that isn't below the head last loaded. Our own rule: so no slot changes under a position, and the table may be read at `take`.
     pub fn fill(&mut self, slot: u32, entry: Sqe) -> FillAnswer
         ensures answer { (g : Shape) (l : Submission) → ShowsSubmission g self.old l →
             result ≡ fill_answer g.sq l slot }
@@ -96,9 +96,9 @@ impl Sq {
         FillAnswer::Filled
     }
 
-    /// Stages a word at the next position, whatever the word: one that isn't below the ring's size names no slot. io_uring(7), on the submission queue's array.
+    /// Stages a word at the next position, whatever the word: one that isn't below the ring's size names no slot. io_uring(7), Submitting I/O requests.
     ///
-    /// Refused with `Full`.
+    /// Refused with `Full` where the positions staged and not below the head last loaded are as many as the ring's size: our own rule.
     pub fn index(&mut self, word: u32) -> IndexAnswer
         ensures answer { (g : Shape) (l : Submission) → ShowsSubmission g self.old l →
             result ≡ index_answer g.sq l }
@@ -115,7 +115,7 @@ impl Sq {
         IndexAnswer::Staged
     }
 
-    /// Publishes every staged position, and answers the tail's word. A position's entry is what its slot holds now; a slot that two positions name is copied for each. io_uring(7), on the submission queue's tail.
+    /// Publishes every staged position, and answers the tail's word. io_uring(7), Submitting I/O requests. A position's entry is what its slot holds now; a slot that two positions name is copied for each: our own rule.
     pub fn store_tail(&mut self) -> u32
         ensures answer { (g : Shape) (l : Submission) → ShowsSubmission g self.old l →
             result ≡ word_of g.start (staged l) }
@@ -126,7 +126,7 @@ impl Sq {
         self.published.0
     }
 
-    /// The application loads the head: answers its word, which `end` alone moves. io_uring(7), on the submission queue's head.
+    /// The application loads the head: answers its word. io_uring_setup(2), on head and tail; that `end` alone moves it is our own rule.
     pub fn load_head(&mut self) -> u32
         ensures answer { (g : Shape) (l : Submission) → ShowsSubmission g self.old l →
             result ≡ word_of g.start (taken l) }
@@ -152,9 +152,9 @@ impl Sq {
         self.call.is_some()
     }
 
-    /// Opens a call of `n` positions, or of those pending where they are fewer, and answers how many it takes. io_uring_enter(2), on `to_submit`.
+    /// Opens a call of `n` positions, or of those pending where they are fewer, and answers how many it takes. io_uring_enter(2), `to_submit` and RETURN VALUE.
     ///
-    /// Refused with `InCall`.
+    /// Refused with `InCall` where a call is open: our own rule.
     pub fn begin(&mut self, n: u32) -> BeginAnswer
         ensures answer { (g : Shape) (l : Submission) → ShowsSubmission g self.old l → result ≡ begin_answer l n }
         ensures shows { (g : Shape) (l : Submission) → ShowsSubmission g self.old l →
@@ -175,7 +175,7 @@ impl Sq {
 
     /// Copies the entry of the open call's next position, or answers `Dropped` where its word names no slot. The call goes on behind such a word: our own rule.
     ///
-    /// Refused with `NoCall`, and with `NoMore`.
+    /// Refused with `NoCall` where no call is open, and with `NoMore` where all positions of the open call are taken.
     pub fn take(&mut self) -> TakeAnswer
         ensures answer { (g : Shape) (l : Submission) → ShowsSubmission g self.old l → result ≡ take_answer l }
         ensures shows { (g : Shape) (l : Submission) → ShowsSubmission g self.old l →
@@ -207,7 +207,7 @@ impl Sq {
 
     /// Closes the open call: the head moves past its positions, its entries are accepted, and its dropped words are counted. Before that an entry that was taken isn't accepted: our own rule.
     ///
-    /// Refused with `NoCall`, and with `NotAll`.
+    /// Refused with `NoCall` where no call is open, and with `NotAll` where positions of the open call remain.
     pub fn end(&mut self) -> EndAnswer
         ensures answer { (g : Shape) (l : Submission) → ShowsSubmission g self.old l → result ≡ end_answer g l }
         ensures shows { (g : Shape) (l : Submission) → ShowsSubmission g self.old l →

@@ -1,4 +1,4 @@
-/// What `Sq::begin` answers. The refusal is our own rule.
+/// What `Sq::begin` answers. The number of positions is that of io_uring_enter(2), to_submit; the refusal is our own rule.
 #[derive(Clone, Copy, Debug, PartialEq, Eq)]
 pub enum BeginAnswer {
     /// A call is open.

@@ -1,4 +1,4 @@
-/// What `Sq::index` answers. io_uring(7), on a submission queue that is full.
+/// What `Sq::index` answers. Our own rule: io_uring(7) leaves it to the application not to fill the ring too far.
 #[derive(Clone, Copy, Debug, PartialEq, Eq)]
 pub enum IndexAnswer {
     /// As many positions as the ring's size are staged or published at or after the head that the application last loaded.

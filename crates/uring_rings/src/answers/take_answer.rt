@@ -12,6 +12,6 @@ pub enum TakeAnswer {
     /// The next position's entry.
     Entry(Sqe),
 
-    /// The next position's word names no slot. `end` counts it among the dropped.
+    /// The next position's word names no slot. `end` counts it among the dropped: io_uring_setup(2), on `dropped`.
     Dropped,
 }
