@@ -11,7 +11,7 @@ use Rattle.uring_dispatch.specs.declared.held.Request.{Request}
 use Rattle.uring_dispatch.specs.declared.progress.State.{State}
 use Rattle.uring_dispatch.specs.declared.progress.State.TheVariants.{Waiting, Succeeded}
 use Rattle.uring_dispatch.specs.Held.{AreHeld, request_at, with_state, chosen, is_over, is_running, in_over, in_running, fresh}
-use Rattle.uring_dispatch.specs.Counts.{count_below}
+use Rattle.uring_entry.specs.Below.{count_below}
 use Rattle.uring_dispatch.specs.Dispatcher.{Dispatcher, dispatcher_of, Shows, StandsFor, HasEnded}
 use Rattle.uring_dispatch.proofs.Changes.{by_place}
 

@@ -1,5 +1,5 @@
--- Searches among the numbers below a bound.
-use Rattle.std.specs.Prelude.{ℕ, zero, suc, Bool, false, ◌||◌, Option, Some, None, if◌then◌else◌}
+-- Searches and counts among the numbers below a bound.
+use Rattle.std.specs.Prelude.{ℕ, zero, suc, ◌+◌, Bool, false, ◌||◌, Option, Some, None, if◌then◌else◌}
 
 -- whether p holds of some number below n
 abbrev pub some_below : (ℕ → Bool) → ℕ → Bool
@@ -15,3 +15,8 @@ found_or None holds n = if holds then Some n else None
 abbrev pub least_below : (ℕ → Bool) → ℕ → Option ℕ
 least_below p zero = None
 least_below p (suc n) = found_or (least_below p n) (p n) n
+
+-- how many numbers below n have p
+abbrev pub count_below : (ℕ → Bool) → ℕ → ℕ
+count_below p zero = 0
+count_below p (suc n) = count_below p n + (if p n then 1 else 0)

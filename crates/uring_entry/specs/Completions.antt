@@ -1,7 +1,7 @@
 -- The completion ring and its overflow list as lists of all that ever happened to them. io_uring(7), Reading completion events; io_uring_setup(2), IORING_FEAT_NODROP, for the overflow list, which is flushed by a step of its own: our own rule.
 use Rattle.std.specs.Prelude.{ℕ, ◌+◌, ◌-◌, ℤ, Bool, ◌&&◌, ◌==◌, nat_lt, List, [], ◌∷◌, ◌++◌, length, drop, min, Option, None, slice_get, if◌then◌else◌}
 use Rattle.uring_entry.specs.Layout.{Completion, Entry, user_data_of}
-use Rattle.uring_entry.specs.Success.{is_told}
+use Rattle.uring_entry.specs.Success.{posts_completion}
 
 -- All that happened on the completion ring.
 pub record Completions : Type 0 where
@@ -45,10 +45,14 @@ abbrev pub with_posted : ℕ → Completions → Completion → Completions
 with_posted size l completion =
     record l { posted = l.posted ++ completion ∷ []; put = if has_room size l then l.put + 1 else l.put }
 
+-- the completion of a request of this entry that ended with this result and these bytes
+abbrev pub completion_for : Entry → ℤ → List ℕ → Completion
+completion_for entry res bytes = record { user_data = user_data_of entry; res = res; payload = bytes }
+
 -- the end of a request with this entry: its completion is posted, unless it is to be skipped. io_uring(7), DESCRIPTION, and io_uring_enter(2), IOSQE_CQE_SKIP_SUCCESS
 abbrev pub with_end : ℕ → Completions → Entry → ℤ → List ℕ → Completions
 with_end size l entry res bytes =
-    if is_told entry res then with_posted size l (record { user_data = user_data_of entry; res = res; payload = bytes }) else l
+    if posts_completion entry res then with_posted size l (completion_for entry res bytes) else l
 
 -- the dispatcher loads the head, and moves completions from the overflow list into the ring
 abbrev pub flushed : ℕ → Completions → Completions

@@ -67,6 +67,10 @@ dropped l = dropped_in (take (taken l) l.published) % 2 ^ 32
 abbrev pub places_from : Submission → ℕ → List Place
 places_from l count = take count (drop (taken l) l.published)
 
+-- the entries that they have
+abbrev pub entries_from : Submission → ℕ → List Entry
+entries_from l count = entries_of (places_from l count)
+
 -- whether a slot may not be filled: a published position that the application doesn't know to be taken names it. Our own rule
 abbrev pub is_busy : Submission → ℕ → Bool
 is_busy l slot = list_any (λ place. place.word == slot) (drop l.seen_head l.published)

@@ -10,5 +10,5 @@ abbrev pub is_success : Entry → ℤ → Bool
 is_success e res = int_eq res (pos (if is_transfer e then len_of e else 0))
 
 -- whether an end with this result posts a completion: each does but a success that the entry asks to skip. io_uring_enter(2), IOSQE_CQE_SKIP_SUCCESS
-abbrev pub is_told : Entry → ℤ → Bool
-is_told e res = not (has skip_success e && is_success e res)
+abbrev pub posts_completion : Entry → ℤ → Bool
+posts_completion e res = not (has skip_success e && is_success e res)

@@ -20,13 +20,6 @@ abbrev pub with_changed : List FileContents → ℤ → (FileContents → FileCo
 with_changed files (pos fd) change = slice_set files fd (change (slice_index_or files fd empty_file))
 with_changed files (negsuc below) change = files
 
--- whether an operation is one on the file of this descriptor
-abbrev pub is_on : ℤ → Op → Bool
-is_on own (Read fd off len) = int_eq own fd
-is_on own (Write fd off len bytes) = int_eq own fd
-is_on own (Fsync fd) = int_eq own fd
-is_on own other = false
-
 -- what can be asked of files: anything but a cancel, and no transfer of more than 64 bytes
 abbrev pub IsForFiles : Op → Type 0
 IsForFiles Nop = Unit {0}

@@ -6,7 +6,7 @@ use Rattle.std.proofs.lemmas.Grind.{common_steps}
 use Rattle.uring_entry.specs.Shape.{Shape}
 use Rattle.uring_entry.specs.Words.{word_of}
 use Rattle.uring_entry.specs.Layout.{Entry, Completion, user_data_of}
-use Rattle.uring_entry.specs.Success.{is_told}
+use Rattle.uring_entry.specs.Success.{posts_completion}
 use Rattle.uring_entry.specs.Submission.{Submission, Call, no_submission, taken, pending, entries_of, places_from, dropped, closed}
 use Rattle.uring_entry.specs.Requests.{Requests, no_request, entry_of, has_started, has_ended, is_outstanding, is_running, is_doomed, is_ready, doomed_result, cancel_result, no_bytes, with_call, with_ended, with_issued_end, with_started}
 use Rattle.uring_entry.specs.Preparation.{is_cancel, operation_of}
@@ -143,7 +143,7 @@ one_more size l completion = omega (arith, length-append l.posted (completion �
 -- an end posts one completion at most
 few_posted : (size : ℕ) (l : Completions) (entry : Entry) (res : ℤ) (bytes : List ℕ) → length (with_end size l entry res bytes).posted ≤ length l.posted + 1
 few_posted size l entry res bytes =
-    elim (cases_Bool (is_told entry res)) [
+    elim (cases_Bool (posts_completion entry res)) [
       | inl told ↦ rw told (one_more size l (record { user_data = user_data_of entry; res = res; payload = bytes }))
       | inr skipped ↦ rw skipped (omega arith)
     ]

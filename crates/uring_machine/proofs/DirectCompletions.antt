@@ -2,7 +2,7 @@
 use Rattle.std.proofs.Common.{◌≡◌, ℕ, Bool, true, false, [], ◌∷◌, ◌++◌, length, cond, refl, sym, subst, ap, ◌∙◌}
 use Rattle.uring_entry.specs.Shape.{Shape}
 use Rattle.uring_entry.specs.Layout.{Completion, user_data_of}
-use Rattle.uring_entry.specs.Success.{is_told}
+use Rattle.uring_entry.specs.Success.{posts_completion}
 use Rattle.uring_entry.specs.Completions.{Completions, with_posted}
 use Rattle.uring_entry.specs.Requests.{entry_of, doomed_result, cancel_result, no_bytes}
 use Rattle.uring_machine.specs.Direct.{reaped_by, is_flush, is_load_cq_tail, is_store_cq_head, before_last, reaps as reaps_in, stored_head, flushed_head}
@@ -43,9 +43,9 @@ completions_direct g h w s a (takes entry call place opened left at valid) is i 
 completions_direct g h w s a (drops call place opened left at invalid) is i = subst (λ o. DirectCompletions g ((step.Take, answer.Dropped) ∷ h) (taking_of w o)) (sym opened) (record { reaped = i.reaped; stored = i.stored; flushed = i.flushed; seen = i.seen })
 completions_direct g h w s a (closes accepted missed head call opened all counted) is i = subst (λ o. DirectCompletions g ((step.End, answer.Taken accepted missed head) ∷ h) (ending_of w o)) (sym opened) (record { reaped = i.reaped; stored = i.stored; flushed = i.flushed; seen = i.seen })
 completions_direct g h w s a (runs n outstanding idle spared ready) is i = record { reaped = i.reaped; stored = i.stored; flushed = i.flushed; seen = i.seen }
-completions_direct g h w s a (dooms n outstanding idle doomed) is i = let f = end_frame g.cq w.completions (is_told (entry_of w.requests n) (doomed_result w.requests n)) (record { user_data = user_data_of (entry_of w.requests n); res = (doomed_result w.requests n); payload = no_bytes }) in record { reaped = f.reaped ∙ i.reaped; stored = f.head ∙ i.stored; flushed = f.seen_head ∙ i.flushed; seen = f.seen_tail ∙ i.seen }
-completions_direct g h w s a (cancels n outstanding idle spared ready cancel) is i = let f = end_frame g.cq w.completions (is_told (entry_of w.requests n) (cancel_result w.requests n)) (record { user_data = user_data_of (entry_of w.requests n); res = (cancel_result w.requests n); payload = no_bytes }) in record { reaped = f.reaped ∙ i.reaped; stored = f.head ∙ i.stored; flushed = f.seen_head ∙ i.flushed; seen = f.seen_tail ∙ i.seen }
-completions_direct g h w s a (finishes n res bytes running) is i = let f = end_frame g.cq w.completions (is_told (entry_of w.requests n) res) (record { user_data = user_data_of (entry_of w.requests n); res = res; payload = bytes }) in record { reaped = f.reaped ∙ i.reaped; stored = f.head ∙ i.stored; flushed = f.seen_head ∙ i.flushed; seen = f.seen_tail ∙ i.seen }
+completions_direct g h w s a (dooms n outstanding idle doomed) is i = let f = end_frame g.cq w.completions (posts_completion (entry_of w.requests n) (doomed_result w.requests n)) (record { user_data = user_data_of (entry_of w.requests n); res = (doomed_result w.requests n); payload = no_bytes }) in record { reaped = f.reaped ∙ i.reaped; stored = f.head ∙ i.stored; flushed = f.seen_head ∙ i.flushed; seen = f.seen_tail ∙ i.seen }
+completions_direct g h w s a (cancels n outstanding idle spared ready cancel) is i = let f = end_frame g.cq w.completions (posts_completion (entry_of w.requests n) (cancel_result w.requests n)) (record { user_data = user_data_of (entry_of w.requests n); res = (cancel_result w.requests n); payload = no_bytes }) in record { reaped = f.reaped ∙ i.reaped; stored = f.head ∙ i.stored; flushed = f.seen_head ∙ i.flushed; seen = f.seen_tail ∙ i.seen }
+completions_direct g h w s a (finishes n res bytes running) is i = let f = end_frame g.cq w.completions (posts_completion (entry_of w.requests n) res) (record { user_data = user_data_of (entry_of w.requests n); res = res; payload = bytes }) in record { reaped = f.reaped ∙ i.reaped; stored = f.head ∙ i.stored; flushed = f.seen_head ∙ i.flushed; seen = f.seen_tail ∙ i.seen }
 completions_direct g h w s a (flushes moved) is i = record { reaped = i.reaped; stored = i.stored; flushed = i.stored; seen = i.seen }
 completions_direct g h w s a (sees_tail tail) is i = record { reaped = i.reaped; stored = i.stored; flushed = i.flushed; seen = ap (λ v. v.completions.put) is }
 completions_direct g h w s a (reaps completion next) is i = record { reaped = ap (λ xs. xs ++ completion ∷ []) i.reaped; stored = i.stored; flushed = i.flushed; seen = i.seen }

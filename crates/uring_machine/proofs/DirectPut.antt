@@ -4,7 +4,7 @@ use Rattle.std.specs.List.{filter_map}
 use Rattle.std.specs.Option.{option_and_then}
 use Rattle.uring_entry.specs.Shape.{Shape}
 use Rattle.uring_entry.specs.Layout.{Completion, user_data_of}
-use Rattle.uring_entry.specs.Success.{is_told}
+use Rattle.uring_entry.specs.Success.{posts_completion}
 use Rattle.uring_entry.specs.Completions.{Completions, with_posted}
 use Rattle.uring_entry.specs.Requests.{entry_of, doomed_result, cancel_result, no_bytes}
 use Rattle.uring_machine.specs.World.{happens, taking_of, ending_of}
@@ -43,9 +43,9 @@ put_direct g h s a (takes entry call place opened left at valid) f i = ap (λ o.
 put_direct g h s a (drops call place opened left at invalid) f i = ap (λ o. (taking_of (world g h) o).completions.put) opened ∙ i
 put_direct g h s a (closes accepted missed head call opened all counted) f i = ap (λ o. (ending_of (world g h) o).completions.put) opened ∙ i
 put_direct g h s a (runs n outstanding idle spared ready) f i = i
-put_direct g h s a (dooms n outstanding idle doomed) f i = end_put g.cq (world g h).completions (is_told (entry_of (world g h).requests n) (doomed_result (world g h).requests n)) (record { user_data = user_data_of (entry_of (world g h).requests n); res = (doomed_result (world g h).requests n); payload = no_bytes }) (put_count g h) (posted_count g h) (flushed_head h) i f.posted f.loaded
-put_direct g h s a (cancels n outstanding idle spared ready cancel) f i = end_put g.cq (world g h).completions (is_told (entry_of (world g h).requests n) (cancel_result (world g h).requests n)) (record { user_data = user_data_of (entry_of (world g h).requests n); res = (cancel_result (world g h).requests n); payload = no_bytes }) (put_count g h) (posted_count g h) (flushed_head h) i f.posted f.loaded
-put_direct g h s a (finishes n res bytes running) f i = end_put g.cq (world g h).completions (is_told (entry_of (world g h).requests n) res) (record { user_data = user_data_of (entry_of (world g h).requests n); res = res; payload = bytes }) (put_count g h) (posted_count g h) (flushed_head h) i f.posted f.loaded
+put_direct g h s a (dooms n outstanding idle doomed) f i = end_put g.cq (world g h).completions (posts_completion (entry_of (world g h).requests n) (doomed_result (world g h).requests n)) (record { user_data = user_data_of (entry_of (world g h).requests n); res = (doomed_result (world g h).requests n); payload = no_bytes }) (put_count g h) (posted_count g h) (flushed_head h) i f.posted f.loaded
+put_direct g h s a (cancels n outstanding idle spared ready cancel) f i = end_put g.cq (world g h).completions (posts_completion (entry_of (world g h).requests n) (cancel_result (world g h).requests n)) (record { user_data = user_data_of (entry_of (world g h).requests n); res = (cancel_result (world g h).requests n); payload = no_bytes }) (put_count g h) (posted_count g h) (flushed_head h) i f.posted f.loaded
+put_direct g h s a (finishes n res bytes running) f i = end_put g.cq (world g h).completions (posts_completion (entry_of (world g h).requests n) res) (record { user_data = user_data_of (entry_of (world g h).requests n); res = res; payload = bytes }) (put_count g h) (posted_count g h) (flushed_head h) i f.posted f.loaded
 put_direct g h s a (flushes moved) f i = ap₂ (λ posted head. min posted (head + g.cq)) f.posted f.stored
 put_direct g h s a (sees_tail tail) f i = i
 put_direct g h s a (reaps completion next) f i = i

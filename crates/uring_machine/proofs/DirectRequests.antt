@@ -7,7 +7,7 @@ use Rattle.std.proofs.lemmas.List.Elements.{filter_map-append}
 use Rattle.std.proofs.lemmas.List.Sums.{sum_by_push, sum_by-cons}
 use Rattle.uring_entry.specs.Shape.{Shape}
 use Rattle.uring_entry.specs.Layout.{Entry, Completion, zero_entry, user_data_of}
-use Rattle.uring_entry.specs.Success.{is_told}
+use Rattle.uring_entry.specs.Success.{posts_completion}
 use Rattle.uring_entry.specs.Submission.{Submission, taken, accepted, entries_of, places_from, place_of}
 use Rattle.uring_entry.specs.Completions.{Completions, with_posted, with_end}
 use Rattle.uring_entry.specs.Requests.{Ending, doomed_result, cancel_result, no_bytes}
@@ -48,7 +48,7 @@ same_posts : (accepted more : List Entry) (es : List Ending) → ((n : ℕ) → 
 same_posts accepted more [] within = refl
 same_posts accepted more (e ∷ es) within =
     ap₂ cons_option
-    (ap (λ entry. cond (is_told entry e.res) (Some (record { user_data = user_data_of entry; res = e.res; payload = e.bytes })) None)
+    (ap (λ entry. cond (posts_completion entry e.res) (Some (record { user_data = user_data_of entry; res = e.res; payload = e.bytes })) None)
     (get_or_append_left accepted more zero_entry e.number (within e.number (or_left (e.number == e.number) _ (eq-eqb e.number _ refl)))))
     (same_posts accepted more es (λ n there. within n (or_right (e.number == n) _ there)))
 
@@ -61,7 +61,7 @@ end_posted : (size : ℕ) (l : Completions) (accepted : List Entry) (es : List E
     → (with_end size l (get_or accepted e.number zero_entry) e.res e.bytes).posted ≡ filter_map (completion_of accepted) (es ++ e ∷ [])
 end_posted size l accepted es e posted =
     let entry = get_or accepted e.number zero_entry in
-    posted_or_not size l (is_told entry e.res) (record { user_data = user_data_of entry; res = e.res; payload = e.bytes })
+    posted_or_not size l (posts_completion entry e.res) (record { user_data = user_data_of entry; res = e.res; payload = e.bytes })
     ∙ ap (λ xs. xs ++ cons_option (completion_of accepted e) []) posted
     ∙ sym (filter_map-append (completion_of accepted) es (e ∷ []))
 

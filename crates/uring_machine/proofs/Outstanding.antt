@@ -3,7 +3,8 @@ use Rattle.std.proofs.Common.{◌≡◌, ◌≢◌, ℕ, zero, suc, ◌+◌, ◌
 use Rattle.std.proofs.lemmas.Bool.{cases_eq, cases_Bool, and_parts, ltb-true}
 use Rattle.uring_entry.specs.Requests.{Requests, has_ended, is_outstanding, with_ended}
 use Rattle.uring_entry.proofs.RequestLemmas.{has_ended-same, has_ended-other}
-use Rattle.uring_dispatch.specs.Counts.{count_below, outstanding_in}
+use Rattle.uring_dispatch.specs.Counts.{outstanding_in}
+use Rattle.uring_entry.specs.Below.{count_below}
 
 -- at most as many as there are numbers
 pub count_below-few : (p : ℕ → Bool) (n : ℕ) → count_below p n ≤ n

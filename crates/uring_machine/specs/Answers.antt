@@ -4,7 +4,7 @@ use Rattle.uring_entry.specs.Shape.{Shape}
 use Rattle.uring_entry.specs.Words.{word_of}
 use Rattle.uring_entry.specs.Layout.{Entry, Completion}
 use Rattle.uring_entry.specs.Preparation.{is_cancel}
-use Rattle.uring_entry.specs.Submission.{Call, Place, staged, taken, is_busy, is_full, call_length, entries_of, places_from, dropped, closed}
+use Rattle.uring_entry.specs.Submission.{Call, Place, staged, taken, is_busy, is_full, call_length, entries_from, dropped, closed}
 use Rattle.uring_entry.specs.Requests.{entry_of, is_outstanding, is_running, is_doomed, is_ready, doomed_result, cancel_result, no_bytes, next_of}
 use Rattle.uring_entry.specs.Completions.{put_by_flush, next_to_reap}
 use Rattle.uring_machine.specs.World.{World}
@@ -66,7 +66,7 @@ abbrev pub end_answer_in : Shape → World → Option Call → Answer
 end_answer_in g w None = answer.NoCall
 end_answer_in g w (Some call) =
     if nat_lt call.taken call.count then answer.NotAll else
-    answer.Taken (length (entries_of (places_from w.submission call.count))) (dropped (closed w.submission call)) (word_of g.start (taken w.submission + call.count))
+    answer.Taken (length (entries_from w.submission call.count)) (dropped (closed w.submission call)) (word_of g.start (taken w.submission + call.count))
 
 abbrev pub end_answer : Shape → World → Answer
 end_answer g w = end_answer_in g w w.submission.call

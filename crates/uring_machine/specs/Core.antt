@@ -2,7 +2,7 @@
 use Rattle.std.specs.Prelude.{◌≡◌, ℕ, ◌+◌, ◌-◌, ◌^◌, ◌≤◌, Bool, true, List, [], length, Option, Some, None, if◌then◌else◌}
 use Rattle.uring_entry.specs.Shape.{Shape, IsShape}
 use Rattle.uring_entry.specs.Layout.{Entry}
-use Rattle.uring_entry.specs.Submission.{Submission, Call, entries_of, places_from}
+use Rattle.uring_entry.specs.Submission.{Submission, Call, entries_from}
 use Rattle.uring_rings.specs.SubmissionRing.{SubmissionQueue, ShowsSubmission}
 use Rattle.uring_rings.specs.CompletionRing.{CompletionQueue, ShowsCompletions}
 use Rattle.uring_dispatch.specs.Dispatcher.{Dispatcher, Shows}
@@ -29,7 +29,7 @@ pub record Parts : Type 0 where
 -- the entries that the open call took so far
 abbrev pub held_by : Submission → Option Call → List Entry
 held_by l None = []
-held_by l (Some call) = entries_of (places_from l call.taken)
+held_by l (Some call) = entries_from l call.taken
 
 -- the positions of the open call
 abbrev pub positions_of : Option Call → ℕ

@@ -1,10 +1,11 @@
 -- Lists and counts read straight off a history: what its events tell, and which of them stand before which.
-use Rattle.std.specs.Prelude.{ℕ, ◌+◌, Bool, true, false, not, ◌&&◌, ◌==◌, nat_lt, List, [], ◌∷◌, ◌++◌, length, take, sum, count_by, Option, Some, None, unwrap_or, if◌then◌else◌, slice_index_or}
+use Rattle.std.specs.Prelude.{ℕ, ◌+◌, Bool, true, false, not, ◌&&◌, ◌==◌, nat_lt, List, [], ◌∷◌, ◌++◌, length, take, sum, count_by, Option, Some, None, is_some, unwrap_or, if◌then◌else◌, slice_index_or}
 use Rattle.std.specs.List.{filter_map}
 use Rattle.std.specs.Option.{option_or}
-use Rattle.uring_entry.specs.Layout.{Entry, Completion, zero_entry, user_data_of}
-use Rattle.uring_entry.specs.Success.{is_told}
+use Rattle.uring_entry.specs.Layout.{Entry, Completion, zero_entry}
+use Rattle.uring_entry.specs.Success.{posts_completion}
 use Rattle.uring_entry.specs.Submission.{Call}
+use Rattle.uring_entry.specs.Completions.{completion_for}
 use Rattle.uring_entry.specs.Requests.{Ending}
 use Rattle.uring_machine.specs.Histories.{Event, History}
 use Rattle.uring_machine.specs.declared.steps.Step.TheVariants as step
@@ -56,8 +57,7 @@ opened_by _ = None
 
 -- whether a call opens
 abbrev pub opens_call : Event → Bool
-opens_call (step.Begin count, answer.Call length) = true
-opens_call _ = false
+opens_call event = is_some (opened_by event)
 
 -- how many entries are accepted as the open call closes
 abbrev pub accepted_by : Event → Option ℕ
@@ -66,8 +66,7 @@ accepted_by _ = None
 
 -- whether the open call closes
 abbrev pub closes_call : Event → Bool
-closes_call (step.End, answer.Taken accepted dropped head) = true
-closes_call _ = false
+closes_call event = is_some (accepted_by event)
 
 -- whether the ring closes
 abbrev pub closes_ring : Event → Bool
@@ -140,7 +139,7 @@ reaps h = told reaped_by h
 abbrev pub completion_of : List Entry → Ending → Option Completion
 completion_of accepted e =
     let entry = slice_index_or accepted e.number zero_entry in
-    if is_told entry e.res then Some (record { user_data = user_data_of entry; res = e.res; payload = e.bytes }) else None
+    if posts_completion entry e.res then Some (completion_for entry e.res e.bytes) else None
 
 -- the completions posted, in order, where these entries were accepted
 abbrev pub posts : List Entry → History → List Completion

@@ -2,7 +2,7 @@
 use Rattle.std.specs.Prelude.{ℕ, Bool, true, false, Option, Some, None, length}
 use Rattle.uring_entry.specs.Shape.{Shape}
 use Rattle.uring_entry.specs.Layout.{Entry}
-use Rattle.uring_entry.specs.Submission.{Submission, Call, no_submission, entries_of, places_from, filled, indexed, stored, loaded, begun, took, closed}
+use Rattle.uring_entry.specs.Submission.{Submission, Call, no_submission, entries_from, filled, indexed, stored, loaded, begun, took, closed}
 use Rattle.uring_entry.specs.Requests.{Requests, no_request, entry_of, with_call, with_started, with_ended, with_issued_end, no_bytes}
 use Rattle.uring_entry.specs.Completions.{Completions, no_completion, with_end, flushed, with_tail_loaded, with_reaped, with_head_stored}
 use Rattle.uring_machine.specs.declared.steps.Step.{Step}
@@ -51,7 +51,7 @@ ending_of w None = w
 ending_of w (Some call) =
     record w {
       submission = closed w.submission call;
-      requests = with_call w.requests (entries_of (places_from w.submission call.count));
+      requests = with_call w.requests (entries_from w.submission call.count);
     }
 
 abbrev pub ending : World → Answer → World

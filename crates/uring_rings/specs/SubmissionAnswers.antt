@@ -4,7 +4,7 @@ use Rattle.std.specs.Option.{option_and_then}
 use Rattle.uring_entry.specs.Layout.{Entry}
 use Rattle.uring_entry.specs.Shape.{Shape}
 use Rattle.uring_entry.specs.Words.{word_of}
-use Rattle.uring_entry.specs.Submission.{Submission, Call, taken, dropped, entries_of, places_from, is_busy, is_full, call_length, filled, indexed, begun, took, closed}
+use Rattle.uring_entry.specs.Submission.{Submission, Call, taken, dropped, entries_from, is_busy, is_full, call_length, filled, indexed, begun, took, closed}
 use Rattle.uring_rings.specs.declared.answers.fill_answer.FillAnswer.{FillAnswer}
 use Rattle.uring_rings.specs.declared.answers.fill_answer.FillAnswer.TheVariants.{NoSlot, Busy, Filled}
 use Rattle.uring_rings.specs.declared.answers.index_answer.IndexAnswer.{IndexAnswer}
@@ -80,7 +80,7 @@ after_take l NoMore = l
 abbrev pub end_of : Shape → Submission → Option Call → EndAnswer
 end_of g l None = NoCallToEnd
 end_of g l (Some call) =
-    if call.taken == call.count then Closed (record { accepted = length (entries_of (places_from l call.count)); dropped = dropped (closed l call); head = word_of g.start (taken (closed l call)) }) else NotAll
+    if call.taken == call.count then Closed (record { accepted = length (entries_from l call.count); dropped = dropped (closed l call); head = word_of g.start (taken (closed l call)) }) else NotAll
 
 -- The open call closes once all its positions are taken. Our own rule
 abbrev pub end_answer : Shape → Submission → EndAnswer

@@ -5,7 +5,7 @@ use Rattle.std.specs.Option.{option_map}
 use Rattle.uring_entry.specs.Layout.{Entry}
 use Rattle.uring_entry.specs.Shape.{Shape}
 use Rattle.uring_entry.specs.Words.{word_of}
-use Rattle.uring_entry.specs.Submission.{Submission, Place, Call, taken, staged, pending, dropped, entries_of, places_from, place_of}
+use Rattle.uring_entry.specs.Submission.{Submission, Place, Call, taken, staged, pending, dropped, entries_from, place_of}
 use Rattle.uring_rings.specs.declared.open_call.OpenCall.{OpenCall}
 
 -- What the ring keeps: its size, the words of its tails and heads, the 32-bit count of dropped words, the open call, the table of entries, and the array of words that name them.
@@ -35,7 +35,7 @@ words l = map (λ place. place.word) l.published ++ l.fresh
 -- how far an open call has come
 abbrev pub progress : Submission → Call → OpenCall
 progress l call =
-    record { count = call.count; taken = call.taken; accepted = length (entries_of (places_from l call.taken)) }
+    record { count = call.count; taken = call.taken; accepted = length (entries_from l call.taken) }
 
 -- The ring of the set-up g shows these lists.
 pub record ShowsSubmission (g : Shape) (q : SubmissionQueue) (l : Submission) : Type 0 where
