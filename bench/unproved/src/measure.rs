@@ -1,0 +1,1 @@
+use std::io; pub fn measure(_w: &mut impl io::Write) -> io::Result<()> { Ok(()) }
