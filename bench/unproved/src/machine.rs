@@ -81,6 +81,11 @@ impl Machine {
         }
     }
 
+    /// How many requests were accepted.
+    pub fn accepted(&self) -> u64 {
+        self.requests.accepted()
+    }
+
     pub fn step(&mut self, step: &Step) -> Answer {
         match *step {
             Step::Fill { slot, entry } => match self.sq.fill(slot, entry) {

@@ -4,6 +4,7 @@ mod completion;
 mod entry;
 mod errno;
 mod files;
+mod kinds;
 mod language;
 mod machine;
 mod measure;
