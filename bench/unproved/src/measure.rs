@@ -97,12 +97,17 @@ fn accepted(writer: &mut impl Write) -> io::Result<()> {
     let mut machine = machine(GROWTH);
     for point in ACCEPTED {
         while machine.accepted() < u64::from(point) {
-            let steps: Vec<Step> = round(machine.accepted(), GROWTH).collect();
-            run(&mut machine, &steps);
+            make_round(&mut machine, GROWTH);
         }
         measure_kinds(writer, &mut machine, "accepted", point, GROWTH)?;
     }
     Ok(())
+}
+
+/// A round of `size` requests that isn't timed.
+fn make_round(machine: &mut Machine, size: u32) {
+    let steps: Vec<Step> = round(machine.accepted(), size).collect();
+    run(machine, &steps);
 }
 
 /// Each kind of step where so many requests run.
@@ -114,7 +119,7 @@ fn outstanding(writer: &mut impl Write, count: u32) -> io::Result<()> {
     measure_kinds(writer, &mut machine, "outstanding", count, 8)
 }
 
-/// Times each kind of step apart, in rounds of `size` requests, and the question for the next request.
+/// Times each kind of step apart, in rounds of `size` requests, and the question for the next request. A round before that has the lists grow that are full.
 fn measure_kinds(
     writer: &mut impl Write,
     machine: &mut Machine,
@@ -122,6 +127,7 @@ fn measure_kinds(
     point: u32,
     size: u32,
 ) -> io::Result<()> {
+    make_round(machine, size);
     let mut measures = [Measure::default(); PATH.len()];
     for _ in 0..MEASURED / size {
         let first = machine.accepted();
