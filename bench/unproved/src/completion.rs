@@ -22,7 +22,11 @@ pub struct CompletionRing {
 
 impl CompletionRing {
     pub fn new(setup: &Setup) -> CompletionRing {
-        let empty = Cqe { user_data: 0, res: 0, payload: [0; 64] };
+        let empty = Cqe {
+            user_data: 0,
+            res: 0,
+            payload: [0; 64],
+        };
         CompletionRing {
             tail: setup.start,
             head: setup.start,

@@ -105,7 +105,12 @@ impl Sqe {
             opcode::READ if off != u64::MAX => Some(Op::File(FileOp::Read { fd, off, len })),
             opcode::WRITE if off != u64::MAX => {
                 let bytes = self.payload;
-                Some(Op::File(FileOp::Write { fd, off, len, bytes }))
+                Some(Op::File(FileOp::Write {
+                    fd,
+                    off,
+                    len,
+                    bytes,
+                }))
             }
             _ => None,
         }

@@ -4,9 +4,20 @@ const MAX_LEN: u64 = 65_536;
 
 #[derive(Clone, Copy)]
 pub enum FileOp {
-    Read { fd: i32, off: u64, len: u32 },
-    Write { fd: i32, off: u64, len: u32, bytes: [u8; 64] },
-    Sync { fd: i32 },
+    Read {
+        fd: i32,
+        off: u64,
+        len: u32,
+    },
+    Write {
+        fd: i32,
+        off: u64,
+        len: u32,
+        bytes: [u8; 64],
+    },
+    Sync {
+        fd: i32,
+    },
 }
 
 /// How an operation ended.
@@ -17,7 +28,10 @@ pub struct Outcome {
 
 impl Outcome {
     pub fn of(res: i32) -> Outcome {
-        Outcome { res, bytes: [0; 64] }
+        Outcome {
+            res,
+            bytes: [0; 64],
+        }
     }
 }
 
@@ -44,9 +58,9 @@ impl Files {
         };
         match op {
             FileOp::Read { off, len, .. } => file.read(*off, *len),
-            FileOp::Write { off, len, bytes, .. } => {
-                Outcome::of(file.write(*off, &bytes[..*len as usize]))
-            }
+            FileOp::Write {
+                off, len, bytes, ..
+            } => Outcome::of(file.write(*off, &bytes[..*len as usize])),
             FileOp::Sync { .. } => {
                 file.synced = file.writes;
                 Outcome::of(0)

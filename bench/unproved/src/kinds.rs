@@ -45,7 +45,10 @@ impl Kind {
 
     fn step(self, slot: u32, number: u64) -> Step {
         match self {
-            Kind::Fill => Step::Fill { slot, entry: Sqe::new(opcode::NOP, number, 0) },
+            Kind::Fill => Step::Fill {
+                slot,
+                entry: Sqe::new(opcode::NOP, number, 0),
+            },
             Kind::Index => Step::Index { word: slot },
             Kind::StoreTail => Step::StoreTail,
             Kind::Begin => Step::Begin { count: u32::MAX },
@@ -70,5 +73,6 @@ impl Kind {
 
 /// The steps of a round of `size` requests, numbered from `first` on.
 pub fn round(first: u64, size: u32) -> impl Iterator<Item = Step> {
-    PATH.iter().flat_map(move |(kind, _)| kind.steps(first, size))
+    PATH.iter()
+        .flat_map(move |(kind, _)| kind.steps(first, size))
 }

@@ -13,11 +13,18 @@ pub fn read_step(line: &[u8]) -> Option<Step> {
     }
     let words: Vec<&str> = std::str::from_utf8(line).ok()?.split(' ').collect();
     Some(match words.as_slice() {
-        ["fill", slot, entry @ ..] => Step::Fill { slot: number(slot)?, entry: read_entry(entry)? },
-        ["index", word] => Step::Index { word: number(word)? },
+        ["fill", slot, entry @ ..] => Step::Fill {
+            slot: number(slot)?,
+            entry: read_entry(entry)?,
+        },
+        ["index", word] => Step::Index {
+            word: number(word)?,
+        },
         ["tail"] => Step::StoreTail,
         ["head"] => Step::LoadHead,
-        ["begin", count] => Step::Begin { count: number(count)? },
+        ["begin", count] => Step::Begin {
+            count: number(count)?,
+        },
         ["take"] => Step::Take,
         ["end"] => Step::End,
         ["issue", n] => Step::Issue { number: number(n)? },
@@ -33,7 +40,8 @@ pub fn read_step(line: &[u8]) -> Option<Step> {
 }
 
 fn read_entry(words: &[&str]) -> Option<Sqe> {
-    let entry = |code, user_data, flags| Some(Sqe::new(code, number(user_data)?, flag_bits(flags)?));
+    let entry =
+        |code, user_data, flags| Some(Sqe::new(code, number(user_data)?, flag_bits(flags)?));
     match words {
         ["nop", user_data, flags] => entry(opcode::NOP, user_data, flags),
         ["fsync", user_data, flags, fd] => Some(Sqe {
@@ -50,7 +58,10 @@ fn read_entry(words: &[&str]) -> Option<Sqe> {
             let mut payload = [0; 64];
             let len = if *data == "-" { 0 } else { data.len() / 2 };
             if *data != "-" {
-                decode(data, payload.get_mut(..len).filter(|bytes| !bytes.is_empty())?)?;
+                decode(
+                    data,
+                    payload.get_mut(..len).filter(|bytes| !bytes.is_empty())?,
+                )?;
             }
             Some(Sqe {
                 fd: file(fd)?,
@@ -145,7 +156,11 @@ impl fmt::Display for Answer {
             Answer::Dropped => f.write_str("dropped"),
             Answer::NoMore => f.write_str("no more"),
             Answer::NoCall => f.write_str("no call"),
-            Answer::Taken { accepted, dropped, head } => {
+            Answer::Taken {
+                accepted,
+                dropped,
+                head,
+            } => {
                 write!(f, "taken {accepted} dropped {dropped} head {head}")
             }
             Answer::NotAll => f.write_str("not all"),
@@ -166,10 +181,16 @@ impl fmt::Display for Answer {
 impl fmt::Display for Cqe {
     fn fmt(&self, f: &mut fmt::Formatter) -> fmt::Result {
         write!(f, "cqe {} {} ", self.user_data, self.res)?;
-        let used = self.payload.iter().rposition(|byte| *byte != 0).map_or(0, |last| last + 1);
+        let used = self
+            .payload
+            .iter()
+            .rposition(|byte| *byte != 0)
+            .map_or(0, |last| last + 1);
         if used == 0 {
             return f.write_str("-");
         }
-        self.payload[..used].iter().try_for_each(|byte| write!(f, "{byte:02x}"))
+        self.payload[..used]
+            .iter()
+            .try_for_each(|byte| write!(f, "{byte:02x}"))
     }
 }

@@ -43,10 +43,17 @@ pub enum Answer {
     Dropped,
     NoMore,
     NoCall,
-    Taken { accepted: u32, dropped: u32, head: u32 },
+    Taken {
+        accepted: u32,
+        dropped: u32,
+        head: u32,
+    },
     NotAll,
     Run,
-    Ended { res: i32, bytes: [u8; 64] },
+    Ended {
+        res: i32,
+        bytes: [u8; 64],
+    },
     NotReady,
     Running,
     Unknown,
@@ -140,10 +147,18 @@ impl Machine {
 
     fn end(&mut self) -> Answer {
         match self.sq.end() {
-            End::Taken { accepted, dropped, head } => {
+            End::Taken {
+                accepted,
+                dropped,
+                head,
+            } => {
                 self.requests.accept(&self.held);
                 self.held.clear();
-                Answer::Taken { accepted, dropped, head }
+                Answer::Taken {
+                    accepted,
+                    dropped,
+                    head,
+                }
             }
             End::NoCall => Answer::NoCall,
             End::NotAll => Answer::NotAll,
@@ -172,9 +187,17 @@ impl Machine {
 
     /// Posts the completion of an end, unless it is skipped.
     fn tell(&mut self, ending: Ending, bytes: [u8; 64]) -> Answer {
-        let Ending { user_data, res, is_told } = ending;
+        let Ending {
+            user_data,
+            res,
+            is_told,
+        } = ending;
         if is_told {
-            self.cq.post(Cqe { user_data, res, payload: bytes });
+            self.cq.post(Cqe {
+                user_data,
+                res,
+                payload: bytes,
+            });
         }
         Answer::Ended { res, bytes }
     }

@@ -44,8 +44,16 @@ impl Measure {
     }
 
     fn print(&self, writer: &mut impl Write, name: &str, point: u32, part: &str) -> io::Result<()> {
-        let Measure { steps, time, digest } = self;
-        writeln!(writer, "{name}_{point}_{part} {steps} {} {digest}", time.as_nanos())
+        let Measure {
+            steps,
+            time,
+            digest,
+        } = self;
+        writeln!(
+            writer,
+            "{name}_{point}_{part} {steps} {} {digest}",
+            time.as_nanos()
+        )
     }
 }
 
@@ -75,7 +83,9 @@ pub fn measure(writer: &mut impl Write) -> io::Result<()> {
         path(writer, size)?;
     }
     accepted(writer)?;
-    OUTSTANDING.iter().try_for_each(|count| outstanding(writer, *count))
+    OUTSTANDING
+        .iter()
+        .try_for_each(|count| outstanding(writer, *count))
 }
 
 fn machine(size: u32) -> Machine {
@@ -114,7 +124,9 @@ fn make_round(machine: &mut Machine, size: u32) {
 fn outstanding(writer: &mut impl Write, count: u32) -> io::Result<()> {
     let mut machine = machine(PATH_REQUESTS);
     let submission = PATH[..8].iter();
-    let steps: Vec<Step> = submission.flat_map(|(kind, _)| kind.steps(0, count)).collect();
+    let steps: Vec<Step> = submission
+        .flat_map(|(kind, _)| kind.steps(0, count))
+        .collect();
     run(&mut machine, &steps);
     measure_kinds(writer, &mut machine, "outstanding", count, 8)
 }

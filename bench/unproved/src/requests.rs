@@ -121,7 +121,10 @@ impl Requests {
     /// The operation of a request, where it is running.
     pub fn running_op(&self, n: u64) -> Option<&Op> {
         let request = self.get(n)?;
-        request.op.as_ref().filter(|_| request.state == State::Running)
+        request
+            .op
+            .as_ref()
+            .filter(|_| request.state == State::Running)
     }
 
     /// Ends an outstanding request.
@@ -134,7 +137,8 @@ impl Requests {
         if is_soft && !succeeded {
             group.broken_at = Some(group.broken_at.map_or(n, |m| m.min(n)));
         }
-        while group.least < group.end && self.window[(group.least - self.first) as usize].is_none() {
+        while group.least < group.end && self.window[(group.least - self.first) as usize].is_none()
+        {
             group.least += 1;
         }
         self.let_go();
@@ -177,7 +181,10 @@ impl Requests {
 
     fn is_ready(&self, n: u64, request: &Request) -> bool {
         let group = self.group(request.group);
-        let is_held = self.draining.front().is_some_and(|drain| *drain < request.group);
+        let is_held = self
+            .draining
+            .front()
+            .is_some_and(|drain| *drain < request.group);
         let may_drain = !group.drains || request.group == self.first_group;
         group.least == n && !is_held && may_drain
     }
@@ -192,7 +199,11 @@ impl Requests {
             self.groups.pop_front();
             self.first_group += 1;
         }
-        while self.draining.front().is_some_and(|drain| self.is_over(*drain)) {
+        while self
+            .draining
+            .front()
+            .is_some_and(|drain| self.is_over(*drain))
+        {
             self.draining.pop_front();
         }
     }
@@ -206,7 +217,9 @@ impl Requests {
     }
 
     fn outstanding(&self) -> impl Iterator<Item = (u64, &Request)> {
-        (self.first..).zip(&self.window).filter_map(|(n, request)| Some((n, request.as_ref()?)))
+        (self.first..)
+            .zip(&self.window)
+            .filter_map(|(n, request)| Some((n, request.as_ref()?)))
     }
 
     fn place(&self, n: u64) -> Option<usize> {

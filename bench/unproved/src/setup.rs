@@ -19,6 +19,11 @@ impl Setup {
             return None;
         }
         let cq = cq.next_power_of_two();
-        (sq <= cq).then_some(Setup { sq, cq, files, start })
+        (sq <= cq).then_some(Setup {
+            sq,
+            cq,
+            files,
+            start,
+        })
     }
 }

@@ -33,7 +33,11 @@ pub enum Take {
 }
 
 pub enum End {
-    Taken { accepted: u32, dropped: u32, head: u32 },
+    Taken {
+        accepted: u32,
+        dropped: u32,
+        head: u32,
+    },
     NoCall,
     NotAll,
 }
@@ -66,8 +70,8 @@ impl SubmissionRing {
             return Fill::NoSlot;
         }
         let unseen = self.published.wrapping_sub(self.seen_head);
-        let is_busy = (0..unseen)
-            .any(|k| self.array[self.cell(self.seen_head.wrapping_add(k))] == slot);
+        let is_busy =
+            (0..unseen).any(|k| self.array[self.cell(self.seen_head.wrapping_add(k))] == slot);
         if is_busy {
             return Fill::Busy;
         }
@@ -106,7 +110,11 @@ impl SubmissionRing {
     }
 
     pub fn begin(&mut self, count: u32) {
-        self.call = Some(Call { count, taken: 0, accepted: 0 });
+        self.call = Some(Call {
+            count,
+            taken: 0,
+            accepted: 0,
+        });
     }
 
     pub fn take(&mut self) -> Take {
@@ -139,6 +147,10 @@ impl SubmissionRing {
         self.head = self.head.wrapping_add(call.count);
         self.dropped = self.dropped.wrapping_add(call.count - accepted);
         self.call = None;
-        End::Taken { accepted, dropped: self.dropped, head: self.head }
+        End::Taken {
+            accepted,
+            dropped: self.dropped,
+            head: self.head,
+        }
     }
 }
