@@ -1,0 +1,6 @@
+pub const ENOENT: i32 = 2;
+pub const EBADF: i32 = 9;
+pub const EINVAL: i32 = 22;
+pub const EFBIG: i32 = 27;
+pub const EALREADY: i32 = 114;
+pub const ECANCELED: i32 = 125;
