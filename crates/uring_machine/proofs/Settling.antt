@@ -14,7 +14,8 @@ use Rattle.uring_machine.specs.Histories.{History, world}
 use Rattle.uring_files.specs.Contents.{FileContents}
 use Rattle.uring_machine.specs.Core.{Parts, FitsApart}
 use Rattle.uring_machine.specs.Machine.{Holding, Fits}
-use Rattle.uring_machine.specs.Settling.{is_issue_or_finish, HasSettled, IsSettled}
+use Rattle.uring_machine.specs.Settling.{is_issue_or_finish, just_started, settling_step, AreSettling, HasSettled, IsSettled}
+use Rattle.uring_machine.specs.Direct.{started_by}
 use Rattle.uring_machine.specs.declared.steps.Step.TheVariants as step
 use Rattle.uring_machine.specs.declared.answers.Answer.{Answer}
 use Rattle.uring_machine.specs.declared.answers.Answer.TheVariants as answer
@@ -49,12 +50,27 @@ issuable_tells r n issuable =
     let q = and_parts _ _ p.0 in
     (q.0, not-true _ q.1, p.1)
 
+-- the next that was answered
+next_is : (next : Option ℕ) (n : ℕ) → answer.Next n ≡ next_answer_of next → next ≡ Some n
+next_is None n e = absurd cc
+next_is (Some m) n e = let same : m ≡ n = cc in ap Some same
+
+-- there is no next where none was answered
+next_none : (next : Option ℕ) (a : Answer) → a ≡ next_answer_of next → ((k : ℕ) → a ≡ answer.Next k → ⊥) → next ≡ None
+next_none None a is other = refl
+next_none (Some m) a is other = absurd (other m is)
+
 -- the next can be issued
 next_tells : (r : Requests) (n : ℕ) → answer.Next n ≡ next_answer_of (next_of r) → is_issuable r n ≡ true
 next_tells r n e = by_next (next_of r) refl e where
   by_next : (next : Option ℕ) → next_of r ≡ next → answer.Next n ≡ next_answer_of next → is_issuable r n ≡ true
   by_next None is f = absurd cc
   by_next (Some m) is f = let same : m ≡ n = cc in subst (λ k. is_issuable r k ≡ true) same (least_below-tells (is_issuable r) (length r.accepted) m is).holds
+
+-- an issue not answered Run started nothing
+not_started : (n : ℕ) (a : Answer) → (a ≡ answer.Run → ⊥) → started_by (step.Issue n, a) ≡ None
+not_started n answer.Run other = absurd (other refl)
+not_started n _ other = refl
 
 -- where there is no next, the least outstanding request runs
 least_runs : (r : Requests) (n : ℕ) (a : Answer) → a ≡ next_answer_of (next_of r) → ((k : ℕ) → a ≡ answer.Next k → ⊥) → least_of r ≡ Some n → is_running r n ≡ true
@@ -70,6 +86,27 @@ least_runs r n a is other least = by_next (next_of r) refl is where
 -- a machine that answered Next fits what it fitted
 pub next_fits : (m : Holding) (a : Answer) (h : History) → Fits m ((step.Next, a) ∷ h) → Fits m h
 next_fits m a h fits = record { core = record { shows = fits.core.shows; lawful = fits.core.lawful.1 }; files = fits.files; lawful = fits.lawful.1 }
+
+-- Steps that settle further.
+
+issued_next : (r : Requests) (n : ℕ) → answer.Next n ≡ next_answer_of (next_of r) → settling_step None (next_of r) (least_of r) ≡ Some (step.Issue n)
+issued_next r n named = subst (λ k. settling_step None k (least_of r) ≡ Some (step.Issue n)) (sym (next_is (next_of r) n named)) refl
+
+finished_least : (r : Requests) (n : ℕ) (a : Answer) → a ≡ next_answer_of (next_of r) → ((k : ℕ) → a ≡ answer.Next k → ⊥) → least_of r ≡ Some n → settling_step None (next_of r) (least_of r) ≡ Some (step.Finish n)
+finished_least r n a told other is =
+    subst (λ k. settling_step None k (least_of r) ≡ Some (step.Finish n)) (sym (next_none (next_of r) a told other))
+    (subst (λ k. settling_step None None k ≡ Some (step.Finish n)) (sym is) refl)
+
+-- events that settle further, behind others that did
+
+started-append : (later earlier : History) → just_started earlier ≡ None → just_started (later ++ earlier) ≡ just_started later
+started-append [] earlier none = none
+started-append (event ∷ later) earlier none = refl
+
+settling-append : (g : Shape) (before earlier later : History) → just_started earlier ≡ None → AreSettling g (earlier ++ before) later → AreSettling g before earlier → AreSettling g before (later ++ earlier)
+settling-append g before earlier [] none l e = e
+settling-append g before earlier ((s, a) ∷ later) none l e =
+    (rw (started-append later earlier none, append_assoc later earlier before) l.0, settling-append g before earlier later none l.1 e)
 
 -- how many are outstanding
 pub outstanding_of : (m : Holding) (h : History) → Fits m h → m.core.dispatcher.outstanding ≡ outstanding_in (world m.core.shape h).requests
@@ -88,12 +125,14 @@ settled_run old asked new n a b c h same kept next ran fits asked_fits new_fits 
     let g : Shape = new.core.shape in
     let r : Requests = (world g h).requests in
     let now : Fits new ((step.Finish n, c) ∷ (step.Issue n, answer.Run) ∷ h) = subst (λ d. Fits new ((step.Finish n, c) ∷ (step.Issue n, d) ∷ h)) ran new_fits in
-    let issuable : is_issuable r n ≡ true = next_tells r n (subst (λ k. answer.Next n ≡ next_answer_of (next_of (world k h).requests)) (sym kept) (sym next ∙ asked_fits.core.lawful.0)) in
-    let tells = issuable_tells r n issuable in
+    let named : answer.Next n ≡ next_answer_of (next_of r) = subst (λ k. answer.Next n ≡ next_answer_of (next_of (world k h).requests)) (sym kept) (sym next ∙ asked_fits.core.lawful.0) in
+    let tells = issuable_tells r n (next_tells r n named) in
     let unended : has_ended r n ≡ false = not-true _ (and_parts _ _ tells.0).1 in
     record {
       events = (step.Finish n, c) ∷ (step.Issue n, b) ∷ [];
       issues_and_finishes = refl;
+      settling = (rw ran refl, (issued_next r n named, tt));
+      none_started = refl;
       fits = new_fits;
       many = refl;
       few = omega arith;
@@ -108,11 +147,13 @@ pub settled_end : (old asked new : Holding) (n : ℕ) (a b : Answer) (h : Histor
 settled_end old asked new n a b h same kept next other fits asked_fits new_fits =
     let g : Shape = new.core.shape in
     let r : Requests = (world g h).requests in
-    let issuable : is_issuable r n ≡ true = next_tells r n (subst (λ k. answer.Next n ≡ next_answer_of (next_of (world k h).requests)) (sym kept) (sym next ∙ asked_fits.core.lawful.0)) in
-    let tells = issuable_tells r n issuable in
+    let named : answer.Next n ≡ next_answer_of (next_of r) = subst (λ k. answer.Next n ≡ next_answer_of (next_of (world k h).requests)) (sym kept) (sym next ∙ asked_fits.core.lawful.0) in
+    let tells = issuable_tells r n (next_tells r n named) in
     record {
       events = (step.Issue n, b) ∷ [];
       issues_and_finishes = refl;
+      settling = (issued_next r n named, tt);
+      none_started = not_started n b other;
       fits = new_fits;
       many = refl;
       few = omega arith;
@@ -129,10 +170,13 @@ settled_finish old asked new n a b h same kept other fits least asked_fits new_f
     let g : Shape = new.core.shape in
     let r : Requests = (world g h).requests in
     let is : least_of r ≡ Some n = subst (λ k. least_of (world k h).requests ≡ Some n) (sym (kept ∙ same)) (sym least) in
-    let running : is_running r n ≡ true = least_runs r n a (subst (λ k. a ≡ next_answer_of (next_of (world k h).requests)) (sym kept) asked_fits.core.lawful.0) other is in
+    let told : a ≡ next_answer_of (next_of r) = subst (λ k. a ≡ next_answer_of (next_of (world k h).requests)) (sym kept) asked_fits.core.lawful.0 in
+    let running : is_running r n ≡ true = least_runs r n a told other is in
     record {
       events = (step.Finish n, b) ∷ [];
       issues_and_finishes = refl;
+      settling = (finished_least r n a told other is, tt);
+      none_started = refl;
       fits = new_fits;
       many = refl;
       few = omega arith;
@@ -149,12 +193,14 @@ some_least m h fits some none =
     omega (arith, some, zero_of, outstanding_of m h fits)
 
 -- what was settled so far, and what is settled then
-pub settled_more : (first old new : Holding) (h : History) (count more ended : ℕ) → HasSettled first old h count ended → ((k : History) → Fits old k → HasSettled old new k more 1) → HasSettled first new h (count + more) (ended + 1)
-settled_more first old new h count more ended before next =
+pub settled_more : (first old new : Holding) (h : History) (count more ended : ℕ) → new.core.shape ≡ old.core.shape → HasSettled first old h count ended → ((k : History) → Fits old k → HasSettled old new k more 1) → HasSettled first new h (count + more) (ended + 1)
+settled_more first old new h count more ended same before next =
     let last = next (before.events ++ h) before.fits in
     record {
       events = last.events ++ before.events;
       issues_and_finishes = list_all-append is_issue_or_finish last.events before.events ∙ and_from _ _ last.issues_and_finishes before.issues_and_finishes;
+      settling = settling-append new.core.shape h before.events last.events before.none_started last.settling (subst (λ g. AreSettling g h before.events) (sym same) before.settling);
+      none_started = started-append last.events before.events before.none_started ∙ last.none_started;
       fits = subst (λ k. Fits new k) (sym (append_assoc last.events before.events h)) last.fits;
       many = omega (arith, length-append last.events before.events, last.many, before.many);
       few = omega (arith, last.few, before.few);
@@ -163,7 +209,7 @@ settled_more first old new h count more ended before next =
 
 -- nothing was settled yet
 pub settled_none : (m : Holding) (h : History) → Fits m h → HasSettled m m h 0 0
-settled_none m h fits = record { events = []; issues_and_finishes = refl; fits = fits; many = refl; few = omega arith; fewer = omega arith }
+settled_none m h fits = record { events = []; issues_and_finishes = refl; settling = tt; none_started = refl; fits = fits; many = refl; few = omega arith; fewer = omega arith }
 
 -- all that was outstanding was settled
 pub settled_all : (old new : Holding) (h : History) (count ended : ℕ) → new.core.shape ≡ old.core.shape → Fits old h → ended ≡ outstanding_in (world old.core.shape h).requests → HasSettled old new h count ended → IsSettled new h count
@@ -171,6 +217,7 @@ settled_all old new h count ended same fits all s =
     record {
       events = s.events;
       issues_and_finishes = s.issues_and_finishes;
+      settling = s.settling;
       fits = s.fits;
       many = s.many;
       few = omega (arith, s.few, all, ap (λ g. outstanding_in (world g h).requests) same);

@@ -20,7 +20,7 @@ loop-preserved c =
     record {
       shape = c.settle_one-steps.ensures.shape ∙ c.loop.invariant.shape;
       settled = λ h fits.
-          settled_more c.args.self.now c.loop.self c.settle_one-steps.new.self h c.loop.steps c.settle_one-steps.result c.loop.counter (c.loop.invariant.settled h fits) c.settle_one-steps.ensures.settled;
+          settled_more c.args.self.now c.loop.self c.settle_one-steps.new.self h c.loop.steps c.settle_one-steps.result c.loop.counter c.settle_one-steps.ensures.shape (c.loop.invariant.settled h fits) c.settle_one-steps.ensures.settled;
     }
 
 pub returns-clause-shape : goal.returns-clause-shape
