@@ -9,4 +9,6 @@ pub mod Sessions
 pub mod Traces
 pub mod HexLaws
 pub mod FormLaws
+pub mod EntryLaws
+pub mod LineLaws
 pub mod CommandLine

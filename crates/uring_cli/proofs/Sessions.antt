@@ -10,7 +10,8 @@ use Rattle.uring_machine.specs.Contents.{IsLawful}
 use Rattle.uring_machine.specs.Machine.{Holding, Fits}
 use Rattle.uring_machine.specs.declared.steps.Step.{Step}
 use Rattle.uring_cli.specs.Spelling.{IsStep, IsBad}
-use Rattle.uring_cli.specs.Exchanges.{Exchange, IsExchange, Answers, AreLines, IsUnbroken, IsReadAs, answer_text, asked, told, ended, history_of, with_event}
+use Rattle.uring_cli.specs.Lines.{IsUnbroken, Splits, with_last, joined, ended}
+use Rattle.uring_cli.specs.Exchanges.{Exchange, Answers, answer_text, lines_of, history_of, with_event}
 use Rattle.uring_cli.specs.Sessions.{Keeps300, AppendsAnswer, Holds}
 use Rattle.uring_cli.specs.Traces.{IsWhole, IsBeginning, IsEnded}
 
@@ -26,6 +27,26 @@ on_ok_from (Err e) Q f = tt
 unbroken_more : (line : List ℕ) (b : ℕ) → b ≢ 10 → IsUnbroken line → IsUnbroken (line ++ b ∷ [])
 unbroken_more [] b ne h = (ne, tt)
 unbroken_more (c ∷ line) b ne h = (h.0, unbroken_more line b ne h.1)
+
+-- a byte more of the rest
+split_more : (bytes : List ℕ) (lines : List (List ℕ)) (rest : List ℕ) (b : ℕ) → b ≢ 10 → Splits bytes lines rest → Splits (bytes ++ b ∷ []) lines (rest ++ b ∷ [])
+split_more bytes lines rest b ne h = record {
+  whole = ap (λ (l : List ℕ). l ++ b ∷ []) h.whole ∙ append_assoc (joined lines) rest (b ∷ []);
+  each = h.each;
+  unbroken = unbroken_more rest b ne h.unbroken;
+}
+
+-- the end of the rest
+split_end : (bytes : List ℕ) (lines : List (List ℕ)) (rest : List ℕ) → Splits bytes lines rest → Splits (bytes ++ 10 ∷ []) (rest ∷ lines) []
+split_end bytes lines rest h = record {
+  whole = ap (λ (l : List ℕ). l ++ 10 ∷ []) h.whole ∙ simp (append_assoc, append-nil);
+  each = (h.unbroken, h.each);
+  unbroken = tt;
+}
+
+-- lines with their ends
+split_whole : (lines : List (List ℕ)) → AllByRecursion IsUnbroken lines → Splits (joined lines) lines []
+split_whole lines each = record { whole = sym (append-nil (joined lines)); each = each; unbroken = tt }
 
 -- a byte of a line that has room
 pub kept_more : (line kept : List ℕ) (is_long : Bool) (b : ℕ) → Keeps300 line kept is_long → length kept < 300 → Keeps300 (line ++ b ∷ []) (kept ++ b ∷ []) is_long
@@ -56,8 +77,7 @@ took_byte shape m kept kept' is_long is_long' before text b ne more h = record {
   exchanges = h.exchanges;
   line = h.line ++ b ∷ [];
   answers = h.answers;
-  unbroken = unbroken_more h.line b ne h.unbroken;
-  parts = ap (λ (l : List ℕ). l ++ b ∷ []) h.parts ∙ append_assoc (asked h.exchanges) h.line (b ∷ []);
+  splits = split_more before (lines_of h.exchanges) h.line b ne h.splits;
   keeps = more h.line h.keeps;
   same = h.same;
   fits = h.fits;
@@ -71,11 +91,11 @@ pub read_again : (line kept : List ℕ) (read : Option Step) → MatchOption rea
 read_again line kept read h k = subst (λ (l : List ℕ). MatchOption read (IsBad l) (IsStep l)) (line_is_kept line kept k) h
 
 -- one exchange more
-answered : (shape : Shape) (m m' : Holding) (xs : List Exchange) (line text before after : List ℕ) → Answers shape xs (text ++ before) → IsUnbroken line → m.core.shape ≡ shape → Fits m (history_of xs) → (a : AppendsAnswer m m' line before after)
+answered : (shape : Shape) (m m' : Holding) (xs : List Exchange) (line text before after : List ℕ) → Answers shape xs (text ++ before) → m.core.shape ≡ shape → Fits m (history_of xs) → (a : AppendsAnswer m m' line before after)
     → Answers shape (record { line = line; event = a.event } ∷ xs) (text ++ (after ++ 10 ∷ []))
-answered shape m m' xs line text before after h u same fits a = record {
+answered shape m m' xs line text before after h same fits a = record {
   lawful = subst (λ (g : Shape). IsLawful g (with_event a.event (history_of xs))) (a.same ∙ same) (a.fits (history_of xs) fits).lawful;
-  each = (record { unbroken = u; read = a.read }, h.each);
+  each = (a.read, h.each);
   all = ap (λ (t : List ℕ). text ++ (t ++ 10 ∷ [])) a.appended ∙ simp append_assoc (refl) ∙ ap (λ (t : List ℕ). t ++ ended (answer_text a.event)) h.all;
 }
 
@@ -87,13 +107,16 @@ ended_line shape m m' kept is_long bytes text before after answer h =
     record {
       exchanges = record { line = h.line; event = a.event } ∷ h.exchanges;
       line = [];
-      answers = answered shape m m' h.exchanges h.line text before after h.answers h.unbroken h.same h.fits a;
-      unbroken = tt;
-      parts = ap (λ (l : List ℕ). l ++ 10 ∷ []) h.parts ∙ simp (append_assoc, append-nil);
+      answers = answered shape m m' h.exchanges h.line text before after h.answers h.same h.fits a;
+      splits = split_end bytes (lines_of h.exchanges) h.line h.splits;
       keeps = record { first = refl; long = refl };
       same = a.same ∙ h.same;
       fits = a.fits (history_of h.exchanges) h.fits;
     }
+
+last_some : (lines : List (List ℕ)) (rest : List ℕ) → 0 < length rest → with_last lines rest ≡ rest ∷ lines
+last_some lines [] lt = absurd (omega arith)
+last_some lines (b ∷ rest) lt = refl
 
 -- the answer to a last line that has begun
 pub ended_last : (shape : Shape) (m m' : Holding) (kept : List ℕ) (is_long : Bool) (bytes text before after : List ℕ) → 0 < length kept → ((line : List ℕ) → Keeps300 line kept is_long → AppendsAnswer m m' line before after)
@@ -102,24 +125,20 @@ ended_last shape m m' kept is_long bytes text before after lt answer h =
     let a = answer h.line h.keeps in
     let size : length kept ≡ length (take 300 h.line) = ap length h.keeps.first in
     let some : 0 < length h.line = omega (arith, length-take 300 h.line) in
-    (record { line = h.line; event = a.event } ∷ h.exchanges, answered shape m m' h.exchanges h.line text before after h.answers h.unbroken h.same h.fits a, inr (some, h.parts))
-
-whole_lines : (xs : List Exchange) (bytes : List ℕ) → bytes ≡ asked xs → AreLines xs bytes
-whole_lines [] bytes e = e
-whole_lines (x ∷ xs) bytes e = inl e
+    (record { line = h.line; event = a.event } ∷ h.exchanges, lines_of h.exchanges, h.line, answered shape m m' h.exchanges h.line text before after h.answers h.same h.fits a, h.splits, sym (last_some (lines_of h.exchanges) h.line some))
 
 -- no last line has begun
 pub ended_none : (shape : Shape) (m : Holding) (kept : List ℕ) (is_long : Bool) (bytes text : List ℕ) → length kept ≡ 0 → Holds shape m kept is_long bytes text → IsWhole shape bytes text
 ended_none shape m kept is_long bytes text none h =
     let size : length kept ≡ length (take 300 h.line) = ap length h.keeps.first in
     let empty : length h.line ≡ 0 = omega (arith, length-take 300 h.line) in
-    let line_is : h.line ≡ [] = nil_from_length h.line empty in
-    (h.exchanges, h.answers, whole_lines h.exchanges bytes (h.parts ∙ ap (λ (l : List ℕ). asked h.exchanges ++ l) line_is ∙ append-nil (asked h.exchanges)))
+    (h.exchanges, lines_of h.exchanges, h.line, h.answers, h.splits, sym (ap (with_last (lines_of h.exchanges)) (nil_from_length h.line empty)))
 
 -- what a session holds, for the outcomes that end a trace early
 pub held_ended : (shape : Shape) (m : Holding) (kept : List ℕ) (is_long : Bool) (bytes text : List ℕ) → Holds shape m kept is_long bytes text → IsEnded shape bytes text
-held_ended shape m kept is_long bytes text h = (h.exchanges, h.line, h.answers, h.unbroken, h.parts)
+held_ended shape m kept is_long bytes text h = (h.exchanges, h.line, h.answers, h.splits)
 
 pub held_beginning : (shape : Shape) (m : Holding) (kept : List ℕ) (is_long : Bool) (bytes text more : List ℕ) → Holds shape m kept is_long bytes text → IsBeginning shape (bytes ++ more) text
 held_beginning shape m kept is_long bytes text more h =
-    (h.exchanges, h.line ++ more, h.answers, ap (λ (l : List ℕ). l ++ more) h.parts ∙ append_assoc (asked h.exchanges) h.line more)
+    let lines = lines_of h.exchanges in
+    (joined lines, h.line ++ more, h.exchanges, h.answers, split_whole lines h.splits.each, ap (λ (l : List ℕ). l ++ more) h.splits.whole ∙ append_assoc (joined lines) h.line more)

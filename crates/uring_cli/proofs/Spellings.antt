@@ -12,11 +12,12 @@ use Rattle.uring_entry.specs.Layout.{Entry}
 use Rattle.uring_machine.specs.declared.steps.Step.{Step}
 use Rattle.uring_machine.specs.declared.steps.Step.TheVariants as step
 use Rattle.uring_cli.specs.Words.{words_of}
-use Rattle.uring_cli.specs.Spelling.{Form, Spells, SpellsEntry, SpellsForm, IsEntryOf, IsStep, IsBad}
+use Rattle.uring_cli.specs.Spelling.{Form, Spells, SpellsEntry, SpellsForm, IsEntryOf, IsStep, IsBad, FillsWords}
 use Rattle.uring_cli.specs.Reading.{ReadsStep, ReadsFill, number_of, form_of, step_of_one, step_of_two}
 use Rattle.uring_cli.proofs.Options.{chosen, some_is}
 use Rattle.uring_cli.proofs.NumberLaws.{number_found, number_again}
 use Rattle.uring_cli.proofs.FormLaws.{named, mapped, form_found, form_again}
+use Rattle.uring_cli.proofs.EntryLaws.{entry_once}
 
 -- one word
 abbrev SpellsOne : Step → List ℕ → Type 0
@@ -76,47 +77,88 @@ some_of_more name word rest s false is e =
       | inr p ↦ absurd (let no : None ≡ Some s = p.1 in cc)
     ]
 
-pub step_found : (words : List (List ℕ)) (s : Step) → ReadsStep (Some s) words → Spells words s
+step_found : (words : List (List ℕ)) (s : Step) → ReadsStep (Some s) words → Spells words s
 step_found [] s e = absurd cc
 step_found (name ∷ []) s e = one_found name s (sym e)
 step_found (name ∷ word ∷ rest) s e = some_of_more name word rest s (bytes_eq name (codes "fill")) refl e
 
--- ---- where nothing is read
+-- ---- what is spelled is read
 
-none_one : (name : List ℕ) (t : Step) → step_of_one name ≡ Some t → (words : List (List ℕ)) → words ≡ name ∷ [] → ReadsStep None words → ⊥
-none_one name t e words is r = let read : None ≡ step_of_one name = subst (ReadsStep None) is r in absurd (let no : None ≡ Some t = read ∙ e in cc)
+one_again : (name : List ℕ) (s : Step) → step_of_one name ≡ Some s → (words : List (List ℕ)) → words ≡ name ∷ [] → ReadsStep (Some s) words
+one_again name s e words is = subst (ReadsStep (Some s)) (sym is) (sym e)
 
-none_two : (name : List ℕ) (n limit : ℕ) (made : ℕ → Step) → limit ≤ 2 ^ 64 → n < limit → bytes_eq name (codes "fill") ≡ false → step_of_two name (decimal n) ≡ option_map made (number_of limit (decimal n)) → (words : List (List ℕ)) → words ≡ name ∷ decimal n ∷ [] → ReadsStep None words → ⊥
-none_two name n limit made le lt other e words is r =
-    let read : ReadsStep None (name ∷ decimal n ∷ []) = subst (ReadsStep None) is r in
-    let none : None ≡ step_of_two name (decimal n) = rw other at read in
-    absurd (let no : None ≡ Some (made n) = none ∙ e ∙ ap (option_map made) (number_again limit n le lt) in cc)
+two_again : (name : List ℕ) (n limit : ℕ) (made : ℕ → Step) → limit ≤ 2 ^ 64 → n < limit → bytes_eq name (codes "fill") ≡ false → step_of_two name (decimal n) ≡ option_map made (number_of limit (decimal n)) → (words : List (List ℕ)) → words ≡ name ∷ decimal n ∷ []
+    → ReadsStep (Some (made n)) words
+two_again name n limit made le lt other e words is =
+    let read : Some (made n) ≡ step_of_two name (decimal n) = sym (e ∙ ap (option_map made) (number_again limit n le lt)) in
+    let reads : ReadsStep (Some (made n)) (name ∷ decimal n ∷ []) = rw other read in
+    subst (ReadsStep (Some (made n))) (sym is) reads
 
-none_fill : (slot : ℕ) (rest : List (List ℕ)) (f : Form) → slot < 2 ^ 32 → SpellsForm rest f → (words : List (List ℕ)) → words ≡ codes "fill" ∷ decimal slot ∷ rest → ReadsStep None words → ⊥
-none_fill slot rest f lt h words is r =
-    let read : ReadsFill None (number_of (2 ^ 32) (decimal slot)) (form_of rest) = subst (ReadsStep None) is r in
-    let none : ReadsFill None (Some slot) (Some f) = rw (number_again (2 ^ 32) slot (omega arith) lt, form_again rest f h) at read in
-    absurd (let no : None ≡ Some (step.Fill slot none.0) = none.1 in cc)
+fill_again : (slot : ℕ) (entry : Entry) (rest : List (List ℕ)) (f : Form) → slot < 2 ^ 32 → SpellsForm rest f → IsEntryOf f entry → (words : List (List ℕ)) → words ≡ codes "fill" ∷ decimal slot ∷ rest → ReadsStep (Some (step.Fill slot entry)) words
+fill_again slot entry rest f lt h is_entry words is =
+    let filled : ReadsFill (Some (step.Fill slot entry)) (number_of (2 ^ 32) (decimal slot)) (form_of rest) = rw (number_again (2 ^ 32) slot (omega arith) lt, form_again rest f h) (entry, refl, is_entry) in
+    subst (ReadsStep (Some (step.Fill slot entry))) (sym is) filled
 
-pub step_none : (words : List (List ℕ)) (s : Step) → ReadsStep None words → Spells words s → ⊥
+step_again : (words : List (List ℕ)) (s : Step) → Spells words s → ReadsStep (Some s) words
 unfolding step_of_one step_of_two
-step_none words (step.Fill slot entry) r h = none_fill slot h.0 h.3.form h.2 h.3.spells words h.1 r
-step_none words (step.Index n) r h = none_two (codes "index") n (2 ^ 32) (λ n. step.Index n) (omega arith) h.1 refl refl words h.0 r
-step_none words (step.Begin n) r h = none_two (codes "begin") n (2 ^ 32) (λ n. step.Begin n) (omega arith) h.1 refl refl words h.0 r
-step_none words (step.Issue n) r h = none_two (codes "issue") n (2 ^ 64) (λ n. step.Issue n) (omega arith) h.1 refl refl words h.0 r
-step_none words (step.Finish n) r h = none_two (codes "finish") n (2 ^ 64) (λ n. step.Finish n) (omega arith) h.1 refl refl words h.0 r
-step_none words step.StoreTail r h = none_one (codes "tail") step.StoreTail refl words h r
-step_none words step.LoadHead r h = none_one (codes "head") step.LoadHead refl words h r
-step_none words step.Take r h = none_one (codes "take") step.Take refl words h r
-step_none words step.End r h = none_one (codes "end") step.End refl words h r
-step_none words step.Flush r h = none_one (codes "flush") step.Flush refl words h r
-step_none words step.LoadCqTail r h = none_one (codes "cqtail") step.LoadCqTail refl words h r
-step_none words step.Reap r h = none_one (codes "reap") step.Reap refl words h r
-step_none words step.StoreCqHead r h = none_one (codes "cqhead") step.StoreCqHead refl words h r
-step_none words step.Close r h = none_one (codes "close") step.Close refl words h r
-step_none words step.Next r h = none_one (codes "next") step.Next refl words h r
+step_again words (step.Fill slot entry) h = fill_again slot entry h.0 h.3.form h.2 h.3.spells h.3.is_entry words h.1
+step_again words (step.Index n) h = two_again (codes "index") n (2 ^ 32) (λ n. step.Index n) (omega arith) h.1 refl refl words h.0
+step_again words (step.Begin n) h = two_again (codes "begin") n (2 ^ 32) (λ n. step.Begin n) (omega arith) h.1 refl refl words h.0
+step_again words (step.Issue n) h = two_again (codes "issue") n (2 ^ 64) (λ n. step.Issue n) (omega arith) h.1 refl refl words h.0
+step_again words (step.Finish n) h = two_again (codes "finish") n (2 ^ 64) (λ n. step.Finish n) (omega arith) h.1 refl refl words h.0
+step_again words step.StoreTail h = one_again (codes "tail") step.StoreTail refl words h
+step_again words step.LoadHead h = one_again (codes "head") step.LoadHead refl words h
+step_again words step.Take h = one_again (codes "take") step.Take refl words h
+step_again words step.End h = one_again (codes "end") step.End refl words h
+step_again words step.Flush h = one_again (codes "flush") step.Flush refl words h
+step_again words step.LoadCqTail h = one_again (codes "cqtail") step.LoadCqTail refl words h
+step_again words step.Reap h = one_again (codes "reap") step.Reap refl words h
+step_again words step.StoreCqHead h = one_again (codes "cqhead") step.StoreCqHead refl words h
+step_again words step.Close h = one_again (codes "close") step.Close refl words h
+step_again words step.Next h = one_again (codes "next") step.Next refl words h
+
+-- ---- words are read in one way
+
+none_some : (o : Option Step) (s : Step) → None ≡ o → Some s ≡ o → ⊥
+none_some o s r q = absurd (let no : None ≡ Some s = r ∙ sym q in cc)
+
+no_fill : (o : Option ℕ) (f : Option Form) (s : Step) → ReadsFill None o f → ReadsFill (Some s) o f → ⊥
+no_fill None f s r q = absurd cc
+no_fill (Some slot) None s r q = absurd cc
+no_fill (Some slot) (Some f) s r q = none_some (Some (step.Fill slot r.0)) (step.Fill slot r.0) r.1 refl
+
+no_more : (b : Bool) (o : Option ℕ) (f : Option Form) (other : Option Step) (s : Step) → MatchBool b (ReadsFill None o f) (None ≡ other) → MatchBool b (ReadsFill (Some s) o f) (Some s ≡ other) → ⊥
+no_more true o f other s r q = no_fill o f s r q
+no_more false o f other s r q = none_some other s r q
+
+none_and_step : (words : List (List ℕ)) (s : Step) → ReadsStep None words → ReadsStep (Some s) words → ⊥
+none_and_step [] s r q = absurd cc
+none_and_step (name ∷ []) s r q = none_some (step_of_one name) s r q
+none_and_step (name ∷ word ∷ rest) s r q = no_more (bytes_eq name (codes "fill")) (number_of (2 ^ 32) word) (form_of rest) (cond (eqb (length rest) 0) (step_of_two name word) None) s r q
+
+fill_once : (o : Option ℕ) (f : Option Form) (s t : Step) → FillsWords s → FillsWords t → ReadsFill (Some s) o f → ReadsFill (Some t) o f → s ≡ t
+fill_once None f s t hs ht r q = absurd cc
+fill_once (Some slot) None s t hs ht r q = absurd cc
+fill_once (Some slot) (Some f) s t hs ht r q =
+    let s_is : s ≡ step.Fill slot r.0 = some_is s (step.Fill slot r.0) r.1 in
+    let t_is : t ≡ step.Fill slot q.0 = some_is t (step.Fill slot q.0) q.1 in
+    let same : r.0 ≡ q.0 = entry_once f r.0 q.0 (subst FillsWords s_is hs) (subst FillsWords t_is ht) r.2 q.2 in
+    s_is ∙ ap (λ (entry : Entry). step.Fill slot entry) same ∙ sym t_is
+
+more_once : (b : Bool) (o : Option ℕ) (f : Option Form) (other : Option Step) (s t : Step) → FillsWords s → FillsWords t → MatchBool b (ReadsFill (Some s) o f) (Some s ≡ other) → MatchBool b (ReadsFill (Some t) o f) (Some t ≡ other) → s ≡ t
+more_once true o f other s t hs ht r q = fill_once o f s t hs ht r q
+more_once false o f other s t hs ht r q = some_is s t (r ∙ sym q)
+
+read_once : (words : List (List ℕ)) (s t : Step) → FillsWords s → FillsWords t → ReadsStep (Some s) words → ReadsStep (Some t) words → s ≡ t
+read_once [] s t hs ht r q = absurd cc
+read_once (name ∷ []) s t hs ht r q = some_is s t (r ∙ sym q)
+read_once (name ∷ word ∷ rest) s t hs ht r q = more_once (bytes_eq name (codes "fill")) (number_of (2 ^ 32) word) (form_of rest) (cond (eqb (length rest) 0) (step_of_two name word) None) s t hs ht r q
+
+-- a line is one step at most
+pub step_once : (line : List ℕ) (s t : Step) → FillsWords s → FillsWords t → IsStep line s → IsStep line t → s ≡ t
+step_once line s t hs ht h k = read_once (words_of line) s t hs ht (step_again (words_of line) s h.spells) (step_again (words_of line) t k.spells)
 
 -- what a line is read as
 pub read_line : (line : List ℕ) (read : Option Step) → length line ≤ 300 → ReadsStep read (words_of line) → MatchOption read (IsBad line) (IsStep line)
-read_line line None le e = λ s h. step_none (words_of line) s e h.spells
+read_line line None le e = λ s h. none_and_step (words_of line) s e (step_again (words_of line) s h.spells)
 read_line line (Some s) le e = record { short = le; spells = step_found (words_of line) s e }

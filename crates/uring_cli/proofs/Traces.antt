@@ -40,7 +40,7 @@ none_read shape answer a d e = record {
   text = [];
   consumed = Consumes-nil a;
   appended = Appends-nil d;
-  written = subst (λ (x : Answer). Writes shape x [] []) (sym e) ([], [], record { each = tt; lawful = tt; all = refl }, refl);
+  written = subst (λ (x : Answer). Writes shape x [] []) (sym e) ([], [], [], record { each = tt; lawful = tt; all = refl }, record { whole = refl; each = tt; unbroken = tt }, refl);
   whole = subst (λ (x : Answer). ReadsAll x a) (sym e) tt;
 }
 
@@ -58,7 +58,7 @@ no_memory shape answer a r r' d w m kept is_long more e so read = record {
 written_whole : (shape : Shape) (answer : Answer) (bytes text new written : List ℕ) → IsWhole shape bytes (text ++ new) → WritesText answer new written → Writes shape answer bytes (text ++ written)
 written_whole shape (Ok done) bytes text new written h e = subst (λ (l : List ℕ). IsWhole shape bytes (text ++ l)) (sym e) h
 written_whole shape (Err e) bytes text new written h w =
-    let cut : IsCutShort shape bytes (text ++ written) = (w.1, inr (subst (λ (l : List ℕ). IsWhole shape bytes l) (ap (λ (l : List ℕ). text ++ l) w.2 ∙ sym (append_assoc text written w.1)) h)) in
+    let cut : IsCutShort shape bytes (text ++ written) = (w.1, w.2, inr (subst (λ (l : List ℕ). IsWhole shape bytes l) (ap (λ (l : List ℕ). text ++ l) w.3 ∙ sym (append_assoc text written w.1)) h)) in
     subst (λ (x : TraceFault). Writes shape (Err x) bytes (text ++ written)) (sym w.0) cut
 
 at_end : (answer : Answer) (left : Known) → IsAtEnd left → ReadsAll answer left
@@ -83,9 +83,10 @@ pub not_written : (shape : Shape) (answer : Answer) (e : TraceFault) (a r r' d w
     → ((before told : List ℕ) → Holds shape m kept is_long before (told ++ none) → Holds shape m' kept' is_long' (before ++ more) (told ++ new))
     → (written : List ℕ) × Appends w w' written × WritesText (Err e) new written → Traces shape answer a r' d w'
 not_written shape answer e a r r' d w w' m m' kept kept' is_long is_long' more none new nothing is so read feed wrote =
+    let bytes = so.0 ++ more in
     let held = feed so.0 so.1 (no_text_yet shape m kept is_long so.0 so.1 none nothing so.4) in
-    let beginning : IsBeginning shape (so.0 ++ more) (so.1 ++ new) = (held.exchanges, held.line, held.answers, held.parts) in
-    let cut : IsCutShort shape (so.0 ++ more) (so.1 ++ wrote.0) = (wrote.2.1, inl (subst (λ (l : List ℕ). IsBeginning shape (so.0 ++ more) l) (ap (λ (l : List ℕ). so.1 ++ l) wrote.2.2 ∙ sym (append_assoc so.1 wrote.0 wrote.2.1)) beginning)) in
+    let beginning : IsBeginning shape bytes (so.1 ++ new) = subst (λ (l : List ℕ). IsBeginning shape l (so.1 ++ new)) (append-nil bytes) (held_beginning shape m' kept' is_long' bytes (so.1 ++ new) [] held) in
+    let cut : IsCutShort shape bytes (so.1 ++ wrote.0) = (wrote.2.1, wrote.2.2, inl (subst (λ (l : List ℕ). IsBeginning shape bytes l) (ap (λ (l : List ℕ). so.1 ++ l) wrote.2.3 ∙ sym (append_assoc so.1 wrote.0 wrote.2.1)) beginning)) in
     record {
       bytes = so.0 ++ more;
       text = so.1 ++ wrote.0;

@@ -4,7 +4,8 @@ use Rattle.uring_cli.specs.declared.session.Session.{Session}
 use Rattle.uring_entry.specs.Shape.{Shape}
 use Rattle.uring_machine.specs.Histories.{Event, History}
 use Rattle.uring_machine.specs.Machine.{Holding, Fits}
-use Rattle.uring_cli.specs.Exchanges.{Exchange, Answers, IsUnbroken, IsReadAs, answer_text, asked, history_of, with_event}
+use Rattle.uring_cli.specs.Lines.{Splits}
+use Rattle.uring_cli.specs.Exchanges.{Exchange, Answers, IsReadAs, answer_text, lines_of, history_of, with_event}
 
 -- at most 300 bytes of a line, and whether it has more
 pub record Keeps300 (line kept : List ℕ) (is_long : Bool) : Type 0 where
@@ -24,8 +25,7 @@ pub record Holds (shape : Shape) (machine : Holding) (kept : List ℕ) (is_long 
   pub exchanges : List Exchange
   pub line : List ℕ
   pub answers : Answers shape exchanges text
-  pub unbroken : IsUnbroken line
-  pub parts : bytes ≡ asked exchanges ++ line
+  pub splits : Splits bytes (lines_of exchanges) line
   pub keeps : Keeps300 line kept is_long
   pub same : machine.core.shape ≡ shape
   pub fits : Fits machine (history_of exchanges)

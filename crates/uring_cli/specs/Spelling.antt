@@ -54,9 +54,14 @@ IsForm (Raw bytes) word = AreBytes bytes 128 128
 abbrev pub SpellsForm : List (List ℕ) → Form → Type 0
 SpellsForm words form = (word : List ℕ) × IsForm form word × (words ≡ spelled form word)
 
+-- each word of an entry has 64 bits
+abbrev pub AreWords : Entry → Type 0
+AreWords entry = AllByRecursion (λ word. word < 2 ^ 64) entry
+
 -- the entry has these 128 bytes, byte 0 first
 pub record HasBytes (entry : Entry) (bytes : List ℕ) : Type 0 where
   pub size : length entry ≡ 16
+  pub words : AreWords entry
   pub all : bytes_of entry ≡ bytes
 
 -- the entry of a form
@@ -97,6 +102,11 @@ Spells words step.Next = words ≡ codes "next" ∷ []
 pub record IsStep (line : List ℕ) (s : Step) : Type 0 where
   pub short : length line ≤ 300
   pub spells : Spells (words_of line) s
+
+-- where the step fills a slot, each word of its entry has 64 bits, as those of every `Sqe` have
+abbrev pub FillsWords : Step → Type 0
+FillsWords (step.Fill slot entry) = AreWords entry
+FillsWords _ = Unit {0}
 
 -- the line is no step
 abbrev pub IsBad : List ℕ → Type 0

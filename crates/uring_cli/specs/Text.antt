@@ -1,7 +1,7 @@
 -- The text of an answer. The language of a trace is our own rule.
 use Rattle.std.specs.Prelude.{ℕ, zero, suc, ℤ, List, [], ◌∷◌, ◌++◌, codes}
 use Rattle.std.specs.Fmt.{decimal, signed_decimal}
-use Rattle.uring_entry.specs.Layout.{Completion, user_data_of}
+use Rattle.uring_entry.specs.Layout.{Entry, Completion, user_data_of}
 use Rattle.uring_machine.specs.declared.answers.Answer.{Answer}
 use Rattle.uring_machine.specs.declared.answers.Answer.TheVariants as answer
 use Rattle.uring_cli.specs.Words.{hex_or_dash}
@@ -16,6 +16,10 @@ before_others b (c ∷ bytes) = b ∷ c ∷ bytes
 abbrev pub trimmed : List ℕ → List ℕ
 trimmed [] = []
 trimmed (b ∷ bytes) = before_others b (trimmed bytes)
+
+-- an entry: its user data
+abbrev pub entry_text : Entry → List ℕ
+entry_text e = codes "entry " ++ decimal (user_data_of e)
 
 -- a completion: its user data, its result, and its bytes without the zeros at their end
 abbrev pub completion_text : Completion → List ℕ
@@ -35,7 +39,7 @@ text_of answer.Closed = codes "closed"
 text_of answer.InCall = codes "in call"
 text_of answer.Spent = codes "spent"
 text_of answer.Again = codes "again"
-text_of (answer.Entry entry) = codes "entry " ++ decimal (user_data_of entry)
+text_of (answer.Entry entry) = entry_text entry
 text_of answer.Dropped = codes "dropped"
 text_of answer.NoMore = codes "no more"
 text_of answer.NoCall = codes "no call"

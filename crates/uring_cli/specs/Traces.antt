@@ -1,26 +1,27 @@
 -- What a trace wrote for the bytes that it read.
-use Rattle.std.specs.Prelude.{◌≡◌, ℕ, ◌⊎◌, List, [], ◌∷◌, ◌++◌, Option, Result, Ok, Err}
+use Rattle.std.specs.Prelude.{◌≡◌, ℕ, ◌<◌, ◌⊎◌, List, [], ◌++◌, length, Option, Result, Ok, Err}
 use Rattle.std.specs.Io.KnownBytes.{Consumes, Appends, IsAtEnd}
 use Rattle.uring_cli.specs.declared.trace_fault.TraceFault.{TraceFault}
 use Rattle.uring_cli.specs.declared.trace_fault.TraceFault.TheVariants as fault
 use Rattle.uring_entry.specs.Shape.{Shape}
-use Rattle.uring_cli.specs.Exchanges.{Exchange, Answers, AreLines, IsUnbroken, asked}
+use Rattle.uring_cli.specs.Lines.{Splits, with_last}
+use Rattle.uring_cli.specs.Exchanges.{Exchange, Answers, lines_of}
 
--- the text answers every line of the bytes
+-- the text answers every line of the bytes, of which the last may lack its end
 abbrev pub IsWhole : Shape → List ℕ → List ℕ → Type 0
-IsWhole shape bytes text = (xs : List Exchange) × Answers shape xs text × AreLines xs bytes
+IsWhole shape bytes text = (xs : List Exchange) × (lines : List (List ℕ)) × (rest : List ℕ) × Answers shape xs text × Splits bytes lines rest × (lines_of xs ≡ with_last lines rest)
 
 -- the text answers every line of the bytes that has its end
 abbrev pub IsEnded : Shape → List ℕ → List ℕ → Type 0
-IsEnded shape bytes text = (xs : List Exchange) × (rest : List ℕ) × Answers shape xs text × IsUnbroken rest × (bytes ≡ asked xs ++ rest)
+IsEnded shape bytes text = (xs : List Exchange) × (rest : List ℕ) × Answers shape xs text × Splits bytes (lines_of xs) rest
 
 -- the text answers the first lines of the bytes
 abbrev pub IsBeginning : Shape → List ℕ → List ℕ → Type 0
-IsBeginning shape bytes text = (xs : List Exchange) × (after : List ℕ) × Answers shape xs text × (bytes ≡ asked xs ++ after)
+IsBeginning shape bytes text = (first : List ℕ) × (after : List ℕ) × (xs : List Exchange) × Answers shape xs text × Splits first (lines_of xs) [] × (bytes ≡ first ++ after)
 
--- the text is a beginning of the answers to lines of the bytes
+-- the text lacks something of the answers to lines of the bytes
 abbrev pub IsCutShort : Shape → List ℕ → List ℕ → Type 0
-IsCutShort shape bytes text = (more : List ℕ) × (IsBeginning shape bytes (text ++ more) ⊎ IsWhole shape bytes (text ++ more))
+IsCutShort shape bytes text = (more : List ℕ) × (0 < length more) × (IsBeginning shape bytes (text ++ more) ⊎ IsWhole shape bytes (text ++ more))
 
 -- what is written, by what the trace answers
 abbrev pub Writes : Shape → Result (Unit {0}) TraceFault → List ℕ → List ℕ → Type 0
@@ -43,7 +44,7 @@ pub record Traces (shape : Shape) (answer : Result (Unit {0}) TraceFault) (left_
   pub written : Writes shape answer bytes text
   pub whole : ReadsAll answer left_after
 
--- What a write of a text did: at `Ok` it appended the text, and else a beginning of it.
+-- What a write of a text did: at `Ok` it appended the text, and else a part of it, from its beginning on.
 abbrev pub WritesText : Result (Unit {0}) TraceFault → List ℕ → List ℕ → Type 0
 WritesText (Ok done) text written = written ≡ text
-WritesText (Err e) text written = (e ≡ fault.Write) × (more : List ℕ) × (text ≡ written ++ more)
+WritesText (Err e) text written = (e ≡ fault.Write) × (more : List ℕ) × (0 < length more) × (text ≡ written ++ more)

@@ -2,12 +2,11 @@
 
 ghost use Rattle.std.specs.Prelude.{◌≡◌, ◌++◌, OnOk, string_bytes};
 ghost use Rattle.uring_cli.specs.Words.{hex_or_dash};
-ghost use Rattle.uring_cli.specs.Text.{text_of, completion_text, trimmed};
+ghost use Rattle.uring_cli.specs.Text.{text_of, entry_text, completion_text, trimmed};
 
 use std::alloc::{AllocError, Global};
 use std::fmt::Write;
-use uring_entry::Cqe;
-use uring_machine::Answer;
+use uring_machine::{Answer, Cqe, Sqe};
 
 /// Appends the text of an answer, without the end of its line.
 pub(crate) fn push_answer(
@@ -29,10 +28,7 @@ pub(crate) fn push_answer(
         Answer::InCall => text.push_str("in call"),
         Answer::Spent => text.push_str("spent"),
         Answer::Again => text.push_str("again"),
-        Answer::Entry(entry) => {
-            let user_data = entry.user_data();
-            write!(text, "entry {user_data}")
-        }
+        Answer::Entry(entry) => push_entry(text, entry),
         Answer::Dropped => text.push_str("dropped"),
         Answer::NoMore => text.push_str("no more"),
         Answer::NoCall => text.push_str("no call"),
@@ -53,6 +49,14 @@ pub(crate) fn push_answer(
         Answer::Nothing => text.push_str("none"),
         Answer::Next(number) => write!(text, "next {number}"),
     }
+}
+
+/// Appends an entry: its user data.
+fn push_entry(text: &mut String, entry: &Sqe) -> Result<(), AllocError>
+    ensures { OnOk result (string_bytes text.new ≡ string_bytes text.old ++ entry_text entry.now) }
+{
+    let user_data = entry.user_data();
+    write!(text, "entry {user_data}")
 }
 
 /// Appends a completion: its user data, its result and its data.

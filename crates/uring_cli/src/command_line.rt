@@ -13,7 +13,7 @@ use clap::builder::ValueParser;
 use clap::error::ErrorKind;
 use clap::{Arg, ArgAction, ArgMatches, Command, value_parser};
 use std::alloc::{AllocError, Global};
-use uring_entry::{BadSetup, Setup};
+use uring_machine::{BadSetup, Setup};
 
 /// Entries of the submission ring where the command line doesn't say.
 const DEFAULT_SQ: u32 = 4;

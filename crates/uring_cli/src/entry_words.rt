@@ -9,7 +9,7 @@ use crate::flag_words::flag_bits;
 use crate::hex_words::{decode, raw_entry};
 use crate::names::is;
 use crate::number_words::{file, number, operation, small_number};
-use uring_entry::Sqe;
+use uring_machine::Sqe;
 
 /// Most bytes of data in an entry.
 const DATA: usize = 64;

@@ -5,7 +5,7 @@ ghost use Rattle.uring_cli.specs.Words.{flag_value};
 ghost use Rattle.uring_cli.specs.Reading.{flags_of, letters_of};
 
 use bitflags::Flags;
-use uring_entry::SqeFlags;
+use uring_machine::SqeFlags;
 
 /// The flag bits that a word names: `-` for none, or one or more of the letters D, L, H, A and S in any order, each at most once.
 #[tactic(auto, unfolding(crate::specs::Reading::flags_of))]

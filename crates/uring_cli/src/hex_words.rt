@@ -4,9 +4,10 @@ ghost use Rattle.std.specs.Prelude.{◌≡◌, ◌≤◌, length, take, drop, Ma
 ghost use Rattle.std.specs.List.{list_any};
 ghost use Rattle.std.specs.Int.{w64, to_le_bytes};
 ghost use Rattle.uring_entry.specs.Layout.{bytes_of};
+ghost use Rattle.uring_cli.specs.Spelling.{AreWords};
 ghost use Rattle.uring_cli.specs.Reading.{is_capital, hex_of, bytes_form_of, ReadsEntry};
 
-use uring_entry::Sqe;
+use uring_machine::Sqe;
 
 /// The bytes of an entry.
 const ENTRY: usize = 128;
@@ -41,7 +42,8 @@ fn has_capitals(word: &[u8]) -> bool
 
 /// The words of 64 bits that hold these bytes, the low byte of each word first.
 fn words_of(bytes: &[u8; ENTRY]) -> [u64; 16]
-    ensures { bytes_of result ≡ bytes.now }
+    ensures bytes { bytes_of result ≡ bytes.now }
+    ensures words { AreWords result }
 {
     let mut words = [0; 16];
     for i in 0..16 {

@@ -7,6 +7,7 @@ mod entry_words;
 mod fault;
 mod flag_words;
 mod hex_words;
+pub mod laws;
 mod names;
 mod number_words;
 mod option_kinds;

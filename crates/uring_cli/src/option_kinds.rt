@@ -1,4 +1,4 @@
-use uring_entry::Setup;
+use uring_machine::Setup;
 
 /// What a command line asks for.
 #[derive(Clone, Copy, Debug, Drop, PartialEq, Eq)]

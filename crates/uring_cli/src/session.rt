@@ -9,8 +9,7 @@ use crate::answer_text::push_answer;
 use crate::step_lines::{LONGEST_LINE, read_step};
 use crate::trace_fault::TraceFault;
 use std::alloc::{AllocError, Global};
-use uring_entry::Setup;
-use uring_machine::{Machine, Step};
+use uring_machine::{Machine, Setup, Step};
 
 /// A machine, and what is kept of the line that has begun.
 #[derive(Drop)]

@@ -1,6 +1,6 @@
 //! The run of a trace over two streams.
 
-ghost use Rattle.std.specs.Prelude.{◌≡◌, ◌≤◌, ◌++◌, ℕ, List, [], length, take, IfOk, IfErr};
+ghost use Rattle.std.specs.Prelude.{ℕ, List};
 ghost use Rattle.std.specs.Io.KnownBytes.{Appends};
 ghost use Rattle.uring_cli.specs.Traces.{Traces, WritesText};
 
@@ -8,7 +8,7 @@ use crate::session::Session;
 use crate::trace_fault::TraceFault;
 use std::alloc::Global;
 use std::io::{ErrorKind, Read, Write};
-use uring_entry::Setup;
+use uring_machine::Setup;
 
 /// Most bytes that are read at once.
 const CHUNK: usize = 512;
@@ -57,29 +57,21 @@ fn write_all<W: Write>(writer: &mut W, bytes: &[u8]) -> Result<(), TraceFault>
     let mut rest = bytes;
     for _ in 0..u64::MAX {
         if rest.is_empty() {
-            return Ok(());
+            break;
         }
-        let count = write_some(writer, rest)?;
-        rest = rest.split_at(count).1;
-    }
-    Err(TraceFault::Write)
-}
-
-/// Writes some of these bytes, and answers how many: none where the write was interrupted.
-fn write_some<W: Write>(writer: &mut W, bytes: &[u8]) -> Result<usize, TraceFault>
-    ensures bound { IfOk result (λ count. count ≤ length bytes.now) }
-    ensures ok { IfOk result (λ count. Appends (W.contents writer.old) (W.contents writer.new) (take count bytes.now)) }
-    ensures err { IfErr result (λ e. (e ≡ TraceFault.Write) × Appends (W.contents writer.old) (W.contents writer.new) []) }
-{
-    match writer.write(bytes) {
-        Ok(0) => Err(TraceFault::Write),
-        Ok(count) => Ok(count),
-        Err(error) => {
-            if error.kind() == ErrorKind::Interrupted {
-                Ok(0)
-            } else {
-                Err(TraceFault::Write)
+        match writer.write(rest) {
+            Ok(0) => return Err(TraceFault::Write),
+            Ok(count) => rest = rest.split_at(count).1,
+            Err(error) => {
+                if error.kind() != ErrorKind::Interrupted {
+                    return Err(TraceFault::Write);
+                }
             }
         }
+    }
+    if rest.is_empty() {
+        Ok(())
+    } else {
+        Err(TraceFault::Write)
     }
 }

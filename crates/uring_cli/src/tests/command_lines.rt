@@ -63,16 +63,16 @@ fn faults_are_told(rt: HostRuntime) -> Result<(), Fail> {
     Ok(())
 }
 
-/// Tells the fault of a command line that is refused, and gives the status and what was written.
-fn told(alloc: Global, words: &[&str]) -> Result<Option<(u8, Vec<u8>)>, AllocError> {
-    match options(alloc, words) {
-        Ok(_) => Ok(None),
-        Err(fault) => {
-            let mut text = Vec::new(alloc);
-            let status = tell(alloc, &mut text, &Fault::Options(fault));
-            Ok(Some((status, text)))
-        }
-    }
+/// Tells the fault of a command line whose words are refused, and gives what was written, the exit status, and the one where nothing can be written.
+fn told(alloc: Global, words: &[&str]) -> Result<(Vec<u8>, u8, u8), Fail> {
+    let Err(OptionsFault::Words(error)) = options(alloc, words) else {
+        return Err(Fail::from("the words aren't refused"));
+    };
+    let fault = Fault::Options(OptionsFault::Words(error));
+    let mut text = Vec::new(alloc);
+    let status = tell(alloc, &mut text, &fault);
+    let mut full = FullWriter::new(alloc, 0, false);
+    Ok((text, status, tell(alloc, &mut full, &fault)))
 }
 
 /// Whether a text has these bytes in it.
@@ -100,12 +100,12 @@ fn faults_name_the_word(rt: HostRuntime) -> Result<(), Fail> {
             "fill SLOT nop UD FLAGS",
         ),
     ] {
-        let (status, text) = told(alloc, words.as_slice())?.ok_or("no fault")?;
-        assert_eq!(rt; status, 2, "{words:?}");
+        let (text, status, unwritten) = told(alloc, words.as_slice())?;
+        assert_eq!(rt; (status, unwritten), (2, 2), "{words:?}");
         assert!(rt; has(text.as_slice(), part), "{words:?}");
     }
-    let (status, text) = told(alloc, ["uring", "--help"].as_slice())?.ok_or("no fault")?;
-    assert_eq!(rt; status, 2);
+    let (text, status, unwritten) = told(alloc, ["uring", "--help"].as_slice())?;
+    assert_eq!(rt; (status, unwritten), (2, 2));
     assert!(rt; has(text.as_slice(), "trace"));
     Ok(())
 }

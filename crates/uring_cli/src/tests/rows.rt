@@ -1,227 +1,27 @@
-//! Worked rows of a trace: the options, and each line with its answer.
+//! Worked rows of a trace, a table a topic: the options, and each line with its answer.
+
+mod chains;
+mod drains_and_cancels;
+mod files;
+mod lines;
+mod overflow_and_close;
+mod rings;
+
+pub(super) use chains::CHAINS;
+pub(super) use drains_and_cancels::DRAINS_AND_CANCELS;
+pub(super) use files::FILES;
+pub(super) use lines::LINES;
+pub(super) use overflow_and_close::OVERFLOW_AND_CLOSE;
+pub(super) use rings::RINGS;
 
 /// A trace with what it is to answer.
 pub(super) struct Row {
     /// What the row shows.
     pub name: &'static str,
     /// The words behind `uring trace`.
-    pub options: &'static [&'static str],
+    pub options: &'static str,
     /// Each line, and its answer.
     pub steps: &'static [(&'static str, &'static str)],
     /// Whether the last line has no end.
     pub is_cut: bool,
 }
-
-pub(super) static ROWS: [Row; 11] = [
-    Row {
-        name: "one_no_op",
-        options: &["--sq", "4", "--cq", "4", "--files", "2", "--start", "0"],
-        steps: &[
-            ("fill 0 nop 7 -", "ok"),
-            ("index 0", "ok"),
-            ("tail", "tail 1"),
-            ("begin 1", "call 1"),
-            ("take", "entry 7"),
-            ("end", "taken 1 dropped 0 head 1"),
-            ("issue 0", "run"),
-            ("finish 0", "ended 0"),
-            ("cqtail", "tail 1"),
-            ("reap", "cqe 7 0 -"),
-            ("reap", "none"),
-            ("cqhead", "head 1"),
-        ],
-        is_cut: false,
-    },
-    Row {
-        name: "bad_lines",
-        options: &["--sq", "4", "--cq", "4", "--files", "2", "--start", "0"],
-        steps: &[
-            ("fill 0 nop 07 -", "bad line"),
-            ("Fill 0 nop 7 -", "bad line"),
-            ("", "bad line"),
-            ("index 4294967296", "bad line"),
-            ("fill 0 nop 7 -", "ok"),
-            ("inde", "bad line"),
-        ],
-        is_cut: true,
-    },
-    Row {
-        name: "start_at_the_last_word",
-        options: &[
-            "--sq",
-            "4",
-            "--cq",
-            "4",
-            "--files",
-            "2",
-            "--start",
-            "4294967295",
-        ],
-        steps: &[
-            ("fill 0 nop 1 -", "ok"),
-            ("index 0", "ok"),
-            ("head", "head 4294967295"),
-            ("tail", "tail 0"),
-            ("begin 1", "call 1"),
-            ("take", "entry 1"),
-            ("end", "taken 1 dropped 0 head 0"),
-            ("head", "head 0"),
-            ("issue 0", "run"),
-            ("finish 0", "ended 0"),
-            ("cqtail", "tail 0"),
-            ("reap", "cqe 1 0 -"),
-            ("cqhead", "head 0"),
-        ],
-        is_cut: false,
-    },
-    Row {
-        name: "full_across_the_wrap",
-        options: &[
-            "--sq",
-            "4",
-            "--cq",
-            "4",
-            "--files",
-            "2",
-            "--start",
-            "4294967294",
-        ],
-        steps: &[
-            ("index 0", "ok"),
-            ("index 0", "ok"),
-            ("index 0", "ok"),
-            ("index 0", "ok"),
-            ("index 0", "full"),
-            ("tail", "tail 2"),
-            ("index 0", "full"),
-            ("begin 4", "call 4"),
-            ("take", "entry 0"),
-            ("take", "entry 0"),
-            ("take", "entry 0"),
-            ("take", "entry 0"),
-            ("end", "taken 4 dropped 0 head 2"),
-            ("index 0", "full"),
-            ("head", "head 2"),
-            ("index 0", "ok"),
-        ],
-        is_cut: false,
-    },
-    Row {
-        name: "empty_calls",
-        options: &["--sq", "4", "--cq", "4", "--files", "2", "--start", "0"],
-        steps: &[
-            ("begin 9", "call 0"),
-            ("take", "no more"),
-            ("end", "taken 0 dropped 0 head 0"),
-            ("take", "no call"),
-            ("end", "no call"),
-        ],
-        is_cut: false,
-    },
-    Row {
-        name: "bad_word_is_dropped",
-        options: &["--sq", "4", "--cq", "4", "--files", "2", "--start", "0"],
-        steps: &[
-            ("fill 0 nop 5 -", "ok"),
-            ("index 9", "ok"),
-            ("index 0", "ok"),
-            ("tail", "tail 2"),
-            ("begin 2", "call 2"),
-            ("end", "not all"),
-            ("take", "dropped"),
-            ("take", "entry 5"),
-            ("take", "no more"),
-            ("end", "taken 1 dropped 1 head 2"),
-        ],
-        is_cut: false,
-    },
-    Row {
-        name: "slot_named_twice",
-        options: &["--sq", "4", "--cq", "4", "--files", "2", "--start", "0"],
-        steps: &[
-            ("fill 0 nop 6 -", "ok"),
-            ("index 0", "ok"),
-            ("index 0", "ok"),
-            ("tail", "tail 2"),
-            ("begin 2", "call 2"),
-            ("take", "entry 6"),
-            ("take", "entry 6"),
-            ("end", "taken 2 dropped 0 head 2"),
-            ("head", "head 2"),
-            ("issue 1", "run"),
-            ("issue 0", "run"),
-            ("finish 1", "ended 0"),
-            ("finish 0", "ended 0"),
-            ("cqtail", "tail 2"),
-            ("reap", "cqe 6 0 -"),
-            ("reap", "cqe 6 0 -"),
-            ("issue 0", "unknown"),
-        ],
-        is_cut: false,
-    },
-    Row {
-        name: "refilled_slots",
-        options: &["--sq", "4", "--cq", "4", "--files", "2", "--start", "0"],
-        steps: &[
-            ("fill 0 nop 1 -", "ok"),
-            ("index 0", "ok"),
-            ("fill 0 nop 2 -", "ok"),
-            ("tail", "tail 1"),
-            ("fill 0 nop 3 -", "busy"),
-            ("begin 1", "call 1"),
-            ("take", "entry 2"),
-            ("end", "taken 1 dropped 0 head 1"),
-            ("fill 0 nop 3 -", "busy"),
-            ("head", "head 1"),
-            ("fill 0 nop 3 -", "ok"),
-            ("fill 4 nop 1 -", "no slot"),
-        ],
-        is_cut: false,
-    },
-    Row {
-        name: "two_places_across_the_wrap",
-        options: &["--sq", "2", "--cq", "2", "--start", "4294967295"],
-        steps: &[
-            ("fill 0 nop 1 -", "ok"),
-            ("fill 1 nop 2 -", "ok"),
-            ("index 0", "ok"),
-            ("index 1", "ok"),
-            ("tail", "tail 1"),
-            ("begin 2", "call 2"),
-            ("take", "entry 1"),
-            ("take", "entry 2"),
-            ("end", "taken 2 dropped 0 head 1"),
-            ("issue 0", "run"),
-            ("finish 0", "ended 0"),
-            ("cqtail", "tail 0"),
-            ("issue 1", "run"),
-            ("finish 1", "ended 0"),
-            ("cqtail", "tail 1"),
-            ("reap", "cqe 1 0 -"),
-            ("reap", "cqe 2 0 -"),
-            ("reap", "none"),
-            ("cqhead", "head 1"),
-        ],
-        is_cut: false,
-    },
-    Row {
-        name: "hostile_numbers",
-        options: &["--sq", "4", "--cq", "4", "--files", "2", "--start", "0"],
-        steps: &[
-            ("finish 7", "not running"),
-            ("issue 18446744073709551615", "unknown"),
-            ("index 4294967295", "ok"),
-            ("tail", "tail 1"),
-            ("begin 4294967295", "call 1"),
-            ("take", "dropped"),
-            ("end", "taken 0 dropped 1 head 1"),
-        ],
-        is_cut: false,
-    },
-    Row {
-        name: "input_cut_in_a_line",
-        options: &["--sq", "4", "--cq", "4", "--files", "2", "--start", "0"],
-        steps: &[("fill 0 nop 7 -", "ok"), ("index", "bad line")],
-        is_cut: true,
-    },
-];

@@ -1,6 +1,6 @@
 //! Streams that fail, and what a trace does with them.
 
-use super::rows::ROWS;
+use super::rows::RINGS;
 use super::traces::{input_of, output_of, setup_of};
 use crate::trace_fault::TraceFault;
 use crate::trace_loop::trace;
@@ -9,7 +9,7 @@ use std::cmp::min;
 use std::io;
 use std::io::{ErrorKind, Read, Write};
 use std::test::Fail;
-use uring_entry::Setup;
+use uring_machine::Setup;
 
 /// A reader of some bytes, a few at a time, that fails behind them.
 #[derive(Drop)]
@@ -65,7 +65,7 @@ impl Write for FullWriter {
 
 /// The set-up, the lines and the answers of the first row.
 fn first_row(alloc: Global) -> Result<(Setup, Vec<u8>, Vec<u8>), Fail> {
-    let row = &ROWS[0];
+    let row = &RINGS[0];
     let setup = setup_of(alloc, row.options)?;
     Ok((setup, input_of(alloc, row)?, output_of(alloc, row)?))
 }
@@ -95,7 +95,7 @@ fn lines_before_a_failing_read_are_answered(rt: HostRuntime) -> Result<(), Fail>
 fn a_failing_read_is_a_read_fault(rt: HostRuntime) -> Result<(), Fail> {
     let alloc = rt.alloc();
     let (setup, input, wanted) = first_row(alloc)?;
-    for count in 0..input.len() {
+    for count in 0..=input.len() {
         let mut reader = FailingReader {
             rest: &input.as_slice()[..count],
         };
