@@ -1,5 +1,5 @@
 -- The 128 bytes of an entry and the 16 words that hold them.
-use Rattle.std.proofs.Common.{◌≡◌, ℕ, zero, suc, ◌+◌, ◌*◌, ◌^◌, ◌<◌, ◌∙◌, sym, ap, subst, List, [], ◌∷◌, ◌++◌, length, take, drop, set, arith}
+use Rattle.std.proofs.Common.{◌≡◌, ℕ, zero, suc, ◌*◌, ◌^◌, ◌<◌, ◌∙◌, sym, ap, subst, List, [], ◌∷◌, length, take, set, arith}
 use Rattle.std.proofs.lemmas.Grind.{common_steps}
 use Rattle.uring_entry.specs.Layout.{bytes_of}
 use Rattle.uring_cli.specs.Spelling.{AreWords}

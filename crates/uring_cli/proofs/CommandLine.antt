@@ -1,13 +1,13 @@
 -- What clap's matches say of the options.
-use Rattle.std.proofs.Common.{◌≡◌, ℕ, Bool, true, false, cond, ◌||◌, List, [], ◌∷◌, Option, Some, None, Result, Ok, Err, refl, sym, ap, subst, ◌∙◌, inl, inr}
+use Rattle.std.proofs.Common.{◌≡◌, ℕ, Bool, true, false, ◌||◌, List, [], Option, Some, None, Result, Ok, refl, sym, ap, ◌∙◌, inl, inr}
 use Rattle.std.specs.Prelude.{codes, option_map, MatchOption}
 use Rattle.std.specs.Str.{bytes_eq}
 use Rattle.std.specs.Str.Parse.{digits_value, without_leading_plus}
 use Rattle.std.proofs.lemmas.Bool.{cases_Bool}
 use Rattle.std.proofs.lemmas.Slice.Eq.{bytes_eq-Decides}
-use Rattle.clap.specs.Walk.{Row, Text, one_of, rows_of}
+use Rattle.clap.specs.Walk.{Row, Text, rows_of}
 use Rattle.clap.specs.Matches.{one_text, TriesOne, subcommand_name_of}
-use Rattle.clap.specs.Simple.{App, is_simple, subcommand_of, subcommand_rows, subcommand_rows_of, HasMatchesOf}
+use Rattle.clap.specs.Simple.{App, is_simple, subcommand_of, subcommand_rows_of, HasMatchesOf}
 use Rattle.clap.specs.declared.parser.matches.ArgMatches.{ArgMatches}
 use Rattle.clap.specs.declared.parser.matches.ArgMatches.TheViews.{out-ArgMatches}
 use Rattle.clap.specs.declared.parser.matches.Found.{Found}

@@ -1,12 +1,9 @@
 -- The form that is read of words is the one that they spell.
-use Rattle.std.proofs.Common.{◌≡◌, ℕ, ◌^◌, ◌<◌, ◌≤◌, Bool, true, false, cond, List, [], ◌∷◌, length, Option, Some, None, refl, sym, ap, subst, ◌∙◌, arith, inl, inr}
+use Rattle.std.proofs.Common.{◌≡◌, ℕ, ◌^◌, cond, List, [], ◌∷◌, Option, Some, None, refl, sym, ap, subst, ◌∙◌, arith, inl, inr}
 use Rattle.std.specs.Prelude.{codes, ℤ}
 use Rattle.std.specs.Option.{option_map}
 use Rattle.std.specs.Str.{bytes_eq}
-use Rattle.std.specs.Fmt.{decimal, signed_decimal}
 use Rattle.std.proofs.lemmas.Slice.Eq.{bytes_eq-Decides}
-use Rattle.hex.specs.Hex.{encode_lower}
-use Rattle.uring_cli.specs.Words.{hex_or_dash, AreFlags}
 use Rattle.uring_cli.specs.Spelling.{Form, spelled, IsForm, SpellsForm, IsFile, AreBytes}
 use Rattle.uring_cli.specs.Spelling as form
 use Rattle.uring_cli.specs.Reading.{◌>>=◌, number_of, file_of, flags_of, data_of, hex_of, nop_of, fsync_of, read_of, write_of, cancel_of, op_of, raw_of, bytes_form_of, form_of}

@@ -1,7 +1,7 @@
 -- Bytes have lines in one way.
 use Rattle.std.proofs.Common.{◌≡◌, ℕ, List, [], ◌∷◌, ◌++◌, refl, sym, ap, subst, ◌∙◌, append_assoc}
 use Rattle.std.specs.List.{AllByRecursion}
-use Rattle.uring_cli.specs.Lines.{IsUnbroken, Splits, joined, ended}
+use Rattle.uring_cli.specs.Lines.{IsUnbroken, Splits, joined}
 
 -- what has the end of a line is broken
 broken : (a r : List ℕ) → IsUnbroken (a ++ 10 ∷ r) → ⊥

@@ -1,11 +1,10 @@
 -- What a session keeps, byte by byte and line by line.
-use Rattle.std.proofs.Common.{◌≡◌, ◌≢◌, ℕ, ◌+◌, ◌<◌, ◌≤◌, Bool, true, false, ltb, List, [], ◌∷◌, ◌++◌, length, take, Option, Some, None, Result, Ok, Err, refl, sym, ap, subst, ◌∙◌, append_assoc, arith, inl, inr}
+use Rattle.std.proofs.Common.{◌≡◌, ◌≢◌, ℕ, ◌<◌, ◌≤◌, Bool, true, false, List, [], ◌∷◌, ◌++◌, length, take, Option, Result, Ok, Err, refl, sym, ap, subst, ◌∙◌, append_assoc, arith}
 use Rattle.std.specs.Prelude.{IfOk, OnOk, MatchOption, is_ok}
 use Rattle.std.specs.List.{AllByRecursion}
 use Rattle.std.proofs.lemmas.Bool.{lt-ltb, le-ltb, ltb-false}
 use Rattle.std.proofs.lemmas.List.{append-nil, take_all, take-append-le, length-append, length-take, nil_from_length}
 use Rattle.uring_entry.specs.Shape.{Shape}
-use Rattle.uring_machine.specs.Histories.{Event}
 use Rattle.uring_machine.specs.Contents.{IsLawful}
 use Rattle.uring_machine.specs.Machine.{Holding, Fits}
 use Rattle.uring_machine.specs.declared.steps.Step.{Step}

@@ -5,14 +5,14 @@ use Rattle.std.specs.Option.{option_map}
 use Rattle.std.specs.Bool.{MatchBool}
 use Rattle.std.specs.Str.{bytes_eq}
 use Rattle.std.specs.Fmt.{decimal}
-use Rattle.std.proofs.lemmas.Bool.{eqb-true, cases_Bool}
+use Rattle.std.proofs.lemmas.Bool.{eqb-true}
 use Rattle.std.proofs.lemmas.List.{nil_from_length}
 use Rattle.std.proofs.lemmas.Slice.Eq.{bytes_eq-Decides}
 use Rattle.uring_entry.specs.Layout.{Entry}
 use Rattle.uring_machine.specs.declared.steps.Step.{Step}
 use Rattle.uring_machine.specs.declared.steps.Step.TheVariants as step
 use Rattle.uring_cli.specs.Words.{words_of}
-use Rattle.uring_cli.specs.Spelling.{Form, Spells, SpellsEntry, SpellsForm, IsEntryOf, IsStep, IsBad, FillsWords}
+use Rattle.uring_cli.specs.Spelling.{Form, Spells, SpellsForm, IsEntryOf, IsStep, IsBad, FillsWords}
 use Rattle.uring_cli.specs.Reading.{ReadsStep, ReadsFill, number_of, form_of, step_of_one, step_of_two}
 use Rattle.uring_cli.proofs.Options.{chosen, some_is}
 use Rattle.uring_cli.proofs.NumberLaws.{number_found, number_again}

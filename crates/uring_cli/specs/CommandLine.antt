@@ -1,5 +1,5 @@
 -- The command line, and what it asks for. The options are our own rule.
-use Rattle.std.specs.Prelude.{◌≡◌, ℕ, pos, List, [], ◌∷◌, Option, Some, None, codes, unwrap_or, option_map, if◌then◌else◌}
+use Rattle.std.specs.Prelude.{ℕ, pos, List, [], Option, Some, None, codes, unwrap_or, option_map, if◌then◌else◌}
 use Rattle.std.specs.Int.{IsNextPowerOfTwo}
 use Rattle.std.specs.Str.{bytes_eq}
 use Rattle.std.specs.Str.Parse.{digits_value, without_leading_plus}
@@ -8,7 +8,7 @@ use Rattle.clap.specs.Simple.{App, new_app, new_rule, with_rule, with_subcommand
 use Rattle.clap.specs.declared.builder.action.ArgAction.TheVariants.{Set}
 use Rattle.clap.specs.declared.builder.value_parser.ValueParser.{ValueParser}
 use Rattle.clap.specs.declared.builder.value_parser.ValueParser.TheVariants.{Signed}
-use Rattle.uring_entry.specs.Shape.{Shape, IsSetUp, IsBadCq}
+use Rattle.uring_entry.specs.Shape.{IsSetUp, IsBadCq}
 use Rattle.uring_cli.specs.declared.option_kinds.Options.{Options}
 use Rattle.uring_cli.specs.declared.option_kinds.Options.TheVariants.{Trace}
 use Rattle.uring_cli.specs.declared.options_fault.OptionsFault.{OptionsFault}

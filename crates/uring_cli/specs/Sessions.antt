@@ -1,5 +1,5 @@
 -- What a session keeps of the lines that it took in.
-use Rattle.std.specs.Prelude.{◌≡◌, ℕ, Bool, List, [], ◌∷◌, ◌++◌, length, take, nat_lt, Option}
+use Rattle.std.specs.Prelude.{◌≡◌, ℕ, Bool, List, ◌++◌, length, take, nat_lt, Option}
 use Rattle.uring_cli.specs.declared.session.Session.{Session}
 use Rattle.uring_entry.specs.Shape.{Shape}
 use Rattle.uring_machine.specs.Histories.{Event, History}

@@ -1,5 +1,5 @@
 -- The text of an answer. The language of a trace is our own rule.
-use Rattle.std.specs.Prelude.{ℕ, zero, suc, ℤ, List, [], ◌∷◌, ◌++◌, codes}
+use Rattle.std.specs.Prelude.{ℕ, zero, suc, List, [], ◌∷◌, ◌++◌, codes}
 use Rattle.std.specs.Fmt.{decimal, signed_decimal}
 use Rattle.uring_entry.specs.Layout.{Entry, Completion, user_data_of}
 use Rattle.uring_machine.specs.declared.answers.Answer.{Answer}

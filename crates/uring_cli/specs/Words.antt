@@ -1,7 +1,6 @@
 -- The words of a line, and what each kind of word stands for. The language of a trace is our own rule.
-use Rattle.std.specs.Prelude.{◌≡◌, ◌≢◌, ℕ, ◌+◌, ◌<◌, ◌≤◌, ◌^◌, ◌==◌, ◌⊎◌, List, [], ◌∷◌, length, if◌then◌else◌, codes, sum_by}
+use Rattle.std.specs.Prelude.{◌≡◌, ◌≢◌, ℕ, ◌<◌, ◌==◌, ◌⊎◌, List, [], ◌∷◌, length, if◌then◌else◌, codes, sum_by}
 use Rattle.std.specs.List.{slice_split, AllByRecursion}
-use Rattle.std.specs.Fmt.{decimal}
 use Rattle.hex.specs.Hex.{encode_lower}
 
 -- what stands between the spaces of a line

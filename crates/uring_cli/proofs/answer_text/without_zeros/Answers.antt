@@ -1,4 +1,4 @@
-use Rattle.std.proofs.Common.{◌≡◌, ℕ, ◌<◌, ◌≤◌, length, take, get_or, sym, ◌∙◌, arith, rules}
+use Rattle.std.proofs.Common.{◌∙◌, arith, rules}
 use Rattle.uring_cli.proofs.Trimming.{cut_zero, cut_whole}
 use Rattle.uring_cli.proofs.answer_text.without_zeros.Goals as goal
 use Rattle.uring_cli.proofs.answer_text.without_zeros.Goals.{then-loop-used-test+else-bytes-used-eq0, else-loop-used-test}

@@ -1,4 +1,4 @@
-use Rattle.std.proofs.Common.{◌≡◌, ℕ, true, Some, ◌∙◌, rules}
+use Rattle.std.proofs.Common.{◌≡◌, true, ◌∙◌, rules}
 use Rattle.uring_cli.specs.Reading.{is_numeral}
 use Rattle.uring_cli.proofs.Numbers.{numeral_parsed, numeral_utf8}
 use Rattle.uring_cli.proofs.number_words.number.Goals as goal

@@ -1,4 +1,4 @@
-use Rattle.std.proofs.Common.{◌≡◌, ℕ, ◌^◌, None, Some, sym, ◌∙◌, rules, arith}
+use Rattle.std.proofs.Common.{◌≡◌, ◌^◌, None, Some, sym, ◌∙◌, rules, arith}
 use Rattle.uring_cli.specs.Reading.{number_of}
 use Rattle.uring_cli.proofs.Numbers.{number_below_is, number_above, no_number}
 use Rattle.uring_cli.proofs.number_words.number_below.Goals as goal

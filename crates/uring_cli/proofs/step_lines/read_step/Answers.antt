@@ -1,4 +1,3 @@
-use Rattle.std.proofs.Common.{◌≡◌}
 use Rattle.uring_cli.proofs.Spellings.{read_line}
 use Rattle.uring_cli.proofs.step_lines.read_step.Goals as goal
 

@@ -1,4 +1,4 @@
-use Rattle.std.proofs.Common.{◌≡◌, [], List, ℕ, take, subst, rules}
+use Rattle.std.proofs.Common.{◌≡◌, [], ℕ, take, subst, rules}
 use Rattle.std.specs.Io.KnownBytes.{Consumes}
 use Rattle.uring_cli.proofs.Traces.{none_read, no_memory, all_read, not_written, goes_on, tried_again, at_start, read_failed}
 use Rattle.uring_cli.proofs.trace_loop.trace.Goals as goal

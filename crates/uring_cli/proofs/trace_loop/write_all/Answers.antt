@@ -1,4 +1,3 @@
-use Rattle.std.proofs.Common.{◌≡◌}
 use Rattle.std.proofs.KnownBytes.{Appends-kept}
 use Rattle.uring_cli.proofs.Traces.{wrote_more}
 use Rattle.uring_cli.proofs.trace_loop.write_all.Goals as goal

@@ -1,4 +1,4 @@
-use Rattle.std.proofs.Common.{◌≡◌, Some}
+use Rattle.std.proofs.Common.{Some}
 use Rattle.uring_cli.proofs.Sessions.{if_ok_map}
 use Rattle.uring_cli.proofs.session.Session.answer_line.Goals as goal
 

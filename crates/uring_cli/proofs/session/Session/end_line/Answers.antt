@@ -1,4 +1,4 @@
-use Rattle.std.proofs.Common.{◌≡◌, ◌++◌, ◌∷◌, [], List, ℕ}
+use Rattle.std.proofs.Common.{◌≡◌, ◌++◌, ◌∷◌, []}
 use Rattle.std.specs.Prelude.{string_bytes}
 use Rattle.uring_cli.proofs.Sessions.{on_ok_from, ended_line}
 use Rattle.uring_cli.proofs.session.Session.end_line.Goals as goal

@@ -1,4 +1,4 @@
-use Rattle.std.proofs.Common.{◌≡◌, ◌++◌, ◌∷◌, [], List, ℕ, ◌<◌, length, rules}
+use Rattle.std.proofs.Common.{◌≡◌, ◌++◌, ◌∷◌, [], ◌<◌, length, rules}
 use Rattle.std.specs.Prelude.{string_bytes}
 use Rattle.uring_cli.proofs.Sessions.{ended_last}
 use Rattle.uring_cli.proofs.session.Session.finish.Goals as goal

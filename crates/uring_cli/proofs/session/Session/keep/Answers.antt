@@ -1,4 +1,4 @@
-use Rattle.std.proofs.Common.{◌≡◌, ℕ, ◌<◌, ◌≤◌, List, ◌++◌, ◌∷◌, [], length, rules, arith}
+use Rattle.std.proofs.Common.{◌≡◌, ◌<◌, ◌≤◌, ◌++◌, ◌∷◌, [], length, rules}
 use Rattle.uring_cli.proofs.Sessions.{kept_more, kept_full, took_byte}
 use Rattle.uring_cli.proofs.session.Session.keep.Goals as goal
 

@@ -1,6 +1,3 @@
-use Rattle.std.proofs.Common.{◌≡◌, false, List, ℕ}
-use Rattle.std.specs.Prelude.{MatchOption}
-use Rattle.uring_cli.specs.Spelling.{IsStep, IsBad}
 use Rattle.uring_cli.proofs.Sessions.{if_ok_map, read_again}
 use Rattle.uring_cli.proofs.session.Session.line_step.Goals as goal
 
