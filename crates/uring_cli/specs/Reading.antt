@@ -1,10 +1,5 @@
-<<<<<<< ours
 -- What the words of a line say, read from the left: what the readers inside answer. What a line means is said in Spelling, and a proof joins the two.
-use Rattle.std.specs.Prelude.{◌≡◌, ℕ, zero, suc, Bool, true, false, ℤ, pos, negsuc, ◌+◌, ◌-◌, ◌<◌, ◌≤◌, ◌^◌, ◌*◌, ◌/◌, ◌==◌, ◌&&◌, nat_lt, nat_le, List, [], ◌∷◌, length, Option, Some, None, Result, if◌then◌else◌, codes}
-=======
--- What the words of a line say, read from the left.
 use Rattle.std.specs.Prelude.{◌≡◌, ℕ, zero, suc, Bool, false, ℤ, pos, negsuc, ◌^◌, ◌/◌, ◌==◌, ◌&&◌, nat_lt, nat_le, List, [], ◌∷◌, length, Option, Some, None, if◌then◌else◌, codes}
->>>>>>> theirs
 use Rattle.std.specs.Option.{option_map, IsSomeAnd}
 use Rattle.std.specs.Result.{result_ok}
 use Rattle.std.specs.Bool.{MatchBool}
