@@ -29,9 +29,6 @@ impl Files {
     ghost use Rattle.uring_files.specs.Contents.{empty_file, max_len};
     ghost use Rattle.uring_files.specs.Operations.{IsForFiles, IsOutcome, result_of, after, file_of, state_of, byte_of};
 
-    /// The most bytes that a file may have: our own rule.
-    pub const MAX_LEN: u32 = File::MAX_LEN;
-
     /// As many files as `count`, each of no bytes. The only error is that memory for them was refused.
     pub fn new(alloc: Global, count: u32) -> Result<Files, AllocError>
         ensures { IfOk result (λ files. files ≡ replicate count empty_file) }
@@ -48,7 +45,7 @@ impl Files {
     /// - A no-op gives 0.
     /// - Any other operation ends with -9 (EBADF) where its descriptor is negative or not below the number of files, before anything else is looked at.
     /// - A read gives the bytes from its offset on, as many as it asks for and as the file has, and answers how many: 0 at or past the file's end.
-    /// - A write of no bytes gives 0 at any offset, and counts as a successful write. One that would pass `MAX_LEN` ends with -27 (EFBIG), and one that lengthens its file with -12 (ENOMEM) where memory was refused. Else it answers how many bytes it wrote, and a gap between the file's end and its offset is filled with zeros.
+    /// - A write of no bytes gives 0 at any offset, and counts as a successful write. One that would make its file longer than 65,536 bytes ends with -27 (EFBIG), and one that lengthens its file with -12 (ENOMEM) where memory was refused. Else it answers how many bytes it wrote, and a gap between the file's end and its offset is filled with zeros.
     /// - A sync gives 0, and notes the successful writes of its file so far as safe.
     ///
     /// Only a write that lengthens its file takes memory. What the operations do is that of io_uring_enter(2), IORING_OP_NOP, READ, WRITE and FSYNC, and EBADF of its CQE ERRORS. The largest size, that a write past it changes nothing, and that files are in memory, are our own rule.
