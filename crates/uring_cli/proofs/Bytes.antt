@@ -1,8 +1,7 @@
 -- The 128 bytes of an entry and the 16 words that hold them.
-use Rattle.std.proofs.Common.{◌≡◌, ℕ, zero, suc, ◌*◌, ◌^◌, ◌<◌, ◌∙◌, sym, ap, subst, List, [], ◌∷◌, length, take, set, arith}
+use Rattle.std.proofs.Common.{◌≡◌, ℕ, ◌*◌, ◌∙◌, sym, ap, subst, List, length, take, arith}
 use Rattle.std.proofs.lemmas.Grind.{common_steps}
 use Rattle.uring_entry.specs.Layout.{bytes_of}
-use Rattle.uring_cli.specs.Spelling.{AreWords}
 
 -- sixteen words and 128 bytes are all of both
 pub all_taken : (i : ℕ) (bytes words : List ℕ) → i ≡ 16 → length bytes ≡ 128 → length words ≡ 16 → take (8 * i) bytes ≡ bytes_of (take i words) → bytes ≡ bytes_of words
@@ -11,9 +10,3 @@ all_taken i bytes words i_is bytes_length words_length same =
     let a : take 128 bytes ≡ bytes = grind (arith, common_steps) in
     let b : take 16 words ≡ words = grind (arith, common_steps) in
     sym a ∙ e ∙ ap bytes_of b
-
--- one word more
-pub words_set : (i word : ℕ) (words : List ℕ) → word < 2 ^ 64 → AreWords words → AreWords (set words i word)
-words_set i word [] lt h = tt
-words_set zero word (w ∷ words) lt h = (lt, h.1)
-words_set (suc i) word (w ∷ words) lt h = (h.0, words_set i word words lt h.1)

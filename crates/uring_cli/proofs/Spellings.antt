@@ -12,7 +12,7 @@ use Rattle.uring_entry.specs.Layout.{Entry}
 use Rattle.uring_machine.specs.declared.steps.Step.{Step}
 use Rattle.uring_machine.specs.declared.steps.Step.TheVariants as step
 use Rattle.uring_cli.specs.Words.{words_of}
-use Rattle.uring_cli.specs.Spelling.{Form, Spells, SpellsForm, IsEntryOf, IsStep, IsBad, FillsWords}
+use Rattle.uring_cli.specs.Spelling.{Form, Spells, SpellsForm, IsEntryOf, IsStep, IsBad}
 use Rattle.uring_cli.specs.Reading.{ReadsStep, ReadsFill, number_of, form_of, step_of_one, step_of_two}
 use Rattle.uring_cli.proofs.Options.{chosen, some_is}
 use Rattle.uring_cli.proofs.NumberLaws.{number_found, number_again}
@@ -136,27 +136,27 @@ none_and_step [] s r q = absurd cc
 none_and_step (name ∷ []) s r q = none_some (step_of_one name) s r q
 none_and_step (name ∷ word ∷ rest) s r q = no_more (bytes_eq name (codes "fill")) (number_of (2 ^ 32) word) (form_of rest) (cond (eqb (length rest) 0) (step_of_two name word) None) s r q
 
-fill_once : (o : Option ℕ) (f : Option Form) (s t : Step) → FillsWords s → FillsWords t → ReadsFill (Some s) o f → ReadsFill (Some t) o f → s ≡ t
-fill_once None f s t hs ht r q = absurd cc
-fill_once (Some slot) None s t hs ht r q = absurd cc
-fill_once (Some slot) (Some f) s t hs ht r q =
+fill_once : (o : Option ℕ) (f : Option Form) (s t : Step) → ReadsFill (Some s) o f → ReadsFill (Some t) o f → s ≡ t
+fill_once None f s t r q = absurd cc
+fill_once (Some slot) None s t r q = absurd cc
+fill_once (Some slot) (Some f) s t r q =
     let s_is : s ≡ step.Fill slot r.0 = some_is s (step.Fill slot r.0) r.1 in
     let t_is : t ≡ step.Fill slot q.0 = some_is t (step.Fill slot q.0) q.1 in
-    let same : r.0 ≡ q.0 = entry_once f r.0 q.0 (subst FillsWords s_is hs) (subst FillsWords t_is ht) r.2 q.2 in
+    let same : r.0 ≡ q.0 = entry_once f r.0 q.0 r.2 q.2 in
     s_is ∙ ap (λ (entry : Entry). step.Fill slot entry) same ∙ sym t_is
 
-more_once : (b : Bool) (o : Option ℕ) (f : Option Form) (other : Option Step) (s t : Step) → FillsWords s → FillsWords t → MatchBool b (ReadsFill (Some s) o f) (Some s ≡ other) → MatchBool b (ReadsFill (Some t) o f) (Some t ≡ other) → s ≡ t
-more_once true o f other s t hs ht r q = fill_once o f s t hs ht r q
-more_once false o f other s t hs ht r q = some_is s t (r ∙ sym q)
+more_once : (b : Bool) (o : Option ℕ) (f : Option Form) (other : Option Step) (s t : Step) → MatchBool b (ReadsFill (Some s) o f) (Some s ≡ other) → MatchBool b (ReadsFill (Some t) o f) (Some t ≡ other) → s ≡ t
+more_once true o f other s t r q = fill_once o f s t r q
+more_once false o f other s t r q = some_is s t (r ∙ sym q)
 
-read_once : (words : List (List ℕ)) (s t : Step) → FillsWords s → FillsWords t → ReadsStep (Some s) words → ReadsStep (Some t) words → s ≡ t
-read_once [] s t hs ht r q = absurd cc
-read_once (name ∷ []) s t hs ht r q = some_is s t (r ∙ sym q)
-read_once (name ∷ word ∷ rest) s t hs ht r q = more_once (bytes_eq name (codes "fill")) (number_of (2 ^ 32) word) (form_of rest) (cond (eqb (length rest) 0) (step_of_two name word) None) s t hs ht r q
+read_once : (words : List (List ℕ)) (s t : Step) → ReadsStep (Some s) words → ReadsStep (Some t) words → s ≡ t
+read_once [] s t r q = absurd cc
+read_once (name ∷ []) s t r q = some_is s t (r ∙ sym q)
+read_once (name ∷ word ∷ rest) s t r q = more_once (bytes_eq name (codes "fill")) (number_of (2 ^ 32) word) (form_of rest) (cond (eqb (length rest) 0) (step_of_two name word) None) s t r q
 
 -- a line is one step at most
-pub step_once : (line : List ℕ) (s t : Step) → FillsWords s → FillsWords t → IsStep line s → IsStep line t → s ≡ t
-step_once line s t hs ht h k = read_once (words_of line) s t hs ht (step_again (words_of line) s h.spells) (step_again (words_of line) t k.spells)
+pub step_once : (line : List ℕ) (s t : Step) → IsStep line s → IsStep line t → s ≡ t
+step_once line s t h k = read_once (words_of line) s t (step_again (words_of line) s h.spells) (step_again (words_of line) t k.spells)
 
 -- what a line is read as
 pub read_line : (line : List ℕ) (read : Option Step) → length line ≤ 300 → ReadsStep read (words_of line) → MatchOption read (IsBad line) (IsStep line)

@@ -3,7 +3,7 @@ use Rattle.std.specs.Prelude.{◌≡◌, ℕ, ℤ, pos, negsuc, ◌<◌, ◌≤�
 use Rattle.std.specs.List.{AllByRecursion}
 use Rattle.std.specs.Fmt.{decimal, signed_decimal}
 use Rattle.hex.specs.Hex.{encode_lower}
-use Rattle.uring_entry.specs.Layout.{Entry, header, without_data, bytes_of, HasData}
+use Rattle.uring_entry.specs.Layout.{Entry, header, without_data, bytes_of, AreWords, HasData}
 use Rattle.uring_entry.specs.declared.opcode.TheConstants.{NOP, FSYNC, ASYNC_CANCEL, READ, WRITE}
 use Rattle.uring_machine.specs.declared.steps.Step.{Step}
 use Rattle.uring_machine.specs.declared.steps.Step.TheVariants as step
@@ -54,10 +54,6 @@ IsForm (Raw bytes) word = AreBytes bytes 128 128
 abbrev pub SpellsForm : List (List ℕ) → Form → Type 0
 SpellsForm words form = (word : List ℕ) × IsForm form word × (words ≡ spelled form word)
 
--- each word of an entry has 64 bits
-abbrev pub AreWords : Entry → Type 0
-AreWords entry = AllByRecursion (λ word. word < 2 ^ 64) entry
-
 -- the entry has these 128 bytes, byte 0 first
 pub record HasBytes (entry : Entry) (bytes : List ℕ) : Type 0 where
   pub size : length entry ≡ 16
@@ -102,11 +98,6 @@ Spells words step.Next = words ≡ codes "next" ∷ []
 pub record IsStep (line : List ℕ) (s : Step) : Type 0 where
   pub short : length line ≤ 300
   pub spells : Spells (words_of line) s
-
--- where the step fills a slot, each word of its entry has 64 bits, as those of every `Sqe` have
-abbrev pub FillsWords : Step → Type 0
-FillsWords (step.Fill slot entry) = AreWords entry
-FillsWords _ = Unit {0}
 
 -- the line is no step
 abbrev pub IsBad : List ℕ → Type 0

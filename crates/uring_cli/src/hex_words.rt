@@ -3,8 +3,7 @@
 ghost use Rattle.std.specs.Prelude.{◌≡◌, ◌≤◌, length, take, drop, MatchOption, None, Some};
 ghost use Rattle.std.specs.List.{list_any};
 ghost use Rattle.std.specs.Int.{w64, to_le_bytes};
-ghost use Rattle.uring_entry.specs.Layout.{bytes_of};
-ghost use Rattle.uring_cli.specs.Spelling.{AreWords};
+ghost use Rattle.uring_entry.specs.Layout.{bytes_of, AreWords};
 ghost use Rattle.uring_cli.specs.Reading.{is_capital, hex_of, bytes_form_of, ReadsEntry};
 
 use uring_machine::Sqe;

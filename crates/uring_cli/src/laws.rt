@@ -2,12 +2,12 @@
 
 ghost use Rattle.std.specs.Prelude.{◌≡◌, ℕ, List};
 ghost use Rattle.uring_machine.specs.declared.steps.Step.{Step};
-ghost use Rattle.uring_cli.specs.Spelling.{IsStep, FillsWords};
+ghost use Rattle.uring_cli.specs.Spelling.{IsStep};
 ghost use Rattle.uring_cli.specs.Lines.{Splits};
 
-/// A line is one step at most. Of a fill, so far as the words of its entry have 64 bits, which those of every `Sqe` have.
+/// A line is one step at most.
 pub fn one_step()
-    ensures { (line : List ℕ) (s t : Step) → FillsWords s → FillsWords t → IsStep line s → IsStep line t → s ≡ t }
+    ensures { (line : List ℕ) (s t : Step) → IsStep line s → IsStep line t → s ≡ t }
 {}
 
 /// Bytes have lines in one way: those with their ends, and the rest.

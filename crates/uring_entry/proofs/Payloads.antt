@@ -1,9 +1,9 @@
 -- The 64 bytes of data and the eight words that hold them.
-use Rattle.std.proofs.Common.{◌≡◌, ℕ, ◌+◌, ◌*◌, ◌<◌, ◌∙◌, sym, ap, subst, List, [], ◌∷◌, ◌++◌, length, take, drop, set, arith}
+use Rattle.std.proofs.Common.{◌≡◌, ℕ, zero, suc, ◌+◌, ◌*◌, ◌^◌, ◌<◌, ◌∙◌, sym, ap, subst, List, [], ◌∷◌, ◌++◌, length, take, drop, set, arith}
 use Rattle.std.proofs.lemmas.Grind.{common_steps, flat_map-append}
 use Rattle.std.proofs.lemmas.List.{take_more_set, drop-take, take-append-drop}
 use Rattle.std.specs.Int.{w64, to_le_bytes}
-use Rattle.uring_entry.specs.Layout.{bytes_of}
+use Rattle.uring_entry.specs.Layout.{bytes_of, AreWords}
 
 -- eight words and 64 bytes are all of both
 pub all_taken : (i : ℕ) (bytes words : List ℕ) → i ≡ 8 → length bytes ≡ 64 → length words ≡ 8 → take (8 * i) bytes ≡ bytes_of (take i words) → bytes ≡ bytes_of words
@@ -30,3 +30,9 @@ word_more i bytes words word within same last =
 -- the last eight of sixteen words
 pub last_eight : (words : List ℕ) → length words ≡ 16 → take 8 (drop 8 words) ≡ drop 8 words
 last_eight words size = grind (arith, common_steps)
+
+-- one word set
+pub words_set : (i word : ℕ) (words : List ℕ) → word < 2 ^ 64 → AreWords words → AreWords (set words i word)
+words_set i word [] lt h = tt
+words_set zero word (w ∷ words) lt h = (lt, h.1)
+words_set (suc i) word (w ∷ words) lt h = (h.0, words_set i word words lt h.1)

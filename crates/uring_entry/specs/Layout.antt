@@ -1,6 +1,6 @@
 -- Which bits of an entry's and a completion's words are which field.
-use Rattle.std.specs.Prelude.{◌≡◌, ℕ, ◌+◌, ◌*◌, ◌-◌, ◌/◌, ◌%◌, ◌^◌, List, [], ◌∷◌, ◌++◌, length, take, drop, replicate, slice_index, ℤ, Bool, ◌==◌, not}
-use Rattle.std.specs.List.{flat_map}
+use Rattle.std.specs.Prelude.{◌≡◌, ℕ, ◌+◌, ◌*◌, ◌-◌, ◌/◌, ◌%◌, ◌^◌, ◌<◌, List, [], ◌∷◌, ◌++◌, length, take, drop, replicate, slice_index, ℤ, Bool, ◌==◌, not}
+use Rattle.std.specs.List.{flat_map, AllByRecursion}
 use Rattle.std.specs.Int.{w32, w64, cast_signed, cast_unsigned, to_le_bytes}
 use Rattle.std.specs.Int.RustNames.{bit_and}
 
@@ -73,10 +73,15 @@ without_data words = words ++ replicate 8 0
 abbrev pub padded : List ℕ → List ℕ
 padded bytes = bytes ++ replicate (64 - length bytes) 0
 
--- e has these first eight words, and then these bytes of data and zeros
+-- each number is a word of 64 bits
+abbrev pub AreWords : List ℕ → Type 0
+AreWords words = AllByRecursion (λ word. word < 2 ^ 64) words
+
+-- e has these first eight words, and then, as words, these bytes of data and zeros
 pub record HasData (e : Entry) (words bytes : List ℕ) : Type 0 where
   pub size : length e ≡ 16
   pub first : take 8 e ≡ words
+  pub rest : AreWords (drop 8 e)
   pub payload : payload_of e ≡ padded bytes
 
 -- A completion: the user data of its request, the result, and the bytes that a read gave. io_uring(7), Reading completion events, struct io_uring_cqe, for the first two; the bytes are our own rule

@@ -1,8 +1,8 @@
 //! The 64 bytes of data as eight words, the low byte of each word first.
 
-ghost use Rattle.std.specs.Prelude.{◌≡◌, ◌≤◌, ◌++◌, length, take, drop};
+ghost use Rattle.std.specs.Prelude.{◌≡◌, ◌≤◌, length, take, drop};
 ghost use Rattle.std.specs.Int.{w64, to_le_bytes};
-ghost use Rattle.uring_entry.specs.Layout.{bytes_of, padded};
+ghost use Rattle.uring_entry.specs.Layout.{bytes_of, padded, AreWords};
 
 /// The bytes that eight words hold.
 pub(crate) fn bytes_of_words(words: &[u64]) -> [u8; 64]
@@ -16,9 +16,10 @@ pub(crate) fn bytes_of_words(words: &[u64]) -> [u8; 64]
     bytes
 }
 
-/// The words that hold these bytes.
+/// The words of 64 bits that hold these bytes.
 pub(crate) fn words_of_bytes(bytes: &[u8; 64]) -> [u64; 8]
-    ensures { bytes_of result ≡ bytes.now }
+    ensures bytes { bytes_of result ≡ bytes.now }
+    ensures words { AreWords result }
 {
     let mut words = [0; 8];
     for i in 0..8 {

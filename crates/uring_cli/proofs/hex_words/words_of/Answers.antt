@@ -1,6 +1,6 @@
 use Rattle.std.proofs.Common.{arith, sym, length-set, ◌∙◌}
-use Rattle.uring_entry.proofs.Payloads.{word_more}
-use Rattle.uring_cli.proofs.Bytes.{all_taken, words_set}
+use Rattle.uring_entry.proofs.Payloads.{word_more, words_set}
+use Rattle.uring_cli.proofs.Bytes.{all_taken}
 use Rattle.uring_cli.proofs.hex_words.words_of.Goals as goal
 
 pub loop-i-preserved : goal.loop-i-preserved

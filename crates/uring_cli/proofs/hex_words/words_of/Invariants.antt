@@ -1,6 +1,5 @@
 use Rattle.std.proofs.Common.{◌≡◌, ◌*◌, length, take}
-use Rattle.uring_entry.specs.Layout.{bytes_of}
-use Rattle.uring_cli.specs.Spelling.{AreWords}
+use Rattle.uring_entry.specs.Layout.{bytes_of, AreWords}
 use Rattle.uring_cli.proofs.hex_words.words_of.Given as goal
 
 -- the first words hold the bytes so far
