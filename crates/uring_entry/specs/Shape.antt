@@ -20,9 +20,11 @@ pub record IsShape (s : Shape) : Type 0 where
   pub files_limit : s.files ≤ 64
   pub word : s.start < 2 ^ 32
 
--- What is asked for leads to s: sizes are rounded up to powers of two, and a completion ring that isn't asked for has twice the submission ring's size. io_uring_setup(2), DESCRIPTION and IORING_SETUP_CQSIZE; the doubling is the kernel's, of which the pages don't tell
+-- What is asked for leads to s: at least one entry is asked for each ring, and sizes are rounded up to powers of two; a completion ring that isn't asked for has twice the submission ring's size. io_uring_setup(2), DESCRIPTION and IORING_SETUP_CQSIZE; the doubling is the kernel's, of which the pages don't tell
 pub record IsSetUp (sq : ℕ) (cq : Option ℕ) (files start : ℕ) (s : Shape) : Type 0 where
+  pub sq_asked : 1 ≤ sq
   pub sq_rounded : IsNextPowerOfTwo sq s.sq
+  pub cq_asked : 1 ≤ unwrap_or cq (2 * s.sq)
   pub cq_rounded : IsNextPowerOfTwo (unwrap_or cq (2 * s.sq)) s.cq
   pub files_kept : s.files ≡ files
   pub start_kept : s.start ≡ start
