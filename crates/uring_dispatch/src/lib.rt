@@ -20,6 +20,3 @@ pub use finish_answer::Finished;
 pub use issue_answer::Issued;
 pub use refusal::ReserveError;
 pub use uring_entry::{BadSetup, Cqe, Fault, Op, Outcome, Setup, Sqe, SqeFlags};
-
-#[cfg(test)]
-mod tests;

@@ -26,6 +26,3 @@ pub use outcomes::Outcome;
 pub use preparation::prepare;
 pub use set_up::Setup;
 pub use success::succeeded;
-
-#[cfg(test)]
-mod tests;

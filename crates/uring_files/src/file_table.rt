@@ -1,4 +1,4 @@
-ghost use Rattle.std.specs.Prelude.{◌≡◌, replicate, IfOk, IfSome};
+ghost use Rattle.std.specs.Prelude.{◌≡◌, replicate, IfOk, IfSome, OnErr};
 ghost use Rattle.uring_files.specs.Operations as spec;
 
 use crate::file::File;
@@ -29,9 +29,10 @@ impl Files {
     ghost use Rattle.uring_files.specs.Contents.{empty_file, max_len};
     ghost use Rattle.uring_files.specs.Operations.{IsForFiles, IsOutcome, result_of, after, file_of, state_of, byte_of};
 
-    /// As many files as `count`, each of no bytes. The only error is that memory for them was refused.
+    /// As many files as `count`, each of no bytes. The only error is that memory for them was refused; no files take none.
     pub fn new(alloc: Global, count: u32) -> Result<Files, AllocError>
-        ensures { IfOk result (λ files. files ≡ replicate count empty_file) }
+        ensures ok { IfOk result (λ files. files ≡ replicate count empty_file) }
+        ensures err { OnErr result (0 < count) }
     {
         let mut files = Vec::with_capacity(alloc, count as usize)?;
         for _ in 0..count {

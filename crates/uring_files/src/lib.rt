@@ -11,6 +11,3 @@ mod write_fault;
 pub use file_table::Files;
 pub use state::FileState;
 pub use uring_entry::{BadSetup, Cqe, Fault, Op, Outcome, Setup, Sqe, SqeFlags};
-
-#[cfg(test)]
-mod tests;

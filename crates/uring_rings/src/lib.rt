@@ -14,6 +14,3 @@ pub use completion_ring::Cq;
 pub use indices::Index;
 pub use submission_ring::Sq;
 pub use uring_entry::{BadSetup, Cqe, Fault, Op, Outcome, Setup, Sqe, SqeFlags};
-
-#[cfg(test)]
-mod tests;

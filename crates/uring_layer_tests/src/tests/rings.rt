@@ -1,4 +1,9 @@
-use crate::Index;
+//! The two rings: their worked rows, and whole rounds across every wrap of the index words.
+
+mod completions;
+mod submissions;
+
+use uring_rings::Index;
 
 #[test]
 fn words_run_freely(rt: HostRuntime) {

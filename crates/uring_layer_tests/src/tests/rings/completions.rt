@@ -1,8 +1,7 @@
-use crate::Cq;
-use std::alloc::Global;
-use std::process::Abort;
+use std::alloc::{AllocError, Global};
 use std::test::Fail;
 use uring_entry::{Cqe, Setup};
+use uring_rings::Cq;
 
 /// What is done to a ring, and the answer that is wanted. A completion goes by its user data.
 #[derive(Clone, Copy)]
@@ -30,47 +29,46 @@ fn ring_of(alloc: Global, size: u32, start: u32) -> Result<Cq, Fail> {
     Ok(Cq::new(alloc, &setup)?)
 }
 
-fn check_rest(rt: &impl Abort, ring: &Cq, wanted: &[u64]) {
+/// Whether these are all that isn't reaped, with none behind the last.
+fn is_rest(ring: &Cq, wanted: &[u64]) -> bool {
     for (i, user_data) in wanted.iter().enumerate() {
-        assert_eq!(rt;
-            ring.rest(i as u64),
-            Some(completion(*user_data)),
-            "place {i}"
-        );
+        if ring.rest(i as u64) != Some(completion(*user_data)) {
+            return false;
+        }
     }
-    assert_eq!(rt; ring.rest(wanted.len() as u64), None);
+    ring.rest(wanted.len() as u64).is_none()
 }
 
-fn play(rt: &impl Abort, ring: &mut Cq, number: usize, event: Event) -> Result<(), Fail> {
+/// Posts a completion. Whether there was memory for it.
+fn posts(ring: &mut Cq, user_data: u64) -> bool {
+    if ring.reserve(1).is_err() {
+        return false;
+    }
+    ring.post(completion(user_data));
+    true
+}
+
+/// Makes an event happen. Whether it went as wanted.
+fn goes(ring: &mut Cq, event: Event) -> bool {
     match event {
-        Post(user_data) => {
-            ring.reserve(1)?;
-            ring.post(completion(user_data));
-        }
-        Flush(wanted) => assert_eq!(rt; ring.flush(), wanted, "event {number}"),
-        LoadTail(wanted) => assert_eq!(rt; ring.load_tail(), wanted, "event {number}"),
-        Reap(wanted) => {
-            assert_eq!(rt; ring.reap(), wanted.map(completion), "event {number}");
-        }
-        StoreHead(wanted) => assert_eq!(rt; ring.store_head(), wanted, "event {number}"),
-        Rest(wanted) => check_rest(rt, ring, wanted),
-        Counts(posted, reaped) => {
-            assert_eq!(rt;
-                (ring.posted(), ring.reaped()),
-                (posted, reaped),
-                "event {number}"
-            );
-        }
+        Post(user_data) => posts(ring, user_data),
+        Flush(wanted) => ring.flush() == wanted,
+        LoadTail(wanted) => ring.load_tail() == wanted,
+        Reap(wanted) => ring.reap() == wanted.map(completion),
+        StoreHead(wanted) => ring.store_head() == wanted,
+        Rest(wanted) => is_rest(ring, wanted),
+        Counts(posted, reaped) => (ring.posted(), ring.reaped()) == (posted, reaped),
     }
-    Ok(())
 }
 
-/// Plays events on a ring.
-fn play_all(rt: &impl Abort, ring: &mut Cq, events: &[Event]) -> Result<(), Fail> {
-    for (number, event) in events.iter().enumerate() {
-        play(rt, ring, number, *event)?;
+/// The place of the first event that went otherwise.
+fn first_wrong(ring: &mut Cq, events: &[Event]) -> Option<usize> {
+    for (place, event) in events.iter().enumerate() {
+        if !goes(ring, *event) {
+            return Some(place);
+        }
     }
-    Ok(())
+    None
 }
 
 #[test]
@@ -86,7 +84,9 @@ fn two_completions_across_the_wrap(rt: HostRuntime) -> Result<(), Fail> {
         Reap(None),
         StoreHead(1),
     ];
-    play_all(&rt, &mut ring, &events)
+    let wrong = first_wrong(&mut ring, &events);
+    assert_eq!(rt; wrong, None);
+    Ok(())
 }
 
 #[test]
@@ -111,7 +111,9 @@ fn a_post_stays_behind_those_that_wait(rt: HostRuntime) -> Result<(), Fail> {
         Reap(Some(3)),
         Counts(5, 3),
     ];
-    play_all(&rt, &mut ring, &events)
+    let wrong = first_wrong(&mut ring, &events);
+    assert_eq!(rt; wrong, None);
+    Ok(())
 }
 
 /// A round: six are posted to an empty ring of four, of which two wait.
@@ -146,33 +148,42 @@ fn events_of_round(start: u32, round: u8) -> [Event; 23] {
     ]
 }
 
-/// Four times and a half round a ring of four.
-fn go_round(rt: &impl Abort, alloc: Global, start: u32) -> Result<(), Fail> {
-    let mut ring = ring_of(alloc, 4, start)?;
+/// Four times and a half round a ring: the place of each round's first event that went otherwise.
+fn rounds(ring: &mut Cq, start: u32) -> [Option<usize>; 3] {
+    let mut wrong = [None; 3];
     for round in 0..3u8 {
-        play_all(rt, &mut ring, &events_of_round(start, round))?;
+        wrong[round as usize] = first_wrong(ring, &events_of_round(start, round));
     }
-    Ok(())
+    wrong
 }
 
 #[test]
 fn rounds_across_every_wrap(rt: HostRuntime) -> Result<(), Fail> {
-    go_round(&rt, rt.alloc(), 0)?;
-    go_round(&rt, rt.alloc(), u32::MAX)?;
-    go_round(&rt, rt.alloc(), u32::MAX - 1)
+    for start in [0, u32::MAX, u32::MAX - 1] {
+        let mut ring = ring_of(rt.alloc(), 4, start)?;
+        let wrong = rounds(&mut ring, start);
+        assert_eq!(rt; wrong, [None, None, None], "from {start}");
+    }
+    Ok(())
+}
+
+/// Three posts are promised, and more than memory holds is asked for behind the first of them. Whether that was refused.
+fn is_refused(ring: &mut Cq) -> Result<bool, AllocError> {
+    ring.reserve(3)?;
+    ring.post(completion(1));
+    if ring.reserve(u64::MAX).is_ok() {
+        return Ok(false);
+    }
+    ring.post(completion(2));
+    ring.post(completion(3));
+    Ok(true)
 }
 
 #[test]
 fn a_refused_promise_leaves_the_last(rt: HostRuntime) -> Result<(), Fail> {
     let mut ring = ring_of(rt.alloc(), 1, 0)?;
-    ring.reserve(3)?;
-    ring.post(completion(1));
-    if ring.reserve(u64::MAX).is_ok() {
-        assert!(rt; false, "no memory has room for as many");
-        return Ok(());
-    }
-    ring.post(completion(2));
-    ring.post(completion(3));
-    check_rest(&rt, &ring, &[1, 2, 3]);
+    let is_refused = is_refused(&mut ring)?;
+    let has_all = is_rest(&ring, &[1, 2, 3]);
+    assert!(rt; is_refused && has_all);
     Ok(())
 }

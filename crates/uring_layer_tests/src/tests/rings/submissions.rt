@@ -1,8 +1,7 @@
-use crate::{BeginAnswer, EndAnswer, FillAnswer, IndexAnswer, Sq, TakeAnswer, Taken};
 use std::alloc::Global;
-use std::process::Abort;
 use std::test::Fail;
 use uring_entry::{Setup, Sqe};
+use uring_rings::{BeginAnswer, EndAnswer, FillAnswer, IndexAnswer, Sq, TakeAnswer, Taken};
 
 /// What is done to a ring, and the answer that is wanted.
 #[derive(Clone, Copy)]
@@ -15,9 +14,11 @@ enum Event {
     Begin(u32, BeginAnswer),
     Take(TakeAnswer),
     End(EndAnswer),
+    Pending(u32),
+    InCall(bool),
 }
 
-use Event::{Begin, End, Fill, Index, LoadHead, StoreTail, Take};
+use Event::{Begin, End, Fill, InCall, Index, LoadHead, Pending, StoreTail, Take};
 
 /// The answer to a position with a no-op.
 fn entry(user_data: u64) -> TakeAnswer {
@@ -39,28 +40,35 @@ fn ring_of_four(alloc: Global, start: u32) -> Result<Sq, Fail> {
     Ok(Sq::new(alloc, &setup)?)
 }
 
-fn play(rt: &impl Abort, ring: &mut Sq, number: usize, event: Event) {
+/// Makes an event happen. Whether it went as wanted.
+fn goes(ring: &mut Sq, event: Event) -> bool {
     match event {
-        Fill(slot, user_data, wanted) => {
-            let answer = ring.fill(slot, Sqe::nop(user_data, 0));
-            assert_eq!(rt; answer, wanted, "event {number}");
-        }
-        Index(word, wanted) => assert_eq!(rt; ring.index(word), wanted, "event {number}"),
-        StoreTail(wanted) => assert_eq!(rt; ring.store_tail(), wanted, "event {number}"),
-        LoadHead(wanted) => assert_eq!(rt; ring.load_head(), wanted, "event {number}"),
-        Begin(n, wanted) => assert_eq!(rt; ring.begin(n), wanted, "event {number}"),
-        Take(wanted) => assert_eq!(rt; ring.take(), wanted, "event {number}"),
-        End(wanted) => assert_eq!(rt; ring.end(), wanted, "event {number}"),
+        Fill(slot, user_data, wanted) => ring.fill(slot, Sqe::nop(user_data, 0)) == wanted,
+        Index(word, wanted) => ring.index(word) == wanted,
+        StoreTail(wanted) => ring.store_tail() == wanted,
+        LoadHead(wanted) => ring.load_head() == wanted,
+        Begin(n, wanted) => ring.begin(n) == wanted,
+        Take(wanted) => ring.take() == wanted,
+        End(wanted) => ring.end() == wanted,
+        Pending(wanted) => ring.pending() == wanted,
+        InCall(wanted) => ring.in_call() == wanted,
     }
 }
 
-/// Plays events on a new ring of four.
-fn play_all(rt: &impl Abort, alloc: Global, start: u32, events: &[Event]) -> Result<(), Fail> {
-    let mut ring = ring_of_four(alloc, start)?;
-    for (number, event) in events.iter().enumerate() {
-        play(rt, &mut ring, number, *event);
+/// The place of the first event that went otherwise.
+fn first_wrong(ring: &mut Sq, events: &[Event]) -> Option<usize> {
+    for (place, event) in events.iter().enumerate() {
+        if !goes(ring, *event) {
+            return Some(place);
+        }
     }
-    Ok(())
+    None
+}
+
+/// The same, on a new ring of four that begins at this word.
+fn first_wrong_from(alloc: Global, start: u32, events: &[Event]) -> Result<Option<usize>, Fail> {
+    let mut ring = ring_of_four(alloc, start)?;
+    Ok(first_wrong(&mut ring, events))
 }
 
 #[test]
@@ -83,7 +91,9 @@ fn full_across_the_wrap(rt: HostRuntime) -> Result<(), Fail> {
         LoadHead(2),
         Index(0, IndexAnswer::Staged),
     ];
-    play_all(&rt, rt.alloc(), u32::MAX - 1, &events)
+    let wrong = first_wrong_from(rt.alloc(), u32::MAX - 1, &events)?;
+    assert_eq!(rt; wrong, None);
+    Ok(())
 }
 
 #[test]
@@ -96,7 +106,9 @@ fn empty_calls(rt: HostRuntime) -> Result<(), Fail> {
         Take(TakeAnswer::NoCall),
         End(EndAnswer::NoCall),
     ];
-    play_all(&rt, rt.alloc(), 0, &events)
+    let wrong = first_wrong_from(rt.alloc(), 0, &events)?;
+    assert_eq!(rt; wrong, None);
+    Ok(())
 }
 
 #[test]
@@ -113,7 +125,9 @@ fn bad_word_is_dropped(rt: HostRuntime) -> Result<(), Fail> {
         Take(TakeAnswer::NoMore),
         End(taken(1, 1, 2)),
     ];
-    play_all(&rt, rt.alloc(), 0, &events)
+    let wrong = first_wrong_from(rt.alloc(), 0, &events)?;
+    assert_eq!(rt; wrong, None);
+    Ok(())
 }
 
 #[test]
@@ -129,7 +143,9 @@ fn slot_named_twice(rt: HostRuntime) -> Result<(), Fail> {
         End(taken(2, 0, 2)),
         LoadHead(2),
     ];
-    play_all(&rt, rt.alloc(), 0, &events)
+    let wrong = first_wrong_from(rt.alloc(), 0, &events)?;
+    assert_eq!(rt; wrong, None);
+    Ok(())
 }
 
 #[test]
@@ -148,7 +164,9 @@ fn refilled_slots(rt: HostRuntime) -> Result<(), Fail> {
         Fill(0, 3, FillAnswer::Filled),
         Fill(4, 1, FillAnswer::NoSlot),
     ];
-    play_all(&rt, rt.alloc(), 0, &events)
+    let wrong = first_wrong_from(rt.alloc(), 0, &events)?;
+    assert_eq!(rt; wrong, None);
+    Ok(())
 }
 
 /// The user data of the entry that a slot holds in a round.
@@ -156,47 +174,64 @@ fn user_data(round: u8, slot: u32) -> u64 {
     4 * u64::from(round) + u64::from(slot)
 }
 
-/// Fills every slot and stages them in turn.
-fn stage_four(rt: &impl Abort, ring: &mut Sq, round: u8) {
-    for slot in 0..4 {
-        let entry = Sqe::nop(user_data(round, slot), 0);
-        assert_eq!(rt; ring.fill(slot, entry), FillAnswer::Filled);
-        assert_eq!(rt; ring.index(slot), IndexAnswer::Staged);
-    }
-    assert_eq!(rt; ring.index(0), IndexAnswer::Full);
+/// A slot is filled and staged.
+fn stage(round: u8, slot: u32) -> [Event; 2] {
+    [
+        Fill(slot, user_data(round, slot), FillAnswer::Filled),
+        Index(slot, IndexAnswer::Staged),
+    ]
 }
 
-/// Takes all four in one call.
-fn take_four(rt: &impl Abort, ring: &mut Sq, round: u8) {
-    assert_eq!(rt; ring.pending(), 4);
-    assert_eq!(rt; ring.begin(9), BeginAnswer::Call(4));
-    assert!(rt; ring.in_call());
-    for slot in 0..4 {
-        assert_eq!(rt; ring.take(), entry(user_data(round, slot)));
-    }
-    assert_eq!(rt; ring.take(), TakeAnswer::NoMore);
+/// The ring is full, and all four are taken in one call.
+fn take_four(round: u8, after: u32) -> [Event; 14] {
+    [
+        Index(0, IndexAnswer::Full),
+        StoreTail(after),
+        Fill(3, 0, FillAnswer::Busy),
+        Pending(4),
+        Begin(9, BeginAnswer::Call(4)),
+        InCall(true),
+        Take(entry(user_data(round, 0))),
+        Take(entry(user_data(round, 1))),
+        Take(entry(user_data(round, 2))),
+        Take(entry(user_data(round, 3))),
+        Take(TakeAnswer::NoMore),
+        End(taken(4, 0, after)),
+        Pending(0),
+        Index(0, IndexAnswer::Full),
+    ]
 }
 
-/// Three times round a ring of four.
-fn go_round(rt: &impl Abort, alloc: Global, start: u32) -> Result<(), Fail> {
-    let mut ring = ring_of_four(alloc, start)?;
+/// One round: how far it went as wanted, up to five parts and the head's load.
+fn parts_of_round(ring: &mut Sq, round: u8, after: u32) -> usize {
+    for slot in 0..4 {
+        if first_wrong(ring, &stage(round, slot)).is_some() {
+            return slot as usize;
+        }
+    }
+    match first_wrong(ring, &take_four(round, after)) {
+        Some(_) => 4,
+        None if ring.load_head() == after => 6,
+        None => 5,
+    }
+}
+
+/// Three times round a ring: how many parts of each round went as wanted.
+fn rounds(ring: &mut Sq, start: u32) -> [usize; 3] {
+    let mut parts = [0; 3];
     for round in 0..3u8 {
         let after = start.wrapping_add(4 * u32::from(round) + 4);
-        stage_four(rt, &mut ring, round);
-        assert_eq!(rt; ring.store_tail(), after, "round {round}");
-        assert_eq!(rt; ring.fill(3, Sqe::nop(0, 0)), FillAnswer::Busy);
-        take_four(rt, &mut ring, round);
-        assert_eq!(rt; ring.end(), taken(4, 0, after), "round {round}");
-        assert_eq!(rt; ring.pending(), 0);
-        assert_eq!(rt; ring.index(0), IndexAnswer::Full);
-        assert_eq!(rt; ring.load_head(), after, "round {round}");
+        parts[round as usize] = parts_of_round(ring, round, after);
     }
-    Ok(())
+    parts
 }
 
 #[test]
 fn rounds_across_every_wrap(rt: HostRuntime) -> Result<(), Fail> {
-    go_round(&rt, rt.alloc(), 0)?;
-    go_round(&rt, rt.alloc(), u32::MAX)?;
-    go_round(&rt, rt.alloc(), u32::MAX - 1)
+    for start in [0, u32::MAX, u32::MAX - 1] {
+        let mut ring = ring_of_four(rt.alloc(), start)?;
+        let parts = rounds(&mut ring, start);
+        assert_eq!(rt; parts, [6, 6, 6], "from {start}");
+    }
+    Ok(())
 }
