@@ -1,16 +1,17 @@
 -- Each file stands by itself: the laws of `files_stand_alone` as lemmas, by cases of the operation.
--- Stable: other crates may import `others_stay` and `files_apart`.
-use Rattle.std.proofs.Common.{◌≡◌, ◌≢◌, ℕ, zero, suc, ℤ, pos, negsuc, Bool, true, false, cond, List, [], ◌∷◌, length, take, get_or, Option, Some, None, refl, sym, ap, ◌∙◌, arith, ◌⊎◌, inl, inr}
+-- Stable: other crates may import `others_stay`, `files_apart` and `ends_apart`.
+use Rattle.std.proofs.Common.{◌≡◌, ◌≢◌, ℕ, zero, suc, ℤ, pos, negsuc, neg_ℤ, Bool, true, false, not, ◌&&◌, cond, List, [], ◌∷◌, take, get_or, refl, sym, ap, ◌∙◌, inl, inr}
 use Rattle.std.specs.Prelude.{slice_get, slice_set}
-use Rattle.std.specs.Option.{option_map}
+use Rattle.std.specs.Option.{option_map, option_map_or}
 use Rattle.std.specs.Ordering.{int_eq}
 use Rattle.std.proofs.lemmas.Bool.{cases_Bool, both_ways}
 use Rattle.std.proofs.lemmas.Bool.Decides.{Decides-int_eq}
+use Rattle.uring_entry.specs.declared.errno.TheConstants.{EFBIG}
 use Rattle.uring_entry.specs.declared.operation.Op.{Op}
 use Rattle.uring_entry.specs.declared.operation.Op.TheVariants.{Nop, Read, Write, Fsync, Cancel}
-use Rattle.uring_files.specs.Contents.{FileContents, empty_file, written, with_writes_synced}
-use Rattle.uring_files.specs.Operations.{file_of, with_changed, after}
-use Rattle.uring_files.specs.Laws.{AgreeAt, OthersStay, FilesStandAlone}
+use Rattle.uring_files.specs.Contents.{FileContents, empty_file, read_outcome, is_too_long, is_past_end, written, with_writes_synced}
+use Rattle.uring_files.specs.Operations.{file_of, with_changed, after, on_file, ended_with}
+use Rattle.uring_files.specs.Laws.{AgreeAt, OthersStay, FilesStandAlone, EndsStandAlone}
 
 -- what stands at a place after one was set
 
@@ -71,3 +72,14 @@ files_apart files others (Read own off len) res fd same = same
 files_apart files others (Write own off len bytes) res fd same = chosen_apart (int_eq res (pos len)) files others own fd (written off (take len bytes)) same
 files_apart files others (Fsync own) res fd same = chosen_apart (int_eq res (pos 0)) files others own fd with_writes_synced same
 files_apart files others (Cancel target) res fd same = same
+
+itself : (fd : ℤ) → int_eq fd fd ≡ true
+itself fd = (Decides-int_eq fd fd).1 refl
+
+pub ends_apart : EndsStandAlone
+ends_apart files others Nop agree = (refl, refl)
+ends_apart files others (Read fd off len) agree = (ap (λ file. on_file file (read_outcome off len)) (agree fd (itself fd)), refl)
+ends_apart files others (Write fd off len bytes) agree =
+    (ap (λ file. on_file file (λ f. ended_with (cond (is_too_long off len) (neg_ℤ EFBIG) (pos len)))) (agree fd (itself fd)), ap (λ file. option_map_or (λ f. not (is_too_long off len) && is_past_end off len f) file false) (agree fd (itself fd)))
+ends_apart files others (Fsync fd) agree = (ap (λ file. on_file file (λ f. ended_with (pos 0))) (agree fd (itself fd)), refl)
+ends_apart files others (Cancel target) agree = (refl, refl)

@@ -9,3 +9,4 @@ pub mod Contents
 pub mod Core
 pub mod Machine
 pub mod Settling
+pub mod Finishes

@@ -6,6 +6,8 @@ ghost use Rattle.uring_machine.specs.HistoryLists.{OwnSubmission, OwnRequests, O
 ghost use Rattle.uring_machine.specs.Histories.{History, world, IsLawfulApart};
 ghost use Rattle.uring_machine.specs.Laws.{TakenOnceInOrder, EachEndsOnce, DoomedNeverRun, DoomedStayDoomed, CancelledWereDoomed, LinksAndDrainsHold, ReapedBeginPosted, NothingAfterClose, LeastCanGoOn, LawfulStandsApart, NoFinishCancels};
 
+pub mod files;
+
 /// Each list and count that a history has made is the one that is read straight off its events.
 pub fn lists_are_the_historys_own()
     ensures submission { (g : Shape) (h : History) → IsShape g → IsLawfulApart g h → OwnSubmission g h }
