@@ -34,3 +34,4 @@ pub mod Settling
 pub mod WholeLaws
 pub mod FilesApart
 pub mod FileLaws
+pub mod PublishedItems

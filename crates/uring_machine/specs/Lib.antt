@@ -10,3 +10,4 @@ pub mod Core
 pub mod Machine
 pub mod Settling
 pub mod Finishes
+pub mod Published

@@ -5,6 +5,7 @@ ghost use Rattle.uring_entry.specs.Shape.{Shape, IsShape};
 ghost use Rattle.uring_machine.specs.HistoryLists.{OwnSubmission, OwnRequests, OwnCompletions, OwnCancelled};
 ghost use Rattle.uring_machine.specs.Histories.{History, world, IsLawfulApart};
 ghost use Rattle.uring_machine.specs.Laws.{TakenOnceInOrder, EachEndsOnce, DoomedNeverRun, DoomedStayDoomed, CancelledWereDoomed, LinksAndDrainsHold, ReapedBeginPosted, NothingAfterClose, LeastCanGoOn, LawfulStandsApart, NoFinishCancels};
+ghost use Rattle.uring_machine.specs.Published.{OwnPublished};
 
 pub mod files;
 
@@ -14,6 +15,11 @@ pub fn lists_are_the_historys_own()
     ensures requests { (g : Shape) (h : History) → IsShape g → IsLawfulApart g h → OwnRequests g h }
     ensures completions { (g : Shape) (h : History) → IsShape g → IsLawfulApart g h → OwnCompletions g h }
     ensures cancelled { (g : Shape) (h : History) → IsShape g → IsLawfulApart g h → OwnCancelled g h }
+{}
+
+/// What the application published is told by the events: its items, the lengths of the calls that took them, and how many words were dropped.
+pub fn published_is_told()
+    ensures { (g : Shape) (h : History) → IsLawfulApart g h → OwnPublished g h }
 {}
 
 /// The entries that calls took are those of the published positions, from the first on, each position once.
