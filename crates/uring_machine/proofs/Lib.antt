@@ -35,3 +35,4 @@ pub mod WholeLaws
 pub mod FilesApart
 pub mod FileLaws
 pub mod PublishedItems
+pub mod Standing

@@ -11,3 +11,4 @@ pub mod Machine
 pub mod Settling
 pub mod Finishes
 pub mod Published
+pub mod Standing

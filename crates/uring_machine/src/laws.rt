@@ -7,6 +7,7 @@ ghost use Rattle.uring_machine.specs.Histories.{History, world, IsLawfulApart};
 ghost use Rattle.uring_machine.specs.Laws.{TakenOnceInOrder, EachEndsOnce, DoomedNeverRun, DoomedStayDoomed, CancelledWereDoomed, LinksAndDrainsHold, ReapedBeginPosted, NothingAfterClose, LeastCanGoOn, LawfulStandsApart, NoFinishCancels};
 ghost use Rattle.uring_machine.specs.Published.{OwnPublished};
 
+pub mod calls;
 pub mod files;
 
 /// Each list and count that a history has made is the one that is read straight off its events.
