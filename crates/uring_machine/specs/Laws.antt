@@ -1,11 +1,11 @@
 -- What holds of every lawful history: the laws that `laws.rt` states of it.
-use Rattle.std.specs.Prelude.{◌≡◌, ℕ, ◌+◌, ◌<◌, ◌≤◌, ◌==◌, neg_ℤ, count_by, Bool, true, false, ◌||◌, List, ◌∷◌, ◌++◌, length, take, drop, Some, slice_get, ◌⊎◌}
+use Rattle.std.specs.Prelude.{◌≡◌, ◌↔◌, ℕ, ◌+◌, ◌<◌, ◌≤◌, ◌==◌, neg_ℤ, count_by, Bool, true, false, ◌||◌, List, ◌∷◌, ◌++◌, length, take, drop, Some, slice_get, ◌⊎◌}
 use Rattle.std.specs.List.{list_any}
 use Rattle.uring_entry.specs.Shape.{Shape}
 use Rattle.uring_entry.specs.Layout.{Completion}
 use Rattle.uring_entry.specs.Submission.{entries_of}
-use Rattle.uring_entry.specs.Requests.{Requests, least_of, next_of, is_running, is_outstanding, is_doomed, doomed_result, waits_for, Ending}
-use Rattle.uring_entry.specs.Completions.{Completions}
+use Rattle.uring_entry.specs.Requests.{Requests, least_of, next_of, is_running, is_outstanding, is_doomed, doomed_result, waits_for, outstanding_in, Ending}
+use Rattle.uring_entry.specs.Completions.{Completions, flushed}
 use Rattle.uring_entry.specs.declared.errno.TheConstants.{ECANCELED}
 use Rattle.uring_machine.specs.World.{World}
 use Rattle.uring_machine.specs.Answers.{IsEnded, issue_answer}
@@ -84,6 +84,14 @@ takes_in event = opens_call event || closes_call event
 -- After the ring is closed, no call opens or closes.
 abbrev pub NothingAfterClose : Shape → Type 0
 NothingAfterClose g = (after before : History) → IsLawfulApart g (after ++ (step.Close, answer.Shut) ∷ before) → list_any takes_in after ≡ false
+
+-- A flush puts all that was posted, if the ring has room for it above the head that the application stored.
+abbrev pub FlushPutsAll : Type 0
+FlushPutsAll = (size : ℕ) (l : Completions) → length l.posted ≤ l.head + size → (flushed size l).put ≡ length l.posted
+
+-- The count of the outstanding requests is 0 exactly if none is outstanding.
+abbrev pub NoneIsOutstanding : Type 0
+NoneIsOutstanding = (r : Requests) → (outstanding_in r ≡ 0) ↔ ((n : ℕ) → is_outstanding r n ≡ false)
 
 -- an Issue so answered isn't refused
 abbrev pub IsIssued : Answer → Type 0

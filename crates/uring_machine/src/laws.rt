@@ -4,7 +4,7 @@ ghost use Rattle.uring_entry.specs.Requests.{is_outstanding};
 ghost use Rattle.uring_entry.specs.Shape.{Shape, IsShape};
 ghost use Rattle.uring_machine.specs.HistoryLists.{OwnSubmission, OwnRequests, OwnCompletions, OwnCancelled};
 ghost use Rattle.uring_machine.specs.Histories.{History, world, IsLawfulApart};
-ghost use Rattle.uring_machine.specs.Laws.{TakenOnceInOrder, EachEndsOnce, DoomedNeverRun, DoomedStayDoomed, CancelledWereDoomed, LinksAndDrainsHold, ReapedBeginPosted, NothingAfterClose, LeastCanGoOn, LawfulStandsApart, NoFinishCancels};
+ghost use Rattle.uring_machine.specs.Laws.{TakenOnceInOrder, EachEndsOnce, DoomedNeverRun, DoomedStayDoomed, CancelledWereDoomed, LinksAndDrainsHold, ReapedBeginPosted, FlushPutsAll, NothingAfterClose, NoneIsOutstanding, LeastCanGoOn, LawfulStandsApart, NoFinishCancels};
 ghost use Rattle.uring_machine.specs.Published.{OwnPublished};
 
 pub mod calls;
@@ -50,9 +50,19 @@ pub fn reaped_begin_posted()
     ensures { (g : Shape) (h : History) → IsShape g → IsLawfulApart g h → ReapedBeginPosted g.cq (world g h).completions }
 {}
 
+/// A flush puts all that was posted into the completion ring, if there is room for it above the head that the application stored.
+pub fn flush_puts_all()
+    ensures { FlushPutsAll }
+{}
+
 /// After the ring is closed, no submission call opens or closes.
 pub fn nothing_after_close()
     ensures { (g : Shape) → IsShape g → NothingAfterClose g }
+{}
+
+/// The count of the outstanding requests is 0 exactly if none is outstanding.
+pub fn none_is_outstanding()
+    ensures { NoneIsOutstanding }
 {}
 
 /// With something outstanding, the least outstanding request is running, or it is the next to be issued, and `Issue` doesn't refuse it.
