@@ -2,13 +2,12 @@
 //!
 //! The test passes whether a growth is refused in it or none, and tells where one was; `growth/check` runs it with each growth refused in turn.
 
-use crate::trace_fault::TraceFault;
-use crate::trace_loop::trace;
 use std::cmp::min;
 use std::io;
 use std::io::Write;
 use std::test::Fail;
 use uring_entry::Setup;
+use uring_trace::{TraceFault, trace};
 
 /// A writer of at most 256 bytes, which takes no memory.
 #[derive(Drop)]

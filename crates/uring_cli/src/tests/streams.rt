@@ -2,14 +2,13 @@
 
 use super::rows::RINGS;
 use super::traces::{input_of, output_of, setup_of};
-use crate::trace_fault::TraceFault;
-use crate::trace_loop::trace;
 use std::alloc::{AllocError, Global};
 use std::cmp::min;
 use std::io;
 use std::io::{ErrorKind, Read, Write};
 use std::test::Fail;
 use uring_machine::Setup;
+use uring_trace::{TraceFault, trace};
 
 /// A reader of some bytes, a few at a time, that fails behind them.
 #[derive(Drop)]

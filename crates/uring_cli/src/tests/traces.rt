@@ -3,10 +3,10 @@
 use super::rows::{CHAINS, DRAINS_AND_CANCELS, FILES, LINES, OVERFLOW_AND_CLOSE, RINGS, Row};
 use crate::command_line::options;
 use crate::option_kinds::Options;
-use crate::trace_loop::trace;
 use std::alloc::{AllocError, Global};
 use std::test::Fail;
 use uring_machine::Setup;
+use uring_trace::trace;
 
 /// The lines of a row, each with its end but the last one where it is cut.
 pub(super) fn input_of(alloc: Global, row: &Row) -> Result<Vec<u8>, AllocError> {
