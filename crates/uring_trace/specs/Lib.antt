@@ -4,5 +4,6 @@ pub mod Reading
 pub mod Text
 pub mod Lines
 pub mod Exchanges
-pub mod Sessions
 pub mod Traces
+pub mod Sessions
+pub mod Streams

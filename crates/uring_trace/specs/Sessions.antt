@@ -1,11 +1,13 @@
 -- What a session keeps of the lines that it took in.
-use Rattle.std.specs.Prelude.{◌≡◌, ℕ, Bool, List, ◌++◌, length, take, nat_lt, Option}
+use Rattle.std.specs.Prelude.{◌≡◌, ℕ, Bool, List, ◌++◌, length, take, nat_lt, Option, Result, Ok, Err}
 use Rattle.uring_trace.specs.declared.session.Session.{Session}
+use Rattle.uring_trace.specs.declared.trace_fault.TraceFault.{TraceFault}
 use Rattle.uring_entry.specs.Shape.{Shape}
 use Rattle.uring_machine.specs.Histories.{Event, History}
 use Rattle.uring_machine.specs.Machine.{Holding, Fits}
 use Rattle.uring_trace.specs.Lines.{Splits}
 use Rattle.uring_trace.specs.Exchanges.{Exchange, Answers, IsReadAs, answer_text, lines_of, history_of, with_event}
+use Rattle.uring_trace.specs.Traces.{Writes}
 
 -- at most 300 bytes of a line, and whether it has more
 pub record Keeps300 (line kept : List ℕ) (is_long : Bool) : Type 0 where
@@ -20,7 +22,7 @@ pub record AppendsAnswer (old new : Holding) (line before after : List ℕ) : Ty
   pub same : new.core.shape ≡ old.core.shape
   pub fits : (h : History) → Fits old h → Fits new (with_event event h)
 
--- What a machine of this shape holds and is kept of a line, after these bytes whose answers so far are this text.
+-- The session's invariant, over its fields: these bytes have been taken in, the text is the answers so far, and `kept` and `is_long` are what is kept of the unfinished line.
 pub record Holds (shape : Shape) (machine : Holding) (kept : List ℕ) (is_long : Bool) (bytes text : List ℕ) : Type 0 where
   pub exchanges : List Exchange
   pub line : List ℕ
@@ -30,6 +32,11 @@ pub record Holds (shape : Shape) (machine : Holding) (kept : List ℕ) (is_long 
   pub same : machine.core.shape ≡ shape
   pub fits : Fits machine (history_of exchanges)
 
--- The session took in these bytes, and its answers so far are this text.
+-- The session has taken in these bytes, and its answers so far are this text.
 abbrev pub Has : Shape → Session → List ℕ → List ℕ → Type 0
 Has shape s bytes text = Holds shape s.machine s.kept.items s.is_long bytes text
+
+-- These bytes were to be taken in, and this text is what has been written: all answers so far, or what a fault allows.
+abbrev pub TookIn : Shape → Result (Unit {0}) TraceFault → Session → List ℕ → List ℕ → Type 0
+TookIn shape (Ok done) s bytes text = Has shape s bytes text
+TookIn shape (Err e) s bytes text = Writes shape (Err e) bytes text

@@ -6,7 +6,7 @@ use Rattle.uring_machine.specs.declared.answers.Answer.{Answer}
 use Rattle.uring_machine.specs.declared.answers.Answer.TheVariants as answer
 use Rattle.uring_trace.specs.Words.{hex_or_dash}
 
--- a byte before others, left out where it is a zero before none
+-- a byte put before others; a zero before none is dropped
 abbrev pub before_others : ℕ → List ℕ → List ℕ
 before_others zero [] = []
 before_others (suc b) [] = suc b ∷ []

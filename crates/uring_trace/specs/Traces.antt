@@ -23,7 +23,7 @@ IsBeginning shape bytes text = (first : List ℕ) × (after : List ℕ) × (xs :
 abbrev pub IsCutShort : Shape → List ℕ → List ℕ → Type 0
 IsCutShort shape bytes text = (more : List ℕ) × (0 < length more) × (IsBeginning shape bytes (text ++ more) ⊎ IsWhole shape bytes (text ++ more))
 
--- what is written, by what the trace answers
+-- what is written, by what the trace returns
 abbrev pub Writes : Shape → Result (Unit {0}) TraceFault → List ℕ → List ℕ → Type 0
 Writes shape (Ok done) bytes text = IsWhole shape bytes text
 Writes shape (Err fault.Read) bytes text = IsEnded shape bytes text

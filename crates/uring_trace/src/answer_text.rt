@@ -1,12 +1,13 @@
 //! The text of an answer.
 
-ghost use Rattle.std.specs.Prelude.{◌≡◌, ◌++◌, OnOk, string_bytes};
+ghost use Rattle.std.specs.Prelude.{◌≡◌, ◌++◌, OnOk, string_bytes, decimal};
+ghost use Rattle.uring_machine.specs.declared.answers.Answer.TheVariants as answer;
 ghost use Rattle.uring_trace.specs.Words.{hex_or_dash};
-ghost use Rattle.uring_trace.specs.Text.{text_of, entry_text, completion_text, trimmed};
+ghost use Rattle.uring_trace.specs.Text.{text_of, completion_text, trimmed};
 
 use std::alloc::{AllocError, Global};
 use std::fmt::Write;
-use uring_machine::{Answer, Cqe, Sqe};
+use uring_machine::{Answer, Cqe};
 
 /// Appends the text of an answer, without the end of its line.
 pub(crate) fn push_answer(
@@ -21,14 +22,14 @@ pub(crate) fn push_answer(
         Answer::NoSlot => text.push_str("no slot"),
         Answer::Busy => text.push_str("busy"),
         Answer::Full => text.push_str("full"),
-        Answer::Tail(word) => write!(text, "tail {word}"),
-        Answer::Head(word) => write!(text, "head {word}"),
-        Answer::Call(count) => write!(text, "call {count}"),
+        Answer::Tail(word) => push_number(text, "tail ", u64::from(*word)),
+        Answer::Head(word) => push_number(text, "head ", u64::from(*word)),
+        Answer::Call(count) => push_number(text, "call ", u64::from(*count)),
         Answer::Closed => text.push_str("closed"),
         Answer::InCall => text.push_str("in call"),
         Answer::Spent => text.push_str("spent"),
         Answer::Again => text.push_str("again"),
-        Answer::Entry(entry) => push_entry(text, entry),
+        Answer::Entry(entry) => push_number(text, "entry ", entry.user_data()),
         Answer::Dropped => text.push_str("dropped"),
         Answer::NoMore => text.push_str("no more"),
         Answer::NoCall => text.push_str("no call"),
@@ -36,7 +37,7 @@ pub(crate) fn push_answer(
             accepted,
             dropped,
             head,
-        } => write!(text, "taken {accepted} dropped {dropped} head {head}"),
+        } => push_taken(text, *accepted, *dropped, *head),
         Answer::NotAll => text.push_str("not all"),
         Answer::Run => text.push_str("run"),
         Answer::Ended { res, .. } => write!(text, "ended {res}"),
@@ -44,19 +45,26 @@ pub(crate) fn push_answer(
         Answer::Running => text.push_str("running"),
         Answer::Unknown => text.push_str("unknown"),
         Answer::NotRunning => text.push_str("not running"),
-        Answer::Moved(count) => write!(text, "moved {count}"),
+        Answer::Moved(count) => push_number(text, "moved ", u64::from(*count)),
         Answer::Reaped(completion) => push_completion(alloc, text, completion),
         Answer::Nothing => text.push_str("none"),
-        Answer::Next(number) => write!(text, "next {number}"),
+        Answer::Next(number) => push_number(text, "next ", *number),
     }
 }
 
-/// Appends an entry: its user data.
-fn push_entry(text: &mut String, entry: &Sqe) -> Result<(), AllocError>
-    ensures { OnOk result (string_bytes text.new ≡ string_bytes text.old ++ entry_text entry.now) }
+/// Appends a word, which ends with a space, and a number.
+fn push_number(text: &mut String, word: &str, number: u64) -> Result<(), AllocError>
+    ensures { OnOk result (string_bytes text.new ≡ string_bytes text.old ++ word.now ++ decimal number) }
 {
-    let user_data = entry.user_data();
-    write!(text, "entry {user_data}")
+    text.push_str(word)?;
+    write!(text, "{number}")
+}
+
+/// Appends the end of a call: how many requests it accepted, how many entries it dropped, and the head after it.
+fn push_taken(text: &mut String, accepted: u32, dropped: u32, head: u32) -> Result<(), AllocError>
+    ensures { OnOk result (string_bytes text.new ≡ string_bytes text.old ++ text_of (answer.Taken accepted dropped head)) }
+{
+    write!(text, "taken {accepted} dropped {dropped} head {head}")
 }
 
 /// Appends a completion: its user data, its result and its data.

@@ -14,7 +14,7 @@ use uring_machine::Sqe;
 /// Most bytes of data in an entry.
 const DATA: usize = 64;
 
-/// The entry that these words spell, or `None` where they spell none.
+/// The entry that these words spell, if they spell one.
 #[tactic(auto, unfolding(crate::specs::Reading::form_of))]
 pub(crate) fn read_entry(words: &[&[u8]]) -> Option<Sqe>
     ensures { ReadsEntry result (form_of (map (λ word. word.now) words.now)) }

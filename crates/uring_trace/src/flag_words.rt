@@ -21,7 +21,7 @@ pub(crate) fn flag_bits(word: &[u8]) -> Option<u8>
     letters(word)
 }
 
-/// The bits of these letters, where each is a flag's and stands there once.
+/// The bits of these letters, if each is a flag's and stands there once.
 #[tactic(auto, unfolding(crate::specs::Reading::letters_of))]
 fn letters(word: &[u8]) -> Option<u8>
     ensures { result ≡ letters_of 0 word.now }

@@ -9,6 +9,7 @@ pub mod laws;
 mod number_words;
 mod session;
 mod step_lines;
+mod streams;
 mod trace_fault;
 mod trace_loop;
 

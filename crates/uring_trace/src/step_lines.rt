@@ -13,7 +13,7 @@ use uring_machine::Step;
 /// Most bytes of a line that is a step: our own rule.
 pub(crate) const LONGEST_LINE: usize = 300;
 
-/// The step that a line of at most 300 bytes spells, or `None` where it spells none.
+/// The step that a line of at most 300 bytes spells, if it spells one.
 pub(crate) fn read_step(alloc: Global, line: &[u8]) -> Result<Option<Step>, AllocError>
     requires { length line.now ≤ 300 }
     ensures { IfOk result (λ read. MatchOption read (IsBad line.now) (IsStep line.now)) }
