@@ -1,18 +1,4 @@
-#!/usr/bin/env python3
-"""Runs random traces through the proved and the unproved program, and compares their answers.
-
-    bench/differential [FIRST_SEED [SEEDS [LINES]]]
-
-Each seed gives options and a trace of so many lines. At a difference the trace is made as short as it goes, and printed. The status is 1 then.
-"""
-
-import os
-import random
-import subprocess
-import sys
-
-TOP = os.path.dirname(os.path.dirname(os.path.abspath(__file__)))
-PROGRAMS = [f"{TOP}/crates/uring_cli/out/uring_cli", f"{TOP}/bench/out/unproved/release/unproved"]
+"""Random traces: lines that mostly go on from what the earlier ones did, and odd ones among them."""
 
 FLAGS = ["-"] * 6 + ["L", "H", "D", "S", "A", "LH", "DL", "LS", "HS", "DS", "SDA", "LDHAS"]
 ODD_FLAGS = ["LL", "X", "", "l", "-L", "L-"]
@@ -189,56 +175,3 @@ class Trace:
                 self.lines.append("close")
                 closing = False
         return self.lines
-
-
-def answers(program, options, text):
-    return subprocess.run([program, "trace", *options], input=text, stdout=subprocess.PIPE, check=True).stdout
-
-
-def text_of(lines, is_cut):
-    text = "".join(line + "\n" for line in lines).encode("latin-1", "replace")
-    return text[:-1] if is_cut else text
-
-
-def differs(options, lines, is_cut):
-    text = text_of(lines, is_cut)
-    return answers(PROGRAMS[0], options, text) != answers(PROGRAMS[1], options, text)
-
-
-def shortest(options, lines, is_cut):
-    """Leaves out lines as long as the answers still differ."""
-    size = len(lines) // 2
-    while size:
-        at = 0
-        while at < len(lines):
-            fewer = lines[:at] + lines[at + size :]
-            if differs(options, fewer, is_cut):
-                lines = fewer
-            else:
-                at += size
-        size //= 2
-    return lines
-
-
-def main():
-    first, seeds, count = [int(word) for word in sys.argv[1:]] + [1, 200, 400][len(sys.argv) - 1 :]
-    made = 0
-    for seed in range(first, first + seeds):
-        rng = random.Random(seed)
-        trace = Trace(rng)
-        options, lines, is_cut = trace.options(), trace.make(count), rng.random() < 0.1
-        made += len(lines)
-        if differs(options, lines, is_cut):
-            lines = shortest(options, lines, is_cut)
-            text = text_of(lines, is_cut)
-            print(f"seed {seed}, options {' '.join(options)}")
-            told = [answers(program, options, text).split(b"\n") for program in PROGRAMS]
-            for at, line in enumerate(text.split(b"\n")):
-                print(*[(it[at] if at < len(it) else b"") for it in [[*text.split(b"\n")], *told]], sep=" | ")
-            return 1
-    print(f"differential: {seeds} traces with {made} lines, no difference")
-    return 0
-
-
-if __name__ == "__main__":
-    sys.exit(main())
