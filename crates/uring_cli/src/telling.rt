@@ -2,7 +2,6 @@
 
 use crate::fault::Fault;
 use crate::options_fault::OptionsFault;
-use crate::trace_fault::TraceFault;
 use clap::error::ErrorKind;
 use std::alloc::{AllocError, Global};
 use std::io::Write;

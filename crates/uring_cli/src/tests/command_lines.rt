@@ -6,9 +6,9 @@ use crate::fault::Fault;
 use crate::option_kinds::Options;
 use crate::options_fault::OptionsFault;
 use crate::telling::tell;
-use crate::trace_fault::TraceFault;
 use std::alloc::{AllocError, Global};
 use std::test::Fail;
+use uring_trace::TraceFault;
 
 /// Reads a command line, and gives the sizes of the rings, the number of files and the first word.
 fn numbers_of(alloc: Global, words: &[&str]) -> Result<[u32; 4], OptionsFault> {
