@@ -11,4 +11,3 @@ pub mod HexLaws
 pub mod FormLaws
 pub mod EntryLaws
 pub mod LineLaws
-pub mod CommandLine

@@ -6,4 +6,3 @@ pub mod Lines
 pub mod Exchanges
 pub mod Sessions
 pub mod Traces
-pub mod CommandLine
