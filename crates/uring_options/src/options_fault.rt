@@ -15,7 +15,7 @@ pub enum OptionsFault {
 
 impl From<clap::Error> for OptionsFault {
     ghost use Rattle.std.specs.Prelude.{◌≡◌};
-    ghost use Rattle.uring_cli.specs.declared.options_fault.OptionsFault.TheVariants.{Words};
+    ghost use Rattle.uring_options.specs.declared.options_fault.OptionsFault.TheVariants.{Words};
 
     ghost from_gives = { λ error fault. fault ≡ Words error };
 
@@ -25,7 +25,7 @@ impl From<clap::Error> for OptionsFault {
 }
 
 impl From<AllocError> for OptionsFault {
-    ghost use Rattle.uring_cli.specs.CommandLine.{IsWords};
+    ghost use Rattle.uring_options.specs.CommandLine.{IsWords};
 
     ghost from_gives = { λ _ fault. IsWords fault };
 

@@ -9,10 +9,10 @@ use Rattle.clap.specs.declared.builder.action.ArgAction.TheVariants.{Set}
 use Rattle.clap.specs.declared.builder.value_parser.ValueParser.{ValueParser}
 use Rattle.clap.specs.declared.builder.value_parser.ValueParser.TheVariants.{Signed}
 use Rattle.uring_entry.specs.Shape.{IsSetUp, IsBadCq}
-use Rattle.uring_cli.specs.declared.option_kinds.Options.{Options}
-use Rattle.uring_cli.specs.declared.option_kinds.Options.TheVariants.{Trace}
-use Rattle.uring_cli.specs.declared.options_fault.OptionsFault.{OptionsFault}
-use Rattle.uring_cli.specs.declared.options_fault.OptionsFault.TheVariants.{Small, Words}
+use Rattle.uring_options.specs.declared.option_kinds.Options.{Options}
+use Rattle.uring_options.specs.declared.option_kinds.Options.TheVariants.{Trace}
+use Rattle.uring_options.specs.declared.options_fault.OptionsFault.{OptionsFault}
+use Rattle.uring_options.specs.declared.options_fault.OptionsFault.TheVariants.{Small, Words}
 
 -- an option of this name that takes a value
 abbrev pub option_rule : Text → ValueParser → Rule

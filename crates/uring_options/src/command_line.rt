@@ -5,7 +5,7 @@ ghost use Rattle.clap.specs.Words.{app_of, rule_of, subcommand_of};
 ghost use Rattle.clap.specs.declared.builder.command.Command.TheViews.{out-Command};
 ghost use Rattle.clap.specs.Walk.{rows_of};
 ghost use Rattle.clap.specs.Matches.{found_of};
-ghost use Rattle.uring_cli.specs.CommandLine.{option_rule, trace_app, uring, trace_rows, given, IsTraceOver, IsRefusedOver, IsWords, AskedBy, RefusedBy};
+ghost use Rattle.uring_options.specs.CommandLine.{option_rule, trace_app, uring, trace_rows, given, IsTraceOver, IsRefusedOver, IsWords, AskedBy, RefusedBy};
 
 use crate::option_kinds::Options;
 use crate::options_fault::OptionsFault;
@@ -13,7 +13,7 @@ use clap::builder::ValueParser;
 use clap::error::ErrorKind;
 use clap::{Arg, ArgAction, ArgMatches, Command, value_parser};
 use std::alloc::{AllocError, Global};
-use uring_machine::{BadSetup, Setup};
+use uring_entry::{BadSetup, Setup};
 
 /// Entries of the submission ring where the command line doesn't say.
 const DEFAULT_SQ: u32 = 4;
@@ -194,7 +194,7 @@ fn number_option<'a>(alloc: Global, id: &'a str, help: &'a str, parser: ValuePar
 }
 
 /// The fault of a command line with a word that is no text.
-pub(crate) fn not_text(alloc: Global) -> OptionsFault {
+pub fn not_text(alloc: Global) -> OptionsFault {
     match uring_command(alloc) {
         Ok(mut command) => refused("the command line isn't UTF-8", &mut command),
         Err(error) => OptionsFault::from(error),

@@ -5,9 +5,9 @@ use Rattle.clap.specs.Walk.{rule_of}
 use Rattle.clap.specs.Simple.{app_of, app_of_fields, new_app, with_rule}
 use Rattle.clap.specs.declared.builder.value_parser.ValueParser.TheVariants.{Signed}
 use Rattle.clap.specs.declared.builder.command.Command.TheViews.{out-Command}
-use Rattle.uring_cli.specs.CommandLine.{option_rule}
-use Rattle.uring_cli.proofs.CommandLine.{neither}
-use Rattle.uring_cli.proofs.command_line.trace_command.Goals as goal
+use Rattle.uring_options.specs.CommandLine.{option_rule}
+use Rattle.uring_options.proofs.CommandLine.{neither}
+use Rattle.uring_options.proofs.command_line.trace_command.Goals as goal
 
 pub returns-clause-app : goal.returns-clause-app
 returns-clause-app c =

@@ -1,7 +1,7 @@
 use Rattle.clap.specs.Matches.{found_of}
 use Rattle.std.specs.Str.Parse.{ParsesUnsigned, ExplainsUnsignedError, HasUnsignedDigitsIfOk}
-use Rattle.uring_cli.proofs.CommandLine.{number_given, tried, none_read, given_is}
-use Rattle.uring_cli.proofs.command_line.given_number.Goals as goal
+use Rattle.uring_options.proofs.CommandLine.{number_given, tried, none_read, given_is}
+use Rattle.uring_options.proofs.command_line.given_number.Goals as goal
 
 pub returns-in-Ok-clause-ok : goal.returns-in-Ok-clause-ok
 returns-in-Ok-clause-ok c =

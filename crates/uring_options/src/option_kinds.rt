@@ -1,4 +1,4 @@
-use uring_machine::Setup;
+use uring_entry::Setup;
 
 /// What a command line asks for.
 #[derive(Clone, Copy, Debug, Drop, PartialEq, Eq)]
