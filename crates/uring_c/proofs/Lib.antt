@@ -1,0 +1,2 @@
+pub mod CoreBox
+pub mod Slots

@@ -1,0 +1,5 @@
+//! The proved core and machine for programs in C.
+#![tactic(auto)]
+
+mod core_slot;
+mod parts;
