@@ -1,3 +1,5 @@
 pub mod Slots
 pub mod Boxes
 pub mod Places
+pub mod StepForm
+pub mod AnswerForm
