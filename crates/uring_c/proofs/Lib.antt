@@ -1,2 +1,3 @@
 pub mod CoreBox
 pub mod Slots
+pub mod SetUps

@@ -2,7 +2,12 @@
 #![tactic(auto)]
 
 mod answer_words;
+mod completion_words;
 mod core_place;
 mod core_slot;
+mod count_words;
+mod operation_words;
 mod parts;
+mod set_up_words;
+mod state_words;
 mod step_words;
