@@ -5,3 +5,5 @@ pub mod StepForm
 pub mod AnswerForm
 pub mod OperationForm
 pub mod SetUps
+pub mod Stepping
+pub mod ReadingForms

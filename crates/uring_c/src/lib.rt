@@ -3,6 +3,8 @@
 
 mod answer_words;
 mod completion_words;
+mod core_calls;
+mod core_exports;
 mod core_place;
 mod core_slot;
 mod count_words;
