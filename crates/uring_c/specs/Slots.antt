@@ -7,11 +7,15 @@ use Rattle.std.specs.Coded.{Coded, coded_option}
 use Rattle.std.specs.Box.Ownership.{box_owns}
 use Rattle.std.specs.Global.{Global}
 use Rattle.std.specs.contracts.impls.GlobalAllocator.TheImpl.{ghosts}
-use Rattle.uring_machine.specs.contracts.cores.Core.{the_row}
+use Rattle.uring_machine.specs.contracts.cores.Core as Core
+use Rattle.uring_machine.specs.contracts.machine.Machine as Machine
 
--- a core, as the logic of ownership sees it
+-- a core and a machine, as the logic of ownership sees them
 abbrev pub core_row : RattleType
-core_row = the_row
+core_row = Core.the_row
+
+abbrev pub machine_row : RattleType
+machine_row = Machine.the_row
 
 -- nothing, or a block with a value of this type and the right to free it
 abbrev pub slot_owns : (R : RattleType) → Global → Ptr → Option R.Denot → Fml
@@ -21,3 +25,6 @@ slot_owns R alloc at (Some value) = box_owns (ghosts.dealloc_token alloc) R at v
 -- how the logic stores what is in a slot
 abbrev pub core_coded : Coded (Option core_row.Denot)
 core_coded = coded_option core_row.coded
+
+abbrev pub machine_coded : Coded (Option machine_row.Denot)
+machine_coded = coded_option machine_row.coded

@@ -12,7 +12,7 @@ ghost use Rattle.uring_c.specs.Places.{core_in};
 ghost use Rattle.uring_c.specs.ReadingForms.{words_of_completion, counts_told};
 ghost use Rattle.uring_c.specs.SetUps.{IsAskedFor, IsRefused};
 ghost use Rattle.uring_c.specs.StepForm.{core_step_of};
-ghost use Rattle.uring_c.specs.Stepping.{TellsStep, TellsFinish};
+ghost use Rattle.uring_c.specs.Stepping.{TellsStepApart, TellsFinish};
 
 use crate::answer_words::{AnswerWords, answer_words};
 use crate::completion_words::{CompletionWords, OutcomeBytes, completion_words};
@@ -55,7 +55,7 @@ pub extern "C" fn wulgach_core_step(
     ensures empty { (result ≡ neg_ℤ EBADF) ↔ (core_in place.old ≡ None) }
     ensures no_step { (result ≡ neg_ℤ EINVAL) ↔ (IsSome (core_in place.old) × (core_step_of step.now ≡ None)) }
     ensures kept { (result ≡ pos 0 → ⊥) → (core_in place.new ≡ core_in place.old) × (answer.new ≡ answer.old) }
-    ensures made { IsSome (core_in place.old) → IfSome (core_step_of step.now) (λ s. (result ≡ pos 0) × TellsStep s (core_in place.old) (core_in place.new) answer.new) }
+    ensures made { IsSome (core_in place.old) → IfSome (core_step_of step.now) (λ s. (result ≡ pos 0) × TellsStepApart s (core_in place.old) (core_in place.new) answer.new) }
 {
     if !place.is_full {
         return -errno::EBADF;

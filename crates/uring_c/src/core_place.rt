@@ -1,6 +1,5 @@
 //! A C program's handle of a core.
-ghost use Rattle.std.specs.Prelude.{◌≡◌, None, Some, is_some, option_map};
-ghost use Rattle.uring_c.specs.Slots.{core_row};
+ghost use Rattle.std.specs.Prelude.{◌≡◌, None, Some, is_some};
 
 use crate::core_slot::CoreSlot;
 use crate::parts::Parts;
