@@ -1,10 +1,7 @@
 //! Command lines, and what faults say.
 
 use super::streams::FullWriter;
-use crate::command_line::options;
 use crate::fault::Fault;
-use crate::option_kinds::Options;
-use crate::options_fault::OptionsFault;
 use crate::telling::tell;
 use std::alloc::{AllocError, Global};
 use std::test::Fail;
