@@ -5,6 +5,7 @@ use crate::fault::Fault;
 use crate::telling::tell;
 use std::alloc::{AllocError, Global};
 use std::test::Fail;
+use uring_options::{Options, OptionsFault, options};
 use uring_trace::TraceFault;
 
 /// Reads a command line, and gives the sizes of the rings, the number of files and the first word.
