@@ -1,4 +1,6 @@
--- Index words and the counts that they stand for, over plain numbers.
+-- Index words and the counts that they stand for, over plain numbers: two counts less than 2 ^ 32 apart with one word are one, and the cell of a count.
+-- By arithmetic on remainders alone: nothing here knows of a ring.
+-- Stable: rings as shared words are to cite these lemmas too.
 use Rattle.std.proofs.Common.{◌≡◌, ◌≢◌, List, length, set, get_or, ℕ, ◌+◌, ◌-◌, ◌*◌, ◌/◌, ◌%◌, ◌^◌, ◌<◌, ◌≤◌, sym, ap, ◌∙◌, subst, ⊎_elim, arith}
 use Rattle.std.proofs.lemmas.Bool.{cases_lt, cases_eq, cases_order}
 use Rattle.std.proofs.lemmas.Nat.{and_mask, pow_below, mod_below, div-add-mod'}
