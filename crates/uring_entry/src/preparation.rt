@@ -79,11 +79,12 @@ fn operation(entry: &Sqe) -> Op
             off: entry.off(),
             len: entry.len(),
         },
-        _ => Op::Write {
+        opcode::WRITE => Op::Write {
             fd: entry.fd(),
             off: entry.off(),
             len: entry.len(),
             bytes: entry.payload(),
         },
+        _ => unreachable!(),
     }
 }
