@@ -36,3 +36,4 @@ pub mod FilesApart
 pub mod FileLaws
 pub mod PublishedItems
 pub mod Standing
+mod WorkedHistory
