@@ -67,7 +67,7 @@ put_fresh l slot [] = sym (append-nil l.fresh)
 put_fresh l slot (with_entry entry ∷ later) = put_fresh (with_item l slot (with_entry entry)) (slot + 1) later ∙ append_assoc l.fresh (slot ∷ []) (words_of (slot + 1) later)
 put_fresh l slot (bad_word word ∷ later) = put_fresh (with_item l slot (bad_word word)) (slot + 1) later ∙ append_assoc l.fresh (word ∷ []) (words_of (slot + 1) later)
 
-put_published : (l : Submission) (slot : ℕ) (items : List Published) → (with_items l slot items).published ≡ l.published
+pub put_published : (l : Submission) (slot : ℕ) (items : List Published) → (with_items l slot items).published ≡ l.published
 put_published l slot [] = refl
 put_published l slot (with_entry entry ∷ later) = put_published (with_item l slot (with_entry entry)) (slot + 1) later
 put_published l slot (bad_word word ∷ later) = put_published (with_item l slot (bad_word word)) (slot + 1) later

@@ -1,12 +1,16 @@
 -- The submission ring as it stands between calls: what is put into it, and what a call then takes, without a refusal.
 use Rattle.std.specs.Prelude.{◌≡◌, ℕ, ◌+◌, ◌<◌, ◌≤◌, false, true, List, [], ◌∷◌, ◌++◌, length, Option, Some, None, All, ◌⊎◌, slice_get}
+use Rattle.std.specs.List.{zip}
 use Rattle.uring_entry.specs.Shape.{Shape}
+use Rattle.uring_entry.specs.Words.{word_of}
 use Rattle.uring_entry.specs.Layout.{Entry}
 use Rattle.uring_entry.specs.Submission.{Submission, taken, filled, indexed, stored, loaded, closed, entries_from}
 use Rattle.uring_entry.specs.Requests.{with_call}
 use Rattle.uring_machine.specs.World.{World, happens}
 use Rattle.uring_machine.specs.Answers.{CalledForApart, OrAgain, is_spent, place_answer}
+use Rattle.uring_machine.specs.Histories.{History, world, history_of, IsLawfulApart}
 use Rattle.uring_machine.specs.Published.{Published, with_entry, bad_word, published_items, IsItem}
+use Rattle.uring_machine.specs.declared.steps.Step.{Step}
 use Rattle.uring_machine.specs.declared.steps.Step.TheVariants as step
 use Rattle.uring_machine.specs.declared.answers.Answer.{Answer}
 use Rattle.uring_machine.specs.declared.answers.Answer.TheVariants as answer
@@ -76,3 +80,33 @@ after_call w count = record w {
 abbrev pub CallCloses : Shape → Type 0
 CallCloses g = (w : World) (count asked left : ℕ) (ended loads : Answer) → Stands w.submission [] count → asked + left ≡ count → CalledForApart g (in_call w asked asked) step.End ended
     → (happens g (happens g (in_call w asked asked) step.End ended) step.LoadHead loads ≡ after_call w asked) × Stands (after_call w asked).submission [] left
+
+-- A whole call at once.
+
+-- the steps that put items, each into its own slot from this one on
+abbrev pub put_steps : ℕ → List Published → List Step
+put_steps slot [] = []
+put_steps slot (with_entry entry ∷ later) = step.Fill slot entry ∷ step.Index slot ∷ put_steps (slot + 1) later
+put_steps slot (bad_word word ∷ later) = step.Index word ∷ put_steps (slot + 1) later
+
+-- and their answers: nothing is refused
+abbrev pub put_answers : List Published → List Answer
+put_answers [] = []
+put_answers (with_entry entry ∷ later) = answer.Filled ∷ answer.Staged ∷ put_answers later
+put_answers (bad_word word ∷ later) = answer.Staged ∷ put_answers later
+
+-- the history after items were put, the oldest first, with these answers
+abbrev pub after_put : List Published → List Answer → History → History
+after_put items answers before = history_of (zip (put_steps 0 items) answers) ++ before
+
+-- How a whole call is answered that is put, published and begun.
+pub record WholeCall (g : Shape) (before : History) (items : List Published) (answers : List Answer) (tail begun : Answer) : Type 0 where
+  pub none_refused : answers ≡ put_answers items
+  pub tail_is : tail ≡ answer.Tail (word_of g.start (length (world g before).submission.published + length items))
+  pub are_published : All (IsItem g.sq) items → published_items (world g ((step.StoreTail, tail) ∷ after_put items answers before)).submission ≡ published_items (world g before).submission ++ items
+  pub opens : OrAgain (answer.Call (length items)) begun ⊎ ((begun ≡ answer.Spent) × (is_spent (world g before) (length items) ≡ true))
+
+-- A ring in which nothing is staged and no position waits takes every call of at most its size.
+abbrev pub TakesWholeCall : Shape → Type 0
+TakesWholeCall g = (before : History) (items : List Published) (answers : List Answer) (tail begun : Answer) → Stands (world g before).submission [] 0 → (world g before).is_closed ≡ false → length items ≤ g.sq
+    → length answers ≡ length (put_steps 0 items) → IsLawfulApart g ((step.Begin (length items), begun) ∷ (step.StoreTail, tail) ∷ after_put items answers before) → WholeCall g before items answers tail begun
