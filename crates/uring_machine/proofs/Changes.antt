@@ -89,7 +89,7 @@ module _ (g : Shape) (w : World) where
   begin_of count a false true spent e f h = subst (Change g w (step.Begin count)) (sym h) (refuses _ _ (λ v. refl) (silent refl refl refl refl (λ s. refl) refl refl refl refl refl refl refl refl refl refl refl refl refl))
   begin_of count a false false true e f h = subst (Change g w (step.Begin count)) (sym h) (refuses _ _ (λ v. refl) (silent refl refl refl refl (λ s. refl) refl refl refl refl refl refl refl refl refl refl refl refl refl))
   begin_of count a false false false e f (inl h) = subst (Change g w (step.Begin count)) (sym h) (begins count e (no_call w.submission.call f))
-  begin_of count a false false false e f (inr h) = subst (Change g w (step.Begin count)) (sym h) (again count)
+  begin_of count a false false false e f (inr h) = subst (Change g w (step.Begin count)) (sym h.0) (again count)
 
   place_of : (call : Call) (place : Option Place) → w.submission.call ≡ Some call → eqb call.taken call.count ≡ false → slice_get w.submission.published (taken w.submission + call.taken) ≡ place → Change g w step.Take (place_answer place)
   place_of call None e f h = refuses _ _ (λ v. refl) (silent refl refl refl refl (λ s. refl) refl refl refl refl refl refl refl refl refl refl refl refl refl)
