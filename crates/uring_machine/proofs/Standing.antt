@@ -1,22 +1,22 @@
 -- The laws of `laws/calls.rt`: a ring that stands between calls refuses nothing that belongs to a whole call.
 -- Each from the answer that is called for, with `Stands` for what the definitions test; no history is needed.
 -- Stable: other crates may import what is pub.
-use Rattle.std.proofs.Common.{◌≡◌, ◌≢◌, ℕ, suc, zero, ◌+◌, ◌-◌, ◌<◌, ◌≤◌, min, Bool, true, false, cond, nat_lt, List, [], ◌∷◌, ◌++◌, length, map, drop, get_or, Option, Some, None, is_some, slice_get, if◌then◌else◌, refl, sym, subst, ap, ap₂, ◌∙◌, ◌⊎◌, inl, inr, arith, append_assoc, append-nil}
+use Rattle.std.proofs.Common.{◌≡◌, ℕ, ◌+◌, ◌-◌, ◌<◌, ◌≤◌, Bool, true, false, List, [], ◌∷◌, ◌++◌, length, map, drop, get_or, Option, Some, None, is_some, slice_get, if◌then◌else◌, refl, sym, subst, ap, ap₂, ◌∙◌, ◌⊎◌, inl, inr, arith, append_assoc, append-nil}
 use Rattle.std.specs.Prelude.{All, ◌==◌, nat_le}
 use Rattle.std.specs.List.{list_any}
 use Rattle.std.proofs.Math.ListN.{drop_of_length-le}
 use Rattle.std.proofs.lemmas.Bool.{ne_eqb, eq-eqb, lt-leb, lt-ltb, le-ltb}
-use Rattle.std.proofs.lemmas.List.{length_push, length-append, length-map, map-append}
+use Rattle.std.proofs.lemmas.List.{length-append, length-map, map-append}
 use Rattle.std.proofs.lemmas.List.Elements.{All-head, All-tail}
 use Rattle.std.proofs.lemmas.List.Sums.{sum_by_push}
 use Rattle.std.proofs.lemmas.Option.{slice_get-get_or}
 use Rattle.uring_entry.specs.Shape.{Shape}
 use Rattle.uring_entry.specs.Layout.{Entry}
-use Rattle.uring_entry.specs.Submission.{Submission, Call, Place, place_of, taken, staged, is_busy, is_full, filled, indexed, stored, loaded, closed, call_length, pending}
+use Rattle.uring_entry.specs.Submission.{Submission, Place, place_of, taken, staged, is_busy, is_full, closed, call_length}
 use Rattle.uring_machine.specs.World.{World, happens, taking, ending, ending_of}
-use Rattle.uring_machine.specs.Answers.{CalledForApart, OrAgain, is_spent, place_answer, entry_answer}
-use Rattle.uring_machine.specs.Published.{Published, with_entry, bad_word, item_of, published_items, IsItem}
-use Rattle.uring_machine.specs.Standing.{Stands, FreeSlotIsFilled, WordIsStaged, TailPublishes, with_item, with_items, ItemsArePublished, in_call, after_call, CallOpens, PositionIsTaken, CallCloses}
+use Rattle.uring_machine.specs.Answers.{OrAgain, is_spent, place_answer, entry_answer}
+use Rattle.uring_machine.specs.Published.{Published, with_entry, bad_word, item_of, IsItem}
+use Rattle.uring_machine.specs.Standing.{Stands, FreeSlotIsFilled, WordIsStaged, TailPublishes, with_item, with_items, ItemsArePublished, in_call, CallOpens, PositionIsTaken, CallCloses}
 use Rattle.uring_machine.specs.declared.steps.Step.TheVariants as step
 use Rattle.uring_machine.specs.declared.answers.Answer.{Answer}
 use Rattle.uring_machine.specs.declared.answers.Answer.TheVariants as answer

@@ -1,7 +1,6 @@
 -- The law `empty_ring_takes_a_whole_call`: from the laws of single steps, by induction over the items.
 -- `put_all` goes on from any history that ends with the ring as it stands, with some words staged.
 use Rattle.std.proofs.Common.{◌≡◌, ℕ, ◌+◌, ◌≤◌, List, [], ◌∷◌, ◌++◌, length, refl, sym, subst, ap, ap₂, ◌∙◌, inl, inr, arith}
-use Rattle.std.specs.Prelude.{All}
 use Rattle.std.specs.List.{zip}
 use Rattle.std.proofs.lemmas.List.{length_push}
 use Rattle.uring_entry.specs.Shape.{Shape}
@@ -12,8 +11,7 @@ use Rattle.uring_machine.specs.World.{World}
 use Rattle.uring_machine.specs.Answers.{is_spent}
 use Rattle.uring_machine.specs.Histories.{Event, History, world, history_of, IsLawfulApart}
 use Rattle.uring_machine.specs.Published.{Published, with_entry, bad_word, published_items}
-use Rattle.uring_machine.specs.Standing.{Stands, with_items, put_steps, put_answers, after_put, WholeCall, TakesWholeCall}
-use Rattle.uring_machine.specs.declared.steps.Step.{Step}
+use Rattle.uring_machine.specs.Standing.{Stands, with_items, put_steps, put_answers, after_put, TakesWholeCall}
 use Rattle.uring_machine.specs.declared.steps.Step.TheVariants as step
 use Rattle.uring_machine.specs.declared.answers.Answer.{Answer}
 use Rattle.uring_machine.specs.declared.answers.Answer.TheVariants as answer
