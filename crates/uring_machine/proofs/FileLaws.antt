@@ -1,20 +1,18 @@
 -- The laws of `laws/files.rt` on histories: which are lawful, and which files they leave, by the operations that they carried out.
 -- By induction over the history: a Finish that ended its request is `files_ended`, and any other event is `files_kept`.
 -- Stable: other crates may import what is pub.
-use Rattle.std.proofs.Common.{◌≡◌, ◌==◌, ℕ, ℤ, Bool, true, false, List, [], ◌∷◌, ◌++◌, Some, None, refl, sym, subst, ap, ◌∙◌}
+use Rattle.std.proofs.Common.{◌≡◌, ◌==◌, ℕ, ℤ, Bool, true, false, List, [], ◌∷◌, ◌++◌, None, refl, sym, subst, ap, ◌∙◌}
 use Rattle.std.proofs.lemmas.Bool.{eq-eqb}
 use Rattle.uring_entry.specs.Shape.{Shape}
 use Rattle.uring_entry.specs.Preparation.{operation_of}
 use Rattle.uring_entry.specs.Requests.{Requests, entry_of, is_running}
 use Rattle.uring_files.specs.Contents.{FileContents}
 use Rattle.uring_files.specs.Operations.{file_of, after, IsOutcome}
-use Rattle.uring_machine.specs.World.{World}
-use Rattle.uring_machine.specs.Answers.{CalledForApart, FinishesApart}
+use Rattle.uring_machine.specs.Answers.{FinishesApart}
 use Rattle.uring_machine.specs.Contents.{CalledFor, IsLawful, EndsOn, files_of}
-use Rattle.uring_machine.specs.Core.{IsNoFinish}
 use Rattle.uring_machine.specs.Direct.{with_told}
 use Rattle.uring_machine.specs.Finishes.{Done, done_by, done_in, first_files, files_left, AreDone, LawfulByOperations, FilesByOperations, PlacesJoin, FilesByPlace}
-use Rattle.uring_machine.specs.Histories.{Event, History, world, IsLawfulApart}
+use Rattle.uring_machine.specs.Histories.{History, world, IsLawfulApart}
 use Rattle.uring_machine.specs.declared.steps.Step.{Step}
 use Rattle.uring_machine.specs.declared.steps.Step.TheVariants as step
 use Rattle.uring_machine.specs.declared.answers.Answer.{Answer}

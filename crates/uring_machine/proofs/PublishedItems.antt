@@ -1,7 +1,7 @@
 -- The law `published_is_told`: the items published are those that the events tell, and so is the count of dropped words.
 -- The items: from `own_submission`, position by position. The count: what all calls took less the entries among it,
 -- which `takes_places` has; kept from the last close on by induction over the history.
-use Rattle.std.proofs.Common.{◌≡◌, ℕ, suc, ◌+◌, ◌-◌, ◌%◌, ◌^◌, ◌<◌, ◌≤◌, zero, Bool, true, false, cond, nat_lt, List, [], ◌∷◌, ◌++◌, length, map, take, count_by, get_or, Option, Some, None, slice_get, if◌then◌else◌, refl, sym, subst, ap, ap₂, ◌∙◌, arith}
+use Rattle.std.proofs.Common.{◌≡◌, ℕ, suc, ◌+◌, ◌%◌, ◌^◌, ◌<◌, ◌≤◌, Bool, true, false, cond, nat_lt, List, [], ◌∷◌, length, map, take, count_by, get_or, Option, Some, None, slice_get, if◌then◌else◌, refl, sym, subst, ap, ap₂, ◌∙◌, arith}
 use Rattle.std.specs.Prelude.{All, is_none}
 use Rattle.std.specs.List.{enumerate_from, cons_option}
 use Rattle.std.proofs.lemmas.Bool.{ltb-false}
@@ -13,10 +13,10 @@ use Rattle.uring_entry.specs.Shape.{Shape}
 use Rattle.uring_entry.specs.Layout.{Entry}
 use Rattle.uring_entry.specs.Submission.{Submission, Call, Place, place_of, taken, entries_of, dropped_in}
 use Rattle.uring_machine.specs.World.{World, happens, taking_of, ending_of}
-use Rattle.uring_machine.specs.Direct.{takes_position, entry_taken_by, with_told, before_last, closes_call, entries_taken, positions_taken, staged_words, published_words, published_entry, slot_content, before_published}
+use Rattle.uring_machine.specs.Direct.{takes_position, entry_taken_by, with_told, closes_call, entries_taken, positions_taken, staged_words, published_words, published_entry, slot_content, before_published}
 use Rattle.uring_machine.specs.Histories.{Event, History, world, IsLawfulApart}
 use Rattle.uring_machine.specs.HistoryLists.{OwnSubmission}
-use Rattle.uring_machine.specs.Published.{Published, with_entry, bad_word, item_of, published_items, IsItem, items_told, drops_position, positions_dropped, OwnPublished}
+use Rattle.uring_machine.specs.Published.{item_of, published_items, IsItem, items_told, drops_position, positions_dropped, OwnPublished}
 use Rattle.uring_machine.specs.declared.steps.Step.{Step}
 use Rattle.uring_machine.specs.declared.steps.Step.TheVariants as step
 use Rattle.uring_machine.specs.declared.answers.Answer.{Answer}
@@ -24,8 +24,8 @@ use Rattle.uring_machine.specs.declared.answers.Answer.TheVariants as answer
 use Rattle.uring_machine.proofs.Changes.{Change, change_of, refuses, fills, stages, stores, loads, begins, takes, drops, closes, runs, dooms, cancels, finishes, flushes, sees_tail, reaps, stores_head, shuts}
 use Rattle.uring_machine.proofs.ReadOff.{own_submission}
 use Rattle.uring_machine.proofs.Sound.{sound_of}
-use Rattle.uring_machine.proofs.SoundRings.{IsSoundSubmission, open_taken, open_count}
-use Rattle.uring_machine.proofs.TakenPlaces.{TakesPlaces, reached, takes_places}
+use Rattle.uring_machine.proofs.SoundRings.{open_taken, open_count}
+use Rattle.uring_machine.proofs.TakenPlaces.{reached, takes_places}
 use Rattle.uring_machine.proofs.Telling.{count_more, count_same, before_same}
 
 -- The items.

@@ -1,27 +1,27 @@
 -- The laws of `laws/calls.rt`: a ring that stands between calls refuses nothing that belongs to a whole call.
 -- Each from the answer that is called for, with `Stands` for what the definitions test; no history is needed.
 -- Stable: other crates may import what is pub.
-use Rattle.std.proofs.Common.{◌≡◌, ◌≢◌, ℕ, suc, zero, ◌+◌, ◌-◌, ◌<◌, ◌≤◌, min, Bool, true, false, cond, nat_lt, List, [], ◌∷◌, ◌++◌, length, map, drop, get_or, Option, Some, None, is_some, slice_get, if◌then◌else◌, refl, sym, subst, ap, ap₂, ◌∙◌, ◌⊎◌, inl, inr, arith, append_assoc, append-nil}
+use Rattle.std.proofs.Common.{◌≡◌, ℕ, ◌+◌, ◌-◌, ◌<◌, ◌≤◌, Bool, true, false, List, [], ◌∷◌, ◌++◌, length, map, drop, get_or, Option, Some, None, is_some, slice_get, if◌then◌else◌, refl, sym, subst, ap, ap₂, ◌∙◌, ◌⊎◌, inl, inr, arith, append_assoc, append-nil}
 use Rattle.std.specs.Prelude.{All, ◌==◌, nat_le}
 use Rattle.std.specs.List.{list_any}
 use Rattle.std.proofs.Math.ListN.{drop_of_length-le}
 use Rattle.std.proofs.lemmas.Bool.{ne_eqb, eq-eqb, lt-leb, lt-ltb, le-ltb}
-use Rattle.std.proofs.lemmas.List.{length_push, length-append, length-map, map-append}
+use Rattle.std.proofs.lemmas.List.{length-append, length-map, map-append}
 use Rattle.std.proofs.lemmas.List.Elements.{All-head, All-tail}
 use Rattle.std.proofs.lemmas.List.Sums.{sum_by_push}
 use Rattle.std.proofs.lemmas.Option.{slice_get-get_or}
 use Rattle.uring_entry.specs.Shape.{Shape}
 use Rattle.uring_entry.specs.Layout.{Entry}
-use Rattle.uring_entry.specs.Submission.{Submission, Call, Place, place_of, taken, staged, is_busy, is_full, filled, indexed, stored, loaded, closed, call_length, pending}
+use Rattle.uring_entry.specs.Submission.{Submission, Place, place_of, taken, staged, is_busy, is_full, closed, call_length}
 use Rattle.uring_machine.specs.World.{World, happens, taking, ending, ending_of}
-use Rattle.uring_machine.specs.Answers.{CalledForApart, OrAgain, is_spent, place_answer, entry_answer}
-use Rattle.uring_machine.specs.Published.{Published, with_entry, bad_word, item_of, published_items, IsItem}
-use Rattle.uring_machine.specs.Standing.{Stands, FreeSlotIsFilled, WordIsStaged, TailPublishes, with_item, with_items, ItemsArePublished, in_call, after_call, CallOpens, PositionIsTaken, CallCloses}
+use Rattle.uring_machine.specs.Answers.{OrAgain, is_spent, place_answer, entry_answer}
+use Rattle.uring_machine.specs.Published.{Published, with_entry, bad_word, item_of, IsItem}
+use Rattle.uring_machine.specs.Standing.{Stands, FreeSlotIsFilled, WordIsStaged, TailPublishes, with_item, with_items, ItemsArePublished, in_call, CallOpens, PositionIsTaken, CallCloses}
 use Rattle.uring_machine.specs.declared.steps.Step.TheVariants as step
 use Rattle.uring_machine.specs.declared.answers.Answer.{Answer}
 use Rattle.uring_machine.specs.declared.answers.Answer.TheVariants as answer
 
--- Putting.
+-- Filling and staging.
 
 -- no slot is busy
 pub slots_free : (l : Submission) (words : List ℕ) (slot : ℕ) → Stands l words 0 → is_busy l slot ≡ false
@@ -54,7 +54,7 @@ tail_publishes g l words s =
       waiting = omega (arith, s.waiting, ap length s.fresh, length-append l.published (map (place_of g.sq l.content) l.fresh), length-map l.fresh (place_of g.sq l.content));
     }
 
--- What was put, once it is published.
+-- The items, once they are published.
 
 -- the words that are staged for items
 abbrev words_of : ℕ → List Published → List ℕ
@@ -62,22 +62,22 @@ words_of slot [] = []
 words_of slot (with_entry entry ∷ later) = slot ∷ words_of (slot + 1) later
 words_of slot (bad_word word ∷ later) = word ∷ words_of (slot + 1) later
 
-put_fresh : (l : Submission) (slot : ℕ) (items : List Published) → (with_items l slot items).fresh ≡ l.fresh ++ words_of slot items
-put_fresh l slot [] = sym (append-nil l.fresh)
-put_fresh l slot (with_entry entry ∷ later) = put_fresh (with_item l slot (with_entry entry)) (slot + 1) later ∙ append_assoc l.fresh (slot ∷ []) (words_of (slot + 1) later)
-put_fresh l slot (bad_word word ∷ later) = put_fresh (with_item l slot (bad_word word)) (slot + 1) later ∙ append_assoc l.fresh (word ∷ []) (words_of (slot + 1) later)
+items_fresh : (l : Submission) (slot : ℕ) (items : List Published) → (with_items l slot items).fresh ≡ l.fresh ++ words_of slot items
+items_fresh l slot [] = sym (append-nil l.fresh)
+items_fresh l slot (with_entry entry ∷ later) = items_fresh (with_item l slot (with_entry entry)) (slot + 1) later ∙ append_assoc l.fresh (slot ∷ []) (words_of (slot + 1) later)
+items_fresh l slot (bad_word word ∷ later) = items_fresh (with_item l slot (bad_word word)) (slot + 1) later ∙ append_assoc l.fresh (word ∷ []) (words_of (slot + 1) later)
 
-put_published : (l : Submission) (slot : ℕ) (items : List Published) → (with_items l slot items).published ≡ l.published
-put_published l slot [] = refl
-put_published l slot (with_entry entry ∷ later) = put_published (with_item l slot (with_entry entry)) (slot + 1) later
-put_published l slot (bad_word word ∷ later) = put_published (with_item l slot (bad_word word)) (slot + 1) later
+pub items_keep : (l : Submission) (slot : ℕ) (items : List Published) → (with_items l slot items).published ≡ l.published
+items_keep l slot [] = refl
+items_keep l slot (with_entry entry ∷ later) = items_keep (with_item l slot (with_entry entry)) (slot + 1) later
+items_keep l slot (bad_word word ∷ later) = items_keep (with_item l slot (bad_word word)) (slot + 1) later
 
 -- the slots before the first are as they were
-put_below : (l : Submission) (slot : ℕ) (items : List Published) (s : ℕ) → s < slot → (with_items l slot items).content s ≡ l.content s
-put_below l slot [] s low = refl
-put_below l slot (with_entry entry ∷ later) s low =
-    put_below (with_item l slot (with_entry entry)) (slot + 1) later s (omega arith) ∙ ap (λ b. if b then entry else l.content s) (ne_eqb s slot (λ same. omega arith))
-put_below l slot (bad_word word ∷ later) s low = put_below (with_item l slot (bad_word word)) (slot + 1) later s (omega arith)
+slots_below : (l : Submission) (slot : ℕ) (items : List Published) (s : ℕ) → s < slot → (with_items l slot items).content s ≡ l.content s
+slots_below l slot [] s low = refl
+slots_below l slot (with_entry entry ∷ later) s low =
+    slots_below (with_item l slot (with_entry entry)) (slot + 1) later s (omega arith) ∙ ap (λ b. if b then entry else l.content s) (ne_eqb s slot (λ same. omega arith))
+slots_below l slot (bad_word word ∷ later) s low = slots_below (with_item l slot (bad_word word)) (slot + 1) later s (omega arith)
 
 -- each item is read back from its slot
 read_back : (size : ℕ) (l : Submission) (slot : ℕ) (items : List Published) → slot + length items ≤ size → All (IsItem size) items
@@ -86,7 +86,7 @@ read_back size l slot [] few good = refl
 read_back size l slot (with_entry entry ∷ later) few good =
     let l' : Submission = with_item l slot (with_entry entry) in
     let content : ℕ → Entry = (with_items l' (slot + 1) later).content in
-    let held : content slot ≡ entry = put_below l' (slot + 1) later slot (omega arith) ∙ ap (λ b. if b then entry else l.content slot) (eq-eqb slot slot refl) in
+    let held : content slot ≡ entry = slots_below l' (slot + 1) later slot (omega arith) ∙ ap (λ b. if b then entry else l.content slot) (eq-eqb slot slot refl) in
     let low : slot < size = omega arith in
     ap₂ (λ item rest. item ∷ rest) (ap (λ b. item_of slot (if b then Some (content slot) else None)) (lt-ltb slot size low) ∙ ap with_entry held)
     (read_back size l' (slot + 1) later (omega arith) (All-tail (IsItem size) (with_entry entry) later good))
@@ -102,8 +102,8 @@ items_published l size items none few good =
     let l' : Submission = with_items l 0 items in
     let item : Place → Published = λ p. item_of p.word p.entry in
     map-append item l'.published (map (place_of size l'.content) l'.fresh)
-    ∙ ap₂ (λ xs ys. xs ++ ys) (ap (map item) (put_published l 0 items))
-    (ap (λ words. map item (map (place_of size l'.content) words)) (put_fresh l 0 items ∙ ap (λ words. words ++ words_of 0 items) none) ∙ read_back size l 0 items (omega arith) good)
+    ∙ ap₂ (λ xs ys. xs ++ ys) (ap (map item) (items_keep l 0 items))
+    (ap (λ words. map item (map (place_of size l'.content) words)) (items_fresh l 0 items ∙ ap (λ words. words ++ words_of 0 items) none) ∙ read_back size l 0 items (omega arith) good)
 
 -- Taking.
 

@@ -1,12 +1,16 @@
--- The submission ring as it stands between calls: what is put into it, and what a call then takes, without a refusal.
-use Rattle.std.specs.Prelude.{◌≡◌, ℕ, ◌+◌, ◌<◌, ◌≤◌, false, true, List, [], ◌∷◌, ◌++◌, length, Option, Some, None, All, ◌⊎◌, slice_get}
+-- The submission ring as it stands between calls: what the application fills, stages and publishes, and what a call then takes, without a refusal.
+use Rattle.std.specs.Prelude.{◌≡◌, ℕ, ◌+◌, ◌<◌, ◌≤◌, false, true, List, [], ◌∷◌, ◌++◌, length, Some, None, All, ◌⊎◌, slice_get}
+use Rattle.std.specs.List.{zip}
 use Rattle.uring_entry.specs.Shape.{Shape}
+use Rattle.uring_entry.specs.Words.{word_of}
 use Rattle.uring_entry.specs.Layout.{Entry}
 use Rattle.uring_entry.specs.Submission.{Submission, taken, filled, indexed, stored, loaded, closed, entries_from}
 use Rattle.uring_entry.specs.Requests.{with_call}
 use Rattle.uring_machine.specs.World.{World, happens}
 use Rattle.uring_machine.specs.Answers.{CalledForApart, OrAgain, is_spent, place_answer}
+use Rattle.uring_machine.specs.Histories.{History, world, history_of, IsLawfulApart}
 use Rattle.uring_machine.specs.Published.{Published, with_entry, bad_word, published_items, IsItem}
+use Rattle.uring_machine.specs.declared.steps.Step.{Step}
 use Rattle.uring_machine.specs.declared.steps.Step.TheVariants as step
 use Rattle.uring_machine.specs.declared.answers.Answer.{Answer}
 use Rattle.uring_machine.specs.declared.answers.Answer.TheVariants as answer
@@ -18,7 +22,7 @@ pub record Stands (l : Submission) (words : List ℕ) (count : ℕ) : Type 0 whe
   pub head : l.seen_head ≡ taken l
   pub waiting : taken l + count ≡ length l.published
 
--- Items are put one by one: no position waits.
+-- Items go into it one by one: no position waits.
 
 -- each slot of the ring is filled
 abbrev pub FreeSlotIsFilled : Shape → Type 0
@@ -34,17 +38,17 @@ WordIsStaged g = (w : World) (words : List ℕ) (word : ℕ) (a : Answer) → St
 abbrev pub TailPublishes : Shape → Type 0
 TailPublishes g = (l : Submission) (words : List ℕ) → Stands l words 0 → Stands (stored g.sq l) [] (length words)
 
--- an item is put into a slot: an entry goes into it, and its index is staged; a bad word is staged
+-- an item for a slot: its entry fills the slot, and the slot's index is staged; a bad word is staged alone
 abbrev pub with_item : Submission → ℕ → Published → Submission
 with_item l slot (with_entry entry) = indexed (filled l slot entry) slot
 with_item l slot (bad_word word) = indexed l word
 
--- items are put, each into its own slot from this one on
+-- items, each for its own slot from this one on
 abbrev pub with_items : Submission → ℕ → List Published → Submission
 with_items l slot [] = l
 with_items l slot (item ∷ later) = with_items (with_item l slot item) (slot + 1) later
 
--- What was put into a ring in which nothing is staged is what is published.
+-- If nothing was staged before, exactly these items are published then.
 abbrev pub ItemsArePublished : Type 0
 ItemsArePublished = (l : Submission) (size : ℕ) (items : List Published) → l.fresh ≡ [] → length items ≤ size → All (IsItem size) items
     → published_items (stored size (with_items l 0 items)) ≡ published_items l ++ items
@@ -76,3 +80,33 @@ after_call w count = record w {
 abbrev pub CallCloses : Shape → Type 0
 CallCloses g = (w : World) (count asked left : ℕ) (ended loads : Answer) → Stands w.submission [] count → asked + left ≡ count → CalledForApart g (in_call w asked asked) step.End ended
     → (happens g (happens g (in_call w asked asked) step.End ended) step.LoadHead loads ≡ after_call w asked) × Stands (after_call w asked).submission [] left
+
+-- A whole call at once.
+
+-- the steps for items, each for its own slot from this one on
+abbrev pub item_steps : ℕ → List Published → List Step
+item_steps slot [] = []
+item_steps slot (with_entry entry ∷ later) = step.Fill slot entry ∷ step.Index slot ∷ item_steps (slot + 1) later
+item_steps slot (bad_word word ∷ later) = step.Index word ∷ item_steps (slot + 1) later
+
+-- and their answers: nothing is refused
+abbrev pub item_answers : List Published → List Answer
+item_answers [] = []
+item_answers (with_entry entry ∷ later) = answer.Filled ∷ answer.Staged ∷ item_answers later
+item_answers (bad_word word ∷ later) = answer.Staged ∷ item_answers later
+
+-- the history after the steps for these items, with these answers
+abbrev pub after_items : List Published → List Answer → History → History
+after_items items answers before = history_of (zip (item_steps 0 items) answers) ++ before
+
+-- How a whole call is answered, whose items are staged and published, and which is begun: no item is refused, the tail is behind them, they are published as they are, and the call opens unless memory is refused or the numbers are spent.
+pub record WholeCall (g : Shape) (before : History) (items : List Published) (answers : List Answer) (tail begun : Answer) : Type 0 where
+  pub none_refused : answers ≡ item_answers items
+  pub tail_is : tail ≡ answer.Tail (word_of g.start (length (world g before).submission.published + length items))
+  pub are_published : All (IsItem g.sq) items → published_items (world g ((step.StoreTail, tail) ∷ after_items items answers before)).submission ≡ published_items (world g before).submission ++ items
+  pub opens : OrAgain (answer.Call (length items)) begun ⊎ ((begun ≡ answer.Spent) × (is_spent (world g before) (length items) ≡ true))
+
+-- A ring in which nothing is staged and no position waits takes every call of at most its size.
+abbrev pub TakesWholeCall : Shape → Type 0
+TakesWholeCall g = (before : History) (items : List Published) (answers : List Answer) (tail begun : Answer) → Stands (world g before).submission [] 0 → (world g before).is_closed ≡ false → length items ≤ g.sq
+    → length answers ≡ length (item_steps 0 items) → IsLawfulApart g ((step.Begin (length items), begun) ∷ (step.StoreTail, tail) ∷ after_items items answers before) → WholeCall g before items answers tail begun
