@@ -10,6 +10,7 @@ use Rattle.uring_machine.specs.Laws.{LeastCanGoOn, EachEndsOnce, IsIssued}
 use Rattle.uring_entry.specs.Preparation.{is_cancel}
 use Rattle.uring_machine.specs.World.{World}
 use Rattle.uring_machine.specs.Answers.{issue_answer}
+use Rattle.uring_machine.specs.declared.answers.Answer.{Answer}
 use Rattle.uring_machine.specs.declared.answers.Answer.TheVariants as answer
 use Rattle.uring_machine.specs.Histories.{History, world, IsLawfulApart}
 use Rattle.uring_machine.proofs.SoundRequests.{IsSoundRequests}
@@ -27,11 +28,17 @@ answer_goes true false false false cancel as_doomed as_cancel o r d = absurd (le
 answer_goes true false false true true as_doomed as_cancel o r d = tt
 answer_goes true false false true false as_doomed as_cancel o r d = tt
 
-issue_goes : (w : World) (n : ℕ) → is_issuable w.requests n ≡ true → IsIssued (issue_answer w n)
+pub issue_goes : (w : World) (n : ℕ) → is_issuable w.requests n ≡ true → IsIssued (issue_answer w n)
 issue_goes w n issuable =
     let p = and_parts _ _ issuable in
     let q = and_parts _ _ p.0 in
     answer_goes (is_outstanding w.requests n) (is_running w.requests n) (is_doomed w.requests n) (is_ready w.requests n) (is_cancel (entry_of w.requests n)) (doomed_result w.requests n) (cancel_result w.requests n) q.0 (not-true _ q.1) p.1
+
+-- an issue that isn't refused starts the request or ends it
+pub issued_cases : (x : Answer) → IsIssued x → (x ≡ answer.Run → ⊥) → ((res : ℤ) (bytes : List ℕ) → x ≡ answer.Ended res bytes → ⊥) → ⊥
+issued_cases answer.Run issued not_run not_ended = not_run refl
+issued_cases (answer.Ended res bytes) issued not_run not_ended = not_ended res bytes refl
+issued_cases _ issued not_run not_ended = issued
 
 -- what can be issued is outstanding
 issuable_outstanding : (r : Requests) (n : ℕ) → is_issuable r n ≡ true → is_outstanding r n ≡ true

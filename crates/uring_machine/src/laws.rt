@@ -3,10 +3,10 @@ ghost use Rattle.std.specs.Prelude.{◌≡◌, ◌↔◌, ◌<◌, ℕ, neg_ℤ,
 ghost use Rattle.std.specs.List.{list_any};
 ghost use Rattle.uring_entry.specs.Shape.{Shape, IsShape};
 ghost use Rattle.uring_machine.specs.Histories.{History, world, IsLawfulApart};
-ghost use Rattle.uring_machine.specs.Contents.{IsLawful};
+ghost use Rattle.uring_machine.specs.Contents.{IsLawful, RunsOnFiles};
 ghost use Rattle.uring_machine.specs.HistoryLists.{OwnSubmission, OwnRequests, OwnCompletions, IsChosenIn};
 ghost use Rattle.uring_machine.specs.Laws.{ReapedBeginPosted, TakenOnceInOrder, takes_in, LeastCanGoOn, EachEndsOnce, DoomedNeverRun, IsStart, times_ended};
-ghost use Rattle.uring_entry.specs.Requests.{is_outstanding, is_doomed, is_cancelled, waits_for};
+ghost use Rattle.uring_entry.specs.Requests.{is_outstanding, is_doomed, is_cancelled, waits_for, is_running};
 ghost use Rattle.uring_entry.specs.declared.errno.TheConstants.{ECANCELED};
 ghost use Rattle.uring_machine.specs.declared.answers.Answer.{Answer};
 ghost use Rattle.uring_machine.specs.declared.steps.Step.TheVariants as step;
@@ -62,4 +62,9 @@ pub fn least_can_go_on()
 pub fn operations_never_cancel()
     ensures apart { (g : Shape) (h : History) → IsLawful g h → IsLawfulApart g h }
     ensures never { (g : Shape) (after before : History) (n : ℕ) (bytes : List ℕ) → IsLawful g (after ++ (step.Finish n, answer.Ended (neg_ℤ ECANCELED) bytes) ∷ before) → ⊥ }
+{}
+
+/// What runs in a lawful history can be carried out on files: it is no cancel, which ends as it is issued, and its transfer is at most 64 bytes.
+pub fn what_runs_is_for_files()
+    ensures { (g : Shape) (h : History) (n : ℕ) → IsShape g → IsLawfulApart g h → is_running (world g h).requests n ≡ true → RunsOnFiles (world g h).requests n }
 {}
