@@ -16,7 +16,7 @@ use Rattle.uring_machine.specs.World.{World}
 use Rattle.uring_machine.specs.Answers.{OrAgain, begin_answer}
 use Rattle.uring_machine.specs.Histories.{History, world}
 use Rattle.uring_machine.specs.Told.{begin_told}
-use Rattle.uring_machine.specs.Core.{Parts, ShowsWorld, FitsApart, IsShortFor, IsShortOfMemory, held_by, positions_of}
+use Rattle.uring_machine.specs.Core.{Parts, ShowsWorld, FitsApart, IsShortFor, IsShortOfMemory, held_by}
 use Rattle.uring_machine.specs.declared.steps.Step.TheVariants as step
 use Rattle.uring_machine.specs.declared.answers.Answer.{Answer}
 use Rattle.uring_machine.specs.declared.answers.Answer.TheVariants as answer
