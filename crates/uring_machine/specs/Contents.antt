@@ -7,7 +7,7 @@ use Rattle.uring_files.specs.Contents.{FileContents, empty_file}
 use Rattle.uring_files.specs.Operations.{after, IsOutcome, IsForFiles}
 use Rattle.uring_machine.specs.World.{World}
 use Rattle.uring_machine.specs.Answers.{CalledForApart}
-use Rattle.uring_machine.specs.Histories.{History, world}
+use Rattle.uring_machine.specs.Histories.{History, world, IsLawfulApart}
 use Rattle.uring_machine.specs.declared.steps.Step.{Step}
 use Rattle.uring_machine.specs.declared.steps.Step.TheVariants as step
 use Rattle.uring_machine.specs.declared.answers.Answer.{Answer}
@@ -42,3 +42,7 @@ CalledFor g w s a = CalledForApart g w s a
 abbrev pub IsLawful : Shape → History → Type 0
 IsLawful g [] = Unit {0}
 IsLawful g ((s, a) ∷ before) = CalledFor g (world g before) s a × IsLawful g before
+
+-- Whatever runs in a lawful history can be carried out on files.
+abbrev pub WhatRunsIsForFiles : Shape → Type 0
+WhatRunsIsForFiles g = (h : History) (n : ℕ) → IsLawfulApart g h → is_running (world g h).requests n ≡ true → RunsOnFiles (world g h).requests n

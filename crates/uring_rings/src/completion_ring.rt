@@ -172,7 +172,7 @@ impl Cq {
         if self.next == self.seen_tail {
             return None;
         }
-        let cell = self.next.cell(self.size - 1);
+        let cell = self.cell(self.next);
         self.next = self.next.after(1);
         self.reaped = self.reaped.wrapping_add(1);
         Some(self.cells[cell])
@@ -200,7 +200,7 @@ impl Cq {
     {
         let in_ring = u64::from(self.tail.distance(self.next));
         if i < in_ring {
-            let cell = self.next.after(i as u32).cell(self.size - 1);
+            let cell = self.cell(self.next.after(i as u32));
             Some(self.cells[cell])
         } else {
             self.overflow.get((i - in_ring) as usize).copied()
@@ -259,8 +259,16 @@ impl Cq {
           cells = slice_set self.old.cells (self.old.tail % self.old.size) completion;
         } }
     {
-        let cell = self.tail.cell(self.size - 1);
+        let cell = self.cell(self.tail);
         self.cells[cell] = completion;
         self.tail = self.tail.after(1);
+    }
+    /// The cell of a position's completion.
+    fn cell(&self, index: Index) -> usize
+        ensures value { result ≡ index.0 % self.now.size }
+        ensures within { result < self.now.size }
+        ensures cells { length self.now.cells ≡ self.now.size }
+    {
+        index.cell(self.size - 1)
     }
 }
