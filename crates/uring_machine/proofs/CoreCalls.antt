@@ -16,7 +16,7 @@ use Rattle.uring_machine.specs.World.{World}
 use Rattle.uring_machine.specs.Answers.{OrAgain, begin_answer}
 use Rattle.uring_machine.specs.Histories.{History, world}
 use Rattle.uring_machine.specs.Told.{begin_told}
-use Rattle.uring_machine.specs.Core.{Parts, ShowsWorld, FitsApart, IsShortFor, IsShortOfMemory, held_by}
+use Rattle.uring_machine.specs.Core.{Parts, ShowsWorld, FitsApart, IsShortFor, IsShortOfMemory, held_by, positions_of}
 use Rattle.uring_machine.specs.declared.steps.Step.TheVariants as step
 use Rattle.uring_machine.specs.declared.answers.Answer.{Answer}
 use Rattle.uring_machine.specs.declared.answers.Answer.TheVariants as answer
@@ -87,6 +87,11 @@ spent_goes p d count n may spent same h f =
 short_for_some : (p : Parts) (w : World) (n : ℕ) → ShowsWorld p w → IsShortFor p n → 0 < n
 short_for_some p w n s (inl few_requests) = omega arith
 short_for_some p w n s (inr few_posts) = omega (arith, s.room_to_post, s.promised)
+
+-- so a Begin that was answered Call found memory for its call, and memory isn't short for it while it is open
+pub never_short_for_open_call : (p : Parts) (w : World) → ShowsWorld p w → IsShortFor p (positions_of w.submission.call) → ⊥
+never_short_for_open_call p w s (inl few_requests) = omega (arith, s.room_to_accept)
+never_short_for_open_call p w s (inr few_posts) = omega (arith, s.room_to_post, s.promised)
 
 pub again_goes : (p : Parts) (d : Dispatcher) (q : CompletionQueue) (count n : ℕ) → MayOpen p count n → p.dispatcher.accepted + n ≤ 2 ^ 63 - 1
     → IsSameCount p.dispatcher d → d.is_between_calls ≡ true → ((r : Requests) → Shows p.dispatcher r → Shows d r) → q ≡ p.completions → IsShortFor p n

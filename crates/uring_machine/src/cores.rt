@@ -26,9 +26,9 @@ pub struct Core {
     sq: Sq,
     cq: Cq,
     dispatch: Dispatch,
-
-    /// The entries that the open call took, in order.
+    // The entries that the open call took, in order. There is room for those of a whole ring.
     held: Vec<Sqe>,
+    // Whether a Close was answered Shut.
     is_closed: bool,
 }
 
