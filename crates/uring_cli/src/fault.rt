@@ -1,6 +1,6 @@
 //! What can go wrong in a run of the program.
 
-use crate::options_fault::OptionsFault;
+use uring_options::OptionsFault;
 use uring_trace::TraceFault;
 
 /// Why a run of the program didn't do what was asked.

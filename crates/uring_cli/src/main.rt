@@ -1,21 +1,17 @@
 //! `uring`: the rings of io_uring, step by step, over lines of text.
 #![tactic(auto)]
 
-mod command_line;
 mod fault;
-mod option_kinds;
-mod options_fault;
 mod telling;
 #[cfg(test)]
 mod tests;
 
-use crate::command_line::{not_text, options};
 use crate::fault::Fault;
-use crate::option_kinds::Options;
 use crate::telling::tell;
 use std::env;
 use std::io::ErrorKind;
 use std::process::ExitCode;
+use uring_options::{Options, not_text, options};
 use uring_trace::{TraceFault, trace};
 
 fn main(rt: HostRuntime) -> ExitCode {
