@@ -1,7 +1,6 @@
 //! What a fault of the program says, and its exit status.
 
 use crate::fault::Fault;
-use crate::trace_fault::TraceFault;
 use clap::error::ErrorKind;
 use std::alloc::{AllocError, Global};
 use std::io::Write;
