@@ -1,5 +1,15 @@
+//! What a command line leads to.
+
 use std::alloc::{AllocError, AllocFailed};
 use thiserror::Error;
+use uring_entry::Setup;
+
+/// What a command line asks for.
+#[derive(Clone, Copy, Debug, Drop, PartialEq, Eq)]
+pub enum Options {
+    /// `uring trace`, or `uring` alone: a trace over this set-up.
+    Trace(Setup),
+}
 
 /// Why a command line is refused.
 #[derive(Debug, Drop, Error)]
@@ -15,7 +25,7 @@ pub enum OptionsFault {
 
 impl From<clap::Error> for OptionsFault {
     ghost use Rattle.std.specs.Prelude.{◌≡◌};
-    ghost use Rattle.uring_options.specs.declared.options_fault.OptionsFault.TheVariants.{Words};
+    ghost use Rattle.uring_options.specs.declared.answers.OptionsFault.TheVariants.{Words};
 
     ghost from_gives = { λ error fault. fault ≡ Words error };
 
@@ -25,9 +35,9 @@ impl From<clap::Error> for OptionsFault {
 }
 
 impl From<AllocError> for OptionsFault {
-    ghost use Rattle.uring_options.specs.CommandLine.{IsWords};
+    ghost use Rattle.uring_options.specs.CommandLine.{IsMemory};
 
-    ghost from_gives = { λ _ fault. IsWords fault };
+    ghost from_gives = { λ _ fault. IsMemory fault };
 
     fn from(error: AllocError) -> OptionsFault {
         OptionsFault::Words(clap::Error::from(error))
