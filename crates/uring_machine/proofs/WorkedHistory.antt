@@ -1,6 +1,6 @@
 -- A worked history, on which definitions of histories are computed: a call of an fsync and of a bad word, and the fsync carried out.
 -- Each line holds by computing alone: no lemma is used. Nothing cites this file.
-use Rattle.std.proofs.Common.{◌≡◌, ◌+◌, ◌*◌, ◌^◌, pos, List, [], ◌∷◌, ◌++◌, replicate, refl, inl}
+use Rattle.std.proofs.Common.{◌≡◌, ◌+◌, ◌*◌, ◌^◌, pos, List, [], ◌∷◌, ◌++◌, replicate, take, refl, inl}
 use Rattle.uring_entry.specs.Shape.{Shape}
 use Rattle.uring_entry.specs.Layout.{Entry, Completion}
 use Rattle.uring_entry.specs.Submission.{dropped}
@@ -14,6 +14,7 @@ use Rattle.uring_machine.specs.Finishes.{done_in, files_left, first_files, AreDo
 use Rattle.uring_machine.specs.Histories.{Event, world, history_of}
 use Rattle.uring_machine.specs.Laws.{in_ring, in_overflow}
 use Rattle.uring_machine.specs.Published.{with_entry, bad_word, published_items, items_told, positions_dropped}
+use Rattle.uring_machine.specs.Standing.{Stands, after_items, item_answers}
 use Rattle.uring_machine.specs.declared.steps.Step.TheVariants as step
 use Rattle.uring_machine.specs.declared.answers.Answer.TheVariants as answer
 
@@ -55,6 +56,17 @@ one_counted = refl
 -- while the call is open nothing counts as dropped yet
 none_dropped : positions_dropped ((step.Take, answer.Dropped) ∷ (step.Take, answer.Entry sync) ∷ []) ≡ 0
 none_dropped = refl
+
+-- The ring stands empty at first and again behind the call, whose steps are those for its two items.
+
+stands_first : Stands (world shape []).submission [] 0
+stands_first = record { fresh = refl; call = refl; head = refl; waiting = refl }
+
+stands_again : Stands called.submission [] 0
+stands_again = record { fresh = refl; call = refl; head = refl; waiting = refl }
+
+first_steps : after_items (with_entry sync ∷ bad_word 9 ∷ []) (item_answers (with_entry sync ∷ bad_word 9 ∷ [])) [] ≡ history_of (take 3 call)
+first_steps = refl
 
 -- What was carried out.
 
