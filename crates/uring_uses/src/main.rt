@@ -22,6 +22,7 @@ use std::alloc::{AllocError, Global};
 use uring_machine::{Answer, Core, Cqe, Machine, Setup, Sqe, SqeFlags, Step, run};
 
 fn main(rt: HostRuntime) -> Result<()> {
+    println!(rt; "one no-op")?;
     if let Some(completion) = one_no_op(rt.alloc())? {
         print_completion(&rt, &completion)?;
     }
