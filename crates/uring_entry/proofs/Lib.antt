@@ -1,4 +1,5 @@
 pub mod Payloads
+pub mod CompletionWords
 pub mod Powers
 pub mod Shapes
 pub mod BelowLemmas

@@ -1,5 +1,5 @@
 -- Which bits of an entry's and a completion's words are which field.
-use Rattle.std.specs.Prelude.{◌≡◌, ℕ, ◌+◌, ◌*◌, ◌-◌, ◌/◌, ◌%◌, ◌^◌, ◌<◌, List, [], ◌∷◌, ◌++◌, length, take, drop, replicate, slice_index, ℤ, Bool, ◌==◌, not}
+use Rattle.std.specs.Prelude.{◌≡◌, ◌↔◌, ℕ, ◌+◌, ◌*◌, ◌-◌, ◌/◌, ◌%◌, ◌^◌, ◌<◌, List, [], ◌∷◌, ◌++◌, length, take, drop, replicate, slice_index, slice_set, ℤ, FitsSigned, Bool, ◌==◌, not}
 use Rattle.std.specs.List.{flat_map, AllByRecursion}
 use Rattle.std.specs.Int.{w32, w64, cast_signed, cast_unsigned, to_le_bytes}
 use Rattle.std.specs.Int.RustNames.{bit_and}
@@ -93,5 +93,27 @@ pub record Completion : Type 0 where
 -- the words of a completion: user data, then the result in the low half of the second word and no flags in its high half, then the bytes. io_uring(7), struct io_uring_cqe, for the first two
 pub record HasWords (c : Completion) (words : List ℕ) : Type 0 where
   pub size : length words ≡ 10
+  pub range : AreWords words
   pub first : take 2 words ≡ c.user_data ∷ cast_unsigned w32 c.res ∷ []
   pub payload : bytes_of (drop 2 words) ≡ c.payload
+
+-- the completion that ten words hold, whatever flags stand in the high half of the second
+abbrev pub completion_of : List ℕ → Completion
+completion_of words =
+    record { user_data = slice_index words 0; res = cast_signed w32 (slice_index words 1 % 2 ^ 32); payload = bytes_of (drop 2 words) }
+
+-- the same words with no flags
+abbrev pub without_flags : List ℕ → List ℕ
+without_flags words = slice_set words 1 (slice_index words 1 % 2 ^ 32)
+
+-- The words of a completion, whose result has 32 bits, give it back.
+abbrev pub WordsGiveBack : Type 0
+WordsGiveBack = (c : Completion) (words : List ℕ) → FitsSigned w32 c.res → HasWords c words → completion_of words ≡ c
+
+-- So they are no other completion's.
+abbrev pub WordsDetermine : Type 0
+WordsDetermine = (c d : Completion) (words : List ℕ) → FitsSigned w32 c.res → FitsSigned w32 d.res → HasWords c words → HasWords d words → c ≡ d
+
+-- Ten words of 64 bits are, but for their flags, the words of the completion that they hold, and no other words are.
+abbrev pub WordsAreKept : Type 0
+WordsAreKept = (words again : List ℕ) → length words ≡ 10 → AreWords words → HasWords (completion_of words) again ↔ (again ≡ without_flags words)

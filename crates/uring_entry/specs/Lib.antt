@@ -1,5 +1,6 @@
 pub mod Shape
 pub mod Flags
+pub mod Numbers
 pub mod Layout
 pub mod Preparation
 pub mod Success

@@ -1,6 +1,6 @@
 ghost use Rattle.std.specs.Prelude.{◌≡◌};
 
-use crate::payload::words_of_bytes;
+use crate::payload::{bytes_of_words, words_of_bytes};
 use std::marker::Model;
 
 /// A completion: the user data of its request, the result, and 64 bytes, those that a read gave first and zeros behind them.
@@ -24,7 +24,7 @@ impl Model for Cqe {
 }
 
 impl Cqe {
-    ghost use Rattle.uring_entry.specs.Layout.{HasWords};
+    ghost use Rattle.uring_entry.specs.Layout.{HasWords, completion_of};
 
     /// The completion of a request with this user data: any result, any bytes.
     pub fn new(user_data: u64, res: i32, payload: [u8; 64]) -> Cqe
@@ -37,12 +37,23 @@ impl Cqe {
         }
     }
 
+    /// The completion that these words hold. What stands in bits 32 to 63 of the second word, the flags, is left out.
+    pub fn from_words(words: [u64; 10]) -> Cqe
+        ensures { result ≡ completion_of words }
+    {
+        Cqe {
+            user_data: words[0],
+            res: ((words[1] & 0xffff_ffff) as u32).cast_signed(),
+            payload: bytes_of_words(&words[2..]),
+        }
+    }
+
     /// The completion's words: the user data; the result in the low half and flags, always 0, in the high half; then the bytes, the low byte of each word first.
     pub fn words(&self) -> [u64; 10]
         ensures { HasWords self.now result }
     {
         let second = u64::from(self.res.cast_unsigned());
-        let mut words = [self.user_data, second, 0, 0, 0, 0, 0, 0, 0, 0];
+        let mut words = [self.user_data(), second, 0, 0, 0, 0, 0, 0, 0, 0];
         words[2..].copy_from_slice(&words_of_bytes(&self.payload));
         words
     }

@@ -7,6 +7,7 @@ mod entry;
 pub mod errno;
 mod faults;
 mod flags;
+pub mod laws;
 pub mod opcode;
 mod operation;
 mod outcomes;

@@ -1,4 +1,7 @@
 -- The events that change something, each with what is known of it because its answer was called for.
+-- `change_of` makes one of each event that was called for: a proof by cases over events has eighteen cases by it, and `refuses` is the one of all that change nothing.
+-- From the definitions of the answers alone.
+-- Stable: other crates may import `Change` with its cases and `change_of`.
 use Rattle.std.proofs.Common.{◌≡◌, ℕ, ◌+◌, ℤ, Bool, true, false, not, nat_lt, eqb, List, length, Option, Some, None, is_some, if◌then◌else◌, slice_get, refl, sym, subst, inl, inr}
 use Rattle.uring_entry.specs.Shape.{Shape}
 use Rattle.uring_entry.specs.Layout.{Entry, Completion}
@@ -86,7 +89,7 @@ module _ (g : Shape) (w : World) where
   begin_of count a false true spent e f h = subst (Change g w (step.Begin count)) (sym h) (refuses _ _ (λ v. refl) (silent refl refl refl refl (λ s. refl) refl refl refl refl refl refl refl refl refl refl refl refl refl))
   begin_of count a false false true e f h = subst (Change g w (step.Begin count)) (sym h) (refuses _ _ (λ v. refl) (silent refl refl refl refl (λ s. refl) refl refl refl refl refl refl refl refl refl refl refl refl refl))
   begin_of count a false false false e f (inl h) = subst (Change g w (step.Begin count)) (sym h) (begins count e (no_call w.submission.call f))
-  begin_of count a false false false e f (inr h) = subst (Change g w (step.Begin count)) (sym h) (again count)
+  begin_of count a false false false e f (inr h) = subst (Change g w (step.Begin count)) (sym h.0) (again count)
 
   place_of : (call : Call) (place : Option Place) → w.submission.call ≡ Some call → eqb call.taken call.count ≡ false → slice_get w.submission.published (taken w.submission + call.taken) ≡ place → Change g w step.Take (place_answer place)
   place_of call None e f h = refuses _ _ (λ v. refl) (silent refl refl refl refl (λ s. refl) refl refl refl refl refl refl refl refl refl refl refl refl refl)

@@ -8,7 +8,7 @@ use Rattle.uring_entry.specs.Requests.{Requests}
 use Rattle.uring_entry.specs.Completions.{Completions}
 use Rattle.uring_rings.specs.SubmissionRing.{SubmissionQueue, ShowsSubmission}
 use Rattle.uring_rings.specs.SubmissionAnswers as ring
-use Rattle.uring_rings.specs.CompletionRing.{CompletionQueue, ShowsCompletions}
+use Rattle.uring_rings.specs.CompletionRing.{CompletionQueue, ShowsCompletions, KeepsMemory}
 use Rattle.uring_rings.specs.declared.answers.begin_answer.BeginAnswer.{BeginAnswer}
 use Rattle.uring_rings.specs.declared.answers.begin_answer.BeginAnswer.TheVariants as begin
 use Rattle.uring_dispatch.specs.Dispatcher.{Dispatcher, Shows, IsSameCount}
@@ -16,7 +16,7 @@ use Rattle.uring_machine.specs.World.{World}
 use Rattle.uring_machine.specs.Answers.{OrAgain, begin_answer}
 use Rattle.uring_machine.specs.Histories.{History, world}
 use Rattle.uring_machine.specs.Told.{begin_told}
-use Rattle.uring_machine.specs.Core.{Parts, ShowsWorld, FitsApart, held_by}
+use Rattle.uring_machine.specs.Core.{Parts, ShowsWorld, FitsApart, IsShortFor, IsShortOfMemory, held_by, positions_of}
 use Rattle.uring_machine.specs.declared.steps.Step.TheVariants as step
 use Rattle.uring_machine.specs.declared.answers.Answer.{Answer}
 use Rattle.uring_machine.specs.declared.answers.Answer.TheVariants as answer
@@ -52,8 +52,8 @@ begin_answer_call p w count n may s room =
 
 -- a dispatcher with the same counts, and rings that show what they did
 same_shown : (p : Parts) (w : World) (d : Dispatcher) (q : CompletionQueue) → ShowsWorld p w → IsSameCount p.dispatcher d → d.is_between_calls ≡ true → Shows d w.requests
-    → ShowsCompletions p.shape q w.completions → p.completions.room ≤ q.room → ShowsWorld (record p { dispatcher = d; completions = q }) w
-same_shown p w d q s same between shows shown room =
+    → ShowsCompletions p.shape q w.completions → p.completions.room ≤ q.room → q.room ≤ q.spare → ShowsWorld (record p { dispatcher = d; completions = q }) w
+same_shown p w d q s same between shows shown room promised =
     let a = same.accepted in
     let o = same.outstanding in
     let r = same.room in
@@ -70,6 +70,7 @@ same_shown p w d q s same between shows shown room =
       between = between;
       room_to_post = omega arith;
       room_to_accept = omega arith;
+      promised = promised;
       numbers = omega arith;
       posts = omega arith;
     }
@@ -82,13 +83,18 @@ spent_goes p d count n may spent same h f =
       lawful = (subst (λ a. OrAgain a answer.Spent) (sym (begin_answer_spent p (world p.shape h) count n may f.shows spent)) refl, f.lawful);
     })
 
+-- the memory that outstanding requests may need is promised: so it is short for a call of one position or more alone
+short_for_some : (p : Parts) (w : World) (n : ℕ) → ShowsWorld p w → IsShortFor p n → 0 < n
+short_for_some p w n s (inl few_requests) = omega arith
+short_for_some p w n s (inr few_posts) = omega (arith, s.room_to_post, s.promised)
+
 pub again_goes : (p : Parts) (d : Dispatcher) (q : CompletionQueue) (count n : ℕ) → MayOpen p count n → p.dispatcher.accepted + n ≤ 2 ^ 63 - 1
-    → IsSameCount p.dispatcher d → d.is_between_calls ≡ true → ((r : Requests) → Shows p.dispatcher r → Shows d r) → q ≡ p.completions
+    → IsSameCount p.dispatcher d → d.is_between_calls ≡ true → ((r : Requests) → Shows p.dispatcher r → Shows d r) → q ≡ p.completions → IsShortFor p n
     → (h : History) → FitsApart p h → FitsApart (record p { dispatcher = d; completions = q }) ((step.Begin count, answer.Again) ∷ h)
-again_goes p d q count n may numbers same between shows kept h f =
+again_goes p d q count n may numbers same between shows kept short h f =
     subst (λ c. FitsApart (record p { dispatcher = d; completions = c }) ((step.Begin count, answer.Again) ∷ h)) (sym kept) (record {
-      shows = same_shown p (world p.shape h) d p.completions f.shows same between (shows _ f.shows.requests) f.shows.completions (omega arith);
-      lawful = (subst (λ a. OrAgain a answer.Again) (sym (begin_answer_call p (world p.shape h) count n may f.shows numbers)) (inr refl), f.lawful);
+      shows = same_shown p (world p.shape h) d p.completions f.shows same between (shows _ f.shows.requests) f.shows.completions (omega arith) f.shows.promised;
+      lawful = (subst (λ a. OrAgain a answer.Again) (sym (begin_answer_call p (world p.shape h) count n may f.shows numbers)) (inr (refl, short_for_some p (world p.shape h) n f.shows short)), f.lawful);
     })
 
 none_since : (c : Option Call) → false ≡ is_some c → c ≡ None
@@ -99,10 +105,10 @@ opened : (l : Submission) (count n : ℕ) (r : BeginAnswer) → false ≡ is_som
 opened l count n r none length answered = answered ∙ ap (ring.begin_beside l count) (none_since l.call none) ∙ ap (λ k. begin.Call k) (sym length)
 
 begun_shows : (p : Parts) (w : World) (s' : SubmissionQueue) (q : CompletionQueue) (d : Dispatcher) (count n : ℕ) → ShowsWorld p w → w.submission.call ≡ None → n ≡ call_length w.submission count
-    → ShowsSubmission p.shape s' (begun w.submission count) → ShowsCompletions p.shape q w.completions → q.room ≡ p.dispatcher.outstanding + n
+    → ShowsSubmission p.shape s' (begun w.submission count) → ShowsCompletions p.shape q w.completions → q.room ≡ p.dispatcher.outstanding + n → q.room ≤ q.spare
     → IsSameCount p.dispatcher d → n ≤ d.room → d.is_between_calls ≡ true → Shows d w.requests → p.dispatcher.accepted + n ≤ 2 ^ 63 - 1
     → ShowsWorld (record p { submissions = s'; completions = q; dispatcher = d }) (record w { submission = begun w.submission count })
-begun_shows p w s' q d count n s none length shown kept room same fits between shows numbers =
+begun_shows p w s' q d count n s none length shown kept room promised same fits between shows numbers =
     let a = same.accepted in
     let o = same.outstanding in
     let ps = s.posts in
@@ -115,17 +121,18 @@ begun_shows p w s' q d count n s none length shown kept room same fits between s
       between = between;
       room_to_post = subst (λ k. d.outstanding + k ≤ q.room) length (omega arith);
       room_to_accept = subst (λ k. k ≤ d.room) length fits;
+      promised = promised;
       numbers = subst (λ k. d.accepted + k ≤ 2 ^ 63 - 1) length (omega arith);
       posts = omega arith;
     }
 
 pub call_goes : (p : Parts) (s' : SubmissionQueue) (q : CompletionQueue) (d : Dispatcher) (count n : ℕ) (r : BeginAnswer) → MayOpen p count n → p.dispatcher.accepted + n ≤ 2 ^ 63 - 1
     → IsSameCount p.dispatcher d → n ≤ d.room → d.is_between_calls ≡ true → ((r : Requests) → Shows p.dispatcher r → Shows d r)
-    → ((g : Shape) (l : Completions) → ShowsCompletions g p.completions l → ShowsCompletions g q l) → q.room ≡ p.dispatcher.outstanding + n
+    → ((g : Shape) (l : Completions) → ShowsCompletions g p.completions l → ShowsCompletions g q l) → q.room ≡ p.dispatcher.outstanding + n → KeepsMemory p.completions q
     → ((g : Shape) (l : Submission) → ShowsSubmission g p.submissions l → r ≡ ring.begin_answer l count)
     → ((g : Shape) (l : Submission) → ShowsSubmission g p.submissions l → ShowsSubmission g s' (ring.after_begin l count r))
     → (h : History) → FitsApart p h → FitsApart (record p { submissions = s'; completions = q; dispatcher = d }) ((step.Begin count, begin_told r) ∷ h)
-call_goes p s' q d count n r may numbers same fits between shows kept room answered shown h f =
+call_goes p s' q d count n r may numbers same fits between shows kept room memory answered shown h f =
     let w = world p.shape h in
     let s = f.shows in
     let none : false ≡ is_some w.submission.call = may.no_call p.shape w.submission s.submission in
@@ -133,9 +140,13 @@ call_goes p s' q d count n r may numbers same fits between shows kept room answe
     let is : r ≡ begin.Call n = opened w.submission count n r none length (answered p.shape w.submission s.submission) in
     let after : ShowsSubmission p.shape s' (begun w.submission count) = subst (λ b. ShowsSubmission p.shape s' (ring.after_begin w.submission count b)) is (shown p.shape w.submission s.submission) in
     subst (λ b. FitsApart (record p { submissions = s'; completions = q; dispatcher = d }) ((step.Begin count, begin_told b) ∷ h)) (sym is) (record {
-      shows = begun_shows p w s' q d count n s (none_since w.submission.call none) length after (kept p.shape w.completions s.completions) room same fits between (shows w.requests s.requests) numbers;
+      shows = begun_shows p w s' q d count n s (none_since w.submission.call none) length after (kept p.shape w.completions s.completions) room memory.promised same fits between (shows w.requests s.requests) numbers;
       lawful = (subst (λ a. OrAgain a (answer.Call n)) (sym (begin_answer_call p w count n may s numbers)) (inl refl), f.lawful);
     })
+
+-- a Begin that is answered Again found memory short for its call
+pub short_for_call : (p : Parts) (count n : ℕ) → MayOpen p count n → IsShortFor p n → (h : History) → FitsApart p h → IsShortOfMemory p (world p.shape h) (step.Begin count)
+short_for_call p count n may short h f = subst (IsShortFor p) (may.positions p.shape (world p.shape h).submission f.shows.submission) short
 
 pub may_open : (p : Parts) (count waiting least n : ℕ) (in_call : Bool) → p.is_closed ≡ false → in_call ≡ false → ((g : Shape) (l : Submission) → ShowsSubmission g p.submissions l → in_call ≡ is_some l.call)
     → ((g : Shape) (l : Submission) → ShowsSubmission g p.submissions l → waiting ≡ pending l) → least ≡ min count waiting → n ≡ least → MayOpen p count n

@@ -8,7 +8,7 @@ use Rattle.uring_entry.specs.Words.{word_of}
 use Rattle.uring_entry.specs.Layout.{Entry, Completion, user_data_of}
 use Rattle.uring_entry.specs.Success.{posts_completion}
 use Rattle.uring_entry.specs.Submission.{Submission, Call, no_submission, taken, pending, entries_of, places_from, dropped, closed}
-use Rattle.uring_entry.specs.Requests.{Requests, no_request, entry_of, has_started, has_ended, is_outstanding, is_running, is_doomed, is_ready, doomed_result, cancel_result, no_bytes, with_call, with_ended, with_issued_end, with_started}
+use Rattle.uring_entry.specs.Requests.{Requests, no_request, entry_of, has_started, has_ended, is_outstanding, is_running, is_doomed, is_ready, doomed_result, cancel_result, no_bytes, with_call, with_ended, with_issued_end, with_started, entry_outstanding}
 use Rattle.uring_entry.specs.Preparation.{is_cancel, operation_of}
 use Rattle.uring_entry.specs.Completions.{Completions, no_completion, with_end, with_posted}
 use Rattle.uring_entry.specs.declared.outcomes.Outcome.{Outcome}
@@ -19,7 +19,7 @@ use Rattle.uring_rings.specs.CompletionRing.{CompletionQueue, ShowsCompletions}
 use Rattle.uring_rings.specs.declared.answers.end_answer.EndAnswer.TheVariants as ended_as
 use Rattle.uring_rings.specs.declared.answers.taken_counts.Taken.{Taken}
 use Rattle.uring_dispatch.specs.Dispatcher.{Dispatcher, Shows, HasStarted, HasEnded, HasFinished}
-use Rattle.uring_dispatch.specs.Answers.{issued, issued_waiting, finished, entry_outstanding}
+use Rattle.uring_dispatch.specs.Answers.{issued, issued_waiting, finished}
 use Rattle.uring_dispatch.specs.declared.issue_answer.Issued.{Issued}
 use Rattle.uring_dispatch.specs.declared.issue_answer.Issued.TheVariants as issue
 use Rattle.uring_dispatch.specs.declared.finish_answer.Finished.TheVariants as finish
@@ -83,6 +83,7 @@ closed_shows p w q d call s is all accepts few shown =
       between = accepts.between;
       room_to_post = omega arith;
       room_to_accept = omega arith;
+      promised = s.promised;
       numbers = omega arith;
       posts = omega arith;
     }
@@ -151,9 +152,9 @@ few_posted size l entry res bytes =
 -- The parts after an end: one request less is outstanding, and one promised post less is left at most.
 ended_shows : (p : Parts) (w : World) (d : Dispatcher) (q : CompletionQueue) (r : Requests) (entry : Entry) (res : ℤ) (bytes : List ℕ) → ShowsWorld p w
     → Shows d r → d.accepted ≡ p.dispatcher.accepted → d.outstanding + 1 ≡ p.dispatcher.outstanding → p.dispatcher.room ≤ d.room → d.is_between_calls ≡ p.dispatcher.is_between_calls
-    → ShowsCompletions p.shape q (with_end p.shape.cq w.completions entry res bytes) → p.completions.room ≤ q.room + 1
+    → ShowsCompletions p.shape q (with_end p.shape.cq w.completions entry res bytes) → p.completions.room ≤ q.room + 1 → (p.completions.room ≤ p.completions.spare → q.room ≤ q.spare)
     → ShowsWorld (record p { dispatcher = d; completions = q }) (record w { requests = r; completions = with_end p.shape.cq w.completions entry res bytes })
-ended_shows p w d q r entry res bytes s shows accepted outstanding room between shown left =
+ended_shows p w d q r entry res bytes s shows accepted outstanding room between shown left promised =
     let few = few_posted p.shape.cq w.completions entry res bytes in
     let to_post = s.room_to_post in
     let to_accept = s.room_to_accept in
@@ -168,6 +169,7 @@ ended_shows p w d q r entry res bytes s shows accepted outstanding room between 
       between = between ∙ s.between;
       room_to_post = omega arith;
       room_to_accept = omega arith;
+      promised = promised s.promised;
       numbers = omega arith;
       posts = omega arith;
     }
@@ -225,6 +227,7 @@ run_goes p d n op answered shows counts h f =
         between = counts.between ∙ s.between;
         room_to_post = omega arith;
         room_to_accept = omega arith;
+        promised = s.promised;
         numbers = omega arith;
         posts = omega arith;
       };
@@ -234,15 +237,15 @@ run_goes p d n op answered shows counts h f =
 pub issue_ended_goes : (p : Parts) (d : Dispatcher) (q : CompletionQueue) (n : ℕ) (res : ℤ) (entry : Entry)
     → ((r : Requests) → Shows p.dispatcher r → issue.Ended res ≡ issued r n) → ((r : Requests) → Shows p.dispatcher r → Some entry ≡ entry_outstanding r n)
     → ((r : Requests) → Shows p.dispatcher r → Shows d (with_issued_end r n res)) → HasEnded p.dispatcher d
-    → ((g : Shape) (l : Completions) → ShowsCompletions g p.completions l → ShowsCompletions g q (with_end g.cq l entry res no_bytes)) → p.completions.room ≤ q.room + 1
+    → ((g : Shape) (l : Completions) → ShowsCompletions g p.completions l → ShowsCompletions g q (with_end g.cq l entry res no_bytes)) → p.completions.room ≤ q.room + 1 → (p.completions.room ≤ p.completions.spare → q.room ≤ q.spare)
     → (h : History) → FitsApart p h → FitsApart (record p { dispatcher = d; completions = q }) ((step.Issue n, answer.Ended res no_bytes) ∷ h)
-issue_ended_goes p d q n res entry answered there shows counts shown left h f =
+issue_ended_goes p d q n res entry answered there shows counts shown left promised h f =
     let w = world p.shape h in
     let s = f.shows in
     let same = entry_there w.requests n entry (there w.requests s.requests) in
     record {
       shows = ended_shows p w d q (with_issued_end w.requests n res) (entry_of w.requests n) res no_bytes s (shows w.requests s.requests) counts.accepted counts.outstanding counts.room counts.between
-          (subst (λ e. ShowsCompletions p.shape q (with_end p.shape.cq w.completions e res no_bytes)) same (shown p.shape w.completions s.completions)) left;
+          (subst (λ e. ShowsCompletions p.shape q (with_end p.shape.cq w.completions e res no_bytes)) same (shown p.shape w.completions s.completions)) left promised;
       lawful = (ap issue_told (answered w.requests s.requests) ∙ issue_same w n, f.lawful);
     }
 
@@ -267,15 +270,15 @@ running_there r n e =
 pub finish_goes : (p : Parts) (d : Dispatcher) (q : CompletionQueue) (n : ℕ) (res : ℤ) (bytes : List ℕ) (entry : Entry)
     → ((r : Requests) → Shows p.dispatcher r → finish.Ended ≡ finished r n) → ((r : Requests) → Shows p.dispatcher r → Some entry ≡ entry_outstanding r n)
     → ((r : Requests) → Shows p.dispatcher r → Shows d (with_ended r n res bytes)) → HasFinished p.dispatcher d
-    → ((g : Shape) (l : Completions) → ShowsCompletions g p.completions l → ShowsCompletions g q (with_end g.cq l entry res bytes)) → p.completions.room ≤ q.room + 1
+    → ((g : Shape) (l : Completions) → ShowsCompletions g p.completions l → ShowsCompletions g q (with_end g.cq l entry res bytes)) → p.completions.room ≤ q.room + 1 → (p.completions.room ≤ p.completions.spare → q.room ≤ q.spare)
     → (h : History) → FitsApart p h → FitsApart (record p { dispatcher = d; completions = q }) ((step.Finish n, answer.Ended res bytes) ∷ h)
-finish_goes p d q n res bytes entry answered there shows counts shown left h f =
+finish_goes p d q n res bytes entry answered there shows counts shown left promised h f =
     let w = world p.shape h in
     let s = f.shows in
     let same = entry_there w.requests n entry (there w.requests s.requests) in
     record {
       shows = ended_shows p w d q (with_ended w.requests n res bytes) (entry_of w.requests n) res bytes s (shows w.requests s.requests) counts.accepted counts.outstanding counts.room counts.between
-          (subst (λ e. ShowsCompletions p.shape q (with_end p.shape.cq w.completions e res bytes)) same (shown p.shape w.completions s.completions)) left;
+          (subst (λ e. ShowsCompletions p.shape q (with_end p.shape.cq w.completions e res bytes)) same (shown p.shape w.completions s.completions)) left promised;
       lawful = (subst (λ b. FinishesApart b (answer.Ended res bytes)) (sym (running_there w.requests n (answered w.requests s.requests))) tt, f.lawful);
     }
 
@@ -297,6 +300,7 @@ close_goes p no_call h f = record {
     between = f.shows.between;
     room_to_post = f.shows.room_to_post;
     room_to_accept = f.shows.room_to_accept;
+    promised = f.shows.promised;
     numbers = f.shows.numbers;
     posts = f.shows.posts;
   };
@@ -327,9 +331,9 @@ finished_there p n h f answered none =
 
 -- New.
 
-pub new_fits : (p : Parts) → ShowsSubmission p.shape p.submissions no_submission → ShowsCompletions p.shape p.completions no_completion → Shows p.dispatcher no_request → p.dispatcher.is_between_calls ≡ true
+pub new_fits : (p : Parts) → ShowsSubmission p.shape p.submissions no_submission → ShowsCompletions p.shape p.completions no_completion → p.completions.room ≡ 0 → Shows p.dispatcher no_request → p.dispatcher.is_between_calls ≡ true
     → p.held ≡ [] → p.is_closed ≡ false → FitsApart p []
-new_fits p submission completions requests between held open_ring =
+new_fits p submission completions none_promised requests between held open_ring =
     let a : p.dispatcher.accepted ≡ 0 = requests.accepted in
     let o : p.dispatcher.outstanding ≡ 0 = requests.outstanding in
     record {
@@ -342,6 +346,7 @@ new_fits p submission completions requests between held open_ring =
         between = between;
         room_to_post = omega arith;
         room_to_accept = omega arith;
+        promised = omega arith;
         numbers = omega arith;
         posts = omega arith;
       };

@@ -9,7 +9,7 @@ use Rattle.uring_entry.specs.Submission.{Submission, Call, Place, staged, taken,
 use Rattle.uring_entry.specs.Completions.{Completions, next_to_reap, flushed, with_tail_loaded, with_reaped, with_head_stored}
 use Rattle.uring_rings.specs.SubmissionRing.{SubmissionQueue, ShowsSubmission}
 use Rattle.uring_rings.specs.SubmissionAnswers as ring
-use Rattle.uring_rings.specs.CompletionRing.{CompletionQueue, ShowsCompletions, after_reap}
+use Rattle.uring_rings.specs.CompletionRing.{CompletionQueue, ShowsCompletions, KeepsMemory, after_reap}
 use Rattle.uring_rings.specs.declared.answers.fill_answer.FillAnswer.{FillAnswer}
 use Rattle.uring_rings.specs.declared.answers.fill_answer.FillAnswer.TheVariants as fill
 use Rattle.uring_rings.specs.declared.answers.index_answer.IndexAnswer.{IndexAnswer}
@@ -45,14 +45,15 @@ on_submission p w q l s shows call held = record {
   between = s.between;
   room_to_post = subst (λ c. p.dispatcher.outstanding + positions_of c ≤ p.completions.room) (sym call) s.room_to_post;
   room_to_accept = subst (λ c. positions_of c ≤ p.dispatcher.room) (sym call) s.room_to_accept;
+  promised = s.promised;
   numbers = subst (λ c. p.dispatcher.accepted + positions_of c ≤ 2 ^ 63 - 1) (sym call) s.numbers;
   posts = s.posts;
 }
 
 -- A change of the completion ring alone, which posts nothing.
-pub on_completions : (p : Parts) (w : World) (q : CompletionQueue) (l : Completions) → ShowsWorld p w → ShowsCompletions p.shape q l → q.room ≡ p.completions.room
+pub on_completions : (p : Parts) (w : World) (q : CompletionQueue) (l : Completions) → ShowsWorld p w → ShowsCompletions p.shape q l → q.room ≡ p.completions.room → KeepsMemory p.completions q
     → l.posted ≡ w.completions.posted → ShowsWorld (record p { completions = q }) (record w { completions = l })
-on_completions p w q l s shows room posted = record {
+on_completions p w q l s shows room memory posted = record {
   submission = s.submission;
   completions = shows;
   requests = s.requests;
@@ -61,6 +62,7 @@ on_completions p w q l s shows room posted = record {
   between = s.between;
   room_to_post = subst (λ r. p.dispatcher.outstanding + positions_of w.submission.call ≤ r) (sym room) s.room_to_post;
   room_to_accept = s.room_to_accept;
+  promised = memory.promised;
   numbers = s.numbers;
   posts = subst (λ cs. length cs + p.dispatcher.outstanding ≤ p.dispatcher.accepted) (sym posted) s.posts;
 }
@@ -156,44 +158,44 @@ load_head_goes p q head answered shown h f =
 pub flush_goes : (p : Parts) (q : CompletionQueue) (moved : ℕ)
     → ((g : Shape) (l : Completions) → ShowsCompletions g p.completions l → moved ≡ (flushed g.cq l).put - l.put)
     → ((g : Shape) (l : Completions) → ShowsCompletions g p.completions l → ShowsCompletions g q (flushed g.cq l))
-    → q.room ≡ p.completions.room
+    → q.room ≡ p.completions.room → KeepsMemory p.completions q
     → (h : History) → FitsApart p h → FitsApart (record p { completions = q }) ((step.Flush, answer.Moved moved) ∷ h)
-flush_goes p q moved answered shown room h f = record {
-  shows = on_completions p (world p.shape h) q (flushed p.shape.cq (world p.shape h).completions) f.shows (shown p.shape _ f.shows.completions) room refl;
+flush_goes p q moved answered shown room memory h f = record {
+  shows = on_completions p (world p.shape h) q (flushed p.shape.cq (world p.shape h).completions) f.shows (shown p.shape _ f.shows.completions) room memory refl;
   lawful = (ap (λ n. answer.Moved n) (answered p.shape _ f.shows.completions), f.lawful);
 }
 
 pub load_cq_tail_goes : (p : Parts) (q : CompletionQueue) (tail : ℕ)
     → ((g : Shape) (l : Completions) → ShowsCompletions g p.completions l → tail ≡ word_of g.start l.put)
     → ((g : Shape) (l : Completions) → ShowsCompletions g p.completions l → ShowsCompletions g q (with_tail_loaded l))
-    → q.room ≡ p.completions.room
+    → q.room ≡ p.completions.room → KeepsMemory p.completions q
     → (h : History) → FitsApart p h → FitsApart (record p { completions = q }) ((step.LoadCqTail, answer.Tail tail) ∷ h)
-load_cq_tail_goes p q tail answered shown room h f = record {
-  shows = on_completions p (world p.shape h) q (with_tail_loaded (world p.shape h).completions) f.shows (shown p.shape _ f.shows.completions) room refl;
+load_cq_tail_goes p q tail answered shown room memory h f = record {
+  shows = on_completions p (world p.shape h) q (with_tail_loaded (world p.shape h).completions) f.shows (shown p.shape _ f.shows.completions) room memory refl;
   lawful = (ap (λ n. answer.Tail n) (answered p.shape _ f.shows.completions), f.lawful);
 }
 
-reap_shows : (p : Parts) (w : World) (q : CompletionQueue) (r : Option Completion) → ShowsWorld p w → ShowsCompletions p.shape q (after_reap w.completions r) → q.room ≡ p.completions.room
+reap_shows : (p : Parts) (w : World) (q : CompletionQueue) (r : Option Completion) → ShowsWorld p w → ShowsCompletions p.shape q (after_reap w.completions r) → q.room ≡ p.completions.room → KeepsMemory p.completions q
     → ShowsWorld (record p { completions = q }) (reaping w (reap_answer_of r))
-reap_shows p w q None s shows room = on_completions p w q w.completions s shows room refl
-reap_shows p w q (Some completion) s shows room = on_completions p w q (with_reaped w.completions completion) s shows room refl
+reap_shows p w q None s shows room memory = on_completions p w q w.completions s shows room memory refl
+reap_shows p w q (Some completion) s shows room memory = on_completions p w q (with_reaped w.completions completion) s shows room memory refl
 
 pub reap_goes : (p : Parts) (q : CompletionQueue) (r : Option Completion)
     → ((g : Shape) (l : Completions) → ShowsCompletions g p.completions l → r ≡ next_to_reap l)
     → ((g : Shape) (l : Completions) → ShowsCompletions g p.completions l → ShowsCompletions g q (after_reap l r))
-    → q.room ≡ p.completions.room
+    → q.room ≡ p.completions.room → KeepsMemory p.completions q
     → (h : History) → FitsApart p h → FitsApart (record p { completions = q }) ((step.Reap, reap_answer_of r) ∷ h)
-reap_goes p q r answered shown room h f = record {
-  shows = reap_shows p (world p.shape h) q r f.shows (shown p.shape _ f.shows.completions) room;
+reap_goes p q r answered shown room memory h f = record {
+  shows = reap_shows p (world p.shape h) q r f.shows (shown p.shape _ f.shows.completions) room memory;
   lawful = (ap reap_answer_of (answered p.shape _ f.shows.completions), f.lawful);
 }
 
 pub store_cq_head_goes : (p : Parts) (q : CompletionQueue) (head : ℕ)
     → ((g : Shape) (l : Completions) → ShowsCompletions g p.completions l → head ≡ word_of g.start (length l.reaped))
     → ((g : Shape) (l : Completions) → ShowsCompletions g p.completions l → ShowsCompletions g q (with_head_stored l))
-    → q.room ≡ p.completions.room
+    → q.room ≡ p.completions.room → KeepsMemory p.completions q
     → (h : History) → FitsApart p h → FitsApart (record p { completions = q }) ((step.StoreCqHead, answer.Head head) ∷ h)
-store_cq_head_goes p q head answered shown room h f = record {
-  shows = on_completions p (world p.shape h) q (with_head_stored (world p.shape h).completions) f.shows (shown p.shape _ f.shows.completions) room refl;
+store_cq_head_goes p q head answered shown room memory h f = record {
+  shows = on_completions p (world p.shape h) q (with_head_stored (world p.shape h).completions) f.shows (shown p.shape _ f.shows.completions) room memory refl;
   lawful = (ap (λ n. answer.Head n) (answered p.shape _ f.shows.completions), f.lawful);
 }

@@ -88,6 +88,7 @@ taken_shows p w q call held s is shown holds = record {
   between = s.between;
   room_to_post = subst (λ c. p.dispatcher.outstanding + positions_of c ≤ p.completions.room) is s.room_to_post;
   room_to_accept = subst (λ c. positions_of c ≤ p.dispatcher.room) is s.room_to_accept;
+  promised = s.promised;
   numbers = subst (λ c. p.dispatcher.accepted + positions_of c ≤ 2 ^ 63 - 1) is s.numbers;
   posts = s.posts;
 }

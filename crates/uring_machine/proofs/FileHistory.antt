@@ -1,4 +1,6 @@
--- What an event makes of the files of a history.
+-- What an event makes of the files of a history: a Finish that ends its request does what its operation does (`files_ended`), and no other step changes a file (`files_kept`).
+-- From `Moves`: doomed requests end with a fault and cancels are on no file, so their ends change none.
+-- Stable: other crates may import `files_ended` and `files_kept`.
 use Rattle.std.proofs.Common.{◌≡◌, ℕ, ℤ, negsuc, ◌==◌, List, [], ◌∷◌, ◌++◌, Bool, true, false, if◌then◌else◌, refl, ◌∙◌, ap}
 use Rattle.std.specs.List.{list_any}
 use Rattle.std.proofs.lemmas.Bool.{or_left, or_right, eqb-true, eq-eqb}

@@ -1,4 +1,6 @@
--- What stays of the requests as a history goes on.
+-- What stays of the requests as a history goes on: those accepted by then keep their entries and groups, and the doomed stay doomed.
+-- By `Change`, event by event (`event_grows`), and over a history by induction (`grows`).
+-- Stable: other crates may import `Grows` with its fields, as `same_entry`, and `event_grows`, `grows`, `lawful_before`.
 use Rattle.std.proofs.Common.{◌≡◌, ℕ, ◌<◌, ◌≤◌, ℤ, true, List, [], ◌∷◌, ◌++◌, length, refl, sym, subst, ◌∙◌, ◌⊎◌, inl, inr, arith}
 use Rattle.uring_entry.specs.Shape.{Shape}
 use Rattle.uring_entry.specs.Layout.{Entry}

@@ -5,7 +5,7 @@ use Rattle.std.proofs.lemmas.Bool.{and_cases, and_from, both_ways, not-false, eq
 use Rattle.std.proofs.lemmas.Bool.Decides.{Decides-int_eq}
 use Rattle.std.proofs.lemmas.List.Folds.{list_any_at}
 use Rattle.std.proofs.lemmas.Option.{slice_get_within, get_or_from_slice_get}
-use Rattle.uring_entry.specs.Shape.{Shape, IsShape}
+use Rattle.uring_entry.specs.Shape.{Shape}
 use Rattle.uring_entry.specs.declared.errno.TheConstants.{EALREADY, ECANCELED}
 use Rattle.uring_entry.specs.Requests.{Requests, Ending, has_started, has_ended, is_joined, is_draining, is_doomed, is_ready, is_running, waits_for, doomed_result, cancel_result, result_for, target_of}
 use Rattle.uring_entry.proofs.RequestLemmas.{is_ready-inside}
@@ -73,13 +73,13 @@ doomed_just_before g w n a bytes (cancels _ outstanding idle spared ready cancel
     let e : cancel_result w.requests n ≡ neg_ℤ ECANCELED = cc in
     absurd (both_ways _ (cancel_unlike w.requests (target_of w.requests n)) ((Decides-int_eq (cancel_result w.requests n) (neg_ℤ ECANCELED)).1 e))
 
-pub were_doomed : (g : Shape) (after before : History) (n : ℕ) (bytes : List ℕ) → IsShape g → IsLawfulApart g (after ++ (step.Issue n, answer.Ended (neg_ℤ ECANCELED) bytes) ∷ before) → is_doomed (world g before).requests n ≡ true
-were_doomed g after before n bytes shape lawful =
+pub were_doomed : (g : Shape) (after before : History) (n : ℕ) (bytes : List ℕ) → IsLawfulApart g (after ++ (step.Issue n, answer.Ended (neg_ℤ ECANCELED) bytes) ∷ before) → is_doomed (world g before).requests n ≡ true
+were_doomed g after before n bytes lawful =
     let l = lawful_before g after ((step.Issue n, answer.Ended (neg_ℤ ECANCELED) bytes) ∷ before) lawful in
     doomed_just_before g (world g before) n _ bytes (change_of g (world g before) (step.Issue n) _ l.0) refl
 
-pub stay_doomed : (g : Shape) (after before : History) (n : ℕ) → IsShape g → IsLawfulApart g (after ++ before) → n < length (world g before).requests.accepted → is_doomed (world g before).requests n ≡ true → is_doomed (world g (after ++ before)).requests n ≡ true
-stay_doomed g after before n shape lawful within doomed = (grows g after before lawful).stays_doomed n within doomed
+pub stay_doomed : (g : Shape) (after before : History) (n : ℕ) → IsLawfulApart g (after ++ before) → n < length (world g before).requests.accepted → is_doomed (world g before).requests n ≡ true → is_doomed (world g (after ++ before)).requests n ≡ true
+stay_doomed g after before n lawful within doomed = (grows g after before lawful).stays_doomed n within doomed
 
 -- Links and drains.
 
@@ -110,9 +110,9 @@ same_wait r later n m g lt within =
     ∙ ap (λ b. is_joined r m n || b || is_draining later n) (g.same_drain m (omega arith))
     ∙ ap (λ b. is_joined r m n || is_draining r m || b) (g.same_drain n within)
 
-pub waits : (g : Shape) (after before : History) (m n : ℕ) (a : Answer) → IsShape g → IsLawfulApart g (after ++ (step.Issue n, a) ∷ before) → IsStart (world g before).requests n a → m < n
+pub waits : (g : Shape) (after before : History) (m n : ℕ) (a : Answer) → IsLawfulApart g (after ++ (step.Issue n, a) ∷ before) → IsStart (world g before).requests n a → m < n
     → waits_for (world g (after ++ (step.Issue n, a) ∷ before)).requests n m ≡ true → times_ended before m ≡ 1
-waits g after before m n a shape lawful start lt waiting =
+waits g after before m n a lawful start lt waiting =
     let l = lawful_before g after ((step.Issue n, a) ∷ before) lawful in
     let c = change_of g (world g before) (step.Issue n) a l.0 in
     let at = started_ready g (world g before) n a c start in

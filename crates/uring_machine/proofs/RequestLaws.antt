@@ -1,4 +1,6 @@
--- The laws of requests.
+-- The laws `each_ends_once` and `least_can_go_on`, and what can be issued.
+-- From what is sound of the requests, and from the answer that is called for.
+-- Stable: other crates may import `issue_goes` and `issued_cases`.
 use Rattle.std.proofs.Common.{◌≡◌, ℕ, ◌<◌, ◌≤◌, ◌==◌, Bool, true, false, not, ◌||◌, List, Option, Some, None, length, count_by, ℤ, if◌then◌else◌, refl, sym, subst, inl, inr, arith}
 use Rattle.std.specs.List.{list_any}
 use Rattle.std.proofs.lemmas.Bool.{and_parts, and_cases, ltb-true, lt-ltb, both_ways, cases_Bool, or_cases, not-false, not-true, false_from_ne_true}
@@ -9,7 +11,8 @@ use Rattle.uring_entry.proofs.RequestLemmas.{least_of-goes_on}
 use Rattle.uring_machine.specs.Laws.{LeastCanGoOn, EachEndsOnce, IsIssued}
 use Rattle.uring_entry.specs.Preparation.{is_cancel}
 use Rattle.uring_machine.specs.World.{World}
-use Rattle.uring_machine.specs.Answers.{issue_answer}
+use Rattle.uring_machine.specs.Answers.{IsEnded, issue_answer}
+use Rattle.uring_machine.specs.declared.answers.Answer.{Answer}
 use Rattle.uring_machine.specs.declared.answers.Answer.TheVariants as answer
 use Rattle.uring_machine.specs.Histories.{History, world, IsLawfulApart}
 use Rattle.uring_machine.proofs.SoundRequests.{IsSoundRequests}
@@ -27,11 +30,17 @@ answer_goes true false false false cancel as_doomed as_cancel o r d = absurd (le
 answer_goes true false false true true as_doomed as_cancel o r d = tt
 answer_goes true false false true false as_doomed as_cancel o r d = tt
 
-issue_goes : (w : World) (n : ℕ) → is_issuable w.requests n ≡ true → IsIssued (issue_answer w n)
+-- what can be issued is not refused: it runs, or ends
+pub issue_goes : (w : World) (n : ℕ) → is_issuable w.requests n ≡ true → IsIssued (issue_answer w n)
 issue_goes w n issuable =
     let p = and_parts _ _ issuable in
     let q = and_parts _ _ p.0 in
     answer_goes (is_outstanding w.requests n) (is_running w.requests n) (is_doomed w.requests n) (is_ready w.requests n) (is_cancel (entry_of w.requests n)) (doomed_result w.requests n) (cancel_result w.requests n) q.0 (not-true _ q.1) p.1
+
+-- an Issue that isn't refused runs or ends
+pub issued_cases : (a : Answer) → IsIssued a → (a ≡ answer.Run → ⊥) → (IsEnded a → ⊥) → ⊥
+issued_cases answer.Run issued not_run not_ended = not_run refl
+issued_cases a issued not_run not_ended = not_ended issued
 
 -- what can be issued is outstanding
 issuable_outstanding : (r : Requests) (n : ℕ) → is_issuable r n ≡ true → is_outstanding r n ≡ true

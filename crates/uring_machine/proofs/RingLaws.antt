@@ -1,9 +1,9 @@
--- What the laws of the rings say, from what is sound.
+-- The laws `reaped_begin_posted` and `nothing_after_close`, from what is sound.
 use Rattle.std.proofs.Common.{◌≡◌, ℕ, ◌≤◌, true, false, [], ◌∷◌, ◌++◌, length, take, drop, Option, Some, None, is_some, refl, sym, subst, ap, ◌∙◌, cond, arith, append_assoc}
 use Rattle.std.specs.List.{list_any}
 use Rattle.std.proofs.lemmas.Bool.{or_from}
 use Rattle.std.proofs.lemmas.List.{take-append-drop, take-take, length-drop, length-take}
-use Rattle.uring_entry.specs.Shape.{Shape, IsShape}
+use Rattle.uring_entry.specs.Shape.{Shape}
 use Rattle.uring_entry.specs.Completions.{Completions}
 use Rattle.uring_machine.specs.World.{World, happens}
 use Rattle.uring_machine.specs.Histories.{History, world, IsLawfulApart}
@@ -24,6 +24,7 @@ begin_posted size l s =
       put_posted = s.put_posted;
       ring_holds = omega arith;
       few_stand = omega (arith, length-drop (length l.reaped) (take l.put l.posted), length-take l.put l.posted);
+      full_ring = s.full_ring;
     }
 
 -- the ring is closed, and no call is open
@@ -70,5 +71,5 @@ stays_shut g ((s, a) ∷ after) before lawful =
     let k = shut_stays g _ s a c i.shut in
     record { shut = k.0; none_in = or_from _ _ k.1 i.none_in }
 
-pub nothing_after : (g : Shape) (after before : History) → IsShape g → IsLawfulApart g (after ++ (step.Close, answer.Shut) ∷ before) → list_any takes_in after ≡ false
-nothing_after g after before shape lawful = (stays_shut g after before lawful).none_in
+pub nothing_after : (g : Shape) (after before : History) → IsLawfulApart g (after ++ (step.Close, answer.Shut) ∷ before) → list_any takes_in after ≡ false
+nothing_after g after before lawful = (stays_shut g after before lawful).none_in

@@ -1,4 +1,6 @@
--- What runs in a lawful history can be asked of files.
+-- What runs in a lawful history can be asked of files: its entry has no fault, since a faulty request is doomed, and it is no cancel, since a cancel ends as it is issued.
+-- By `Moves` and induction over the history for the cancels, and by `started_free` for the faults.
+-- Stable: other crates may import `running_asks`, `no_cancel` and `entry_stays`.
 use Rattle.std.proofs.Common.{◌≡◌, ℕ, ◌==◌, ◌<◌, List, [], ◌∷◌, length, true, false, Option, Some, None, is_some, refl, subst, ◌∙◌, ap, inl, inr}
 use Rattle.std.proofs.lemmas.Bool.{and_parts, both_ways, eqb-true, false_from_ne_true}
 use Rattle.std.proofs.lemmas.List.{get_or_append_left}

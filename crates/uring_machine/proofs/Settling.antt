@@ -1,24 +1,24 @@
 -- What the steps make that settle requests.
-use Rattle.std.proofs.Common.{◌≡◌, ℕ, ◌+◌, ◌-◌, ◌^◌, ◌≤◌, ℤ, Bool, true, false, not, ◌||◌, List, [], ◌∷◌, ◌++◌, length, Option, Some, None, if◌then◌else◌, refl, sym, subst, ◌∙◌, ap, arith, inl, inr, append_assoc, length-append}
+use Rattle.std.proofs.Common.{◌≡◌, ℕ, ◌+◌, ◌-◌, ◌^◌, ◌≤◌, ℤ, Bool, true, false, not, ◌||◌, List, [], ◌∷◌, ◌++◌, length, Option, Some, None, if◌then◌else◌, refl, sym, subst, ◌∙◌, ap, arith, inl, inr, length-append}
 use Rattle.std.proofs.lemmas.Bool.{and_parts, and_from, or_cases, both_ways, not-true}
 use Rattle.std.proofs.lemmas.List.Folds.{list_all-append}
 use Rattle.uring_entry.specs.Shape.{Shape}
 use Rattle.uring_entry.specs.Preparation.{is_cancel}
-use Rattle.uring_entry.specs.Requests.{Requests, entry_of, has_ended, is_outstanding, is_running, is_issuable, is_doomed, is_ready, doomed_result, cancel_result, no_bytes, next_of, least_of}
+use Rattle.uring_entry.specs.Requests.{Requests, entry_of, has_ended, is_outstanding, is_running, is_issuable, is_doomed, is_ready, doomed_result, cancel_result, no_bytes, next_of, least_of, outstanding_in}
 use Rattle.uring_entry.proofs.BelowLemmas.{least_below-tells, least_below-out}
 use Rattle.uring_entry.proofs.RequestLemmas.{least_of-goes_on, is_running-started_same}
-use Rattle.uring_dispatch.specs.Counts.{outstanding_in}
 use Rattle.uring_machine.specs.World.{World, issuing, finishing}
 use Rattle.uring_machine.specs.Answers.{IsEnded, FinishesApart, next_answer_of}
-use Rattle.uring_machine.specs.Histories.{History, world}
+use Rattle.uring_machine.specs.Histories.{Event, History, world, history_of}
 use Rattle.uring_files.specs.Contents.{FileContents}
 use Rattle.uring_machine.specs.Core.{Parts, FitsApart}
 use Rattle.uring_machine.specs.Machine.{Holding, Fits}
-use Rattle.uring_machine.specs.Settling.{is_issue_or_finish, just_started, settling_step, AreSettling, HasSettled, IsSettled}
+use Rattle.uring_machine.specs.Settling.{is_issue_or_finish, started_last, settling_step, AreSettling, HasSettled, IsSettled}
 use Rattle.uring_machine.specs.Direct.{started_by}
 use Rattle.uring_machine.specs.declared.steps.Step.TheVariants as step
 use Rattle.uring_machine.specs.declared.answers.Answer.{Answer}
 use Rattle.uring_machine.specs.declared.answers.Answer.TheVariants as answer
+use Rattle.uring_machine.proofs.Following.{history_of-cons, history_of-append}
 use Rattle.uring_machine.proofs.Numbers.{few_outstanding}
 use Rattle.uring_machine.proofs.Outstanding.{ended_less, none_outstanding, count_below-zero}
 
@@ -99,14 +99,14 @@ finished_least r n a told other is =
 
 -- events that settle further, behind others that did
 
-started-append : (later earlier : History) → just_started earlier ≡ None → just_started (later ++ earlier) ≡ just_started later
-started-append [] earlier none = none
-started-append (event ∷ later) earlier none = refl
+started-append : (started : Option ℕ) (earlier later : List Event) → started_last started (earlier ++ later) ≡ started_last (started_last started earlier) later
+started-append started [] later = refl
+started-append started (event ∷ earlier) later = started-append (started_by event) earlier later
 
-settling-append : (g : Shape) (before earlier later : History) → just_started earlier ≡ None → AreSettling g (earlier ++ before) later → AreSettling g before earlier → AreSettling g before (later ++ earlier)
-settling-append g before earlier [] none l e = e
-settling-append g before earlier ((s, a) ∷ later) none l e =
-    (rw (started-append later earlier none, append_assoc later earlier before) l.0, settling-append g before earlier later none l.1 e)
+settling-append : (g : Shape) (before : History) (started : Option ℕ) (earlier later : List Event) → AreSettling g before started earlier → AreSettling g (history_of earlier ++ before) (started_last started earlier) later → AreSettling g before started (earlier ++ later)
+settling-append g before started [] later e l = l
+settling-append g before started ((s, a) ∷ earlier) later e l =
+    (e.0, settling-append g ((s, a) ∷ before) (started_by (s, a)) earlier later e.1 (subst (λ h. AreSettling g h (started_last (started_by (s, a)) earlier) later) (history_of-cons (s, a) earlier before) l))
 
 -- how many are outstanding
 pub outstanding_of : (m : Holding) (h : History) → Fits m h → m.core.dispatcher.outstanding ≡ outstanding_in (world m.core.shape h).requests
@@ -129,12 +129,14 @@ settled_run old asked new n a b c h same kept next ran fits asked_fits new_fits 
     let tells = issuable_tells r n (next_tells r n named) in
     let unended : has_ended r n ≡ false = not-true _ (and_parts _ _ tells.0).1 in
     record {
-      events = (step.Finish n, c) ∷ (step.Issue n, b) ∷ [];
-      issues_and_finishes = refl;
-      settling = (rw ran refl, (issued_next r n named, tt));
+      settles = record {
+        events = (step.Issue n, b) ∷ (step.Finish n, c) ∷ [];
+        issues_and_finishes = refl;
+        settling = (issued_next r n named, (rw ran refl, tt));
+        fits = new_fits;
+        many = refl;
+      };
       none_started = refl;
-      fits = new_fits;
-      many = refl;
       few = omega arith;
       fewer =
           one_fewer old new h ((step.Finish n, c) ∷ (step.Issue n, answer.Run) ∷ h) (kept ∙ same) fits now
@@ -150,12 +152,14 @@ settled_end old asked new n a b h same kept next other fits asked_fits new_fits 
     let named : answer.Next n ≡ next_answer_of (next_of r) = subst (λ k. answer.Next n ≡ next_answer_of (next_of (world k h).requests)) (sym kept) (sym next ∙ asked_fits.core.lawful.0) in
     let tells = issuable_tells r n (next_tells r n named) in
     record {
-      events = (step.Issue n, b) ∷ [];
-      issues_and_finishes = refl;
-      settling = (issued_next r n named, tt);
+      settles = record {
+        events = (step.Issue n, b) ∷ [];
+        issues_and_finishes = refl;
+        settling = (issued_next r n named, tt);
+        fits = new_fits;
+        many = refl;
+      };
       none_started = not_started n b other;
-      fits = new_fits;
-      many = refl;
       few = omega arith;
       fewer =
           one_fewer old new h ((step.Issue n, b) ∷ h) (kept ∙ same) fits new_fits
@@ -173,12 +177,14 @@ settled_finish old asked new n a b h same kept other fits least asked_fits new_f
     let told : a ≡ next_answer_of (next_of r) = subst (λ k. a ≡ next_answer_of (next_of (world k h).requests)) (sym kept) asked_fits.core.lawful.0 in
     let running : is_running r n ≡ true = least_runs r n a told other is in
     record {
-      events = (step.Finish n, b) ∷ [];
-      issues_and_finishes = refl;
-      settling = (finished_least r n a told other is, tt);
+      settles = record {
+        events = (step.Finish n, b) ∷ [];
+        issues_and_finishes = refl;
+        settling = (finished_least r n a told other is, tt);
+        fits = new_fits;
+        many = refl;
+      };
       none_started = refl;
-      fits = new_fits;
-      many = refl;
       few = omega arith;
       fewer =
           one_fewer old new h ((step.Finish n, b) ∷ h) (kept ∙ same) fits new_fits
@@ -195,35 +201,36 @@ some_least m h fits some none =
 -- what was settled so far, and what is settled then
 pub settled_more : (first old new : Holding) (h : History) (count more ended : ℕ) → new.core.shape ≡ old.core.shape → HasSettled first old h count ended → ((k : History) → Fits old k → HasSettled old new k more 1) → HasSettled first new h (count + more) (ended + 1)
 settled_more first old new h count more ended same before next =
-    let last = next (before.events ++ h) before.fits in
+    let b = before.settles in
+    let last = next (history_of b.events ++ h) b.fits in
+    let l = last.settles in
+    let behind : AreSettling new.core.shape (history_of b.events ++ h) (started_last None b.events) l.events = subst (λ started. AreSettling new.core.shape (history_of b.events ++ h) started l.events) (sym before.none_started) l.settling in
     record {
-      events = last.events ++ before.events;
-      issues_and_finishes = list_all-append is_issue_or_finish last.events before.events ∙ and_from _ _ last.issues_and_finishes before.issues_and_finishes;
-      settling = settling-append new.core.shape h before.events last.events before.none_started last.settling (subst (λ g. AreSettling g h before.events) (sym same) before.settling);
-      none_started = started-append last.events before.events before.none_started ∙ last.none_started;
-      fits = subst (λ k. Fits new k) (sym (append_assoc last.events before.events h)) last.fits;
-      many = omega (arith, length-append last.events before.events, last.many, before.many);
+      settles = record {
+        events = b.events ++ l.events;
+        issues_and_finishes = list_all-append is_issue_or_finish b.events l.events ∙ and_from _ _ b.issues_and_finishes l.issues_and_finishes;
+        settling = settling-append new.core.shape h None b.events l.events (subst (λ g. AreSettling g h None b.events) (sym same) b.settling) behind;
+        fits = subst (λ k. Fits new k) (sym (history_of-append b.events l.events h)) l.fits;
+        many = omega (arith, length-append b.events l.events, l.many, b.many);
+      };
+      none_started = started-append None b.events l.events ∙ ap (λ started. started_last started l.events) before.none_started ∙ last.none_started;
       few = omega (arith, last.few, before.few);
       fewer = omega (arith, last.fewer, before.fewer);
     }
 
 -- nothing was settled yet
 pub settled_none : (m : Holding) (h : History) → Fits m h → HasSettled m m h 0 0
-settled_none m h fits = record { events = []; issues_and_finishes = refl; settling = tt; none_started = refl; fits = fits; many = refl; few = omega arith; fewer = omega arith }
+settled_none m h fits = record { settles = record { events = []; issues_and_finishes = refl; settling = tt; fits = fits; many = refl }; none_started = refl; few = omega arith; fewer = omega arith }
 
 -- all that was outstanding was settled
 pub settled_all : (old new : Holding) (h : History) (count ended : ℕ) → new.core.shape ≡ old.core.shape → Fits old h → ended ≡ outstanding_in (world old.core.shape h).requests → HasSettled old new h count ended → IsSettled new h count
 settled_all old new h count ended same fits all s =
     record {
-      events = s.events;
-      issues_and_finishes = s.issues_and_finishes;
-      settling = s.settling;
-      fits = s.fits;
-      many = s.many;
+      settles = s.settles;
       few = omega (arith, s.few, all, ap (λ g. outstanding_in (world g h).requests) same);
       none_outstanding =
-          none_outstanding (world new.core.shape (s.events ++ h)).requests
-          (omega (arith, s.fewer, all, outstanding_of old h fits, outstanding_of new (s.events ++ h) s.fits));
+          none_outstanding (world new.core.shape (history_of s.settles.events ++ h)).requests
+          (omega (arith, s.fewer, all, outstanding_of old h fits, outstanding_of new (history_of s.settles.events ++ h) s.settles.fits));
     }
 
 -- this number is how many are outstanding

@@ -22,7 +22,7 @@ first_submission : (size : ℕ) → IsSoundSubmission size no_submission
 first_submission size = record { seen_first = omega arith; call_published = omega arith; within_call = omega arith; few = omega arith }
 
 first_completions : (size : ℕ) → IsSoundCompletions size no_completion
-first_completions size = record { begins = refl; reaped_seen = omega arith; seen_put = omega arith; put_posted = omega arith; seen_head_head = omega arith; head_reaped = omega arith; fits = omega arith }
+first_completions size = record { begins = refl; reaped_seen = omega arith; seen_put = omega arith; put_posted = omega arith; seen_head_head = omega arith; head_reaped = omega arith; fits = omega arith; full_ring = λ waits. absurd (omega arith) }
 
 first_sound : (g : Shape) → IsSound g at_first
 first_sound g = record { submission = first_submission g.sq; completions = first_completions g.cq; requests = first_requests }

@@ -1,6 +1,6 @@
 -- What holds of both rings' lists in every lawful history.
-use Rattle.std.proofs.Common.{◌≡◌, ℕ, ◌+◌, ◌-◌, ◌<◌, ◌≤◌, Bool, true, false, eqb, List, [], ◌∷◌, ◌++◌, length, take, map, Option, Some, None, slice_get, cond, refl, sym, ap, ◌∙◌, arith}
-use Rattle.std.proofs.lemmas.Bool.{ltb-true, eqb-true, eqb-false, and_parts}
+use Rattle.std.proofs.Common.{◌≡◌, ℕ, ◌+◌, ◌-◌, ◌<◌, ◌≤◌, Bool, true, false, eqb, List, [], ◌∷◌, ◌++◌, length, take, map, Option, Some, None, slice_get, cond, refl, sym, ap, ◌∙◌, arith, inl, inr}
+use Rattle.std.proofs.lemmas.Bool.{ltb-true, ltb-false, eqb-true, eqb-false, and_cases, and_parts}
 use Rattle.std.proofs.lemmas.List.{length_push, length-append, length-map, take-append-le, take_more}
 use Rattle.std.proofs.lemmas.List.Sums.{sum_by_push}
 use Rattle.std.proofs.lemmas.Option.{slice_get_within, get_or_from_slice_get}
@@ -18,6 +18,7 @@ pub record IsSoundCompletions (size : ℕ) (l : Completions) : Type 0 where
   pub seen_head_head : l.seen_head ≤ l.head
   pub head_reaped : l.head ≤ length l.reaped
   pub fits : l.put ≤ l.seen_head + size
+  pub full_ring : l.put < length l.posted → l.put ≡ l.seen_head + size
 
 posted_begins : (xs ys : List Completion) (c : Completion) → length xs ≤ length ys → xs ≡ take (length xs) ys → xs ≡ take (length xs) (ys ++ c ∷ [])
 posted_begins xs ys c within e = e ∙ sym (take-append-le (length xs) ys (c ∷ []) within)
@@ -26,6 +27,13 @@ pub post_sound : (size : ℕ) (l : Completions) (c : Completion) → IsSoundComp
 post_sound size l c s = by_room (has_room size l) refl where
   room_tells : has_room size l ≡ true → (l.put ≡ length l.posted) × (l.put - l.seen_head < size)
   room_tells e = let p = and_parts _ _ e in (eqb-true _ _ p.0, ltb-true _ _ p.1)
+
+  no_room : has_room size l ≡ false → l.put ≡ l.seen_head + size
+  no_room e =
+      elim (and_cases (eqb l.put (length l.posted)) _ e) [
+        | inl waiting ↦ (let differ = eqb-false _ _ waiting in s.full_ring (omega arith))
+        | inr full ↦ (let none = ltb-false _ _ full in omega arith)
+      ]
 
   by_room : (room : Bool) → has_room size l ≡ room → IsSoundCompletions size (record l { posted = l.posted ++ c ∷ []; put = cond room (l.put + 1) l.put })
   by_room true e =
@@ -38,6 +46,7 @@ post_sound size l c s = by_room (has_room size l) refl where
         seen_head_head = s.seen_head_head;
         head_reaped = s.head_reaped;
         fits = omega arith;
+        full_ring = λ waits. absurd (omega (arith, length_push l.posted c));
       }
   by_room false e =
       record {
@@ -48,6 +57,7 @@ post_sound size l c s = by_room (has_room size l) refl where
         seen_head_head = s.seen_head_head;
         head_reaped = s.head_reaped;
         fits = s.fits;
+        full_ring = λ waits. no_room e;
       }
 
 pub end_sound : (size : ℕ) (l : Completions) (c : Completion) (told : Bool) → IsSoundCompletions size l → IsSoundCompletions size (cond told (with_posted size l c) l)
@@ -64,6 +74,7 @@ flush_sound size l s =
       seen_head_head = omega arith;
       head_reaped = s.head_reaped;
       fits = omega arith;
+      full_ring = λ waits. omega arith;
     }
 
 pub see_tail_sound : (size : ℕ) (l : Completions) → IsSoundCompletions size l → IsSoundCompletions size (with_tail_loaded l)
@@ -76,6 +87,7 @@ see_tail_sound size l s =
       seen_head_head = s.seen_head_head;
       head_reaped = s.head_reaped;
       fits = s.fits;
+      full_ring = s.full_ring;
     }
 
 next_tells : (l : Completions) (c : Completion) → next_to_reap l ≡ Some c → (eqb (length l.reaped) l.seen_tail ≡ false) × (slice_get l.posted (length l.reaped) ≡ Some c)
@@ -98,6 +110,7 @@ reap_sound size l c e s =
       seen_head_head = s.seen_head_head;
       head_reaped = omega arith;
       fits = s.fits;
+      full_ring = s.full_ring;
     }
 
 pub store_head_sound : (size : ℕ) (l : Completions) → IsSoundCompletions size l → IsSoundCompletions size (with_head_stored l)
@@ -110,6 +123,7 @@ store_head_sound size l s =
       seen_head_head = omega arith;
       head_reaped = omega arith;
       fits = s.fits;
+      full_ring = s.full_ring;
     }
 
 -- The submission ring.

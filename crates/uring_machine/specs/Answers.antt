@@ -1,5 +1,5 @@
 -- The answers that are called for: by step, and in each step the refusals in their order, which is our own rule.
-use Rattle.std.specs.Prelude.{◌≡◌, ℕ, ◌+◌, ◌-◌, ◌^◌, Bool, true, false, not, ◌==◌, nat_lt, nat_le, length, Option, Some, None, is_some, if◌then◌else◌, ◌⊎◌, slice_get}
+use Rattle.std.specs.Prelude.{◌≡◌, ℕ, ◌+◌, ◌-◌, ◌^◌, ◌<◌, Bool, true, false, not, ◌==◌, nat_lt, nat_le, length, Option, Some, None, is_some, if◌then◌else◌, ◌⊎◌, slice_get}
 use Rattle.uring_entry.specs.Shape.{Shape}
 use Rattle.uring_entry.specs.Words.{word_of}
 use Rattle.uring_entry.specs.Layout.{Entry, Completion}
@@ -36,9 +36,9 @@ begin_answer w count =
     if is_spent w (call_length w.submission count) then answer.Spent else
     answer.Call (call_length w.submission count)
 
--- where a call would open, memory may be refused instead. io_uring_enter(2), ERRORS, EAGAIN
+-- where a call of one position or more would open, memory may be refused instead; a call of none needs no memory. io_uring_enter(2), ERRORS, EAGAIN
 abbrev pub OrAgain : Answer → Answer → Type 0
-OrAgain (answer.Call length) a = (a ≡ answer.Call length) ⊎ (a ≡ answer.Again)
+OrAgain (answer.Call length) a = (a ≡ answer.Call length) ⊎ ((a ≡ answer.Again) × (0 < length))
 OrAgain refusal a = a ≡ refusal
 
 -- an entry, or a word that names no slot

@@ -1,16 +1,15 @@
 -- What rings and dispatcher hold, and the history that this fits.
-use Rattle.std.specs.Prelude.{◌≡◌, ℕ, ◌+◌, ◌-◌, ◌^◌, ◌≤◌, Bool, true, List, [], length, Option, Some, None, if◌then◌else◌}
+use Rattle.std.specs.Prelude.{◌≡◌, ℕ, ◌+◌, ◌-◌, ◌^◌, ◌<◌, ◌≤◌, ◌⊎◌, Bool, true, List, [], length, Option, Some, None, if◌then◌else◌}
 use Rattle.uring_entry.specs.Shape.{Shape, IsShape}
 use Rattle.uring_entry.specs.Layout.{Entry}
-use Rattle.uring_entry.specs.Submission.{Submission, Call, entries_from}
+use Rattle.uring_entry.specs.Submission.{Submission, Call, call_length, entries_from}
 use Rattle.uring_rings.specs.SubmissionRing.{SubmissionQueue, ShowsSubmission}
 use Rattle.uring_rings.specs.CompletionRing.{CompletionQueue, ShowsCompletions}
 use Rattle.uring_dispatch.specs.Dispatcher.{Dispatcher, Shows}
 use Rattle.uring_machine.specs.World.{World}
 use Rattle.uring_machine.specs.Histories.{History, world, IsLawfulApart}
-use Rattle.uring_entry.specs.Requests.{is_running}
+use Rattle.uring_entry.specs.Requests.{is_running, outstanding_in, running_in}
 use Rattle.uring_entry.specs.declared.outcomes.Outcome.{Outcome}
-use Rattle.uring_dispatch.specs.Counts.{outstanding_in, running_in}
 use Rattle.uring_machine.specs.declared.answers.Answer.{Answer}
 use Rattle.uring_machine.specs.declared.answers.Answer.TheVariants as answer
 use Rattle.uring_machine.specs.declared.counts.Counts.{Counts}
@@ -47,6 +46,8 @@ pub record ShowsWorld (p : Parts) (w : World) : Type 0 where
   -- what is outstanding, and what the open call may still accept, will find room to be accepted and to end
   pub room_to_post : p.dispatcher.outstanding + positions_of w.submission.call ≤ p.completions.room
   pub room_to_accept : positions_of w.submission.call ≤ p.dispatcher.room
+  -- and memory is there for each post that is promised
+  pub promised : p.completions.room ≤ p.completions.spare
   -- numbers stay below 2 ^ 63, those of the open call too
   pub numbers : p.dispatcher.accepted + positions_of w.submission.call ≤ 2 ^ 63 - 1
   -- no more was posted than has ended
@@ -60,6 +61,20 @@ pub record FitsApart (p : Parts) (h : History) : Type 0 where
 -- some history is fitted
 abbrev pub IsCore : Parts → Type 0
 IsCore p = IsShape p.shape × (h : History) × FitsApart p h
+
+-- Memory is short for a call of so many positions: the dispatcher has none for so many requests, or the completion ring none for their ends and those of all outstanding requests.
+abbrev pub IsShortFor : Parts → ℕ → Type 0
+IsShortFor p length = (p.dispatcher.room < length) ⊎ (p.completions.spare < p.dispatcher.outstanding + length)
+
+-- memory is short for this step, of which only a Begin asks for any. Our own rule
+abbrev pub IsShortOfMemory : Parts → World → Step → Type 0
+IsShortOfMemory p w (step.Begin count) = IsShortFor p (call_length w.submission count)
+IsShortOfMemory p w _ = ⊥
+
+-- No memory was given back: as many requests have memory, accepted or not, and as many completions in the overflow list, waiting or not. Our own rule
+pub record HasNoLessMemory (old new : Parts) : Type 0 where
+  pub requests : old.dispatcher.accepted + old.dispatcher.room ≤ new.dispatcher.accepted + new.dispatcher.room
+  pub completions : length old.completions.overflow + old.completions.spare ≤ length new.completions.overflow + new.completions.spare
 
 -- any step but a finish
 abbrev pub IsNoFinish : Step → Type 0

@@ -1,5 +1,5 @@
 -- Histories: the steps made on a new machine, each with its answer.
-use Rattle.std.specs.Prelude.{List, [], ◌∷◌}
+use Rattle.std.specs.Prelude.{List, [], ◌∷◌, reverse}
 use Rattle.uring_entry.specs.Shape.{Shape}
 use Rattle.uring_machine.specs.World.{World, at_first, happens}
 use Rattle.uring_machine.specs.Answers.{CalledForApart}
@@ -24,8 +24,6 @@ abbrev pub IsLawfulApart : Shape → History → Type 0
 IsLawfulApart g [] = Unit {0}
 IsLawfulApart g ((step, answer) ∷ before) = CalledForApart g (world g before) step answer × IsLawfulApart g before
 
--- a history followed by steps, each with its answer
-abbrev pub followed : History → List Step → List Answer → History
-followed before [] answers = before
-followed before (step ∷ steps) [] = before
-followed before (step ∷ steps) (answer ∷ answers) = followed ((step, answer) ∷ before) steps answers
+-- the history of events that are written in the order in which they happened
+abbrev pub history_of : List Event → History
+history_of events = reverse events

@@ -1,11 +1,11 @@
 -- The lists that a history has made are those that are read straight off it.
-use Rattle.std.specs.Prelude.{◌≡◌, ℕ, ◌+◌, ◌-◌, ◌==◌, nat_lt, min, pos, Bool, true, ◌&&◌, List, [], ◌∷◌, ◌++◌, length, map, Some, is_some, if◌then◌else◌, slice_get}
+use Rattle.std.specs.Prelude.{◌≡◌, ◌↔◌, ℕ, ◌+◌, ◌-◌, ◌==◌, nat_lt, min, pos, Bool, true, ◌&&◌, List, [], ◌∷◌, ◌++◌, length, map, Some, is_some, if◌then◌else◌, slice_get}
 use Rattle.std.specs.List.{list_any}
 use Rattle.std.specs.Option.{option_and_then}
 use Rattle.uring_entry.specs.Shape.{Shape}
 use Rattle.uring_entry.specs.Preparation.{is_cancel}
 use Rattle.uring_entry.specs.Submission.{Place, accepted}
-use Rattle.uring_entry.specs.Requests.{entry_of, target_of}
+use Rattle.uring_entry.specs.Requests.{entry_of, is_cancelled, target_of}
 use Rattle.uring_machine.specs.Histories.{Event, History, world}
 use Rattle.uring_machine.specs.Direct.{closes_ring, is_flush, is_load_cq_tail, end_told_by, completion_of, before_last, starts, ends, reaps, posts, staged_words, published_words, slot_content, published_entry, open_call, call_counts, cut_counts, loaded_head, stored_head, flushed_head}
 use Rattle.uring_machine.specs.declared.steps.Step.TheVariants as step
@@ -64,3 +64,7 @@ pub record IsChosenIn (g : Shape) (h : History) (m : ℕ) : Type 0 where
   pub split : h ≡ after ++ (step.Issue number, answer.Ended (pos 0) bytes) ∷ before
   pub cancel : is_cancel (entry_of (world g before).requests number) ≡ true
   pub target : target_of (world g before).requests number ≡ Some m
+
+-- whom cancels chose
+abbrev pub OwnCancelled : Shape → History → Type 0
+OwnCancelled g h = (m : ℕ) → (is_cancelled (world g h).requests m ≡ true) ↔ IsChosenIn g h m

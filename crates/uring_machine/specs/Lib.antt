@@ -9,3 +9,6 @@ pub mod Contents
 pub mod Core
 pub mod Machine
 pub mod Settling
+pub mod Finishes
+pub mod Published
+pub mod Standing

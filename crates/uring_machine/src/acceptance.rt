@@ -11,6 +11,7 @@ pub(crate) fn accept_call(dispatch: &mut Dispatch, entries: &[Sqe])
     ensures shows { (r : Requests) → Shows dispatch.old r → Shows dispatch.new (with_call r entries.now) }
     ensures accepted { dispatch.new.accepted ≡ dispatch.old.accepted + length entries.now }
     ensures outstanding { dispatch.new.outstanding ≡ dispatch.old.outstanding + length entries.now }
+    ensures memory { dispatch.old.accepted + dispatch.old.room ≤ dispatch.new.accepted + dispatch.new.room }
     ensures between { dispatch.new.is_between_calls ≡ true }
 {
     for entry in entries {

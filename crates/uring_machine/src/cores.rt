@@ -1,9 +1,9 @@
 ghost use Rattle.std.specs.Prelude.{◌≡◌, ◌∷◌, [], IfOk, slice_get};
 ghost use Rattle.uring_entry.specs.Completions.{unreaped};
-ghost use Rattle.uring_entry.specs.Requests.{least_of};
-ghost use Rattle.uring_dispatch.specs.Answers.{operation_running};
+ghost use Rattle.uring_entry.specs.Requests.{least_of, operation_running};
 ghost use Rattle.uring_machine.specs.Histories.{History, world};
 ghost use Rattle.uring_machine.specs.declared.steps.Step.TheVariants as step;
+ghost use Rattle.uring_machine.specs.declared.answers.Answer.TheVariants as answer;
 
 use crate::acceptance::accept_call;
 use crate::answers::Answer;
@@ -44,7 +44,7 @@ impl Model for Core {
 }
 
 impl Core {
-    ghost use Rattle.uring_machine.specs.Core.{FitsApart, IsNoFinish, IsFinished, IsCounts};
+    ghost use Rattle.uring_machine.specs.Core.{FitsApart, IsNoFinish, IsFinished, IsCounts, IsShortOfMemory, HasNoLessMemory};
 
     /// A core of this set-up on which nothing has happened. `AllocError`: memory was refused.
     pub fn new(alloc: Global, setup: &Setup) -> Result<Core, AllocError>
@@ -67,6 +67,10 @@ impl Core {
         requires { IsNoFinish step }
         ensures shape { self.new.shape ≡ self.old.shape }
         ensures fits { (h : History) → FitsApart self.old h → FitsApart self.new ((step, result) ∷ h) }
+
+        // Memory that was once had is never refused again.
+        ensures again { (h : History) → FitsApart self.old h → result ≡ answer.Again → IsShortOfMemory self.old (world self.old.shape h) step }
+        ensures memory { HasNoLessMemory self.old self.new }
     {
         match step {
             Step::Fill { slot, entry } => self.fill(slot, entry),
@@ -91,6 +95,7 @@ impl Core {
     pub fn finish(&mut self, number: u64, outcome: Outcome) -> Answer
         ensures shape { self.new.shape ≡ self.old.shape }
         ensures fits { (h : History) → FitsApart self.old h → FitsApart self.new ((step.Finish number, result) ∷ h) }
+        ensures memory { HasNoLessMemory self.old self.new }
         ensures outcome { (h : History) → FitsApart self.old h → IsFinished (world self.old.shape h) number outcome result }
     {
         let entry = self.dispatch.entry(number);
@@ -143,6 +148,7 @@ impl Core {
     fn fill(&mut self, slot: u32, entry: Sqe) -> Answer
         ensures shape { self.new.shape ≡ self.old.shape }
         ensures fits { (h : History) → FitsApart self.old h → FitsApart self.new ((step.Fill slot entry, result) ∷ h) }
+        ensures memory { HasNoLessMemory self.old self.new }
     {
         tell_fill(self.sq.fill(slot, entry))
     }
@@ -151,6 +157,7 @@ impl Core {
     fn index(&mut self, word: u32) -> Answer
         ensures shape { self.new.shape ≡ self.old.shape }
         ensures fits { (h : History) → FitsApart self.old h → FitsApart self.new ((step.Index word, result) ∷ h) }
+        ensures memory { HasNoLessMemory self.old self.new }
     {
         tell_index(self.sq.index(word))
     }
@@ -159,6 +166,7 @@ impl Core {
     fn store_tail(&mut self) -> Answer
         ensures shape { self.new.shape ≡ self.old.shape }
         ensures fits { (h : History) → FitsApart self.old h → FitsApart self.new ((step.StoreTail, result) ∷ h) }
+        ensures memory { HasNoLessMemory self.old self.new }
     {
         Answer::Tail(self.sq.store_tail())
     }
@@ -167,6 +175,7 @@ impl Core {
     fn load_head(&mut self) -> Answer
         ensures shape { self.new.shape ≡ self.old.shape }
         ensures fits { (h : History) → FitsApart self.old h → FitsApart self.new ((step.LoadHead, result) ∷ h) }
+        ensures memory { HasNoLessMemory self.old self.new }
     {
         Answer::Head(self.sq.load_head())
     }
@@ -175,6 +184,8 @@ impl Core {
     fn begin(&mut self, count: u32) -> Answer
         ensures shape { self.new.shape ≡ self.old.shape }
         ensures fits { (h : History) → FitsApart self.old h → FitsApart self.new ((step.Begin count, result) ∷ h) }
+        ensures memory { HasNoLessMemory self.old self.new }
+        ensures again { (h : History) → FitsApart self.old h → result ≡ answer.Again → IsShortOfMemory self.old (world self.old.shape h) (step.Begin count) }
     {
         if self.is_closed {
             return Answer::Closed;
@@ -199,6 +210,7 @@ impl Core {
     fn take(&mut self) -> Answer
         ensures shape { self.new.shape ≡ self.old.shape }
         ensures fits { (h : History) → FitsApart self.old h → FitsApart self.new ((step.Take, result) ∷ h) }
+        ensures memory { HasNoLessMemory self.old self.new }
     {
         match self.sq.take() {
             TakeAnswer::Entry(entry) => {
@@ -215,6 +227,7 @@ impl Core {
     fn end(&mut self) -> Answer
         ensures shape { self.new.shape ≡ self.old.shape }
         ensures fits { (h : History) → FitsApart self.old h → FitsApart self.new ((step.End, result) ∷ h) }
+        ensures memory { HasNoLessMemory self.old self.new }
     {
         match self.sq.end() {
             EndAnswer::Taken(taken) => {
@@ -235,6 +248,7 @@ impl Core {
     fn issue(&mut self, number: u64) -> Answer
         ensures shape { self.new.shape ≡ self.old.shape }
         ensures fits { (h : History) → FitsApart self.old h → FitsApart self.new ((step.Issue number, result) ∷ h) }
+        ensures memory { HasNoLessMemory self.old self.new }
     {
         let entry = self.dispatch.entry(number);
         match self.dispatch.issue(number) {
@@ -255,6 +269,7 @@ impl Core {
     fn flush(&mut self) -> Answer
         ensures shape { self.new.shape ≡ self.old.shape }
         ensures fits { (h : History) → FitsApart self.old h → FitsApart self.new ((step.Flush, result) ∷ h) }
+        ensures memory { HasNoLessMemory self.old self.new }
     {
         Answer::Moved(self.cq.flush())
     }
@@ -263,6 +278,7 @@ impl Core {
     fn load_cq_tail(&mut self) -> Answer
         ensures shape { self.new.shape ≡ self.old.shape }
         ensures fits { (h : History) → FitsApart self.old h → FitsApart self.new ((step.LoadCqTail, result) ∷ h) }
+        ensures memory { HasNoLessMemory self.old self.new }
     {
         Answer::Tail(self.cq.load_tail())
     }
@@ -271,6 +287,7 @@ impl Core {
     fn reap(&mut self) -> Answer
         ensures shape { self.new.shape ≡ self.old.shape }
         ensures fits { (h : History) → FitsApart self.old h → FitsApart self.new ((step.Reap, result) ∷ h) }
+        ensures memory { HasNoLessMemory self.old self.new }
     {
         tell_reap(self.cq.reap())
     }
@@ -279,6 +296,7 @@ impl Core {
     fn store_cq_head(&mut self) -> Answer
         ensures shape { self.new.shape ≡ self.old.shape }
         ensures fits { (h : History) → FitsApart self.old h → FitsApart self.new ((step.StoreCqHead, result) ∷ h) }
+        ensures memory { HasNoLessMemory self.old self.new }
     {
         Answer::Head(self.cq.store_head())
     }
@@ -287,6 +305,7 @@ impl Core {
     fn close(&mut self) -> Answer
         ensures shape { self.new.shape ≡ self.old.shape }
         ensures fits { (h : History) → FitsApart self.old h → FitsApart self.new ((step.Close, result) ∷ h) }
+        ensures memory { HasNoLessMemory self.old self.new }
     {
         if self.sq.in_call() {
             return Answer::InCall;
@@ -299,6 +318,7 @@ impl Core {
     fn next(&mut self) -> Answer
         ensures shape { self.new.shape ≡ self.old.shape }
         ensures fits { (h : History) → FitsApart self.old h → FitsApart self.new ((step.Next, result) ∷ h) }
+        ensures memory { HasNoLessMemory self.old self.new }
     {
         tell_next(self.dispatch.next())
     }

@@ -1,5 +1,6 @@
-ghost use Rattle.std.specs.Prelude.{◌≡◌, length, IfOk, OnErr};
-ghost use Rattle.uring_machine.specs.Histories.{History, followed};
+ghost use Rattle.std.specs.Prelude.{◌≡◌, ◌++◌, length, IfOk, OnErr};
+ghost use Rattle.std.specs.List.{zip};
+ghost use Rattle.uring_machine.specs.Histories.{History, history_of};
 ghost use Rattle.uring_machine.specs.Machine.{Fits};
 
 use crate::answers::Answer;
@@ -11,7 +12,7 @@ use std::alloc::{AllocError, Global};
 pub fn run(alloc: Global, machine: &mut Machine, steps: &[Step]) -> Result<Vec<Answer>, AllocError>
     ensures shape { machine.new.core.shape ≡ machine.old.core.shape }
     ensures answers { IfOk result (λ answers. length answers.items ≡ length steps.now) }
-    ensures fits { IfOk result (λ answers. (h : History) → Fits machine.old h → Fits machine.new (followed h steps.now answers.items)) }
+    ensures fits { IfOk result (λ answers. (h : History) → Fits machine.old h → Fits machine.new (history_of (zip steps.now answers.items) ++ h)) }
     ensures err { OnErr result (machine.new ≡ machine.old) }
 {
     let mut answers = Vec::with_capacity(alloc, steps.len())?;

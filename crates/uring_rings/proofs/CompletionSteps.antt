@@ -21,8 +21,8 @@ put_above g q l d i s small leads =
     distance_of_words g.start l.put l.seen_head d small ordered near (ap (λ (w : ℕ). (w + d) % 2 ^ 32) (sym s.seen_head) ∙ leads ∙ s.tail)
 
 -- The oldest of the overflow list is put into the next cell.
-pub put_shows : (g : Shape) (q : CompletionQueue) (l : Completions) (x : Completion) (rest : List Completion) → IsCompletionQueue q.size q.cells → ShowsCompletions g q l → l.put < l.seen_head + g.cq → q.overflow ≡ x ∷ rest → ShowsCompletions g (record q { tail = (q.tail + 1) % 2 ^ 32; cells = set q.cells (q.tail % q.size) x; overflow = rest }) (record l { put = l.put + 1 })
-put_shows g q l x rest i s room oldest =
+pub put_shows : (g : Shape) (q : CompletionQueue) (l : Completions) (x : Completion) (rest : List Completion) (spare : ℕ) → IsCompletionQueue q.size q.cells → ShowsCompletions g q l → l.put < l.seen_head + g.cq → q.overflow ≡ x ∷ rest → ShowsCompletions g (record q { tail = (q.tail + 1) % 2 ^ 32; spare = spare; cells = set q.cells (q.tail % q.size) x; overflow = rest }) (record l { put = l.put + 1 })
+put_shows g q l x rest spare i s room oldest =
     let limit : g.cq ≤ 2 ^ 32 = omega (arith, i.limit, s.size) in
     let some : 0 < length (drop l.put l.posted) = rw (← s.waiting, oldest) (omega arith) in
     let more : l.put < length l.posted = let h = simp length-drop at some in omega arith in
@@ -54,8 +54,8 @@ put_shows g q l x rest i s room oldest =
     }
 
 -- A completion is posted, and waits behind the others.
-pub wait_shows : (g : Shape) (q : CompletionQueue) (l : Completions) (x : Completion) (room : ℕ) → ShowsCompletions g q l → ShowsCompletions g (record q { room = room; posted = (q.posted + 1) % 2 ^ 64; overflow = q.overflow ++ x ∷ [] }) (record l { posted = l.posted ++ x ∷ [] })
-wait_shows g q l x room s =
+pub wait_shows : (g : Shape) (q : CompletionQueue) (l : Completions) (x : Completion) (room spare : ℕ) → ShowsCompletions g q l → ShowsCompletions g (record q { room = room; spare = spare; posted = (q.posted + 1) % 2 ^ 64; overflow = q.overflow ++ x ∷ [] }) (record l { posted = l.posted ++ x ∷ [] })
+wait_shows g q l x room spare s =
     let long = length_push l.posted x in
     let reaped_within : length l.reaped ≤ length l.posted = omega (arith, s.reaped_first, s.seen_tail_first, s.put_first) in
     record {
@@ -94,15 +94,15 @@ post_puts g q l x room i s open_ring =
     let q1 : CompletionQueue = record q { room = room; posted = (q.posted + 1) % 2 ^ 64; overflow = q.overflow ++ x ∷ [] } in
     let l1 : Completions = record l { posted = l.posted ++ x ∷ [] } in
     let alone : q.overflow ++ x ∷ [] ≡ x ∷ [] = ap (λ (xs : List Completion). xs ++ x ∷ []) none in
-    let shown = put_shows g q1 l1 x [] i (wait_shows g q l x room s) near alone in
+    let shown = put_shows g q1 l1 x [] q.spare i (wait_shows g q l x room q.spare s) near alone in
     let at_none : ShowsCompletions g (record q { room = room; posted = (q.posted + 1) % 2 ^ 64; tail = (q.tail + 1) % 2 ^ 32; cells = set q.cells (q.tail % q.size) x }) (record l1 { put = l.put + 1 }) =
     subst (λ (xs : List Completion). ShowsCompletions g (record q { room = room; posted = (q.posted + 1) % 2 ^ 64; tail = (q.tail + 1) % 2 ^ 32; cells = set q.cells (q.tail % q.size) x; overflow = xs }) (record l1 { put = l.put + 1 })) (sym none) shown in
     subst (λ (b : Bool). ShowsCompletions g (record q { room = room; posted = (q.posted + 1) % 2 ^ 64; tail = (q.tail + 1) % 2 ^ 32; cells = set q.cells (q.tail % q.size) x }) (record l1 { put = cond b (l.put + 1) l.put })) (sym open_ring) at_none
 
 -- A post that finds the ring full, or others waiting, leaves the completion behind them.
-pub post_waits : (g : Shape) (q : CompletionQueue) (l : Completions) (x : Completion) (room : ℕ) → ShowsCompletions g q l → has_room g.cq l ≡ false → ShowsCompletions g (record q { room = room; posted = (q.posted + 1) % 2 ^ 64; overflow = q.overflow ++ x ∷ [] }) (with_posted g.cq l x)
-post_waits g q l x room s full =
-    subst (λ (b : Bool). ShowsCompletions g (record q { room = room; posted = (q.posted + 1) % 2 ^ 64; overflow = q.overflow ++ x ∷ [] }) (record l { posted = l.posted ++ x ∷ []; put = cond b (l.put + 1) l.put })) (sym full) (wait_shows g q l x room s)
+pub post_waits : (g : Shape) (q : CompletionQueue) (l : Completions) (x : Completion) (room spare : ℕ) → ShowsCompletions g q l → has_room g.cq l ≡ false → ShowsCompletions g (record q { room = room; spare = spare; posted = (q.posted + 1) % 2 ^ 64; overflow = q.overflow ++ x ∷ [] }) (with_posted g.cq l x)
+post_waits g q l x room spare s full =
+    subst (λ (b : Bool). ShowsCompletions g (record q { room = room; spare = spare; posted = (q.posted + 1) % 2 ^ 64; overflow = q.overflow ++ x ∷ [] }) (record l { posted = l.posted ++ x ∷ []; put = cond b (l.put + 1) l.put })) (sym full) (wait_shows g q l x room spare s)
 
 -- the position to be reaped next isn't the tail last loaded
 pub more_to_reap : (g : Shape) (q : CompletionQueue) (l : Completions) → IsCompletionQueue q.size q.cells → ShowsCompletions g q l → (q.next ≡ q.seen_tail → ⊥) → length l.reaped < l.seen_tail

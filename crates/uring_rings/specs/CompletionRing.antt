@@ -6,7 +6,7 @@ use Rattle.uring_entry.specs.Shape.{Shape}
 use Rattle.uring_entry.specs.Words.{word_of}
 use Rattle.uring_entry.specs.Completions.{Completions, with_reaped}
 
--- What the ring keeps: its size; the words of its tail, of the head that the application stored, of the head and the tail that the two sides last loaded, and of the next position to be reaped; how many completions were posted and reaped, which wrap at 64 bits; how many posts are promised; the cells; and the overflow list.
+-- What the ring keeps: its size; the words of its tail, of the head that the application stored, of the head and the tail that the two sides last loaded, and of the next position to be reaped; how many completions were posted and reaped, which wrap at 64 bits; how many posts are promised; how many more completions the overflow list has memory for; the cells; and the overflow list.
 pub record CompletionQueue : Type 0 where
   pub size : ℕ
   pub tail : ℕ
@@ -17,6 +17,7 @@ pub record CompletionQueue : Type 0 where
   pub posted : ℕ
   pub reaped : ℕ
   pub room : ℕ
+  pub spare : ℕ
   pub cells : List Completion
   pub overflow : List Completion
 
@@ -48,6 +49,11 @@ pub record ShowsCompletions (g : Shape) (q : CompletionQueue) (l : Completions) 
   pub in_order : l.reaped ≡ take (length l.reaped) l.posted
   pub cells : (k : ℕ) (d : Completion) → length l.reaped ≤ k → k < l.put → slice_index_or q.cells (word_of g.start k % g.cq) d ≡ slice_index_or l.posted k d
   pub waiting : q.overflow ≡ drop l.put l.posted
+
+-- What every call keeps of the memory: there is enough for the posts that are promised, and none is given back. What waits and what there is memory for make up the memory of the overflow list. Our own rule
+pub record KeepsMemory (old new : CompletionQueue) : Type 0 where
+  pub promised : new.room ≤ new.spare
+  pub kept : length old.overflow + old.spare ≤ length new.overflow + new.spare
 
 -- What always holds of the lists that a ring of this size shows: what was reaped begins what was posted, no more was reaped than put nor put than posted, and no more than the size was put above the head that the application stored.
 pub record IsOrderedCompletions (size : ℕ) (l : Completions) : Type 0 where

@@ -2,7 +2,7 @@ ghost use Rattle.std.specs.Prelude.{◌≡◌, ◌+◌, ◌-◌, ◌%◌, ◌^�
 ghost use Rattle.uring_entry.specs.Shape.{Shape};
 ghost use Rattle.uring_entry.specs.Words.{word_of};
 ghost use Rattle.uring_entry.specs.Completions.{Completions, no_completion, has_room, with_posted, flushed, with_tail_loaded, with_head_stored, next_to_reap, unreaped};
-ghost use Rattle.uring_rings.specs.CompletionRing.{ShowsCompletions, IsOrderedCompletions, after_reap};
+ghost use Rattle.uring_rings.specs.CompletionRing.{ShowsCompletions, IsOrderedCompletions, KeepsMemory, after_reap};
 
 use crate::indices::Index;
 use std::alloc::{AllocError, Global};
@@ -35,7 +35,7 @@ pub struct Cq {
 }
 
 impl Model for Cq {
-    ghost use Rattle.std.specs.Prelude.{◌+◌, ◌≤◌};
+    ghost use Rattle.std.specs.Prelude.{◌+◌, ◌-◌, ◌≤◌};
     ghost use Rattle.std.specs.VecDeque.{deque_len, deque_capacity};
     ghost use Rattle.uring_rings.specs.CompletionRing.{CompletionQueue, IsCompletionQueue};
 
@@ -51,6 +51,7 @@ impl Model for Cq {
       posted = q.posted;
       reaped = q.reaped;
       room = q.room;
+      spare = deque_capacity q.overflow - deque_len q.overflow;
       cells = q.cells.items;
       overflow = q.overflow.items;
     } };
@@ -87,14 +88,24 @@ impl Cq {
 
     /// Promises `n` posts from here on, any number, in place of what is left of the last promise, and asks for the memory that they may need. Our own rule: a completion is never lost for want of memory.
     ///
-    /// An error is a refused allocation; what is left of the last promise then still stands.
+    /// An error is a refused allocation, which is asked for only if the overflow list has no memory for `n` more; what is left of the last promise then still stands.
     pub fn reserve(&mut self, n: u64) -> Result<(), AllocError>
         ensures ok { OnOk result (self.new.room ≡ n) }
+
+        // It fails only if there was no memory for so many, and then nothing changes.
+        ensures short { OnErr result (self.old.spare < n) }
         ensures err { OnErr result (self.new ≡ self.old) }
+        ensures memory { KeepsMemory self.old self.new }
         ensures shows { (g : Shape) (l : Completions) → ShowsCompletions g self.old l →
             ShowsCompletions g self.new l }
     {
-        self.overflow.reserve(n as usize)?;
+        let n_more = n as usize;
+        let capacity = self.overflow.capacity();
+        if n_more > capacity - self.overflow.len() {
+            // At least twice the memory, so that promises that grow one by one seldom move the list.
+            let more = n_more.max(capacity.saturating_mul(2));
+            self.overflow.reserve_exact(more)?;
+        }
         self.room = n;
         Ok(())
     }
@@ -105,6 +116,7 @@ impl Cq {
     pub fn post(&mut self, completion: Cqe)
         requires { 0 < self.old.room }
         ensures room { self.new.room + 1 ≡ self.old.room }
+        ensures memory { KeepsMemory self.old self.new }
         ensures shows { (g : Shape) (l : Completions) → ShowsCompletions g self.old l →
             ShowsCompletions g self.new (with_posted g.cq l completion) }
     {
@@ -125,6 +137,7 @@ impl Cq {
         ensures shows { (g : Shape) (l : Completions) → ShowsCompletions g self.old l →
             ShowsCompletions g self.new (flushed g.cq l) }
         ensures room { self.new.room ≡ self.old.room }
+        ensures memory { KeepsMemory self.old self.new }
     {
         self.seen_head = self.head;
         let mut moved = 0;
@@ -141,6 +154,7 @@ impl Cq {
         ensures shows { (g : Shape) (l : Completions) → ShowsCompletions g self.old l →
             ShowsCompletions g self.new (with_tail_loaded l) }
         ensures room { self.new.room ≡ self.old.room }
+        ensures memory { KeepsMemory self.old self.new }
     {
         self.seen_tail = self.tail;
         self.seen_tail.0
@@ -153,11 +167,12 @@ impl Cq {
             ShowsCompletions g self.new (after_reap l result) }
         ensures none { result ≡ None → self.new ≡ self.old }
         ensures room { self.new.room ≡ self.old.room }
+        ensures memory { KeepsMemory self.old self.new }
     {
         if self.next == self.seen_tail {
             return None;
         }
-        let cell = self.next.cell(self.size - 1);
+        let cell = self.cell(self.next);
         self.next = self.next.after(1);
         self.reaped = self.reaped.wrapping_add(1);
         Some(self.cells[cell])
@@ -170,6 +185,7 @@ impl Cq {
         ensures shows { (g : Shape) (l : Completions) → ShowsCompletions g self.old l →
             ShowsCompletions g self.new (with_head_stored l) }
         ensures room { self.new.room ≡ self.old.room }
+        ensures memory { KeepsMemory self.old self.new }
     {
         self.head = self.next;
         self.head.0
@@ -184,7 +200,7 @@ impl Cq {
     {
         let in_ring = u64::from(self.tail.distance(self.next));
         if i < in_ring {
-            let cell = self.next.after(i as u32).cell(self.size - 1);
+            let cell = self.cell(self.next.after(i as u32));
             Some(self.cells[cell])
         } else {
             self.overflow.get((i - in_ring) as usize).copied()
@@ -222,6 +238,7 @@ impl Cq {
             ShowsCompletions g self.new (record l { put = if result then l.put + 1 else l.put }) }
         ensures fewer { length self.new.overflow + (if result then 1 else 0) ≡ length self.old.overflow }
         ensures room { self.new.room ≡ self.old.room }
+        ensures memory { KeepsMemory self.old self.new }
     {
         if self.tail.distance(self.seen_head) >= self.size {
             return false;
@@ -242,8 +259,16 @@ impl Cq {
           cells = slice_set self.old.cells (self.old.tail % self.old.size) completion;
         } }
     {
-        let cell = self.tail.cell(self.size - 1);
+        let cell = self.cell(self.tail);
         self.cells[cell] = completion;
         self.tail = self.tail.after(1);
+    }
+    /// The cell of a position's completion.
+    fn cell(&self, index: Index) -> usize
+        ensures value { result ≡ index.0 % self.now.size }
+        ensures within { result < self.now.size }
+        ensures cells { length self.now.cells ≡ self.now.size }
+    {
+        index.cell(self.size - 1)
     }
 }

@@ -1,5 +1,5 @@
 ghost use Rattle.std.specs.Prelude.{◌≡◌, ◌+◌, ◌%◌, ◌^◌};
-ghost use Rattle.std.specs.Int.{IsPowerOfTwo};
+ghost use Rattle.std.specs.Int.RustNames.{bit_and};
 
 /// An index word of a ring: a head or a tail, which runs freely and wraps at 32 bits. io_uring(7), Submitting I/O requests.
 #[derive(Clone, Copy, Debug, PartialEq, Eq)]
@@ -20,10 +20,9 @@ impl Index {
         self.0.wrapping_sub(earlier.0)
     }
 
-    /// The cell of this word's position, in a ring with this mask: one less than its size, which is a power of two.
+    /// The cell of this word's position, in a ring with this mask: one less than its size, if that is a power of two.
     pub fn cell(self, mask: u32) -> usize
-        requires { IsPowerOfTwo (mask + 1) }
-        ensures { result ≡ self.0 % (mask + 1) }
+        ensures { result ≡ bit_and self.0 mask }
     {
         (self.0 & mask) as usize
     }

@@ -1,14 +1,12 @@
 //! Command lines, and what faults say.
 
 use super::streams::FullWriter;
-use crate::command_line::options;
 use crate::fault::Fault;
-use crate::option_kinds::Options;
-use crate::options_fault::OptionsFault;
 use crate::telling::tell;
-use crate::trace_fault::TraceFault;
 use std::alloc::{AllocError, Global};
 use std::test::Fail;
+use uring_options::{Options, OptionsFault, options};
+use uring_trace::TraceFault;
 
 /// Reads a command line, and gives the sizes of the rings, the number of files and the first word.
 fn numbers_of(alloc: Global, words: &[&str]) -> Result<[u32; 4], OptionsFault> {

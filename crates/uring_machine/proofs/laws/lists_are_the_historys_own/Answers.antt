@@ -8,5 +8,5 @@ returns c =
       submission = λ g h shape lawful. own_submission g h lawful;
       requests = λ g h shape lawful. own_requests g h lawful;
       completions = λ g h shape lawful. own_completions g h lawful;
-      cancelled = λ g h m shape lawful. (chosen_in g h lawful m, chosen_stays g h lawful m);
+      cancelled = λ g h shape lawful m. (chosen_in g h lawful m, chosen_stays g h lawful m);
     }

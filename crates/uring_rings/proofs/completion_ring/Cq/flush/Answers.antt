@@ -9,6 +9,7 @@ loop-moved-preserved c =
     record {
       waiting = omega (arith, c.loop-moved-test.ensures.fewer, c.loop-moved.invariant.waiting);
       room = c.loop-moved-test.ensures.room ∙ c.loop-moved.invariant.room;
+      kept = omega (arith, c.loop-moved-test.ensures.memory.kept, c.loop-moved.invariant.kept);
       shows = λ g m s.
           subst (λ (n : ℕ). ShowsCompletions g c.move_oldest.new.self (record m { put = n })) (add_assoc m.put c.loop-moved.moved 1)
           (c.loop-moved-test.ensures.shows g (record m { put = m.put + c.loop-moved.moved }) (c.loop-moved.invariant.shows g m s));

@@ -1,4 +1,4 @@
-use Rattle.std.proofs.Common.{◌≡◌, ◌+◌, length}
+use Rattle.std.proofs.Common.{◌≡◌, ◌+◌, ◌≤◌, length}
 use Rattle.uring_entry.specs.Shape.{Shape}
 use Rattle.uring_entry.specs.Completions.{Completions}
 use Rattle.uring_rings.specs.CompletionRing.{ShowsCompletions}
@@ -10,6 +10,7 @@ invariant-loop-moved l =
     record {
       waiting : l.moved + length l.self.overflow ≡ length l.initial.self.overflow;
       room : l.self.room ≡ l.initial.self.room;
+      kept : length l.initial.self.overflow + l.initial.self.spare ≤ length l.self.overflow + l.self.spare;
       shows : (g : Shape) (m : Completions) → ShowsCompletions g l.initial.self m → ShowsCompletions g l.self (record m { put = m.put + l.moved });
     }
 

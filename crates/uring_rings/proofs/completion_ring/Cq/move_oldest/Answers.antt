@@ -8,4 +8,4 @@ returns-in-Some-clause-shows c =
     (λ g l s.
     let above = put_above g _ l c.distance.result c.self.invariant.0 s (search rules) (search rules) in
     let near : l.put < l.seen_head + g.cq = omega (arith, s.size) in
-    put_shows g _ l c.in-Some.completion _ c.self.invariant.0 s near c.in-Some.ensures.items)
+    put_shows g _ l c.in-Some.completion _ _ c.self.invariant.0 s near c.in-Some.ensures.items)

@@ -17,4 +17,4 @@ returns-else-fits-clause-shows c =
     (λ g l s.
     let inside = subst (λ (q : CompletionQueue). ShowsCompletions g q l) (sym c.self.view_is) s in
     let full = sym (c.has_free_cell-fits.ensures g l s) ∙ c.if-fits.false in
-    post_waits g _ l c.args.completion _ inside full)
+    post_waits g _ l c.args.completion _ _ inside full)

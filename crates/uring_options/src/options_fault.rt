@@ -1,0 +1,35 @@
+use std::alloc::{AllocError, AllocFailed};
+use thiserror::Error;
+
+/// Why a command line is refused.
+#[derive(Debug, Drop, Error)]
+pub enum OptionsFault {
+    /// The completion ring is smaller after rounding than the submission ring.
+    #[error("completion ring too small")]
+    Small,
+
+    /// The words are no command line of the program, ask for help, or memory was refused while they were read.
+    #[error(transparent)]
+    Words(clap::Error),
+}
+
+impl From<clap::Error> for OptionsFault {
+    ghost use Rattle.std.specs.Prelude.{◌≡◌};
+    ghost use Rattle.uring_options.specs.declared.options_fault.OptionsFault.TheVariants.{Words};
+
+    ghost from_gives = { λ error fault. fault ≡ Words error };
+
+    fn from(error: clap::Error) -> OptionsFault {
+        OptionsFault::Words(error)
+    }
+}
+
+impl From<AllocError> for OptionsFault {
+    ghost use Rattle.uring_options.specs.CommandLine.{IsWords};
+
+    ghost from_gives = { λ _ fault. IsWords fault };
+
+    fn from(error: AllocError) -> OptionsFault {
+        OptionsFault::Words(clap::Error::from(error))
+    }
+}
