@@ -2,8 +2,8 @@
 //!
 //! Each returns 0, or the negative of an error number: -9 (EBADF) exactly at an empty place.
 ghost use Rattle.std.specs.Prelude.{◌≡◌, ◌↔◌, [], pos, neg_ℤ, None, IsSome, IfSome, IsSomeAnd, MatchOption, slice_get};
-ghost use Rattle.uring_dispatch.specs.Answers.{operation_running};
 ghost use Rattle.uring_entry.specs.Completions.{unreaped};
+ghost use Rattle.uring_entry.specs.Requests.{operation_running};
 ghost use Rattle.uring_entry.specs.declared.errno.TheConstants.{EBADF, EINVAL, ENOENT, ENOMEM};
 ghost use Rattle.uring_machine.specs.Core.{IsCounts};
 ghost use Rattle.uring_machine.specs.Contents.{files_of};
