@@ -15,8 +15,7 @@
  *   - A place (struct wulgach_core, struct wulgach_machine) is zero before its first use: `= { 0 }`. After that
  *     its bytes are left alone, and never copied to be used twice. A place may be moved (memcpy) if the old one
  *     isn't used again.
- *   - No pointer is null. The structs that one call is given don't overlap, and can be written to, also those behind
- *     a pointer to const.
+ *   - No pointer is null, each points to a whole struct of its type, and those of one call don't overlap.
  *   - A core stays on the thread that made it. It holds a raw pointer, for whose type no crossing of threads is
  *     proved; nothing in it is tied to a thread, but the proof doesn't say so.
  *   - No call from a signal handler, nor in the forked child of a process with threads.
@@ -108,7 +107,7 @@ enum wulgach_answer_kind {
     WULGACH_NO_CALL = 15,     /* TAKE, END: no call is open */
     WULGACH_TAKEN = 16,       /* END: word entries were accepted; dropped words so far, modulo 2^32; the head */
     WULGACH_NOT_ALL = 17,     /* END: positions of the call are left */
-    WULGACH_RUN = 18,         /* ISSUE: the request runs. wulgach_core_running_op tells what to do */
+    WULGACH_RUN = 18,         /* ISSUE: the request runs. wulgach_core_running_op says what to do */
     WULGACH_ENDED = 19,       /* ISSUE, FINISH: the request ended with res and bytes */
     WULGACH_NOT_READY = 20,   /* ISSUE: the request waits for earlier ones */
     WULGACH_RUNNING = 21,     /* ISSUE: the request runs already */
@@ -192,21 +191,21 @@ enum wulgach_flag {
  * set-up is out of its range, -12 if memory was refused; the place then keeps what it had. */
 int32_t wulgach_core_new(struct wulgach_core *core, const struct wulgach_setup *setup);
 
-/* Makes one step, and tells its answer. -22 exactly if kind is 8 (FINISH) or above 14. */
+/* Makes one step, and writes its answer. -22 exactly if kind is 8 (FINISH) or above 14. */
 int32_t wulgach_core_step(struct wulgach_core *core, const struct wulgach_step *step, struct wulgach_answer *answer);
 
-/* Ends running request number with any result and any bytes, and tells the answer: ENDED with that very outcome
+/* Ends running request number with any result and any bytes, and writes the answer: ENDED with that very outcome
  * exactly if it was running, else NOT_RUNNING. A request succeeded if a read or a write moved all its bytes, or
  * anything else gave 0; any other result is a failure, which breaks a link. */
 int32_t wulgach_core_finish(struct wulgach_core *core, uint64_t number, int32_t res, const struct wulgach_bytes *bytes, struct wulgach_answer *answer);
 
-/* Tells how far the core has come. */
+/* Writes how far the core has come. */
 int32_t wulgach_core_counts(struct wulgach_core *core, struct wulgach_counts *counts);
 
-/* Tells completion index, from 0, of those posted and not reaped, the oldest first. -2 past the last. */
+/* Writes completion index, from 0, of those posted and not reaped, the oldest first. -2 past the last. */
 int32_t wulgach_core_rest(struct wulgach_core *core, uint64_t index, struct wulgach_completion *completion);
 
-/* Tells what running request number asks for. -2 exactly if it isn't running. */
+/* Writes what running request number asks for. -2 exactly if it isn't running. */
 int32_t wulgach_core_running_op(struct wulgach_core *core, uint64_t number, struct wulgach_operation *operation);
 
 /* Frees the core, and leaves the place empty. */
@@ -220,10 +219,10 @@ int32_t wulgach_machine_rest(struct wulgach_machine *machine, uint64_t index, st
 int32_t wulgach_machine_running_op(struct wulgach_machine *machine, uint64_t number, struct wulgach_operation *operation);
 int32_t wulgach_machine_free(struct wulgach_machine *machine);
 
-/* Tells how the file of a descriptor stands. -2 if there is no such file. */
+/* Writes how the file of a descriptor stands. -2 if there is no such file. */
 int32_t wulgach_machine_state(struct wulgach_machine *machine, int32_t fd, struct wulgach_file *file);
 
-/* Tells the byte at an offset of a file. -2 if there is no such file, or the offset isn't below its length. */
+/* Writes the byte at an offset of a file. -2 if there is no such file, or the offset isn't below its length. */
 int32_t wulgach_machine_byte(struct wulgach_machine *machine, int32_t fd, uint64_t at, uint8_t *byte);
 
 /* Entries. These functions aren't part of what is proved. */

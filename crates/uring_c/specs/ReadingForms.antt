@@ -1,5 +1,4 @@
 -- The words that tell what is read off a core or a machine.
-use Rattle.std.specs.Prelude.{Option}
 use Rattle.uring_entry.specs.Layout.{Completion}
 use Rattle.uring_files.specs.declared.state.FileState.{FileState}
 use Rattle.uring_machine.specs.declared.counts.Counts.{Counts}

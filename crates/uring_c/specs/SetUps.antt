@@ -3,7 +3,7 @@ use Rattle.std.specs.Prelude.{ℕ, Option, Some, None, if◌then◌else◌}
 use Rattle.uring_entry.specs.Shape.{Shape, IsSetUp}
 use Rattle.uring_c.specs.declared.set_up_words.SetupWords.{SetupWords}
 
--- the entries of the completion ring, where they are asked for
+-- the entries of the completion ring, if they are asked for
 abbrev pub asked_cq : SetupWords → Option ℕ
 asked_cq w = if w.has_cq then Some w.cq else None
 

@@ -31,10 +31,10 @@ kernel_step_of w =
 abbrev pub is_app_kind : ℕ → Bool
 is_app_kind kind = nat_lt kind 4 || (nat_lt 9 kind && nat_lt kind 13)
 
--- the step, where the words give one
+-- the step, if the words give one
 abbrev pub step_of : StepWords → Option Step
 step_of w = if is_app_kind w.kind then app_step_of w else kernel_step_of w
 
--- the step of a core, where the words give one: a finish has an outcome, and is a call of its own
+-- the step of a core, if the words give one: a finish has an outcome, and is a call of its own
 abbrev pub core_step_of : StepWords → Option Step
 core_step_of w = if w.kind == 8 then None else step_of w

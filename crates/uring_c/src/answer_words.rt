@@ -86,7 +86,7 @@ fn kind(answer: &Answer) -> u32
     }
 }
 
-/// The word of an answer, 0 where it has none.
+/// The word of an answer: 0 if it has none.
 fn word(answer: &Answer) -> u32
     ensures { result ≡ spec.word_of answer.now }
 {
@@ -97,7 +97,7 @@ fn word(answer: &Answer) -> u32
     }
 }
 
-/// How many words were dropped, 0 where the answer doesn't say.
+/// How many words were dropped: 0 if the answer doesn't say.
 fn dropped(answer: &Answer) -> u32
     ensures { result ≡ spec.dropped_of answer.now }
 {
@@ -117,7 +117,7 @@ fn head(answer: &Answer) -> u32
     }
 }
 
-/// The number of an answer, 0 where it has none.
+/// The number of an answer: 0 if it has none.
 fn number(answer: &Answer) -> u64
     ensures { result ≡ spec.number_of answer.now }
 {
@@ -128,7 +128,7 @@ fn number(answer: &Answer) -> u64
     }
 }
 
-/// The entry of an answer, zeros where it has none.
+/// The entry of an answer: zeros if it has none.
 fn entry(answer: &Answer) -> [u64; 16]
     ensures { result ≡ spec.entry_words answer.now }
 {
@@ -138,7 +138,7 @@ fn entry(answer: &Answer) -> [u64; 16]
     }
 }
 
-/// The result of an answer, 0 where it has none.
+/// The result of an answer: 0 if it has none.
 fn res(answer: &Answer) -> i32
     ensures { result ≡ spec.res_of answer.now }
 {
@@ -149,7 +149,7 @@ fn res(answer: &Answer) -> i32
     }
 }
 
-/// The bytes of an answer, zeros where it has none.
+/// The bytes of an answer: zeros if it has none.
 fn bytes(answer: &Answer) -> [u8; 64]
     ensures { result ≡ spec.bytes_of answer.now }
 {

@@ -1,7 +1,7 @@
 //! The calls of a core, made on the core in a place. Each takes the core out, and puts it back; its box doesn't move.
 ghost use Rattle.std.specs.Prelude.{◌≡◌, [], IsSome, IfOk, IsSomeAnd, slice_get};
-ghost use Rattle.uring_dispatch.specs.Answers.{operation_running};
 ghost use Rattle.uring_entry.specs.Completions.{unreaped};
+ghost use Rattle.uring_entry.specs.Requests.{operation_running};
 ghost use Rattle.uring_machine.specs.Core.{FitsApart, IsCounts, IsNoFinish};
 ghost use Rattle.uring_machine.specs.Histories.{History, world};
 ghost use Rattle.uring_c.specs.Places.{core_in};

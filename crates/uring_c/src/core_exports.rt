@@ -2,8 +2,8 @@
 //!
 //! Each returns 0, or the negative of an error number: -9 (EBADF) exactly at an empty place.
 ghost use Rattle.std.specs.Prelude.{◌≡◌, ◌↔◌, [], pos, neg_ℤ, None, IsSome, IfSome, IsSomeAnd, MatchOption, slice_get};
-ghost use Rattle.uring_dispatch.specs.Answers.{operation_running};
 ghost use Rattle.uring_entry.specs.Completions.{unreaped};
+ghost use Rattle.uring_entry.specs.Requests.{operation_running};
 ghost use Rattle.uring_entry.specs.declared.errno.TheConstants.{EBADF, EINVAL, ENOENT, ENOMEM};
 ghost use Rattle.uring_machine.specs.Core.{FitsApart, IsCounts};
 ghost use Rattle.uring_machine.specs.Histories.{History, world};
@@ -44,7 +44,7 @@ pub extern "C" fn wulgach_core_new(alloc: Global, place: &mut CorePlace, setup: 
     0
 }
 
-/// Makes one step, and tells its answer. -22 (EINVAL) exactly if the words give no step of a core. A refusal changes nothing.
+/// Makes one step, and writes its answer. -22 (EINVAL) exactly if the words give no step of a core. A refusal changes nothing.
 #[unsafe(no_mangle)]
 pub extern "C" fn wulgach_core_step(
     alloc: Global,
@@ -67,7 +67,7 @@ pub extern "C" fn wulgach_core_step(
     0
 }
 
-/// Ends the running request of this number with an outcome from outside, and tells the answer.
+/// Ends the running request of this number with an outcome from outside, and writes the answer.
 #[unsafe(no_mangle)]
 pub extern "C" fn wulgach_core_finish(
     alloc: Global,
@@ -92,7 +92,7 @@ pub extern "C" fn wulgach_core_finish(
     0
 }
 
-/// Tells how far a core has come.
+/// Writes how far a core has come.
 #[unsafe(no_mangle)]
 pub extern "C" fn wulgach_core_counts(
     alloc: Global,
@@ -110,7 +110,7 @@ pub extern "C" fn wulgach_core_counts(
     0
 }
 
-/// Tells the completion at this place, from 0, among those that are posted and not reaped, the oldest first. -2 (ENOENT) past the last.
+/// Writes the completion at this place, from 0, among those that are posted and not reaped, the oldest first. -2 (ENOENT) past the last.
 #[unsafe(no_mangle)]
 pub extern "C" fn wulgach_core_rest(
     alloc: Global,
@@ -132,7 +132,7 @@ pub extern "C" fn wulgach_core_rest(
     0
 }
 
-/// Tells the operation of a running request. -2 (ENOENT) if it isn't running.
+/// Writes the operation of a running request. -2 (ENOENT) if it isn't running.
 #[unsafe(no_mangle)]
 pub extern "C" fn wulgach_core_running_op(
     alloc: Global,

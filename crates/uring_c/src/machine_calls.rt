@@ -1,7 +1,7 @@
 //! The calls of a machine, made on the machine in a place. Each takes the machine out, and puts it back; its box doesn't move.
 ghost use Rattle.std.specs.Prelude.{◌≡◌, [], IsSome, IfOk, IsSomeAnd, slice_get};
-ghost use Rattle.uring_dispatch.specs.Answers.{operation_running};
 ghost use Rattle.uring_entry.specs.Completions.{unreaped};
+ghost use Rattle.uring_entry.specs.Requests.{operation_running};
 ghost use Rattle.uring_machine.specs.Core.{IsCounts};
 ghost use Rattle.uring_machine.specs.Contents.{files_of};
 ghost use Rattle.uring_machine.specs.Histories.{History, world};

@@ -2,8 +2,8 @@
 //!
 //! Each returns 0, or the negative of an error number: -9 (EBADF) exactly at an empty place.
 ghost use Rattle.std.specs.Prelude.{◌≡◌, ◌↔◌, [], pos, neg_ℤ, None, IsSome, IfSome, IsSomeAnd, MatchOption, slice_get};
-ghost use Rattle.uring_dispatch.specs.Answers.{operation_running};
 ghost use Rattle.uring_entry.specs.Completions.{unreaped};
+ghost use Rattle.uring_entry.specs.Requests.{operation_running};
 ghost use Rattle.uring_entry.specs.declared.errno.TheConstants.{EBADF, EINVAL, ENOENT, ENOMEM};
 ghost use Rattle.uring_machine.specs.Core.{IsCounts};
 ghost use Rattle.uring_machine.specs.Contents.{files_of};
@@ -51,7 +51,7 @@ pub extern "C" fn wulgach_machine_new(
     0
 }
 
-/// Makes one step, and tells its answer. -22 (EINVAL) exactly if the words give no step. A refusal changes nothing.
+/// Makes one step, and writes its answer. -22 (EINVAL) exactly if the words give no step. A refusal changes nothing.
 #[unsafe(no_mangle)]
 pub extern "C" fn wulgach_machine_step(
     alloc: Global,
@@ -74,7 +74,7 @@ pub extern "C" fn wulgach_machine_step(
     0
 }
 
-/// Tells how far a machine has come.
+/// Writes how far a machine has come.
 #[unsafe(no_mangle)]
 pub extern "C" fn wulgach_machine_counts(
     alloc: Global,
@@ -92,7 +92,7 @@ pub extern "C" fn wulgach_machine_counts(
     0
 }
 
-/// Tells the completion at this place, from 0, among those that are posted and not reaped, the oldest first. -2 (ENOENT) past the last.
+/// Writes the completion at this place, from 0, among those that are posted and not reaped, the oldest first. -2 (ENOENT) past the last.
 #[unsafe(no_mangle)]
 pub extern "C" fn wulgach_machine_rest(
     alloc: Global,
@@ -114,7 +114,7 @@ pub extern "C" fn wulgach_machine_rest(
     0
 }
 
-/// Tells the operation of a running request. -2 (ENOENT) if it isn't running.
+/// Writes the operation of a running request. -2 (ENOENT) if it isn't running.
 #[unsafe(no_mangle)]
 pub extern "C" fn wulgach_machine_running_op(
     alloc: Global,
@@ -136,7 +136,7 @@ pub extern "C" fn wulgach_machine_running_op(
     0
 }
 
-/// Tells how the file of a descriptor stands. -2 (ENOENT) if there is no such file.
+/// Writes how the file of a descriptor stands. -2 (ENOENT) if there is no such file.
 #[unsafe(no_mangle)]
 pub extern "C" fn wulgach_machine_state(
     alloc: Global,
@@ -158,7 +158,7 @@ pub extern "C" fn wulgach_machine_state(
     0
 }
 
-/// Tells the byte at an offset of the file of a descriptor. -2 (ENOENT) if there is no such file, or the offset isn't below its length.
+/// Writes the byte at an offset of the file of a descriptor. -2 (ENOENT) if there is no such file, or the offset isn't below its length.
 #[unsafe(no_mangle)]
 pub extern "C" fn wulgach_machine_byte(
     alloc: Global,

@@ -49,7 +49,7 @@ breaks_links q = is_soft q.entry && has_failed q
 abbrev pub request_at : List Request → ℕ → Request
 request_at held n = slice_index_or held n (fresh zero_entry)
 
--- a request that came so far
+-- the request in this state
 abbrev pub with_state : Request → State → Request
 with_state q state = record q { state = state }
 
@@ -57,7 +57,7 @@ with_state q state = record q { state = state }
 abbrev pub chosen : Request → Request
 chosen q = record q { is_cancelled = true }
 
--- how far a request came that ended
+-- the final state: succeeded or failed
 abbrev pub ended_state : Bool → State
 ended_state true = Succeeded
 ended_state false = Failed

@@ -18,17 +18,17 @@ use uring_entry::{Setup, Sqe};
 #[derive(Debug, Drop)]
 pub struct Sq {
     size: u32,
-    // behind the last staged position
+    // One past the last staged position. Not yet visible to the dispatcher: see `published`.
     tail: Index,
-    // the tail as the application last stored it
+    // The tail as the application last stored it.
     published: Index,
     head: Index,
-    // the head as the application last loaded it
+    // The head as the application last loaded it.
     seen_head: Index,
     dropped: u32,
     call: Option<OpenCall>,
     table: Vec<Sqe>,
-    // the words that name slots of the table
+    // The words that name slots of the table.
     array: Vec<u32>,
 }
 

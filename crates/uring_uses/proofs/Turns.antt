@@ -4,11 +4,9 @@ use Rattle.std.proofs.lemmas.Bool.{and_parts, and_from, or_cases, both_ways, not
 use Rattle.std.proofs.lemmas.List.Folds.{list_all-append}
 use Rattle.uring_entry.specs.Shape.{Shape}
 use Rattle.uring_entry.specs.Preparation.{is_cancel, operation_of}
-use Rattle.uring_entry.specs.Requests.{Requests, entry_of, has_ended, is_outstanding, is_running, is_issuable, is_doomed, is_ready, doomed_result, cancel_result, no_bytes, next_of, least_of, with_started, with_ended}
+use Rattle.uring_entry.specs.Requests.{Requests, entry_of, has_ended, is_outstanding, is_running, is_issuable, is_doomed, is_ready, doomed_result, cancel_result, no_bytes, next_of, least_of, with_started, with_ended, operation_running, outstanding_in}
 use Rattle.uring_entry.proofs.BelowLemmas.{least_below-tells, least_below-out}
 use Rattle.uring_entry.proofs.RequestLemmas.{least_of-goes_on, is_running-started_same, is_running-started_other, is_running-ended_same, is_running-ended_other}
-use Rattle.uring_dispatch.specs.Counts.{outstanding_in}
-use Rattle.uring_dispatch.specs.Answers.{operation_running}
 use Rattle.uring_machine.specs.World.{World, issuing, finishing}
 use Rattle.uring_machine.specs.Answers.{IsEnded, FinishesApart, issue_answer, next_answer_of}
 use Rattle.uring_machine.specs.Histories.{History, world}

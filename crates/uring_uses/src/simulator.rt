@@ -1,6 +1,5 @@
 ghost use Rattle.std.specs.Prelude.{◌≡◌, ◌<◌, ◌≤◌, ◌+◌, ◌^◌};
-ghost use Rattle.uring_dispatch.specs.Counts.{outstanding_in};
-ghost use Rattle.uring_entry.specs.Requests.{doomed_result, no_bytes};
+ghost use Rattle.uring_entry.specs.Requests.{outstanding_in, doomed_result, no_bytes};
 ghost use Rattle.uring_machine.specs.Core.{FitsApart};
 ghost use Rattle.uring_machine.specs.Histories.{History, world};
 ghost use Rattle.uring_machine.specs.declared.answers.Answer.TheVariants as answer;

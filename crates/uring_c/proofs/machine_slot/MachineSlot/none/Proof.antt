@@ -1,9 +1,9 @@
 -- `none` makes a slot with a null pointer, which owns nothing beside its allocator.
-use mathlib.Core.Path.{◌≡◌, refl, sym, subst}
+use mathlib.Core.Path.{refl, sym, subst}
 use mathlib.Core.List.{List, [], ◌∷◌, ◌++◌}
-use lib.Dec.{T, lit<}
+use lib.Dec.{lit<}
 use seplogic.Ra.Ura.{Ura}
-use mir.Val.{Val, vnull, vstruct, vnil, vcons, has_ty, WT}
+use mir.Val.{Val, vnull, vstruct, vnil, vcons, has_ty}
 use base.Logic.{SProp, ent, emp}
 use base.Fml.{ftrue, fsep}
 use prog.Memory.{Memory}
