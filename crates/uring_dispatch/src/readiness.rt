@@ -7,7 +7,7 @@ ghost use Rattle.uring_dispatch.specs.Held.{AreHeld};
 
 use crate::doom::is_doomed;
 use crate::groups::{group_start, is_draining};
-use crate::held::Request;
+use crate::request::Request;
 
 /// Whether request `n` may start: every earlier member of its group has ended, every member of every earlier group that drains, and, where its own group drains, every earlier request.
 pub(crate) fn is_ready(requests: &[Request], n: usize) -> bool

@@ -10,16 +10,16 @@ use Rattle.std.proofs.lemmas.List.{length-append, length-map, map-append}
 use Rattle.std.proofs.lemmas.List.Elements.{All-head, All-tail}
 use Rattle.std.proofs.lemmas.List.Sums.{sum_by_push}
 use Rattle.std.proofs.lemmas.Option.{slice_get-get_or}
-use Rattle.uring_entry.specs.Shape.{Shape}
-use Rattle.uring_entry.specs.Layout.{Entry}
-use Rattle.uring_entry.specs.Submission.{Submission, Place, place_of, taken, staged, is_busy, is_full, closed, call_length}
+use Rattle.uring_entry.specs.Setup.{Setup}
+use Rattle.uring_entry.specs.Layout.{Sqe}
+use Rattle.uring_entry.specs.Submission.{Submission, Place, place_of, taken, staged, is_busy, is_full, with_closed, call_length}
 use Rattle.uring_machine.specs.World.{World, happens, taking, ending, ending_of}
-use Rattle.uring_machine.specs.Answers.{OrAgain, is_spent, place_answer, entry_answer}
+use Rattle.uring_machine.specs.StepAnswers.{OrAgain, is_spent, place_answer, entry_answer}
 use Rattle.uring_machine.specs.Published.{Published, with_entry, bad_word, item_of, IsItem}
 use Rattle.uring_machine.specs.Standing.{Stands, FreeSlotIsFilled, WordIsStaged, TailPublishes, with_item, with_items, ItemsArePublished, in_call, CallOpens, PositionIsTaken, CallCloses}
-use Rattle.uring_machine.specs.declared.steps.Step.TheVariants as step
-use Rattle.uring_machine.specs.declared.answers.Answer.{Answer}
-use Rattle.uring_machine.specs.declared.answers.Answer.TheVariants as answer
+use Rattle.uring_machine.specs.declared.step.Step.TheVariants as step
+use Rattle.uring_machine.specs.declared.answer.Answer.{Answer}
+use Rattle.uring_machine.specs.declared.answer.Answer.TheVariants as answer
 
 -- Filling and staging.
 
@@ -37,15 +37,15 @@ fill_free : (slot size : ℕ) (busy : Bool) → slot < size → busy ≡ false �
 fill_free slot size busy low free =
     ap (λ b. if nat_le size slot then answer.NoSlot else (if b then answer.Busy else answer.Filled)) free ∙ ap (λ b. if b then answer.NoSlot else answer.Filled) (lt-leb size slot low)
 
-pub slot_filled : (g : Shape) → FreeSlotIsFilled g
+pub slot_filled : (g : Setup) → FreeSlotIsFilled g
 slot_filled g w words slot entry a s low called =
     (called ∙ fill_free slot g.sq _ low (slots_free w.submission words slot s), record { fresh = s.fresh; call = s.call; head = s.head; waiting = s.waiting })
 
-pub word_staged : (g : Shape) → WordIsStaged g
+pub word_staged : (g : Setup) → WordIsStaged g
 word_staged g w words word a s few called =
     (called ∙ ap (λ full. if full then answer.Full else answer.Staged) (room_left g.sq w.submission words s few), record { fresh = ap (λ xs. xs ++ word ∷ []) s.fresh; call = s.call; head = s.head; waiting = s.waiting })
 
-pub tail_publishes : (g : Shape) → TailPublishes g
+pub tail_publishes : (g : Setup) → TailPublishes g
 tail_publishes g l words s =
     record {
       fresh = refl;
@@ -85,14 +85,14 @@ read_back : (size : ℕ) (l : Submission) (slot : ℕ) (items : List Published) 
 read_back size l slot [] few good = refl
 read_back size l slot (with_entry entry ∷ later) few good =
     let l' : Submission = with_item l slot (with_entry entry) in
-    let content : ℕ → Entry = (with_items l' (slot + 1) later).content in
+    let content : ℕ → Sqe = (with_items l' (slot + 1) later).content in
     let held : content slot ≡ entry = slots_below l' (slot + 1) later slot (omega arith) ∙ ap (λ b. if b then entry else l.content slot) (eq-eqb slot slot refl) in
     let low : slot < size = omega arith in
     ap₂ (λ item rest. item ∷ rest) (ap (λ b. item_of slot (if b then Some (content slot) else None)) (lt-ltb slot size low) ∙ ap with_entry held)
     (read_back size l' (slot + 1) later (omega arith) (All-tail (IsItem size) (with_entry entry) later good))
 read_back size l slot (bad_word word ∷ later) few good =
     let l' : Submission = with_item l slot (bad_word word) in
-    let content : ℕ → Entry = (with_items l' (slot + 1) later).content in
+    let content : ℕ → Sqe = (with_items l' (slot + 1) later).content in
     let high : size ≤ word = All-head (IsItem size) (bad_word word) later good in
     ap₂ (λ item rest. item ∷ rest) (ap (λ b. item_of word (if b then Some (content word) else None)) (le-ltb word size high))
     (read_back size l' (slot + 1) later (omega arith) (All-tail (IsItem size) (bad_word word) later good))
@@ -111,10 +111,10 @@ items_published l size items none few good =
 length_asked : (l : Submission) (count asked : ℕ) → Stands l [] count → asked ≤ count → call_length l asked ≡ asked
 length_asked l count asked s few = omega (arith, s.waiting)
 
-open_answer : (closed in_call : Bool) (rest : Answer) → closed ≡ false → in_call ≡ false → (if closed then answer.Closed else (if in_call then answer.InCall else rest)) ≡ rest
-open_answer closed in_call rest e f = rw (e, f) refl
+open_answer : (with_closed in_call : Bool) (rest : Answer) → with_closed ≡ false → in_call ≡ false → (if with_closed then answer.Closed else (if in_call then answer.InCall else rest)) ≡ rest
+open_answer with_closed in_call rest e f = rw (e, f) refl
 
-pub call_opens : (g : Shape) → CallOpens g
+pub call_opens : (g : Setup) → CallOpens g
 call_opens g w count asked a s is_open few called =
     let l : Submission = w.submission in
     let length_is : call_length l asked ≡ asked = length_asked l count asked s few in
@@ -128,11 +128,11 @@ call_opens g w count asked a s is_open few called =
       by_spent false e told = inl told
 
 -- a position was taken, whatever its word
-took_place : (w : World) (count done : ℕ) (entry : Option Entry) (a : Answer) → a ≡ entry_answer entry → taking (in_call w count done) a ≡ in_call w count (done + 1)
+took_place : (w : World) (count done : ℕ) (entry : Option Sqe) (a : Answer) → a ≡ entry_answer entry → taking (in_call w count done) a ≡ in_call w count (done + 1)
 took_place w count done None a is = ap (taking (in_call w count done)) is
 took_place w count done (Some entry) a is = ap (taking (in_call w count done)) is
 
-pub position_taken : (g : Shape) → PositionIsTaken g
+pub position_taken : (g : Setup) → PositionIsTaken g
 position_taken g w count asked done a s few low called =
     let l : Submission = w.submission in
     let at : ℕ = taken l + done in
@@ -144,7 +144,7 @@ position_taken g w count asked done a s few low called =
 closes : (w : World) (count : ℕ) (few : Bool) (accepted missed head : ℕ) (a : Answer) → few ≡ false → a ≡ (if few then answer.NotAll else answer.Taken accepted missed head) → ending (in_call w count count) a ≡ ending_of (in_call w count count) (Some (record { count = count; taken = count }))
 closes w count few accepted missed head a all called = ap (ending (in_call w count count)) (called ∙ ap (λ b. if b then answer.NotAll else answer.Taken accepted missed head) all)
 
-pub call_closes : (g : Shape) → CallCloses g
+pub call_closes : (g : Setup) → CallCloses g
 call_closes g w count asked left ended loads s all called =
     let l : Submission = w.submission in
     let done : ending (in_call w asked asked) ended ≡ ending_of (in_call w asked asked) (Some (record { count = asked; taken = asked })) = closes w asked _ _ _ _ ended (le-ltb asked asked (omega arith)) called in

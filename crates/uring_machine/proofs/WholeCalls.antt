@@ -3,24 +3,24 @@
 use Rattle.std.proofs.Common.{◌≡◌, ℕ, ◌+◌, ◌≤◌, List, [], ◌∷◌, ◌++◌, length, refl, sym, subst, ap, ap₂, ◌∙◌, inl, inr, arith}
 use Rattle.std.specs.List.{zip}
 use Rattle.std.proofs.lemmas.List.{length_push}
-use Rattle.uring_entry.specs.Shape.{Shape}
-use Rattle.uring_entry.specs.Layout.{Entry}
-use Rattle.uring_entry.specs.Words.{word_of}
-use Rattle.uring_entry.specs.Submission.{Submission, staged, stored}
+use Rattle.uring_entry.specs.Setup.{Setup}
+use Rattle.uring_entry.specs.Layout.{Sqe}
+use Rattle.uring_entry.specs.IndexWords.{word_of}
+use Rattle.uring_entry.specs.Submission.{Submission, staged, with_published}
 use Rattle.uring_machine.specs.World.{World}
-use Rattle.uring_machine.specs.Answers.{is_spent}
+use Rattle.uring_machine.specs.StepAnswers.{is_spent}
 use Rattle.uring_machine.specs.Histories.{Event, History, world, history_of, IsLawfulApart}
 use Rattle.uring_machine.specs.Published.{Published, with_entry, bad_word, published_items}
 use Rattle.uring_machine.specs.Standing.{Stands, with_items, item_steps, item_answers, after_items, TakesWholeCall}
-use Rattle.uring_machine.specs.declared.steps.Step.TheVariants as step
-use Rattle.uring_machine.specs.declared.answers.Answer.{Answer}
-use Rattle.uring_machine.specs.declared.answers.Answer.TheVariants as answer
+use Rattle.uring_machine.specs.declared.step.Step.TheVariants as step
+use Rattle.uring_machine.specs.declared.answer.Answer.{Answer}
+use Rattle.uring_machine.specs.declared.answer.Answer.TheVariants as answer
 use Rattle.uring_machine.proofs.Following.{history_of-cons}
 use Rattle.uring_machine.proofs.Growth.{lawful_before}
 use Rattle.uring_machine.proofs.Standing.{slot_filled, word_staged, tail_publishes, items_keep, items_published, call_opens}
 
 -- None of these items was refused: the world is the one with them, and the ring stands with as many words more.
-record NoneRefused (g : Shape) (before : History) (words : List ℕ) (slot : ℕ) (items : List Published) (answers : List Answer) : Type 0 where
+record NoneRefused (g : Setup) (before : History) (words : List ℕ) (slot : ℕ) (items : List Published) (answers : List Answer) : Type 0 where
   none_refused : answers ≡ item_answers items
   now : world g (history_of (zip (item_steps slot items) answers) ++ before) ≡ record (world g before) { submission = with_items (world g before).submission slot items }
   staged : List ℕ
@@ -28,10 +28,10 @@ record NoneRefused (g : Shape) (before : History) (words : List ℕ) (slot : ℕ
   stands : Stands (with_items (world g before).submission slot items) staged 0
 
 -- the events of an item come right behind what was before
-one_behind : (e : Event) (events : List Event) (before : History) (g : Shape) → IsLawfulApart g (history_of (e ∷ events) ++ before) → IsLawfulApart g (history_of events ++ e ∷ before)
+one_behind : (e : Event) (events : List Event) (before : History) (g : Setup) → IsLawfulApart g (history_of (e ∷ events) ++ before) → IsLawfulApart g (history_of events ++ e ∷ before)
 one_behind e events before g lawful = subst (IsLawfulApart g) (history_of-cons e events before) lawful
 
-word_goes_in : (g : Shape) (before : History) (words : List ℕ) (slot word : ℕ) (later : List Published) (a : Answer) (answers : List Answer) → a ≡ answer.Staged
+word_goes_in : (g : Setup) (before : History) (words : List ℕ) (slot word : ℕ) (later : List Published) (a : Answer) (answers : List Answer) → a ≡ answer.Staged
     → NoneRefused g ((step.Index word, answer.Staged) ∷ before) (words ++ word ∷ []) (slot + 1) later answers → NoneRefused g before words slot (bad_word word ∷ later) (a ∷ answers)
 word_goes_in g before words slot word later a answers is rest =
     let events : List Event = zip (item_steps (slot + 1) later) answers in
@@ -43,7 +43,7 @@ word_goes_in g before words slot word later a answers is rest =
       stands = rest.stands;
     }
 
-entry_goes_in : (g : Shape) (before : History) (words : List ℕ) (slot : ℕ) (entry : Entry) (later : List Published) (a b : Answer) (answers : List Answer) → a ≡ answer.Filled → b ≡ answer.Staged
+entry_goes_in : (g : Setup) (before : History) (words : List ℕ) (slot : ℕ) (entry : Sqe) (later : List Published) (a b : Answer) (answers : List Answer) → a ≡ answer.Filled → b ≡ answer.Staged
     → NoneRefused g ((step.Index slot, answer.Staged) ∷ (step.Fill slot entry, answer.Filled) ∷ before) (words ++ slot ∷ []) (slot + 1) later answers → NoneRefused g before words slot (with_entry entry ∷ later) (a ∷ b ∷ answers)
 entry_goes_in g before words slot entry later a b answers is also rest =
     let events : List Event = zip (item_steps (slot + 1) later) answers in
@@ -59,7 +59,7 @@ entry_goes_in g before words slot entry later a b answers is also rest =
       stands = rest.stands;
     }
 
-items_go_in : (g : Shape) (items : List Published) (before : History) (words : List ℕ) (slot : ℕ) (answers : List Answer) → Stands (world g before).submission words 0 → slot + length items ≤ g.sq → length words + length items ≤ g.sq
+items_go_in : (g : Setup) (items : List Published) (before : History) (words : List ℕ) (slot : ℕ) (answers : List Answer) → Stands (world g before).submission words 0 → slot + length items ≤ g.sq → length words + length items ≤ g.sq
     → length answers ≡ length (item_steps slot items) → IsLawfulApart g (history_of (zip (item_steps slot items) answers) ++ before) → NoneRefused g before words slot items answers
 items_go_in g [] before words slot [] stands low few many lawful = record { none_refused = refl; now = refl; staged = words; many = omega arith; stands = stands }
 items_go_in g [] before words slot (a ∷ answers) stands low few many lawful = absurd (omega (arith, many))
@@ -84,17 +84,17 @@ items_go_in g (with_entry entry ∷ later) before words slot (a ∷ b ∷ answer
     (items_go_in g later ((step.Index slot, answer.Staged) ∷ (step.Fill slot entry, answer.Filled) ∷ before) (words ++ slot ∷ []) (slot + 1) answers second.1 (omega arith) (omega (arith, length_push words slot)) (omega (arith, many))
     (subst (λ x. IsLawfulApart g (history_of events ++ (step.Index slot, x) ∷ (step.Fill slot entry, answer.Filled) ∷ before)) second.0 staging))
 
-pub takes_whole_call : (g : Shape) → TakesWholeCall g
+pub takes_whole_call : (g : Setup) → TakesWholeCall g
 takes_whole_call g before items answers tail begun stands is_open few many lawful =
     let l : Submission = (world g before).submission in
     let inside = items_go_in g items before [] 0 answers stands (omega arith) (omega arith) many lawful.1.1 in
     let there : World = world g (after_items items answers before) in
     let count : staged there.submission ≡ length l.published + length items = ap (λ v. staged v.submission) inside.now ∙ omega (arith, ap length (items_keep l 0 items), ap length inside.stands.fresh, inside.many) in
-    let then_stands : Stands (stored g.sq there.submission) [] (length inside.staged) = subst (λ v. Stands (stored g.sq v.submission) [] (length inside.staged)) (sym inside.now) (tail_publishes g (with_items l 0 items) inside.staged inside.stands) in
+    let then_stands : Stands (with_published g.sq there.submission) [] (length inside.staged) = subst (λ v. Stands (with_published g.sq v.submission) [] (length inside.staged)) (sym inside.now) (tail_publishes g (with_items l 0 items) inside.staged inside.stands) in
     let opened = call_opens g (world g ((step.StoreTail, tail) ∷ after_items items answers before)) (length inside.staged) (length items) begun then_stands (ap (λ v. v.is_closed) inside.now ∙ is_open) (omega (arith, inside.many)) lawful.0 in
     record {
       none_refused = inside.none_refused;
       tail_is = lawful.1.0 ∙ ap (λ n. answer.Tail (word_of g.start n)) count;
-      are_published = λ good. ap (λ v. published_items (stored g.sq v.submission)) inside.now ∙ items_published l g.sq items stands.fresh few good;
+      are_published = λ good. ap (λ v. published_items (with_published g.sq v.submission)) inside.now ∙ items_published l g.sq items stands.fresh few good;
       opens = elim opened.0 [ inl called ↦ inl called | inr spent ↦ inr (spent.0, ap (λ v. is_spent v (length items)) (sym inside.now) ∙ spent.1) ];
     }

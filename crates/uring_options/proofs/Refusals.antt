@@ -12,7 +12,7 @@ use Rattle.clap.specs.Values.{kind_of}
 use Rattle.clap.specs.Walk.{Row, Text}
 use Rattle.clap.specs.declared.error.Error.{Error}
 use Rattle.clap.specs.declared.error.kind.ErrorKind.TheVariants.{OutOfMemory}
-use Rattle.uring_entry.specs.Shape.{IsBadCq}
+use Rattle.uring_entry.specs.Setup.{IsBadCq}
 use Rattle.uring_entry.proofs.Powers.{rounded_once}
 use Rattle.uring_options.specs.CommandLine.{uring, trace_rows, Gives, Numbers, AreInRange, GivesNumbers, IsWithin, IsTraceOver, IsTooSmall, AskFor, AskForTooSmall, IsMemory}
 use Rattle.uring_options.specs.declared.answers.Options.{Options}

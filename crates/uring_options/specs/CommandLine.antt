@@ -12,7 +12,7 @@ use Rattle.clap.specs.declared.builder.action.ArgAction.TheVariants.{Set}
 use Rattle.clap.specs.declared.builder.value_parser.ValueParser.{ValueParser}
 use Rattle.clap.specs.declared.builder.value_parser.ValueParser.TheVariants.{Signed}
 use Rattle.clap.specs.declared.error.kind.ErrorKind.TheVariants.{OutOfMemory}
-use Rattle.uring_entry.specs.Shape.{IsSetUp}
+use Rattle.uring_entry.specs.Setup.{IsSetupFor}
 use Rattle.uring_options.specs.declared.answers.Options.{Options}
 use Rattle.uring_options.specs.declared.answers.Options.TheVariants.{Trace}
 use Rattle.uring_options.specs.declared.answers.OptionsFault.{OptionsFault}
@@ -84,7 +84,7 @@ pub record Writes (words : List Text) (n : Numbers) : Type 0 where
 
 -- a trace over the set-up of these numbers: 4 entries, a completion ring of twice as many, 2 files and the word 0 where none is given
 abbrev pub IsTraceOver : Numbers → Options → Type 0
-IsTraceOver n (Trace s) = IsSetUp (unwrap_or n.sq 4) n.cq (unwrap_or n.files 2) (unwrap_or n.start 0) s
+IsTraceOver n (Trace s) = IsSetupFor (unwrap_or n.sq 4) n.cq (unwrap_or n.files 2) (unwrap_or n.start 0) s
 
 -- a completion ring is given, and is smaller after rounding than the submission ring
 pub record IsTooSmall (n : Numbers) : Type 0 where
