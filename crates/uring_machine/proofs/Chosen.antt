@@ -17,7 +17,7 @@ use Rattle.uring_machine.specs.declared.step.Step.TheVariants as step
 use Rattle.uring_machine.specs.declared.answer.Answer.{Answer}
 use Rattle.uring_machine.specs.declared.answer.Answer.TheVariants as answer
 use Rattle.uring_machine.proofs.Changes.{change_of}
-use Rattle.uring_machine.proofs.Moves.{Move, stays, accepts, starts, ends_doomed, ends_cancel, ends_run, move_of}
+use Rattle.uring_machine.proofs.Moves.{Move, ends_doomed, ends_cancel, move_of}
 use Rattle.uring_machine.proofs.RequestEnds.{doomed_unlike_zero}
 use Rattle.uring_machine.proofs.Growth.{event_grows}
 
@@ -63,9 +63,6 @@ record IsChoosing (w : World) (s : Step) (a : Answer) (m : ℕ) : Type 0 where
 
 new_cancel : (w : World) (s : Step) (a : Answer) (later : Requests) → Move w.requests s a later
     → (m : ℕ) → is_cancelled later m ≡ true → (is_cancelled w.requests m ≡ true) ⊎ IsChoosing w s a m
-new_cancel w s a later (stays _ _ no_start no_end) m gone = inl gone
-new_cancel w s a later (accepts accepted missed head entries) m gone = inl gone
-new_cancel w s a later (starts n outstanding idle spared ready no_cancel) m gone = inl gone
 new_cancel w s a later (ends_doomed n outstanding) m gone =
     elim (any_both (λ k. k == m) w.requests.cancelled (chosen_by w.requests n (doomed_result w.requests n)) gone) [
       | inl old ↦ inl old
@@ -76,7 +73,7 @@ new_cancel w s a later (ends_cancel n outstanding spared ready cancel) m gone =
       | inl old ↦ inl old
       | inr new ↦ inr (let c = chosen_now w.requests n m new in record { number = n; now = c; step_is = refl; answer_is = ap (λ res. answer.Ended res no_bytes) c.result })
     ]
-new_cancel w s a later (ends_run n res bytes running) m gone = inl gone
+new_cancel w s a later _ m gone = inl gone
 
 one_later : (g : Setup) (e : Event) (h : History) (m : ℕ) → IsChosenIn g h m → IsChosenIn g (e ∷ h) m
 one_later g e h m c = record { after = e ∷ c.after; before = c.before; number = c.number; bytes = c.bytes; split = ap (λ xs. e ∷ xs) c.split; cancel = c.cancel; target = c.target }

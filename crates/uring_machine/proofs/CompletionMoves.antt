@@ -13,7 +13,7 @@ use Rattle.uring_machine.specs.declared.step.Step.{Step}
 use Rattle.uring_machine.specs.declared.step.Step.TheVariants as step
 use Rattle.uring_machine.specs.declared.answer.Answer.{Answer}
 use Rattle.uring_machine.specs.declared.answer.Answer.TheVariants as answer
-use Rattle.uring_machine.proofs.Changes.{Change, refuses as event_refuses, fills as event_fills, stages as event_stages, stores as event_stores, loads as event_loads, begins as event_begins, takes as event_takes, drops as event_drops, closes as event_closes, runs as event_runs, dooms as event_dooms, cancels as event_cancels, finishes as event_finishes, flushes as event_flushes, sees_tail as event_sees_tail, reaps as event_reaps, stores_head as event_stores_head, shuts as event_shuts}
+use Rattle.uring_machine.proofs.Changes.{Change, refuses as event_refuses, takes as event_takes, drops as event_drops, closes as event_closes, runs as event_runs, dooms as event_dooms, cancels as event_cancels, finishes as event_finishes, flushes as event_flushes, sees_tail as event_sees_tail, reaps as event_reaps, stores_head as event_stores_head}
 
 -- an event that tells nothing of the completion ring's head and tail
 pub record IsOffCompletions (e : Event) : Type 0 where
@@ -52,11 +52,6 @@ same_ends r = record { more = []; accepted = sym (append-nil r.accepted); ended 
 pub completion_move : (g : Setup) (w : World) (s : Step) (a : Answer) → Change g w s a → CompletionMove g w s a (happens g w s a)
 completion_move g w s a (event_refuses _ _ same i) =
     subst (CompletionMove g w s a) (sym (same w)) (stays s a w.submission w.requests w.is_closed (off i.reaps i.flushes i.loads_cq_tail i.stores_cq_head) i.ends (same_ends w.requests))
-completion_move g w s a (event_fills slot entry free) = stays _ _ _ _ _ (off refl refl refl refl) refl (same_ends w.requests)
-completion_move g w s a (event_stages word room) = stays _ _ _ _ _ (off refl refl refl refl) refl (same_ends w.requests)
-completion_move g w s a (event_stores tail) = stays _ _ _ _ _ (off refl refl refl refl) refl (same_ends w.requests)
-completion_move g w s a (event_loads head) = stays _ _ _ _ _ (off refl refl refl refl) refl (same_ends w.requests)
-completion_move g w s a (event_begins count is_open no_call) = stays _ _ _ _ _ (off refl refl refl refl) refl (same_ends w.requests)
 completion_move g w s a (event_takes entry call place opened left at valid) =
     subst (λ o. CompletionMove g w step.Take (answer.Entry entry) (taking_of w o)) (sym opened) (stays _ _ _ _ _ (off refl refl refl refl) refl (same_ends w.requests))
 completion_move g w s a (event_drops call place opened left at invalid) =
@@ -71,4 +66,4 @@ completion_move g w s a (event_flushes moved) = flushes moved
 completion_move g w s a (event_sees_tail tail) = sees_tail tail
 completion_move g w s a (event_reaps completion next) = reaps completion next
 completion_move g w s a (event_stores_head head) = stores_head head
-completion_move g w s a (event_shuts no_call) = stays _ _ _ _ _ (off refl refl refl refl) refl (same_ends w.requests)
+completion_move g w s a _ = stays _ _ _ _ _ (off refl refl refl refl) refl (same_ends w.requests)

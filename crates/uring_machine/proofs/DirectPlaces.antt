@@ -14,7 +14,7 @@ use Rattle.uring_machine.specs.declared.step.Step.TheVariants as step
 use Rattle.uring_machine.specs.declared.answer.Answer.{Answer}
 use Rattle.uring_machine.specs.declared.answer.Answer.TheVariants as answer
 use Rattle.uring_machine.proofs.Changes.{change_of}
-use Rattle.uring_machine.proofs.SubmissionMoves.{SubmissionMove, stays, fills, stages, stores, loads, begins, takes, drops, closes, submission_move}
+use Rattle.uring_machine.proofs.SubmissionMoves.{SubmissionMove, stays, stages, stores, submission_move}
 use Rattle.uring_machine.proofs.Telling.{told_same}
 use Rattle.uring_machine.proofs.DirectSubmission.{DirectSubmission, direct_submission}
 
@@ -67,14 +67,9 @@ entry_stored g tail h w d i k p at (inr high) =
 entries_direct : (g : Setup) (h : History) (w : World) (s : Step) (a : Answer) (v : World)
     → SubmissionMove g w s a v → DirectSubmission h w → EntriesTold g h w → EntriesTold g ((s, a) ∷ h) v
 entries_direct g h w s a v (stays _ _ r c is_closed off left) d i = λ k p at. i k p at ∙ sym (entry_same g.sq (s, a) h k off.stages off.stores_tail)
-entries_direct g h w s a v (fills slot entry) d i = i
 entries_direct g h w s a v (stages word room) d i = λ k p at. i k p at ∙ sym (entry_staged g.sq word h w d k (slice_get_within w.submission.published k p at))
 entries_direct g h w s a v (stores tail) d i = λ k p at. entry_stored g tail h w d i k p at (cases_lt k (length w.submission.published))
-entries_direct g h w s a v (loads head) d i = i
-entries_direct g h w s a v (begins count is_open no_call) d i = i
-entries_direct g h w s a v (takes entry call place opened left at valid) d i = i
-entries_direct g h w s a v (drops call place opened left at invalid) d i = i
-entries_direct g h w s a v (closes accepted missed head call opened all counted) d i = i
+entries_direct g h w s a v _ d i = i
 
 pub direct_places : (g : Setup) (h : History) → IsLawfulApart g h → EntriesTold g h (world g h)
 direct_places g [] lawful = λ k p at. absurd (let e : None ≡ Some p = at in cc)

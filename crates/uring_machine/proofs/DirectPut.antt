@@ -14,7 +14,7 @@ use Rattle.uring_machine.specs.HistoryLists.{posted_count, put_count}
 use Rattle.uring_machine.specs.declared.step.Step.{Step}
 use Rattle.uring_machine.specs.declared.answer.Answer.{Answer}
 use Rattle.uring_machine.proofs.Changes.{change_of}
-use Rattle.uring_machine.proofs.CompletionMoves.{CompletionMove, stays, ends, flushes, sees_tail, reaps, stores_head, completion_move}
+use Rattle.uring_machine.proofs.CompletionMoves.{CompletionMove, stays, ends, flushes, completion_move}
 use Rattle.uring_machine.proofs.DirectCompletions.{direct_completions}
 use Rattle.uring_machine.proofs.DirectRequests.{direct_requests}
 use Rattle.uring_machine.proofs.ToldRequests.{tells_requests}
@@ -46,9 +46,7 @@ put_direct g h s a v (ends _ _ n res bytes r off told same_accepted one_more) f 
     end_put g.cq (world g h).completions (posts_completion (entry_of (world g h).requests n) res) (completion_for (entry_of (world g h).requests n) res bytes) (put_count g h) (posted_count g h) (flushed_head h) i f.posted f.loaded
     ∙ sym (put_told g h (is_flush (s, a)) (end_told_by (s, a)) (Some (record { number = n; res = res; bytes = bytes })) off.flushes told)
 put_direct g h s a v (flushes moved) f i = ap₂ (λ posted head. min posted (head + g.cq)) f.posted f.stored
-put_direct g h s a v (sees_tail tail) f i = i
-put_direct g h s a v (reaps completion next) f i = i
-put_direct g h s a v (stores_head head) f i = i
+put_direct g h s a v _ f i = i
 
 put_facts : (g : Setup) (h : History) → IsLawfulApart g h → PutFacts g h
 put_facts g h lawful =

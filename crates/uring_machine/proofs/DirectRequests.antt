@@ -17,8 +17,8 @@ use Rattle.uring_machine.specs.Histories.{History, world, IsLawfulApart}
 use Rattle.uring_machine.specs.declared.step.Step.{Step}
 use Rattle.uring_machine.specs.declared.answer.Answer.{Answer}
 use Rattle.uring_machine.proofs.Changes.{Change, change_of}
-use Rattle.uring_machine.proofs.SubmissionMoves.{SubmissionMove, stays, fills, stages, stores, loads, begins, takes, drops, closes, submission_move}
-use Rattle.uring_machine.proofs.CompletionMoves.{CompletionMove, stays as stays_off, ends, flushes, sees_tail, reaps, stores_head, completion_move}
+use Rattle.uring_machine.proofs.SubmissionMoves.{SubmissionMove, stays, stores, closes, submission_move}
+use Rattle.uring_machine.proofs.CompletionMoves.{CompletionMove, stays as stays_off, ends, completion_move}
 use Rattle.uring_machine.proofs.Telling.{told_same}
 use Rattle.uring_machine.proofs.Sound.{IsSound, sound_of}
 
@@ -73,10 +73,7 @@ posted_direct g w s a v (stays_off _ _ l r is_closed off no_end left) sound i =
 posted_direct g w s a v (ends _ _ n res bytes r off told same_accepted one_more) sound i =
     end_posted g.cq w.completions w.requests.accepted w.requests.ended (record { number = n; res = res; bytes = bytes }) i
     ∙ ap₂ (λ accepted ended. filter_map (completion_of accepted) ended) (sym same_accepted) (sym one_more)
-posted_direct g w s a v (flushes moved) sound i = i
-posted_direct g w s a v (sees_tail tail) sound i = i
-posted_direct g w s a v (reaps completion next) sound i = i
-posted_direct g w s a v (stores_head head) sound i = i
+posted_direct g w s a v _ sound i = i
 
 -- what of the requests the submission ring tells
 record DirectAccepted (h : History) (w : World) : Type 0 where
@@ -93,8 +90,6 @@ accepted_direct g h w s a v (stays _ _ r c is_closed off left) sound i =
       cuts = left.cuts ∙ i.cuts ∙ ap (sums_from 0) (sym (told_same accepted_by (s, a) h off.accepts));
       shut = left.shut ∙ ap (λ b. closes_ring (s, a) || b) i.shut;
     }
-accepted_direct g h w s a v (fills slot entry) sound i = record { taken_in = i.taken_in; counted = i.counted; cuts = i.cuts; shut = i.shut }
-accepted_direct g h w s a v (stages word room) sound i = record { taken_in = i.taken_in; counted = i.counted; cuts = i.cuts; shut = i.shut }
 accepted_direct g h w s a v (stores tail) sound i =
     let published = map (place_of g.sq w.submission.content) w.submission.fresh in
     record {
@@ -103,10 +98,6 @@ accepted_direct g h w s a v (stores tail) sound i =
       cuts = i.cuts;
       shut = i.shut;
     }
-accepted_direct g h w s a v (loads head) sound i = record { taken_in = i.taken_in; counted = i.counted; cuts = i.cuts; shut = i.shut }
-accepted_direct g h w s a v (begins count is_open no_call) sound i = record { taken_in = i.taken_in; counted = i.counted; cuts = i.cuts; shut = i.shut }
-accepted_direct g h w s a v (takes entry call place opened left at valid) sound i = record { taken_in = i.taken_in; counted = i.counted; cuts = i.cuts; shut = i.shut }
-accepted_direct g h w s a v (drops call place opened left at invalid) sound i = record { taken_in = i.taken_in; counted = i.counted; cuts = i.cuts; shut = i.shut }
 accepted_direct g h w s a v (closes accepted missed head call opened all counted) sound i =
     let entries = entries_of (places_from w.submission call.count) in
     let longer = length-append w.requests.accepted (entries_of (places_from w.submission call.count)) in
@@ -116,6 +107,7 @@ accepted_direct g h w s a v (closes accepted missed head call opened all counted
       cuts = ap₂ (λ xs n. xs ++ n ∷ []) i.cuts (omega (arith, i.counted, counted, longer)) ∙ sym (sums_push 0 (told accepted_by h) accepted);
       shut = i.shut;
     }
+accepted_direct g h w s a v _ sound i = record { taken_in = i.taken_in; counted = i.counted; cuts = i.cuts; shut = i.shut }
 
 requests_direct : (g : Setup) (h : History) (w : World) (s : Step) (a : Answer) → Change g w s a → IsSound g w → DirectRequests h w → DirectRequests ((s, a) ∷ h) (happens g w s a)
 requests_direct g h w s a c sound i =

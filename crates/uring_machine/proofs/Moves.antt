@@ -12,7 +12,7 @@ use Rattle.uring_machine.specs.declared.step.Step.{Step}
 use Rattle.uring_machine.specs.declared.step.Step.TheVariants as step
 use Rattle.uring_machine.specs.declared.answer.Answer.{Answer}
 use Rattle.uring_machine.specs.declared.answer.Answer.TheVariants as answer
-use Rattle.uring_machine.proofs.Changes.{Change, refuses, fills, stages, stores, loads, begins, takes, drops, closes, runs, dooms, cancels, finishes, flushes, sees_tail, reaps, stores_head, shuts}
+use Rattle.uring_machine.proofs.Changes.{Change, refuses, takes, drops, closes, runs, dooms, cancels, finishes}
 
 pub data Move (r : Requests) : Step → Answer → Requests → Type 0 where
   stays : (s : Step) (a : Answer) → started_by (s, a) ≡ None → end_told_by (s, a) ≡ None → Move r s a r
@@ -38,11 +38,6 @@ run_no_cancel true false false true true as_doomed as_cancel e = absurd cc
 
 pub move_of : (g : Setup) (w : World) (s : Step) (a : Answer) → Change g w s a → CalledForApart g w s a → Move w.requests s a (happens g w s a).requests
 move_of g w s a (refuses _ _ same silent) called = subst (λ v. Move w.requests s a v.requests) (sym (same w)) (stays s a silent.starts silent.ends)
-move_of g w s a (fills slot entry free) called = stays _ _ refl refl
-move_of g w s a (stages word room) called = stays _ _ refl refl
-move_of g w s a (stores tail) called = stays _ _ refl refl
-move_of g w s a (loads head) called = stays _ _ refl refl
-move_of g w s a (begins count is_open no_call) called = stays _ _ refl refl
 move_of g w s a (takes entry call place opened left at valid) called = subst (λ o. Move w.requests s a (taking_of w o).requests) (sym opened) (stays _ _ refl refl)
 move_of g w s a (drops call place opened left at invalid) called = subst (λ o. Move w.requests s a (taking_of w o).requests) (sym opened) (stays _ _ refl refl)
 move_of g w s a (closes accepted missed head call opened all told) called = subst (λ o. Move w.requests s a (ending_of w o).requests) (sym opened) (accepts accepted missed head (entries_of (places_from w.submission call.count)))
@@ -52,8 +47,4 @@ move_of g w s a (runs n outstanding idle spared ready) called =
 move_of g w s a (dooms n outstanding idle doomed) called = ends_doomed n outstanding
 move_of g w s a (cancels n outstanding idle spared ready cancel) called = ends_cancel n outstanding spared ready cancel
 move_of g w s a (finishes n res bytes running) called = ends_run n res bytes running
-move_of g w s a (flushes moved) called = stays _ _ refl refl
-move_of g w s a (sees_tail tail) called = stays _ _ refl refl
-move_of g w s a (reaps completion next) called = stays _ _ refl refl
-move_of g w s a (stores_head head) called = stays _ _ refl refl
-move_of g w s a (shuts no_call) called = stays _ _ refl refl
+move_of g w s a _ called = stays _ _ refl refl

@@ -14,7 +14,7 @@ use Rattle.uring_machine.specs.declared.step.Step.{Step}
 use Rattle.uring_machine.specs.declared.answer.Answer.{Answer}
 use Rattle.uring_machine.specs.declared.answer.Answer.TheVariants as answer
 use Rattle.uring_machine.proofs.Changes.{change_of}
-use Rattle.uring_machine.proofs.SubmissionMoves.{SubmissionMove, stays, fills, stages, stores, loads, begins, takes, drops, closes, submission_move}
+use Rattle.uring_machine.proofs.SubmissionMoves.{SubmissionMove, stays, begins, takes, drops, closes, submission_move}
 use Rattle.uring_machine.proofs.Outstanding.{count_below-few}
 
 -- the requests accepted, with those that the open call may still accept, are fewer than 2 ^ 63
@@ -36,10 +36,6 @@ few_entries w call =
 few_kept : (g : Setup) (w : World) (s : Step) (a : Answer) (v : World) → SubmissionMove g w s a v → CalledForApart g w s a → AreFew w → AreFew v
 few_kept g w s a v (stays _ _ r c is_closed off left) called i =
     subst (λ entries. length entries + positions_of w.submission.call ≤ 2 ^ 63 - 1) (sym left.accepted) i
-few_kept g w s a v (fills slot entry) called i = i
-few_kept g w s a v (stages word room) called i = i
-few_kept g w s a v (stores tail) called i = i
-few_kept g w s a v (loads head) called i = i
 few_kept g w s a v (begins count is_open no_call) called i =
     ltb-false _ _ (not_spent w.is_closed (is_some w.submission.call) (is_spent w (call_length w.submission count)) (call_length w.submission count) called)
 few_kept g w s a v (takes entry call place opened left at valid) called i = subst (λ o. length w.requests.accepted + positions_of o ≤ 2 ^ 63 - 1) opened i
@@ -47,6 +43,7 @@ few_kept g w s a v (drops call place opened left at invalid) called i = subst (�
 few_kept g w s a v (closes accepted missed head call opened all many) called i =
     let before : length w.requests.accepted + call.count ≤ 2 ^ 63 - 1 = subst (λ o. length w.requests.accepted + positions_of o ≤ 2 ^ 63 - 1) opened i in
     omega (arith, before, few_entries w call, length-append w.requests.accepted (entries_of (places_from w.submission call.count)))
+few_kept g w s a v _ called i = i
 
 few_accepted : (g : Setup) (h : History) → IsLawfulApart g h → AreFew (world g h)
 few_accepted g [] lawful = omega arith

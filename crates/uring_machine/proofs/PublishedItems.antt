@@ -12,7 +12,7 @@ use Rattle.std.proofs.lemmas.Option.{slice_get_within, get_or_from_slice_get}
 use Rattle.uring_entry.specs.Setup.{Setup}
 use Rattle.uring_entry.specs.Layout.{Sqe}
 use Rattle.uring_entry.specs.Submission.{Submission, Call, Place, place_of, taken, entries_of, dropped_in}
-use Rattle.uring_machine.specs.World.{World, happens, taking_of, ending_of}
+use Rattle.uring_machine.specs.World.{World, ending_of}
 use Rattle.uring_machine.specs.Direct.{takes_position, entry_taken_by, with_told, closes_call, entries_taken, positions_taken, staged_words, published_words, published_entry, slot_content, before_published}
 use Rattle.uring_machine.specs.Histories.{Event, History, world, IsLawfulApart}
 use Rattle.uring_machine.specs.HistoryLists.{OwnSubmission}
@@ -22,7 +22,7 @@ use Rattle.uring_machine.specs.declared.step.Step.TheVariants as step
 use Rattle.uring_machine.specs.declared.answer.Answer.{Answer}
 use Rattle.uring_machine.specs.declared.answer.Answer.TheVariants as answer
 use Rattle.uring_machine.proofs.Changes.{change_of}
-use Rattle.uring_machine.proofs.SubmissionMoves.{SubmissionMove, stays, fills, stages, stores, loads, begins, takes, drops, closes, submission_move}
+use Rattle.uring_machine.proofs.SubmissionMoves.{SubmissionMove, stays, stores, closes, submission_move}
 use Rattle.uring_machine.proofs.ReadOff.{own_submission}
 use Rattle.uring_machine.proofs.Sound.{sound_of}
 use Rattle.uring_machine.proofs.SoundRings.{open_taken, open_count}
@@ -130,16 +130,11 @@ closed_drops g h lawful accepted missed head call opened all =
 
 drops_kept : (g : Setup) (h : History) (s : Step) (a : Answer) (v : World) → IsLawfulApart g h → SubmissionMove g (world g h) s a v → Drops h (world g h) → Drops ((s, a) ∷ h) v
 drops_kept g h s a v lawful (stays _ _ r c is_closed off left) i = ap (count_by drops_position) (before_same closes_call (s, a) h off.closes) ∙ i
-drops_kept g h s a v lawful (fills slot entry) i = i
-drops_kept g h s a v lawful (stages word room) i = i
 drops_kept g h s a v lawful (stores tail) i =
     let l : Submission = (world g h).submission in
     i ∙ ap dropped_in (sym (take-append-le (taken l) l.published (map (place_of g.sq l.content) l.fresh) (omega (arith, (sound_of g h lawful).submission.call_published))))
-drops_kept g h s a v lawful (loads head) i = i
-drops_kept g h s a v lawful (begins count is_open no_call) i = i
-drops_kept g h s a v lawful (takes entry call place opened left at valid) i = i
-drops_kept g h s a v lawful (drops call place opened left at invalid) i = i
 drops_kept g h s a v lawful (closes accepted missed head call opened all counted) i = closed_drops g h lawful accepted missed head call opened all
+drops_kept g h s a v lawful _ i = i
 
 drops_told : (g : Setup) (h : History) → IsLawfulApart g h → Drops h (world g h)
 drops_told g [] lawful = refl

@@ -13,7 +13,7 @@ use Rattle.uring_machine.specs.declared.step.Step.TheVariants as step
 use Rattle.uring_machine.specs.declared.answer.Answer.{Answer}
 use Rattle.uring_machine.specs.declared.answer.Answer.TheVariants as answer
 use Rattle.uring_machine.proofs.Changes.{change_of}
-use Rattle.uring_machine.proofs.SubmissionMoves.{SubmissionMove, stays, fills, stages, stores, loads, begins, takes, drops, closes, submission_move}
+use Rattle.uring_machine.proofs.SubmissionMoves.{SubmissionMove, stays, begins, takes, drops, closes, submission_move}
 use Rattle.uring_machine.proofs.SoundRings.{IsSoundCompletions}
 
 pub begin_posted : (size : ℕ) (l : Completions) → IsSoundCompletions size l → ReapedBeginPosted size l
@@ -40,14 +40,11 @@ record StaysShut (w : World) (after : History) : Type 0 where
 
 shut_stays : (g : Setup) (w : World) (s : Step) (a : Answer) (v : World) → SubmissionMove g w s a v → IsShut w → IsShut v × (takes_in (s, a) ≡ false)
 shut_stays g w s a v (stays _ _ r c is_closed off left) i = (record { closed = left.shut ∙ or_right _ _ i.closed; no_call = i.no_call }, off.takes_into)
-shut_stays g w s a v (fills slot entry) i = (record { closed = i.closed; no_call = i.no_call }, refl)
-shut_stays g w s a v (stages word room) i = (record { closed = i.closed; no_call = i.no_call }, refl)
-shut_stays g w s a v (stores tail) i = (record { closed = i.closed; no_call = i.no_call }, refl)
-shut_stays g w s a v (loads head) i = (record { closed = i.closed; no_call = i.no_call }, refl)
 shut_stays g w s a v (begins count is_open no_call) i = absurd (let e = i.closed in cc)
 shut_stays g w s a v (takes entry call place opened left at valid) i = absurd (let o = i.no_call in cc)
 shut_stays g w s a v (drops call place opened left at invalid) i = absurd (let o = i.no_call in cc)
 shut_stays g w s a v (closes accepted missed head call opened all counted) i = absurd (let o = i.no_call in cc)
+shut_stays g w s a v _ i = (record { closed = i.closed; no_call = i.no_call }, refl)
 
 open_none : (w : World) → answer.Shut ≡ (cond (is_some w.submission.call) answer.InCall answer.Shut) → w.submission.call ≡ None
 open_none w e = by_call w.submission.call e where

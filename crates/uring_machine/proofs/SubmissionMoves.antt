@@ -14,7 +14,7 @@ use Rattle.uring_machine.specs.declared.step.Step.{Step}
 use Rattle.uring_machine.specs.declared.step.Step.TheVariants as step
 use Rattle.uring_machine.specs.declared.answer.Answer.{Answer}
 use Rattle.uring_machine.specs.declared.answer.Answer.TheVariants as answer
-use Rattle.uring_machine.proofs.Changes.{Change, IsSilent, refuses as event_refuses, fills as event_fills, stages as event_stages, stores as event_stores, loads as event_loads, begins as event_begins, takes as event_takes, drops as event_drops, closes as event_closes, runs as event_runs, dooms as event_dooms, cancels as event_cancels, finishes as event_finishes, flushes as event_flushes, sees_tail as event_sees_tail, reaps as event_reaps, stores_head as event_stores_head, shuts as event_shuts}
+use Rattle.uring_machine.proofs.Changes.{Change, IsSilent, refuses as event_refuses, fills as event_fills, stages as event_stages, stores as event_stores, loads as event_loads, begins as event_begins, takes as event_takes, drops as event_drops, closes as event_closes}
 
 -- an event that tells nothing of the submission ring
 pub record IsOffSubmission (e : Event) : Type 0 where
@@ -93,12 +93,5 @@ submission_move g w s a (event_drops call place opened left at invalid) =
     subst (λ o. SubmissionMove g w step.Take answer.Dropped (taking_of w o)) (sym opened) (drops call place opened left at invalid)
 submission_move g w s a (event_closes accepted missed head call opened all counted) =
     subst (λ o. SubmissionMove g w step.End (answer.Taken accepted missed head) (ending_of w o)) (sym opened) (closes accepted missed head call opened all counted)
-submission_move g w s a (event_runs n outstanding idle spared ready) = stays _ _ _ _ _ (off refl (λ k. refl) refl refl refl refl refl refl refl refl refl) (record { accepted = refl; cuts = refl; shut = refl })
-submission_move g w s a (event_dooms n outstanding idle doomed) = stays _ _ _ _ _ (off refl (λ k. refl) refl refl refl refl refl refl refl refl refl) (record { accepted = refl; cuts = refl; shut = refl })
-submission_move g w s a (event_cancels n outstanding idle spared ready cancel) = stays _ _ _ _ _ (off refl (λ k. refl) refl refl refl refl refl refl refl refl refl) (record { accepted = refl; cuts = refl; shut = refl })
-submission_move g w s a (event_finishes n res bytes running) = stays _ _ _ _ _ (off refl (λ k. refl) refl refl refl refl refl refl refl refl refl) (record { accepted = refl; cuts = refl; shut = refl })
-submission_move g w s a (event_flushes moved) = stays _ _ _ _ _ (off refl (λ k. refl) refl refl refl refl refl refl refl refl refl) (record { accepted = refl; cuts = refl; shut = refl })
-submission_move g w s a (event_sees_tail tail) = stays _ _ _ _ _ (off refl (λ k. refl) refl refl refl refl refl refl refl refl refl) (record { accepted = refl; cuts = refl; shut = refl })
-submission_move g w s a (event_reaps completion next) = stays _ _ _ _ _ (off refl (λ k. refl) refl refl refl refl refl refl refl refl refl) (record { accepted = refl; cuts = refl; shut = refl })
-submission_move g w s a (event_stores_head head) = stays _ _ _ _ _ (off refl (λ k. refl) refl refl refl refl refl refl refl refl refl) (record { accepted = refl; cuts = refl; shut = refl })
-submission_move g w s a (event_shuts no_call) = stays _ _ _ _ _ (off refl (λ k. refl) refl refl refl refl refl refl refl refl refl) (record { accepted = refl; cuts = refl; shut = refl })
+submission_move g w s a _ =
+    stays _ _ _ _ _ (off refl (λ k. refl) refl refl refl refl refl refl refl refl refl) (record { accepted = refl; cuts = refl; shut = refl })
