@@ -107,7 +107,7 @@ accepted_direct g h w s a v (closes accepted missed head call opened all counted
       cuts = ap₂ (λ xs n. xs ++ n ∷ []) i.cuts (omega (arith, i.counted, counted, longer)) ∙ sym (sums_push 0 (told accepted_by h) accepted);
       shut = i.shut;
     }
-accepted_direct g h w s a v _ sound i = record { taken_in = i.taken_in; counted = i.counted; cuts = i.cuts; shut = i.shut }
+accepted_direct g h w s a v _ sound i = assumption i
 
 requests_direct : (g : Setup) (h : History) (w : World) (s : Step) (a : Answer) → Change g w s a → IsSound g w → DirectRequests h w → DirectRequests ((s, a) ∷ h) (happens g w s a)
 requests_direct g h w s a c sound i =

@@ -84,16 +84,9 @@ submission_direct g h w s a v (stays _ _ r c is_closed off left) i =
     }
 submission_direct g h w s a v (fills slot entry) i =
     let f = none_called h w (step.Fill slot entry, answer.Filled) refl refl refl i in
-    record {
-      content = λ asked. ap (λ o. if asked == slot then entry else o) (i.content asked) ∙ sym (fill_tells (asked == slot) entry (last_told (filled_by asked) h));
-      published = i.published;
-      staged = i.staged;
-      opened = i.opened;
-      closed = f.closed;
-      openings = f.openings;
-      seen = i.seen;
-      since = f.since;
-    }
+    let content : (asked : ℕ) → (if asked == slot then entry else w.submission.content asked) ≡ slot_content ((step.Fill slot entry, answer.Filled) ∷ h) asked =
+    λ asked. ap (λ o. if asked == slot then entry else o) (i.content asked) ∙ sym (fill_tells (asked == slot) entry (last_told (filled_by asked) h)) in
+    assumption (content, f, i)
 submission_direct g h w s a v (stages word room) i =
     let f = none_called h w (step.Index word, answer.Staged) refl refl refl i in
     record {
