@@ -65,30 +65,10 @@ end_sound size l c true s = post_sound size l c s
 end_sound size l c false s = s
 
 pub flush_sound : (size : ℕ) (l : Completions) → IsSoundCompletions size l → IsSoundCompletions size (with_flushed size l)
-flush_sound size l s =
-    record {
-      begins = s.begins;
-      reaped_seen = s.reaped_seen;
-      seen_put = omega arith;
-      put_posted = omega arith;
-      seen_head_head = omega arith;
-      head_reaped = s.head_reaped;
-      fits = omega arith;
-      full_ring = λ waits. omega arith;
-    }
+flush_sound size l s = grind arith
 
 pub see_tail_sound : (size : ℕ) (l : Completions) → IsSoundCompletions size l → IsSoundCompletions size (with_tail_loaded l)
-see_tail_sound size l s =
-    record {
-      begins = s.begins;
-      reaped_seen = omega arith;
-      seen_put = omega arith;
-      put_posted = s.put_posted;
-      seen_head_head = s.seen_head_head;
-      head_reaped = s.head_reaped;
-      fits = s.fits;
-      full_ring = s.full_ring;
-    }
+see_tail_sound size l s = grind arith
 
 next_tells : (l : Completions) (c : Cqe) → next_to_reap l ≡ Some c → (eqb (length l.reaped) l.seen_tail ≡ false) × (slice_get l.posted (length l.reaped) ≡ Some c)
 next_tells l c e = by_end (eqb (length l.reaped) l.seen_tail) e where
@@ -114,17 +94,7 @@ reap_sound size l c e s =
     }
 
 pub store_head_sound : (size : ℕ) (l : Completions) → IsSoundCompletions size l → IsSoundCompletions size (with_head_stored l)
-store_head_sound size l s =
-    record {
-      begins = s.begins;
-      reaped_seen = s.reaped_seen;
-      seen_put = s.seen_put;
-      put_posted = s.put_posted;
-      seen_head_head = omega arith;
-      head_reaped = omega arith;
-      fits = s.fits;
-      full_ring = s.full_ring;
-    }
+store_head_sound size l s = grind arith
 
 -- The submission ring.
 
@@ -155,10 +125,10 @@ store_sound size l s =
     record { seen_first = s.seen_first; call_published = omega arith; within_call = s.within_call; few = omega arith }
 
 pub load_sound : (size : ℕ) (l : Submission) → IsSoundSubmission size l → IsSoundSubmission size (with_head_loaded l)
-load_sound size l s = record { seen_first = omega arith; call_published = s.call_published; within_call = s.within_call; few = omega arith }
+load_sound size l s = grind arith
 
 pub begin_sound : (size : ℕ) (l : Submission) (count : ℕ) → IsSoundSubmission size l → IsSoundSubmission size (with_begun l count)
-begin_sound size l count s = record { seen_first = s.seen_first; call_published = omega arith; within_call = omega arith; few = s.few }
+begin_sound size l count s = grind arith
 
 pub take_sound : (size : ℕ) (l : Submission) (call : Call) → l.call ≡ Some call → eqb call.taken call.count ≡ false → IsSoundSubmission size l → IsSoundSubmission size (with_taken l call)
 take_sound size l call e f s =
