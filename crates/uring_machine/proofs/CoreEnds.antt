@@ -74,19 +74,9 @@ closed_shows p w q d call s is all accepts few shown =
     let numbers : p.dispatch.accepted + call.count ≤ 2 ^ 63 - 1 = subst (λ c. p.dispatch.accepted + positions_of c ≤ 2 ^ 63 - 1) is s.numbers in
     let posts = s.posts in
     let held : p.held ≡ entries_of (places_from w.submission call.count) = s.held ∙ ap (held_by w.submission) is ∙ ap (λ n. entries_of (places_from w.submission n)) all in
-    record {
-      submission = shown;
-      completions = s.completions;
-      requests = subst (λ xs. ShowsRequests d (with_call w.requests xs)) held (accepts.shows w.requests s.requests);
-      held = refl;
-      closed = s.closed;
-      between = accepts.between;
-      room_to_post = omega arith;
-      room_to_accept = omega arith;
-      promised = s.promised;
-      numbers = omega arith;
-      posts = omega arith;
-    }
+    let requests = subst (λ xs. ShowsRequests d (with_call w.requests xs)) held (accepts.shows w.requests s.requests) in
+    let none_held : ◌≡◌ {A = List Sqe} [] [] = refl in
+    grind (arith, requests, none_held)
 
 closed_answer : (g : Setup) (w : World) (call : Call) (t : Taken) → ended_as.Taken t ≡ ring.end_of g w.submission (Some call) → answer.Taken t.accepted t.dropped t.head ≡ end_answer_in g w (Some call)
 closed_answer g w call t e =
@@ -200,27 +190,10 @@ pub run_goes : (p : Core) (d : Dispatch) (n : ℕ) (op : Op)
 run_goes p d n op answered shows counts h f =
     let w = world p.setup h in
     let s = f.shows in
-    let a = counts.accepted in
-    let o = counts.outstanding in
-    let r = counts.room in
-    let to_post = s.room_to_post in
-    let to_accept = s.room_to_accept in
-    let numbers = s.numbers in
-    let posts = s.posts in
+    let started = shows w.requests s.requests in
+    let between = counts.between ∙ s.between in
     record {
-      shows = record {
-        submission = s.submission;
-        completions = s.completions;
-        requests = shows w.requests s.requests;
-        held = s.held;
-        closed = s.closed;
-        between = counts.between ∙ s.between;
-        room_to_post = omega arith;
-        room_to_accept = omega arith;
-        promised = s.promised;
-        numbers = omega arith;
-        posts = omega arith;
-      };
+      shows = grind (arith, s, counts, started, between);
       lawful = (ap issue_told (answered w.requests s.requests) ∙ issue_same w n, f.lawful);
     }
 
@@ -315,18 +288,6 @@ new_fits p submission completions none_promised requests between held open_ring 
     let a : p.dispatch.accepted ≡ 0 = requests.accepted in
     let o : p.dispatch.outstanding ≡ 0 = requests.outstanding in
     record {
-      shows = record {
-        submission = submission;
-        completions = completions;
-        requests = requests;
-        held = held;
-        closed = open_ring;
-        between = between;
-        room_to_post = omega arith;
-        room_to_accept = omega arith;
-        promised = omega arith;
-        numbers = omega arith;
-        posts = omega arith;
-      };
+      shows = grind arith;
       lawful = tt;
     }

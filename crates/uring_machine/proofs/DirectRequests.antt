@@ -92,12 +92,8 @@ accepted_direct g h w s a v (stays _ _ r c is_closed off left) sound i =
     }
 accepted_direct g h w s a v (stores tail) sound i =
     let published = map (place_of g.sq w.submission.content) w.submission.fresh in
-    record {
-      taken_in = i.taken_in ∙ ap entries_of (sym (take-append-le (taken w.submission) w.submission.published published (omega (arith, sound.submission.call_published))));
-      counted = i.counted;
-      cuts = i.cuts;
-      shut = i.shut;
-    }
+    let taken_in = i.taken_in ∙ ap entries_of (sym (take-append-le (taken w.submission) w.submission.published published (omega (arith, sound.submission.call_published)))) in
+    assumption (taken_in, i)
 accepted_direct g h w s a v (closes accepted missed head call opened all counted) sound i =
     let entries = entries_of (places_from w.submission call.count) in
     let longer = length-append w.requests.accepted (entries_of (places_from w.submission call.count)) in
@@ -111,15 +107,10 @@ accepted_direct g h w s a v _ sound i = assumption i
 
 requests_direct : (g : Setup) (h : History) (w : World) (s : Step) (a : Answer) → Change g w s a → IsSound g w → DirectRequests h w → DirectRequests ((s, a) ∷ h) (happens g w s a)
 requests_direct g h w s a c sound i =
-    let known : DirectAccepted h w = record { taken_in = i.taken_in; counted = i.counted; cuts = i.cuts; shut = i.shut } in
+    let known : DirectAccepted h w = assumption i in
     let d = accepted_direct g h w s a _ (submission_move g w s a c) sound known in
-    record {
-      posted = posted_direct g w s a _ (completion_move g w s a c) sound i.posted;
-      taken_in = d.taken_in;
-      counted = d.counted;
-      cuts = d.cuts;
-      shut = d.shut;
-    }
+    let posted = posted_direct g w s a _ (completion_move g w s a c) sound i.posted in
+    assumption (posted, d)
 
 pub direct_requests : (g : Setup) (h : History) → IsLawfulApart g h → DirectRequests h (world g h)
 direct_requests g [] lawful = record { posted = refl; taken_in = refl; counted = refl; cuts = refl; shut = refl }

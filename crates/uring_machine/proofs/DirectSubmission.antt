@@ -89,42 +89,19 @@ submission_direct g h w s a v (fills slot entry) i =
     assumption (content, f, i)
 submission_direct g h w s a v (stages word room) i =
     let f = none_called h w (step.Index word, answer.Staged) refl refl refl i in
-    record {
-      content = i.content;
-      published = i.published;
-      staged = sym (append_assoc (published_words h) w.submission.fresh (word ∷ [])) ∙ ap (λ xs. xs ++ word ∷ []) i.staged;
-      opened = i.opened;
-      closed = f.closed;
-      openings = f.openings;
-      seen = i.seen;
-      since = f.since;
-    }
+    let staged = sym (append_assoc (published_words h) w.submission.fresh (word ∷ [])) ∙ ap (λ xs. xs ++ word ∷ []) i.staged in
+    assumption (staged, f, i)
 submission_direct g h w s a v (stores tail) i =
     let f = none_called h w (step.StoreTail, answer.Tail tail) refl refl refl i in
-    record {
-      content = i.content;
-      published =
-          map-append (λ p. p.word) w.submission.published (map (place_of g.sq w.submission.content) w.submission.fresh)
-          ∙ ap₂ (λ xs ys. xs ++ ys) i.published (words_of_places g.sq w.submission.content w.submission.fresh) ∙ i.staged;
-      staged = append-nil (staged_words h);
-      opened = i.opened;
-      closed = f.closed;
-      openings = f.openings;
-      seen = i.seen;
-      since = f.since;
-    }
+    let published =
+    map-append (λ p. p.word) w.submission.published (map (place_of g.sq w.submission.content) w.submission.fresh)
+    ∙ ap₂ (λ xs ys. xs ++ ys) i.published (words_of_places g.sq w.submission.content w.submission.fresh) ∙ i.staged in
+    let staged = append-nil (staged_words h) in
+    assumption (published, staged, f, i)
 submission_direct g h w s a v (loads head) i =
     let f = none_called h w (step.LoadHead, answer.Head head) refl refl refl i in
-    record {
-      content = i.content;
-      published = i.published;
-      staged = i.staged;
-      opened = i.opened;
-      closed = f.closed;
-      openings = f.openings;
-      seen = ap sum (sym (own_calls h w i.opened i.closed));
-      since = f.since;
-    }
+    let seen = ap sum (sym (own_calls h w i.opened i.closed)) in
+    assumption (seen, f, i)
 submission_direct g h w s a v (begins count is_open no_call) i =
     record {
       content = i.content;

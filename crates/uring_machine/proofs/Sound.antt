@@ -34,7 +34,7 @@ first_sound g = record { submission = first_submission g.sq; completions = first
 -- a change keeps the submission ring sound
 submission_kept : (g : Setup) (w : World) (s : Step) (a : Answer) (v : World) → SubmissionMove g w s a v → IsSoundSubmission g.sq w.submission → IsSoundSubmission g.sq v.submission
 submission_kept g w s a v (stays_off_submission _ _ r c is_closed off left) i = i
-submission_kept g w s a v (fills slot entry) i = record { seen_first = i.seen_first; call_published = i.call_published; within_call = i.within_call; few = i.few }
+submission_kept g w s a v (fills slot entry) i = assumption i
 submission_kept g w s a v (stages word room) i = stage_sound g.sq w.submission word room i
 submission_kept g w s a v (stores tail) i = store_sound g.sq w.submission i
 submission_kept g w s a v (loads head) i = load_sound g.sq w.submission i

@@ -58,20 +58,7 @@ pub data SubmissionMove (g : Setup) (w : World) : Step → Answer → World → 
       → SubmissionMove g w step.End (answer.Taken accepted missed head) (ending_of w (Some call))
 
 off_silent : {e : Event} → IsSilent e → IsOffSubmission e
-off_silent i =
-    record {
-      stages = i.stages;
-      fills = i.fills;
-      takes_entry = i.takes_entry;
-      takes = i.takes;
-      opens = i.opens;
-      opens_none = i.opens_none;
-      accepts = i.accepts;
-      closes = i.closes;
-      takes_into = i.takes_into;
-      stores_tail = i.stores_tail;
-      loads_head = i.loads_head;
-    }
+off_silent i = assumption i
 
 -- an event of another ring, which computes
 off : {e : Event} → staged_by e ≡ None → ((slot : ℕ) → filled_by slot e ≡ None) → entry_taken_by e ≡ None → takes_position e ≡ false → opened_by e ≡ None
