@@ -1,6 +1,6 @@
 -- What an event makes of the submission ring, each with what is known of it because its answer was called for.
 -- `stays` is the frame of all that leave the ring as it was: whatever became of the rest, they tell nothing of it.
-use Rattle.std.proofs.Common.{◌≡◌, ℕ, Bool, true, false, ◌||◌, nat_lt, eqb, ◌+◌, length, Option, Some, None, slice_get, refl, sym, subst, ap, rules}
+use Rattle.std.proofs.Common.{◌≡◌, ℕ, Bool, false, ◌||◌, nat_lt, eqb, ◌+◌, length, Some, None, slice_get, refl, sym, subst, ap, rules}
 use Rattle.uring_entry.specs.Setup.{Setup}
 use Rattle.uring_entry.specs.Layout.{Sqe}
 use Rattle.uring_entry.specs.Submission.{Call, Place, taken, is_full, call_length, entries_of, places_from, with_filled, with_staged, with_published, with_head_loaded, with_begun}
