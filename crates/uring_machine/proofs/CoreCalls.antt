@@ -88,6 +88,11 @@ short_for_some : (p : Parts) (w : World) (n : ℕ) → ShowsWorld p w → IsShor
 short_for_some p w n s (inl few_requests) = omega arith
 short_for_some p w n s (inr few_posts) = omega (arith, s.room_to_post, s.promised)
 
+-- so a Begin that was answered Call found memory for its call, and memory isn't short for it while it is open
+pub never_short_for_open_call : (p : Parts) (w : World) → ShowsWorld p w → IsShortFor p (positions_of w.submission.call) → ⊥
+never_short_for_open_call p w s (inl few_requests) = omega (arith, s.room_to_accept)
+never_short_for_open_call p w s (inr few_posts) = omega (arith, s.room_to_post, s.promised)
+
 pub again_goes : (p : Parts) (d : Dispatcher) (q : CompletionQueue) (count n : ℕ) → MayOpen p count n → p.dispatcher.accepted + n ≤ 2 ^ 63 - 1
     → IsSameCount p.dispatcher d → d.is_between_calls ≡ true → ((r : Requests) → Shows p.dispatcher r → Shows d r) → q ≡ p.completions → IsShortFor p n
     → (h : History) → FitsApart p h → FitsApart (record p { dispatcher = d; completions = q }) ((step.Begin count, answer.Again) ∷ h)

@@ -1,5 +1,5 @@
 -- That a machine fits a history with one more event.
-use Rattle.std.proofs.Common.{◌≡◌, ℕ, List, ◌∷◌, Bool, true, false, Some, None, if◌then◌else◌, refl, sym, subst, ◌∙◌, ap}
+use Rattle.std.proofs.Common.{◌≡◌, ℕ, List, ◌∷◌, Bool, true, false, Option, Some, None, IfSome, if◌then◌else◌, refl, sym, subst, ◌∙◌, ap}
 use Rattle.uring_entry.specs.Shape.{Shape}
 use Rattle.uring_entry.specs.Preparation.{operation_of}
 use Rattle.uring_entry.specs.Requests.{Requests, entry_of, is_running, operation_running}
@@ -10,7 +10,7 @@ use Rattle.uring_files.specs.Operations.{after, IsOutcome, IsForFiles}
 use Rattle.uring_machine.specs.World.{World}
 use Rattle.uring_machine.specs.Answers.{CalledForApart, FinishesApart}
 use Rattle.uring_machine.specs.Contents.{CalledFor, IsLawful, EndsOn, files_of}
-use Rattle.uring_machine.specs.Core.{Parts, FitsApart, IsNoFinish, IsFinished}
+use Rattle.uring_machine.specs.Core.{Parts, FitsApart, IsCore, IsNoFinish, IsFinished}
 use Rattle.uring_machine.specs.Histories.{History, world}
 use Rattle.uring_machine.specs.Machine.{Fits}
 use Rattle.uring_machine.specs.declared.steps.Step.{Step}
@@ -57,13 +57,13 @@ runs_with r n op e = by_running (is_running r n) e where
   by_running false f = absurd cc
 
 -- what runs can be asked of files
-pub asks_files : (core : Parts) (files : List FileContents) (n : ℕ) (op : Op) → ((h : History) × Fits (record { core = core; files = files }) h)
-    → ((h : History) → FitsApart core h → Some op ≡ operation_running (world core.shape h).requests n) → IsForFiles op
-asks_files core files n op some is =
-    let h : History = some.0 in
-    let fits = some.1 in
-    let r = runs_with (world core.shape h).requests n op (is h fits.core) in
-    subst IsForFiles (sym r.1) (running_asks core.shape h n fits.core.lawful r.0)
+pub asks_files : (core : Parts) (n : ℕ) (r : Option Op) → IsCore core → ((h : History) → FitsApart core h → r ≡ operation_running (world core.shape h).requests n) → IfSome r IsForFiles
+asks_files core n None some is = tt
+asks_files core n (Some op) some is =
+    let h : History = some.1 in
+    let fits = some.2 in
+    let r = runs_with (world core.shape h).requests n op (is h fits) in
+    subst IsForFiles (sym r.1) (running_asks core.shape h n fits.lawful r.0)
 
 -- a running request ended
 pub finish_fits : (core later : Parts) (files : List FileContents) (n : ℕ) (op : Op) (outcome : Outcome) (left : List FileContents) (a : Answer) (h : History) → later.shape ≡ core.shape

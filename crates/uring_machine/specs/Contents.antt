@@ -1,13 +1,13 @@
 -- The files of a history.
 use Rattle.std.specs.Prelude.{◌≡◌, ℕ, List, [], ◌∷◌, replicate, Bool, true, false}
 use Rattle.uring_entry.specs.Shape.{Shape}
-use Rattle.uring_entry.specs.Preparation.{operation_of}
+use Rattle.uring_entry.specs.Preparation.{operation_of, is_cancel}
 use Rattle.uring_entry.specs.Requests.{Requests, Ending, entry_of, is_running}
 use Rattle.uring_files.specs.Contents.{FileContents, empty_file}
-use Rattle.uring_files.specs.Operations.{after, IsOutcome}
+use Rattle.uring_files.specs.Operations.{after, IsOutcome, IsForFiles}
 use Rattle.uring_machine.specs.World.{World}
 use Rattle.uring_machine.specs.Answers.{CalledForApart}
-use Rattle.uring_machine.specs.Histories.{History, world}
+use Rattle.uring_machine.specs.Histories.{History, world, IsLawfulApart}
 use Rattle.uring_machine.specs.declared.steps.Step.{Step}
 use Rattle.uring_machine.specs.declared.steps.Step.TheVariants as step
 use Rattle.uring_machine.specs.declared.answers.Answer.{Answer}
@@ -17,6 +17,11 @@ use Rattle.uring_machine.specs.declared.answers.Answer.TheVariants as answer
 abbrev pub files_after : Requests → List FileContents → List Ending → List FileContents
 files_after r files [] = files
 files_after r files (e ∷ later) = files_after r (after files (operation_of (entry_of r e.number)) e.res) later
+
+-- What runs can be carried out on files: it is no cancel, and its operation can be asked of them.
+pub record RunsOnFiles (r : Requests) (n : ℕ) : Type 0 where
+  pub no_cancel : is_cancel (entry_of r n) ≡ false
+  pub asks : IsForFiles (operation_of (entry_of r n))
 
 -- The files as the ends so far have left them: each empty at first.
 abbrev pub files_of : Shape → World → List FileContents
@@ -37,3 +42,7 @@ CalledFor g w s a = CalledForApart g w s a
 abbrev pub IsLawful : Shape → History → Type 0
 IsLawful g [] = Unit {0}
 IsLawful g ((s, a) ∷ before) = CalledFor g (world g before) s a × IsLawful g before
+
+-- Whatever runs in a lawful history can be carried out on files.
+abbrev pub WhatRunsIsForFiles : Shape → Type 0
+WhatRunsIsForFiles g = (h : History) (n : ℕ) → IsLawfulApart g h → is_running (world g h).requests n ≡ true → RunsOnFiles (world g h).requests n

@@ -1,6 +1,8 @@
-ghost use Rattle.std.specs.Prelude.{◌≡◌, ◌∷◌, [], IfOk, slice_get};
+ghost use Rattle.std.specs.Prelude.{◌≡◌, ◌∷◌, [], IfOk, IfSome, slice_get};
+ghost use Rattle.uring_entry.specs.Shape.{IsShape};
 ghost use Rattle.uring_entry.specs.Completions.{unreaped};
-ghost use Rattle.uring_entry.specs.Requests.{least_of, operation_running};
+ghost use Rattle.uring_entry.specs.Requests.{least_of, operation_running, next_of};
+ghost use Rattle.uring_files.specs.Operations.{IsForFiles};
 ghost use Rattle.uring_machine.specs.Histories.{History, world};
 ghost use Rattle.uring_machine.specs.declared.steps.Step.TheVariants as step;
 ghost use Rattle.uring_machine.specs.declared.answers.Answer.TheVariants as answer;
@@ -24,9 +26,9 @@ pub struct Core {
     sq: Sq,
     cq: Cq,
     dispatch: Dispatch,
-
-    /// The entries that the open call took, in order.
+    // The entries that the open call took, in order. There is room for those of a whole ring.
     held: Vec<Sqe>,
+    // Whether a Close was answered Shut.
     is_closed: bool,
 }
 
@@ -87,7 +89,7 @@ impl Core {
             Step::Reap => self.reap(),
             Step::StoreCqHead => self.store_cq_head(),
             Step::Close => self.close(),
-            Step::Next => self.next(),
+            Step::Next => self.ask_next(),
         }
     }
 
@@ -110,18 +112,34 @@ impl Core {
         }
     }
 
-    /// The operation of the request of this number: `Some` exactly where it is running.
+    /// The operation of the request of this number: `Some` exactly if it is running. It can be carried out on files.
     pub fn running_op(&self, number: u64) -> Option<Op>
-        ensures { (h : History) → FitsApart self.now h → result ≡ operation_running (world self.now.shape h).requests number }
+        ensures value { (h : History) → FitsApart self.now h → result ≡ operation_running (world self.now.shape h).requests number }
+        ensures asks { IfSome result IsForFiles }
     {
         self.dispatch.running_op(number)
     }
 
+    /// The least request that can be issued: what `Step::Next` is answered. It is no step, and so not part of a history.
+    pub fn next(&self) -> Option<u64>
+        ensures { (h : History) → FitsApart self.now h → result ≡ next_of (world self.now.shape h).requests }
+    {
+        self.dispatch.next()
+    }
+
     /// The least outstanding request.
-    pub(crate) fn least(&self) -> Option<u64>
+    pub fn least(&self) -> Option<u64>
         ensures { (h : History) → FitsApart self.now h → result ≡ least_of (world self.now.shape h).requests }
     {
         self.dispatch.least()
+    }
+
+    /// The set-up of the rings.
+    pub fn setup(&self) -> Setup
+        ensures value { result ≡ self.now.shape }
+        ensures shape { IsShape self.now.shape }
+    {
+        self.setup
     }
 
     /// The completion at this place, from 0, among those posted and not reaped, the oldest first: `None` past the last.
@@ -315,11 +333,11 @@ impl Core {
     }
 
     /// The dispatcher asks for the least request that can be issued.
-    fn next(&mut self) -> Answer
+    fn ask_next(&mut self) -> Answer
         ensures shape { self.new.shape ≡ self.old.shape }
         ensures fits { (h : History) → FitsApart self.old h → FitsApart self.new ((step.Next, result) ∷ h) }
         ensures memory { HasNoLessMemory self.old self.new }
     {
-        tell_next(self.dispatch.next())
+        tell_next(self.next())
     }
 }

@@ -5,6 +5,7 @@ ghost use Rattle.uring_entry.specs.Shape.{Shape, IsShape};
 ghost use Rattle.uring_machine.specs.HistoryLists.{OwnSubmission, OwnRequests, OwnCompletions, OwnCancelled};
 ghost use Rattle.uring_machine.specs.Histories.{History, world, IsLawfulApart};
 ghost use Rattle.uring_machine.specs.Laws.{TakenOnceInOrder, EachEndsOnce, DoomedNeverRun, DoomedStayDoomed, CancelledWereDoomed, LinksAndDrainsHold, ReapedBeginPosted, FlushPutsAll, NothingAfterClose, NoneIsOutstanding, LeastCanGoOn, LawfulStandsApart, NoFinishCancels};
+ghost use Rattle.uring_machine.specs.Contents.{WhatRunsIsForFiles};
 ghost use Rattle.uring_machine.specs.Published.{OwnPublished};
 
 pub mod calls;
@@ -74,4 +75,9 @@ pub fn least_can_go_on()
 pub fn operations_never_cancel()
     ensures apart { (g : Shape) → LawfulStandsApart g }
     ensures never { (g : Shape) → NoFinishCancels g }
+{}
+
+/// What runs in a lawful history can be carried out on files: it is no cancel, which ends as it is issued, and its transfer is at most 64 bytes.
+pub fn what_runs_is_for_files()
+    ensures { (g : Shape) → IsShape g → WhatRunsIsForFiles g }
 {}

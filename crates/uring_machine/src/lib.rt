@@ -20,6 +20,3 @@ pub use runs::run;
 pub use steps::Step;
 pub use uring_entry::{BadSetup, Cqe, Fault, Op, Outcome, Setup, Sqe, SqeFlags};
 pub use uring_files::FileState;
-
-#[cfg(test)]
-mod tests;

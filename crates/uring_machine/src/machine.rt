@@ -1,12 +1,14 @@
-ghost use Rattle.std.specs.Prelude.{◌≡◌, ◌≤◌, ◌∷◌, [], IfOk, slice_get};
+ghost use Rattle.std.specs.Prelude.{◌≡◌, ◌≤◌, ◌∷◌, [], IfOk, IfSome, slice_get};
+ghost use Rattle.uring_entry.specs.Shape.{IsShape};
 ghost use Rattle.uring_entry.specs.Completions.{unreaped};
-ghost use Rattle.uring_entry.specs.Requests.{operation_running};
-ghost use Rattle.uring_files.specs.Operations.{state_of, byte_of};
+ghost use Rattle.uring_entry.specs.Requests.{operation_running, next_of, least_of};
+ghost use Rattle.uring_files.specs.Operations.{IsForFiles, state_of, byte_of};
 ghost use Rattle.uring_machine.specs.Contents.{CalledFor, files_of};
-ghost use Rattle.uring_machine.specs.Core.{IsCounts};
+ghost use Rattle.uring_machine.specs.Core.{IsCounts, IsShortOfMemory, HasNoLessMemory};
 ghost use Rattle.uring_machine.specs.Histories.{History, world};
 ghost use Rattle.uring_machine.specs.Settling.{HasSettled, IsSettled};
 ghost use Rattle.uring_machine.specs.declared.steps.Step.TheVariants as step;
+ghost use Rattle.uring_machine.specs.declared.answers.Answer.TheVariants as answer;
 
 use crate::answers::Answer;
 use crate::cores::Core;
@@ -60,6 +62,10 @@ impl Machine {
         ensures shape { self.new.core.shape ≡ self.old.core.shape }
         ensures fits { (h : History) → Fits self.old h → Fits self.new ((step, result) ∷ h) }
         ensures called { (h : History) → Fits self.old h → CalledFor self.old.core.shape (world self.old.core.shape h) step result }
+
+        // Memory that was once had is never refused again.
+        ensures again { (h : History) → Fits self.old h → result ≡ answer.Again → IsShortOfMemory self.old.core (world self.old.core.shape h) step }
+        ensures memory { HasNoLessMemory self.old.core self.new.core }
     {
         match step {
             Step::Finish { number } => self.finish(number),
@@ -81,11 +87,34 @@ impl Machine {
         self.core.counts()
     }
 
-    /// The operation of the request of this number: `Some` exactly where it is running.
+    /// The operation of the request of this number: `Some` exactly if it is running. It can be carried out on files.
     pub fn running_op(&self, number: u64) -> Option<Op>
-        ensures { (h : History) → Fits self.now h → result ≡ operation_running (world self.now.core.shape h).requests number }
+        ensures value { (h : History) → Fits self.now h → result ≡ operation_running (world self.now.core.shape h).requests number }
+        ensures asks { IfSome result IsForFiles }
     {
         self.core.running_op(number)
+    }
+
+    /// The least request that can be issued: what `Step::Next` is answered. It is no step, and so not part of a history.
+    pub fn next(&self) -> Option<u64>
+        ensures { (h : History) → Fits self.now h → result ≡ next_of (world self.now.core.shape h).requests }
+    {
+        self.core.next()
+    }
+
+    /// The least outstanding request.
+    pub fn least(&self) -> Option<u64>
+        ensures { (h : History) → Fits self.now h → result ≡ least_of (world self.now.core.shape h).requests }
+    {
+        self.core.least()
+    }
+
+    /// The set-up of the rings and files.
+    pub fn setup(&self) -> Setup
+        ensures value { result ≡ self.now.core.shape }
+        ensures shape { IsShape self.now.core.shape }
+    {
+        self.core.setup()
     }
 
     /// How the file of a descriptor stands: `None` where there is none.
@@ -146,6 +175,7 @@ impl Machine {
     fn finish(&mut self, number: u64) -> Answer
         ensures shape { self.new.core.shape ≡ self.old.core.shape }
         ensures fits { (h : History) → Fits self.old h → Fits self.new ((step.Finish number, result) ∷ h) }
+        ensures memory { HasNoLessMemory self.old.core self.new.core }
     {
         match self.core.running_op(number) {
             Some(op) => {

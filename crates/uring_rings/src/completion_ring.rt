@@ -16,21 +16,22 @@ use uring_entry::{Cqe, Setup};
 #[derive(Debug, Drop)]
 pub struct Cq {
     size: u32,
-    // behind the last completion put into the ring
+    // One past the last completion put into the ring.
     tail: Index,
-    // as the application last stored it
+    // The head that the application last stored.
     head: Index,
-    // the head as the dispatcher last loaded it
+    // A copy of head, as the dispatcher last loaded it.
     seen_head: Index,
-    // the tail as the application last loaded it
+    // A copy of tail, as the application last loaded it.
     seen_tail: Index,
-    // the position that is reaped next
+    // The position that is reaped next.
     next: Index,
     posted: u64,
     reaped: u64,
-    // the posts that are promised
+    // How many posts are promised. The overflow list has memory for each, if none fits the ring.
     room: u64,
     cells: Vec<Cqe>,
+    // The completions that didn't fit the ring, the oldest first.
     overflow: VecDeque<Cqe>,
 }
 

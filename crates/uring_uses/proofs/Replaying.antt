@@ -23,8 +23,8 @@ AreSame x y = (x ≡ y) ⊎ ((is_out_of_memory x ≡ true) ⊎ (is_out_of_memory
 
 opened_same : (called x y : Answer) → OrAgain called x → OrAgain called y → AreSame x y
 opened_same (answer.Call length) x y (inl p) (inl q) = inl (p ∙ sym q)
-opened_same (answer.Call length) x y (inl p) (inr q) = inr (inr (ap is_out_of_memory q))
-opened_same (answer.Call length) x y (inr p) q = inr (inl (ap is_out_of_memory p))
+opened_same (answer.Call length) x y (inl p) (inr q) = inr (inr (ap is_out_of_memory q.0))
+opened_same (answer.Call length) x y (inr p) q = inr (inl (ap is_out_of_memory p.0))
 opened_same _ x y p q = inl (p ∙ sym q)
 
 -- how a finish ended, as an answer

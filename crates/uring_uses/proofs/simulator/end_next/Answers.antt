@@ -22,7 +22,7 @@ returns-in_default-running_op-clause-ended c = λ h fits quiet some.
     let started =
     turn_start c.args.core.now c.step.new.self c.step-2.new.self h c.in-Next.number c.step.result c.step-2.result c.step.ensures.shape c.step-2.ensures.shape c.in-Next.is c.in-Run.is quiet asked
     (c.step-2.ensures.fits h (fits_without_next c.step.new.self c.step.result h asked)) in
-    absurd (turn_operation c.step-2.new.self h c.in-Next.number started (sym c.in_default-running_op.is ∙ c.running_op.ensures _ started.fits))
+    absurd (turn_operation c.step-2.new.self h c.in-Next.number started (sym c.in_default-running_op.is ∙ c.running_op.ensures.value _ started.fits))
 
 pub returns-clause-ended : goal.returns-clause-ended
 returns-clause-ended c = λ h fits quiet some.

@@ -1,4 +1,4 @@
-use Rattle.std.proofs.Common.{◌+◌, refl, sym, ◌∙◌, ap, arith, Err, inl, inr}
+use Rattle.std.proofs.Common.{◌+◌, refl, sym, ◌∙◌, ap, arith, Err, inl}
 use Rattle.uring_machine.proofs.CoreSteps.{core_after}
 use Rattle.uring_machine.proofs.CoreCalls.{spent_goes, again_goes, call_goes, may_open, within_unless, on_success}
 use Rattle.uring_machine.proofs.cores.Core.begin.Goals as goal
