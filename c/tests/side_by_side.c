@@ -445,12 +445,12 @@ static void check_counts(const struct model *m, int32_t result, const struct wul
     check(result == 0 && c->accepted == m->accepted && c->outstanding == m->accepted - m->ended && c->running == m->running && c->posted == m->posted_count && c->reaped == m->reaped, "counts");
 }
 
-static void check_least(const struct model *m, int32_t result, uint64_t number)
+static void check_least(const struct model *m, int32_t result, const uint64_t *number)
 {
     uint64_t least = 0;
     while (least < m->accepted && m->requests[least].state == ENDED)
         least++;
-    check(result == (least < m->accepted ? 0 : -2) && (result != 0 || number == least), "the least outstanding request");
+    check(result == (least < m->accepted ? 0 : -2) && (result != 0 || *number == least), "the least outstanding request");
 }
 
 static void check_rest(const struct model *m, uint64_t index, int32_t result, const struct wulgach_completion *c)
@@ -497,8 +497,8 @@ static void check_readers(struct wulgach_machine *machine, struct wulgach_core *
     struct wulgach_operation op = {0};
     check_operation(r, wulgach_machine_running_op(machine, number, &op), &op);
     check_operation(r, wulgach_core_running_op(core, number, &op), &op);
-    check_least(m, wulgach_machine_least(machine, &number), number);
-    check_least(m, wulgach_core_least(core, &number), number);
+    check_least(m, wulgach_machine_least(machine, &number), &number);
+    check_least(m, wulgach_core_least(core, &number), &number);
     check_file(machine, m, setup);
 }
 
