@@ -1,4 +1,4 @@
--- What is in a box.
+-- Glue. What is in a box.
 use Rattle.std.specs.Prelude.{Option, Some, None}
 use Rattle.std.specs.Global.{Box}
 

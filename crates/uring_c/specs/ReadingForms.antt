@@ -1,5 +1,5 @@
 -- The words that tell what is read off a core or a machine.
-use Rattle.uring_entry.specs.Layout.{Completion}
+use Rattle.uring_entry.specs.Layout.{Cqe}
 use Rattle.uring_files.specs.declared.state.FileState.{FileState}
 use Rattle.uring_machine.specs.declared.counts.Counts.{Counts}
 use Rattle.uring_c.specs.declared.completion_words.CompletionWords.{CompletionWords}
@@ -7,7 +7,7 @@ use Rattle.uring_c.specs.declared.count_words.CountWords.{CountWords}
 use Rattle.uring_c.specs.declared.state_words.StateWords.{StateWords}
 
 -- the words of a completion
-abbrev pub words_of_completion : Completion → CompletionWords
+abbrev pub words_of_completion : Cqe → CompletionWords
 words_of_completion c = record { user_data = c.user_data; res = c.res; bytes = c.payload }
 
 -- the counts that words tell

@@ -13,7 +13,7 @@ use uring_machine::{Answer, Core, Counts, Cqe, Op, Outcome, Setup, Step};
 
 /// A new core, in a box. `AllocError`: out of memory.
 pub(crate) fn new_core(alloc: Global, setup: &Setup) -> Result<Box<Core, Global>, AllocError>
-    ensures { IfOk result (λ core. (core.value.shape ≡ setup.now) × FitsApart core.value []) }
+    ensures { IfOk result (λ core. (core.value.setup ≡ setup.now) × FitsApart core.value []) }
 {
     Ok(Box::new(alloc, Core::new(alloc, setup)?)?)
 }
@@ -50,7 +50,7 @@ impl CorePlace {
     pub(crate) fn counts(&mut self, alloc: Global) -> Counts
         requires { IsSome (core_in self.old) }
         ensures kept { core_in self.new ≡ core_in self.old }
-        ensures counts { IsSomeAnd (core_in self.old) (λ core. (h : History) → FitsApart core h → IsCounts (world core.shape h) result) }
+        ensures counts { IsSomeAnd (core_in self.old) (λ core. (h : History) → FitsApart core h → IsCounts (world core.setup h) result) }
     {
         let Some(core) = self.take(alloc) else {
             unreachable!()
@@ -64,7 +64,7 @@ impl CorePlace {
     pub(crate) fn rest(&mut self, alloc: Global, place: u64) -> Option<Cqe>
         requires { IsSome (core_in self.old) }
         ensures kept { core_in self.new ≡ core_in self.old }
-        ensures completion { IsSomeAnd (core_in self.old) (λ core. (h : History) → FitsApart core h → result ≡ slice_get (unreaped (world core.shape h).completions) place) }
+        ensures completion { IsSomeAnd (core_in self.old) (λ core. (h : History) → FitsApart core h → result ≡ slice_get (unreaped (world core.setup h).completions) place) }
     {
         let Some(core) = self.take(alloc) else {
             unreachable!()
@@ -78,7 +78,7 @@ impl CorePlace {
     pub(crate) fn least(&mut self, alloc: Global) -> Option<u64>
         requires { IsSome (core_in self.old) }
         ensures kept { core_in self.new ≡ core_in self.old }
-        ensures least { IsSomeAnd (core_in self.old) (λ core. (h : History) → FitsApart core h → result ≡ least_of (world core.shape h).requests) }
+        ensures least { IsSomeAnd (core_in self.old) (λ core. (h : History) → FitsApart core h → result ≡ least_of (world core.setup h).requests) }
     {
         let Some(core) = self.take(alloc) else {
             unreachable!()
@@ -92,7 +92,7 @@ impl CorePlace {
     pub(crate) fn running_op(&mut self, alloc: Global, number: u64) -> Option<Op>
         requires { IsSome (core_in self.old) }
         ensures kept { core_in self.new ≡ core_in self.old }
-        ensures operation { IsSomeAnd (core_in self.old) (λ core. (h : History) → FitsApart core h → result ≡ operation_running (world core.shape h).requests number) }
+        ensures operation { IsSomeAnd (core_in self.old) (λ core. (h : History) → FitsApart core h → result ≡ operation_running (world core.setup h).requests number) }
     {
         let Some(core) = self.take(alloc) else {
             unreachable!()

@@ -3,7 +3,7 @@ ghost use Rattle.std.specs.Prelude.{◌≡◌, [], IsSome, IfOk, IsSomeAnd, slic
 ghost use Rattle.uring_entry.specs.Completions.{unreaped};
 ghost use Rattle.uring_entry.specs.Requests.{least_of, operation_running};
 ghost use Rattle.uring_machine.specs.Core.{IsCounts};
-ghost use Rattle.uring_machine.specs.Contents.{files_of};
+ghost use Rattle.uring_machine.specs.CalledFor.{files_of};
 ghost use Rattle.uring_machine.specs.Histories.{History, world};
 ghost use Rattle.uring_machine.specs.Machine.{Fits};
 ghost use Rattle.uring_files.specs.Operations.{state_of, byte_of};
@@ -16,7 +16,7 @@ use uring_machine::{Answer, Counts, Cqe, FileState, Machine, Op, Setup, Step};
 
 /// A new machine, in a box. `AllocError`: out of memory.
 pub(crate) fn new_machine(alloc: Global, setup: &Setup) -> Result<Box<Machine, Global>, AllocError>
-    ensures { IfOk result (λ machine. (machine.value.core.shape ≡ setup.now) × Fits machine.value []) }
+    ensures { IfOk result (λ machine. (machine.value.core.setup ≡ setup.now) × Fits machine.value []) }
 {
     Ok(Box::new(alloc, Machine::new(alloc, setup)?)?)
 }
@@ -39,7 +39,7 @@ impl MachinePlace {
     pub(crate) fn counts(&mut self, alloc: Global) -> Counts
         requires { IsSome (machine_in self.old) }
         ensures kept { machine_in self.new ≡ machine_in self.old }
-        ensures counts { IsSomeAnd (machine_in self.old) (λ machine. (h : History) → Fits machine h → IsCounts (world machine.core.shape h) result) }
+        ensures counts { IsSomeAnd (machine_in self.old) (λ machine. (h : History) → Fits machine h → IsCounts (world machine.core.setup h) result) }
     {
         let Some(machine) = self.take(alloc) else {
             unreachable!()
@@ -53,7 +53,7 @@ impl MachinePlace {
     pub(crate) fn rest(&mut self, alloc: Global, place: u64) -> Option<Cqe>
         requires { IsSome (machine_in self.old) }
         ensures kept { machine_in self.new ≡ machine_in self.old }
-        ensures completion { IsSomeAnd (machine_in self.old) (λ machine. (h : History) → Fits machine h → result ≡ slice_get (unreaped (world machine.core.shape h).completions) place) }
+        ensures completion { IsSomeAnd (machine_in self.old) (λ machine. (h : History) → Fits machine h → result ≡ slice_get (unreaped (world machine.core.setup h).completions) place) }
     {
         let Some(machine) = self.take(alloc) else {
             unreachable!()
@@ -67,7 +67,7 @@ impl MachinePlace {
     pub(crate) fn least(&mut self, alloc: Global) -> Option<u64>
         requires { IsSome (machine_in self.old) }
         ensures kept { machine_in self.new ≡ machine_in self.old }
-        ensures least { IsSomeAnd (machine_in self.old) (λ machine. (h : History) → Fits machine h → result ≡ least_of (world machine.core.shape h).requests) }
+        ensures least { IsSomeAnd (machine_in self.old) (λ machine. (h : History) → Fits machine h → result ≡ least_of (world machine.core.setup h).requests) }
     {
         let Some(machine) = self.take(alloc) else {
             unreachable!()
@@ -81,7 +81,7 @@ impl MachinePlace {
     pub(crate) fn running_op(&mut self, alloc: Global, number: u64) -> Option<Op>
         requires { IsSome (machine_in self.old) }
         ensures kept { machine_in self.new ≡ machine_in self.old }
-        ensures operation { IsSomeAnd (machine_in self.old) (λ machine. (h : History) → Fits machine h → result ≡ operation_running (world machine.core.shape h).requests number) }
+        ensures operation { IsSomeAnd (machine_in self.old) (λ machine. (h : History) → Fits machine h → result ≡ operation_running (world machine.core.setup h).requests number) }
     {
         let Some(machine) = self.take(alloc) else {
             unreachable!()
@@ -95,7 +95,7 @@ impl MachinePlace {
     pub(crate) fn state(&mut self, alloc: Global, fd: i32) -> Option<FileState>
         requires { IsSome (machine_in self.old) }
         ensures kept { machine_in self.new ≡ machine_in self.old }
-        ensures state { IsSomeAnd (machine_in self.old) (λ machine. (h : History) → Fits machine h → result ≡ state_of (files_of machine.core.shape (world machine.core.shape h)) fd) }
+        ensures state { IsSomeAnd (machine_in self.old) (λ machine. (h : History) → Fits machine h → result ≡ state_of (files_of machine.core.setup (world machine.core.setup h)) fd) }
     {
         let Some(machine) = self.take(alloc) else {
             unreachable!()
@@ -109,7 +109,7 @@ impl MachinePlace {
     pub(crate) fn byte(&mut self, alloc: Global, fd: i32, at: u64) -> Option<u8>
         requires { IsSome (machine_in self.old) }
         ensures kept { machine_in self.new ≡ machine_in self.old }
-        ensures byte { IsSomeAnd (machine_in self.old) (λ machine. (h : History) → Fits machine h → result ≡ byte_of (files_of machine.core.shape (world machine.core.shape h)) fd at) }
+        ensures byte { IsSomeAnd (machine_in self.old) (λ machine. (h : History) → Fits machine h → result ≡ byte_of (files_of machine.core.setup (world machine.core.setup h)) fd at) }
     {
         let Some(machine) = self.take(alloc) else {
             unreachable!()

@@ -6,7 +6,7 @@ ghost use Rattle.uring_entry.specs.Completions.{unreaped};
 ghost use Rattle.uring_entry.specs.Requests.{least_of, operation_running};
 ghost use Rattle.uring_entry.specs.declared.errno.TheConstants.{EBADF, EINVAL, ENOENT, ENOMEM};
 ghost use Rattle.uring_machine.specs.Core.{IsCounts};
-ghost use Rattle.uring_machine.specs.Contents.{files_of};
+ghost use Rattle.uring_machine.specs.CalledFor.{files_of};
 ghost use Rattle.uring_machine.specs.Histories.{History, world};
 ghost use Rattle.uring_machine.specs.Machine.{Fits};
 ghost use Rattle.uring_files.specs.Operations.{state_of, byte_of};
@@ -39,7 +39,7 @@ pub extern "C" fn wulgach_machine_new(
     ensures refused { (result ≡ neg_ℤ EINVAL) ↔ IsRefused setup.now }
     ensures results { (result ≡ pos 0 → ⊥) → (result ≡ neg_ℤ EINVAL → ⊥) → result ≡ neg_ℤ ENOMEM }
     ensures kept { (result ≡ pos 0 → ⊥) → machine_in place.new ≡ machine_in place.old }
-    ensures made { result ≡ pos 0 → IsSomeAnd (machine_in place.new) (λ machine. IsAskedFor setup.now machine.core.shape × Fits machine []) }
+    ensures made { result ≡ pos 0 → IsSomeAnd (machine_in place.new) (λ machine. IsAskedFor setup.now machine.core.setup × Fits machine []) }
 {
     let Some(setup) = setup.set_up() else {
         return -errno::EINVAL;
@@ -83,7 +83,7 @@ pub extern "C" fn wulgach_machine_counts(
 ) -> i32
     ensures empty { (result ≡ neg_ℤ EBADF) ↔ (machine_in place.old ≡ None) }
     ensures kept { machine_in place.new ≡ machine_in place.old }
-    ensures counts { IfSome (machine_in place.old) (λ machine. (result ≡ pos 0) × ((h : History) → Fits machine h → IsCounts (world machine.core.shape h) (counts_told counts.new))) }
+    ensures counts { IfSome (machine_in place.old) (λ machine. (result ≡ pos 0) × ((h : History) → Fits machine h → IsCounts (world machine.core.setup h) (counts_told counts.new))) }
 {
     if !place.is_full {
         return -errno::EBADF;
@@ -102,7 +102,7 @@ pub extern "C" fn wulgach_machine_rest(
 ) -> i32
     ensures empty { (result ≡ neg_ℤ EBADF) ↔ (machine_in place.old ≡ None) }
     ensures kept { machine_in place.new ≡ machine_in place.old }
-    ensures completion { IfSome (machine_in place.old) (λ machine. (h : History) → Fits machine h → MatchOption (slice_get (unreaped (world machine.core.shape h).completions) index) ((result ≡ neg_ℤ ENOENT) × (completion.new ≡ completion.old)) (λ c. (result ≡ pos 0) × (completion.new ≡ words_of_completion c))) }
+    ensures completion { IfSome (machine_in place.old) (λ machine. (h : History) → Fits machine h → MatchOption (slice_get (unreaped (world machine.core.setup h).completions) index) ((result ≡ neg_ℤ ENOENT) × (completion.new ≡ completion.old)) (λ c. (result ≡ pos 0) × (completion.new ≡ words_of_completion c))) }
 {
     if !place.is_full {
         return -errno::EBADF;
@@ -123,7 +123,7 @@ pub extern "C" fn wulgach_machine_least(
 ) -> i32
     ensures empty { (result ≡ neg_ℤ EBADF) ↔ (machine_in place.old ≡ None) }
     ensures kept { machine_in place.new ≡ machine_in place.old }
-    ensures least { IfSome (machine_in place.old) (λ machine. (h : History) → Fits machine h → MatchOption (least_of (world machine.core.shape h).requests) ((result ≡ neg_ℤ ENOENT) × (number.new ≡ number.old)) (λ least. (result ≡ pos 0) × (number.new ≡ least))) }
+    ensures least { IfSome (machine_in place.old) (λ machine. (h : History) → Fits machine h → MatchOption (least_of (world machine.core.setup h).requests) ((result ≡ neg_ℤ ENOENT) × (number.new ≡ number.old)) (λ least. (result ≡ pos 0) × (number.new ≡ least))) }
 {
     if !place.is_full {
         return -errno::EBADF;
@@ -145,7 +145,7 @@ pub extern "C" fn wulgach_machine_running_op(
 ) -> i32
     ensures empty { (result ≡ neg_ℤ EBADF) ↔ (machine_in place.old ≡ None) }
     ensures kept { machine_in place.new ≡ machine_in place.old }
-    ensures operation { IfSome (machine_in place.old) (λ machine. (h : History) → Fits machine h → MatchOption (operation_running (world machine.core.shape h).requests number) ((result ≡ neg_ℤ ENOENT) × (operation.new ≡ operation.old)) (λ op. (result ≡ pos 0) × (operation.new ≡ words_of_operation op))) }
+    ensures operation { IfSome (machine_in place.old) (λ machine. (h : History) → Fits machine h → MatchOption (operation_running (world machine.core.setup h).requests number) ((result ≡ neg_ℤ ENOENT) × (operation.new ≡ operation.old)) (λ op. (result ≡ pos 0) × (operation.new ≡ words_of_operation op))) }
 {
     if !place.is_full {
         return -errno::EBADF;
@@ -167,7 +167,7 @@ pub extern "C" fn wulgach_machine_state(
 ) -> i32
     ensures empty { (result ≡ neg_ℤ EBADF) ↔ (machine_in place.old ≡ None) }
     ensures kept { machine_in place.new ≡ machine_in place.old }
-    ensures state { IfSome (machine_in place.old) (λ machine. (h : History) → Fits machine h → MatchOption (state_of (files_of machine.core.shape (world machine.core.shape h)) fd) ((result ≡ neg_ℤ ENOENT) × (state.new ≡ state.old)) (λ s. (result ≡ pos 0) × (state.new ≡ words_of_state s))) }
+    ensures state { IfSome (machine_in place.old) (λ machine. (h : History) → Fits machine h → MatchOption (state_of (files_of machine.core.setup (world machine.core.setup h)) fd) ((result ≡ neg_ℤ ENOENT) × (state.new ≡ state.old)) (λ s. (result ≡ pos 0) × (state.new ≡ words_of_state s))) }
 {
     if !place.is_full {
         return -errno::EBADF;
@@ -190,7 +190,7 @@ pub extern "C" fn wulgach_machine_byte(
 ) -> i32
     ensures empty { (result ≡ neg_ℤ EBADF) ↔ (machine_in place.old ≡ None) }
     ensures kept { machine_in place.new ≡ machine_in place.old }
-    ensures byte { IfSome (machine_in place.old) (λ machine. (h : History) → Fits machine h → MatchOption (byte_of (files_of machine.core.shape (world machine.core.shape h)) fd at) ((result ≡ neg_ℤ ENOENT) × (byte.new ≡ byte.old)) (λ b. (result ≡ pos 0) × (byte.new ≡ b))) }
+    ensures byte { IfSome (machine_in place.old) (λ machine. (h : History) → Fits machine h → MatchOption (byte_of (files_of machine.core.setup (world machine.core.setup h)) fd at) ((result ≡ neg_ℤ ENOENT) × (byte.new ≡ byte.old)) (λ b. (result ≡ pos 0) × (byte.new ≡ b))) }
 {
     if !place.is_full {
         return -errno::EBADF;

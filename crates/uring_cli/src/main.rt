@@ -3,8 +3,6 @@
 
 mod fault;
 mod telling;
-#[cfg(test)]
-mod tests;
 
 use crate::fault::Fault;
 use crate::telling::tell;

@@ -4,7 +4,7 @@ use Rattle.std.proofs.lemmas.Nat.{from_le_bytes-to_le_bytes_8}
 use Rattle.std.proofs.lemmas.List.{append_cancel_left, append-nil}
 use Rattle.std.proofs.lemmas.Int.{of_z-to_z}
 use Rattle.std.specs.Int.{w32, w64, cast_signed, cast_unsigned, to_le_bytes, from_le_bytes}
-use Rattle.uring_entry.specs.Layout.{Completion, AreWords, bytes_of, HasWords, completion_of, without_flags}
+use Rattle.uring_entry.specs.Layout.{Cqe, AreWords, bytes_of, HasWords, completion_of, without_flags}
 
 eight_bytes : (x : ℕ) → length (to_le_bytes w64 x) ≡ 8
 eight_bytes x = refl
@@ -31,7 +31,7 @@ pub words_behind : (a b : ℕ) (rest more : List ℕ) → a < 2 ^ 64 → b < 2 ^
 words_behind a b rest more first second same range = (first, (second, subst AreWords (sym (append-nil rest ∙ same)) range))
 
 -- the user data, the result and the bytes, as words, are those of a completion
-pub words_made : (c : Completion) (second : ℕ) (rest : List ℕ) → c.user_data < 2 ^ 64 → second < 2 ^ 64 → second ≡ cast_unsigned w32 c.res → length rest ≡ 8 → AreWords rest → bytes_of rest ≡ c.payload → HasWords c (c.user_data ∷ second ∷ rest)
+pub words_made : (c : Cqe) (second : ℕ) (rest : List ℕ) → c.user_data < 2 ^ 64 → second < 2 ^ 64 → second ≡ cast_unsigned w32 c.res → length rest ≡ 8 → AreWords rest → bytes_of rest ≡ c.payload → HasWords c (c.user_data ∷ second ∷ rest)
 words_made c second rest user_data word is size range payload = record {
   size = omega arith;
   range = (user_data, (word, range));

@@ -3,7 +3,7 @@ use Rattle.std.specs.Prelude.{◌≡◌, ◌+◌, pos}
 use Rattle.uring_entry.specs.declared.errno.TheConstants.{ENOENT, EBADF, ENOMEM, EINVAL, EFBIG, EALREADY, ECANCELED}
 use Rattle.uring_entry.specs.declared.opcode.TheConstants.{NOP, FSYNC, ASYNC_CANCEL, READ, WRITE}
 use Rattle.uring_entry.specs.declared.flags.TheConstants.SqeFlags.{IO_DRAIN, IO_LINK, IO_HARDLINK, ASYNC, CQE_SKIP_SUCCESS, REFUSED}
-use Rattle.uring_entry.specs.declared.set_up.TheConstants.Setup.{MAX_SQ, MAX_CQ, MAX_FILES}
+use Rattle.uring_entry.specs.declared.setup.TheConstants.Setup.{MAX_SQ, MAX_CQ, MAX_FILES}
 use Rattle.uring_entry.specs.Flags.{io_drain, io_link, io_hardlink, skip_success, refused}
 
 -- the error numbers. errno(3), and <asm-generic/errno-base.h> and <asm-generic/errno.h> of Linux

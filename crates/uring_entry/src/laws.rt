@@ -1,7 +1,7 @@
 //! What follows from the definitions alone: each law is the contract of a function that does nothing.
 
 ghost use Rattle.uring_entry.specs.Layout.{WordsGiveBack, WordsDetermine, WordsAreKept};
-ghost use Rattle.uring_entry.specs.Words.{WordTellsCount};
+ghost use Rattle.uring_entry.specs.IndexWords.{WordTellsCount};
 ghost use Rattle.uring_entry.specs.Numbers.{AreErrorNumbers, AreOperationCodes, AreFlagBits, AreLimits};
 
 /// The error numbers, operation codes and flag bits are those of Linux. A submission ring has at most 4,096 entries, a completion ring 8,192, and there are at most 64 files: our own rule.

@@ -7,10 +7,9 @@ use Rattle.std.specs.Ordering.{int_eq}
 use Rattle.std.proofs.lemmas.Bool.{cases_Bool, both_ways}
 use Rattle.std.proofs.lemmas.Bool.Decides.{Decides-int_eq}
 use Rattle.uring_entry.specs.declared.errno.TheConstants.{EFBIG}
-use Rattle.uring_entry.specs.declared.operation.Op.{Op}
 use Rattle.uring_entry.specs.declared.operation.Op.TheVariants.{Nop, Read, Write, Fsync, Cancel}
 use Rattle.uring_files.specs.Contents.{FileContents, empty_file, read_outcome, is_too_long, is_past_end, written, with_writes_synced}
-use Rattle.uring_files.specs.Operations.{file_of, with_changed, after, on_file, ended_with}
+use Rattle.uring_files.specs.Operations.{file_of, with_changed, on_file, ended_with}
 use Rattle.uring_files.specs.Laws.{AgreeAt, OthersStay, FilesStandAlone, EndsStandAlone}
 
 -- what stands at a place after one was set

@@ -1,9 +1,9 @@
 -- The laws of `laws/files.rt` on lists of operations alone: the file of a descriptor is made by the operations on it,
 -- and operations that were dealt out by their file can be carried out at places with files of their own.
 -- From the lemmas of uring_files that each file stands by itself. Stable: other crates may import what is pub.
-use Rattle.std.proofs.Common.{◌≡◌, ℕ, ◌<◌, ◌==◌, ℤ, Bool, true, false, cond, List, [], ◌∷◌, map, refl, sym, subst, ap, ◌∙◌, ◌⊎◌, inl, inr}
+use Rattle.std.proofs.Common.{◌≡◌, ℕ, ◌<◌, ◌==◌, ℤ, Bool, true, false, cond, List, [], ◌∷◌, map, refl, sym, ap, ◌∙◌, inl, inr}
 use Rattle.std.specs.List.{filter}
-use Rattle.std.proofs.lemmas.Bool.{cases_Bool, both_ways, eqb-true, eq-eqb, false_from_ne_true}
+use Rattle.std.proofs.lemmas.Bool.{both_ways, eq-eqb, false_from_ne_true}
 use Rattle.uring_entry.specs.Preparation.{operation_of}
 use Rattle.uring_entry.specs.Requests.{Requests, Ending, entry_of}
 use Rattle.uring_entry.specs.declared.operation.Op.{Op}
@@ -12,7 +12,7 @@ use Rattle.uring_files.specs.Contents.{FileContents}
 use Rattle.uring_files.specs.Laws.{AgreeAt, is_on}
 use Rattle.uring_files.specs.Operations.{file_of, after, IsOutcome}
 use Rattle.uring_files.proofs.StandAlone.{others_stay, files_apart, ends_apart}
-use Rattle.uring_machine.specs.Contents.{files_after}
+use Rattle.uring_machine.specs.CalledFor.{files_after}
 use Rattle.uring_machine.specs.Finishes.{Done, files_left, AreDone, ends_of, done_at, IsByFile, FileByItsEnds}
 
 -- The file of a descriptor.
@@ -99,9 +99,10 @@ module _ (place : Op → ℕ) (by_file : IsByFile place) where
 
   joined : (places : ℕ) → ((op : Op) → place op < places) → (files : List FileContents) (parts : ℕ → List FileContents) (done : List Done) → Agree place files parts → ((k : ℕ) → k < places → AreDone (parts k) (done_at place k done)) → AreDone files done
   joined places within files parts [] agree at = tt
-  joined places within files parts (d ∷ later) agree at =
-      (outcome_apart files (parts (place d.op)) d.op d.outcome (λ fd on. agree fd d.op on) (first_at parts d later (at (place d.op) (within d.op))),
-      joined places within (after files d.op d.outcome.res) (part_after d parts) later (agree_after files parts d agree) (λ k lt. left_at parts d later k (at k lt)))
+  joined places within files parts (d ∷ later) agree at = (
+    outcome_apart files (parts (place d.op)) d.op d.outcome (λ fd on. agree fd d.op on) (first_at parts d later (at (place d.op) (within d.op))),
+    joined places within (after files d.op d.outcome.res) (part_after d parts) later (agree_after files parts d agree) (λ k lt. left_at parts d later k (at k lt)),
+  )
 
 -- what each place did on files of its own is right on files together
 pub join_places : (place : Op → ℕ) (places : ℕ) → IsByFile place → ((op : Op) → place op < places) → (files : List FileContents) (done : List Done) → ((k : ℕ) → k < places → AreDone files (done_at place k done)) → AreDone files done

@@ -5,8 +5,8 @@ use Rattle.std.proofs.Common.{◌≡◌, ℕ, ◌+◌, ◌<◌, List, [], ◌∷
 use Rattle.std.specs.List.{zip}
 use Rattle.std.proofs.lemmas.List.{take_more, length-take-le, reverse-append}
 use Rattle.uring_machine.specs.Histories.{Event, History, history_of}
-use Rattle.uring_machine.specs.declared.steps.Step.{Step}
-use Rattle.uring_machine.specs.declared.answers.Answer.{Answer}
+use Rattle.uring_machine.specs.declared.step.Step.{Step}
+use Rattle.uring_machine.specs.declared.answer.Answer.{Answer}
 
 -- what happened last stands first
 pub history_of-snoc : (events : List Event) (e : Event) → history_of (events ++ e ∷ []) ≡ e ∷ history_of events

@@ -36,3 +36,5 @@ pub mod FilesApart
 pub mod FileLaws
 pub mod PublishedItems
 pub mod Standing
+pub mod WholeCalls
+mod WorkedHistory

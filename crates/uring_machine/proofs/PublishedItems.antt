@@ -1,7 +1,7 @@
 -- The law `published_is_told`: the items published are those that the events tell, and so is the count of dropped words.
 -- The items: from `own_submission`, position by position. The count: what all calls took less the entries among it,
 -- which `takes_places` has; kept from the last close on by induction over the history.
-use Rattle.std.proofs.Common.{◌≡◌, ℕ, suc, ◌+◌, ◌-◌, ◌%◌, ◌^◌, ◌<◌, ◌≤◌, zero, Bool, true, false, cond, nat_lt, List, [], ◌∷◌, ◌++◌, length, map, take, count_by, get_or, Option, Some, None, slice_get, if◌then◌else◌, refl, sym, subst, ap, ap₂, ◌∙◌, arith}
+use Rattle.std.proofs.Common.{◌≡◌, ℕ, suc, ◌+◌, ◌%◌, ◌^◌, ◌<◌, ◌≤◌, Bool, true, false, cond, nat_lt, List, [], ◌∷◌, length, map, take, count_by, get_or, Option, Some, None, slice_get, if◌then◌else◌, refl, sym, subst, ap, ap₂, ◌∙◌, arith}
 use Rattle.std.specs.Prelude.{All, is_none}
 use Rattle.std.specs.List.{enumerate_from, cons_option}
 use Rattle.std.proofs.lemmas.Bool.{ltb-false}
@@ -9,36 +9,36 @@ use Rattle.std.proofs.lemmas.List.{get_or-map, get_or_append_left, length-map, l
 use Rattle.std.proofs.lemmas.List.Elements.{All-nil, All-cons}
 use Rattle.std.proofs.lemmas.List.Sums.{sum_by-cons, sum_by_push}
 use Rattle.std.proofs.lemmas.Option.{slice_get_within, get_or_from_slice_get}
-use Rattle.uring_entry.specs.Shape.{Shape}
-use Rattle.uring_entry.specs.Layout.{Entry}
+use Rattle.uring_entry.specs.Setup.{Setup}
+use Rattle.uring_entry.specs.Layout.{Sqe}
 use Rattle.uring_entry.specs.Submission.{Submission, Call, Place, place_of, taken, entries_of, dropped_in}
 use Rattle.uring_machine.specs.World.{World, happens, taking_of, ending_of}
-use Rattle.uring_machine.specs.Direct.{takes_position, entry_taken_by, with_told, before_last, closes_call, entries_taken, positions_taken, staged_words, published_words, published_entry, slot_content, before_published}
+use Rattle.uring_machine.specs.Direct.{takes_position, entry_taken_by, with_told, closes_call, entries_taken, positions_taken, staged_words, published_words, published_entry, slot_content, before_published}
 use Rattle.uring_machine.specs.Histories.{Event, History, world, IsLawfulApart}
 use Rattle.uring_machine.specs.HistoryLists.{OwnSubmission}
-use Rattle.uring_machine.specs.Published.{Published, with_entry, bad_word, item_of, published_items, IsItem, items_told, drops_position, positions_dropped, OwnPublished}
-use Rattle.uring_machine.specs.declared.steps.Step.{Step}
-use Rattle.uring_machine.specs.declared.steps.Step.TheVariants as step
-use Rattle.uring_machine.specs.declared.answers.Answer.{Answer}
-use Rattle.uring_machine.specs.declared.answers.Answer.TheVariants as answer
+use Rattle.uring_machine.specs.Published.{item_of, published_items, IsItem, items_told, drops_position, positions_dropped, OwnPublished}
+use Rattle.uring_machine.specs.declared.step.Step.{Step}
+use Rattle.uring_machine.specs.declared.step.Step.TheVariants as step
+use Rattle.uring_machine.specs.declared.answer.Answer.{Answer}
+use Rattle.uring_machine.specs.declared.answer.Answer.TheVariants as answer
 use Rattle.uring_machine.proofs.Changes.{Change, change_of, refuses, fills, stages, stores, loads, begins, takes, drops, closes, runs, dooms, cancels, finishes, flushes, sees_tail, reaps, stores_head, shuts}
 use Rattle.uring_machine.proofs.ReadOff.{own_submission}
 use Rattle.uring_machine.proofs.Sound.{sound_of}
-use Rattle.uring_machine.proofs.SoundRings.{IsSoundSubmission, open_taken, open_count}
-use Rattle.uring_machine.proofs.TakenPlaces.{TakesPlaces, reached, takes_places}
+use Rattle.uring_machine.proofs.SoundRings.{open_taken, open_count}
+use Rattle.uring_machine.proofs.TakenPlaces.{reached, takes_places}
 use Rattle.uring_machine.proofs.Telling.{count_more, count_same, before_same}
 
 -- The items.
 
 -- places whose entries are told by their positions, from n on
-items_are : (entry_at : ℕ → Option Entry) (places : List Place) (n : ℕ) → ((k : ℕ) (p : Place) → slice_get places k ≡ Some p → p.entry ≡ entry_at (n + k))
+items_are : (entry_at : ℕ → Option Sqe) (places : List Place) (n : ℕ) → ((k : ℕ) (p : Place) → slice_get places k ≡ Some p → p.entry ≡ entry_at (n + k))
     → map (λ p. item_of p.word p.entry) places ≡ map (λ q. item_of q.1 (entry_at q.0)) (enumerate_from n (map (λ p. p.word) places))
 items_are entry_at [] n at = refl
 items_are entry_at (p ∷ places) n at =
     ap₂ (λ item rest. item ∷ rest) (ap (item_of p.word) (at 0 p refl ∙ ap entry_at (let e : n + 0 ≡ n = omega arith in e)))
     (items_are entry_at places (n + 1) (λ k q e. at (suc k) q e ∙ ap entry_at (let f : n + suc k ≡ n + 1 + k = omega arith in f)))
 
-items_tell : (g : Shape) (h : History) → OwnSubmission g h → published_items (world g h).submission ≡ items_told g.sq h
+items_tell : (g : Setup) (h : History) → OwnSubmission g h → published_items (world g h).submission ≡ items_told g.sq h
 items_tell g h own =
     items_are (published_entry g.sq h) (world g h).submission.published 0 (λ k p at. own.entries k p at ∙ ap (published_entry g.sq h) (let e : k ≡ 0 + k = omega arith in e))
     ∙ ap (λ words. map (λ q. item_of q.1 (published_entry g.sq h q.0)) (enumerate_from 0 words)) own.published
@@ -47,17 +47,17 @@ items_tell g h own =
 all_items : (size : ℕ) (places : List Place) → ((k : ℕ) (p : Place) → slice_get places k ≡ Some p → p.entry ≡ None → size ≤ p.word) → All (IsItem size) (map (λ p. item_of p.word p.entry) places)
 all_items size [] at = All-nil (IsItem size)
 all_items size (p ∷ places) at = All-cons (IsItem size) (item_of p.word p.entry) (map (λ q. item_of q.word q.entry) places) (first p.entry refl) (all_items size places (λ k q e. at (suc k) q e)) where
-  first : (entry : Option Entry) → p.entry ≡ entry → IsItem size (item_of p.word entry)
+  first : (entry : Option Sqe) → p.entry ≡ entry → IsItem size (item_of p.word entry)
   first None e = at 0 p refl e
   first (Some entry) e = tt
 
-bad_is_high : (word size : ℕ) (entry : Entry) → None ≡ (if nat_lt word size then Some entry else None) → size ≤ word
+bad_is_high : (word size : ℕ) (entry : Sqe) → None ≡ (if nat_lt word size then Some entry else None) → size ≤ word
 bad_is_high word size entry e = by_test (nat_lt word size) refl e where
   by_test : (low : Bool) → nat_lt word size ≡ low → None ≡ (if low then Some entry else None) → size ≤ word
   by_test true is e = absurd cc
   by_test false is e = ltb-false _ _ is
 
-word_is : (g : Shape) (h : History) → OwnSubmission g h → (k : ℕ) (p : Place) → slice_get (world g h).submission.published k ≡ Some p → get_or (staged_words h) k 0 ≡ p.word
+word_is : (g : Setup) (h : History) → OwnSubmission g h → (k : ℕ) (p : Place) → slice_get (world g h).submission.published k ≡ Some p → get_or (staged_words h) k 0 ≡ p.word
 word_is g h own k p at =
     let places : List Place = (world g h).submission.published in
     let within : k < length places = slice_get_within places k p at in
@@ -68,7 +68,7 @@ word_is g h own k p at =
     ∙ get_or-map (λ q. q.word) places k p 0 within
     ∙ ap (λ q. q.word) (get_or_from_slice_get places k p p at)
 
-items_sound : (g : Shape) (h : History) → OwnSubmission g h → All (IsItem g.sq) (published_items (world g h).submission)
+items_sound : (g : Setup) (h : History) → OwnSubmission g h → All (IsItem g.sq) (published_items (world g h).submission)
 items_sound g h own =
     all_items g.sq (world g h).submission.published
     (λ k p at none. subst (λ word. g.sq ≤ word) (word_is g h own k p at) (bad_is_high (get_or (staged_words h) k 0) g.sq (slot_content (before_published k h) (get_or (staged_words h) k 0)) (sym none ∙ own.entries k p at)))
@@ -79,7 +79,7 @@ items_sound g h own =
 entries_and_dropped : (places : List Place) → length (entries_of places) + dropped_in places ≡ length places
 entries_and_dropped [] = refl
 entries_and_dropped (p ∷ places) = by_entry p.entry refl (entries_and_dropped places) where
-  by_entry : (entry : Option Entry) → p.entry ≡ entry → length (entries_of places) + dropped_in places ≡ length places → length (entries_of (p ∷ places)) + dropped_in (p ∷ places) ≡ suc (length places)
+  by_entry : (entry : Option Sqe) → p.entry ≡ entry → length (entries_of places) + dropped_in places ≡ length places → length (entries_of (p ∷ places)) + dropped_in (p ∷ places) ≡ suc (length places)
   by_entry None e rest =
       let same : length (entries_of (p ∷ places)) ≡ length (entries_of places) = ap (λ o. length (cons_option o (entries_of places))) e in
       let one : ◌≡◌ {A = ℕ} (cond (is_none p.entry) 1 0) 1 = ap (λ o. cond (is_none o) 1 0) e in
@@ -105,7 +105,7 @@ taken_or_dropped (e ∷ h) = by_event e (taken_or_dropped h) where
   by_event event rest = none_more event refl refl refl rest
 
 -- as many were dropped as the positions that were taken have no entry
-dropped_by_all : (g : Shape) (h : History) → IsLawfulApart g h → count_by drops_position h ≡ dropped_in (take (reached (world g h).submission) (world g h).submission.published)
+dropped_by_all : (g : Setup) (h : History) → IsLawfulApart g h → count_by drops_position h ≡ dropped_in (take (reached (world g h).submission) (world g h).submission.published)
 dropped_by_all g h lawful =
     let l : Submission = (world g h).submission in
     let t = takes_places g h lawful in
@@ -116,7 +116,7 @@ dropped_by_all g h lawful =
 abbrev Drops : History → World → Type 0
 Drops h w = positions_dropped h ≡ dropped_in (take (taken w.submission) w.submission.published)
 
-closed_drops : (g : Shape) (h : History) → IsLawfulApart g h → (accepted missed head : ℕ) (call : Call) → (world g h).submission.call ≡ Some call → nat_lt call.taken call.count ≡ false → Drops ((step.End, answer.Taken accepted missed head) ∷ h) (ending_of (world g h) (Some call))
+closed_drops : (g : Setup) (h : History) → IsLawfulApart g h → (accepted missed head : ℕ) (call : Call) → (world g h).submission.call ≡ Some call → nat_lt call.taken call.count ≡ false → Drops ((step.End, answer.Taken accepted missed head) ∷ h) (ending_of (world g h) (Some call))
 closed_drops g h lawful accepted missed head call opened all =
     let l : Submission = (world g h).submission in
     let s = (sound_of g h lawful).submission in
@@ -127,7 +127,7 @@ closed_drops g h lawful accepted missed head call opened all =
     let same : reached l ≡ taken (ending_of (world g h) (Some call)).submission = omega (arith, s.within_call) in
     dropped_by_all g h lawful ∙ ap (λ k. dropped_in (take k l.published)) same
 
-drops_kept : (g : Shape) (h : History) (s : Step) (a : Answer) → IsLawfulApart g h → Change g (world g h) s a → Drops h (world g h) → Drops ((s, a) ∷ h) (happens g (world g h) s a)
+drops_kept : (g : Setup) (h : History) (s : Step) (a : Answer) → IsLawfulApart g h → Change g (world g h) s a → Drops h (world g h) → Drops ((s, a) ∷ h) (happens g (world g h) s a)
 drops_kept g h s a lawful (refuses _ _ same silent) i = subst (λ v. Drops ((s, a) ∷ h) v) (sym (same (world g h))) (ap (count_by drops_position) (before_same closes_call (s, a) h silent.closes) ∙ i)
 drops_kept g h s a lawful (fills slot entry free) i = i
 drops_kept g h s a lawful (stages word room) i = i
@@ -149,11 +149,11 @@ drops_kept g h s a lawful (reaps completion next) i = i
 drops_kept g h s a lawful (stores_head head) i = i
 drops_kept g h s a lawful (shuts no_call) i = i
 
-drops_told : (g : Shape) (h : History) → IsLawfulApart g h → Drops h (world g h)
+drops_told : (g : Setup) (h : History) → IsLawfulApart g h → Drops h (world g h)
 drops_told g [] lawful = refl
 drops_told g ((s, a) ∷ before) lawful = drops_kept g before s a lawful.1 (change_of g (world g before) s a lawful.0) (drops_told g before lawful.1)
 
-pub own_published : (g : Shape) (h : History) → IsLawfulApart g h → OwnPublished g h
+pub own_published : (g : Setup) (h : History) → IsLawfulApart g h → OwnPublished g h
 own_published g h lawful =
     let own = own_submission g h lawful in
     record {

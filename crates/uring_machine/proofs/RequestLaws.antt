@@ -4,16 +4,16 @@
 use Rattle.std.proofs.Common.{◌≡◌, ℕ, ◌<◌, ◌≤◌, ◌==◌, Bool, true, false, not, ◌||◌, List, Option, Some, None, length, count_by, ℤ, if◌then◌else◌, refl, sym, subst, inl, inr, arith}
 use Rattle.std.specs.List.{list_any}
 use Rattle.std.proofs.lemmas.Bool.{and_parts, and_cases, ltb-true, lt-ltb, both_ways, cases_Bool, or_cases, not-false, not-true, false_from_ne_true}
-use Rattle.uring_entry.specs.Shape.{Shape}
+use Rattle.uring_entry.specs.Setup.{Setup}
 use Rattle.uring_entry.specs.Requests.{Requests, has_ended, is_outstanding, least_of, next_of, entry_of, is_doomed, is_ready, is_running, is_issuable, doomed_result, cancel_result, no_bytes}
 use Rattle.uring_entry.proofs.BelowLemmas.{least_below-out, least_below-some, least_below-tells}
 use Rattle.uring_entry.proofs.RequestLemmas.{least_of-goes_on}
 use Rattle.uring_machine.specs.Laws.{LeastCanGoOn, EachEndsOnce, IsIssued}
 use Rattle.uring_entry.specs.Preparation.{is_cancel}
 use Rattle.uring_machine.specs.World.{World}
-use Rattle.uring_machine.specs.Answers.{IsEnded, issue_answer}
-use Rattle.uring_machine.specs.declared.answers.Answer.{Answer}
-use Rattle.uring_machine.specs.declared.answers.Answer.TheVariants as answer
+use Rattle.uring_machine.specs.StepAnswers.{IsEnded, issue_answer}
+use Rattle.uring_machine.specs.declared.answer.Answer.{Answer}
+use Rattle.uring_machine.specs.declared.answer.Answer.TheVariants as answer
 use Rattle.uring_machine.specs.Histories.{History, world, IsLawfulApart}
 use Rattle.uring_machine.proofs.SoundRequests.{IsSoundRequests}
 use Rattle.uring_machine.proofs.ListCounts.{count_none, count_some}
@@ -76,7 +76,7 @@ counted p xs some =
       | inr none ↦ absurd (omega (arith, count_none p xs none))
     ]
 
-pub ends_once : (g : Shape) (h : History) → IsLawfulApart g h → EachEndsOnce g h
+pub ends_once : (g : Setup) (h : History) → IsLawfulApart g h → EachEndsOnce g h
 ends_once g h lawful =
     let s = (sound_of g h lawful).requests in
     let t = tells_requests g h lawful in

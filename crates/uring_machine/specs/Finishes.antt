@@ -1,7 +1,7 @@
 -- The operations that finishes carried out, each with its outcome, and the files that they left.
 use Rattle.std.specs.Prelude.{◌≡◌, ◌↔◌, ℕ, ◌<◌, ◌==◌, ℤ, Bool, true, List, [], ◌∷◌, replicate, Option, Some, None}
 use Rattle.std.specs.List.{filter}
-use Rattle.uring_entry.specs.Shape.{Shape}
+use Rattle.uring_entry.specs.Setup.{Setup}
 use Rattle.uring_entry.specs.Preparation.{operation_of}
 use Rattle.uring_entry.specs.Requests.{Requests, Ending, entry_of}
 use Rattle.uring_entry.specs.declared.operation.Op.{Op}
@@ -10,11 +10,11 @@ use Rattle.uring_files.specs.Contents.{FileContents, empty_file}
 use Rattle.uring_files.specs.Laws.{AgreeAt, is_on}
 use Rattle.uring_files.specs.Operations.{after, IsOutcome}
 use Rattle.uring_machine.specs.World.{World}
-use Rattle.uring_machine.specs.Contents.{IsLawful, files_after, files_of}
+use Rattle.uring_machine.specs.CalledFor.{IsLawful, files_after, files_of}
 use Rattle.uring_machine.specs.Direct.{with_told}
 use Rattle.uring_machine.specs.Histories.{Event, History, world, IsLawfulApart}
-use Rattle.uring_machine.specs.declared.steps.Step.TheVariants as step
-use Rattle.uring_machine.specs.declared.answers.Answer.TheVariants as answer
+use Rattle.uring_machine.specs.declared.step.Step.TheVariants as step
+use Rattle.uring_machine.specs.declared.answer.Answer.TheVariants as answer
 
 -- An operation that was carried out: of which request, and how it ended.
 pub record Done : Type 0 where
@@ -28,12 +28,12 @@ done_by w (step.Finish n, answer.Ended res bytes) = Some (record { number = n; o
 done_by w _ = None
 
 -- the operations that a history carried out, in order
-abbrev pub done_in : Shape → History → List Done
+abbrev pub done_in : Setup → History → List Done
 done_in g [] = []
 done_in g (event ∷ before) = with_told (done_in g before) (done_by (world g before) event)
 
 -- the files at first: each is empty
-abbrev pub first_files : Shape → List FileContents
+abbrev pub first_files : Setup → List FileContents
 first_files g = replicate g.files empty_file
 
 -- the files after these operations, carried out on these files
@@ -49,11 +49,11 @@ AreDone files (d ∷ later) = IsOutcome files d.op d.outcome × AreDone (after f
 -- The laws.
 
 -- A history is lawful exactly if it is lawful apart from what operations gave, and each operation that it carried out ended as the files before it call for.
-abbrev pub LawfulByOperations : Shape → Type 0
+abbrev pub LawfulByOperations : Setup → Type 0
 LawfulByOperations g = (h : History) → IsLawful g h ↔ (IsLawfulApart g h × AreDone (first_files g) (done_in g h))
 
 -- The files of a history are those that the operations left which it carried out: no other end changes any.
-abbrev pub FilesByOperations : Shape → Type 0
+abbrev pub FilesByOperations : Setup → Type 0
 FilesByOperations g = (h : History) → IsLawfulApart g h → files_of g (world g h) ≡ files_left (first_files g) (done_in g h)
 
 -- the ends among these that are of a descriptor: the operation that the request's entry asks for is on its file
@@ -78,11 +78,11 @@ abbrev pub done_at : (Op → ℕ) → ℕ → List Done → List Done
 done_at place k done = filter (λ d. place d.op == k) done
 
 -- Operations were dealt out by their file, and each place carried out its own on files that it alone has, as they call for: then the history is lawful.
-abbrev pub PlacesJoin : Shape → Type 0
+abbrev pub PlacesJoin : Setup → Type 0
 PlacesJoin g = (place : Op → ℕ) (places : ℕ) (h : History) → IsByFile place → ((op : Op) → place op < places) → IsLawfulApart g h
     → ((k : ℕ) → k < places → AreDone (first_files g) (done_at place k (done_in g h))) → IsLawful g h
 
 -- The file of a descriptor is then the one that the place has to which the operations on it go.
-abbrev pub FilesByPlace : Shape → Type 0
+abbrev pub FilesByPlace : Setup → Type 0
 FilesByPlace g = (place : Op → ℕ) (k : ℕ) (h : History) (fd : ℤ) → IsLawfulApart g h → ((op : Op) → is_on fd op ≡ true → place op ≡ k)
     → AgreeAt fd (files_of g (world g h)) (files_left (first_files g) (done_at place k (done_in g h)))

@@ -1,21 +1,21 @@
 -- What the application published, and what the calls took and dropped of it.
-use Rattle.std.specs.Prelude.{◌≡◌, ℕ, ◌%◌, ◌^◌, ◌≤◌, Bool, true, false, List, map, count_by, Option, Some, None, All, slice_index_or}
+use Rattle.std.specs.Prelude.{◌≡◌, ℕ, ◌%◌, ◌^◌, ◌≤◌, Bool, true, false, List, map, count_by, Option, Some, None, All}
 use Rattle.std.specs.List.{enumerate_from}
-use Rattle.uring_entry.specs.Shape.{Shape}
-use Rattle.uring_entry.specs.Layout.{Entry}
+use Rattle.uring_entry.specs.Setup.{Setup}
+use Rattle.uring_entry.specs.Layout.{Sqe}
 use Rattle.uring_entry.specs.Submission.{Submission, dropped}
 use Rattle.uring_machine.specs.Direct.{before_last, closes_call, published_words, published_entry, call_counts}
 use Rattle.uring_machine.specs.Histories.{Event, History, world}
-use Rattle.uring_machine.specs.declared.steps.Step.TheVariants as step
-use Rattle.uring_machine.specs.declared.answers.Answer.TheVariants as answer
+use Rattle.uring_machine.specs.declared.step.Step.TheVariants as step
+use Rattle.uring_machine.specs.declared.answer.Answer.TheVariants as answer
 
 -- What a published position holds: the entry of the slot that its word names, or a word that names none.
 pub data Published : Type 0 where
-  with_entry : Entry → Published
+  with_entry : Sqe → Published
   bad_word : ℕ → Published
 
 -- a word, with its entry if it names a slot
-abbrev pub item_of : ℕ → Option Entry → Published
+abbrev pub item_of : ℕ → Option Sqe → Published
 item_of word (Some entry) = with_entry entry
 item_of word None = bad_word word
 
@@ -44,7 +44,7 @@ abbrev pub positions_dropped : History → ℕ
 positions_dropped h = count_by drops_position (before_last closes_call h)
 
 -- What was published, taken and dropped is what the events tell. The count of dropped words wraps at 32 bits: io_uring_setup(2), on dropped.
-pub record OwnPublished (g : Shape) (h : History) : Type 0 where
+pub record OwnPublished (g : Setup) (h : History) : Type 0 where
   pub items : published_items (world g h).submission ≡ items_told g.sq h
   pub are_items : All (IsItem g.sq) (published_items (world g h).submission)
   pub calls : (world g h).submission.calls ≡ call_counts h

@@ -6,9 +6,8 @@
 mod rows;
 
 use crate::rows::{Verdict, judge};
-use std::fs;
-use std::io;
 use std::io::ErrorKind;
+use std::{fs, io};
 
 /// The set-up of a row that says none.
 const USUAL_SETUP: &str = "4 4 2 0";
@@ -31,12 +30,7 @@ fn run(rt: &HostRuntime, name: &str) -> io::Result<Verdict> {
     let setup = setup(rt, name)?;
     let steps = file(rt, name, "trace")?;
     let wanted = file(rt, name, "answers")?;
-    Ok(judge(
-        rt.alloc(),
-        setup.as_str(),
-        steps.as_str(),
-        wanted.as_str(),
-    ))
+    Ok(judge(rt.alloc(), setup.as_str(), steps.as_str(), wanted.as_str()))
 }
 
 /// The set-up of a row.

@@ -3,7 +3,7 @@ use Rattle.std.proofs.Common.{◌≡◌, ℕ, ◌^◌, ◌<◌, List, [], ◌∷
 use Rattle.std.specs.Int.{w64, to_le_bytes, from_le_bytes}
 use Rattle.std.proofs.lemmas.Nat.{from_le_bytes-to_le_bytes_8}
 use Rattle.std.proofs.lemmas.List.{take-append-drop}
-use Rattle.uring_entry.specs.Layout.{Entry, bytes_of, AreWords, HasData}
+use Rattle.uring_entry.specs.Layout.{Sqe, bytes_of, AreWords, HasData}
 use Rattle.uring_trace.specs.Spelling.{Form, IsEntryOf}
 use Rattle.uring_trace.specs.Spelling as form
 
@@ -26,7 +26,7 @@ data_once a b first bytes h k =
     let behind : drop 8 a ≡ drop 8 b = words_once (drop 8 a) (drop 8 b) h.rest k.rest (h.payload ∙ sym k.payload) in
     sym (take-append-drop 8 a) ∙ ap (λ (l : List ℕ). l ++ drop 8 a) (h.first ∙ sym k.first) ∙ ap (λ (l : List ℕ). take 8 b ++ l) behind ∙ take-append-drop 8 b
 
-pub entry_once : (f : Form) (a b : Entry) → IsEntryOf f a → IsEntryOf f b → a ≡ b
+pub entry_once : (f : Form) (a b : Sqe) → IsEntryOf f a → IsEntryOf f b → a ≡ b
 entry_once (form.Nop user_data flags) a b h k = h ∙ sym k
 entry_once (form.Fsync user_data flags fd) a b h k = h ∙ sym k
 entry_once (form.Read user_data flags fd off len) a b h k = h ∙ sym k

@@ -4,10 +4,10 @@ use Rattle.std.specs.Prelude.{IfOk, OnOk, MatchOption, is_ok}
 use Rattle.std.specs.List.{AllByRecursion}
 use Rattle.std.proofs.lemmas.Bool.{lt-ltb, le-ltb, ltb-false}
 use Rattle.std.proofs.lemmas.List.{append-nil, take_all, take-append-le, length-append, length-take, nil_from_length}
-use Rattle.uring_entry.specs.Shape.{Shape}
-use Rattle.uring_machine.specs.Contents.{IsLawful}
-use Rattle.uring_machine.specs.Machine.{Holding, Fits}
-use Rattle.uring_machine.specs.declared.steps.Step.{Step}
+use Rattle.uring_entry.specs.Setup.{Setup}
+use Rattle.uring_machine.specs.CalledFor.{IsLawful}
+use Rattle.uring_machine.specs.Machine.{Machine, Fits}
+use Rattle.uring_machine.specs.declared.step.Step.{Step}
 use Rattle.uring_trace.specs.Spelling.{IsStep, IsBad}
 use Rattle.uring_trace.specs.Lines.{IsUnbroken, Splits, with_last, joined, ended}
 use Rattle.uring_trace.specs.Exchanges.{Exchange, Answers, answer_text, lines_of, history_of, with_event}
@@ -70,9 +70,9 @@ kept_full line kept is_long b h le =
     }
 
 -- one byte more of a line
-pub took_byte : (shape : Shape) (m : Holding) (kept kept' : List ℕ) (is_long is_long' : Bool) (before text : List ℕ) (b : ℕ) → b ≢ 10 → ((line : List ℕ) → Keeps300 line kept is_long → Keeps300 (line ++ b ∷ []) kept' is_long')
-    → Holds shape m kept is_long before text → Holds shape m kept' is_long' (before ++ b ∷ []) text
-took_byte shape m kept kept' is_long is_long' before text b ne more h = record {
+pub took_byte : (setup : Setup) (m : Machine) (kept kept' : List ℕ) (is_long is_long' : Bool) (before text : List ℕ) (b : ℕ) → b ≢ 10 → ((line : List ℕ) → Keeps300 line kept is_long → Keeps300 (line ++ b ∷ []) kept' is_long')
+    → Holds setup m kept is_long before text → Holds setup m kept' is_long' (before ++ b ∷ []) text
+took_byte setup m kept kept' is_long is_long' before text b ne more h = record {
   exchanges = h.exchanges;
   line = h.line ++ b ∷ [];
   answers = h.answers;
@@ -90,23 +90,23 @@ pub read_again : (line kept : List ℕ) (read : Option Step) → MatchOption rea
 read_again line kept read h k = subst (λ (l : List ℕ). MatchOption read (IsBad l) (IsStep l)) (line_is_kept line kept k) h
 
 -- one exchange more
-answered : (shape : Shape) (m m' : Holding) (xs : List Exchange) (line text before after : List ℕ) → Answers shape xs (text ++ before) → m.core.shape ≡ shape → Fits m (history_of xs) → (a : AppendsAnswer m m' line before after)
-    → Answers shape (record { line = line; event = a.event } ∷ xs) (text ++ (after ++ 10 ∷ []))
-answered shape m m' xs line text before after h same fits a = record {
-  lawful = subst (λ (g : Shape). IsLawful g (with_event a.event (history_of xs))) (a.same ∙ same) (a.fits (history_of xs) fits).lawful;
+answered : (setup : Setup) (m m' : Machine) (xs : List Exchange) (line text before after : List ℕ) → Answers setup xs (text ++ before) → m.core.setup ≡ setup → Fits m (history_of xs) → (a : AppendsAnswer m m' line before after)
+    → Answers setup (record { line = line; event = a.event } ∷ xs) (text ++ (after ++ 10 ∷ []))
+answered setup m m' xs line text before after h same fits a = record {
+  lawful = subst (λ (g : Setup). IsLawful g (with_event a.event (history_of xs))) (a.same ∙ same) (a.fits (history_of xs) fits).lawful;
   each = (a.read, h.each);
   all = ap (λ (t : List ℕ). text ++ (t ++ 10 ∷ [])) a.appended ∙ simp append_assoc (refl) ∙ ap (λ (t : List ℕ). t ++ ended (answer_text a.event)) h.all;
 }
 
 -- the answer to a line that has its end
-pub ended_line : (shape : Shape) (m m' : Holding) (kept : List ℕ) (is_long : Bool) (bytes text before after : List ℕ) → ((line : List ℕ) → Keeps300 line kept is_long → AppendsAnswer m m' line before after)
-    → Holds shape m kept is_long bytes (text ++ before) → Holds shape m' [] false (bytes ++ 10 ∷ []) (text ++ (after ++ 10 ∷ []))
-ended_line shape m m' kept is_long bytes text before after answer h =
+pub ended_line : (setup : Setup) (m m' : Machine) (kept : List ℕ) (is_long : Bool) (bytes text before after : List ℕ) → ((line : List ℕ) → Keeps300 line kept is_long → AppendsAnswer m m' line before after)
+    → Holds setup m kept is_long bytes (text ++ before) → Holds setup m' [] false (bytes ++ 10 ∷ []) (text ++ (after ++ 10 ∷ []))
+ended_line setup m m' kept is_long bytes text before after answer h =
     let a = answer h.line h.keeps in
     record {
       exchanges = record { line = h.line; event = a.event } ∷ h.exchanges;
       line = [];
-      answers = answered shape m m' h.exchanges h.line text before after h.answers h.same h.fits a;
+      answers = answered setup m m' h.exchanges h.line text before after h.answers h.same h.fits a;
       splits = split_end bytes (lines_of h.exchanges) h.line h.splits;
       keeps = record { first = refl; long = refl };
       same = a.same ∙ h.same;
@@ -118,26 +118,26 @@ last_some lines [] lt = absurd (omega arith)
 last_some lines (b ∷ rest) lt = refl
 
 -- the answer to a last line that has begun
-pub ended_last : (shape : Shape) (m m' : Holding) (kept : List ℕ) (is_long : Bool) (bytes text before after : List ℕ) → 0 < length kept → ((line : List ℕ) → Keeps300 line kept is_long → AppendsAnswer m m' line before after)
-    → Holds shape m kept is_long bytes (text ++ before) → IsWhole shape bytes (text ++ (after ++ 10 ∷ []))
-ended_last shape m m' kept is_long bytes text before after lt answer h =
+pub ended_last : (setup : Setup) (m m' : Machine) (kept : List ℕ) (is_long : Bool) (bytes text before after : List ℕ) → 0 < length kept → ((line : List ℕ) → Keeps300 line kept is_long → AppendsAnswer m m' line before after)
+    → Holds setup m kept is_long bytes (text ++ before) → IsWhole setup bytes (text ++ (after ++ 10 ∷ []))
+ended_last setup m m' kept is_long bytes text before after lt answer h =
     let a = answer h.line h.keeps in
     let size : length kept ≡ length (take 300 h.line) = ap length h.keeps.first in
     let some : 0 < length h.line = omega (arith, length-take 300 h.line) in
-    (record { line = h.line; event = a.event } ∷ h.exchanges, lines_of h.exchanges, h.line, answered shape m m' h.exchanges h.line text before after h.answers h.same h.fits a, h.splits, sym (last_some (lines_of h.exchanges) h.line some))
+    (record { line = h.line; event = a.event } ∷ h.exchanges, lines_of h.exchanges, h.line, answered setup m m' h.exchanges h.line text before after h.answers h.same h.fits a, h.splits, sym (last_some (lines_of h.exchanges) h.line some))
 
 -- no last line has begun
-pub ended_none : (shape : Shape) (m : Holding) (kept : List ℕ) (is_long : Bool) (bytes text : List ℕ) → length kept ≡ 0 → Holds shape m kept is_long bytes text → IsWhole shape bytes text
-ended_none shape m kept is_long bytes text none h =
+pub ended_none : (setup : Setup) (m : Machine) (kept : List ℕ) (is_long : Bool) (bytes text : List ℕ) → length kept ≡ 0 → Holds setup m kept is_long bytes text → IsWhole setup bytes text
+ended_none setup m kept is_long bytes text none h =
     let size : length kept ≡ length (take 300 h.line) = ap length h.keeps.first in
     let empty : length h.line ≡ 0 = omega (arith, length-take 300 h.line) in
     (h.exchanges, lines_of h.exchanges, h.line, h.answers, h.splits, sym (ap (with_last (lines_of h.exchanges)) (nil_from_length h.line empty)))
 
 -- what a session holds, for the outcomes that end a trace early
-pub held_ended : (shape : Shape) (m : Holding) (kept : List ℕ) (is_long : Bool) (bytes text : List ℕ) → Holds shape m kept is_long bytes text → IsEnded shape bytes text
-held_ended shape m kept is_long bytes text h = (h.exchanges, h.line, h.answers, h.splits)
+pub held_ended : (setup : Setup) (m : Machine) (kept : List ℕ) (is_long : Bool) (bytes text : List ℕ) → Holds setup m kept is_long bytes text → IsEnded setup bytes text
+held_ended setup m kept is_long bytes text h = (h.exchanges, h.line, h.answers, h.splits)
 
-pub held_beginning : (shape : Shape) (m : Holding) (kept : List ℕ) (is_long : Bool) (bytes text more : List ℕ) → Holds shape m kept is_long bytes text → IsBeginning shape (bytes ++ more) text
-held_beginning shape m kept is_long bytes text more h =
+pub held_beginning : (setup : Setup) (m : Machine) (kept : List ℕ) (is_long : Bool) (bytes text more : List ℕ) → Holds setup m kept is_long bytes text → IsBeginning setup (bytes ++ more) text
+held_beginning setup m kept is_long bytes text more h =
     let lines = lines_of h.exchanges in
     (joined lines, h.line ++ more, h.exchanges, h.answers, split_whole lines h.splits.each, ap (λ (l : List ℕ). l ++ more) h.splits.whole ∙ append_assoc (joined lines) h.line more)

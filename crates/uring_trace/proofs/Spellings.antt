@@ -8,9 +8,9 @@ use Rattle.std.specs.Fmt.{decimal}
 use Rattle.std.proofs.lemmas.Bool.{eqb-true}
 use Rattle.std.proofs.lemmas.List.{nil_from_length}
 use Rattle.std.proofs.lemmas.Slice.Eq.{bytes_eq-Decides}
-use Rattle.uring_entry.specs.Layout.{Entry}
-use Rattle.uring_machine.specs.declared.steps.Step.{Step}
-use Rattle.uring_machine.specs.declared.steps.Step.TheVariants as step
+use Rattle.uring_entry.specs.Layout.{Sqe}
+use Rattle.uring_machine.specs.declared.step.Step.{Step}
+use Rattle.uring_machine.specs.declared.step.Step.TheVariants as step
 use Rattle.uring_trace.specs.Words.{words_of}
 use Rattle.uring_trace.specs.Spelling.{Form, Spells, SpellsForm, IsEntryOf, IsStep, IsBad}
 use Rattle.uring_trace.specs.Reading.{ReadsStep, ReadsFill, number_of, form_of, step_of_one, step_of_two}
@@ -94,7 +94,7 @@ two_again name n limit made le lt other e words is =
     let reads : ReadsStep (Some (made n)) (name ∷ decimal n ∷ []) = rw other read in
     subst (ReadsStep (Some (made n))) (sym is) reads
 
-fill_again : (slot : ℕ) (entry : Entry) (rest : List (List ℕ)) (f : Form) → slot < 2 ^ 32 → SpellsForm rest f → IsEntryOf f entry → (words : List (List ℕ)) → words ≡ codes "fill" ∷ decimal slot ∷ rest → ReadsStep (Some (step.Fill slot entry)) words
+fill_again : (slot : ℕ) (entry : Sqe) (rest : List (List ℕ)) (f : Form) → slot < 2 ^ 32 → SpellsForm rest f → IsEntryOf f entry → (words : List (List ℕ)) → words ≡ codes "fill" ∷ decimal slot ∷ rest → ReadsStep (Some (step.Fill slot entry)) words
 fill_again slot entry rest f lt h is_entry words is =
     let filled : ReadsFill (Some (step.Fill slot entry)) (number_of (2 ^ 32) (decimal slot)) (form_of rest) = rw (number_again (2 ^ 32) slot (omega arith) lt, form_again rest f h) (entry, refl, is_entry) in
     subst (ReadsStep (Some (step.Fill slot entry))) (sym is) filled
@@ -143,7 +143,7 @@ fill_once (Some slot) (Some f) s t r q =
     let s_is : s ≡ step.Fill slot r.0 = some_is s (step.Fill slot r.0) r.1 in
     let t_is : t ≡ step.Fill slot q.0 = some_is t (step.Fill slot q.0) q.1 in
     let same : r.0 ≡ q.0 = entry_once f r.0 q.0 r.2 q.2 in
-    s_is ∙ ap (λ (entry : Entry). step.Fill slot entry) same ∙ sym t_is
+    s_is ∙ ap (λ (entry : Sqe). step.Fill slot entry) same ∙ sym t_is
 
 more_once : (b : Bool) (o : Option ℕ) (f : Option Form) (other : Option Step) (s t : Step) → MatchBool b (ReadsFill (Some s) o f) (Some s ≡ other) → MatchBool b (ReadsFill (Some t) o f) (Some t ≡ other) → s ≡ t
 more_once true o f other s t r q = fill_once o f s t r q

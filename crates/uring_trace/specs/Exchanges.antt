@@ -1,9 +1,9 @@
 -- The lines of a trace, each with its answer. The language of a trace is our own rule.
 use Rattle.std.specs.Prelude.{◌≡◌, ℕ, List, [], ◌∷◌, Option, Some, None, codes, map}
 use Rattle.std.specs.List.{AllByRecursion}
-use Rattle.uring_entry.specs.Shape.{Shape}
+use Rattle.uring_entry.specs.Setup.{Setup}
 use Rattle.uring_machine.specs.Histories.{Event, History}
-use Rattle.uring_machine.specs.Contents.{IsLawful}
+use Rattle.uring_machine.specs.CalledFor.{IsLawful}
 use Rattle.uring_trace.specs.Spelling.{IsStep, IsBad}
 use Rattle.uring_trace.specs.Text.{text_of}
 use Rattle.uring_trace.specs.Lines.{joined}
@@ -40,7 +40,7 @@ history_of [] = []
 history_of (x ∷ before) = with_event x.event (history_of before)
 
 -- the exchanges answer their lines, each answer is called for by the steps before it, and the text is the answers, each with its end
-pub record Answers (shape : Shape) (xs : List Exchange) (text : List ℕ) : Type 0 where
+pub record Answers (setup : Setup) (xs : List Exchange) (text : List ℕ) : Type 0 where
   pub each : AllByRecursion (λ x. IsReadAs x.line x.event) xs
-  pub lawful : IsLawful shape (history_of xs)
+  pub lawful : IsLawful setup (history_of xs)
   pub all : text ≡ joined (answers_of xs)

@@ -1,4 +1,4 @@
--- What the words of a line say, read from the left: what the readers inside answer. What a line means is said in Spelling, and a proof joins the two.
+-- Glue. What the words of a line say, read from the left: what the readers inside answer. What a line means is said in Spelling, and a proof joins the two.
 use Rattle.std.specs.Prelude.{◌≡◌, ℕ, zero, suc, Bool, false, ℤ, pos, negsuc, ◌^◌, ◌/◌, ◌==◌, ◌&&◌, nat_lt, nat_le, List, [], ◌∷◌, length, Option, Some, None, if◌then◌else◌, codes}
 use Rattle.std.specs.Option.{option_map, IsSomeAnd}
 use Rattle.std.specs.Result.{result_ok}
@@ -9,10 +9,10 @@ use Rattle.std.specs.List.{list_all, list_any}
 use Rattle.std.specs.Str.Parse.{digits_value}
 use Rattle.std.specs.Int.RustNames.{bit_and, bit_or}
 use Rattle.hex.specs.Hex.{decode_sized}
-use Rattle.uring_machine.specs.declared.steps.Step.{Step}
-use Rattle.uring_machine.specs.declared.steps.Step.TheVariants as step
+use Rattle.uring_machine.specs.declared.step.Step.{Step}
+use Rattle.uring_machine.specs.declared.step.Step.TheVariants as step
 use Rattle.uring_trace.specs.Words.{flag_value}
-use Rattle.uring_entry.specs.Layout.{Entry}
+use Rattle.uring_entry.specs.Layout.{Sqe}
 use Rattle.uring_trace.specs.Spelling.{Form, IsEntryOf}
 use Rattle.uring_trace.specs.Spelling as form
 
@@ -136,13 +136,13 @@ form_of (name ∷ words) =
     if bytes_eq name (codes "raw") then raw_of words else None
 
 -- what a reader answers of the entry of a form
-abbrev pub ReadsEntry : Option Entry → Option Form → Type 0
+abbrev pub ReadsEntry : Option Sqe → Option Form → Type 0
 ReadsEntry read None = read ≡ None
 ReadsEntry read (Some f) = IsSomeAnd read (IsEntryOf f)
 
 -- the step of a slot and of what a reader answers of an entry's words
 abbrev pub ReadsFill : Option Step → Option ℕ → Option Form → Type 0
-ReadsFill read (Some slot) (Some f) = (entry : Entry) × (read ≡ Some (step.Fill slot entry)) × IsEntryOf f entry
+ReadsFill read (Some slot) (Some f) = (entry : Sqe) × (read ≡ Some (step.Fill slot entry)) × IsEntryOf f entry
 ReadsFill read _ _ = read ≡ None
 
 -- the step of one word

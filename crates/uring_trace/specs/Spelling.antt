@@ -3,10 +3,10 @@ use Rattle.std.specs.Prelude.{◌≡◌, ℕ, ℤ, pos, negsuc, ◌<◌, ◌≤�
 use Rattle.std.specs.List.{AllByRecursion}
 use Rattle.std.specs.Fmt.{decimal, signed_decimal}
 use Rattle.hex.specs.Hex.{encode_lower}
-use Rattle.uring_entry.specs.Layout.{Entry, header, without_data, bytes_of, AreWords, HasData}
+use Rattle.uring_entry.specs.Layout.{Sqe, header, without_data, bytes_of, AreWords, HasData}
 use Rattle.uring_entry.specs.declared.opcode.TheConstants.{NOP, FSYNC, ASYNC_CANCEL, READ, WRITE}
-use Rattle.uring_machine.specs.declared.steps.Step.{Step}
-use Rattle.uring_machine.specs.declared.steps.Step.TheVariants as step
+use Rattle.uring_machine.specs.declared.step.Step.{Step}
+use Rattle.uring_machine.specs.declared.step.Step.TheVariants as step
 use Rattle.uring_trace.specs.Words.{words_of, AreFlags, hex_or_dash}
 
 -- What the words of an entry say.
@@ -55,13 +55,13 @@ abbrev pub SpellsForm : List (List ℕ) → Form → Type 0
 SpellsForm words form = (word : List ℕ) × IsForm form word × (words ≡ spelled form word)
 
 -- the entry has these 128 bytes, byte 0 first
-pub record HasBytes (entry : Entry) (bytes : List ℕ) : Type 0 where
+pub record HasBytes (entry : Sqe) (bytes : List ℕ) : Type 0 where
   pub size : length entry ≡ 16
   pub words : AreWords entry
   pub all : bytes_of entry ≡ bytes
 
 -- the entry of a form
-abbrev pub IsEntryOf : Form → Entry → Type 0
+abbrev pub IsEntryOf : Form → Sqe → Type 0
 IsEntryOf (Nop user_data flags) entry = entry ≡ without_data (header NOP flags (pos 0) 0 0 0 user_data)
 IsEntryOf (Fsync user_data flags fd) entry = entry ≡ without_data (header FSYNC flags fd 0 0 0 user_data)
 IsEntryOf (Read user_data flags fd off len) entry = entry ≡ without_data (header READ flags fd off 0 len user_data)
@@ -71,7 +71,7 @@ IsEntryOf (Op code user_data flags) entry = entry ≡ without_data (header code 
 IsEntryOf (Raw bytes) entry = HasBytes entry bytes
 
 -- the words of an entry's form
-pub record SpellsEntry (words : List (List ℕ)) (entry : Entry) : Type 0 where
+pub record SpellsEntry (words : List (List ℕ)) (entry : Sqe) : Type 0 where
   pub form : Form
   pub spells : SpellsForm words form
   pub is_entry : IsEntryOf form entry

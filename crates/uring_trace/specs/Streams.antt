@@ -1,4 +1,4 @@
--- How the calls on a reader or a writer went. That an interrupted call is made again, and no other that failed, is our own rule.
+-- Glue. How the calls on a reader or a writer went. That an interrupted call is made again, and no other that failed, is our own rule.
 use Rattle.std.specs.Prelude.{◌≡◌, ◌≢◌, ℕ, ◌⊎◌, ◌^◌, ◌-◌, IsTrue, Result, Ok, Err}
 use Rattle.std.specs.IoError.{error_kind}
 use Rattle.std.specs.declared.io.Error.{Error}

@@ -1,9 +1,9 @@
 -- The text of an answer. The language of a trace is our own rule.
 use Rattle.std.specs.Prelude.{ℕ, zero, suc, List, [], ◌∷◌, ◌++◌, codes}
 use Rattle.std.specs.Fmt.{decimal, signed_decimal}
-use Rattle.uring_entry.specs.Layout.{Entry, Completion, user_data_of}
-use Rattle.uring_machine.specs.declared.answers.Answer.{Answer}
-use Rattle.uring_machine.specs.declared.answers.Answer.TheVariants as answer
+use Rattle.uring_entry.specs.Layout.{Sqe, Cqe, user_data_of}
+use Rattle.uring_machine.specs.declared.answer.Answer.{Answer}
+use Rattle.uring_machine.specs.declared.answer.Answer.TheVariants as answer
 use Rattle.uring_trace.specs.Words.{hex_or_dash}
 
 -- a byte put before others; a zero before none is dropped
@@ -18,11 +18,11 @@ trimmed [] = []
 trimmed (b ∷ bytes) = before_others b (trimmed bytes)
 
 -- an entry: its user data
-abbrev pub entry_text : Entry → List ℕ
+abbrev pub entry_text : Sqe → List ℕ
 entry_text e = codes "entry " ++ decimal (user_data_of e)
 
 -- a completion: its user data, its result, and its bytes without the zeros at their end
-abbrev pub completion_text : Completion → List ℕ
+abbrev pub completion_text : Cqe → List ℕ
 completion_text c = codes "cqe " ++ decimal c.user_data ++ 32 ∷ [] ++ signed_decimal c.res ++ 32 ∷ [] ++ hex_or_dash (trimmed c.payload)
 
 -- the text of an answer

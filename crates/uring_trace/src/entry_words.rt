@@ -20,22 +20,15 @@ pub(crate) fn read_entry(words: &[&[u8]]) -> Option<Sqe>
     ensures { ReadsEntry result (form_of (map (λ word. word.now) words.now)) }
 {
     let (name, words) = words.split_first()?;
-    if is(name, "nop") {
-        nop(words)
-    } else if is(name, "fsync") {
-        fsync(words)
-    } else if is(name, "read") {
-        read(words)
-    } else if is(name, "write") {
-        write(words)
-    } else if is(name, "cancel") {
-        cancel(words)
-    } else if is(name, "op") {
-        other(words)
-    } else if is(name, "raw") {
-        raw(words)
-    } else {
-        None
+    match name {
+        _ if is(name, "nop") => nop(words),
+        _ if is(name, "fsync") => fsync(words),
+        _ if is(name, "read") => read(words),
+        _ if is(name, "write") => write(words),
+        _ if is(name, "cancel") => cancel(words),
+        _ if is(name, "op") => other(words),
+        _ if is(name, "raw") => raw(words),
+        _ => None,
     }
 }
 

@@ -1,7 +1,7 @@
 //! Feeds bytes to a machine: gathers them into lines, makes the step that a line is, and appends the answer.
 
 ghost use Rattle.std.specs.Prelude.{◌≡◌, ◌≢◌, ◌≤◌, ℕ, List, [], ◌∷◌, ◌++◌, IfOk, IfErr, OnOk, MatchOption, vec_len, vec_capacity, string_bytes};
-ghost use Rattle.uring_entry.specs.Shape.{Shape};
+ghost use Rattle.uring_entry.specs.Setup.{Setup};
 ghost use Rattle.uring_trace.specs.Spelling.{IsStep, IsBad};
 ghost use Rattle.uring_trace.specs.Traces.{IsWhole};
 
@@ -43,7 +43,7 @@ impl Session {
 
     /// Takes in the next bytes, and appends the answers to the lines that they complete.
     pub(crate) fn feed(&mut self, bytes: &[u8], text: &mut String) -> Result<(), TraceFault>
-        ensures ok { OnOk result ((shape : Shape) (before told : List ℕ) → Has shape self.old before (told ++ string_bytes text.old) → Has shape self.new (before ++ bytes.now) (told ++ string_bytes text.new)) }
+        ensures ok { OnOk result ((setup : Setup) (before told : List ℕ) → Has setup self.old before (told ++ string_bytes text.old) → Has setup self.new (before ++ bytes.now) (told ++ string_bytes text.new)) }
         ensures err { IfErr result (λ e. e ≡ TraceFault.Memory) }
     {
         for byte in bytes {
@@ -54,7 +54,7 @@ impl Session {
 
     /// Ends the input. Appends the answer to the last line, if that line has some byte but no end.
     pub(crate) fn finish(&mut self, text: &mut String) -> Result<(), TraceFault>
-        ensures ok { OnOk result ((shape : Shape) (before told : List ℕ) → Has shape self.old before (told ++ string_bytes text.old) → IsWhole shape before (told ++ string_bytes text.new)) }
+        ensures ok { OnOk result ((setup : Setup) (before told : List ℕ) → Has setup self.old before (told ++ string_bytes text.old) → IsWhole setup before (told ++ string_bytes text.new)) }
         ensures err { IfErr result (λ e. e ≡ TraceFault.Memory) }
     {
         if self.kept.is_empty() {
@@ -66,7 +66,7 @@ impl Session {
 
     /// Takes in one byte, and appends the answer to the line if the byte completes it.
     fn take(&mut self, byte: u8, text: &mut String) -> Result<(), TraceFault>
-        ensures ok { OnOk result ((shape : Shape) (before told : List ℕ) → Has shape self.old before (told ++ string_bytes text.old) → Has shape self.new (before ++ byte ∷ []) (told ++ string_bytes text.new)) }
+        ensures ok { OnOk result ((setup : Setup) (before told : List ℕ) → Has setup self.old before (told ++ string_bytes text.old) → Has setup self.new (before ++ byte ∷ []) (told ++ string_bytes text.new)) }
         ensures err { IfErr result (λ e. e ≡ TraceFault.Memory) }
     {
         if byte == b'\n' {
@@ -80,7 +80,7 @@ impl Session {
     /// Takes in one byte of a line, which isn't its end.
     fn keep(&mut self, byte: u8)
         requires { byte ≢ 10 }
-        ensures { (shape : Shape) (before told : List ℕ) → Has shape self.old before told → Has shape self.new (before ++ byte ∷ []) told }
+        ensures { (setup : Setup) (before told : List ℕ) → Has setup self.old before told → Has setup self.new (before ++ byte ∷ []) told }
     {
         if self.kept.len() < LONGEST_LINE {
             let Ok(()) = self.kept.push(byte) else {
@@ -93,7 +93,7 @@ impl Session {
 
     /// Appends the answer to the line, and begins the next line.
     fn end_line(&mut self, text: &mut String) -> Result<(), AllocError>
-        ensures { OnOk result ((shape : Shape) (before told : List ℕ) → Has shape self.old before (told ++ string_bytes text.old) → Has shape self.new (before ++ 10 ∷ []) (told ++ string_bytes text.new)) }
+        ensures { OnOk result ((setup : Setup) (before told : List ℕ) → Has setup self.old before (told ++ string_bytes text.old) → Has setup self.new (before ++ 10 ∷ []) (told ++ string_bytes text.new)) }
     {
         self.answer_line(text)?;
         self.kept.clear();

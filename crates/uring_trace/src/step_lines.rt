@@ -51,28 +51,18 @@ fn read_words(words: &[&[u8]]) -> Option<Step>
 fn step_of_name(name: &[u8]) -> Option<Step>
     ensures { result ≡ step_of_one name.now }
 {
-    if is(name, "tail") {
-        Some(Step::StoreTail)
-    } else if is(name, "head") {
-        Some(Step::LoadHead)
-    } else if is(name, "take") {
-        Some(Step::Take)
-    } else if is(name, "end") {
-        Some(Step::End)
-    } else if is(name, "flush") {
-        Some(Step::Flush)
-    } else if is(name, "cqtail") {
-        Some(Step::LoadCqTail)
-    } else if is(name, "reap") {
-        Some(Step::Reap)
-    } else if is(name, "cqhead") {
-        Some(Step::StoreCqHead)
-    } else if is(name, "close") {
-        Some(Step::Close)
-    } else if is(name, "next") {
-        Some(Step::Next)
-    } else {
-        None
+    match name {
+        _ if is(name, "tail") => Some(Step::StoreTail),
+        _ if is(name, "head") => Some(Step::LoadHead),
+        _ if is(name, "take") => Some(Step::Take),
+        _ if is(name, "end") => Some(Step::End),
+        _ if is(name, "flush") => Some(Step::Flush),
+        _ if is(name, "cqtail") => Some(Step::LoadCqTail),
+        _ if is(name, "reap") => Some(Step::Reap),
+        _ if is(name, "cqhead") => Some(Step::StoreCqHead),
+        _ if is(name, "close") => Some(Step::Close),
+        _ if is(name, "next") => Some(Step::Next),
+        _ => None,
     }
 }
 
@@ -81,20 +71,20 @@ fn step_of_name(name: &[u8]) -> Option<Step>
 fn step_of_number(name: &[u8], word: &[u8]) -> Option<Step>
     ensures { result ≡ step_of_two name.now word.now }
 {
-    if is(name, "index") {
-        let word = small_number(word)?;
-        Some(Step::Index { word })
-    } else if is(name, "begin") {
-        let count = small_number(word)?;
-        Some(Step::Begin { count })
-    } else if is(name, "issue") {
-        let number = number(word)?;
-        Some(Step::Issue { number })
-    } else if is(name, "finish") {
-        let number = number(word)?;
-        Some(Step::Finish { number })
-    } else {
-        None
+    match name {
+        _ if is(name, "index") => Some(Step::Index {
+            word: small_number(word)?,
+        }),
+        _ if is(name, "begin") => Some(Step::Begin {
+            count: small_number(word)?,
+        }),
+        _ if is(name, "issue") => Some(Step::Issue {
+            number: number(word)?,
+        }),
+        _ if is(name, "finish") => Some(Step::Finish {
+            number: number(word)?,
+        }),
+        _ => None,
     }
 }
 

@@ -2,7 +2,7 @@
 
 ghost use Rattle.std.specs.Prelude.{◌≡◌, ◌≢◌, ℕ, List, [], ◌++◌, Err, IfErr};
 ghost use Rattle.std.specs.Io.KnownBytes.{Appends};
-ghost use Rattle.uring_entry.specs.Shape.{Shape};
+ghost use Rattle.uring_entry.specs.Setup.{Setup};
 ghost use Rattle.uring_trace.specs.Sessions.{Has, TookIn};
 ghost use Rattle.uring_trace.specs.Streams.{AreOver};
 ghost use Rattle.uring_trace.specs.Traces.{Traces, Writes, WritesText};
@@ -52,7 +52,7 @@ fn answer_all<R: Read, W: Write>(
     reads: &mut Calls,
     writes: &mut Calls,
 ) -> Result<(), TraceFault>
-    ensures lines { (shape : Shape) → Has shape session.old [] [] → Traces shape result (R.remaining reader.old) (R.remaining reader.new) (W.contents writer.old) (W.contents writer.new) }
+    ensures lines { (setup : Setup) → Has setup session.old [] [] → Traces setup result (R.remaining reader.old) (R.remaining reader.new) (W.contents writer.old) (W.contents writer.new) }
 
     // A stream is blamed only if it gave up.
     ensures read { result ≡ Err TraceFault.Read → AreOver reads.new }
@@ -77,7 +77,7 @@ fn answer<W: Write>(
     writer: &mut W,
     writes: &mut Calls,
 ) -> Result<(), TraceFault>
-    ensures lines { (shape : Shape) (before told : List ℕ) → Has shape session.old before told → (written : List ℕ) × Appends (W.contents writer.old) (W.contents writer.new) written × TookIn shape result session.new (before ++ bytes.now) (told ++ written) }
+    ensures lines { (setup : Setup) (before told : List ℕ) → Has setup session.old before told → (written : List ℕ) × Appends (W.contents writer.old) (W.contents writer.new) written × TookIn setup result session.new (before ++ bytes.now) (told ++ written) }
     ensures read { IfErr result (λ fault. fault ≢ TraceFault.Read) }
     ensures write { result ≡ Err TraceFault.Write → AreOver writes.new }
 {
@@ -93,7 +93,7 @@ fn answer_last<W: Write>(
     writer: &mut W,
     writes: &mut Calls,
 ) -> Result<(), TraceFault>
-    ensures lines { (shape : Shape) (before told : List ℕ) → Has shape session.old before told → (written : List ℕ) × Appends (W.contents writer.old) (W.contents writer.new) written × Writes shape result before (told ++ written) }
+    ensures lines { (setup : Setup) (before told : List ℕ) → Has setup session.old before told → (written : List ℕ) × Appends (W.contents writer.old) (W.contents writer.new) written × Writes setup result before (told ++ written) }
     ensures read { IfErr result (λ fault. fault ≢ TraceFault.Read) }
     ensures write { result ≡ Err TraceFault.Write → AreOver writes.new }
 {

@@ -1,7 +1,7 @@
 -- A failure in a chain.
 use Rattle.std.proofs.Common.{◌≡◌, ◌≢◌, ℕ, ◌+◌, ◌<◌, ◌≤◌, ℤ, negsuc, Bool, true, false, not, ◌&&◌, nat_lt, List, [], ◌∷◌, length, if◌then◌else◌, refl, sym, subst, ◌∙◌, ap, arith}
 use Rattle.std.proofs.lemmas.Bool.{and_parts, not-true}
-use Rattle.uring_entry.specs.Shape.{Shape}
+use Rattle.uring_entry.specs.Setup.{Setup}
 use Rattle.uring_entry.specs.Preparation.{is_cancel}
 use Rattle.uring_entry.specs.Success.{is_success}
 use Rattle.uring_entry.specs.Requests.{Requests, entry_of, has_ended, has_failed, is_outstanding, is_running, is_joined, is_last, is_doomed, is_ready, doomed_result, cancel_result, no_bytes, with_ended}
@@ -9,10 +9,10 @@ use Rattle.uring_entry.proofs.RequestLemmas.{is_joined-yes, is_doomed-behind, ha
 use Rattle.uring_entry.proofs.EventLemmas.{is_joined-ended, is_behind_failure-from}
 use Rattle.uring_machine.specs.World.{World}
 use Rattle.uring_machine.specs.Histories.{History, world}
-use Rattle.uring_machine.specs.declared.steps.Step.TheVariants as step
-use Rattle.uring_machine.specs.Answers.{issue_answer}
-use Rattle.uring_machine.specs.declared.answers.Answer.{Answer}
-use Rattle.uring_machine.specs.declared.answers.Answer.TheVariants as answer
+use Rattle.uring_machine.specs.declared.step.Step.TheVariants as step
+use Rattle.uring_machine.specs.StepAnswers.{issue_answer}
+use Rattle.uring_machine.specs.declared.answer.Answer.{Answer}
+use Rattle.uring_machine.specs.declared.answer.Answer.TheVariants as answer
 use Rattle.uring_uses.specs.Simulations.{IsNextInChain}
 
 -- who failed with a negative result dooms the next behind its soft link
@@ -51,7 +51,7 @@ next_cancelled w after n below bytes next is =
     (doomed_ends (is_outstanding e (n + 1)) (is_running e (n + 1)) (is_doomed e (n + 1)) (is_ready e (n + 1)) (is_cancel (entry_of e (n + 1))) (doomed_result e (n + 1)) (cancel_result e (n + 1)) outstanding running (next_doomed r n below bytes next))
 
 -- the failure is a finish, and the issue is the next step
-pub cancelled_after : (g : Shape) (h : History) (n below : ℕ) (bytes : List ℕ) (a b : Answer) → IsNextInChain (world g h).requests n → a ≡ answer.Ended (negsuc below) bytes
+pub cancelled_after : (g : Setup) (h : History) (n below : ℕ) (bytes : List ℕ) (a b : Answer) → IsNextInChain (world g h).requests n → a ≡ answer.Ended (negsuc below) bytes
     → b ≡ issue_answer (world g ((step.Finish n, a) ∷ h)) (n + 1) → b ≡ answer.Ended (doomed_result (world g h).requests (n + 1)) no_bytes
 cancelled_after g h n below bytes a b next failed is =
     let told : b ≡ issue_answer (world g ((step.Finish n, answer.Ended (negsuc below) bytes) ∷ h)) (n + 1) = subst (λ d. b ≡ issue_answer (world g ((step.Finish n, d) ∷ h)) (n + 1)) failed is in

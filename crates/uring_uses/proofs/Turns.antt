@@ -2,21 +2,19 @@
 use Rattle.std.proofs.Common.{◌≡◌, ℕ, ◌+◌, ◌<◌, ◌≤◌, ℤ, Bool, true, false, not, ◌||◌, List, [], ◌∷◌, ◌++◌, length, Option, Some, None, if◌then◌else◌, refl, sym, subst, ◌∙◌, ap, arith, inl, inr, append_assoc}
 use Rattle.std.proofs.lemmas.Bool.{and_parts, and_from, or_cases, both_ways, not-true, cases_eq}
 use Rattle.std.proofs.lemmas.List.Folds.{list_all-append}
-use Rattle.uring_entry.specs.Shape.{Shape}
+use Rattle.uring_entry.specs.Setup.{Setup}
 use Rattle.uring_entry.specs.Preparation.{is_cancel, operation_of}
-use Rattle.uring_entry.specs.Requests.{Requests, entry_of, has_ended, is_outstanding, is_running, is_issuable, is_doomed, is_ready, doomed_result, cancel_result, no_bytes, next_of, least_of, with_started, with_ended}
+use Rattle.uring_entry.specs.Requests.{Requests, entry_of, has_ended, is_outstanding, is_running, is_issuable, is_doomed, is_ready, doomed_result, cancel_result, no_bytes, next_of, least_of, with_started, with_ended, operation_running, outstanding_in}
 use Rattle.uring_entry.proofs.BelowLemmas.{least_below-tells, least_below-out}
 use Rattle.uring_entry.proofs.RequestLemmas.{least_of-goes_on, is_running-started_same, is_running-started_other, is_running-ended_same, is_running-ended_other}
-use Rattle.uring_dispatch.specs.Counts.{outstanding_in}
-use Rattle.uring_dispatch.specs.Answers.{operation_running}
 use Rattle.uring_machine.specs.World.{World, issuing, finishing}
-use Rattle.uring_machine.specs.Answers.{IsEnded, FinishesApart, issue_answer, next_answer_of}
+use Rattle.uring_machine.specs.StepAnswers.{IsEnded, FinishesApart, issue_answer, next_answer_of}
 use Rattle.uring_machine.specs.Histories.{History, world}
-use Rattle.uring_machine.specs.Core.{Parts, FitsApart}
+use Rattle.uring_machine.specs.Core.{Core, FitsApart}
 use Rattle.uring_machine.specs.Settling.{is_issue_or_finish}
-use Rattle.uring_machine.specs.declared.steps.Step.TheVariants as step
-use Rattle.uring_machine.specs.declared.answers.Answer.{Answer}
-use Rattle.uring_machine.specs.declared.answers.Answer.TheVariants as answer
+use Rattle.uring_machine.specs.declared.step.Step.TheVariants as step
+use Rattle.uring_machine.specs.declared.answer.Answer.{Answer}
+use Rattle.uring_machine.specs.declared.answer.Answer.TheVariants as answer
 use Rattle.uring_machine.proofs.Outstanding.{ended_less, none_outstanding, count_below-zero}
 use Rattle.uring_uses.specs.Simulations.{NoneRuns, HasRun, IsIdle}
 
@@ -97,111 +95,111 @@ quiet_after_run r n res bytes quiet k =
 -- A turn.
 
 -- a core that answered Next fits what it fitted
-pub fits_without_next : (p : Parts) (a : Answer) (h : History) → FitsApart p ((step.Next, a) ∷ h) → FitsApart p h
+pub fits_without_next : (p : Core) (a : Answer) (h : History) → FitsApart p ((step.Next, a) ∷ h) → FitsApart p h
 fits_without_next p a h fits = record { shows = fits.shows; lawful = fits.lawful.1 }
 
 -- it ended as it was issued
-pub turn_ended : (p : Parts) (h : History) (n : ℕ) (a : Answer) → NoneRuns (world p.shape h) → is_outstanding (world p.shape h).requests n ≡ true → IsEnded a → FitsApart p ((step.Issue n, a) ∷ h) → HasRun p h 1
+pub turn_ended : (p : Core) (h : History) (n : ℕ) (a : Answer) → NoneRuns (world p.setup h) → is_outstanding (world p.setup h).requests n ≡ true → IsEnded a → FitsApart p ((step.Issue n, a) ∷ h) → HasRun p h 1
 turn_ended p h n (answer.Ended res bytes) quiet outstanding ended fits =
     record {
       events = (step.Issue n, answer.Ended res bytes) ∷ [];
       issues_and_finishes = refl;
       fits = fits;
-      quiet = quiet_after_end (world p.shape h).requests n res no_bytes quiet;
-      fewer = ended_less (world p.shape h).requests n res no_bytes outstanding;
+      quiet = quiet_after_end (world p.setup h).requests n res no_bytes quiet;
+      fewer = ended_less (world p.setup h).requests n res no_bytes outstanding;
     }
 turn_ended p h n _ quiet outstanding ended fits = absurd ended
 
 -- it ran, and was finished
-pub turn_run : (p : Parts) (h : History) (n : ℕ) (res : ℤ) (bytes : List ℕ) → NoneRuns (world p.shape h) → is_outstanding (world p.shape h).requests n ≡ true
+pub turn_run : (p : Core) (h : History) (n : ℕ) (res : ℤ) (bytes : List ℕ) → NoneRuns (world p.setup h) → is_outstanding (world p.setup h).requests n ≡ true
     → FitsApart p ((step.Finish n, answer.Ended res bytes) ∷ (step.Issue n, answer.Run) ∷ h) → HasRun p h 1
 turn_run p h n res bytes quiet outstanding fits =
     record {
       events = (step.Finish n, answer.Ended res bytes) ∷ (step.Issue n, answer.Run) ∷ [];
       issues_and_finishes = refl;
       fits = fits;
-      quiet = quiet_after_run (world p.shape h).requests n res bytes quiet;
-      fewer = ended_less (with_started (world p.shape h).requests n) n res bytes outstanding;
+      quiet = quiet_after_run (world p.setup h).requests n res bytes quiet;
+      fewer = ended_less (with_started (world p.setup h).requests n) n res bytes outstanding;
     }
 
 -- the parts as a turn leaves them have the set-up that they had
-next_told : (old asked : Parts) (h : History) (a : Answer) → asked.shape ≡ old.shape → FitsApart asked ((step.Next, a) ∷ h) → a ≡ next_answer_of (next_of (world old.shape h).requests)
+next_told : (old asked : Core) (h : History) (a : Answer) → asked.setup ≡ old.setup → FitsApart asked ((step.Next, a) ∷ h) → a ≡ next_answer_of (next_of (world old.setup h).requests)
 next_told old asked h a same fits = subst (λ g. a ≡ next_answer_of (next_of (world g h).requests)) same fits.lawful.0
 
 -- Next is answered
-pub turn_goes_on : (old asked : Parts) (h : History) (a : Answer) → asked.shape ≡ old.shape → NoneRuns (world old.shape h) → 1 ≤ outstanding_in (world old.shape h).requests → FitsApart asked ((step.Next, a) ∷ h) → ((k : ℕ) → a ≡ answer.Next k → ⊥) → ⊥
-turn_goes_on old asked h a same quiet some fits other = some_next (world old.shape h).requests a quiet some (next_told old asked h a same fits) other
+pub turn_goes_on : (old asked : Core) (h : History) (a : Answer) → asked.setup ≡ old.setup → NoneRuns (world old.setup h) → 1 ≤ outstanding_in (world old.setup h).requests → FitsApart asked ((step.Next, a) ∷ h) → ((k : ℕ) → a ≡ answer.Next k → ⊥) → ⊥
+turn_goes_on old asked h a same quiet some fits other = some_next (world old.setup h).requests a quiet some (next_told old asked h a same fits) other
 
 -- the next request, named by the answer
-named_waits : (old asked : Parts) (h : History) (n : ℕ) (a : Answer) → asked.shape ≡ old.shape → a ≡ answer.Next n → FitsApart asked ((step.Next, a) ∷ h) → is_issuable (world old.shape h).requests n ≡ true
-named_waits old asked h n a same named fits = next_issuable (world old.shape h).requests n (sym named ∙ next_told old asked h a same fits)
+named_waits : (old asked : Core) (h : History) (n : ℕ) (a : Answer) → asked.setup ≡ old.setup → a ≡ answer.Next n → FitsApart asked ((step.Next, a) ∷ h) → is_issuable (world old.setup h).requests n ≡ true
+named_waits old asked h n a same named fits = next_issuable (world old.setup h).requests n (sym named ∙ next_told old asked h a same fits)
 
 -- the next request ends as it is issued
-pub turn_issue : (old asked new : Parts) (h : History) (n : ℕ) (a b : Answer) → asked.shape ≡ old.shape → new.shape ≡ asked.shape → a ≡ answer.Next n → (b ≡ answer.Run → ⊥) → NoneRuns (world old.shape h)
+pub turn_issue : (old asked new : Core) (h : History) (n : ℕ) (a b : Answer) → asked.setup ≡ old.setup → new.setup ≡ asked.setup → a ≡ answer.Next n → (b ≡ answer.Run → ⊥) → NoneRuns (world old.setup h)
     → FitsApart asked ((step.Next, a) ∷ h) → FitsApart new ((step.Issue n, b) ∷ h) → HasRun new h 1
 turn_issue old asked new h n a b same kept named other quiet asked_fits fits =
-    let issuable : is_issuable (world new.shape h).requests n ≡ true = subst (λ g. is_issuable (world g h).requests n ≡ true) (sym (kept ∙ same)) (named_waits old asked h n a same named asked_fits) in
-    turn_ended new h n b (subst (λ g. NoneRuns (world g h)) (sym (kept ∙ same)) quiet) (issuable_waits (world new.shape h).requests n issuable).outstanding
-    (issue_ends (world new.shape h) n b issuable fits.lawful.0 other) fits
+    let issuable : is_issuable (world new.setup h).requests n ≡ true = subst (λ g. is_issuable (world g h).requests n ≡ true) (sym (kept ∙ same)) (named_waits old asked h n a same named asked_fits) in
+    turn_ended new h n b (subst (λ g. NoneRuns (world g h)) (sym (kept ∙ same)) quiet) (issuable_waits (world new.setup h).requests n issuable).outstanding
+    (issue_ends (world new.setup h) n b issuable fits.lawful.0 other) fits
 
 -- the next request runs
-pub record IsStarted (p : Parts) (h : History) (n : ℕ) : Type 0 where
-  pub waits : IsWaiting (world p.shape h).requests n
-  pub quiet : NoneRuns (world p.shape h)
-  pub runs : is_running (world p.shape ((step.Issue n, answer.Run) ∷ h)).requests n ≡ true
+pub record IsStarted (p : Core) (h : History) (n : ℕ) : Type 0 where
+  pub waits : IsWaiting (world p.setup h).requests n
+  pub quiet : NoneRuns (world p.setup h)
+  pub runs : is_running (world p.setup ((step.Issue n, answer.Run) ∷ h)).requests n ≡ true
   pub fits : FitsApart p ((step.Issue n, answer.Run) ∷ h)
 
-pub turn_start : (old asked new : Parts) (h : History) (n : ℕ) (a b : Answer) → asked.shape ≡ old.shape → new.shape ≡ asked.shape → a ≡ answer.Next n → b ≡ answer.Run → NoneRuns (world old.shape h)
+pub turn_start : (old asked new : Core) (h : History) (n : ℕ) (a b : Answer) → asked.setup ≡ old.setup → new.setup ≡ asked.setup → a ≡ answer.Next n → b ≡ answer.Run → NoneRuns (world old.setup h)
     → FitsApart asked ((step.Next, a) ∷ h) → FitsApart new ((step.Issue n, b) ∷ h) → IsStarted new h n
 turn_start old asked new h n a b same kept named ran quiet asked_fits fits =
-    let issuable : is_issuable (world new.shape h).requests n ≡ true = subst (λ g. is_issuable (world g h).requests n ≡ true) (sym (kept ∙ same)) (named_waits old asked h n a same named asked_fits) in
-    let waits = issuable_waits (world new.shape h).requests n issuable in
+    let issuable : is_issuable (world new.setup h).requests n ≡ true = subst (λ g. is_issuable (world g h).requests n ≡ true) (sym (kept ∙ same)) (named_waits old asked h n a same named asked_fits) in
+    let waits = issuable_waits (world new.setup h).requests n issuable in
     record {
       waits = waits;
       quiet = subst (λ g. NoneRuns (world g h)) (sym (kept ∙ same)) quiet;
-      runs = is_running-started_same (world new.shape h).requests n waits.unended;
+      runs = is_running-started_same (world new.setup h).requests n waits.unended;
       fits = subst (λ d. FitsApart new ((step.Issue n, d) ∷ h)) ran fits;
     }
 
 -- so it has an operation
-pub turn_operation : (p : Parts) (h : History) (n : ℕ) → IsStarted p h n → None ≡ operation_running (world p.shape ((step.Issue n, answer.Run) ∷ h)).requests n → ⊥
-turn_operation p h n started none = by_running (is_running (world p.shape ((step.Issue n, answer.Run) ∷ h)).requests n) started.runs none where
-  by_running : (running : Bool) → running ≡ true → None ≡ (if running then Some (operation_of (entry_of (world p.shape ((step.Issue n, answer.Run) ∷ h)).requests n)) else None) → ⊥
+pub turn_operation : (p : Core) (h : History) (n : ℕ) → IsStarted p h n → None ≡ operation_running (world p.setup ((step.Issue n, answer.Run) ∷ h)).requests n → ⊥
+turn_operation p h n started none = by_running (is_running (world p.setup ((step.Issue n, answer.Run) ∷ h)).requests n) started.runs none where
+  by_running : (running : Bool) → running ≡ true → None ≡ (if running then Some (operation_of (entry_of (world p.setup ((step.Issue n, answer.Run) ∷ h)).requests n)) else None) → ⊥
   by_running true is f = cc
   by_running false is f = cc
 
 -- and is finished
-finish_ended : (p : Parts) (h : History) (n : ℕ) (d : Answer) → IsWaiting (world p.shape h).requests n → NoneRuns (world p.shape h) → IsEnded d → FitsApart p ((step.Finish n, d) ∷ (step.Issue n, answer.Run) ∷ h) → HasRun p h 1
+finish_ended : (p : Core) (h : History) (n : ℕ) (d : Answer) → IsWaiting (world p.setup h).requests n → NoneRuns (world p.setup h) → IsEnded d → FitsApart p ((step.Finish n, d) ∷ (step.Issue n, answer.Run) ∷ h) → HasRun p h 1
 finish_ended p h n (answer.Ended res bytes) waits quiet ended fits = turn_run p h n res bytes quiet waits.outstanding fits
 finish_ended p h n _ waits quiet ended fits = absurd ended
 
-pub turn_finish : (ran new : Parts) (h : History) (n : ℕ) (d : Answer) → new.shape ≡ ran.shape → IsStarted ran h n → FitsApart new ((step.Finish n, d) ∷ (step.Issue n, answer.Run) ∷ h) → HasRun new h 1
+pub turn_finish : (ran new : Core) (h : History) (n : ℕ) (d : Answer) → new.setup ≡ ran.setup → IsStarted ran h n → FitsApart new ((step.Finish n, d) ∷ (step.Issue n, answer.Run) ∷ h) → HasRun new h 1
 turn_finish ran new h n d same started fits =
-    let waits : IsWaiting (world new.shape h).requests n = subst (λ g. IsWaiting (world g h).requests n) (sym same) started.waits in
-    let runs : is_running (world new.shape ((step.Issue n, answer.Run) ∷ h)).requests n ≡ true = subst (λ g. is_running (world g ((step.Issue n, answer.Run) ∷ h)).requests n ≡ true) (sym same) started.runs in
+    let waits : IsWaiting (world new.setup h).requests n = subst (λ g. IsWaiting (world g h).requests n) (sym same) started.waits in
+    let runs : is_running (world new.setup ((step.Issue n, answer.Run) ∷ h)).requests n ≡ true = subst (λ g. is_running (world g ((step.Issue n, answer.Run) ∷ h)).requests n ≡ true) (sym same) started.runs in
     finish_ended new h n d waits (subst (λ g. NoneRuns (world g h)) (sym same) started.quiet) (subst (λ running. FinishesApart running d) runs fits.lawful.0) fits
 
 -- Many turns.
 
-pub run_none : (p : Parts) (h : History) → NoneRuns (world p.shape h) → FitsApart p h → HasRun p h 0
+pub run_none : (p : Core) (h : History) → NoneRuns (world p.setup h) → FitsApart p h → HasRun p h 0
 run_none p h quiet fits = record { events = []; issues_and_finishes = refl; fits = fits; quiet = quiet; fewer = omega arith }
 
-pub run_more : (old new : Parts) (h : History) (ended : ℕ) → new.shape ≡ old.shape → (before : HasRun old h ended) → HasRun new (before.events ++ h) 1 → HasRun new h (ended + 1)
+pub run_more : (old new : Core) (h : History) (ended : ℕ) → new.setup ≡ old.setup → (before : HasRun old h ended) → HasRun new (before.events ++ h) 1 → HasRun new h (ended + 1)
 run_more old new h ended same before last =
     record {
       events = last.events ++ before.events;
       issues_and_finishes = list_all-append is_issue_or_finish last.events before.events ∙ and_from _ _ last.issues_and_finishes before.issues_and_finishes;
       fits = subst (λ k. FitsApart new k) (sym (append_assoc last.events before.events h)) last.fits;
-      quiet = subst (λ k. NoneRuns (world new.shape k)) (sym (append_assoc last.events before.events h)) last.quiet;
-      fewer = subst (λ k. outstanding_in (world new.shape k).requests + (ended + 1) ≡ outstanding_in (world new.shape h).requests) (sym (append_assoc last.events before.events h))
+      quiet = subst (λ k. NoneRuns (world new.setup k)) (sym (append_assoc last.events before.events h)) last.quiet;
+      fewer = subst (λ k. outstanding_in (world new.setup k).requests + (ended + 1) ≡ outstanding_in (world new.setup h).requests) (sym (append_assoc last.events before.events h))
           (omega (arith, last.fewer, before.fewer, ap (λ g. outstanding_in (world g (before.events ++ h)).requests) same, ap (λ g. outstanding_in (world g h).requests) same));
     }
 
-pub run_all : (p : Parts) (h : History) (ended : ℕ) → ended ≡ outstanding_in (world p.shape h).requests → HasRun p h ended → IsIdle p h
+pub run_all : (p : Core) (h : History) (ended : ℕ) → ended ≡ outstanding_in (world p.setup h).requests → HasRun p h ended → IsIdle p h
 run_all p h ended all run =
     record {
       events = run.events;
       issues_and_finishes = run.issues_and_finishes;
       fits = run.fits;
-      none_outstanding = none_outstanding (world p.shape (run.events ++ h)).requests (omega (arith, run.fewer, all));
+      none_outstanding = none_outstanding (world p.setup (run.events ++ h)).requests (omega (arith, run.fewer, all));
     }

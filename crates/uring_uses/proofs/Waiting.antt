@@ -4,9 +4,9 @@ use Rattle.uring_entry.specs.Requests.{Requests, entry_of, has_ended, is_outstan
 use Rattle.uring_entry.specs.Preparation.{is_cancel}
 use Rattle.uring_entry.proofs.RequestLemmas.{is_ready-inside}
 use Rattle.uring_machine.specs.World.{World}
-use Rattle.uring_machine.specs.Answers.{issue_answer}
-use Rattle.uring_machine.specs.declared.answers.Answer.{Answer}
-use Rattle.uring_machine.specs.declared.answers.Answer.TheVariants as answer
+use Rattle.uring_machine.specs.StepAnswers.{issue_answer}
+use Rattle.uring_machine.specs.declared.answer.Answer.{Answer}
+use Rattle.uring_machine.specs.declared.answer.Answer.TheVariants as answer
 
 run_ready : (outstanding running doomed ready cancel : Bool) (as_doomed as_cancel : ℤ)
     → answer.Run ≡ (if not outstanding then answer.Unknown else (if running then answer.Running else (if doomed then answer.Ended as_doomed no_bytes else (if not ready then answer.NotReady else (if cancel then answer.Ended as_cancel no_bytes else answer.Run)))))

@@ -39,7 +39,7 @@ impl Disk {
         }
     }
 
-    /// Carries out an operation. A write fills `len` blocks from block `off` on, each with a byte of the entry's data, up to the first block that can't be written. If that is its very first one, it fails with EIO. An fsync has nothing to do.
+    /// Carries out an operation. A write fills `len` blocks from block `off` on, each with a byte of the entry's data, up to the first block that can't be written. If that is its very first one, it fails with EIO. Any other operation gives 0: this disk is only written to.
     pub fn carry_out(&mut self, op: &Op) -> Outcome
         ensures { IsDiskOutcome op.now result }
     {

@@ -2,6 +2,7 @@
 #![tactic(auto)]
 
 mod disk;
+mod first_call;
 mod lists;
 mod one_step;
 mod settling;
@@ -9,6 +10,7 @@ mod simulator;
 mod submissions;
 
 use crate::disk::{BLOCKS, Disk};
+use crate::first_call::one_no_op;
 use crate::lists::run_twice;
 use crate::one_step::starts;
 use crate::settling::settled_rest;
@@ -16,9 +18,14 @@ use crate::simulator::{break_chain, simulate};
 use crate::submissions::{submission, submit};
 use anyhow::Result;
 use bitflags::Flags;
+use std::alloc::{AllocError, Global};
 use uring_machine::{Answer, Core, Cqe, Machine, Setup, Sqe, SqeFlags, Step, run};
 
 fn main(rt: HostRuntime) -> Result<()> {
+    println!(rt; "one no-op")?;
+    if let Some(completion) = one_no_op(rt.alloc())? {
+        print_completion(&rt, &completion)?;
+    }
     let setup = Setup::new(8, None, 1, 0)?;
     show_step(&rt, &setup)?;
     show_list(&rt, &setup)?;
@@ -29,63 +36,86 @@ fn main(rt: HostRuntime) -> Result<()> {
 
 /// Two linked no-ops: the second doesn't start before the first has ended.
 fn show_step(rt: &HostRuntime, setup: &Setup) -> Result<()> {
-    let alloc = rt.alloc();
     let link = SqeFlags::IO_LINK.bits();
-    let mut machine = Machine::new(alloc, setup)?;
-    let steps = submission(alloc, &[Sqe::nop(10, link), Sqe::nop(11, 0)])?;
-    run(alloc, &mut machine, steps.as_slice())?;
+    let steps = submission(rt.alloc(), &[Sqe::nop(10, link), Sqe::nop(11, 0)])?;
+    let mut machine = Machine::new(rt.alloc(), setup)?;
+    print_starts(rt, &mut machine, steps.as_slice())
+}
+
+fn print_starts(rt: &HostRuntime, machine: &mut Machine, steps: &[Step]) -> Result<()> {
+    run(rt.alloc(), machine, steps)?;
     println!(rt; "one step")?;
-    println!(rt; "  request 1 starts: {}", starts(&mut machine, 1))?;
-    println!(rt; "  request 0 starts: {}", starts(&mut machine, 0))?;
+    println!(rt; "  request 1 starts: {}", starts(machine, 1))?;
+    println!(rt; "  request 0 starts: {}", starts(machine, 0))?;
     machine.step(Step::Finish { number: 0 });
-    println!(rt;
-        "  request 0 ended, and request 1 starts: {}",
-        starts(&mut machine, 1)
-    )?;
+    let starts = starts(machine, 1);
+    println!(rt; "  request 0 ended, and request 1 starts: {starts}")?;
     Ok(())
 }
 
 /// The same steps on two machines.
 fn show_list(rt: &HostRuntime, setup: &Setup) -> Result<()> {
-    let alloc = rt.alloc();
-    let steps = submission(
-        alloc,
-        &[Sqe::write(20, 0, 0, 0, b"abc"), Sqe::fsync(21, 0, 0)],
-    )?;
-    let (first, second) = run_twice(alloc, setup, steps.as_slice())?;
+    let (count, is_same) = replay(rt.alloc(), setup)?;
     println!(rt; "a list of steps")?;
-    println!(rt;
-        "  {} steps, the same answers: {}",
-        first.len(),
-        first.as_slice() == second.as_slice()
-    )?;
+    println!(rt; "  {count} steps, the same answers: {is_same}")?;
     Ok(())
 }
 
-/// Three chains on a disk whose block 4 is bad.
+/// How many answers a list of steps has, and whether a second machine gives the same ones.
+fn replay(alloc: Global, setup: &Setup) -> Result<(usize, bool), AllocError> {
+    let entries = [Sqe::write(20, 0, 0, 0, b"abc"), Sqe::fsync(21, 0, 0)];
+    let steps = submission(alloc, &entries)?;
+    let (first, second) = run_twice(alloc, setup, steps.as_slice())?;
+    Ok((first.len(), first.as_slice() == second.as_slice()))
+}
+
+/// Two chains on a disk whose block 4 is bad.
 fn show_simulation(rt: &HostRuntime, setup: &Setup) -> Result<()> {
-    let alloc = rt.alloc();
+    let mut disk = Disk::new(rt.alloc(), Some(4))?;
+    let mut core = Core::new(rt.alloc(), setup)?;
+    submit(&mut core, &soft_chain());
+    submit(&mut core, &hard_chain());
+    simulate(&mut core, &mut disk);
+    print_simulated(rt, &core, &disk)
+}
+
+fn print_simulated(rt: &HostRuntime, core: &Core, disk: &Disk) -> Result<()> {
+    println!(rt; "a simulator, block 4 is bad")?;
+    print_posted(rt, core)?;
+    print_disk(rt, disk)
+}
+
+/// Writes of 2, 2 and 1 blocks, joined by soft links. The second reaches block 4.
+fn soft_chain() -> [Sqe; 3] {
     let soft = SqeFlags::IO_LINK.bits();
-    let hard = SqeFlags::IO_HARDLINK.bits();
-    let mut core = Core::new(alloc, setup)?;
-    let mut disk = Disk::new(alloc, Some(4))?;
-    let entries = [
+    [
         Sqe::write(30, soft, 0, 0, &[1, 1]),
         Sqe::write(31, soft, 0, 3, &[2, 2]),
         Sqe::write(32, 0, 0, 6, &[3]),
-        Sqe::write(33, soft, 0, 4, &[4]),
-        Sqe::write(34, 0, 0, 5, &[5]),
-        Sqe::write(35, hard, 0, 4, &[6]),
-        Sqe::write(36, 0, 0, 7, &[7]),
-    ];
-    submit(&mut core, &entries);
-    simulate(&mut core, &mut disk);
-    println!(rt; "a simulator, block 4 is bad")?;
+    ]
+}
+
+/// Two writes joined by a hard link. The first begins at block 4.
+fn hard_chain() -> [Sqe; 2] {
+    let hard = SqeFlags::IO_HARDLINK.bits();
+    [
+        Sqe::write(33, hard, 0, 4, &[4]),
+        Sqe::write(34, 0, 0, 7, &[5]),
+    ]
+}
+
+/// The completions posted so far.
+fn print_posted(rt: &HostRuntime, core: &Core) -> Result<()> {
     for place in 0..core.counts().posted {
         if let Some(completion) = core.rest(place) {
             print_completion(rt, &completion)?;
         }
     }
+    Ok(())
+}
+
+/// The first byte of each block.
+fn print_disk(rt: &HostRuntime, disk: &Disk) -> Result<()> {
     for block in 0..BLOCKS {
         if let Some(byte) = disk.first_byte(block) {
             println!(rt; "  block {block} has {byte}")?;
@@ -96,17 +126,15 @@ fn show_simulation(rt: &HostRuntime, setup: &Setup) -> Result<()> {
 
 /// A failure from outside, and the member behind it.
 fn show_broken_chain(rt: &HostRuntime, setup: &Setup) -> Result<()> {
-    let alloc = rt.alloc();
-    let soft = SqeFlags::IO_LINK.bits();
-    let mut core = Core::new(alloc, setup)?;
-    let entries = [
-        Sqe::write(40, soft, 0, 0, &[1]),
-        Sqe::write(41, 0, 0, 1, &[2]),
-    ];
-    submit(&mut core, &entries);
+    let mut core = Core::new(rt.alloc(), setup)?;
+    submit(&mut core, &soft_chain());
     core.step(Step::Issue { number: 0 });
+    print_injected(rt, break_chain(&mut core, 0))
+}
+
+fn print_injected(rt: &HostRuntime, answer: Answer) -> Result<()> {
     println!(rt; "an injected EIO")?;
-    if let Answer::Ended { res, .. } = break_chain(&mut core, 0) {
+    if let Answer::Ended { res, .. } = answer {
         println!(rt; "  request 1 ended with {res}")?;
     }
     Ok(())
@@ -114,21 +142,28 @@ fn show_broken_chain(rt: &HostRuntime, setup: &Setup) -> Result<()> {
 
 /// What is left once nothing is outstanding.
 fn show_settling(rt: &HostRuntime, setup: &Setup) -> Result<()> {
-    let alloc = rt.alloc();
-    let skip = SqeFlags::CQE_SKIP_SUCCESS.bits();
-    let mut machine = Machine::new(alloc, setup)?;
-    let entries = [
-        Sqe::write(50, 0, 0, 0, b"abc"),
-        Sqe::nop(51, skip),
-        Sqe::read(52, 0, 0, 1, 4),
-    ];
-    let steps = submission(alloc, &entries)?;
-    run(alloc, &mut machine, steps.as_slice())?;
+    let steps = submission(rt.alloc(), &mixed_entries())?;
+    let mut machine = Machine::new(rt.alloc(), setup)?;
+    print_left(rt, &mut machine, steps.as_slice())
+}
+
+fn print_left(rt: &HostRuntime, machine: &mut Machine, steps: &[Step]) -> Result<()> {
+    run(rt.alloc(), machine, steps)?;
     println!(rt; "settling")?;
-    for completion in &settled_rest(alloc, &mut machine)? {
+    for completion in &settled_rest(rt.alloc(), machine)? {
         print_completion(rt, completion)?;
     }
     Ok(())
+}
+
+/// A write, a no-op whose success is skipped, and a read.
+fn mixed_entries() -> [Sqe; 3] {
+    let skip = SqeFlags::CQE_SKIP_SUCCESS.bits();
+    [
+        Sqe::write(50, 0, 0, 0, b"abc"),
+        Sqe::nop(51, skip),
+        Sqe::read(52, 0, 0, 1, 4),
+    ]
 }
 
 /// A completion's user data and result, on a line.

@@ -1,7 +1,7 @@
 use std::alloc::{AllocError, Global};
 use uring_machine::{Core, Sqe, Step};
 
-/// The steps of one whole submission: each entry goes into a slot, slots are staged and published, and a call takes and accepts them all.
+/// The steps of one whole submission: each entry goes into a slot, slots are staged and published, and a call takes and accepts them all. Loading the head frees the slots for the next submission.
 pub fn submission(alloc: Global, entries: &[Sqe]) -> Result<Vec<Step>, AllocError> {
     let mut steps = Vec::new(alloc);
     let mut count: u32 = 0;
@@ -19,6 +19,7 @@ pub fn submission(alloc: Global, entries: &[Sqe]) -> Result<Vec<Step>, AllocErro
         steps.push(Step::Take)?;
     }
     steps.push(Step::End)?;
+    steps.push(Step::LoadHead)?;
     Ok(steps)
 }
 
@@ -39,4 +40,5 @@ pub fn submit(core: &mut Core, entries: &[Sqe]) {
         core.step(Step::Take);
     }
     core.step(Step::End);
+    core.step(Step::LoadHead);
 }

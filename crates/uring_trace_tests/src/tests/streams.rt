@@ -159,7 +159,10 @@ fn fails_to_read(alloc: Global, steps: &[u8]) -> Result<bool, Fail> {
 fn a_failing_read_is_a_read_fault(rt: HostRuntime) -> Result<(), Fail> {
     let steps = STEPS.as_bytes();
     for count in 0..=steps.len() {
-        assert!(rt; fails_to_read(rt.alloc(), &steps[..count])?, "after {count} bytes");
+        assert!(rt;
+            fails_to_read(rt.alloc(), &steps[..count])?,
+            "after {count} bytes"
+        );
     }
     Ok(())
 }
@@ -204,8 +207,14 @@ fn fails_to_write(alloc: Global, room: usize, takes_none: bool) -> Result<bool, 
 #[test]
 fn a_failing_write_is_a_write_fault(rt: HostRuntime) -> Result<(), Fail> {
     for room in 0..ANSWERS.len() {
-        assert!(rt; fails_to_write(rt.alloc(), room, false)?, "room for {room} bytes");
-        assert!(rt; fails_to_write(rt.alloc(), room, true)?, "room for {room} bytes");
+        assert!(rt;
+            fails_to_write(rt.alloc(), room, false)?,
+            "room for {room} bytes"
+        );
+        assert!(rt;
+            fails_to_write(rt.alloc(), room, true)?,
+            "room for {room} bytes"
+        );
     }
     Ok(())
 }

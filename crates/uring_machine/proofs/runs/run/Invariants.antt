@@ -9,6 +9,6 @@ abbrev pub invariant-loop-step : goal.invariant-loop-step
 invariant-loop-step l = record {
   answers : vec_len l.answers ≡ l.step-index;
   room : length l.steps ≤ vec_capacity l.answers;
-  shape : l.machine.core.shape ≡ l.initial.machine.core.shape;
+  setup : l.machine.core.setup ≡ l.initial.machine.core.setup;
   fits : (h : History) → Fits l.initial.machine h → Fits l.machine (history_of (zip (take l.step-index l.steps) l.answers.items) ++ h);
 }

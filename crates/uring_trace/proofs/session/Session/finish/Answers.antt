@@ -7,4 +7,4 @@ pub returns-clause-ok : goal.returns-clause-ok
 returns-clause-ok c =
     let text : string_bytes c.push_str.new.self ≡ string_bytes c.answer_line.new.text ++ 10 ∷ [] = search rules in
     let some : 0 < length c.args.self.now.kept.items = search rules in
-    rw text (λ shape before told h. ended_last shape _ _ _ _ before told _ _ some c.in_ok-answer_line.ensures h)
+    rw text (λ setup before told h. ended_last setup _ _ _ _ before told _ _ some c.in_ok-answer_line.ensures h)

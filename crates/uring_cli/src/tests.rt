@@ -1,2 +1,0 @@
-mod command_lines;
-mod streams;
