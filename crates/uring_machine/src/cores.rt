@@ -64,7 +64,7 @@ impl Core {
         })
     }
 
-    /// Makes one step, and answers it. Condition: it is no `Finish`, which is a call of its own. Only `Begin` asks for memory; where it is refused the answer is `Again`, and nothing is consumed.
+    /// Makes one step, and answers it. Condition: it is no `Finish`, which is a call of its own. Only `Begin` asks for memory, and only if its call may need more than is there; if that is refused the answer is `Again`, and nothing is consumed.
     pub fn step(&mut self, step: Step) -> Answer
         requires { IsNoFinish step }
         ensures setup { self.new.setup ≡ self.old.setup }

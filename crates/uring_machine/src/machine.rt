@@ -57,7 +57,7 @@ impl Machine {
 
     /// Makes one step, and answers it.
     ///
-    /// Only `Begin` and the `Finish` of a write that lengthens its file ask for memory. Where it is refused, `Begin` is answered `Again`, and nothing is consumed; the write ends with -12 (ENOMEM).
+    /// Only `Begin` and the `Finish` of a write that lengthens its file ask for memory, `Begin` only if its call may need more than is there. If it is refused, `Begin` is answered `Again`, and nothing is consumed; the write ends with -12 (ENOMEM).
     pub fn step(&mut self, step: Step) -> Answer
         ensures setup { self.new.core.setup ≡ self.old.core.setup }
         ensures fits { (h : History) → Fits self.old h → Fits self.new ((step, result) ∷ h) }
