@@ -1,4 +1,4 @@
-//! The words of a line that spell an entry.
+//! The tokens of a line that spell an entry.
 
 ghost use Rattle.std.specs.Prelude.{◌≡◌, map};
 ghost use Rattle.std.specs.Option.{option_map};
@@ -6,38 +6,38 @@ ghost use Rattle.std.specs.Str.{bytes_eq};
 ghost use Rattle.uring_trace.specs.Spelling as form;
 ghost use Rattle.uring_trace.specs.Reading.{ReadsEntry, form_of, nop_of, fsync_of, read_of, write_of, cancel_of, op_of, raw_of, data_of};
 
-use crate::flag_words::flag_bits;
-use crate::hex_words::{decode, raw_entry};
-use crate::number_words::{file, number, operation, small_number};
+use crate::flag_tokens::flag_bits;
+use crate::hex_tokens::{decode, raw_entry};
+use crate::number_tokens::{file, number, operation, small_number};
 use uring_machine::Sqe;
 
 /// Most bytes of data in an entry.
 const DATA: usize = 64;
 
-/// The entry that these words spell, if they spell one.
+/// The entry that these tokens spell, if they spell one.
 #[tactic(auto, unfolding(crate::specs::Reading::form_of))]
-pub(crate) fn read_entry(words: &[&[u8]]) -> Option<Sqe>
-    ensures { ReadsEntry result (form_of (map (λ word. word.now) words.now)) }
+pub(crate) fn read_entry(tokens: &[&[u8]]) -> Option<Sqe>
+    ensures { ReadsEntry result (form_of (map (λ token. token.now) tokens.now)) }
 {
-    let (name, words) = words.split_first()?;
+    let (name, tokens) = tokens.split_first()?;
     match name {
-        _ if is(name, "nop") => nop(words),
-        _ if is(name, "fsync") => fsync(words),
-        _ if is(name, "read") => read(words),
-        _ if is(name, "write") => write(words),
-        _ if is(name, "cancel") => cancel(words),
-        _ if is(name, "op") => other(words),
-        _ if is(name, "raw") => raw(words),
+        _ if is(name, "nop") => nop(tokens),
+        _ if is(name, "fsync") => fsync(tokens),
+        _ if is(name, "read") => read(tokens),
+        _ if is(name, "write") => write(tokens),
+        _ if is(name, "cancel") => cancel(tokens),
+        _ if is(name, "op") => other(tokens),
+        _ if is(name, "raw") => raw(tokens),
         _ => None,
     }
 }
 
 /// A no-op: user data, flags.
 #[tactic(auto, unfolding(crate::specs::Reading::nop_of))]
-fn nop(words: &[&[u8]]) -> Option<Sqe>
-    ensures { ReadsEntry result (nop_of (map (λ word. word.now) words.now)) }
+fn nop(tokens: &[&[u8]]) -> Option<Sqe>
+    ensures { ReadsEntry result (nop_of (map (λ token. token.now) tokens.now)) }
 {
-    let [user_data, flags] = words else {
+    let [user_data, flags] = tokens else {
         return None;
     };
     let user_data = number(user_data)?;
@@ -46,10 +46,10 @@ fn nop(words: &[&[u8]]) -> Option<Sqe>
 
 /// An fsync: user data, flags, file.
 #[tactic(auto, unfolding(crate::specs::Reading::fsync_of))]
-fn fsync(words: &[&[u8]]) -> Option<Sqe>
-    ensures { ReadsEntry result (fsync_of (map (λ word. word.now) words.now)) }
+fn fsync(tokens: &[&[u8]]) -> Option<Sqe>
+    ensures { ReadsEntry result (fsync_of (map (λ token. token.now) tokens.now)) }
 {
-    let [user_data, flags, fd] = words else {
+    let [user_data, flags, fd] = tokens else {
         return None;
     };
     let user_data = number(user_data)?;
@@ -58,10 +58,10 @@ fn fsync(words: &[&[u8]]) -> Option<Sqe>
 
 /// A read: user data, flags, file, offset, length.
 #[tactic(auto, unfolding(crate::specs::Reading::read_of))]
-fn read(words: &[&[u8]]) -> Option<Sqe>
-    ensures { ReadsEntry result (read_of (map (λ word. word.now) words.now)) }
+fn read(tokens: &[&[u8]]) -> Option<Sqe>
+    ensures { ReadsEntry result (read_of (map (λ token. token.now) tokens.now)) }
 {
-    let [user_data, flags, fd, off, len] = words else {
+    let [user_data, flags, fd, off, len] = tokens else {
         return None;
     };
     let user_data = number(user_data)?;
@@ -73,10 +73,10 @@ fn read(words: &[&[u8]]) -> Option<Sqe>
 
 /// A write: user data, flags, file, offset, data.
 #[tactic(auto, unfolding(crate::specs::Reading::write_of))]
-fn write(words: &[&[u8]]) -> Option<Sqe>
-    ensures { ReadsEntry result (write_of (map (λ word. word.now) words.now)) }
+fn write(tokens: &[&[u8]]) -> Option<Sqe>
+    ensures { ReadsEntry result (write_of (map (λ token. token.now) tokens.now)) }
 {
-    let [user_data, flags, fd, off, bytes] = words else {
+    let [user_data, flags, fd, off, bytes] = tokens else {
         return None;
     };
     let user_data = number(user_data)?;
@@ -88,10 +88,10 @@ fn write(words: &[&[u8]]) -> Option<Sqe>
 
 /// A cancel: user data, flags, target.
 #[tactic(auto, unfolding(crate::specs::Reading::cancel_of))]
-fn cancel(words: &[&[u8]]) -> Option<Sqe>
-    ensures { ReadsEntry result (cancel_of (map (λ word. word.now) words.now)) }
+fn cancel(tokens: &[&[u8]]) -> Option<Sqe>
+    ensures { ReadsEntry result (cancel_of (map (λ token. token.now) tokens.now)) }
 {
-    let [user_data, flags, target] = words else {
+    let [user_data, flags, target] = tokens else {
         return None;
     };
     let user_data = number(user_data)?;
@@ -100,10 +100,10 @@ fn cancel(words: &[&[u8]]) -> Option<Sqe>
 
 /// An entry of any operation: operation, user data, flags.
 #[tactic(auto, unfolding(crate::specs::Reading::op_of))]
-fn other(words: &[&[u8]]) -> Option<Sqe>
-    ensures { ReadsEntry result (op_of (map (λ word. word.now) words.now)) }
+fn other(tokens: &[&[u8]]) -> Option<Sqe>
+    ensures { ReadsEntry result (op_of (map (λ token. token.now) tokens.now)) }
 {
-    let [code, user_data, flags] = words else {
+    let [code, user_data, flags] = tokens else {
         return None;
     };
     let code = operation(code)?;
@@ -113,35 +113,35 @@ fn other(words: &[&[u8]]) -> Option<Sqe>
 
 /// An entry of any bytes: its 128 bytes.
 #[tactic(auto, unfolding(crate::specs::Reading::raw_of))]
-fn raw(words: &[&[u8]]) -> Option<Sqe>
-    ensures { ReadsEntry result (raw_of (map (λ word. word.now) words.now)) }
+fn raw(tokens: &[&[u8]]) -> Option<Sqe>
+    ensures { ReadsEntry result (raw_of (map (λ token. token.now) tokens.now)) }
 {
-    let [bytes] = words else {
+    let [bytes] = tokens else {
         return None;
     };
     raw_entry(bytes)
 }
 
-/// A write of the bytes that a word spells: `-` for none, else 1 to 64 bytes.
+/// A write of the bytes that a token spells: `-` for none, else 1 to 64 bytes.
 #[tactic(auto, unfolding(crate::specs::Reading::data_of))]
-fn write_of_data(user_data: u64, flags: u8, fd: i32, off: u64, word: &[u8]) -> Option<Sqe>
-    ensures { ReadsEntry result (option_map (λ bytes. form.Write user_data flags fd off bytes) (data_of word.now)) }
+fn write_of_data(user_data: u64, flags: u8, fd: i32, off: u64, token: &[u8]) -> Option<Sqe>
+    ensures { ReadsEntry result (option_map (λ bytes. form.Write user_data flags fd off bytes) (data_of token.now)) }
 {
-    if let b"-" = word {
+    if let b"-" = token {
         return Some(Sqe::write(user_data, flags, fd, off, &[]));
     }
-    let count = word.len() / 2;
+    let count = token.len() / 2;
     if count == 0 || count > DATA {
         return None;
     }
     let mut bytes = [0; DATA];
-    decode(word, &mut bytes[..count])?;
+    decode(token, &mut bytes[..count])?;
     Some(Sqe::write(user_data, flags, fd, off, &bytes[..count]))
 }
 
-/// Whether a word is this name.
-pub(crate) fn is(word: &[u8], name: &str) -> bool
-    ensures { result ≡ bytes_eq word.now name.now }
+/// Whether a token is this name.
+pub(crate) fn is(token: &[u8], name: &str) -> bool
+    ensures { result ≡ bytes_eq token.now name.now }
 {
-    word == name.as_bytes()
+    token == name.as_bytes()
 }

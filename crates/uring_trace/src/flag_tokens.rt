@@ -1,33 +1,33 @@
-//! Words that are flags.
+//! Tokens that are flags.
 
 ghost use Rattle.std.specs.Prelude.{◌≡◌, ◌==◌, None, Some, if◌then◌else◌};
-ghost use Rattle.uring_trace.specs.Words.{flag_value};
+ghost use Rattle.uring_trace.specs.Tokens.{flag_value};
 ghost use Rattle.uring_trace.specs.Reading.{flags_of, letters_of};
 
 use bitflags::Flags;
 use uring_machine::SqeFlags;
 
-/// The flag bits that a word names: `-` for none, or one or more of the letters D, L, H, A and S in any order, each at most once.
+/// The flag bits that a token names: `-` for none, or one or more of the letters D, L, H, A and S in any order, each at most once.
 #[tactic(auto, unfolding(crate::specs::Reading::flags_of))]
-pub(crate) fn flag_bits(word: &[u8]) -> Option<u8>
-    ensures { result ≡ flags_of word.now }
+pub(crate) fn flag_bits(token: &[u8]) -> Option<u8>
+    ensures { result ≡ flags_of token.now }
 {
-    if let b"-" = word {
+    if let b"-" = token {
         return Some(0);
     }
-    if word.is_empty() {
+    if token.is_empty() {
         return None;
     }
-    letters(word)
+    letters(token)
 }
 
 /// The bits of these letters, if each is a flag's and stands there once.
 #[tactic(auto, unfolding(crate::specs::Reading::letters_of))]
-fn letters(word: &[u8]) -> Option<u8>
-    ensures { result ≡ letters_of 0 word.now }
+fn letters(token: &[u8]) -> Option<u8>
+    ensures { result ≡ letters_of 0 token.now }
 {
     let mut bits = 0;
-    for letter in word {
+    for letter in token {
         let bit = flag_bit(*letter)?;
         if bits & bit != 0 {
             return None;

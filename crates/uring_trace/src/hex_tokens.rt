@@ -1,4 +1,4 @@
-//! Words that are bytes, two lower case hexadecimal digits each.
+//! Tokens that are bytes, two lower case hexadecimal digits each.
 
 ghost use Rattle.std.specs.Prelude.{◌≡◌, ◌≤◌, length, take, drop, MatchOption, None, Some};
 ghost use Rattle.std.specs.List.{list_any};
@@ -13,30 +13,30 @@ const ENTRY: usize = 128;
 
 /// The entry of these 128 bytes, byte 0 first.
 #[tactic(auto, unfolding(crate::specs::Reading::bytes_form_of))]
-pub(crate) fn raw_entry(word: &[u8]) -> Option<Sqe>
-    ensures { ReadsEntry result (bytes_form_of word.now) }
+pub(crate) fn raw_entry(token: &[u8]) -> Option<Sqe>
+    ensures { ReadsEntry result (bytes_form_of token.now) }
 {
     let mut bytes = [0; ENTRY];
-    decode(word, &mut bytes)?;
+    decode(token, &mut bytes)?;
     Some(Sqe::from_words(words_of(&bytes)))
 }
 
-/// Puts the bytes that a word spells into `bytes`, which they must fill.
+/// Puts the bytes that a token spells into `bytes`, which they must fill.
 #[tactic(auto, unfolding(crate::specs::Reading::hex_of))]
-pub(crate) fn decode(word: &[u8], bytes: &mut [u8]) -> Option<()>
-    ensures { MatchOption result (hex_of (length bytes.old) word.now ≡ None) (λ _. hex_of (length bytes.old) word.now ≡ Some bytes.new) }
+pub(crate) fn decode(token: &[u8], bytes: &mut [u8]) -> Option<()>
+    ensures { MatchOption result (hex_of (length bytes.old) token.now ≡ None) (λ _. hex_of (length bytes.old) token.now ≡ Some bytes.new) }
 {
-    if has_capitals(word) {
+    if has_capitals(token) {
         return None;
     }
-    hex::decode_to_slice(word, bytes).ok()
+    hex::decode_to_slice(token, bytes).ok()
 }
 
-/// Whether a word has a capital letter.
-fn has_capitals(word: &[u8]) -> bool
-    ensures { result ≡ list_any is_capital word.now }
+/// Whether a token has a capital letter.
+fn has_capitals(token: &[u8]) -> bool
+    ensures { result ≡ list_any is_capital token.now }
 {
-    word.iter().any(|digit| digit.is_ascii_uppercase())
+    token.iter().any(|digit| digit.is_ascii_uppercase())
 }
 
 /// The words of 64 bits that hold these bytes, the low byte of each word first.
