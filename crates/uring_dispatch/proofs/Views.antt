@@ -12,11 +12,10 @@ use Rattle.uring_entry.specs.declared.faults.Fault.{Fault}
 use Rattle.uring_entry.specs.declared.operation.Op.{Op}
 use Rattle.uring_entry.specs.Preparation.{fault_of, is_faulty, operation_of}
 use Rattle.uring_entry.specs.Requests as spec
-use Rattle.uring_entry.specs.Requests.{Requests, entry_of, no_request, with_accepted, with_cut}
+use Rattle.uring_entry.specs.Requests.{Requests, entry_of, no_request, with_accepted, with_cut, operation_running, entry_outstanding}
 use Rattle.uring_entry.proofs.RequestLemmas.{added-same, added-other, get_or-push_other, entry_of-accepted_at, entry_of-accepted_other, has_failed-accepted, has_failed-unended}
 use Rattle.uring_dispatch.specs.declared.held.Request.{Request}
 use Rattle.uring_dispatch.specs.Held.{AreHeld, request_at, fresh, is_over, is_running, has_failed}
-use Rattle.uring_dispatch.specs.Answers.{operation_running, entry_outstanding}
 use Rattle.uring_dispatch.specs.Dispatcher.{Dispatcher, dispatcher_of, Shows, StandsFor, IssueCounts}
 use Rattle.uring_dispatch.proofs.Changes.{by_place}
 use Rattle.uring_dispatch.proofs.Numbers.{held-shows, shows-held}

@@ -1,9 +1,7 @@
 -- What the dispatcher answers, and what becomes of the requests by it.
-use Rattle.std.specs.Prelude.{ℕ, not, Option, Some, None, if◌then◌else◌}
-use Rattle.uring_entry.specs.Layout.{Entry}
+use Rattle.std.specs.Prelude.{ℕ, not, if◌then◌else◌}
 use Rattle.uring_entry.specs.Preparation.{is_cancel, operation_of}
 use Rattle.uring_entry.specs.Requests.{Requests, entry_of, is_outstanding, is_running, is_doomed, is_ready, doomed_result, cancel_result, with_started, with_ended, with_issued_end}
-use Rattle.uring_entry.specs.declared.operation.Op.{Op}
 use Rattle.uring_entry.specs.declared.outcomes.Outcome.{Outcome}
 use Rattle.uring_dispatch.specs.declared.issue_answer.Issued.{Issued}
 use Rattle.uring_dispatch.specs.declared.issue_answer.Issued.TheVariants.{Run, Ended, NotReady, Running, Unknown}
@@ -39,11 +37,3 @@ finished r n = if is_running r n then finish.Ended else finish.NotRunning
 abbrev pub after_finish : Requests → ℕ → Outcome → Finished → Requests
 after_finish r n outcome finish.Ended = with_ended r n outcome.res outcome.bytes
 after_finish r n outcome finish.NotRunning = r
-
--- the operation of n, where it is running
-abbrev pub operation_running : Requests → ℕ → Option Op
-operation_running r n = if is_running r n then Some (operation_of (entry_of r n)) else None
-
--- the entry of n, where it is outstanding
-abbrev pub entry_outstanding : Requests → ℕ → Option Entry
-entry_outstanding r n = if is_outstanding r n then Some (entry_of r n) else None

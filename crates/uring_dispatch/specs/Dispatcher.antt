@@ -1,9 +1,8 @@
 -- The dispatcher as its callers see it.
 use Rattle.std.specs.Prelude.{◌≡◌, ℕ, ◌+◌, ◌-◌, ◌≤◌, Bool, true, not, ◌||◌, ◌==◌, List, length, count_by}
-use Rattle.uring_entry.specs.Requests.{Requests}
+use Rattle.uring_entry.specs.Requests.{Requests, outstanding_in, running_in}
 use Rattle.uring_dispatch.specs.declared.held.Request.{Request}
 use Rattle.uring_dispatch.specs.Held.{AreHeld, request_at, is_over, is_running}
-use Rattle.uring_dispatch.specs.Counts.{outstanding_in, running_in}
 use Rattle.uring_dispatch.specs.declared.issue_answer.Issued.{Issued}
 use Rattle.uring_dispatch.specs.declared.issue_answer.Issued.TheVariants.{Run, Ended}
 use Rattle.uring_dispatch.specs.declared.finish_answer.Finished.{Finished}

@@ -1,7 +1,6 @@
 ghost use Rattle.std.specs.Prelude.{◌≡◌, ◌+◌, ◌-◌, ◌^◌, ◌<◌, ◌≤◌, ◌↔◌, IsTrue, true, false, OnOk, OnErr, IsOk, IsErrOf};
-ghost use Rattle.uring_entry.specs.Requests.{Requests, no_request, with_accepted, with_cut, next_of, least_of};
-ghost use Rattle.uring_dispatch.specs.Answers.{issued, after_issue, finished, after_finish, operation_running, entry_outstanding};
-ghost use Rattle.uring_dispatch.specs.Counts.{outstanding_in, running_in};
+ghost use Rattle.uring_entry.specs.Requests.{Requests, no_request, with_accepted, with_cut, next_of, least_of, operation_running, entry_outstanding, outstanding_in, running_in};
+ghost use Rattle.uring_dispatch.specs.Answers.{issued, after_issue, finished, after_finish};
 
 use crate::finish_answer::Finished;
 use crate::held::Request;

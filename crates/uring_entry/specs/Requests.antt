@@ -4,11 +4,12 @@ use Rattle.std.specs.List.{list_any}
 use Rattle.std.specs.Option.{option_to_list}
 use Rattle.std.specs.Ordering.{int_eq}
 use Rattle.uring_entry.specs.declared.errno.TheConstants.{ENOENT, EINVAL, EALREADY, ECANCELED}
+use Rattle.uring_entry.specs.declared.operation.Op.{Op}
 use Rattle.uring_entry.specs.Flags.{io_drain, io_link, io_hardlink}
 use Rattle.uring_entry.specs.Layout.{Entry, zero_entry, has, addr_of, user_data_of}
-use Rattle.uring_entry.specs.Preparation.{is_faulty, is_cancel}
+use Rattle.uring_entry.specs.Preparation.{is_faulty, is_cancel, operation_of}
 use Rattle.uring_entry.specs.Success.{is_success}
-use Rattle.uring_entry.specs.Below.{some_below, least_below}
+use Rattle.uring_entry.specs.Below.{some_below, least_below, count_below}
 
 -- How a request ended: its number, the result, and the bytes that its completion carries.
 pub record Ending : Type 0 where
@@ -159,6 +160,24 @@ result_for r (Some m) = if is_running r m then neg_ℤ EALREADY else pos 0
 -- what the cancel n ends with
 abbrev pub cancel_result : Requests → ℕ → ℤ
 cancel_result r n = result_for r (target_of r n)
+
+-- What is told of them.
+
+-- how many requests are outstanding
+abbrev pub outstanding_in : Requests → ℕ
+outstanding_in r = count_below (is_outstanding r) (length r.accepted)
+
+-- how many requests are running
+abbrev pub running_in : Requests → ℕ
+running_in r = count_below (is_running r) (length r.accepted)
+
+-- the operation of n, if it is running
+abbrev pub operation_running : Requests → ℕ → Option Op
+operation_running r n = if is_running r n then Some (operation_of (entry_of r n)) else None
+
+-- the entry of n, if it is outstanding
+abbrev pub entry_outstanding : Requests → ℕ → Option Entry
+entry_outstanding r n = if is_outstanding r n then Some (entry_of r n) else None
 
 -- what each event makes of it
 

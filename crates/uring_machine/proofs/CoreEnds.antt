@@ -8,7 +8,7 @@ use Rattle.uring_entry.specs.Words.{word_of}
 use Rattle.uring_entry.specs.Layout.{Entry, Completion, user_data_of}
 use Rattle.uring_entry.specs.Success.{posts_completion}
 use Rattle.uring_entry.specs.Submission.{Submission, Call, no_submission, taken, pending, entries_of, places_from, dropped, closed}
-use Rattle.uring_entry.specs.Requests.{Requests, no_request, entry_of, has_started, has_ended, is_outstanding, is_running, is_doomed, is_ready, doomed_result, cancel_result, no_bytes, with_call, with_ended, with_issued_end, with_started}
+use Rattle.uring_entry.specs.Requests.{Requests, no_request, entry_of, has_started, has_ended, is_outstanding, is_running, is_doomed, is_ready, doomed_result, cancel_result, no_bytes, with_call, with_ended, with_issued_end, with_started, entry_outstanding}
 use Rattle.uring_entry.specs.Preparation.{is_cancel, operation_of}
 use Rattle.uring_entry.specs.Completions.{Completions, no_completion, with_end, with_posted}
 use Rattle.uring_entry.specs.declared.outcomes.Outcome.{Outcome}
@@ -19,7 +19,7 @@ use Rattle.uring_rings.specs.CompletionRing.{CompletionQueue, ShowsCompletions}
 use Rattle.uring_rings.specs.declared.answers.end_answer.EndAnswer.TheVariants as ended_as
 use Rattle.uring_rings.specs.declared.answers.taken_counts.Taken.{Taken}
 use Rattle.uring_dispatch.specs.Dispatcher.{Dispatcher, Shows, HasStarted, HasEnded, HasFinished}
-use Rattle.uring_dispatch.specs.Answers.{issued, issued_waiting, finished, entry_outstanding}
+use Rattle.uring_dispatch.specs.Answers.{issued, issued_waiting, finished}
 use Rattle.uring_dispatch.specs.declared.issue_answer.Issued.{Issued}
 use Rattle.uring_dispatch.specs.declared.issue_answer.Issued.TheVariants as issue
 use Rattle.uring_dispatch.specs.declared.finish_answer.Finished.TheVariants as finish

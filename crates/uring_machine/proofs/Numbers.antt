@@ -4,9 +4,8 @@ use Rattle.std.proofs.lemmas.Bool.{ltb-false}
 use Rattle.std.proofs.lemmas.List.{length-append, length-take}
 use Rattle.uring_entry.specs.Shape.{Shape}
 use Rattle.uring_entry.specs.Submission.{Call, taken, call_length, entries_of, places_from}
-use Rattle.uring_entry.specs.Requests.{is_outstanding}
+use Rattle.uring_entry.specs.Requests.{is_outstanding, outstanding_in}
 use Rattle.uring_rings.proofs.Places.{entries_and_dropped}
-use Rattle.uring_dispatch.specs.Counts.{outstanding_in}
 use Rattle.uring_machine.specs.World.{World, happens, taking_of, ending_of}
 use Rattle.uring_machine.specs.Answers.{CalledForApart, OrAgain, is_spent}
 use Rattle.uring_machine.specs.Core.{positions_of}

@@ -1,9 +1,8 @@
 -- How many requests are outstanding.
 use Rattle.std.proofs.Common.{◌≡◌, ◌≢◌, ℕ, zero, suc, ◌+◌, ◌<◌, ◌≤◌, Bool, true, false, not, ◌&&◌, ltb, cond, ℤ, List, length, refl, sym, ◌∙◌, ap, arith, inl, inr}
 use Rattle.std.proofs.lemmas.Bool.{cases_eq, cases_Bool, and_parts, ltb-true}
-use Rattle.uring_entry.specs.Requests.{Requests, has_ended, is_outstanding, with_ended}
+use Rattle.uring_entry.specs.Requests.{Requests, has_ended, is_outstanding, with_ended, outstanding_in}
 use Rattle.uring_entry.proofs.RequestLemmas.{has_ended-same, has_ended-other}
-use Rattle.uring_dispatch.specs.Counts.{outstanding_in}
 use Rattle.uring_entry.specs.Below.{count_below}
 
 -- at most as many as there are numbers

@@ -4,10 +4,9 @@ use Rattle.std.proofs.lemmas.Bool.{and_parts, and_from, or_cases, both_ways, not
 use Rattle.std.proofs.lemmas.List.Folds.{list_all-append}
 use Rattle.uring_entry.specs.Shape.{Shape}
 use Rattle.uring_entry.specs.Preparation.{is_cancel}
-use Rattle.uring_entry.specs.Requests.{Requests, entry_of, has_ended, is_outstanding, is_running, is_issuable, is_doomed, is_ready, doomed_result, cancel_result, no_bytes, next_of, least_of}
+use Rattle.uring_entry.specs.Requests.{Requests, entry_of, has_ended, is_outstanding, is_running, is_issuable, is_doomed, is_ready, doomed_result, cancel_result, no_bytes, next_of, least_of, outstanding_in}
 use Rattle.uring_entry.proofs.BelowLemmas.{least_below-tells, least_below-out}
 use Rattle.uring_entry.proofs.RequestLemmas.{least_of-goes_on, is_running-started_same}
-use Rattle.uring_dispatch.specs.Counts.{outstanding_in}
 use Rattle.uring_machine.specs.World.{World, issuing, finishing}
 use Rattle.uring_machine.specs.Answers.{IsEnded, FinishesApart, next_answer_of}
 use Rattle.uring_machine.specs.Histories.{History, world}

@@ -8,9 +8,8 @@ use Rattle.uring_rings.specs.CompletionRing.{CompletionQueue, ShowsCompletions}
 use Rattle.uring_dispatch.specs.Dispatcher.{Dispatcher, Shows}
 use Rattle.uring_machine.specs.World.{World}
 use Rattle.uring_machine.specs.Histories.{History, world, IsLawfulApart}
-use Rattle.uring_entry.specs.Requests.{is_running}
+use Rattle.uring_entry.specs.Requests.{is_running, outstanding_in, running_in}
 use Rattle.uring_entry.specs.declared.outcomes.Outcome.{Outcome}
-use Rattle.uring_dispatch.specs.Counts.{outstanding_in, running_in}
 use Rattle.uring_machine.specs.declared.answers.Answer.{Answer}
 use Rattle.uring_machine.specs.declared.answers.Answer.TheVariants as answer
 use Rattle.uring_machine.specs.declared.counts.Counts.{Counts}

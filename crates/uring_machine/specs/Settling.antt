@@ -2,8 +2,7 @@
 use Rattle.std.specs.Prelude.{◌≡◌, ℕ, ◌+◌, ◌*◌, ◌≤◌, Bool, true, false, [], ◌∷◌, ◌++◌, length, Option, Some, None}
 use Rattle.std.specs.List.{list_all}
 use Rattle.uring_entry.specs.Shape.{Shape}
-use Rattle.uring_entry.specs.Requests.{is_outstanding, next_of, least_of}
-use Rattle.uring_dispatch.specs.Counts.{outstanding_in}
+use Rattle.uring_entry.specs.Requests.{is_outstanding, next_of, least_of, outstanding_in}
 use Rattle.uring_machine.specs.Histories.{Event, History, world}
 use Rattle.uring_machine.specs.Direct.{started_by}
 use Rattle.uring_machine.specs.Machine.{Holding, Fits}

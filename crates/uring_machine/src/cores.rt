@@ -1,7 +1,6 @@
 ghost use Rattle.std.specs.Prelude.{◌≡◌, ◌∷◌, [], IfOk, slice_get};
 ghost use Rattle.uring_entry.specs.Completions.{unreaped};
-ghost use Rattle.uring_entry.specs.Requests.{least_of};
-ghost use Rattle.uring_dispatch.specs.Answers.{operation_running};
+ghost use Rattle.uring_entry.specs.Requests.{least_of, operation_running};
 ghost use Rattle.uring_machine.specs.Histories.{History, world};
 ghost use Rattle.uring_machine.specs.declared.steps.Step.TheVariants as step;
 

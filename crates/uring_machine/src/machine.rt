@@ -1,7 +1,7 @@
 ghost use Rattle.std.specs.Prelude.{◌≡◌, ◌≤◌, ◌∷◌, [], IfOk, slice_get};
 ghost use Rattle.uring_entry.specs.Completions.{unreaped};
+ghost use Rattle.uring_entry.specs.Requests.{operation_running};
 ghost use Rattle.uring_files.specs.Operations.{state_of, byte_of};
-ghost use Rattle.uring_dispatch.specs.Answers.{operation_running};
 ghost use Rattle.uring_machine.specs.Contents.{CalledFor, files_of};
 ghost use Rattle.uring_machine.specs.Core.{IsCounts};
 ghost use Rattle.uring_machine.specs.Histories.{History, world};
