@@ -1,7 +1,7 @@
 //! What can go wrong in a run of the program.
 
-use crate::options_fault::OptionsFault;
-use crate::trace_fault::TraceFault;
+use uring_options::OptionsFault;
+use uring_trace::TraceFault;
 
 /// Why a run of the program didn't do what was asked.
 #[derive(Debug, Drop)]

@@ -1,34 +1,16 @@
 //! `uring`: the rings of io_uring, step by step, over lines of text.
 #![tactic(auto)]
 
-mod answer_text;
-mod command_line;
-mod entry_words;
 mod fault;
-mod flag_words;
-mod hex_words;
-pub mod laws;
-mod names;
-mod number_words;
-mod option_kinds;
-mod options_fault;
-mod session;
-mod step_lines;
 mod telling;
-#[cfg(test)]
-mod tests;
-mod trace_fault;
-mod trace_loop;
 
-use crate::command_line::{not_text, options};
 use crate::fault::Fault;
-use crate::option_kinds::Options;
 use crate::telling::tell;
-use crate::trace_fault::TraceFault;
-use crate::trace_loop::trace;
 use std::env;
 use std::io::ErrorKind;
 use std::process::ExitCode;
+use uring_options::{Options, not_text, options};
+use uring_trace::{TraceFault, trace};
 
 fn main(rt: HostRuntime) -> ExitCode {
     match run(&rt) {

@@ -1,11 +1,10 @@
 //! What a fault of the program says, and its exit status.
 
 use crate::fault::Fault;
-use crate::options_fault::OptionsFault;
-use crate::trace_fault::TraceFault;
 use clap::error::ErrorKind;
 use std::alloc::{AllocError, Global};
 use std::io::Write;
+use uring_options::OptionsFault;
 
 /// The exit status where the run failed.
 const FAILED: u8 = 1;

@@ -2,7 +2,7 @@
 use Rattle.std.proofs.Common.{◌≡◌, ◌≢◌, ℕ, ◌<◌, ℤ, pos, List, [], ◌∷◌, ◌++◌, length, set, Bool, true, false, not, ◌&&◌, ◌||◌, ◌==◌, refl, sym, ◌∙◌, ap, inl, inr}
 use Rattle.std.proofs.lemmas.List.{get_or-set_same, get_or-set_other, length-set, append-nil}
 use Rattle.std.proofs.lemmas.Bool.{cases_eq, and_right, eq-eqb, eqb-true, ne_eqb, both_ways}
-use Rattle.uring_entry.specs.Layout.{Entry, zero_entry, opcode_of, len_of}
+use Rattle.uring_entry.specs.Layout.{Sqe, zero_entry, opcode_of, len_of}
 use Rattle.std.specs.Ordering.{int_eq}
 use Rattle.std.specs.Option.{option_to_list}
 use Rattle.std.specs.Prelude.{if◌then◌else◌, Some}
@@ -12,7 +12,7 @@ use Rattle.uring_entry.specs.Success.{is_success}
 use Rattle.uring_entry.specs.Requests as spec
 use Rattle.uring_entry.specs.Requests.{Requests, entry_of, with_started, with_ended, with_issued_end, no_bytes, chosen_by, target_of}
 use Rattle.uring_entry.proofs.RequestLemmas.{has_ended-same, has_ended-other, is_running-ended_same, is_running-ended_other, is_running-started_same, is_running-started_other, has_failed-unended, has_failed-same, has_failed-other, added-same, added-other}
-use Rattle.uring_dispatch.specs.declared.held.Request.{Request}
+use Rattle.uring_dispatch.specs.declared.request.Request.{Request}
 use Rattle.uring_dispatch.specs.declared.progress.State.{State}
 use Rattle.uring_dispatch.specs.declared.progress.State.TheVariants.{Waiting, Running, Succeeded, Failed}
 use Rattle.uring_dispatch.specs.Held.{AreHeld, request_at, with_state, chosen, ended_state, is_over, is_running, has_failed, in_over, in_failed, in_running, fresh}
@@ -128,7 +128,7 @@ target_chosen r n m is chose =
     ap (λ b. if b && true then option_to_list (target_of r n) else []) is ∙ ap option_to_list chose
 
 -- 0 is a cancel's success
-cancel_success : (e : Entry) → is_cancel e ≡ true → is_success e (pos 0) ≡ true
+cancel_success : (e : Sqe) → is_cancel e ≡ true → is_success e (pos 0) ≡ true
 cancel_success e is =
     let code : opcode_of e ≡ 14 = eqb-true (opcode_of e) 14 is in
     ap (λ o. int_eq (pos 0) (pos (if (o == READ) || (o == WRITE) then len_of e else 0))) code

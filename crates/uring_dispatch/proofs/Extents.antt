@@ -4,12 +4,12 @@ use Rattle.std.specs.List.{list_any, slice_range}
 use Rattle.std.proofs.lemmas.List.{get_or-drop}
 use Rattle.std.proofs.lemmas.List.Folds.{list_any_more}
 use Rattle.std.proofs.lemmas.Bool.{cases_lt, and_left, and_right, and_from, le-leb, lt-leb, lt-ltb, le-ltb}
-use Rattle.uring_entry.specs.Layout.{Entry, zero_entry}
+use Rattle.uring_entry.specs.Layout.{Sqe, zero_entry}
 use Rattle.uring_entry.specs.Below.{some_below}
 use Rattle.uring_entry.specs.Requests.{Requests, entry_of, is_last, is_linked, is_soft, is_joined, is_in_group, some_member, is_behind_failure}
 use Rattle.uring_entry.proofs.BelowLemmas.{some_below-none, some_below-same, some_below-between}
 use Rattle.uring_entry.proofs.RequestLemmas.{is_joined-yes, is_joined-no}
-use Rattle.uring_dispatch.specs.declared.held.Request.{Request}
+use Rattle.uring_dispatch.specs.declared.request.Request.{Request}
 use Rattle.uring_dispatch.specs.Held.{AreHeld, BeginsGroup, EndsGroup, IsGroup, request_at, ends_group, breaks_links, fresh, has_failed}
 
 and-true : (b : Bool) → (b && true) ≡ b
@@ -93,14 +93,14 @@ list_any-part g held start (suc end) le =
           ∙ ap (λ b. some_below (λ m. leb start m && g (request_at held m)) end || (b && g (request_at held end))) (sym (le-leb start end high))
     ]
 
-further : (held : List Request) (r : Requests) (p : Entry → Bool) (n start end : ℕ) → AreHeld held r → BeginsGroup held n start → EndsGroup held n end → some_below (λ m. is_in_group r m n && p (entry_of r m)) (length r.accepted) ≡ some_below (λ m. is_in_group r m n && p (entry_of r m)) end
+further : (held : List Request) (r : Requests) (p : Sqe → Bool) (n start end : ℕ) → AreHeld held r → BeginsGroup held n start → EndsGroup held n end → some_below (λ m. is_in_group r m n && p (entry_of r m)) (length r.accepted) ≡ some_below (λ m. is_in_group r m n && p (entry_of r m)) end
 further held r p n start end h b e =
     ap (some_below (λ m. is_in_group r m n && p (entry_of r m))) (sym h.count)
     ∙ some_below-between (λ m. is_in_group r m n && p (entry_of r m)) end (length held) e.within
     (λ m past lt. and_left _ _ (is_in_group-between held r n start end m h b e lt ∙ and_right _ _ (le-ltb m end past)))
 
 -- a test of the group's members
-pub some_member-held : (p : Entry → Bool) (held : List Request) (r : Requests) (n : ℕ) (group : List Request) → AreHeld held r → IsGroup held n group → list_any (λ q. p q.entry) group ≡ some_member r p n
+pub some_member-held : (p : Sqe → Bool) (held : List Request) (r : Requests) (n : ℕ) (group : List Request) → AreHeld held r → IsGroup held n group → list_any (λ q. p q.entry) group ≡ some_member r p n
 unfolding some_member
 some_member-held p held r n group h g =
     ap (list_any (λ q. p q.entry)) g.members

@@ -7,12 +7,12 @@ use Rattle.std.proofs.lemmas.Bool.{lt-ltb}
 use Rattle.uring_entry.specs.Layout.{zero_entry}
 use Rattle.uring_entry.specs.Requests as spec
 use Rattle.uring_entry.specs.Requests.{Requests}
-use Rattle.uring_dispatch.specs.declared.held.Request.{Request}
+use Rattle.uring_dispatch.specs.declared.request.Request.{Request}
 use Rattle.uring_dispatch.specs.declared.progress.State.{State}
 use Rattle.uring_dispatch.specs.declared.progress.State.TheVariants.{Waiting, Succeeded}
 use Rattle.uring_dispatch.specs.Held.{AreHeld, request_at, with_state, chosen, is_over, is_running, in_over, in_running, fresh}
 use Rattle.uring_entry.specs.Below.{count_below}
-use Rattle.uring_dispatch.specs.Dispatcher.{Dispatcher, dispatcher_of, Shows, StandsFor, HasEnded}
+use Rattle.uring_dispatch.specs.Dispatch.{Dispatch, dispatch_of, ShowsRequests, StandsFor, HasEnded}
 use Rattle.uring_dispatch.proofs.Changes.{by_place}
 
 -- a count after one place was written
@@ -20,20 +20,20 @@ count_by-set : (p : Request → Bool) (held : List Request) (n : ℕ) (q : Reque
 count_by-set p held n q lt = sum_by-set (λ x. cond (p x) 1 0) held n q (fresh zero_entry) lt
 
 -- a place is written with a request of the same standing
-pub record IsUnmoved (old new : Dispatcher) : Type 0 where
+pub record IsUnmoved (old new : Dispatch) : Type 0 where
   pub accepted : new.accepted ≡ old.accepted
   pub outstanding : new.outstanding ≡ old.outstanding
   pub running : new.running ≡ old.running
   pub room : new.room ≡ old.room
   pub between : new.is_between_calls ≡ old.is_between_calls
 
-between-set : (held : List Request) (n : ℕ) (q : Request) (capacity : ℕ) → n < length held → q.ends_call ≡ (request_at held n).ends_call → (dispatcher_of (set held n q) capacity).is_between_calls ≡ (dispatcher_of held capacity).is_between_calls
+between-set : (held : List Request) (n : ℕ) (q : Request) (capacity : ℕ) → n < length held → q.ends_call ≡ (request_at held n).ends_call → (dispatch_of (set held n q) capacity).is_between_calls ≡ (dispatch_of held capacity).is_between_calls
 between-set held n q capacity lt same =
     ap (λ m. (m == 0) || (request_at (set held n q) (m - 1)).ends_call) (length-set held n q)
     ∙ ap (λ b. (length held == 0) || b)
     (by_place (λ x. x.ends_call) (λ k. (request_at held k).ends_call) (λ k. (request_at held k).ends_call) held n q lt (λ k. refl) same (λ k ne. refl) (length held - 1))
 
-pub chosen-counts : (held : List Request) (m capacity : ℕ) → m < length held → IsUnmoved (dispatcher_of held capacity) (dispatcher_of (set held m (chosen (request_at held m))) capacity)
+pub chosen-counts : (held : List Request) (m capacity : ℕ) → m < length held → IsUnmoved (dispatch_of held capacity) (dispatch_of (set held m (chosen (request_at held m))) capacity)
 chosen-counts held m capacity lt =
     let q : Request = chosen (request_at held m) in
     record {
@@ -50,7 +50,7 @@ fewer new old was is e w i = omega arith
 same_count : (new old was is : ℕ) → new + was ≡ old + is → was ≡ 0 → is ≡ 0 → new ≡ old
 same_count new old was is e w i = omega arith
 
-pub ended-counts : (held : List Request) (n : ℕ) (state : State) (capacity : ℕ) → n < length held → (request_at held n).state ≡ Waiting → in_over state ≡ true → in_running state ≡ false → HasEnded (dispatcher_of held capacity) (dispatcher_of (set held n (with_state (request_at held n) state)) capacity)
+pub ended-counts : (held : List Request) (n : ℕ) (state : State) (capacity : ℕ) → n < length held → (request_at held n).state ≡ Waiting → in_over state ≡ true → in_running state ≡ false → HasEnded (dispatch_of held capacity) (dispatch_of (set held n (with_state (request_at held n) state)) capacity)
 ended-counts held n state capacity lt waiting over still =
     let q : Request = with_state (request_at held n) state in
     let a : count_by (λ x. not (is_over x)) (set held n q) + cond (not (in_over (request_at held n).state)) 1 0 ≡ count_by (λ x. not (is_over x)) held + cond (not (in_over state)) 1 0 =
@@ -72,7 +72,7 @@ ended-counts held n state capacity lt waiting over still =
     }
 
 -- a cancel ends that chose a request
-pub cancel-counts : (held : List Request) (n m capacity : ℕ) → n < length held → m < length held → (request_at held n).state ≡ Waiting → let after = set held m (chosen (request_at held m)) in HasEnded (dispatcher_of held capacity) (dispatcher_of (set after n (with_state (request_at after n) Succeeded)) capacity)
+pub cancel-counts : (held : List Request) (n m capacity : ℕ) → n < length held → m < length held → (request_at held n).state ≡ Waiting → let after = set held m (chosen (request_at held m)) in HasEnded (dispatch_of held capacity) (dispatch_of (set after n (with_state (request_at after n) Succeeded)) capacity)
 cancel-counts held n m capacity lt within waiting =
     let after : List Request = set held m (chosen (request_at held m)) in
     let still : (request_at after n).state ≡ Waiting =
@@ -103,7 +103,7 @@ counted-all g p held same =
     ap (count_by g) (sym (take_all (length held) held (omega arith))) ∙ counted g p held (length held) (omega arith) same
 
 -- the held requests of the lists make a dispatcher that shows them
-pub shows-held : (held : List Request) (r : Requests) (capacity : ℕ) → AreHeld held r → Shows (dispatcher_of held capacity) r
+pub shows-held : (held : List Request) (r : Requests) (capacity : ℕ) → AreHeld held r → ShowsRequests (dispatch_of held capacity) r
 unfolding StandsFor
 shows-held held r capacity h = record {
   accepted = h.count;
@@ -117,6 +117,6 @@ shows-held held r capacity h = record {
   held = h;
 }
 
-pub held-shows : (held : List Request) (r : Requests) (capacity : ℕ) → Shows (dispatcher_of held capacity) r → AreHeld held r
+pub held-shows : (held : List Request) (r : Requests) (capacity : ℕ) → ShowsRequests (dispatch_of held capacity) r → AreHeld held r
 unfolding StandsFor
 held-shows held r capacity s = s.held

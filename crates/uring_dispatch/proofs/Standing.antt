@@ -4,7 +4,7 @@ use Rattle.std.proofs.lemmas.List.{get_or_read}
 use Rattle.std.proofs.lemmas.Bool.{or_right, le-leb}
 use Rattle.uring_entry.specs.Layout.{zero_entry}
 use Rattle.uring_entry.specs.Requests.{Requests, has_ended, is_joined, is_draining, holds_back}
-use Rattle.uring_dispatch.specs.declared.held.Request.{Request}
+use Rattle.uring_dispatch.specs.declared.request.Request.{Request}
 use Rattle.uring_dispatch.specs.Held.{AreHeld, BeginsGroup, request_at, fresh}
 use Rattle.uring_dispatch.proofs.Extents.{is_joined-from}
 

@@ -7,32 +7,32 @@ use Rattle.std.specs.List.{list_any}
 use Rattle.std.proofs.lemmas.List.{get_or_past, length-set}
 use Rattle.std.proofs.Math.Seq.{get_or-append_seam}
 use Rattle.std.proofs.lemmas.Bool.{cases_eq, and_left, both_ways, false≢true, eq-eqb, ne_eqb, lt-ltb, le-ltb}
-use Rattle.uring_entry.specs.Layout.{Entry, zero_entry}
-use Rattle.uring_entry.specs.declared.faults.Fault.{Fault}
+use Rattle.uring_entry.specs.Layout.{Sqe, zero_entry}
+use Rattle.uring_entry.specs.declared.fault.Fault.{Fault}
 use Rattle.uring_entry.specs.declared.operation.Op.{Op}
 use Rattle.uring_entry.specs.Preparation.{fault_of, is_faulty, operation_of}
 use Rattle.uring_entry.specs.Requests as spec
 use Rattle.uring_entry.specs.Requests.{Requests, entry_of, no_request, with_accepted, with_cut, operation_running, entry_outstanding}
 use Rattle.uring_entry.proofs.RequestLemmas.{added-same, added-other, get_or-push_other, entry_of-accepted_at, entry_of-accepted_other, has_failed-accepted, has_failed-unended}
-use Rattle.uring_dispatch.specs.declared.held.Request.{Request}
+use Rattle.uring_dispatch.specs.declared.request.Request.{Request}
 use Rattle.uring_dispatch.specs.Held.{AreHeld, request_at, fresh, is_over, is_running, has_failed}
-use Rattle.uring_dispatch.specs.Dispatcher.{Dispatcher, dispatcher_of, Shows, StandsFor, IssueCounts}
+use Rattle.uring_dispatch.specs.Dispatch.{Dispatch, dispatch_of, ShowsRequests, StandsFor, IssueCounts}
 use Rattle.uring_dispatch.proofs.Changes.{by_place}
 use Rattle.uring_dispatch.proofs.Numbers.{held-shows, shows-held}
 
 -- what is held, where the value was opened
-pub held-from : (d : Dispatcher) (held : List Request) (capacity : ℕ) (r : Requests) → dispatcher_of held capacity ≡ d → Shows d r → AreHeld held r
+pub held-from : (d : Dispatch) (held : List Request) (capacity : ℕ) (r : Requests) → dispatch_of held capacity ≡ d → ShowsRequests d r → AreHeld held r
 held-from d held capacity r e s =
-    held-shows held r capacity (let P : Dispatcher → Type 0 = λ x. Shows x r in subst P (sym e) s)
+    held-shows held r capacity (let P : Dispatch → Type 0 = λ x. ShowsRequests x r in subst P (sym e) s)
 
 -- what a written list shows
-pub shows-list : (all written : List Request) (r : Requests) (capacity : ℕ) → all ≡ written → AreHeld written r → Shows (dispatcher_of all capacity) r
+pub shows-list : (all written : List Request) (r : Requests) (capacity : ℕ) → all ≡ written → AreHeld written r → ShowsRequests (dispatch_of all capacity) r
 shows-list all written r capacity e h =
-    let P : List Request → Type 0 = λ x. Shows (dispatcher_of x capacity) r in subst P (sym e) (shows-held written r capacity h)
+    let P : List Request → Type 0 = λ x. ShowsRequests (dispatch_of x capacity) r in subst P (sym e) (shows-held written r capacity h)
 
-pub counts-list : (answer : Issued) (old : Dispatcher) (all written : List Request) (capacity : ℕ) → all ≡ written → IssueCounts answer old (dispatcher_of written capacity) → IssueCounts answer old (dispatcher_of all capacity)
+pub counts-list : (answer : Issued) (old : Dispatch) (all written : List Request) (capacity : ℕ) → all ≡ written → IssueCounts answer old (dispatch_of written capacity) → IssueCounts answer old (dispatch_of all capacity)
 counts-list answer old all written capacity e h =
-    let P : List Request → Type 0 = λ x. IssueCounts answer old (dispatcher_of x capacity) in subst P (sym e) h
+    let P : List Request → Type 0 = λ x. IssueCounts answer old (dispatch_of x capacity) in subst P (sym e) h
 
 -- nothing is held at first
 pub empty-held : AreHeld [] no_request
@@ -55,7 +55,7 @@ pub running-past : (held : List Request) (r : Requests) (n : ℕ) → AreHeld he
 running-past held r n h le = sym (h.running n) ∙ ap is_running (past held n le)
 
 -- a number that wasn't given isn't running
-pub shows-past : (d : Dispatcher) (r : Requests) (n : ℕ) → Shows d r → d.accepted ≤ n → spec.is_running r n ≡ false
+pub shows-past : (d : Dispatch) (r : Requests) (n : ℕ) → ShowsRequests d r → d.accepted ≤ n → spec.is_running r n ≡ false
 unfolding StandsFor
 shows-past d r n s le = running-past d.held r n s.held (omega (arith, s.accepted, s.held.count))
 
@@ -72,7 +72,7 @@ by_push f was now held q before here there k =
     ]
 
 -- an entry is accepted
-pub accepted-held : (held : List Request) (r : Requests) (entry : Entry) → AreHeld held r → AreHeld (held ++ fresh entry ∷ []) (with_accepted r entry)
+pub accepted-held : (held : List Request) (r : Requests) (entry : Sqe) → AreHeld held r → AreHeld (held ++ fresh entry ∷ []) (with_accepted r entry)
 accepted-held held r entry h =
     let q : Request = fresh entry in
     let none : request_at held (length held) ≡ fresh zero_entry = past held (length held) (omega arith) in
@@ -147,7 +147,7 @@ entry-open held r n q h lt is over =
 pub operation-none : (r : Requests) (n : ℕ) → spec.is_running r n ≡ false → None ≡ operation_running r n
 operation-none r n e = sym (ap (λ b. if b then Some (operation_of (entry_of r n)) else None) e)
 
-prepared : (e : Entry) (p : Result Op Fault) → IfOk p (λ op. (fault_of e ≡ None) × (op ≡ operation_of e)) → IfErr p (λ fault. fault_of e ≡ Some fault) → is_faulty e ≡ false → result_ok p ≡ Some (operation_of e)
+prepared : (e : Sqe) (p : Result Op Fault) → IfOk p (λ op. (fault_of e ≡ None) × (op ≡ operation_of e)) → IfErr p (λ fault. fault_of e ≡ Some fault) → is_faulty e ≡ false → result_ok p ≡ Some (operation_of e)
 prepared e (Ok op) right wrong sound = ap Some right.1
 prepared e (Err fault) right wrong sound = absurd (both_ways _ sound (ap is_some wrong))
 

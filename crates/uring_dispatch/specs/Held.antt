@@ -1,16 +1,16 @@
--- What the dispatcher holds of the requests.
+-- Glue. What the dispatcher holds of the requests.
 use Rattle.std.specs.Prelude.{◌≡◌, ℕ, ◌+◌, ◌<◌, ◌≤◌, suc, Bool, true, false, not, ◌&&◌, ◌||◌, ◌==◌, List, length, slice_index_or, slice_range}
 use Rattle.std.specs.List.{list_any}
-use Rattle.uring_entry.specs.Layout.{Entry, zero_entry}
+use Rattle.uring_entry.specs.Layout.{Sqe, zero_entry}
 use Rattle.uring_entry.specs.Preparation.{is_faulty}
 use Rattle.uring_entry.specs.Requests as spec
 use Rattle.uring_entry.specs.Requests.{Requests, entry_of, is_linked, is_soft}
-use Rattle.uring_dispatch.specs.declared.held.Request.{Request}
+use Rattle.uring_dispatch.specs.declared.request.Request.{Request}
 use Rattle.uring_dispatch.specs.declared.progress.State.{State}
 use Rattle.uring_dispatch.specs.declared.progress.State.TheVariants.{Waiting, Running, Succeeded, Failed}
 
 -- a request as it is accepted
-abbrev pub fresh : Entry → Request
+abbrev pub fresh : Sqe → Request
 fresh entry = record { entry = entry; ends_call = false; is_cancelled = false; state = Waiting }
 
 abbrev pub in_running : State → Bool
@@ -49,7 +49,7 @@ breaks_links q = is_soft q.entry && has_failed q
 abbrev pub request_at : List Request → ℕ → Request
 request_at held n = slice_index_or held n (fresh zero_entry)
 
--- a request that came so far
+-- the request in this state
 abbrev pub with_state : Request → State → Request
 with_state q state = record q { state = state }
 
@@ -57,7 +57,7 @@ with_state q state = record q { state = state }
 abbrev pub chosen : Request → Request
 chosen q = record q { is_cancelled = true }
 
--- how far a request came that ended
+-- the final state: succeeded or failed
 abbrev pub ended_state : Bool → State
 ended_state true = Succeeded
 ended_state false = Failed

@@ -3,7 +3,7 @@ use Rattle.std.specs.Prelude.{◌≡◌, ℕ, Bool, true, false, not, ◌⊎◌,
 use Rattle.uring_entry.specs.Requests.{Requests, is_running, is_issuable, least_of}
 use Rattle.uring_dispatch.specs.declared.issue_answer.Issued.{Issued}
 use Rattle.uring_dispatch.specs.declared.issue_answer.Issued.TheVariants.{Run, Ended, NotReady, Running, Unknown}
-use Rattle.uring_dispatch.specs.Answers.{issued}
+use Rattle.uring_dispatch.specs.IssueAndFinish.{issued}
 
 -- With something outstanding, the least outstanding request is running or can be issued: nothing waits for ever.
 abbrev pub LeastGoesOn : Type 0

@@ -1,4 +1,4 @@
--- What a refusal says.
+-- Glue. What a refusal says.
 use Rattle.std.specs.Prelude.{ℕ, List, codes}
 use Rattle.uring_dispatch.specs.declared.refusal.ReserveError.{ReserveError}
 use Rattle.uring_dispatch.specs.declared.refusal.ReserveError.TheVariants.{Spent, NoMemory}

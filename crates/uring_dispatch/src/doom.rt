@@ -7,7 +7,7 @@ ghost use Rattle.uring_entry.specs.Requests as spec;
 ghost use Rattle.uring_dispatch.specs.Held.{AreHeld, breaks_links};
 
 use crate::groups::{group_start, is_in_faulty_group};
-use crate::held::Request;
+use crate::request::Request;
 
 /// Whether request `n` is doomed.
 pub(crate) fn is_doomed(requests: &[Request], n: usize) -> bool

@@ -4,13 +4,13 @@ ghost use Rattle.std.specs.Prelude.{◌≡◌, ℕ, ◌<◌, true, false, length
 ghost use Rattle.uring_entry.specs.Requests.{Requests, with_cut, with_issued_end};
 ghost use Rattle.uring_entry.specs.Requests as spec;
 ghost use Rattle.uring_entry.specs.Preparation.{is_cancel};
-ghost use Rattle.uring_dispatch.specs.Answers.{issued, issued_waiting, after_issue, finished, after_finish};
-ghost use Rattle.uring_dispatch.specs.Dispatcher.{dispatcher_of, HasEndedCall, HasEnded, IssueCounts, FinishCounts};
+ghost use Rattle.uring_dispatch.specs.IssueAndFinish.{issued, issued_waiting, after_issue, finished, after_finish};
+ghost use Rattle.uring_dispatch.specs.Dispatch.{dispatch_of, HasEndedCall, HasEnded, IssueCounts, FinishCounts};
 ghost use Rattle.uring_dispatch.specs.Held.{AreHeld, request_at, with_state, chosen, ended_state};
 
 use crate::doom::is_doomed;
 use crate::finish_answer::Finished;
-use crate::held::Request;
+use crate::request::Request;
 use crate::issue_answer::Issued;
 use crate::progress::State;
 use crate::readiness::is_ready;
@@ -20,7 +20,7 @@ use uring_entry::{Op, Outcome, errno, prepare, succeeded};
 /// Notes that a submission call closed behind the last request.
 pub(crate) fn end_call(requests: &mut [Request])
     ensures held { (r : Requests) → AreHeld requests.old r → AreHeld requests.new (with_cut r) }
-    ensures counts { (capacity : ℕ) → HasEndedCall (dispatcher_of requests.old capacity) (dispatcher_of requests.new capacity) }
+    ensures counts { (capacity : ℕ) → HasEndedCall (dispatch_of requests.old capacity) (dispatch_of requests.new capacity) }
 {
     if let Some(last) = requests.last_mut() {
         last.ends_call = true;
@@ -32,7 +32,7 @@ pub(crate) fn issue(requests: &mut [Request], n: usize) -> Issued
     requires { n < length requests.old }
     ensures answer { (r : Requests) → AreHeld requests.old r → result ≡ issued r n }
     ensures held { (r : Requests) → AreHeld requests.old r → AreHeld requests.new (after_issue r n result) }
-    ensures counts { (capacity : ℕ) → IssueCounts result (dispatcher_of requests.old capacity) (dispatcher_of requests.new capacity) }
+    ensures counts { (capacity : ℕ) → IssueCounts result (dispatch_of requests.old capacity) (dispatch_of requests.new capacity) }
 {
     match requests[n].state {
         State::Succeeded | State::Failed => Issued::Unknown,
@@ -47,7 +47,7 @@ fn issue_waiting(requests: &mut [Request], n: usize) -> Issued
     requires waiting { (request_at requests.old n).state ≡ State.Waiting }
     ensures answer { (r : Requests) → AreHeld requests.old r → result ≡ issued_waiting r n }
     ensures held { (r : Requests) → AreHeld requests.old r → AreHeld requests.new (after_issue r n result) }
-    ensures counts { (capacity : ℕ) → IssueCounts result (dispatcher_of requests.old capacity) (dispatcher_of requests.new capacity) }
+    ensures counts { (capacity : ℕ) → IssueCounts result (dispatch_of requests.old capacity) (dispatch_of requests.new capacity) }
 {
     let Ok(op) = prepare(&requests[n].entry) else {
         set_state(requests, n, State::Failed);
@@ -73,7 +73,7 @@ fn cancel(requests: &mut [Request], n: usize) -> i32
     requires waiting { (request_at requests.old n).state ≡ State.Waiting }
     ensures answer { (r : Requests) → AreHeld requests.old r → result ≡ spec.cancel_result r n }
     ensures held { (r : Requests) → AreHeld requests.old r → is_cancel (spec.entry_of r n) ≡ true → AreHeld requests.new (with_issued_end r n result) }
-    ensures counts { (capacity : ℕ) → HasEnded (dispatcher_of requests.old capacity) (dispatcher_of requests.new capacity) }
+    ensures counts { (capacity : ℕ) → HasEnded (dispatch_of requests.old capacity) (dispatch_of requests.new capacity) }
 {
     let Some(m) = target(requests, n) else {
         set_state(requests, n, State::Failed);
@@ -93,7 +93,7 @@ pub(crate) fn finish(requests: &mut [Request], n: usize, outcome: Outcome) -> Fi
     requires { n < length requests.old }
     ensures answer { (r : Requests) → AreHeld requests.old r → result ≡ finished r n }
     ensures held { (r : Requests) → AreHeld requests.old r → AreHeld requests.new (after_finish r n outcome result) }
-    ensures counts { (capacity : ℕ) → FinishCounts result (dispatcher_of requests.old capacity) (dispatcher_of requests.new capacity) }
+    ensures counts { (capacity : ℕ) → FinishCounts result (dispatch_of requests.old capacity) (dispatch_of requests.new capacity) }
 {
     let request = &requests[n];
     if !request.is_running() {

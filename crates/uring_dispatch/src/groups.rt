@@ -7,7 +7,7 @@ ghost use Rattle.uring_entry.specs.Requests as spec;
 ghost use Rattle.uring_entry.specs.Preparation.{is_faulty};
 ghost use Rattle.uring_dispatch.specs.Held.{AreHeld, BeginsGroup, EndsGroup, IsGroup};
 
-use crate::held::{Request, is_drain};
+use crate::request::{Request, is_drain};
 use uring_entry::prepare;
 
 /// The first member of the group of request `n`.

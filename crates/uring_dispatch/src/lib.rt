@@ -1,12 +1,12 @@
 //! The dispatcher of an io_uring pair of rings: it numbers the requests that are accepted, and says of each whether it may start, waits, is cancelled or has ended.
 #![tactic(auto)]
 
-mod dispatcher;
+mod dispatch;
 mod doom;
 mod events;
 mod finish_answer;
 mod groups;
-mod held;
+mod request;
 mod issue_answer;
 pub mod laws;
 mod progress;
@@ -15,11 +15,8 @@ mod refusal;
 mod search;
 mod target;
 
-pub use dispatcher::Dispatch;
+pub use dispatch::Dispatch;
 pub use finish_answer::Finished;
 pub use issue_answer::Issued;
 pub use refusal::ReserveError;
 pub use uring_entry::{BadSetup, Cqe, Fault, Op, Outcome, Setup, Sqe, SqeFlags};
-
-#[cfg(test)]
-mod tests;

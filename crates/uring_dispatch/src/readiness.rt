@@ -7,7 +7,7 @@ ghost use Rattle.uring_dispatch.specs.Held.{AreHeld};
 
 use crate::doom::is_doomed;
 use crate::groups::{group_start, is_draining};
-use crate::held::Request;
+use crate::request::Request;
 
 /// Whether request `n` may start: every earlier member of its group has ended, every member of every earlier group that drains, and, where its own group drains, every earlier request.
 pub(crate) fn is_ready(requests: &[Request], n: usize) -> bool
@@ -35,7 +35,7 @@ fn awaited_from(requests: &[Request], n: usize) -> usize
     }
 }
 
-/// Whether request `m` keeps a later one from starting: it hasn't ended, and the later one waits for it whatever its group (`is_awaited`), or its group drains.
+/// Whether request `m` still blocks a later request: `m` has not ended, and either the later one waits for every request from some number on, up to it (`is_awaited`), or `m`'s group drains.
 fn holds_back(requests: &[Request], m: usize, is_awaited: bool) -> bool
     requires { m < length requests.now }
     ensures { (r : Requests) → AreHeld requests.now r → result ≡ (not (spec.has_ended r m) && (is_awaited || spec.is_draining r m)) }

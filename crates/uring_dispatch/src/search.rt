@@ -4,7 +4,7 @@ ghost use Rattle.std.specs.Prelude.{◌≡◌, length};
 ghost use Rattle.uring_entry.specs.Requests.{Requests, next_of, least_of};
 ghost use Rattle.uring_dispatch.specs.Held.{AreHeld};
 
-use crate::held::Request;
+use crate::request::Request;
 use crate::readiness::is_issuable;
 
 /// The least request that can be issued.

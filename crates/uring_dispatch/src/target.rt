@@ -6,7 +6,7 @@ ghost use Rattle.uring_entry.specs.Requests as spec;
 ghost use Rattle.uring_dispatch.specs.Held.{AreHeld};
 
 use crate::doom::is_doomed;
-use crate::held::Request;
+use crate::request::Request;
 
 /// The request that the cancel `n` chooses: the least that is outstanding, another one, has the user data that it names, and isn't doomed.
 pub(crate) fn target(requests: &[Request], n: usize) -> Option<usize>

@@ -2,7 +2,7 @@
 use Rattle.std.proofs.Common.{◌≡◌, ℕ, ◌+◌, ◌<◌, ◌≤◌, ◌⊎◌, ℤ, List, length, Bool, true, false, not, ◌&&◌, ◌||◌, ◌==◌, leb, Some, refl, sym, ◌∙◌, ap, subst, arith, inl, inr}
 use Rattle.std.specs.List.{list_any}
 use Rattle.std.proofs.lemmas.Bool.{not-true, not-false, cases_eq, and_parts, and_from, or_cases, both_ways, leb-true}
-use Rattle.uring_entry.specs.Layout.{Entry}
+use Rattle.uring_entry.specs.Layout.{Sqe}
 use Rattle.uring_entry.specs.Success.{is_success}
 use Rattle.uring_entry.specs.Requests.{Requests, entry_of, has_ended, has_failed, is_last, is_linked, is_soft, is_joined, is_in_group, some_member, is_in_faulty_group, is_draining, is_behind_failure, is_cancelled, is_doomed, is_candidate, target_of, with_accepted, with_started, with_ended}
 use Rattle.uring_entry.proofs.BelowLemmas.{some_below-some, some_below-in, some_below-same, least_below-tells, IsLeast}
@@ -18,7 +18,7 @@ is_joined-broken r m n e =
     let parts = and_parts _ _ found.2 in
     (found.0, leb-true m found.0 parts.0, found.1, parts.1)
 
-pub some_member-tells : (r : Requests) (p : Entry → Bool) (n : ℕ) → some_member r p n ≡ true → (m : ℕ) × (m < length r.accepted) × (is_in_group r m n ≡ true) × (p (entry_of r m) ≡ true)
+pub some_member-tells : (r : Requests) (p : Sqe → Bool) (n : ℕ) → some_member r p n ≡ true → (m : ℕ) × (m < length r.accepted) × (is_in_group r m n ≡ true) × (p (entry_of r m) ≡ true)
 unfolding some_member
 some_member-tells r p n e =
     let found = some_below-in (λ m. is_in_group r m n && p (entry_of r m)) (length r.accepted) e in
@@ -134,11 +134,11 @@ is_doomed-stays r n res bytes k open_yet e =
 
 -- An entry that is accepted changes nothing among the earlier requests.
 
-pub is_last-accepted : (r : Requests) (entry : Entry) (k : ℕ) → k < length r.accepted → is_last (with_accepted r entry) k ≡ is_last r k
+pub is_last-accepted : (r : Requests) (entry : Sqe) (k : ℕ) → k < length r.accepted → is_last (with_accepted r entry) k ≡ is_last r k
 is_last-accepted r entry k lt =
     ap (λ e. not (is_linked e) || list_any (λ cut. cut == k + 1) r.cuts) (entry_of-accepted_other r entry k (λ e. absurd (omega arith)))
 
-pub is_joined-accepted : (r : Requests) (entry : Entry) (m n : ℕ) → n ≤ length r.accepted → is_joined (with_accepted r entry) m n ≡ is_joined r m n
+pub is_joined-accepted : (r : Requests) (entry : Sqe) (m n : ℕ) → n ≤ length r.accepted → is_joined (with_accepted r entry) m n ≡ is_joined r m n
 unfolding is_joined
 is_joined-accepted r entry m n le =
     ap not (some_below-same _ _ n (λ k lt. ap (λ b. leb m k && b) (is_last-accepted r entry k (omega arith))))

@@ -1,6 +1,7 @@
 pub mod Payloads
+pub mod CompletionWords
 pub mod Powers
-pub mod Shapes
+pub mod SetupLemmas
 pub mod BelowLemmas
 pub mod RequestLemmas
 pub mod EventLemmas

@@ -6,7 +6,7 @@ use Rattle.std.proofs.Math.Seq.{get_or-append_seam}
 use Rattle.std.proofs.lemmas.List.{get_or_past}
 use Rattle.std.proofs.lemmas.List.Folds.{list_any-append}
 use Rattle.std.proofs.lemmas.Bool.{cases_lt, cases_eq, cases_Bool, and_left, and_right, and_from, and_cases, or_parts, or_from, or_left, or_right, both_ways, le-leb, lt-leb, lt-ltb, eq-eqb, ne_eqb, not-false}
-use Rattle.uring_entry.specs.Layout.{Entry, zero_entry}
+use Rattle.uring_entry.specs.Layout.{Sqe, zero_entry}
 use Rattle.uring_entry.specs.Success.{is_success}
 use Rattle.uring_entry.specs.Requests.{Requests, entry_of, has_started, has_ended, has_failed, is_running, is_outstanding, is_last, is_joined, is_in_group, some_member, is_in_faulty_group, is_behind_failure, is_cancelled, is_doomed, is_ready, holds_back, is_issuable, is_candidate, target_of, least_of, with_accepted, with_started, with_ended}
 use Rattle.uring_entry.specs.Preparation.{is_faulty}
@@ -63,7 +63,7 @@ is_in_own_group r n =
     let high : max n n ≡ n = omega arith in
     ap (λ m. is_joined r m (max n n)) low ∙ ap (is_joined r n) high ∙ is_joined-yes r n n (λ k le lt. absurd (omega arith))
 
-pub some_member-own : (r : Requests) (p : Entry → Bool) (n : ℕ) → n < length r.accepted → p (entry_of r n) ≡ true → some_member r p n ≡ true
+pub some_member-own : (r : Requests) (p : Sqe → Bool) (n : ℕ) → n < length r.accepted → p (entry_of r n) ≡ true → some_member r p n ≡ true
 unfolding some_member
 some_member-own r p n lt e = some_below-some (λ m. is_in_group r m n && p (entry_of r m)) (length r.accepted) n lt (and_from _ _ (is_in_own_group r n) e)
 
@@ -178,13 +178,13 @@ get_or-push_other xs x k d ne =
           get_or_past (xs ++ x ∷ []) k d (omega (arith, length-append xs (x ∷ []))) ∙ sym (get_or_past xs k d high)
     ]
 
-pub entry_of-accepted_at : (r : Requests) (entry : Entry) → entry_of (with_accepted r entry) (length r.accepted) ≡ entry
+pub entry_of-accepted_at : (r : Requests) (entry : Sqe) → entry_of (with_accepted r entry) (length r.accepted) ≡ entry
 entry_of-accepted_at r entry = get_or-append_seam r.accepted entry [] zero_entry
 
-pub entry_of-accepted_other : (r : Requests) (entry : Entry) (k : ℕ) → k ≢ length r.accepted → entry_of (with_accepted r entry) k ≡ entry_of r k
+pub entry_of-accepted_other : (r : Requests) (entry : Sqe) (k : ℕ) → k ≢ length r.accepted → entry_of (with_accepted r entry) k ≡ entry_of r k
 entry_of-accepted_other r entry k ne = get_or-push_other r.accepted entry k zero_entry ne
 
-pub has_failed-accepted : (r : Requests) (entry : Entry) (k : ℕ) → has_ended r (length r.accepted) ≡ false → has_failed (with_accepted r entry) k ≡ has_failed r k
+pub has_failed-accepted : (r : Requests) (entry : Sqe) (k : ℕ) → has_ended r (length r.accepted) ≡ false → has_failed (with_accepted r entry) k ≡ has_failed r k
 has_failed-accepted r entry k none =
     elim (cases_eq k (length r.accepted)) [
       | inl same ↦

@@ -1,16 +1,16 @@
 -- The completion ring and its overflow list as lists of all that ever happened to them. io_uring(7), Reading completion events; io_uring_setup(2), IORING_FEAT_NODROP, for the overflow list, which is flushed by a step of its own: our own rule.
 use Rattle.std.specs.Prelude.{ℕ, ◌+◌, ◌-◌, ℤ, Bool, ◌&&◌, ◌==◌, nat_lt, List, [], ◌∷◌, ◌++◌, length, drop, min, Option, None, slice_get, if◌then◌else◌}
-use Rattle.uring_entry.specs.Layout.{Completion, Entry, user_data_of}
+use Rattle.uring_entry.specs.Layout.{Cqe, Sqe, user_data_of}
 use Rattle.uring_entry.specs.Success.{posts_completion}
 
 -- All that happened on the completion ring.
 pub record Completions : Type 0 where
   -- every completion ever posted, in order
-  pub posted : List Completion
+  pub posted : List Cqe
   -- how many of them were put into the ring; the rest waits in the overflow list
   pub put : ℕ
   -- every completion that the application reaped, in order
-  pub reaped : List Completion
+  pub reaped : List Cqe
   -- the head that the application last stored, as a count
   pub head : ℕ
   -- the head that the dispatcher last loaded, as a count
@@ -31,39 +31,39 @@ abbrev pub put_by_flush : ℕ → Completions → ℕ
 put_by_flush size l = min (length l.posted) (l.head + size)
 
 -- the next to be reaped, if the tail last loaded shows one
-abbrev pub next_to_reap : Completions → Option Completion
+abbrev pub next_to_reap : Completions → Option Cqe
 next_to_reap l = if length l.reaped == l.seen_tail then None else slice_get l.posted (length l.reaped)
 
 -- the posted ones that aren't reaped
-abbrev pub unreaped : Completions → List Completion
+abbrev pub unreaped : Completions → List Cqe
 unreaped l = drop (length l.reaped) l.posted
 
 -- what each event makes of it
 
 -- a completion is posted
-abbrev pub with_posted : ℕ → Completions → Completion → Completions
+abbrev pub with_posted : ℕ → Completions → Cqe → Completions
 with_posted size l completion =
     record l { posted = l.posted ++ completion ∷ []; put = if has_room size l then l.put + 1 else l.put }
 
 -- the completion of a request of this entry that ended with this result and these bytes
-abbrev pub completion_for : Entry → ℤ → List ℕ → Completion
+abbrev pub completion_for : Sqe → ℤ → List ℕ → Cqe
 completion_for entry res bytes = record { user_data = user_data_of entry; res = res; payload = bytes }
 
 -- the end of a request with this entry: its completion is posted, unless it is to be skipped. io_uring(7), DESCRIPTION, and io_uring_enter(2), IOSQE_CQE_SKIP_SUCCESS
-abbrev pub with_end : ℕ → Completions → Entry → ℤ → List ℕ → Completions
+abbrev pub with_end : ℕ → Completions → Sqe → ℤ → List ℕ → Completions
 with_end size l entry res bytes =
     if posts_completion entry res then with_posted size l (completion_for entry res bytes) else l
 
 -- the dispatcher loads the head, and moves completions from the overflow list into the ring
-abbrev pub flushed : ℕ → Completions → Completions
-flushed size l = record l { put = put_by_flush size l; seen_head = l.head }
+abbrev pub with_flushed : ℕ → Completions → Completions
+with_flushed size l = record l { put = put_by_flush size l; seen_head = l.head }
 
 -- the application loads the tail
 abbrev pub with_tail_loaded : Completions → Completions
 with_tail_loaded l = record l { seen_tail = l.put }
 
 -- the application reaps a completion
-abbrev pub with_reaped : Completions → Completion → Completions
+abbrev pub with_reaped : Completions → Cqe → Completions
 with_reaped l completion = record l { reaped = l.reaped ++ completion ∷ [] }
 
 -- the application stores the head

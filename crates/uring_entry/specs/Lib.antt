@@ -1,10 +1,11 @@
-pub mod Shape
+pub mod Setup
 pub mod Flags
+pub mod Numbers
 pub mod Layout
 pub mod Preparation
 pub mod Success
 pub mod Below
-pub mod Words
+pub mod IndexWords
 pub mod Submission
 pub mod Requests
 pub mod Completions

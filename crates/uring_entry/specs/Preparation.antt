@@ -1,10 +1,10 @@
 -- What is wrong with an entry, and what a right one asks for.
 use Rattle.std.specs.Prelude.{ℕ, ◌-◌, ◌^◌, List, [], ◌∷◌, Option, Bool, not, ◌==◌, ◌||◌, ◌&&◌, nat_lt, if◌then◌else◌, is_some, find}
 use Rattle.std.specs.List.{list_any}
-use Rattle.uring_entry.specs.Layout.{Entry, opcode_of, ioprio_of, fd_of, off_of, addr_of, len_of, operation_flags_of, reserved_of, payload_of, has_some_of}
+use Rattle.uring_entry.specs.Layout.{Sqe, opcode_of, ioprio_of, fd_of, off_of, addr_of, len_of, operation_flags_of, reserved_of, payload_of, has_some_of}
 use Rattle.uring_entry.specs.Flags.{refused}
-use Rattle.uring_entry.specs.declared.faults.Fault.{Fault}
-use Rattle.uring_entry.specs.declared.faults.Fault.TheVariants.{Flags, Opcode, Ioprio, OpFlags, Reserved, Len, Off}
+use Rattle.uring_entry.specs.declared.fault.Fault.{Fault}
+use Rattle.uring_entry.specs.declared.fault.Fault.TheVariants.{Flags, Opcode, Ioprio, OpFlags, Reserved, Len, Off}
 use Rattle.uring_entry.specs.declared.operation.Op.{Op}
 use Rattle.uring_entry.specs.declared.operation.Op.TheVariants.{Nop, Read, Write, Fsync, Cancel}
 use Rattle.uring_entry.specs.declared.opcode.TheConstants.{NOP, FSYNC, ASYNC_CANCEL, READ, WRITE}
@@ -16,21 +16,21 @@ served = NOP ∷ FSYNC ∷ ASYNC_CANCEL ∷ READ ∷ WRITE ∷ []
 abbrev pub is_served : ℕ → Bool
 is_served opcode = list_any (λ code. opcode == code) served
 
-abbrev pub is_read : Entry → Bool
+abbrev pub is_read : Sqe → Bool
 is_read e = opcode_of e == READ
 
-abbrev pub is_write : Entry → Bool
+abbrev pub is_write : Sqe → Bool
 is_write e = opcode_of e == WRITE
 
 -- whether the entry moves bytes
-abbrev pub is_transfer : Entry → Bool
+abbrev pub is_transfer : Sqe → Bool
 is_transfer e = is_read e || is_write e
 
-abbrev pub is_cancel : Entry → Bool
+abbrev pub is_cancel : Sqe → Bool
 is_cancel e = opcode_of e == ASYNC_CANCEL
 
 -- Whether the entry has this fault. io_uring_enter(2), CQE ERRORS, EINVAL, for invalid flags and operations; which they are, and the other faults, are our own rule
-abbrev pub has_fault_of : Entry → Fault → Bool
+abbrev pub has_fault_of : Sqe → Fault → Bool
 has_fault_of e Flags = has_some_of refused e
 has_fault_of e Opcode = not (is_served (opcode_of e))
 has_fault_of e Ioprio = not (ioprio_of e == 0)
@@ -44,15 +44,15 @@ abbrev pub faults_in_order : List Fault
 faults_in_order = Flags ∷ Opcode ∷ Ioprio ∷ OpFlags ∷ Reserved ∷ Len ∷ Off ∷ []
 
 -- the first fault of an entry, if it has one
-abbrev pub fault_of : Entry → Option Fault
+abbrev pub fault_of : Sqe → Option Fault
 fault_of e = find (has_fault_of e) faults_in_order
 
 -- whether an entry has any fault
-abbrev pub is_faulty : Entry → Bool
+abbrev pub is_faulty : Sqe → Bool
 is_faulty e = is_some (fault_of e)
 
 -- What an entry without a fault asks for. io_uring_enter(2), at each operation; that a write's bytes stand in the entry is our own rule
-abbrev pub operation_of : Entry → Op
+abbrev pub operation_of : Sqe → Op
 operation_of e =
     if opcode_of e == NOP then Nop else
     if opcode_of e == FSYNC then Fsync (fd_of e) else

@@ -6,7 +6,7 @@ use Rattle.std.specs.Ordering.{int_eq}
 use Rattle.uring_entry.specs.declared.errno.TheConstants.{ENOENT, EINVAL, EALREADY, ECANCELED}
 use Rattle.uring_entry.specs.declared.operation.Op.{Op}
 use Rattle.uring_entry.specs.Flags.{io_drain, io_link, io_hardlink}
-use Rattle.uring_entry.specs.Layout.{Entry, zero_entry, has, addr_of, user_data_of}
+use Rattle.uring_entry.specs.Layout.{Sqe, zero_entry, has, addr_of, user_data_of}
 use Rattle.uring_entry.specs.Preparation.{is_faulty, is_cancel, operation_of}
 use Rattle.uring_entry.specs.Success.{is_success}
 use Rattle.uring_entry.specs.Below.{some_below, least_below, count_below}
@@ -20,7 +20,7 @@ pub record Ending : Type 0 where
 -- All that happened to requests. A request's number is its place in accepted.
 pub record Requests : Type 0 where
   -- the entries accepted, in order
-  pub accepted : List Entry
+  pub accepted : List Sqe
   -- how many were accepted when each call closed, in order
   pub cuts : List ℕ
   -- the requests that were started, in order
@@ -35,21 +35,21 @@ abbrev pub no_request : Requests
 no_request = record { accepted = []; cuts = []; started = []; cancelled = []; ended = [] }
 
 -- a request's entry
-abbrev pub entry_of : Requests → ℕ → Entry
+abbrev pub entry_of : Requests → ℕ → Sqe
 entry_of r n = slice_index_or r.accepted n zero_entry
 
 -- What an entry's flags say.
 
 -- another member of the group follows. io_uring_enter(2), IOSQE_IO_LINK and IOSQE_IO_HARDLINK
-abbrev pub is_linked : Entry → Bool
+abbrev pub is_linked : Sqe → Bool
 is_linked e = has io_link e || has io_hardlink e
 
 -- a failure dooms the members behind it: IO_LINK, and not IO_HARDLINK. io_uring_enter(2), IOSQE_IO_LINK and IOSQE_IO_HARDLINK
-abbrev pub is_soft : Entry → Bool
+abbrev pub is_soft : Sqe → Bool
 is_soft e = has io_link e && not (has io_hardlink e)
 
 -- the group drains. io_uring_enter(2), IOSQE_IO_DRAIN
-abbrev pub is_drain : Entry → Bool
+abbrev pub is_drain : Sqe → Bool
 is_drain e = has io_drain e
 
 -- How requests stand.
@@ -87,7 +87,7 @@ abbrev pub is_in_group : Requests → ℕ → ℕ → Bool
 is_in_group r m n = is_joined r (min m n) (max m n)
 
 -- whether some member of n's group has this property
-unfoldable pub some_member : Requests → (Entry → Bool) → ℕ → Bool
+unfoldable pub some_member : Requests → (Sqe → Bool) → ℕ → Bool
 some_member r p n = some_below (λ m. is_in_group r m n && p (entry_of r m)) (length r.accepted)
 
 -- whether n's group drains. A group drains where some member does: our own rule
@@ -176,20 +176,20 @@ abbrev pub operation_running : Requests → ℕ → Option Op
 operation_running r n = if is_running r n then Some (operation_of (entry_of r n)) else None
 
 -- the entry of n, if it is outstanding
-abbrev pub entry_outstanding : Requests → ℕ → Option Entry
+abbrev pub entry_outstanding : Requests → ℕ → Option Sqe
 entry_outstanding r n = if is_outstanding r n then Some (entry_of r n) else None
 
 -- what each event makes of it
 
 -- an entry is accepted
-abbrev pub with_accepted : Requests → Entry → Requests
+abbrev pub with_accepted : Requests → Sqe → Requests
 with_accepted r entry = record r { accepted = r.accepted ++ entry ∷ [] }
 
 -- the entries of a call are accepted, and the call closes
 abbrev pub with_cut : Requests → Requests
 with_cut r = record r { cuts = r.cuts ++ length r.accepted ∷ [] }
 
-abbrev pub with_call : Requests → List Entry → Requests
+abbrev pub with_call : Requests → List Sqe → Requests
 with_call r entries = with_cut (record r { accepted = r.accepted ++ entries })
 
 -- a request starts

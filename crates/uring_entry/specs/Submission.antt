@@ -1,12 +1,12 @@
 -- The submission ring as lists of all that ever happened to it. io_uring(7), Submitting I/O requests; what is refused, and that a call goes on after a word that names no slot, is our own rule.
 use Rattle.std.specs.Prelude.{ℕ, ◌+◌, ◌-◌, ◌%◌, ◌^◌, Bool, ◌==◌, nat_lt, List, [], ◌∷◌, ◌++◌, length, take, drop, map, sum, count_by, Option, Some, None, is_none, if◌then◌else◌, min}
 use Rattle.std.specs.List.{list_any, filter_map}
-use Rattle.uring_entry.specs.Layout.{Entry, zero_entry}
+use Rattle.uring_entry.specs.Layout.{Sqe, zero_entry}
 
 -- A published position: the word of the index array, and the entry of the slot that the word names, as it was when the position was published: our own rule. A word that names no slot has none.
 pub record Place : Type 0 where
   pub word : ℕ
-  pub entry : Option Entry
+  pub entry : Option Sqe
 
 -- A submission call: how many positions it takes, and how many of them were taken.
 pub record Call : Type 0 where
@@ -16,7 +16,7 @@ pub record Call : Type 0 where
 -- All that happened on the submission ring.
 pub record Submission : Type 0 where
   -- what each slot of the entry table holds
-  pub content : ℕ → Entry
+  pub content : ℕ → Sqe
   -- every position that was ever published, in order
   pub published : List Place
   -- the words staged since, in order
@@ -48,7 +48,7 @@ abbrev pub pending : Submission → ℕ
 pending l = length l.published - taken l
 
 -- the entries of places that have one, in order
-abbrev pub entries_of : List Place → List Entry
+abbrev pub entries_of : List Place → List Sqe
 entries_of places = filter_map (λ place. place.entry) places
 
 -- the places that have none
@@ -56,7 +56,7 @@ abbrev pub dropped_in : List Place → ℕ
 dropped_in places = count_by (λ place. is_none place.entry) places
 
 -- the entries accepted so far
-abbrev pub accepted : Submission → List Entry
+abbrev pub accepted : Submission → List Sqe
 accepted l = entries_of (take (taken l) l.published)
 
 -- the count of dropped words, which wraps at 32 bits. io_uring_setup(2), on dropped
@@ -68,7 +68,7 @@ abbrev pub places_from : Submission → ℕ → List Place
 places_from l count = take count (drop (taken l) l.published)
 
 -- the entries that they have
-abbrev pub entries_from : Submission → ℕ → List Entry
+abbrev pub entries_from : Submission → ℕ → List Sqe
 entries_from l count = entries_of (places_from l count)
 
 -- whether a slot may not be filled: a published position that the application doesn't know to be taken names it. Our own rule
@@ -86,33 +86,33 @@ call_length l n = min n (pending l)
 -- what each event makes of it
 
 -- an entry is written to a slot
-abbrev pub filled : Submission → ℕ → Entry → Submission
-filled l slot entry = record l { content = λ s. if s == slot then entry else l.content s }
+abbrev pub with_filled : Submission → ℕ → Sqe → Submission
+with_filled l slot entry = record l { content = λ s. if s == slot then entry else l.content s }
 
 -- a word is staged
-abbrev pub indexed : Submission → ℕ → Submission
-indexed l word = record l { fresh = l.fresh ++ word ∷ [] }
+abbrev pub with_staged : Submission → ℕ → Submission
+with_staged l word = record l { fresh = l.fresh ++ word ∷ [] }
 
 -- the place of a word when it is published, in a ring of this size
-abbrev pub place_of : ℕ → (ℕ → Entry) → ℕ → Place
+abbrev pub place_of : ℕ → (ℕ → Sqe) → ℕ → Place
 place_of size content word = record { word = word; entry = if nat_lt word size then Some (content word) else None }
 
 -- the tail is stored: everything staged is published. io_uring(7), Submitting I/O requests
-abbrev pub stored : ℕ → Submission → Submission
-stored size l = record l { published = l.published ++ map (place_of size l.content) l.fresh; fresh = [] }
+abbrev pub with_published : ℕ → Submission → Submission
+with_published size l = record l { published = l.published ++ map (place_of size l.content) l.fresh; fresh = [] }
 
 -- the application loads the head
-abbrev pub loaded : Submission → Submission
-loaded l = record l { seen_head = taken l }
+abbrev pub with_head_loaded : Submission → Submission
+with_head_loaded l = record l { seen_head = taken l }
 
 -- a call asked for n positions opens
-abbrev pub begun : Submission → ℕ → Submission
-begun l n = record l { call = Some (record { count = call_length l n; taken = 0 }) }
+abbrev pub with_begun : Submission → ℕ → Submission
+with_begun l n = record l { call = Some (record { count = call_length l n; taken = 0 }) }
 
 -- the open call takes its next position
-abbrev pub took : Submission → Call → Submission
-took l call = record l { call = Some (record call { taken = call.taken + 1 }) }
+abbrev pub with_taken : Submission → Call → Submission
+with_taken l call = record l { call = Some (record call { taken = call.taken + 1 }) }
 
 -- the open call closes, with all its positions taken
-abbrev pub closed : Submission → Call → Submission
-closed l call = record l { call = None; calls = l.calls ++ call.count ∷ [] }
+abbrev pub with_closed : Submission → Call → Submission
+with_closed l call = record l { call = None; calls = l.calls ++ call.count ∷ [] }

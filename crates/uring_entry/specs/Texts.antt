@@ -1,9 +1,9 @@
--- What refusals and faults say.
+-- Glue. What refusals and faults say.
 use Rattle.std.specs.Prelude.{ℕ, List, codes}
-use Rattle.uring_entry.specs.declared.bad_set_up.BadSetup.{BadSetup}
-use Rattle.uring_entry.specs.declared.bad_set_up.BadSetup.TheVariants.{BadSq, BadCq, BadFiles}
-use Rattle.uring_entry.specs.declared.faults.Fault.{Fault}
-use Rattle.uring_entry.specs.declared.faults.Fault.TheVariants.{Flags, Opcode, Ioprio, OpFlags, Reserved, Len, Off}
+use Rattle.uring_entry.specs.declared.bad_setup.BadSetup.{BadSetup}
+use Rattle.uring_entry.specs.declared.bad_setup.BadSetup.TheVariants.{BadSq, BadCq, BadFiles}
+use Rattle.uring_entry.specs.declared.fault.Fault.{Fault}
+use Rattle.uring_entry.specs.declared.fault.Fault.TheVariants.{Flags, Opcode, Ioprio, OpFlags, Reserved, Len, Off}
 
 abbrev pub refusal_text : BadSetup → List ℕ
 refusal_text BadSq = codes "the submission ring has 1 to 4096 entries"

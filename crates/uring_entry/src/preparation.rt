@@ -3,8 +3,8 @@ ghost use Rattle.uring_entry.specs.Preparation.{fault_of, operation_of};
 ghost use Rattle.uring_entry.specs.Preparation as spec;
 ghost use Rattle.uring_entry.specs.declared.opcode.TheConstants.{READ, WRITE};
 
-use crate::entry::Sqe;
-use crate::faults::Fault;
+use crate::sqe::Sqe;
+use crate::fault::Fault;
 use crate::flags::SqeFlags;
 use crate::opcode;
 use crate::operation::Op;
@@ -79,11 +79,12 @@ fn operation(entry: &Sqe) -> Op
             off: entry.off(),
             len: entry.len(),
         },
-        _ => Op::Write {
+        opcode::WRITE => Op::Write {
             fd: entry.fd(),
             off: entry.off(),
             len: entry.len(),
             bytes: entry.payload(),
         },
+        _ => unreachable!(),
     }
 }

@@ -1,2 +1,3 @@
 mod Overwrites
 pub mod Prepared
+pub mod StandAlone

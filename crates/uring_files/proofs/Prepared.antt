@@ -2,11 +2,11 @@
 use Rattle.std.proofs.Common.{◌≡◌, ℕ, ℤ, ◌≤◌, refl, rules, List, Bool, true, false, Option, Some, None, if◌then◌else◌}
 use Rattle.std.specs.Prelude.{nat_lt, ◌==◌}
 use Rattle.uring_entry.specs.declared.opcode.TheConstants.{NOP, FSYNC, READ}
-use Rattle.uring_entry.specs.Layout.{Entry, opcode_of, fd_of, off_of, len_of, addr_of, payload_of}
+use Rattle.uring_entry.specs.Layout.{Sqe, opcode_of, fd_of, off_of, len_of, addr_of, payload_of}
 use Rattle.uring_entry.specs.Preparation.{fault_of, has_fault_of, operation_of, is_cancel}
 use Rattle.uring_entry.specs.declared.operation.Op.TheVariants.{Nop, Read, Write, Fsync, Cancel}
-use Rattle.uring_entry.specs.declared.faults.Fault.{Fault}
-use Rattle.uring_entry.specs.declared.faults.Fault.TheVariants.{Flags, Opcode, Ioprio, OpFlags, Reserved, Len}
+use Rattle.uring_entry.specs.declared.fault.Fault.{Fault}
+use Rattle.uring_entry.specs.declared.fault.Fault.TheVariants.{Flags, Opcode, Ioprio, OpFlags, Reserved, Len}
 use Rattle.uring_files.specs.Operations.{IsForFiles}
 
 -- what isn't found isn't the first
@@ -15,7 +15,7 @@ not_first true fault later none = cc
 not_first false fault later none = (refl, none)
 
 -- an entry without a fault isn't too long
-no_length_fault : (e : Entry) → fault_of e ≡ None → nat_lt 64 (len_of e) ≡ false
+no_length_fault : (e : Sqe) → fault_of e ≡ None → nat_lt 64 (len_of e) ≡ false
 no_length_fault e none =
     let flags = not_first (has_fault_of e Flags) Flags _ none in
     let opcode = not_first (has_fault_of e Opcode) Opcode _ flags.1 in
@@ -35,7 +35,7 @@ whichever false false false true fd off len target bytes other short = short
 whichever false false false false fd off len target bytes other short = short
 
 -- an entry without a fault that is no cancel asks for what can be asked of files
-pub prepared : (e : Entry) → fault_of e ≡ None → is_cancel e ≡ false → IsForFiles (operation_of e)
+pub prepared : (e : Sqe) → fault_of e ≡ None → is_cancel e ≡ false → IsForFiles (operation_of e)
 prepared e none other =
     whichever (opcode_of e == NOP) (opcode_of e == FSYNC) (is_cancel e) (opcode_of e == READ) (fd_of e) (off_of e) (len_of e) (addr_of e) (payload_of e) other
     (let short = no_length_fault e none in search rules)

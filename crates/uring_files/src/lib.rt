@@ -3,14 +3,11 @@
 
 mod bytes;
 mod file;
-mod file_table;
+mod files;
 pub mod laws;
 mod state;
 mod write_fault;
 
-pub use file_table::Files;
+pub use files::Files;
 pub use state::FileState;
 pub use uring_entry::{BadSetup, Cqe, Fault, Op, Outcome, Setup, Sqe, SqeFlags};
-
-#[cfg(test)]
-mod tests;

@@ -1,20 +1,23 @@
 -- The events that change something, each with what is known of it because its answer was called for.
+-- `change_of` makes one of each event that was called for: a proof by cases over events has eighteen cases by it, and `refuses` is the one of all that change nothing.
+-- From the definitions of the answers alone.
+-- Stable: other crates may import `Change` with its cases and `change_of`.
 use Rattle.std.proofs.Common.{◌≡◌, ℕ, ◌+◌, ℤ, Bool, true, false, not, nat_lt, eqb, List, length, Option, Some, None, is_some, if◌then◌else◌, slice_get, refl, sym, subst, inl, inr}
-use Rattle.uring_entry.specs.Shape.{Shape}
-use Rattle.uring_entry.specs.Layout.{Entry, Completion}
+use Rattle.uring_entry.specs.Setup.{Setup}
+use Rattle.uring_entry.specs.Layout.{Sqe, Cqe}
 use Rattle.uring_entry.specs.Preparation.{is_cancel}
 use Rattle.uring_entry.specs.Submission.{Call, Place, taken, is_busy, is_full, call_length, entries_of, places_from}
 use Rattle.uring_entry.specs.Requests.{entry_of, is_outstanding, is_running, is_doomed, is_ready, doomed_result, cancel_result, no_bytes}
 use Rattle.uring_entry.specs.Completions.{next_to_reap}
 use Rattle.uring_machine.specs.World.{World, happens}
-use Rattle.uring_machine.specs.Answers.{CalledForApart, OrAgain, FinishesApart, entry_answer, place_answer, take_answer_in, end_answer_in, reap_answer_of, next_answer_of}
+use Rattle.uring_machine.specs.StepAnswers.{CalledForApart, OrAgain, FinishesApart, entry_answer, place_answer, take_answer_in, end_answer_in, reap_answer_of, next_answer_of}
 use Rattle.uring_machine.specs.Histories.{Event}
 use Rattle.uring_machine.specs.Direct.{started_by, end_told_by, reaped_by, staged_by, filled_by, entry_taken_by, takes_position, opened_by, opens_call, accepted_by, closes_call, closes_ring, is_store_tail, is_load_head, is_flush, is_load_cq_tail, is_store_cq_head}
 use Rattle.uring_machine.specs.Laws.{takes_in}
-use Rattle.uring_machine.specs.declared.steps.Step.{Step}
-use Rattle.uring_machine.specs.declared.steps.Step.TheVariants as step
-use Rattle.uring_machine.specs.declared.answers.Answer.{Answer}
-use Rattle.uring_machine.specs.declared.answers.Answer.TheVariants as answer
+use Rattle.uring_machine.specs.declared.step.Step.{Step}
+use Rattle.uring_machine.specs.declared.step.Step.TheVariants as step
+use Rattle.uring_machine.specs.declared.answer.Answer.{Answer}
+use Rattle.uring_machine.specs.declared.answer.Answer.TheVariants as answer
 
 -- an event that tells nothing
 pub record IsSilent (e : Event) : Type 0 where
@@ -38,14 +41,14 @@ pub record IsSilent (e : Event) : Type 0 where
   pub shuts_none : closes_ring e ≡ false
 
 -- An event whose answer was called for, by what it changes.
-pub data Change (g : Shape) (w : World) : Step → Answer → Type 0 where
+pub data Change (g : Setup) (w : World) : Step → Answer → Type 0 where
   refuses : (s : Step) (a : Answer) → ((v : World) → happens g v s a ≡ v) → IsSilent (s, a) → Change g w s a
-  fills : (slot : ℕ) (entry : Entry) → is_busy w.submission slot ≡ false → Change g w (step.Fill slot entry) answer.Filled
+  fills : (slot : ℕ) (entry : Sqe) → is_busy w.submission slot ≡ false → Change g w (step.Fill slot entry) answer.Filled
   stages : (word : ℕ) → is_full g.sq w.submission ≡ false → Change g w (step.Index word) answer.Staged
   stores : (tail : ℕ) → Change g w step.StoreTail (answer.Tail tail)
   loads : (head : ℕ) → Change g w step.LoadHead (answer.Head head)
   begins : (count : ℕ) → w.is_closed ≡ false → w.submission.call ≡ None → Change g w (step.Begin count) (answer.Call (call_length w.submission count))
-  takes : (entry : Entry) (call : Call) (place : Place) → w.submission.call ≡ Some call → eqb call.taken call.count ≡ false → slice_get w.submission.published (taken w.submission + call.taken) ≡ Some place → place.entry ≡ Some entry → Change g w step.Take (answer.Entry entry)
+  takes : (entry : Sqe) (call : Call) (place : Place) → w.submission.call ≡ Some call → eqb call.taken call.count ≡ false → slice_get w.submission.published (taken w.submission + call.taken) ≡ Some place → place.entry ≡ Some entry → Change g w step.Take (answer.Entry entry)
   drops : (call : Call) (place : Place) → w.submission.call ≡ Some call → eqb call.taken call.count ≡ false → slice_get w.submission.published (taken w.submission + call.taken) ≡ Some place → place.entry ≡ None → Change g w step.Take answer.Dropped
   closes : (accepted missed head : ℕ) (call : Call) → w.submission.call ≡ Some call → nat_lt call.taken call.count ≡ false → accepted ≡ length (entries_of (places_from w.submission call.count)) → Change g w step.End (answer.Taken accepted missed head)
   runs : (n : ℕ) → is_outstanding w.requests n ≡ true → is_running w.requests n ≡ false → is_doomed w.requests n ≡ false → is_ready w.requests n ≡ true → Change g w (step.Issue n) answer.Run
@@ -54,7 +57,7 @@ pub data Change (g : Shape) (w : World) : Step → Answer → Type 0 where
   finishes : (n : ℕ) (res : ℤ) (bytes : List ℕ) → is_running w.requests n ≡ true → Change g w (step.Finish n) (answer.Ended res bytes)
   flushes : (moved : ℕ) → Change g w step.Flush (answer.Moved moved)
   sees_tail : (tail : ℕ) → Change g w step.LoadCqTail (answer.Tail tail)
-  reaps : (completion : Completion) → next_to_reap w.completions ≡ Some completion → Change g w step.Reap (answer.Reaped completion)
+  reaps : (completion : Cqe) → next_to_reap w.completions ≡ Some completion → Change g w step.Reap (answer.Reaped completion)
   stores_head : (head : ℕ) → Change g w step.StoreCqHead (answer.Head head)
   shuts : w.submission.call ≡ None → Change g w step.Close answer.Shut
 
@@ -63,8 +66,8 @@ silent : {e : Event} → started_by e ≡ None → end_told_by e ≡ None → re
 silent a b c d f h i j k l m n o p q r s t =
     record { starts = a; ends = b; reaps = c; stages = d; fills = f; takes_entry = h; takes = i; opens = j; closes = k; takes_into = l; stores_tail = m; loads_head = n; flushes = o; loads_cq_tail = p; stores_cq_head = q; opens_none = r; accepts = s; shuts_none = t }
 
-module _ (g : Shape) (w : World) where
-  fill_of : (slot : ℕ) (entry : Entry) (beyond busy : Bool) → is_busy w.submission slot ≡ busy → Change g w (step.Fill slot entry) (if beyond then answer.NoSlot else (if busy then answer.Busy else answer.Filled))
+module _ (g : Setup) (w : World) where
+  fill_of : (slot : ℕ) (entry : Sqe) (beyond busy : Bool) → is_busy w.submission slot ≡ busy → Change g w (step.Fill slot entry) (if beyond then answer.NoSlot else (if busy then answer.Busy else answer.Filled))
   fill_of slot entry true busy e = refuses _ _ (λ v. refl) (silent refl refl refl refl (λ s. refl) refl refl refl refl refl refl refl refl refl refl refl refl refl)
   fill_of slot entry false true e = refuses _ _ (λ v. refl) (silent refl refl refl refl (λ s. refl) refl refl refl refl refl refl refl refl refl refl refl refl refl)
   fill_of slot entry false false e = fills slot entry e
@@ -86,12 +89,12 @@ module _ (g : Shape) (w : World) where
   begin_of count a false true spent e f h = subst (Change g w (step.Begin count)) (sym h) (refuses _ _ (λ v. refl) (silent refl refl refl refl (λ s. refl) refl refl refl refl refl refl refl refl refl refl refl refl refl))
   begin_of count a false false true e f h = subst (Change g w (step.Begin count)) (sym h) (refuses _ _ (λ v. refl) (silent refl refl refl refl (λ s. refl) refl refl refl refl refl refl refl refl refl refl refl refl refl))
   begin_of count a false false false e f (inl h) = subst (Change g w (step.Begin count)) (sym h) (begins count e (no_call w.submission.call f))
-  begin_of count a false false false e f (inr h) = subst (Change g w (step.Begin count)) (sym h) (again count)
+  begin_of count a false false false e f (inr h) = subst (Change g w (step.Begin count)) (sym h.0) (again count)
 
   place_of : (call : Call) (place : Option Place) → w.submission.call ≡ Some call → eqb call.taken call.count ≡ false → slice_get w.submission.published (taken w.submission + call.taken) ≡ place → Change g w step.Take (place_answer place)
   place_of call None e f h = refuses _ _ (λ v. refl) (silent refl refl refl refl (λ s. refl) refl refl refl refl refl refl refl refl refl refl refl refl refl)
   place_of call (Some place) e f h = entry_of_place place.entry refl where
-    entry_of_place : (entry : Option Entry) → place.entry ≡ entry → Change g w step.Take (entry_answer entry)
+    entry_of_place : (entry : Option Sqe) → place.entry ≡ entry → Change g w step.Take (entry_answer entry)
     entry_of_place None k = drops call place e f h k
     entry_of_place (Some entry) k = takes entry call place e f h k
 
@@ -128,7 +131,7 @@ module _ (g : Shape) (w : World) where
   finish_of n true (answer.Ended res bytes) e h = finishes n res bytes e
   finish_of n true _ e h = absurd h
 
-  reap_of : (completion : Option Completion) → next_to_reap w.completions ≡ completion → Change g w step.Reap (reap_answer_of completion)
+  reap_of : (completion : Option Cqe) → next_to_reap w.completions ≡ completion → Change g w step.Reap (reap_answer_of completion)
   reap_of None e = refuses _ _ (λ v. refl) (silent refl refl refl refl (λ s. refl) refl refl refl refl refl refl refl refl refl refl refl refl refl)
   reap_of (Some completion) e = reaps completion e
 

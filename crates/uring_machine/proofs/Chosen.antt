@@ -6,16 +6,16 @@ use Rattle.std.specs.Ordering.{int_eq}
 use Rattle.std.proofs.lemmas.Bool.{and_parts, or_cases, or_left, or_right, both_ways, eqb-true, eq-eqb}
 use Rattle.std.proofs.lemmas.Bool.Decides.{Decides-int_eq}
 use Rattle.std.proofs.lemmas.List.Folds.{list_any-append}
-use Rattle.uring_entry.specs.Shape.{Shape}
+use Rattle.uring_entry.specs.Setup.{Setup}
 use Rattle.uring_entry.specs.Preparation.{is_cancel}
 use Rattle.uring_entry.specs.Requests.{Requests, entry_of, is_cancelled, target_of, chosen_by, doomed_result, cancel_result, no_bytes, with_issued_end}
 use Rattle.uring_machine.specs.HistoryLists.{IsChosenIn}
 use Rattle.uring_machine.specs.World.{World, happens, taking_of, ending_of}
 use Rattle.uring_machine.specs.Histories.{Event, History, world, IsLawfulApart}
-use Rattle.uring_machine.specs.declared.steps.Step.{Step}
-use Rattle.uring_machine.specs.declared.steps.Step.TheVariants as step
-use Rattle.uring_machine.specs.declared.answers.Answer.{Answer}
-use Rattle.uring_machine.specs.declared.answers.Answer.TheVariants as answer
+use Rattle.uring_machine.specs.declared.step.Step.{Step}
+use Rattle.uring_machine.specs.declared.step.Step.TheVariants as step
+use Rattle.uring_machine.specs.declared.answer.Answer.{Answer}
+use Rattle.uring_machine.specs.declared.answer.Answer.TheVariants as answer
 use Rattle.uring_machine.proofs.Changes.{Change, change_of, refuses, fills, stages, stores, loads, begins, takes, drops, closes, runs, dooms, cancels, finishes, flushes, sees_tail, reaps, stores_head, shuts}
 use Rattle.uring_machine.proofs.RequestEnds.{doomed_unlike_zero}
 use Rattle.uring_machine.proofs.Growth.{event_grows}
@@ -60,7 +60,7 @@ record IsChoosing (w : World) (s : Step) (a : Answer) (m : ℕ) : Type 0 where
   step_is : s ≡ step.Issue number
   answer_is : a ≡ answer.Ended (pos 0) no_bytes
 
-new_cancel : (g : Shape) (w : World) (s : Step) (a : Answer) → Change g w s a → (m : ℕ) → is_cancelled (happens g w s a).requests m ≡ true → (is_cancelled w.requests m ≡ true) ⊎ IsChoosing w s a m
+new_cancel : (g : Setup) (w : World) (s : Step) (a : Answer) → Change g w s a → (m : ℕ) → is_cancelled (happens g w s a).requests m ≡ true → (is_cancelled w.requests m ≡ true) ⊎ IsChoosing w s a m
 new_cancel g w s a (refuses _ _ same silent) m gone = inl (subst (λ v. is_cancelled v.requests m ≡ true) (same w) gone)
 new_cancel g w s a (fills slot entry free) m gone = inl gone
 new_cancel g w s a (stages word room) m gone = inl gone
@@ -80,10 +80,10 @@ new_cancel g w s a (reaps completion next) m gone = inl gone
 new_cancel g w s a (stores_head head) m gone = inl gone
 new_cancel g w s a (shuts no_call) m gone = inl gone
 
-one_later : (g : Shape) (e : Event) (h : History) (m : ℕ) → IsChosenIn g h m → IsChosenIn g (e ∷ h) m
+one_later : (g : Setup) (e : Event) (h : History) (m : ℕ) → IsChosenIn g h m → IsChosenIn g (e ∷ h) m
 one_later g e h m c = record { after = e ∷ c.after; before = c.before; number = c.number; bytes = c.bytes; split = ap (λ xs. e ∷ xs) c.split; cancel = c.cancel; target = c.target }
 
-pub chosen_in : (g : Shape) (h : History) → IsLawfulApart g h → (m : ℕ) → is_cancelled (world g h).requests m ≡ true → IsChosenIn g h m
+pub chosen_in : (g : Setup) (h : History) → IsLawfulApart g h → (m : ℕ) → is_cancelled (world g h).requests m ≡ true → IsChosenIn g h m
 chosen_in g [] lawful m gone = absurd (let f : false ≡ true = gone in cc)
 chosen_in g ((s, a) ∷ before) lawful m gone =
     elim (new_cancel g (world g before) s a (change_of g (world g before) s a lawful.0) m gone) [
@@ -109,13 +109,13 @@ dooms_now r n m cancel target =
     ∙ ap (λ o. list_any (λ k. k == m) (option_to_list o)) target
     ∙ or_left (m == m) false (eq-eqb m m refl))
 
-stays_chosen : (g : Shape) (after before : History) (n m : ℕ) (bytes : List ℕ) → IsLawfulApart g (after ++ (step.Issue n, answer.Ended (pos 0) bytes) ∷ before) → is_cancel (entry_of (world g before).requests n) ≡ true → target_of (world g before).requests n ≡ Some m
+stays_chosen : (g : Setup) (after before : History) (n m : ℕ) (bytes : List ℕ) → IsLawfulApart g (after ++ (step.Issue n, answer.Ended (pos 0) bytes) ∷ before) → is_cancel (entry_of (world g before).requests n) ≡ true → target_of (world g before).requests n ≡ Some m
     → is_cancelled (world g (after ++ (step.Issue n, answer.Ended (pos 0) bytes) ∷ before)).requests m ≡ true
 stays_chosen g [] before n m bytes lawful cancel target = dooms_now (world g before).requests n m cancel target
 stays_chosen g ((s, a) ∷ after) before n m bytes lawful cancel target =
     (event_grows g s a (after ++ (step.Issue n, answer.Ended (pos 0) bytes) ∷ before) lawful).stays_cancelled m (stays_chosen g after before n m bytes lawful.1 cancel target)
 
-pub chosen_stays : (g : Shape) (h : History) → IsLawfulApart g h → (m : ℕ) → IsChosenIn g h m → is_cancelled (world g h).requests m ≡ true
+pub chosen_stays : (g : Setup) (h : History) → IsLawfulApart g h → (m : ℕ) → IsChosenIn g h m → is_cancelled (world g h).requests m ≡ true
 chosen_stays g h lawful m c =
     subst (λ x. is_cancelled (world g x).requests m ≡ true) (sym c.split)
     (stays_chosen g c.after c.before c.number m c.bytes (subst (IsLawfulApart g) c.split lawful) c.cancel c.target)

@@ -3,145 +3,146 @@ use Rattle.std.proofs.Common.{◌≡◌, ℕ, ◌+◌, ◌-◌, ◌^◌, ◌≤�
 use Rattle.std.proofs.lemmas.Bool.{cases_Bool, and_parts, and_from, eqb-true, eqb-false, lt-ltb, le-ltb}
 use Rattle.std.proofs.lemmas.List.{length-append}
 use Rattle.std.proofs.lemmas.Grind.{common_steps}
-use Rattle.uring_entry.specs.Shape.{Shape}
-use Rattle.uring_entry.specs.Words.{word_of}
-use Rattle.uring_entry.specs.Layout.{Entry, Completion, user_data_of}
+use Rattle.uring_entry.specs.Setup.{Setup}
+use Rattle.uring_entry.specs.IndexWords.{word_of}
+use Rattle.uring_entry.specs.Layout.{Sqe, Cqe, user_data_of}
 use Rattle.uring_entry.specs.Success.{posts_completion}
-use Rattle.uring_entry.specs.Submission.{Submission, Call, no_submission, taken, pending, entries_of, places_from, dropped, closed}
+use Rattle.uring_entry.specs.Submission.{Submission, Call, no_submission, taken, pending, entries_of, places_from, dropped, with_closed}
 use Rattle.uring_entry.specs.Requests.{Requests, no_request, entry_of, has_started, has_ended, is_outstanding, is_running, is_doomed, is_ready, doomed_result, cancel_result, no_bytes, with_call, with_ended, with_issued_end, with_started, entry_outstanding}
 use Rattle.uring_entry.specs.Preparation.{is_cancel, operation_of}
 use Rattle.uring_entry.specs.Completions.{Completions, no_completion, with_end, with_posted}
 use Rattle.uring_entry.specs.declared.outcomes.Outcome.{Outcome}
 use Rattle.uring_entry.specs.declared.operation.Op.{Op}
-use Rattle.uring_rings.specs.SubmissionRing.{SubmissionQueue, ShowsSubmission}
-use Rattle.uring_rings.specs.SubmissionAnswers as ring
-use Rattle.uring_rings.specs.CompletionRing.{CompletionQueue, ShowsCompletions}
+use Rattle.uring_rings.specs.Sq.{Sq, ShowsSubmission}
+use Rattle.uring_rings.specs.SqAnswers as ring
+use Rattle.uring_rings.specs.Cq.{Cq, ShowsCompletions}
 use Rattle.uring_rings.specs.declared.answers.end_answer.EndAnswer.TheVariants as ended_as
 use Rattle.uring_rings.specs.declared.answers.taken_counts.Taken.{Taken}
-use Rattle.uring_dispatch.specs.Dispatcher.{Dispatcher, Shows, HasStarted, HasEnded, HasFinished}
-use Rattle.uring_dispatch.specs.Answers.{issued, issued_waiting, finished}
+use Rattle.uring_dispatch.specs.Dispatch.{Dispatch, ShowsRequests, HasStarted, HasEnded, HasFinished}
+use Rattle.uring_dispatch.specs.IssueAndFinish.{issued, issued_waiting, finished}
 use Rattle.uring_dispatch.specs.declared.issue_answer.Issued.{Issued}
 use Rattle.uring_dispatch.specs.declared.issue_answer.Issued.TheVariants as issue
 use Rattle.uring_dispatch.specs.declared.finish_answer.Finished.TheVariants as finish
 use Rattle.uring_machine.specs.World.{World, ending_of}
-use Rattle.uring_machine.specs.Answers.{end_answer_in, issue_answer, FinishesApart}
+use Rattle.uring_machine.specs.StepAnswers.{end_answer_in, issue_answer, FinishesApart}
 use Rattle.uring_machine.specs.Histories.{History, world}
-use Rattle.uring_machine.specs.Core.{Parts, ShowsWorld, FitsApart, IsFinished, held_by, positions_of}
-use Rattle.uring_machine.specs.declared.steps.Step.TheVariants as step
-use Rattle.uring_machine.specs.declared.answers.Answer.{Answer}
-use Rattle.uring_machine.specs.declared.answers.Answer.TheVariants as answer
+use Rattle.uring_machine.specs.Core.{Core, ShowsWorld, FitsApart, IsFinished, held_by, positions_of}
+use Rattle.uring_machine.specs.declared.step.Step.TheVariants as step
+use Rattle.uring_machine.specs.declared.answer.Answer.{Answer}
+use Rattle.uring_machine.specs.declared.answer.Answer.TheVariants as answer
 use Rattle.uring_machine.proofs.Sound.{sound_of}
 use Rattle.uring_machine.proofs.CoreTakes.{held_within}
 
 -- End.
 
 -- what is known of the dispatcher once it accepted the entries of a call
-pub record Accepts (p : Parts) (d : Dispatcher) : Type 0 where
-  pub shows : (r : Requests) → Shows p.dispatcher r → Shows d (with_call r p.held)
-  pub accepted : d.accepted ≡ p.dispatcher.accepted + length p.held
-  pub outstanding : d.outstanding ≡ p.dispatcher.outstanding + length p.held
+pub record Accepts (p : Core) (d : Dispatch) : Type 0 where
+  pub shows : (r : Requests) → ShowsRequests p.dispatch r → ShowsRequests d (with_call r p.held)
+  pub accepted : d.accepted ≡ p.dispatch.accepted + length p.held
+  pub outstanding : d.outstanding ≡ p.dispatch.outstanding + length p.held
   pub between : d.is_between_calls ≡ true
 
 -- what the end of a call shows and answers, by the call that is open
-pub record Ends (p : Parts) (w : World) (q : SubmissionQueue) (d : Dispatcher) (a : Answer) (c : Option Call) : Type 0 where
-  pub shows : ShowsWorld (record p { submissions = q; dispatcher = d; held = [] }) (ending_of w c)
-  pub answered : a ≡ end_answer_in p.shape w c
+pub record Ends (p : Core) (w : World) (q : Sq) (d : Dispatch) (a : Answer) (c : Option Call) : Type 0 where
+  pub shows : ShowsWorld (record p { sq = q; dispatch = d; held = [] }) (ending_of w c)
+  pub answered : a ≡ end_answer_in p.setup w c
 
 sum_more : (ns : List ℕ) (n : ℕ) → sum (ns ++ n ∷ []) ≡ sum ns + n
 sum_more ns n = grind (arith, common_steps)
 
-all_taken : (g : Shape) (l : Submission) (call : Call) (t : Taken) → ended_as.Taken t ≡ ring.end_of g l (Some call) → eqb call.taken call.count ≡ true
+all_taken : (g : Setup) (l : Submission) (call : Call) (t : Taken) → ended_as.Taken t ≡ ring.end_of g l (Some call) → eqb call.taken call.count ≡ true
 all_taken g l call t e =
     elim (cases_Bool (eqb call.taken call.count)) [
       | inl all ↦ all
-      | inr more ↦ absurd (let f : ended_as.Taken t ≡ ended_as.NotAll = e ∙ ap (λ b. cond b (ended_as.Taken (record { accepted = length (entries_of (places_from l call.count)); dropped = dropped (closed l call); head = word_of g.start (taken (closed l call)) })) ended_as.NotAll) more in cc)
+      | inr more ↦ absurd (let f : ended_as.Taken t ≡ ended_as.NotAll = e ∙ ap (λ b. cond b (ended_as.Taken (record { accepted = length (entries_of (places_from l call.count)); dropped = dropped (with_closed l call); head = word_of g.start (taken (with_closed l call)) })) ended_as.NotAll) more in cc)
     ]
 
-told_taken : (g : Shape) (l : Submission) (call : Call) (t : Taken) → ended_as.Taken t ≡ ring.end_of g l (Some call)
-    → t ≡ record { accepted = length (entries_of (places_from l call.count)); dropped = dropped (closed l call); head = word_of g.start (taken (closed l call)) }
+told_taken : (g : Setup) (l : Submission) (call : Call) (t : Taken) → ended_as.Taken t ≡ ring.end_of g l (Some call)
+    → t ≡ record { accepted = length (entries_of (places_from l call.count)); dropped = dropped (with_closed l call); head = word_of g.start (taken (with_closed l call)) }
 told_taken g l call t e =
     let all = all_taken g l call t e in
-    let f : ended_as.Taken t ≡ ended_as.Taken (record { accepted = length (entries_of (places_from l call.count)); dropped = dropped (closed l call); head = word_of g.start (taken (closed l call)) }) =
-    e ∙ ap (λ b. cond b (ended_as.Taken (record { accepted = length (entries_of (places_from l call.count)); dropped = dropped (closed l call); head = word_of g.start (taken (closed l call)) })) ended_as.NotAll) all in
+    let f : ended_as.Taken t ≡ ended_as.Taken (record { accepted = length (entries_of (places_from l call.count)); dropped = dropped (with_closed l call); head = word_of g.start (taken (with_closed l call)) }) =
+    e ∙ ap (λ b. cond b (ended_as.Taken (record { accepted = length (entries_of (places_from l call.count)); dropped = dropped (with_closed l call); head = word_of g.start (taken (with_closed l call)) })) ended_as.NotAll) all in
     cc
 
-closed_shows : (p : Parts) (w : World) (q : SubmissionQueue) (d : Dispatcher) (call : Call) → ShowsWorld p w → w.submission.call ≡ Some call → call.taken ≡ call.count → Accepts p d
-    → length p.held ≤ call.count → ShowsSubmission p.shape q (closed w.submission call) → ShowsWorld (record p { submissions = q; dispatcher = d; held = [] }) (ending_of w (Some call))
+closed_shows : (p : Core) (w : World) (q : Sq) (d : Dispatch) (call : Call) → ShowsWorld p w → w.submission.call ≡ Some call → call.taken ≡ call.count → Accepts p d
+    → length p.held ≤ call.count → ShowsSubmission p.setup q (with_closed w.submission call) → ShowsWorld (record p { sq = q; dispatch = d; held = [] }) (ending_of w (Some call))
 closed_shows p w q d call s is all accepts few shown =
     let a = accepts.accepted in
     let o = accepts.outstanding in
-    let room : p.dispatcher.outstanding + call.count ≤ p.completions.room = subst (λ c. p.dispatcher.outstanding + positions_of c ≤ p.completions.room) is s.room_to_post in
-    let numbers : p.dispatcher.accepted + call.count ≤ 2 ^ 63 - 1 = subst (λ c. p.dispatcher.accepted + positions_of c ≤ 2 ^ 63 - 1) is s.numbers in
+    let room : p.dispatch.outstanding + call.count ≤ p.completions.room = subst (λ c. p.dispatch.outstanding + positions_of c ≤ p.completions.room) is s.room_to_post in
+    let numbers : p.dispatch.accepted + call.count ≤ 2 ^ 63 - 1 = subst (λ c. p.dispatch.accepted + positions_of c ≤ 2 ^ 63 - 1) is s.numbers in
     let posts = s.posts in
     let held : p.held ≡ entries_of (places_from w.submission call.count) = s.held ∙ ap (held_by w.submission) is ∙ ap (λ n. entries_of (places_from w.submission n)) all in
     record {
       submission = shown;
       completions = s.completions;
-      requests = subst (λ xs. Shows d (with_call w.requests xs)) held (accepts.shows w.requests s.requests);
+      requests = subst (λ xs. ShowsRequests d (with_call w.requests xs)) held (accepts.shows w.requests s.requests);
       held = refl;
       closed = s.closed;
       between = accepts.between;
       room_to_post = omega arith;
       room_to_accept = omega arith;
+      promised = s.promised;
       numbers = omega arith;
       posts = omega arith;
     }
 
-closed_answer : (g : Shape) (w : World) (call : Call) (t : Taken) → ended_as.Taken t ≡ ring.end_of g w.submission (Some call) → answer.Taken t.accepted t.dropped t.head ≡ end_answer_in g w (Some call)
+closed_answer : (g : Setup) (w : World) (call : Call) (t : Taken) → ended_as.Taken t ≡ ring.end_of g w.submission (Some call) → answer.Taken t.accepted t.dropped t.head ≡ end_answer_in g w (Some call)
 closed_answer g w call t e =
     let all = eqb-true call.taken call.count (all_taken g w.submission call t e) in
     let not_less : nat_lt call.taken call.count ≡ false = le-ltb call.taken call.count (omega arith) in
-    rw (told_taken g w.submission call t e, not_less) (ap (λ n. answer.Taken (length (entries_of (places_from w.submission call.count))) (dropped (closed w.submission call)) (word_of g.start n)) (sum_more w.submission.calls call.count))
+    rw (told_taken g w.submission call t e, not_less) (ap (λ n. answer.Taken (length (entries_of (places_from w.submission call.count))) (dropped (with_closed w.submission call)) (word_of g.start n)) (sum_more w.submission.calls call.count))
 
-end_taken : (p : Parts) (w : World) (q : SubmissionQueue) (d : Dispatcher) (t : Taken) (c : Option Call) → ShowsWorld p w → w.submission.call ≡ c → Accepts p d
-    → length p.held ≤ positions_of w.submission.call → ended_as.Taken t ≡ ring.end_of p.shape w.submission c → ShowsSubmission p.shape q (ring.closed_on w.submission c)
+end_taken : (p : Core) (w : World) (q : Sq) (d : Dispatch) (t : Taken) (c : Option Call) → ShowsWorld p w → w.submission.call ≡ c → Accepts p d
+    → length p.held ≤ positions_of w.submission.call → ended_as.Taken t ≡ ring.end_of p.setup w.submission c → ShowsSubmission p.setup q (ring.closed_on w.submission c)
     → Ends p w q d (answer.Taken t.accepted t.dropped t.head) c
 end_taken p w q d t None s is accepts few e shown = absurd (let f : ended_as.Taken t ≡ ended_as.NoCall = e in cc)
 end_taken p w q d t (Some call) s is accepts few e shown = record {
-  shows = closed_shows p w q d call s is (eqb-true call.taken call.count (all_taken p.shape w.submission call t e)) accepts (subst (λ c. length p.held ≤ positions_of c) is few) shown;
-  answered = closed_answer p.shape w call t e;
+  shows = closed_shows p w q d call s is (eqb-true call.taken call.count (all_taken p.setup w.submission call t e)) accepts (subst (λ c. length p.held ≤ positions_of c) is few) shown;
+  answered = closed_answer p.setup w call t e;
 }
 
-pub end_goes : (p : Parts) (q : SubmissionQueue) (d : Dispatcher) (t : Taken)
-    → ((g : Shape) (l : Submission) → ShowsSubmission g p.submissions l → ended_as.Taken t ≡ ring.end_answer g l)
-    → ((g : Shape) (l : Submission) → ShowsSubmission g p.submissions l → ShowsSubmission g q (ring.after_end l (ended_as.Taken t)))
+pub end_goes : (p : Core) (q : Sq) (d : Dispatch) (t : Taken)
+    → ((g : Setup) (l : Submission) → ShowsSubmission g p.sq l → ended_as.Taken t ≡ ring.end_answer g l)
+    → ((g : Setup) (l : Submission) → ShowsSubmission g p.sq l → ShowsSubmission g q (ring.after_end l (ended_as.Taken t)))
     → Accepts p d
-    → (h : History) → FitsApart p h → FitsApart (record p { submissions = q; dispatcher = d; held = [] }) ((step.End, answer.Taken t.accepted t.dropped t.head) ∷ h)
+    → (h : History) → FitsApart p h → FitsApart (record p { sq = q; dispatch = d; held = [] }) ((step.End, answer.Taken t.accepted t.dropped t.head) ∷ h)
 end_goes p q d t answered shown accepts h f =
-    let w = world p.shape h in
+    let w = world p.setup h in
     let s = f.shows in
-    let held = held_within w.submission p.shape.sq w.submission.call s.submission.call_fits in
+    let held = held_within w.submission p.setup.sq w.submission.call s.submission.call_fits in
     let same : length p.held ≡ length (held_by w.submission w.submission.call) = ap length s.held in
-    let e = end_taken p w q d t w.submission.call s refl accepts (omega arith) (answered p.shape w.submission s.submission) (shown p.shape w.submission s.submission) in
+    let e = end_taken p w q d t w.submission.call s refl accepts (omega arith) (answered p.setup w.submission s.submission) (shown p.setup w.submission s.submission) in
     record { shows = e.shows; lawful = (e.answered, f.lawful) }
 
-end_not_all : (g : Shape) (w : World) (c : Option Call) → IfSome c (λ call. (call.taken ≤ call.count) × (call.count ≤ pending w.submission)) → ended_as.NotAll ≡ ring.end_of g w.submission c → answer.NotAll ≡ end_answer_in g w c
+end_not_all : (g : Setup) (w : World) (c : Option Call) → IfSome c (λ call. (call.taken ≤ call.count) × (call.count ≤ pending w.submission)) → ended_as.NotAll ≡ ring.end_of g w.submission c → answer.NotAll ≡ end_answer_in g w c
 end_not_all g w None fits e = absurd (let f : ended_as.NotAll ≡ ended_as.NoCall = e in cc)
 end_not_all g w (Some call) fits e =
     elim (cases_Bool (eqb call.taken call.count)) [
-      | inl all ↦ absurd (let f : ended_as.NotAll ≡ ended_as.Taken _ = e ∙ ap (λ b. cond b (ended_as.Taken (record { accepted = length (entries_of (places_from w.submission call.count)); dropped = dropped (closed w.submission call); head = word_of g.start (taken (closed w.submission call)) })) ended_as.NotAll) all in cc)
+      | inl all ↦ absurd (let f : ended_as.NotAll ≡ ended_as.Taken _ = e ∙ ap (λ b. cond b (ended_as.Taken (record { accepted = length (entries_of (places_from w.submission call.count)); dropped = dropped (with_closed w.submission call); head = word_of g.start (taken (with_closed w.submission call)) })) ended_as.NotAll) all in cc)
       | inr more ↦
           let ne = eqb-false call.taken call.count more in
           let less : nat_lt call.taken call.count ≡ true = lt-ltb call.taken call.count (omega arith) in
           rw less refl
     ]
 
-pub end_not_all_goes : (p : Parts) (q : SubmissionQueue)
-    → ((g : Shape) (l : Submission) → ShowsSubmission g p.submissions l → ended_as.NotAll ≡ ring.end_answer g l) → q ≡ p.submissions
-    → (h : History) → FitsApart p h → FitsApart (record p { submissions = q }) ((step.End, answer.NotAll) ∷ h)
+pub end_not_all_goes : (p : Core) (q : Sq)
+    → ((g : Setup) (l : Submission) → ShowsSubmission g p.sq l → ended_as.NotAll ≡ ring.end_answer g l) → q ≡ p.sq
+    → (h : History) → FitsApart p h → FitsApart (record p { sq = q }) ((step.End, answer.NotAll) ∷ h)
 end_not_all_goes p q answered same h f =
-    subst (λ s. FitsApart (record p { submissions = s }) ((step.End, answer.NotAll) ∷ h)) (sym same) (record {
+    subst (λ s. FitsApart (record p { sq = s }) ((step.End, answer.NotAll) ∷ h)) (sym same) (record {
       shows = f.shows;
-      lawful = (end_not_all p.shape (world p.shape h) (world p.shape h).submission.call f.shows.submission.call_fits (answered p.shape _ f.shows.submission), f.lawful);
+      lawful = (end_not_all p.setup (world p.setup h) (world p.setup h).submission.call f.shows.submission.call_fits (answered p.setup _ f.shows.submission), f.lawful);
     })
 
 -- The end of a request.
 
-one_more : (size : ℕ) (l : Completions) (completion : Completion) → length (with_posted size l completion).posted ≤ length l.posted + 1
+one_more : (size : ℕ) (l : Completions) (completion : Cqe) → length (with_posted size l completion).posted ≤ length l.posted + 1
 one_more size l completion = omega (arith, length-append l.posted (completion ∷ []))
 
 -- an end posts one completion at most
-few_posted : (size : ℕ) (l : Completions) (entry : Entry) (res : ℤ) (bytes : List ℕ) → length (with_end size l entry res bytes).posted ≤ length l.posted + 1
+few_posted : (size : ℕ) (l : Completions) (entry : Sqe) (res : ℤ) (bytes : List ℕ) → length (with_end size l entry res bytes).posted ≤ length l.posted + 1
 few_posted size l entry res bytes =
     elim (cases_Bool (posts_completion entry res)) [
       | inl told ↦ rw told (one_more size l (record { user_data = user_data_of entry; res = res; payload = bytes }))
@@ -149,12 +150,12 @@ few_posted size l entry res bytes =
     ]
 
 -- The parts after an end: one request less is outstanding, and one promised post less is left at most.
-ended_shows : (p : Parts) (w : World) (d : Dispatcher) (q : CompletionQueue) (r : Requests) (entry : Entry) (res : ℤ) (bytes : List ℕ) → ShowsWorld p w
-    → Shows d r → d.accepted ≡ p.dispatcher.accepted → d.outstanding + 1 ≡ p.dispatcher.outstanding → p.dispatcher.room ≤ d.room → d.is_between_calls ≡ p.dispatcher.is_between_calls
-    → ShowsCompletions p.shape q (with_end p.shape.cq w.completions entry res bytes) → p.completions.room ≤ q.room + 1
-    → ShowsWorld (record p { dispatcher = d; completions = q }) (record w { requests = r; completions = with_end p.shape.cq w.completions entry res bytes })
-ended_shows p w d q r entry res bytes s shows accepted outstanding room between shown left =
-    let few = few_posted p.shape.cq w.completions entry res bytes in
+ended_shows : (p : Core) (w : World) (d : Dispatch) (q : Cq) (r : Requests) (entry : Sqe) (res : ℤ) (bytes : List ℕ) → ShowsWorld p w
+    → ShowsRequests d r → d.accepted ≡ p.dispatch.accepted → d.outstanding + 1 ≡ p.dispatch.outstanding → p.dispatch.room ≤ d.room → d.is_between_calls ≡ p.dispatch.is_between_calls
+    → ShowsCompletions p.setup q (with_end p.setup.cq w.completions entry res bytes) → p.completions.room ≤ q.room + 1 → (p.completions.room ≤ p.completions.spare → q.room ≤ q.spare)
+    → ShowsWorld (record p { dispatch = d; completions = q }) (record w { requests = r; completions = with_end p.setup.cq w.completions entry res bytes })
+ended_shows p w d q r entry res bytes s shows accepted outstanding room between shown left promised =
+    let few = few_posted p.setup.cq w.completions entry res bytes in
     let to_post = s.room_to_post in
     let to_accept = s.room_to_accept in
     let numbers = s.numbers in
@@ -168,12 +169,13 @@ ended_shows p w d q r entry res bytes s shows accepted outstanding room between 
       between = between ∙ s.between;
       room_to_post = omega arith;
       room_to_accept = omega arith;
+      promised = promised s.promised;
       numbers = omega arith;
       posts = omega arith;
     }
 
 -- an outstanding request's entry is there
-pub entry_there : (r : Requests) (n : ℕ) (entry : Entry) → Some entry ≡ entry_outstanding r n → entry ≡ entry_of r n
+pub entry_there : (r : Requests) (n : ℕ) (entry : Sqe) → Some entry ≡ entry_outstanding r n → entry ≡ entry_of r n
 entry_there r n entry e =
     elim (cases_Bool (is_outstanding r n)) [
       | inl there ↦ let f : Some entry ≡ Some (entry_of r n) = e ∙ ap (λ b. cond b (Some (entry_of r n)) None) there in cc
@@ -202,11 +204,11 @@ told_chain a b c d e x y z u v t =
 pub issue_same : (w : World) (n : ℕ) → issue_told (issued w.requests n) ≡ issue_answer w n
 issue_same w n = told_chain (not (is_outstanding w.requests n)) (is_running w.requests n) (is_doomed w.requests n) (not (is_ready w.requests n)) (is_cancel (entry_of w.requests n)) issue.Unknown issue.Running (issue.Ended (doomed_result w.requests n)) issue.NotReady (issue.Ended (cancel_result w.requests n)) (issue.Run (operation_of (entry_of w.requests n)))
 
-pub run_goes : (p : Parts) (d : Dispatcher) (n : ℕ) (op : Op)
-    → ((r : Requests) → Shows p.dispatcher r → issue.Run op ≡ issued r n) → ((r : Requests) → Shows p.dispatcher r → Shows d (with_started r n)) → HasStarted p.dispatcher d
-    → (h : History) → FitsApart p h → FitsApart (record p { dispatcher = d }) ((step.Issue n, answer.Run) ∷ h)
+pub run_goes : (p : Core) (d : Dispatch) (n : ℕ) (op : Op)
+    → ((r : Requests) → ShowsRequests p.dispatch r → issue.Run op ≡ issued r n) → ((r : Requests) → ShowsRequests p.dispatch r → ShowsRequests d (with_started r n)) → HasStarted p.dispatch d
+    → (h : History) → FitsApart p h → FitsApart (record p { dispatch = d }) ((step.Issue n, answer.Run) ∷ h)
 run_goes p d n op answered shows counts h f =
-    let w = world p.shape h in
+    let w = world p.setup h in
     let s = f.shows in
     let a = counts.accepted in
     let o = counts.outstanding in
@@ -225,24 +227,25 @@ run_goes p d n op answered shows counts h f =
         between = counts.between ∙ s.between;
         room_to_post = omega arith;
         room_to_accept = omega arith;
+        promised = s.promised;
         numbers = omega arith;
         posts = omega arith;
       };
       lawful = (ap issue_told (answered w.requests s.requests) ∙ issue_same w n, f.lawful);
     }
 
-pub issue_ended_goes : (p : Parts) (d : Dispatcher) (q : CompletionQueue) (n : ℕ) (res : ℤ) (entry : Entry)
-    → ((r : Requests) → Shows p.dispatcher r → issue.Ended res ≡ issued r n) → ((r : Requests) → Shows p.dispatcher r → Some entry ≡ entry_outstanding r n)
-    → ((r : Requests) → Shows p.dispatcher r → Shows d (with_issued_end r n res)) → HasEnded p.dispatcher d
-    → ((g : Shape) (l : Completions) → ShowsCompletions g p.completions l → ShowsCompletions g q (with_end g.cq l entry res no_bytes)) → p.completions.room ≤ q.room + 1
-    → (h : History) → FitsApart p h → FitsApart (record p { dispatcher = d; completions = q }) ((step.Issue n, answer.Ended res no_bytes) ∷ h)
-issue_ended_goes p d q n res entry answered there shows counts shown left h f =
-    let w = world p.shape h in
+pub issue_ended_goes : (p : Core) (d : Dispatch) (q : Cq) (n : ℕ) (res : ℤ) (entry : Sqe)
+    → ((r : Requests) → ShowsRequests p.dispatch r → issue.Ended res ≡ issued r n) → ((r : Requests) → ShowsRequests p.dispatch r → Some entry ≡ entry_outstanding r n)
+    → ((r : Requests) → ShowsRequests p.dispatch r → ShowsRequests d (with_issued_end r n res)) → HasEnded p.dispatch d
+    → ((g : Setup) (l : Completions) → ShowsCompletions g p.completions l → ShowsCompletions g q (with_end g.cq l entry res no_bytes)) → p.completions.room ≤ q.room + 1 → (p.completions.room ≤ p.completions.spare → q.room ≤ q.spare)
+    → (h : History) → FitsApart p h → FitsApart (record p { dispatch = d; completions = q }) ((step.Issue n, answer.Ended res no_bytes) ∷ h)
+issue_ended_goes p d q n res entry answered there shows counts shown left promised h f =
+    let w = world p.setup h in
     let s = f.shows in
     let same = entry_there w.requests n entry (there w.requests s.requests) in
     record {
       shows = ended_shows p w d q (with_issued_end w.requests n res) (entry_of w.requests n) res no_bytes s (shows w.requests s.requests) counts.accepted counts.outstanding counts.room counts.between
-          (subst (λ e. ShowsCompletions p.shape q (with_end p.shape.cq w.completions e res no_bytes)) same (shown p.shape w.completions s.completions)) left;
+          (subst (λ e. ShowsCompletions p.setup q (with_end p.setup.cq w.completions e res no_bytes)) same (shown p.setup w.completions s.completions)) left promised;
       lawful = (ap issue_told (answered w.requests s.requests) ∙ issue_same w n, f.lawful);
     }
 
@@ -250,7 +253,7 @@ issue_ended_goes p d q n res entry answered there shows counts shown left h f =
 pub ended_there : (r : Requests) (n : ℕ) (res : ℤ) → issue.Ended res ≡ issued r n → None ≡ entry_outstanding r n → ⊥
 ended_there r n res e none =
     elim (cases_Bool (is_outstanding r n)) [
-      | inl there ↦ let f : ◌≡◌ {A = Option Entry} None (Some (entry_of r n)) = none ∙ ap (λ b. cond b (Some (entry_of r n)) None) there in cc
+      | inl there ↦ let f : ◌≡◌ {A = Option Sqe} None (Some (entry_of r n)) = none ∙ ap (λ b. cond b (Some (entry_of r n)) None) there in cc
       | inr gone ↦ let f : issue.Ended res ≡ issue.Unknown = e ∙ ap (λ b. cond (not b) issue.Unknown (if is_running r n then issue.Running else issued_waiting r n)) gone in cc
     ]
 
@@ -264,28 +267,28 @@ running_there r n e =
       | inr not_running ↦ absurd (let f : finish.Ended ≡ finish.NotRunning = e ∙ ap (λ b. cond b finish.Ended finish.NotRunning) not_running in cc)
     ]
 
-pub finish_goes : (p : Parts) (d : Dispatcher) (q : CompletionQueue) (n : ℕ) (res : ℤ) (bytes : List ℕ) (entry : Entry)
-    → ((r : Requests) → Shows p.dispatcher r → finish.Ended ≡ finished r n) → ((r : Requests) → Shows p.dispatcher r → Some entry ≡ entry_outstanding r n)
-    → ((r : Requests) → Shows p.dispatcher r → Shows d (with_ended r n res bytes)) → HasFinished p.dispatcher d
-    → ((g : Shape) (l : Completions) → ShowsCompletions g p.completions l → ShowsCompletions g q (with_end g.cq l entry res bytes)) → p.completions.room ≤ q.room + 1
-    → (h : History) → FitsApart p h → FitsApart (record p { dispatcher = d; completions = q }) ((step.Finish n, answer.Ended res bytes) ∷ h)
-finish_goes p d q n res bytes entry answered there shows counts shown left h f =
-    let w = world p.shape h in
+pub finish_goes : (p : Core) (d : Dispatch) (q : Cq) (n : ℕ) (res : ℤ) (bytes : List ℕ) (entry : Sqe)
+    → ((r : Requests) → ShowsRequests p.dispatch r → finish.Ended ≡ finished r n) → ((r : Requests) → ShowsRequests p.dispatch r → Some entry ≡ entry_outstanding r n)
+    → ((r : Requests) → ShowsRequests p.dispatch r → ShowsRequests d (with_ended r n res bytes)) → HasFinished p.dispatch d
+    → ((g : Setup) (l : Completions) → ShowsCompletions g p.completions l → ShowsCompletions g q (with_end g.cq l entry res bytes)) → p.completions.room ≤ q.room + 1 → (p.completions.room ≤ p.completions.spare → q.room ≤ q.spare)
+    → (h : History) → FitsApart p h → FitsApart (record p { dispatch = d; completions = q }) ((step.Finish n, answer.Ended res bytes) ∷ h)
+finish_goes p d q n res bytes entry answered there shows counts shown left promised h f =
+    let w = world p.setup h in
     let s = f.shows in
     let same = entry_there w.requests n entry (there w.requests s.requests) in
     record {
       shows = ended_shows p w d q (with_ended w.requests n res bytes) (entry_of w.requests n) res bytes s (shows w.requests s.requests) counts.accepted counts.outstanding counts.room counts.between
-          (subst (λ e. ShowsCompletions p.shape q (with_end p.shape.cq w.completions e res bytes)) same (shown p.shape w.completions s.completions)) left;
+          (subst (λ e. ShowsCompletions p.setup q (with_end p.setup.cq w.completions e res bytes)) same (shown p.setup w.completions s.completions)) left promised;
       lawful = (subst (λ b. FinishesApart b (answer.Ended res bytes)) (sym (running_there w.requests n (answered w.requests s.requests))) tt, f.lawful);
     }
 
-pub finish_told : (p : Parts) (n : ℕ) (outcome : Outcome) → ((r : Requests) → Shows p.dispatcher r → finish.Ended ≡ finished r n)
-    → (h : History) → FitsApart p h → IsFinished (world p.shape h) n outcome (answer.Ended outcome.res outcome.bytes)
-finish_told p n outcome answered h f = rw (running_there (world p.shape h).requests n (answered (world p.shape h).requests f.shows.requests)) refl
+pub finish_told : (p : Core) (n : ℕ) (outcome : Outcome) → ((r : Requests) → ShowsRequests p.dispatch r → finish.Ended ≡ finished r n)
+    → (h : History) → FitsApart p h → IsFinished (world p.setup h) n outcome (answer.Ended outcome.res outcome.bytes)
+finish_told p n outcome answered h f = rw (running_there (world p.setup h).requests n (answered (world p.setup h).requests f.shows.requests)) refl
 
 -- Close.
 
-pub close_goes : (p : Parts) → ((g : Shape) (l : Submission) → ShowsSubmission g p.submissions l → false ≡ is_some l.call)
+pub close_goes : (p : Core) → ((g : Setup) (l : Submission) → ShowsSubmission g p.sq l → false ≡ is_some l.call)
     → (h : History) → FitsApart p h → FitsApart (record p { is_closed = true }) ((step.Close, answer.Shut) ∷ h)
 close_goes p no_call h f = record {
   shows = record {
@@ -297,41 +300,42 @@ close_goes p no_call h f = record {
     between = f.shows.between;
     room_to_post = f.shows.room_to_post;
     room_to_accept = f.shows.room_to_accept;
+    promised = f.shows.promised;
     numbers = f.shows.numbers;
     posts = f.shows.posts;
   };
-  lawful = (ap (λ b. cond b answer.InCall answer.Shut) (no_call p.shape _ f.shows.submission), f.lawful);
+  lawful = (ap (λ b. cond b answer.InCall answer.Shut) (no_call p.setup _ f.shows.submission), f.lawful);
 }
 
 -- the entries accepted are those held
-pub accepts_held : (p : Parts) (d : Dispatcher) (entries : List Entry) → entries ≡ p.held → ((r : Requests) → Shows p.dispatcher r → Shows d (with_call r entries))
-    → d.accepted ≡ p.dispatcher.accepted + length entries → d.outstanding ≡ p.dispatcher.outstanding + length entries → d.is_between_calls ≡ true → Accepts p d
+pub accepts_held : (p : Core) (d : Dispatch) (entries : List Sqe) → entries ≡ p.held → ((r : Requests) → ShowsRequests p.dispatch r → ShowsRequests d (with_call r entries))
+    → d.accepted ≡ p.dispatch.accepted + length entries → d.outstanding ≡ p.dispatch.outstanding + length entries → d.is_between_calls ≡ true → Accepts p d
 accepts_held p d entries same shows accepted outstanding between = record {
-  shows = λ r s. subst (λ xs. Shows d (with_call r xs)) same (shows r s);
-  accepted = accepted ∙ ap (λ xs. p.dispatcher.accepted + length xs) same;
-  outstanding = outstanding ∙ ap (λ xs. p.dispatcher.outstanding + length xs) same;
+  shows = λ r s. subst (λ xs. ShowsRequests d (with_call r xs)) same (shows r s);
+  accepted = accepted ∙ ap (λ xs. p.dispatch.accepted + length xs) same;
+  outstanding = outstanding ∙ ap (λ xs. p.dispatch.outstanding + length xs) same;
   between = between;
 }
 
 -- what is running is outstanding
-pub finished_there : (p : Parts) (n : ℕ) (h : History) → FitsApart p h → ((r : Requests) → Shows p.dispatcher r → finish.Ended ≡ finished r n) → ((r : Requests) → Shows p.dispatcher r → None ≡ entry_outstanding r n) → ⊥
+pub finished_there : (p : Core) (n : ℕ) (h : History) → FitsApart p h → ((r : Requests) → ShowsRequests p.dispatch r → finish.Ended ≡ finished r n) → ((r : Requests) → ShowsRequests p.dispatch r → None ≡ entry_outstanding r n) → ⊥
 finished_there p n h f answered none =
-    let w = world p.shape h in
+    let w = world p.setup h in
     let s = f.shows.requests in
-    let sound = sound_of p.shape h f.lawful in
+    let sound = sound_of p.setup h f.lawful in
     let runs = and_parts (has_started w.requests n) (not (has_ended w.requests n)) (running_there w.requests n (answered w.requests s)) in
     let below = lt-ltb n (length w.requests.accepted) (sound.requests.started_accepted n runs.0) in
     let there : is_outstanding w.requests n ≡ true = and_from (nat_lt n (length w.requests.accepted)) (not (has_ended w.requests n)) below runs.1 in
-    let f : ◌≡◌ {A = Option Entry} None (Some (entry_of w.requests n)) = none w.requests s ∙ ap (λ b. cond b (Some (entry_of w.requests n)) None) there in
+    let f : ◌≡◌ {A = Option Sqe} None (Some (entry_of w.requests n)) = none w.requests s ∙ ap (λ b. cond b (Some (entry_of w.requests n)) None) there in
     cc
 
 -- New.
 
-pub new_fits : (p : Parts) → ShowsSubmission p.shape p.submissions no_submission → ShowsCompletions p.shape p.completions no_completion → Shows p.dispatcher no_request → p.dispatcher.is_between_calls ≡ true
+pub new_fits : (p : Core) → ShowsSubmission p.setup p.sq no_submission → ShowsCompletions p.setup p.completions no_completion → p.completions.room ≡ 0 → ShowsRequests p.dispatch no_request → p.dispatch.is_between_calls ≡ true
     → p.held ≡ [] → p.is_closed ≡ false → FitsApart p []
-new_fits p submission completions requests between held open_ring =
-    let a : p.dispatcher.accepted ≡ 0 = requests.accepted in
-    let o : p.dispatcher.outstanding ≡ 0 = requests.outstanding in
+new_fits p submission completions none_promised requests between held open_ring =
+    let a : p.dispatch.accepted ≡ 0 = requests.accepted in
+    let o : p.dispatch.outstanding ≡ 0 = requests.outstanding in
     record {
       shows = record {
         submission = submission;
@@ -342,6 +346,7 @@ new_fits p submission completions requests between held open_ring =
         between = between;
         room_to_post = omega arith;
         room_to_accept = omega arith;
+        promised = omega arith;
         numbers = omega arith;
         posts = omega arith;
       };

@@ -2,40 +2,40 @@
 use Rattle.std.proofs.Common.{◌≡◌, ℕ, ◌+◌, ◌-◌, ◌^◌, ◌≤◌, Bool, true, false, cond, List, ◌∷◌, ◌++◌, length, take, drop, Option, Some, None, refl, sym, ap, subst, ◌∙◌, arith, inl, inr, IfSome}
 use Rattle.std.proofs.lemmas.Bool.{cases_lt, lt-ltb, le-ltb, lt-leb, le-leb}
 use Rattle.std.proofs.lemmas.Grind.{common_steps}
-use Rattle.uring_entry.specs.Shape.{Shape, IsShape}
-use Rattle.uring_entry.specs.Words.{word_of}
-use Rattle.uring_entry.specs.Layout.{Entry, Completion}
-use Rattle.uring_entry.specs.Submission.{Submission, Call, Place, staged, taken, pending, is_busy, entries_of, filled, indexed, stored, loaded}
-use Rattle.uring_entry.specs.Completions.{Completions, next_to_reap, flushed, with_tail_loaded, with_reaped, with_head_stored}
-use Rattle.uring_rings.specs.SubmissionRing.{SubmissionQueue, ShowsSubmission}
-use Rattle.uring_rings.specs.SubmissionAnswers as ring
-use Rattle.uring_rings.specs.CompletionRing.{CompletionQueue, ShowsCompletions, after_reap}
+use Rattle.uring_entry.specs.Setup.{Setup, IsWithinLimits}
+use Rattle.uring_entry.specs.IndexWords.{word_of}
+use Rattle.uring_entry.specs.Layout.{Sqe, Cqe}
+use Rattle.uring_entry.specs.Submission.{Submission, Call, Place, staged, taken, pending, is_busy, entries_of, with_filled, with_staged, with_published, with_head_loaded}
+use Rattle.uring_entry.specs.Completions.{Completions, next_to_reap, with_flushed, with_tail_loaded, with_reaped, with_head_stored}
+use Rattle.uring_rings.specs.Sq.{Sq, ShowsSubmission}
+use Rattle.uring_rings.specs.SqAnswers as ring
+use Rattle.uring_rings.specs.Cq.{Cq, ShowsCompletions, KeepsMemory, after_reap}
 use Rattle.uring_rings.specs.declared.answers.fill_answer.FillAnswer.{FillAnswer}
 use Rattle.uring_rings.specs.declared.answers.fill_answer.FillAnswer.TheVariants as fill
 use Rattle.uring_rings.specs.declared.answers.index_answer.IndexAnswer.{IndexAnswer}
 use Rattle.uring_rings.specs.declared.answers.index_answer.IndexAnswer.TheVariants as index
 use Rattle.uring_machine.specs.World.{World, filling, staging, reaping}
-use Rattle.uring_machine.specs.Answers.{fill_answer, reap_answer_of}
+use Rattle.uring_machine.specs.StepAnswers.{fill_answer, reap_answer_of}
 use Rattle.uring_machine.specs.Histories.{Event, History, world}
 use Rattle.uring_machine.specs.Told.{fill_told, index_told}
-use Rattle.uring_machine.specs.Core.{Parts, ShowsWorld, FitsApart, IsCore, held_by, positions_of}
-use Rattle.uring_machine.specs.declared.steps.Step.TheVariants as step
-use Rattle.uring_machine.specs.declared.answers.Answer.TheVariants as answer
+use Rattle.uring_machine.specs.Core.{Core, ShowsWorld, FitsApart, IsCore, held_by, positions_of}
+use Rattle.uring_machine.specs.declared.step.Step.TheVariants as step
+use Rattle.uring_machine.specs.declared.answer.Answer.TheVariants as answer
 
 -- a core that fits one event more is a core
-pub core_after : (p q : Parts) (e : Event) → q.shape ≡ p.shape → ((h : History) → FitsApart p h → FitsApart q (e ∷ h)) → IsCore p → IsCore q
-core_after p q e same goes core = (subst IsShape (sym same) core.0, e ∷ core.1, goes core.1 core.2)
+pub core_after : (p q : Core) (e : Event) → q.setup ≡ p.setup → ((h : History) → FitsApart p h → FitsApart q (e ∷ h)) → IsCore p → IsCore q
+core_after p q e same goes core = (subst IsWithinLimits (sym same) core.0, e ∷ core.1, goes core.1 core.2)
 
 -- a part that shows the lists
-pub submission_shown : (p : Parts) (h : History) → FitsApart p h → ShowsSubmission p.shape p.submissions (world p.shape h).submission
+pub submission_shown : (p : Core) (h : History) → FitsApart p h → ShowsSubmission p.setup p.sq (world p.setup h).submission
 submission_shown p h f = f.shows.submission
 
-pub completions_shown : (p : Parts) (h : History) → FitsApart p h → ShowsCompletions p.shape p.completions (world p.shape h).completions
+pub completions_shown : (p : Core) (h : History) → FitsApart p h → ShowsCompletions p.setup p.completions (world p.setup h).completions
 completions_shown p h f = f.shows.completions
 
 -- A change of the submission ring alone, which leaves the open call and what it took as they were.
-pub on_submission : (p : Parts) (w : World) (q : SubmissionQueue) (l : Submission) → ShowsWorld p w → ShowsSubmission p.shape q l → l.call ≡ w.submission.call
-    → held_by l l.call ≡ held_by w.submission w.submission.call → ShowsWorld (record p { submissions = q }) (record w { submission = l })
+pub on_submission : (p : Core) (w : World) (q : Sq) (l : Submission) → ShowsWorld p w → ShowsSubmission p.setup q l → l.call ≡ w.submission.call
+    → held_by l l.call ≡ held_by w.submission w.submission.call → ShowsWorld (record p { sq = q }) (record w { submission = l })
 on_submission p w q l s shows call held = record {
   submission = shows;
   completions = s.completions;
@@ -43,26 +43,28 @@ on_submission p w q l s shows call held = record {
   held = s.held ∙ sym held;
   closed = s.closed;
   between = s.between;
-  room_to_post = subst (λ c. p.dispatcher.outstanding + positions_of c ≤ p.completions.room) (sym call) s.room_to_post;
-  room_to_accept = subst (λ c. positions_of c ≤ p.dispatcher.room) (sym call) s.room_to_accept;
-  numbers = subst (λ c. p.dispatcher.accepted + positions_of c ≤ 2 ^ 63 - 1) (sym call) s.numbers;
+  room_to_post = subst (λ c. p.dispatch.outstanding + positions_of c ≤ p.completions.room) (sym call) s.room_to_post;
+  room_to_accept = subst (λ c. positions_of c ≤ p.dispatch.room) (sym call) s.room_to_accept;
+  promised = s.promised;
+  numbers = subst (λ c. p.dispatch.accepted + positions_of c ≤ 2 ^ 63 - 1) (sym call) s.numbers;
   posts = s.posts;
 }
 
 -- A change of the completion ring alone, which posts nothing.
-pub on_completions : (p : Parts) (w : World) (q : CompletionQueue) (l : Completions) → ShowsWorld p w → ShowsCompletions p.shape q l → q.room ≡ p.completions.room
+pub on_completions : (p : Core) (w : World) (q : Cq) (l : Completions) → ShowsWorld p w → ShowsCompletions p.setup q l → q.room ≡ p.completions.room → KeepsMemory p.completions q
     → l.posted ≡ w.completions.posted → ShowsWorld (record p { completions = q }) (record w { completions = l })
-on_completions p w q l s shows room posted = record {
+on_completions p w q l s shows room memory posted = record {
   submission = s.submission;
   completions = shows;
   requests = s.requests;
   held = s.held;
   closed = s.closed;
   between = s.between;
-  room_to_post = subst (λ r. p.dispatcher.outstanding + positions_of w.submission.call ≤ r) (sym room) s.room_to_post;
+  room_to_post = subst (λ r. p.dispatch.outstanding + positions_of w.submission.call ≤ r) (sym room) s.room_to_post;
   room_to_accept = s.room_to_accept;
+  promised = memory.promised;
   numbers = s.numbers;
-  posts = subst (λ cs. length cs + p.dispatcher.outstanding ≤ p.dispatcher.accepted) (sym posted) s.posts;
+  posts = subst (λ cs. length cs + p.dispatch.outstanding ≤ p.dispatch.accepted) (sym posted) s.posts;
 }
 
 -- Fill.
@@ -71,129 +73,129 @@ told_if : {A B : Type 0} (f : A → B) (b : Bool) (x y : A) → f (cond b x y) �
 told_if f true x y = refl
 told_if f false x y = refl
 
-fill_same : (g : Shape) (w : World) (slot : ℕ) → fill_told (ring.fill_answer g.sq w.submission slot) ≡ fill_answer g w slot
+fill_same : (g : Setup) (w : World) (slot : ℕ) → fill_told (ring.fill_answer g.sq w.submission slot) ≡ fill_answer g w slot
 fill_same g w slot =
     elim (cases_lt slot g.sq) [
       | inl below ↦ rw (lt-ltb slot g.sq below, lt-leb g.sq slot below) (told_if fill_told (is_busy w.submission slot) fill.Busy fill.Filled)
       | inr above ↦ rw (le-ltb slot g.sq above, le-leb g.sq slot above) refl
     ]
 
-fill_shows : (p : Parts) (w : World) (q : SubmissionQueue) (slot : ℕ) (entry : Entry) (r : FillAnswer) → ShowsWorld p w → ShowsSubmission p.shape q (ring.after_fill w.submission slot entry r)
-    → ShowsWorld (record p { submissions = q }) (filling w slot entry (fill_told r))
-fill_shows p w q slot entry fill.Filled s shows = on_submission p w q (filled w.submission slot entry) s shows refl refl
+fill_shows : (p : Core) (w : World) (q : Sq) (slot : ℕ) (entry : Sqe) (r : FillAnswer) → ShowsWorld p w → ShowsSubmission p.setup q (ring.after_fill w.submission slot entry r)
+    → ShowsWorld (record p { sq = q }) (filling w slot entry (fill_told r))
+fill_shows p w q slot entry fill.Filled s shows = on_submission p w q (with_filled w.submission slot entry) s shows refl refl
 fill_shows p w q slot entry fill.NoSlot s shows = on_submission p w q w.submission s shows refl refl
 fill_shows p w q slot entry fill.Busy s shows = on_submission p w q w.submission s shows refl refl
 
-pub fill_goes : (p : Parts) (q : SubmissionQueue) (slot : ℕ) (entry : Entry) (r : FillAnswer)
-    → ((g : Shape) (l : Submission) → ShowsSubmission g p.submissions l → r ≡ ring.fill_answer g.sq l slot)
-    → ((g : Shape) (l : Submission) → ShowsSubmission g p.submissions l → ShowsSubmission g q (ring.after_fill l slot entry r))
-    → (h : History) → FitsApart p h → FitsApart (record p { submissions = q }) ((step.Fill slot entry, fill_told r) ∷ h)
+pub fill_goes : (p : Core) (q : Sq) (slot : ℕ) (entry : Sqe) (r : FillAnswer)
+    → ((g : Setup) (l : Submission) → ShowsSubmission g p.sq l → r ≡ ring.fill_answer g.sq l slot)
+    → ((g : Setup) (l : Submission) → ShowsSubmission g p.sq l → ShowsSubmission g q (ring.after_fill l slot entry r))
+    → (h : History) → FitsApart p h → FitsApart (record p { sq = q }) ((step.Fill slot entry, fill_told r) ∷ h)
 fill_goes p q slot entry r answered shown h f = record {
-  shows = fill_shows p (world p.shape h) q slot entry r f.shows (shown p.shape _ f.shows.submission);
-  lawful = (ap fill_told (answered p.shape _ f.shows.submission) ∙ fill_same p.shape (world p.shape h) slot, f.lawful);
+  shows = fill_shows p (world p.setup h) q slot entry r f.shows (shown p.setup _ f.shows.submission);
+  lawful = (ap fill_told (answered p.setup _ f.shows.submission) ∙ fill_same p.setup (world p.setup h) slot, f.lawful);
 }
 
 -- Index.
 
-index_shows : (p : Parts) (w : World) (q : SubmissionQueue) (word : ℕ) (r : IndexAnswer) → ShowsWorld p w → ShowsSubmission p.shape q (ring.after_index w.submission word r)
-    → ShowsWorld (record p { submissions = q }) (staging w word (index_told r))
-index_shows p w q word index.Staged s shows = on_submission p w q (indexed w.submission word) s shows refl (held_indexed w.submission word w.submission.call)
+index_shows : (p : Core) (w : World) (q : Sq) (word : ℕ) (r : IndexAnswer) → ShowsWorld p w → ShowsSubmission p.setup q (ring.after_index w.submission word r)
+    → ShowsWorld (record p { sq = q }) (staging w word (index_told r))
+index_shows p w q word index.Staged s shows = on_submission p w q (with_staged w.submission word) s shows refl (held_indexed w.submission word w.submission.call)
   where
-    held_indexed : (l : Submission) (word : ℕ) (c : Option Call) → held_by (indexed l word) c ≡ held_by l c
+    held_indexed : (l : Submission) (word : ℕ) (c : Option Call) → held_by (with_staged l word) c ≡ held_by l c
     held_indexed l word None = refl
     held_indexed l word (Some call) = refl
 index_shows p w q word index.Full s shows = on_submission p w q w.submission s shows refl refl
 
-pub index_goes : (p : Parts) (q : SubmissionQueue) (word : ℕ) (r : IndexAnswer)
-    → ((g : Shape) (l : Submission) → ShowsSubmission g p.submissions l → r ≡ ring.index_answer g.sq l)
-    → ((g : Shape) (l : Submission) → ShowsSubmission g p.submissions l → ShowsSubmission g q (ring.after_index l word r))
-    → (h : History) → FitsApart p h → FitsApart (record p { submissions = q }) ((step.Index word, index_told r) ∷ h)
+pub index_goes : (p : Core) (q : Sq) (word : ℕ) (r : IndexAnswer)
+    → ((g : Setup) (l : Submission) → ShowsSubmission g p.sq l → r ≡ ring.index_answer g.sq l)
+    → ((g : Setup) (l : Submission) → ShowsSubmission g p.sq l → ShowsSubmission g q (ring.after_index l word r))
+    → (h : History) → FitsApart p h → FitsApart (record p { sq = q }) ((step.Index word, index_told r) ∷ h)
 index_goes p q word r answered shown h f = record {
-  shows = index_shows p (world p.shape h) q word r f.shows (shown p.shape _ f.shows.submission);
-  lawful = (ap index_told (answered p.shape _ f.shows.submission) ∙ told_if index_told _ index.Full index.Staged, f.lawful);
+  shows = index_shows p (world p.setup h) q word r f.shows (shown p.setup _ f.shows.submission);
+  lawful = (ap index_told (answered p.setup _ f.shows.submission) ∙ told_if index_told _ index.Full index.Staged, f.lawful);
 }
 
 -- StoreTail and LoadHead.
 
 -- what a call took stays as more is published
-held_stored : (size : ℕ) (l : Submission) (c : Option Call) → IfSome c (λ call. (call.taken ≤ call.count) × (call.count ≤ pending l)) → taken l ≤ length l.published → held_by (stored size l) c ≡ held_by l c
+held_stored : (size : ℕ) (l : Submission) (c : Option Call) → IfSome c (λ call. (call.taken ≤ call.count) × (call.count ≤ pending l)) → taken l ≤ length l.published → held_by (with_published size l) c ≡ held_by l c
 held_stored size l None fits within = refl
 held_stored size l (Some call) fits within = ap entries_of (took_before (taken l) call.taken l.published _ (omega arith))
   where
     took_before : (n t : ℕ) (xs ys : List Place) → n + t ≤ length xs → take t (drop n (xs ++ ys)) ≡ take t (drop n xs)
     took_before n t xs ys within = grind (arith, common_steps)
 
-pub store_tail_goes : (p : Parts) (q : SubmissionQueue) (tail : ℕ)
-    → ((g : Shape) (l : Submission) → ShowsSubmission g p.submissions l → tail ≡ word_of g.start (staged l))
-    → ((g : Shape) (l : Submission) → ShowsSubmission g p.submissions l → ShowsSubmission g q (stored g.sq l))
-    → (h : History) → FitsApart p h → FitsApart (record p { submissions = q }) ((step.StoreTail, answer.Tail tail) ∷ h)
+pub store_tail_goes : (p : Core) (q : Sq) (tail : ℕ)
+    → ((g : Setup) (l : Submission) → ShowsSubmission g p.sq l → tail ≡ word_of g.start (staged l))
+    → ((g : Setup) (l : Submission) → ShowsSubmission g p.sq l → ShowsSubmission g q (with_published g.sq l))
+    → (h : History) → FitsApart p h → FitsApart (record p { sq = q }) ((step.StoreTail, answer.Tail tail) ∷ h)
 store_tail_goes p q tail answered shown h f =
     let s = f.shows.submission in
-    let l = (world p.shape h).submission in
+    let l = (world p.setup h).submission in
     record {
-      shows = on_submission p (world p.shape h) q (stored p.shape.sq l) f.shows (shown p.shape _ s) refl (held_stored p.shape.sq l l.call s.call_fits s.taken_first);
-      lawful = (ap (λ n. answer.Tail n) (answered p.shape _ s), f.lawful);
+      shows = on_submission p (world p.setup h) q (with_published p.setup.sq l) f.shows (shown p.setup _ s) refl (held_stored p.setup.sq l l.call s.call_fits s.taken_first);
+      lawful = (ap (λ n. answer.Tail n) (answered p.setup _ s), f.lawful);
     }
 
-pub load_head_goes : (p : Parts) (q : SubmissionQueue) (head : ℕ)
-    → ((g : Shape) (l : Submission) → ShowsSubmission g p.submissions l → head ≡ word_of g.start (taken l))
-    → ((g : Shape) (l : Submission) → ShowsSubmission g p.submissions l → ShowsSubmission g q (loaded l))
-    → (h : History) → FitsApart p h → FitsApart (record p { submissions = q }) ((step.LoadHead, answer.Head head) ∷ h)
+pub load_head_goes : (p : Core) (q : Sq) (head : ℕ)
+    → ((g : Setup) (l : Submission) → ShowsSubmission g p.sq l → head ≡ word_of g.start (taken l))
+    → ((g : Setup) (l : Submission) → ShowsSubmission g p.sq l → ShowsSubmission g q (with_head_loaded l))
+    → (h : History) → FitsApart p h → FitsApart (record p { sq = q }) ((step.LoadHead, answer.Head head) ∷ h)
 load_head_goes p q head answered shown h f =
     let s = f.shows.submission in
-    let l = (world p.shape h).submission in
+    let l = (world p.setup h).submission in
     record {
-      shows = on_submission p (world p.shape h) q (loaded l) f.shows (shown p.shape _ s) refl (held_loaded l l.call);
-      lawful = (ap (λ n. answer.Head n) (answered p.shape _ s), f.lawful);
+      shows = on_submission p (world p.setup h) q (with_head_loaded l) f.shows (shown p.setup _ s) refl (held_loaded l l.call);
+      lawful = (ap (λ n. answer.Head n) (answered p.setup _ s), f.lawful);
     }
   where
-    held_loaded : (l : Submission) (c : Option Call) → held_by (loaded l) c ≡ held_by l c
+    held_loaded : (l : Submission) (c : Option Call) → held_by (with_head_loaded l) c ≡ held_by l c
     held_loaded l None = refl
     held_loaded l (Some call) = refl
 
 -- Flush, LoadCqTail, Reap and StoreCqHead.
 
-pub flush_goes : (p : Parts) (q : CompletionQueue) (moved : ℕ)
-    → ((g : Shape) (l : Completions) → ShowsCompletions g p.completions l → moved ≡ (flushed g.cq l).put - l.put)
-    → ((g : Shape) (l : Completions) → ShowsCompletions g p.completions l → ShowsCompletions g q (flushed g.cq l))
-    → q.room ≡ p.completions.room
+pub flush_goes : (p : Core) (q : Cq) (moved : ℕ)
+    → ((g : Setup) (l : Completions) → ShowsCompletions g p.completions l → moved ≡ (with_flushed g.cq l).put - l.put)
+    → ((g : Setup) (l : Completions) → ShowsCompletions g p.completions l → ShowsCompletions g q (with_flushed g.cq l))
+    → q.room ≡ p.completions.room → KeepsMemory p.completions q
     → (h : History) → FitsApart p h → FitsApart (record p { completions = q }) ((step.Flush, answer.Moved moved) ∷ h)
-flush_goes p q moved answered shown room h f = record {
-  shows = on_completions p (world p.shape h) q (flushed p.shape.cq (world p.shape h).completions) f.shows (shown p.shape _ f.shows.completions) room refl;
-  lawful = (ap (λ n. answer.Moved n) (answered p.shape _ f.shows.completions), f.lawful);
+flush_goes p q moved answered shown room memory h f = record {
+  shows = on_completions p (world p.setup h) q (with_flushed p.setup.cq (world p.setup h).completions) f.shows (shown p.setup _ f.shows.completions) room memory refl;
+  lawful = (ap (λ n. answer.Moved n) (answered p.setup _ f.shows.completions), f.lawful);
 }
 
-pub load_cq_tail_goes : (p : Parts) (q : CompletionQueue) (tail : ℕ)
-    → ((g : Shape) (l : Completions) → ShowsCompletions g p.completions l → tail ≡ word_of g.start l.put)
-    → ((g : Shape) (l : Completions) → ShowsCompletions g p.completions l → ShowsCompletions g q (with_tail_loaded l))
-    → q.room ≡ p.completions.room
+pub load_cq_tail_goes : (p : Core) (q : Cq) (tail : ℕ)
+    → ((g : Setup) (l : Completions) → ShowsCompletions g p.completions l → tail ≡ word_of g.start l.put)
+    → ((g : Setup) (l : Completions) → ShowsCompletions g p.completions l → ShowsCompletions g q (with_tail_loaded l))
+    → q.room ≡ p.completions.room → KeepsMemory p.completions q
     → (h : History) → FitsApart p h → FitsApart (record p { completions = q }) ((step.LoadCqTail, answer.Tail tail) ∷ h)
-load_cq_tail_goes p q tail answered shown room h f = record {
-  shows = on_completions p (world p.shape h) q (with_tail_loaded (world p.shape h).completions) f.shows (shown p.shape _ f.shows.completions) room refl;
-  lawful = (ap (λ n. answer.Tail n) (answered p.shape _ f.shows.completions), f.lawful);
+load_cq_tail_goes p q tail answered shown room memory h f = record {
+  shows = on_completions p (world p.setup h) q (with_tail_loaded (world p.setup h).completions) f.shows (shown p.setup _ f.shows.completions) room memory refl;
+  lawful = (ap (λ n. answer.Tail n) (answered p.setup _ f.shows.completions), f.lawful);
 }
 
-reap_shows : (p : Parts) (w : World) (q : CompletionQueue) (r : Option Completion) → ShowsWorld p w → ShowsCompletions p.shape q (after_reap w.completions r) → q.room ≡ p.completions.room
+reap_shows : (p : Core) (w : World) (q : Cq) (r : Option Cqe) → ShowsWorld p w → ShowsCompletions p.setup q (after_reap w.completions r) → q.room ≡ p.completions.room → KeepsMemory p.completions q
     → ShowsWorld (record p { completions = q }) (reaping w (reap_answer_of r))
-reap_shows p w q None s shows room = on_completions p w q w.completions s shows room refl
-reap_shows p w q (Some completion) s shows room = on_completions p w q (with_reaped w.completions completion) s shows room refl
+reap_shows p w q None s shows room memory = on_completions p w q w.completions s shows room memory refl
+reap_shows p w q (Some completion) s shows room memory = on_completions p w q (with_reaped w.completions completion) s shows room memory refl
 
-pub reap_goes : (p : Parts) (q : CompletionQueue) (r : Option Completion)
-    → ((g : Shape) (l : Completions) → ShowsCompletions g p.completions l → r ≡ next_to_reap l)
-    → ((g : Shape) (l : Completions) → ShowsCompletions g p.completions l → ShowsCompletions g q (after_reap l r))
-    → q.room ≡ p.completions.room
+pub reap_goes : (p : Core) (q : Cq) (r : Option Cqe)
+    → ((g : Setup) (l : Completions) → ShowsCompletions g p.completions l → r ≡ next_to_reap l)
+    → ((g : Setup) (l : Completions) → ShowsCompletions g p.completions l → ShowsCompletions g q (after_reap l r))
+    → q.room ≡ p.completions.room → KeepsMemory p.completions q
     → (h : History) → FitsApart p h → FitsApart (record p { completions = q }) ((step.Reap, reap_answer_of r) ∷ h)
-reap_goes p q r answered shown room h f = record {
-  shows = reap_shows p (world p.shape h) q r f.shows (shown p.shape _ f.shows.completions) room;
-  lawful = (ap reap_answer_of (answered p.shape _ f.shows.completions), f.lawful);
+reap_goes p q r answered shown room memory h f = record {
+  shows = reap_shows p (world p.setup h) q r f.shows (shown p.setup _ f.shows.completions) room memory;
+  lawful = (ap reap_answer_of (answered p.setup _ f.shows.completions), f.lawful);
 }
 
-pub store_cq_head_goes : (p : Parts) (q : CompletionQueue) (head : ℕ)
-    → ((g : Shape) (l : Completions) → ShowsCompletions g p.completions l → head ≡ word_of g.start (length l.reaped))
-    → ((g : Shape) (l : Completions) → ShowsCompletions g p.completions l → ShowsCompletions g q (with_head_stored l))
-    → q.room ≡ p.completions.room
+pub store_cq_head_goes : (p : Core) (q : Cq) (head : ℕ)
+    → ((g : Setup) (l : Completions) → ShowsCompletions g p.completions l → head ≡ word_of g.start (length l.reaped))
+    → ((g : Setup) (l : Completions) → ShowsCompletions g p.completions l → ShowsCompletions g q (with_head_stored l))
+    → q.room ≡ p.completions.room → KeepsMemory p.completions q
     → (h : History) → FitsApart p h → FitsApart (record p { completions = q }) ((step.StoreCqHead, answer.Head head) ∷ h)
-store_cq_head_goes p q head answered shown room h f = record {
-  shows = on_completions p (world p.shape h) q (with_head_stored (world p.shape h).completions) f.shows (shown p.shape _ f.shows.completions) room refl;
-  lawful = (ap (λ n. answer.Head n) (answered p.shape _ f.shows.completions), f.lawful);
+store_cq_head_goes p q head answered shown room memory h f = record {
+  shows = on_completions p (world p.setup h) q (with_head_stored (world p.setup h).completions) f.shows (shown p.setup _ f.shows.completions) room memory refl;
+  lawful = (ap (λ n. answer.Head n) (answered p.setup _ f.shows.completions), f.lawful);
 }

@@ -4,30 +4,30 @@ use Rattle.std.proofs.Common.{◌≡◌, ℕ, zero, suc, ◌+◌, ◌-◌, ◌^�
 use Rattle.std.proofs.lemmas.Bool.{cases_Bool, eqb-false}
 use Rattle.std.proofs.lemmas.List.Elements.{filter_map-append}
 use Rattle.std.proofs.lemmas.Grind.{common_steps}
-use Rattle.uring_entry.specs.Shape.{Shape}
-use Rattle.uring_entry.specs.Layout.{Entry}
-use Rattle.uring_entry.specs.Submission.{Submission, Call, Place, taken, pending, staged, entries_of, took}
-use Rattle.uring_rings.specs.SubmissionRing.{SubmissionQueue, ShowsSubmission}
-use Rattle.uring_rings.specs.SubmissionAnswers as ring
+use Rattle.uring_entry.specs.Setup.{Setup}
+use Rattle.uring_entry.specs.Layout.{Sqe}
+use Rattle.uring_entry.specs.Submission.{Submission, Call, Place, taken, pending, staged, entries_of, with_taken}
+use Rattle.uring_rings.specs.Sq.{Sq, ShowsSubmission}
+use Rattle.uring_rings.specs.SqAnswers as ring
 use Rattle.uring_rings.specs.declared.answers.take_answer.TakeAnswer.{TakeAnswer}
 use Rattle.uring_rings.specs.declared.answers.take_answer.TakeAnswer.TheVariants as took_as
 use Rattle.uring_rings.proofs.Places.{places_more, entries_and_dropped}
 use Rattle.uring_machine.specs.World.{World, taking_of}
-use Rattle.uring_machine.specs.Answers.{take_answer_in}
+use Rattle.uring_machine.specs.StepAnswers.{take_answer_in}
 use Rattle.uring_machine.specs.Histories.{History, world}
-use Rattle.uring_machine.specs.Core.{Parts, ShowsWorld, FitsApart, held_by, positions_of}
-use Rattle.uring_machine.specs.declared.steps.Step.TheVariants as step
-use Rattle.uring_machine.specs.declared.answers.Answer.{Answer}
-use Rattle.uring_machine.specs.declared.answers.Answer.TheVariants as answer
+use Rattle.uring_machine.specs.Core.{Core, ShowsWorld, FitsApart, held_by, positions_of}
+use Rattle.uring_machine.specs.declared.step.Step.TheVariants as step
+use Rattle.uring_machine.specs.declared.answer.Answer.{Answer}
+use Rattle.uring_machine.specs.declared.answer.Answer.TheVariants as answer
 
 -- Take.
 
 -- an entry that was given is that of a place
-place_given : (o : Option Place) (entry : Entry) → took_as.Entry entry ≡ ring.given (option_and_then (λ place. place.entry) o) → (place : Place) × (o ≡ Some place) × (place.entry ≡ Some entry)
+place_given : (o : Option Place) (entry : Sqe) → took_as.Entry entry ≡ ring.given (option_and_then (λ place. place.entry) o) → (place : Place) × (o ≡ Some place) × (place.entry ≡ Some entry)
 place_given None entry e = absurd (let f : took_as.Entry entry ≡ took_as.Dropped = e in cc)
 place_given (Some place) entry e = (place, refl, entry_given place.entry entry e)
   where
-    entry_given : (o : Option Entry) (entry : Entry) → took_as.Entry entry ≡ ring.given o → o ≡ Some entry
+    entry_given : (o : Option Sqe) (entry : Sqe) → took_as.Entry entry ≡ ring.given o → o ≡ Some entry
     entry_given None entry e = absurd (let f : took_as.Entry entry ≡ took_as.Dropped = e in cc)
     entry_given (Some other) entry e = let f : took_as.Entry entry ≡ took_as.Entry other = e in cc
 
@@ -38,7 +38,7 @@ place_dropped (Some other) place is e =
     let same : other ≡ place = cc in
     ap (λ p. p.entry) (sym same) ∙ no_entry other.entry e
   where
-    no_entry : (o : Option Entry) → took_as.Dropped ≡ ring.given o → o ≡ None
+    no_entry : (o : Option Sqe) → took_as.Dropped ≡ ring.given o → o ≡ None
     no_entry None e = refl
     no_entry (Some entry) e = absurd (let f : took_as.Dropped ≡ took_as.Entry entry = e in cc)
 
@@ -48,7 +48,7 @@ held_more : (l : Submission) (call : Call) (place : Place) → slice_get l.publi
 held_more l call place is =
     ap entries_of (places_more l.published (taken l) call.taken place is) ∙ filter_map-append (λ p. p.entry) (take call.taken (drop (taken l) l.published)) (place ∷ [])
 
-one_entry : (place : Place) (entry : Entry) → place.entry ≡ Some entry → entries_of (place ∷ []) ≡ entry ∷ []
+one_entry : (place : Place) (entry : Sqe) → place.entry ≡ Some entry → entries_of (place ∷ []) ≡ entry ∷ []
 one_entry place entry e = simp e
 
 no_entries : (place : Place) → place.entry ≡ None → entries_of (place ∷ []) ≡ []
@@ -67,7 +67,7 @@ given_by : (l : Submission) (call : Call) (r : TakeAnswer) → r ≡ ring.take_i
 given_by l call r e more = e ∙ ap (λ b. cond b took_as.NoMore (ring.given (option_and_then (λ place. place.entry) (slice_get l.published (taken l + call.taken))))) more
 
 -- the machine answers as the ring does
-answered_entry : (w : World) (call : Call) (place : Place) (entry : Entry) → eqb call.taken call.count ≡ false → slice_get w.submission.published (taken w.submission + call.taken) ≡ Some place → place.entry ≡ Some entry
+answered_entry : (w : World) (call : Call) (place : Place) (entry : Sqe) → eqb call.taken call.count ≡ false → slice_get w.submission.published (taken w.submission + call.taken) ≡ Some place → place.entry ≡ Some entry
     → answer.Entry entry ≡ take_answer_in w (Some call)
 answered_entry w call place entry more is has = rw (more, is, has) refl
 
@@ -76,9 +76,9 @@ answered_dropped : (w : World) (call : Call) (place : Place) → eqb call.taken 
 answered_dropped w call place more is has = rw (more, is, has) refl
 
 -- the parts after a take, whatever was taken
-taken_shows : (p : Parts) (w : World) (q : SubmissionQueue) (call : Call) (held : List Entry) → ShowsWorld p w → w.submission.call ≡ Some call → ShowsSubmission p.shape q (took w.submission call)
+taken_shows : (p : Core) (w : World) (q : Sq) (call : Call) (held : List Sqe) → ShowsWorld p w → w.submission.call ≡ Some call → ShowsSubmission p.setup q (with_taken w.submission call)
     → held ≡ entries_of (take (call.taken + 1) (drop (taken w.submission) w.submission.published))
-    → ShowsWorld (record p { submissions = q; held = held }) (record w { submission = took w.submission call })
+    → ShowsWorld (record p { sq = q; held = held }) (record w { submission = with_taken w.submission call })
 taken_shows p w q call held s is shown holds = record {
   submission = shown;
   completions = s.completions;
@@ -86,19 +86,20 @@ taken_shows p w q call held s is shown holds = record {
   held = holds;
   closed = s.closed;
   between = s.between;
-  room_to_post = subst (λ c. p.dispatcher.outstanding + positions_of c ≤ p.completions.room) is s.room_to_post;
-  room_to_accept = subst (λ c. positions_of c ≤ p.dispatcher.room) is s.room_to_accept;
-  numbers = subst (λ c. p.dispatcher.accepted + positions_of c ≤ 2 ^ 63 - 1) is s.numbers;
+  room_to_post = subst (λ c. p.dispatch.outstanding + positions_of c ≤ p.completions.room) is s.room_to_post;
+  room_to_accept = subst (λ c. positions_of c ≤ p.dispatch.room) is s.room_to_accept;
+  promised = s.promised;
+  numbers = subst (λ c. p.dispatch.accepted + positions_of c ≤ 2 ^ 63 - 1) is s.numbers;
   posts = s.posts;
 }
 
 -- what a take shows and answers, by the call that is open
-pub record Takes (p : Parts) (w : World) (q : SubmissionQueue) (held : List Entry) (a : Answer) (c : Option Call) : Type 0 where
-  pub shows : ShowsWorld (record p { submissions = q; held = held }) (taking_of w c)
+pub record Takes (p : Core) (w : World) (q : Sq) (held : List Sqe) (a : Answer) (c : Option Call) : Type 0 where
+  pub shows : ShowsWorld (record p { sq = q; held = held }) (taking_of w c)
   pub answered : a ≡ take_answer_in w c
 
-take_entry : (p : Parts) (w : World) (q : SubmissionQueue) (entry : Entry) (c : Option Call) → ShowsWorld p w → w.submission.call ≡ c → took_as.Entry entry ≡ ring.take_in w.submission c
-    → ShowsSubmission p.shape q (ring.taken_on w.submission c) → Takes p w q (p.held ++ entry ∷ []) (answer.Entry entry) c
+take_entry : (p : Core) (w : World) (q : Sq) (entry : Sqe) (c : Option Call) → ShowsWorld p w → w.submission.call ≡ c → took_as.Entry entry ≡ ring.take_in w.submission c
+    → ShowsSubmission p.setup q (ring.taken_on w.submission c) → Takes p w q (p.held ++ entry ∷ []) (answer.Entry entry) c
 take_entry p w q entry None s is e shown = absurd (let f : took_as.Entry entry ≡ took_as.NoCall = e in cc)
 take_entry p w q entry (Some call) s is e shown =
     let more = not_all w.submission call (took_as.Entry entry) e (λ f. cc) in
@@ -124,8 +125,8 @@ pub some_call : (c : Option Call) (call : Call) (P : Call → Type 0) → c ≡ 
 some_call None call P is holds = cc
 some_call (Some other) call P is holds = let same : other ≡ call = cc in subst P same holds
 
-take_dropped : (p : Parts) (w : World) (q : SubmissionQueue) (c : Option Call) → ShowsWorld p w → w.submission.call ≡ c → took_as.Dropped ≡ ring.take_in w.submission c
-    → ShowsSubmission p.shape q (ring.taken_on w.submission c) → Takes p w q p.held answer.Dropped c
+take_dropped : (p : Core) (w : World) (q : Sq) (c : Option Call) → ShowsWorld p w → w.submission.call ≡ c → took_as.Dropped ≡ ring.take_in w.submission c
+    → ShowsSubmission p.setup q (ring.taken_on w.submission c) → Takes p w q p.held answer.Dropped c
 take_dropped p w q None s is e shown = absurd (let f : took_as.Dropped ≡ took_as.NoCall = e in cc)
 take_dropped p w q (Some call) s is e shown =
     let more = not_all w.submission call took_as.Dropped e (λ f. cc) in
@@ -138,25 +139,25 @@ take_dropped p w q (Some call) s is e shown =
       answered = answered_dropped w call place.0 more place.1 none;
     }
   where
-    nothing_more : (xs : List Entry) → xs ++ [] ≡ xs
+    nothing_more : (xs : List Sqe) → xs ++ [] ≡ xs
     nothing_more xs = grind (arith, common_steps)
 
-pub take_entry_goes : (p : Parts) (q : SubmissionQueue) (entry : Entry)
-    → ((g : Shape) (l : Submission) → ShowsSubmission g p.submissions l → took_as.Entry entry ≡ ring.take_answer l)
-    → ((g : Shape) (l : Submission) → ShowsSubmission g p.submissions l → ShowsSubmission g q (ring.after_take l (took_as.Entry entry)))
-    → (h : History) → FitsApart p h → FitsApart (record p { submissions = q; held = p.held ++ entry ∷ [] }) ((step.Take, answer.Entry entry) ∷ h)
+pub take_entry_goes : (p : Core) (q : Sq) (entry : Sqe)
+    → ((g : Setup) (l : Submission) → ShowsSubmission g p.sq l → took_as.Entry entry ≡ ring.take_answer l)
+    → ((g : Setup) (l : Submission) → ShowsSubmission g p.sq l → ShowsSubmission g q (ring.after_take l (took_as.Entry entry)))
+    → (h : History) → FitsApart p h → FitsApart (record p { sq = q; held = p.held ++ entry ∷ [] }) ((step.Take, answer.Entry entry) ∷ h)
 take_entry_goes p q entry answered shown h f =
-    let w = world p.shape h in
-    let t = take_entry p w q entry w.submission.call f.shows refl (answered p.shape w.submission f.shows.submission) (shown p.shape w.submission f.shows.submission) in
+    let w = world p.setup h in
+    let t = take_entry p w q entry w.submission.call f.shows refl (answered p.setup w.submission f.shows.submission) (shown p.setup w.submission f.shows.submission) in
     record { shows = t.shows; lawful = (t.answered, f.lawful) }
 
-pub take_dropped_goes : (p : Parts) (q : SubmissionQueue)
-    → ((g : Shape) (l : Submission) → ShowsSubmission g p.submissions l → took_as.Dropped ≡ ring.take_answer l)
-    → ((g : Shape) (l : Submission) → ShowsSubmission g p.submissions l → ShowsSubmission g q (ring.after_take l took_as.Dropped))
-    → (h : History) → FitsApart p h → FitsApart (record p { submissions = q }) ((step.Take, answer.Dropped) ∷ h)
+pub take_dropped_goes : (p : Core) (q : Sq)
+    → ((g : Setup) (l : Submission) → ShowsSubmission g p.sq l → took_as.Dropped ≡ ring.take_answer l)
+    → ((g : Setup) (l : Submission) → ShowsSubmission g p.sq l → ShowsSubmission g q (ring.after_take l took_as.Dropped))
+    → (h : History) → FitsApart p h → FitsApart (record p { sq = q }) ((step.Take, answer.Dropped) ∷ h)
 take_dropped_goes p q answered shown h f =
-    let w = world p.shape h in
-    let t = take_dropped p w q w.submission.call f.shows refl (answered p.shape w.submission f.shows.submission) (shown p.shape w.submission f.shows.submission) in
+    let w = world p.setup h in
+    let t = take_dropped p w q w.submission.call f.shows refl (answered p.setup w.submission f.shows.submission) (shown p.setup w.submission f.shows.submission) in
     record { shows = t.shows; lawful = (t.answered, f.lawful) }
 
 -- what a call took fits its positions
@@ -171,23 +172,23 @@ held_within l size None fits = omega arith
 held_within l size (Some call) fits = let k = few_entries (drop (taken l) l.published) call.taken in omega arith
 
 -- the dispatcher has room for what the open call took
-pub held_accepted : (p : Parts) (h : History) → FitsApart p h → length p.held ≤ p.dispatcher.room
+pub held_accepted : (p : Core) (h : History) → FitsApart p h → length p.held ≤ p.dispatch.room
 held_accepted p h f =
     let s = f.shows in
-    let l = (world p.shape h).submission in
-    let held = held_within l p.shape.sq l.call s.submission.call_fits in
+    let l = (world p.setup h).submission in
+    let held = held_within l p.setup.sq l.call s.submission.call_fits in
     let room = s.room_to_accept in
     let same : length p.held ≡ length (held_by l l.call) = ap length s.held in
     omega arith
 
 -- with a position left, fewer entries are held than the ring has
-pub held_has_room : (p : Parts) (h : History) (entry : Entry) → FitsApart p h → ((g : Shape) (l : Submission) → ShowsSubmission g p.submissions l → took_as.Entry entry ≡ ring.take_answer l) → length p.held < p.shape.sq
+pub held_has_room : (p : Core) (h : History) (entry : Sqe) → FitsApart p h → ((g : Setup) (l : Submission) → ShowsSubmission g p.sq l → took_as.Entry entry ≡ ring.take_answer l) → length p.held < p.setup.sq
 held_has_room p h entry f answered =
-    let w = world p.shape h in
+    let w = world p.setup h in
     let s = f.shows.submission in
-    subst (λ n. n < p.shape.sq) (sym (ap length f.shows.held)) (few w.submission p.shape.sq entry w.submission.call (answered p.shape w.submission s) s.call_fits s.seen_first s.taken_first s.few)
+    subst (λ n. n < p.setup.sq) (sym (ap length f.shows.held)) (few w.submission p.setup.sq entry w.submission.call (answered p.setup w.submission s) s.call_fits s.seen_first s.taken_first s.few)
   where
-    few : (l : Submission) (size : ℕ) (entry : Entry) (c : Option Call) → took_as.Entry entry ≡ ring.take_in l c → IfSome c (λ call. (call.taken ≤ call.count) × (call.count ≤ pending l))
+    few : (l : Submission) (size : ℕ) (entry : Sqe) (c : Option Call) → took_as.Entry entry ≡ ring.take_in l c → IfSome c (λ call. (call.taken ≤ call.count) × (call.count ≤ pending l))
         → l.seen_head ≤ taken l → taken l ≤ length l.published → staged l ≤ l.seen_head + size → length (held_by l c) < size
     few l size entry None e fits seen within room = absurd (let f : took_as.Entry entry ≡ took_as.NoCall = e in cc)
     few l size entry (Some call) e fits seen within room =

@@ -3,25 +3,25 @@ use Rattle.std.proofs.Common.{◌≡◌, ℕ, ◌+◌, ◌-◌, ◌<◌, ◌≤�
 use Rattle.std.proofs.lemmas.Bool.{cases_lt, lt-ltb, le-ltb}
 use Rattle.std.proofs.lemmas.List.{length-append, length-map, get_or_append_left, get_or-append_right, get_or-map}
 use Rattle.std.proofs.lemmas.Option.{slice_get_within, slice_get-get_or, get_or_from_slice_get}
-use Rattle.uring_entry.specs.Shape.{Shape}
-use Rattle.uring_entry.specs.Layout.{Entry}
+use Rattle.uring_entry.specs.Setup.{Setup}
+use Rattle.uring_entry.specs.Layout.{Sqe}
 use Rattle.uring_entry.specs.Submission.{Place, place_of}
 use Rattle.uring_machine.specs.Direct.{staged_by, is_store_tail, staged_words, published_words, slot_content, before_published, published_entry}
 use Rattle.uring_machine.specs.World.{World, happens, taking_of, ending_of}
 use Rattle.uring_machine.specs.Histories.{Event, History, world, IsLawfulApart}
-use Rattle.uring_machine.specs.declared.steps.Step.{Step}
-use Rattle.uring_machine.specs.declared.steps.Step.TheVariants as step
-use Rattle.uring_machine.specs.declared.answers.Answer.{Answer}
-use Rattle.uring_machine.specs.declared.answers.Answer.TheVariants as answer
+use Rattle.uring_machine.specs.declared.step.Step.{Step}
+use Rattle.uring_machine.specs.declared.step.Step.TheVariants as step
+use Rattle.uring_machine.specs.declared.answer.Answer.{Answer}
+use Rattle.uring_machine.specs.declared.answer.Answer.TheVariants as answer
 use Rattle.uring_machine.proofs.Changes.{Change, change_of, refuses, fills, stages, stores, loads, begins, takes, drops, closes, runs, dooms, cancels, finishes, flushes, sees_tail, reaps, stores_head, shuts}
 use Rattle.uring_machine.proofs.Telling.{told_same}
 use Rattle.uring_machine.proofs.DirectSubmission.{DirectSubmission, direct_submission}
 
-abbrev pub EntriesTold : Shape → History → World → Type 0
+abbrev pub EntriesTold : Setup → History → World → Type 0
 EntriesTold g h w = (k : ℕ) (p : Place) → slice_get w.submission.published k ≡ Some p → p.entry ≡ published_entry g.sq h k
 
 -- the entry of a word, as slots stood at this point
-abbrev entry_at : ℕ → ℕ → History → Option Entry
+abbrev entry_at : ℕ → ℕ → History → Option Sqe
 entry_at size word before = if nat_lt word size then Some (slot_content before word) else None
 
 entry_same : (size : ℕ) (e : Event) (h : History) (k : ℕ) → staged_by e ≡ None → is_store_tail e ≡ false → published_entry size (e ∷ h) k ≡ published_entry size h k
@@ -40,7 +40,7 @@ entry_staged size word h w d k within =
     let c = words_count h w d in
     ap (λ n. entry_at size n (before_published k h)) (get_or_append_left (staged_words h) (word ∷ []) 0 k (omega (arith, c.1)))
 
-entry_stored : (g : Shape) (tail : ℕ) (h : History) (w : World) → DirectSubmission h w → EntriesTold g h w → (k : ℕ) (p : Place)
+entry_stored : (g : Setup) (tail : ℕ) (h : History) (w : World) → DirectSubmission h w → EntriesTold g h w → (k : ℕ) (p : Place)
     → slice_get (w.submission.published ++ map (place_of g.sq w.submission.content) w.submission.fresh) k ≡ Some p → (k < length w.submission.published) ⊎ (length w.submission.published ≤ k)
     → p.entry ≡ published_entry g.sq ((step.StoreTail, answer.Tail tail) ∷ h) k
 entry_stored g tail h w d i k p at (inl low) =
@@ -63,7 +63,7 @@ entry_stored g tail h w d i k p at (inr high) =
     ∙ ap (λ x. entry_at g.sq x h) word_is
     ∙ ap (λ b. entry_at g.sq (get_or (staged_words h) k 0) (cond (not b) h (before_published k h))) (sym (le-ltb k (length (published_words h)) (omega (arith, c.0))))
 
-entries_direct : (g : Shape) (h : History) (w : World) (s : Step) (a : Answer) → Change g w s a → DirectSubmission h w → EntriesTold g h w → EntriesTold g ((s, a) ∷ h) (happens g w s a)
+entries_direct : (g : Setup) (h : History) (w : World) (s : Step) (a : Answer) → Change g w s a → DirectSubmission h w → EntriesTold g h w → EntriesTold g ((s, a) ∷ h) (happens g w s a)
 entries_direct g h w s a (refuses _ _ same silent) d i = subst (λ v. EntriesTold g ((s, a) ∷ h) v) (sym (same w)) (λ k p at. i k p at ∙ sym (entry_same g.sq (s, a) h k silent.stages silent.stores_tail))
 entries_direct g h w s a (fills slot entry free) d i = i
 entries_direct g h w s a (stages word room) d i = λ k p at. i k p at ∙ sym (entry_staged g.sq word h w d k (slice_get_within w.submission.published k p at))
@@ -83,7 +83,7 @@ entries_direct g h w s a (reaps completion next) d i = i
 entries_direct g h w s a (stores_head head) d i = i
 entries_direct g h w s a (shuts no_call) d i = i
 
-pub direct_places : (g : Shape) (h : History) → IsLawfulApart g h → EntriesTold g h (world g h)
+pub direct_places : (g : Setup) (h : History) → IsLawfulApart g h → EntriesTold g h (world g h)
 direct_places g [] lawful = λ k p at. absurd (let e : None ≡ Some p = at in cc)
 direct_places g ((s, a) ∷ before) lawful =
     entries_direct g before (world g before) s a (change_of g (world g before) s a lawful.0) (direct_submission g before lawful.1) (direct_places g before lawful.1)

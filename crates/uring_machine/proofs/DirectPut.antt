@@ -2,8 +2,8 @@
 use Rattle.std.proofs.Common.{◌≡◌, ℕ, ◌+◌, ◌-◌, ◌==◌, min, nat_lt, Bool, true, false, ◌&&◌, [], ◌∷◌, length, Some, None, is_some, if◌then◌else◌, cond, refl, sym, ap, ap₂, ◌∙◌}
 use Rattle.std.specs.List.{filter_map}
 use Rattle.std.specs.Option.{option_and_then}
-use Rattle.uring_entry.specs.Shape.{Shape}
-use Rattle.uring_entry.specs.Layout.{Completion, user_data_of}
+use Rattle.uring_entry.specs.Setup.{Setup}
+use Rattle.uring_entry.specs.Layout.{Cqe, user_data_of}
 use Rattle.uring_entry.specs.Success.{posts_completion}
 use Rattle.uring_entry.specs.Completions.{Completions, with_posted}
 use Rattle.uring_entry.specs.Requests.{entry_of, doomed_result, cancel_result, no_bytes}
@@ -11,28 +11,28 @@ use Rattle.uring_machine.specs.World.{happens, taking_of, ending_of}
 use Rattle.uring_machine.specs.Histories.{Event, History, world, IsLawfulApart}
 use Rattle.uring_machine.specs.Direct.{before_last, completion_of, stored_head, flushed_head}
 use Rattle.uring_machine.specs.HistoryLists.{posted_count, put_count}
-use Rattle.uring_machine.specs.declared.steps.Step.{Step}
-use Rattle.uring_machine.specs.declared.answers.Answer.{Answer}
+use Rattle.uring_machine.specs.declared.step.Step.{Step}
+use Rattle.uring_machine.specs.declared.answer.Answer.{Answer}
 use Rattle.uring_machine.proofs.Changes.{Change, change_of, refuses, fills, stages, stores, loads, begins, takes, drops, closes, runs, dooms, cancels, finishes, flushes, sees_tail, reaps, stores_head, shuts}
 use Rattle.uring_machine.proofs.DirectCompletions.{direct_completions}
 use Rattle.uring_machine.proofs.DirectRequests.{direct_requests}
 use Rattle.uring_machine.proofs.ToldRequests.{tells_requests}
 
 -- the counts that a put looks at, read off a history
-record PutFacts (g : Shape) (h : History) : Type 0 where
+record PutFacts (g : Setup) (h : History) : Type 0 where
   posted : length (world g h).completions.posted ≡ posted_count g h
   loaded : (world g h).completions.seen_head ≡ flushed_head h
   stored : (world g h).completions.head ≡ stored_head h
 
 -- how many are put once a completion is posted, or skipped
-end_put : (size : ℕ) (l : Completions) (told_so : Bool) (c : Completion) (there posted loaded : ℕ) → l.put ≡ there → length l.posted ≡ posted → l.seen_head ≡ loaded
+end_put : (size : ℕ) (l : Completions) (told_so : Bool) (c : Cqe) (there posted loaded : ℕ) → l.put ≡ there → length l.posted ≡ posted → l.seen_head ≡ loaded
     → (cond told_so (with_posted size l c) l).put ≡ (if is_some (cond told_so (Some c) None) && (there == posted) && nat_lt (there - loaded) size then there + 1 else there)
 end_put size l true c there posted loaded put_is posted_is loaded_is =
     ap (λ n. if (n == length l.posted) && nat_lt (n - l.seen_head) size then n + 1 else n) put_is
     ∙ ap₂ (λ n k. if (there == n) && nat_lt (there - k) size then there + 1 else there) posted_is loaded_is
 end_put size l false c there posted loaded put_is posted_is loaded_is = put_is
 
-put_direct : (g : Shape) (h : History) (s : Step) (a : Answer) → Change g (world g h) s a → PutFacts g h → (world g h).completions.put ≡ put_count g h → (happens g (world g h) s a).completions.put ≡ put_count g ((s, a) ∷ h)
+put_direct : (g : Setup) (h : History) (s : Step) (a : Answer) → Change g (world g h) s a → PutFacts g h → (world g h).completions.put ≡ put_count g h → (happens g (world g h) s a).completions.put ≡ put_count g ((s, a) ∷ h)
 put_direct g h s a (refuses _ _ same silent) f i = ap (λ v. v.completions.put) (same (world g h)) ∙ i ∙ sym (ap₂ (λ flush ending. if flush then min (posted_count g h) (stored_head h + g.cq) else (if is_some (option_and_then (completion_of (world g h).requests.accepted) ending) && (put_count g h == posted_count g h) && nat_lt (put_count g h - flushed_head h) g.cq then put_count g h + 1 else put_count g h)) silent.flushes silent.ends)
 put_direct g h s a (fills slot entry free) f i = i
 put_direct g h s a (stages word room) f i = i
@@ -52,7 +52,7 @@ put_direct g h s a (reaps completion next) f i = i
 put_direct g h s a (stores_head head) f i = i
 put_direct g h s a (shuts no_call) f i = i
 
-put_facts : (g : Shape) (h : History) → IsLawfulApart g h → PutFacts g h
+put_facts : (g : Setup) (h : History) → IsLawfulApart g h → PutFacts g h
 put_facts g h lawful =
     let d = direct_completions g h lawful in
     record {
@@ -61,12 +61,12 @@ put_facts g h lawful =
       stored = d.stored;
     }
 
-pub direct_put : (g : Shape) (h : History) → IsLawfulApart g h → (world g h).completions.put ≡ put_count g h
+pub direct_put : (g : Setup) (h : History) → IsLawfulApart g h → (world g h).completions.put ≡ put_count g h
 direct_put g [] lawful = refl
 direct_put g ((s, a) ∷ before) lawful = put_direct g before s a (change_of g (world g before) s a lawful.0) (put_facts g before lawful.1) (direct_put g before lawful.1)
 
 -- what stands before the last event of a kind is lawful
-pub lawful_last : (g : Shape) (is_kind : Event → Bool) (h : History) → IsLawfulApart g h → IsLawfulApart g (before_last is_kind h)
+pub lawful_last : (g : Setup) (is_kind : Event → Bool) (h : History) → IsLawfulApart g h → IsLawfulApart g (before_last is_kind h)
 lawful_last g is_kind [] lawful = tt
 lawful_last g is_kind ((s, a) ∷ before) lawful = by_kind (is_kind (s, a)) (lawful_last g is_kind before lawful.1) where
   by_kind : (here : Bool) → IsLawfulApart g (before_last is_kind before) → IsLawfulApart g (if here then before else before_last is_kind before)

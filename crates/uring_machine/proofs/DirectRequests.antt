@@ -5,8 +5,8 @@ use Rattle.std.proofs.lemmas.Bool.{or_left, or_right, eq-eqb}
 use Rattle.std.proofs.lemmas.List.{length-append, take-append-le, get_or_append_left}
 use Rattle.std.proofs.lemmas.List.Elements.{filter_map-append}
 use Rattle.std.proofs.lemmas.List.Sums.{sum_by_push, sum_by-cons}
-use Rattle.uring_entry.specs.Shape.{Shape}
-use Rattle.uring_entry.specs.Layout.{Entry, Completion, zero_entry, user_data_of}
+use Rattle.uring_entry.specs.Setup.{Setup}
+use Rattle.uring_entry.specs.Layout.{Sqe, Cqe, zero_entry, user_data_of}
 use Rattle.uring_entry.specs.Success.{posts_completion}
 use Rattle.uring_entry.specs.Submission.{Submission, taken, accepted, entries_of, places_from, place_of}
 use Rattle.uring_entry.specs.Completions.{Completions, with_posted, with_end}
@@ -14,10 +14,10 @@ use Rattle.uring_entry.specs.Requests.{Ending, doomed_result, cancel_result, no_
 use Rattle.uring_machine.specs.Direct.{accepted_by, closes_ring, told, sums_from, cut_counts, completion_of}
 use Rattle.uring_machine.specs.World.{World, happens, taking_of, ending_of}
 use Rattle.uring_machine.specs.Histories.{History, world, IsLawfulApart}
-use Rattle.uring_machine.specs.declared.steps.Step.{Step}
-use Rattle.uring_machine.specs.declared.steps.Step.TheVariants as step
-use Rattle.uring_machine.specs.declared.answers.Answer.{Answer}
-use Rattle.uring_machine.specs.declared.answers.Answer.TheVariants as answer
+use Rattle.uring_machine.specs.declared.step.Step.{Step}
+use Rattle.uring_machine.specs.declared.step.Step.TheVariants as step
+use Rattle.uring_machine.specs.declared.answer.Answer.{Answer}
+use Rattle.uring_machine.specs.declared.answer.Answer.TheVariants as answer
 use Rattle.uring_machine.proofs.Changes.{Change, change_of, refuses, fills, stages, stores, loads, begins, takes, drops, closes, runs, dooms, cancels, finishes, flushes, sees_tail, reaps, stores_head, shuts}
 use Rattle.uring_machine.proofs.Telling.{told_same}
 use Rattle.uring_machine.proofs.Sound.{IsSound, sound_of}
@@ -44,7 +44,7 @@ sums_push before (y ∷ xs) x =
     (sums_push (before + y) xs x ∙ ap (λ n. sums_from (before + y) xs ++ n ∷ []) (omega (arith, sum_by-cons (λ k. k) y xs)))
 
 -- the entries accepted later are those of no end so far
-same_posts : (accepted more : List Entry) (es : List Ending) → ((n : ℕ) → list_any (λ e. e.number == n) es ≡ true → n < length accepted) → filter_map (completion_of (accepted ++ more)) es ≡ filter_map (completion_of accepted) es
+same_posts : (accepted more : List Sqe) (es : List Ending) → ((n : ℕ) → list_any (λ e. e.number == n) es ≡ true → n < length accepted) → filter_map (completion_of (accepted ++ more)) es ≡ filter_map (completion_of accepted) es
 same_posts accepted more [] within = refl
 same_posts accepted more (e ∷ es) within =
     ap₂ cons_option
@@ -53,11 +53,11 @@ same_posts accepted more (e ∷ es) within =
     (same_posts accepted more es (λ n there. within n (or_right (e.number == n) _ there)))
 
 -- one end more
-posted_or_not : (size : ℕ) (l : Completions) (told_so : Bool) (c : Completion) → (cond told_so (with_posted size l c) l).posted ≡ l.posted ++ cons_option (cond told_so (Some c) None) []
+posted_or_not : (size : ℕ) (l : Completions) (told_so : Bool) (c : Cqe) → (cond told_so (with_posted size l c) l).posted ≡ l.posted ++ cons_option (cond told_so (Some c) None) []
 posted_or_not size l true c = refl
 posted_or_not size l false c = sym (append-nil l.posted)
 
-end_posted : (size : ℕ) (l : Completions) (accepted : List Entry) (es : List Ending) (e : Ending) → l.posted ≡ filter_map (completion_of accepted) es
+end_posted : (size : ℕ) (l : Completions) (accepted : List Sqe) (es : List Ending) (e : Ending) → l.posted ≡ filter_map (completion_of accepted) es
     → (with_end size l (get_or accepted e.number zero_entry) e.res e.bytes).posted ≡ filter_map (completion_of accepted) (es ++ e ∷ [])
 end_posted size l accepted es e posted =
     let entry = get_or accepted e.number zero_entry in
@@ -65,7 +65,7 @@ end_posted size l accepted es e posted =
     ∙ ap (λ xs. xs ++ cons_option (completion_of accepted e) []) posted
     ∙ sym (filter_map-append (completion_of accepted) es (e ∷ []))
 
-requests_direct : (g : Shape) (h : History) (w : World) (s : Step) (a : Answer) → Change g w s a → IsSound g w → DirectRequests h w → DirectRequests ((s, a) ∷ h) (happens g w s a)
+requests_direct : (g : Setup) (h : History) (w : World) (s : Step) (a : Answer) → Change g w s a → IsSound g w → DirectRequests h w → DirectRequests ((s, a) ∷ h) (happens g w s a)
 requests_direct g h w s a (refuses _ _ same silent) sound i = subst (λ v. DirectRequests ((s, a) ∷ h) v) (sym (same w)) (record { posted = i.posted; taken_in = i.taken_in; counted = ap sum (told_same accepted_by (s, a) h silent.accepts) ∙ i.counted; cuts = i.cuts ∙ ap (sums_from 0) (sym (told_same accepted_by (s, a) h silent.accepts)); shut = i.shut ∙ ap (λ b. b || list_any closes_ring h) (sym silent.shuts_none) })
 requests_direct g h w s a (fills slot entry free) sound i = record { posted = i.posted; taken_in = i.taken_in; counted = i.counted; cuts = i.cuts; shut = i.shut }
 requests_direct g h w s a (stages word room) sound i = record { posted = i.posted; taken_in = i.taken_in; counted = i.counted; cuts = i.cuts; shut = i.shut }
@@ -85,7 +85,7 @@ requests_direct g h w s a (reaps completion next) sound i = record { posted = i.
 requests_direct g h w s a (stores_head head) sound i = record { posted = i.posted; taken_in = i.taken_in; counted = i.counted; cuts = i.cuts; shut = i.shut }
 requests_direct g h w s a (shuts no_call) sound i = record { posted = i.posted; taken_in = i.taken_in; counted = i.counted; cuts = i.cuts; shut = refl }
 
-pub direct_requests : (g : Shape) (h : History) → IsLawfulApart g h → DirectRequests h (world g h)
+pub direct_requests : (g : Setup) (h : History) → IsLawfulApart g h → DirectRequests h (world g h)
 direct_requests g [] lawful = record { posted = refl; taken_in = refl; counted = refl; cuts = refl; shut = refl }
 direct_requests g ((s, a) ∷ before) lawful =
     requests_direct g before (world g before) s a (change_of g (world g before) s a lawful.0) (sound_of g before lawful.1) (direct_requests g before lawful.1)

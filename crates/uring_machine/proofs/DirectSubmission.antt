@@ -3,17 +3,17 @@ use Rattle.std.proofs.Common.{◌≡◌, ℕ, ◌+◌, ◌==◌, Bool, true, fal
 use Rattle.std.specs.Option.{option_or}
 use Rattle.std.proofs.lemmas.Bool.{eq-eqb, ne_eqb}
 use Rattle.std.proofs.lemmas.List.{length_push, map-append, take_at, get_or_push}
-use Rattle.uring_entry.specs.Shape.{Shape}
-use Rattle.uring_entry.specs.Layout.{Entry, zero_entry}
+use Rattle.uring_entry.specs.Setup.{Setup}
+use Rattle.uring_entry.specs.Layout.{Sqe, zero_entry}
 use Rattle.uring_entry.specs.Submission.{Call, place_of, call_length}
 use Rattle.uring_entry.specs.Requests.{doomed_result, cancel_result, no_bytes}
 use Rattle.uring_machine.specs.Direct.{filled_by, staged_by, takes_position, opens_call, opened_by, closes_call, is_store_tail, is_load_head, told, last_told, since_last, staged_words, published_words, slot_content, open_call, call_counts, taken_count, loaded_head}
 use Rattle.uring_machine.specs.World.{World, happens, taking_of, ending_of}
 use Rattle.uring_machine.specs.Histories.{Event, History, world, IsLawfulApart}
-use Rattle.uring_machine.specs.declared.steps.Step.{Step}
-use Rattle.uring_machine.specs.declared.steps.Step.TheVariants as step
-use Rattle.uring_machine.specs.declared.answers.Answer.{Answer}
-use Rattle.uring_machine.specs.declared.answers.Answer.TheVariants as answer
+use Rattle.uring_machine.specs.declared.step.Step.{Step}
+use Rattle.uring_machine.specs.declared.step.Step.TheVariants as step
+use Rattle.uring_machine.specs.declared.answer.Answer.{Answer}
+use Rattle.uring_machine.specs.declared.answer.Answer.TheVariants as answer
 use Rattle.uring_machine.proofs.Changes.{Change, change_of, refuses, fills, stages, stores, loads, begins, takes, drops, closes, runs, dooms, cancels, finishes, flushes, sees_tail, reaps, stores_head, shuts}
 use Rattle.uring_machine.proofs.Telling.{count_more, count_same, told_same, before_same}
 
@@ -44,11 +44,11 @@ same_since e h (Some call) other idle i =
     i ∙ sym (count_same takes_position e (since_last opens_call h) idle) ∙ ap (λ b. count_by takes_position (cond b [] (e ∷ since_last opens_call h))) (sym other)
 
 -- what a slot holds once one is filled
-fill_tells : (here : Bool) (entry : Entry) (last : Option Entry) → unwrap_or (option_or (if here then Some entry else None) last) zero_entry ≡ (if here then entry else unwrap_or last zero_entry)
+fill_tells : (here : Bool) (entry : Sqe) (last : Option Sqe) → unwrap_or (option_or (if here then Some entry else None) last) zero_entry ≡ (if here then entry else unwrap_or last zero_entry)
 fill_tells true entry last = refl
 fill_tells false entry last = refl
 
-words_of_places : (size : ℕ) (content : ℕ → Entry) (words : List ℕ) → map (λ p. p.word) (map (place_of size content) words) ≡ words
+words_of_places : (size : ℕ) (content : ℕ → Sqe) (words : List ℕ) → map (λ p. p.word) (map (place_of size content) words) ≡ words
 words_of_places size content [] = refl
 words_of_places size content (word ∷ words) = ap (λ xs. word ∷ xs) (words_of_places size content words)
 
@@ -56,7 +56,7 @@ words_of_places size content (word ∷ words) = ap (λ xs. word ∷ xs) (words_o
 own_calls : (h : History) (w : World) → told opened_by h ≡ w.submission.calls ++ open_counts w.submission.call → count_by closes_call h ≡ length w.submission.calls → call_counts h ≡ w.submission.calls
 own_calls h w opened closed = ap₂ (λ n xs. take n xs) closed opened ∙ take_at w.submission.calls (open_counts w.submission.call) (length w.submission.calls) refl
 
-submission_direct : (g : Shape) (h : History) (w : World) (s : Step) (a : Answer) → Change g w s a → DirectSubmission h w → DirectSubmission ((s, a) ∷ h) (happens g w s a)
+submission_direct : (g : Setup) (h : History) (w : World) (s : Step) (a : Answer) → Change g w s a → DirectSubmission h w → DirectSubmission ((s, a) ∷ h) (happens g w s a)
 submission_direct g h w s a (refuses _ _ same silent) i = subst (λ v. DirectSubmission ((s, a) ∷ h) v) (sym (same w)) (record { content = λ slot. i.content slot ∙ sym (ap (λ o. unwrap_or (option_or o (last_told (filled_by slot) h)) zero_entry) (silent.fills slot)); published = i.published ∙ ap staged_words (sym (before_same is_store_tail (s, a) h silent.stores_tail)); staged = ap (λ b. staged_words b ++ w.submission.fresh) (before_same is_store_tail (s, a) h silent.stores_tail) ∙ i.staged ∙ sym (told_same staged_by (s, a) h silent.stages); opened = told_same opened_by (s, a) h silent.opens ∙ i.opened; closed = count_same closes_call (s, a) h silent.closes ∙ i.closed; openings = count_same opens_call (s, a) h silent.opens_none ∙ i.openings; seen = i.seen ∙ ap taken_count (sym (before_same is_load_head (s, a) h silent.loads_head)); since = same_since (s, a) h w.submission.call silent.opens_none silent.takes i.since })
 submission_direct g h w s a (fills slot entry free) i = record { content = λ asked. ap (λ o. if asked == slot then entry else o) (i.content asked) ∙ sym (fill_tells (asked == slot) entry (last_told (filled_by asked) h)); published = i.published; staged = i.staged; opened = i.opened; closed = count_same closes_call (step.Fill slot entry, answer.Filled) h refl ∙ i.closed; openings = count_same opens_call (step.Fill slot entry, answer.Filled) h refl ∙ i.openings; seen = i.seen; since = same_since (step.Fill slot entry, answer.Filled) h w.submission.call refl refl i.since }
 submission_direct g h w s a (stages word room) i = record { content = i.content; published = i.published; staged = sym (append_assoc (published_words h) w.submission.fresh (word ∷ [])) ∙ ap (λ xs. xs ++ word ∷ []) i.staged; opened = i.opened; closed = count_same closes_call (step.Index word, answer.Staged) h refl ∙ i.closed; openings = count_same opens_call (step.Index word, answer.Staged) h refl ∙ i.openings; seen = i.seen; since = same_since (step.Index word, answer.Staged) h w.submission.call refl refl i.since }
@@ -76,7 +76,7 @@ submission_direct g h w s a (reaps completion next) i = record { content = i.con
 submission_direct g h w s a (stores_head head) i = record { content = i.content; published = i.published; staged = i.staged; opened = i.opened; closed = count_same closes_call (step.StoreCqHead, answer.Head head) h refl ∙ i.closed; openings = count_same opens_call (step.StoreCqHead, answer.Head head) h refl ∙ i.openings; seen = i.seen; since = same_since (step.StoreCqHead, answer.Head head) h w.submission.call refl refl i.since }
 submission_direct g h w s a (shuts no_call) i = record { content = i.content; published = i.published; staged = i.staged; opened = i.opened; closed = count_same closes_call (step.Close, answer.Shut) h refl ∙ i.closed; openings = count_same opens_call (step.Close, answer.Shut) h refl ∙ i.openings; seen = i.seen; since = same_since (step.Close, answer.Shut) h w.submission.call refl refl i.since }
 
-pub direct_submission : (g : Shape) (h : History) → IsLawfulApart g h → DirectSubmission h (world g h)
+pub direct_submission : (g : Setup) (h : History) → IsLawfulApart g h → DirectSubmission h (world g h)
 direct_submission g [] lawful = record { content = λ slot. refl; published = refl; staged = refl; opened = refl; closed = refl; openings = refl; seen = refl; since = tt }
 direct_submission g ((s, a) ∷ before) lawful = submission_direct g before (world g before) s a (change_of g (world g before) s a lawful.0) (direct_submission g before lawful.1)
 

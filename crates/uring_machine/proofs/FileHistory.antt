@@ -1,9 +1,11 @@
--- What an event makes of the files of a history.
+-- What an event makes of the files of a history: a Finish that ends its request does what its operation does (`files_ended`), and no other step changes a file (`files_kept`).
+-- From `Moves`: doomed requests end with a fault and cancels are on no file, so their ends change none.
+-- Stable: other crates may import `files_ended` and `files_kept`.
 use Rattle.std.proofs.Common.{◌≡◌, ℕ, ℤ, negsuc, ◌==◌, List, [], ◌∷◌, ◌++◌, Bool, true, false, if◌then◌else◌, refl, ◌∙◌, ap}
 use Rattle.std.specs.List.{list_any}
 use Rattle.std.proofs.lemmas.Bool.{or_left, or_right, eqb-true, eq-eqb}
-use Rattle.uring_entry.specs.Shape.{Shape}
-use Rattle.uring_entry.specs.Layout.{Entry, opcode_of, addr_of}
+use Rattle.uring_entry.specs.Setup.{Setup}
+use Rattle.uring_entry.specs.Layout.{Sqe, opcode_of, addr_of}
 use Rattle.uring_entry.specs.Preparation.{is_faulty, is_cancel, operation_of}
 use Rattle.uring_entry.specs.Requests.{Requests, Ending, entry_of, doomed_result, cancel_result, no_bytes, with_call, with_started, with_ended, with_issued_end}
 use Rattle.uring_entry.specs.declared.opcode.TheConstants.{NOP, FSYNC, ASYNC_CANCEL}
@@ -11,11 +13,11 @@ use Rattle.uring_entry.specs.declared.operation.Op.{Op}
 use Rattle.uring_entry.specs.declared.operation.Op.TheVariants.{Nop, Read, Write, Fsync, Cancel}
 use Rattle.uring_files.specs.Contents.{FileContents}
 use Rattle.uring_files.specs.Operations.{after}
-use Rattle.uring_machine.specs.Contents.{files_after, files_of}
+use Rattle.uring_machine.specs.CalledFor.{files_after, files_of}
 use Rattle.uring_machine.specs.Core.{IsNoFinish}
 use Rattle.uring_machine.specs.Histories.{History, world, IsLawfulApart}
-use Rattle.uring_machine.specs.declared.steps.Step.{Step}
-use Rattle.uring_machine.specs.declared.answers.Answer.{Answer}
+use Rattle.uring_machine.specs.declared.step.Step.{Step}
+use Rattle.uring_machine.specs.declared.answer.Answer.{Answer}
 use Rattle.uring_machine.proofs.Changes.{change_of}
 use Rattle.uring_machine.proofs.Moves.{Move, stays, accepts, starts, ends_doomed, ends_cancel, ends_run, move_of}
 use Rattle.uring_machine.proofs.Running.{entry_stays}
@@ -53,7 +55,7 @@ doomed_changes_none files r n = by_fault (is_faulty (entry_of r n)) where
 asks_cancel : (code target : ℕ) (sync other : Op) → code ≡ ASYNC_CANCEL → (if code == NOP then Nop else (if code == FSYNC then sync else (if code == ASYNC_CANCEL then Cancel target else other))) ≡ Cancel target
 asks_cancel code target sync other e = rw e refl
 
-cancel_changes_none : (files : List FileContents) (e : Entry) (res : ℤ) → is_cancel e ≡ true → after files (operation_of e) res ≡ files
+cancel_changes_none : (files : List FileContents) (e : Sqe) (res : ℤ) → is_cancel e ≡ true → after files (operation_of e) res ≡ files
 cancel_changes_none files e res cancel = ap (λ op. after files op res) (asks_cancel (opcode_of e) (addr_of e) _ _ (eqb-true _ _ cancel))
 
 -- what an end makes of the files
@@ -78,7 +80,7 @@ move_keeps r q s a files (ends_cancel n cancel) other i = issued_end r n (cancel
 move_keeps r q s a files (ends_run n res bytes) other i = absurd other
 
 -- a step but a finish leaves the files as they are
-pub files_kept : (g : Shape) (s : Step) (a : Answer) (before : History) → IsLawfulApart g ((s, a) ∷ before) → IsNoFinish s → files_of g (world g ((s, a) ∷ before)) ≡ files_of g (world g before)
+pub files_kept : (g : Setup) (s : Step) (a : Answer) (before : History) → IsLawfulApart g ((s, a) ∷ before) → IsNoFinish s → files_of g (world g ((s, a) ∷ before)) ≡ files_of g (world g before)
 files_kept g s a before lawful other =
     move_keeps (world g before).requests _ s a _ (move_of g (world g before) s a (change_of g (world g before) s a lawful.0) lawful.0) other
     (sound_of g before lawful.1).requests

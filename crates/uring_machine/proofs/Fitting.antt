@@ -1,6 +1,6 @@
 -- That a machine fits a history with one more event.
-use Rattle.std.proofs.Common.{◌≡◌, ℕ, List, ◌∷◌, Bool, true, false, Some, None, if◌then◌else◌, refl, sym, subst, ◌∙◌, ap}
-use Rattle.uring_entry.specs.Shape.{Shape}
+use Rattle.std.proofs.Common.{◌≡◌, ℕ, List, ◌∷◌, Bool, true, false, Option, Some, None, IfSome, if◌then◌else◌, refl, sym, subst, ◌∙◌, ap}
+use Rattle.uring_entry.specs.Setup.{Setup}
 use Rattle.uring_entry.specs.Preparation.{operation_of}
 use Rattle.uring_entry.specs.Requests.{Requests, entry_of, is_running, operation_running}
 use Rattle.uring_entry.specs.declared.operation.Op.{Op}
@@ -8,20 +8,20 @@ use Rattle.uring_entry.specs.declared.outcomes.Outcome.{Outcome}
 use Rattle.uring_files.specs.Contents.{FileContents}
 use Rattle.uring_files.specs.Operations.{after, IsOutcome, IsForFiles}
 use Rattle.uring_machine.specs.World.{World}
-use Rattle.uring_machine.specs.Answers.{CalledForApart, FinishesApart}
-use Rattle.uring_machine.specs.Contents.{CalledFor, IsLawful, EndsOn, files_of}
-use Rattle.uring_machine.specs.Core.{Parts, FitsApart, IsNoFinish, IsFinished}
+use Rattle.uring_machine.specs.StepAnswers.{CalledForApart, FinishesApart}
+use Rattle.uring_machine.specs.CalledFor.{CalledFor, IsLawful, EndsOn, files_of}
+use Rattle.uring_machine.specs.Core.{Core, FitsApart, IsCore, IsNoFinish, IsFinished}
 use Rattle.uring_machine.specs.Histories.{History, world}
 use Rattle.uring_machine.specs.Machine.{Fits}
-use Rattle.uring_machine.specs.declared.steps.Step.{Step}
-use Rattle.uring_machine.specs.declared.steps.Step.TheVariants as step
-use Rattle.uring_machine.specs.declared.answers.Answer.{Answer}
-use Rattle.uring_machine.specs.declared.answers.Answer.TheVariants as answer
+use Rattle.uring_machine.specs.declared.step.Step.{Step}
+use Rattle.uring_machine.specs.declared.step.Step.TheVariants as step
+use Rattle.uring_machine.specs.declared.answer.Answer.{Answer}
+use Rattle.uring_machine.specs.declared.answer.Answer.TheVariants as answer
 use Rattle.uring_machine.proofs.FileHistory.{files_kept, files_ended}
 use Rattle.uring_machine.proofs.Running.{running_asks}
 
 -- but for a finish, answers are called for as they are apart from files
-called_apart : (g : Shape) (w : World) (s : Step) (a : Answer) → IsNoFinish s → CalledForApart g w s a → CalledFor g w s a
+called_apart : (g : Setup) (w : World) (s : Step) (a : Answer) → IsNoFinish s → CalledForApart g w s a → CalledFor g w s a
 called_apart g w (step.Fill slot entry) a other called = called
 called_apart g w (step.Index word) a other called = called
 called_apart g w step.StoreTail a other called = called
@@ -39,10 +39,10 @@ called_apart g w step.Close a other called = called
 called_apart g w step.Next a other called = called
 
 -- the machine with another core of its shape
-pub step_fits : (core later : Parts) (files : List FileContents) (s : Step) (a : Answer) (h : History) → later.shape ≡ core.shape → IsNoFinish s
+pub step_fits : (core later : Core) (files : List FileContents) (s : Step) (a : Answer) (h : History) → later.setup ≡ core.setup → IsNoFinish s
     → Fits (record { core = core; files = files }) h → FitsApart later ((s, a) ∷ h) → Fits (record { core = later; files = files }) ((s, a) ∷ h)
 step_fits core later files s a h same other fits next =
-    let g : Shape = later.shape in
+    let g : Setup = later.setup in
     record {
       core = next;
       files = subst (λ k. files ≡ files_of k (world k h)) (sym same) fits.files ∙ sym (files_kept g s a h next.lawful other);
@@ -57,22 +57,22 @@ runs_with r n op e = by_running (is_running r n) e where
   by_running false f = absurd cc
 
 -- what runs can be asked of files
-pub asks_files : (core : Parts) (files : List FileContents) (n : ℕ) (op : Op) → ((h : History) × Fits (record { core = core; files = files }) h)
-    → ((h : History) → FitsApart core h → Some op ≡ operation_running (world core.shape h).requests n) → IsForFiles op
-asks_files core files n op some is =
-    let h : History = some.0 in
-    let fits = some.1 in
-    let r = runs_with (world core.shape h).requests n op (is h fits.core) in
-    subst IsForFiles (sym r.1) (running_asks core.shape h n fits.core.lawful r.0)
+pub asks_files : (core : Core) (n : ℕ) (r : Option Op) → IsCore core → ((h : History) → FitsApart core h → r ≡ operation_running (world core.setup h).requests n) → IfSome r IsForFiles
+asks_files core n None some is = tt
+asks_files core n (Some op) some is =
+    let h : History = some.1 in
+    let fits = some.2 in
+    let r = runs_with (world core.setup h).requests n op (is h fits) in
+    subst IsForFiles (sym r.1) (running_asks core.setup h n fits.lawful r.0)
 
 -- a running request ended
-pub finish_fits : (core later : Parts) (files : List FileContents) (n : ℕ) (op : Op) (outcome : Outcome) (left : List FileContents) (a : Answer) (h : History) → later.shape ≡ core.shape
-    → Fits (record { core = core; files = files }) h → Some op ≡ operation_running (world core.shape h).requests n
+pub finish_fits : (core later : Core) (files : List FileContents) (n : ℕ) (op : Op) (outcome : Outcome) (left : List FileContents) (a : Answer) (h : History) → later.setup ≡ core.setup
+    → Fits (record { core = core; files = files }) h → Some op ≡ operation_running (world core.setup h).requests n
     → IsOutcome files op outcome → left ≡ after files op outcome.res
-    → FitsApart later ((step.Finish n, a) ∷ h) → IsFinished (world core.shape h) n outcome a
+    → FitsApart later ((step.Finish n, a) ∷ h) → IsFinished (world core.setup h) n outcome a
     → Fits (record { core = later; files = left }) ((step.Finish n, a) ∷ h)
 finish_fits core later files n op outcome left a h same fits is allowed leaves next finished =
-    let g : Shape = core.shape in
+    let g : Setup = core.setup in
     let r : Requests = (world g h).requests in
     let runs = runs_with r n op is in
     let ends : a ≡ answer.Ended outcome.res outcome.bytes = finished ∙ ap (λ b. if b then answer.Ended outcome.res outcome.bytes else answer.NotRunning) runs.0 in
@@ -94,19 +94,19 @@ not_running op true e = absurd cc
 not_running op false e = refl
 
 -- a request that doesn't run is refused
-pub refusal_fits : (core : Parts) (files : List FileContents) (n : ℕ) (h : History) → Fits (record { core = core; files = files }) h → None ≡ operation_running (world core.shape h).requests n
+pub refusal_fits : (core : Core) (files : List FileContents) (n : ℕ) (h : History) → Fits (record { core = core; files = files }) h → None ≡ operation_running (world core.setup h).requests n
     → Fits (record { core = core; files = files }) ((step.Finish n, answer.NotRunning) ∷ h)
 refusal_fits core files n h fits is =
-    let w : World = world core.shape h in
+    let w : World = world core.setup h in
     let idle : is_running w.requests n ≡ false = not_running (operation_of (entry_of w.requests n)) (is_running w.requests n) is in
     record {
       core = record { shows = fits.core.shows; lawful = (subst (λ b. FinishesApart b answer.NotRunning) (sym idle) refl, fits.core.lawful) };
       files = fits.files;
-      lawful = (subst (λ b. EndsOn (files_of core.shape w) w.requests n b answer.NotRunning) (sym idle) refl, fits.lawful);
+      lawful = (subst (λ b. EndsOn (files_of core.setup w) w.requests n b answer.NotRunning) (sym idle) refl, fits.lawful);
     }
 
 -- an event of a fitted history was called for
-pub called_for : (g : Shape) (core : Parts) (files : List FileContents) (s : Step) (a : Answer) (h : History) → core.shape ≡ g → Fits (record { core = core; files = files }) ((s, a) ∷ h) → CalledFor g (world g h) s a
+pub called_for : (g : Setup) (core : Core) (files : List FileContents) (s : Step) (a : Answer) (h : History) → core.setup ≡ g → Fits (record { core = core; files = files }) ((s, a) ∷ h) → CalledFor g (world g h) s a
 called_for g core files s a h same fits = subst (λ k. CalledFor k (world k h) s a) same fits.lawful.0
 
 -- what isn't a Finish is no finish

@@ -1,20 +1,36 @@
--- Histories that steps follow, one by one.
-use Rattle.std.proofs.Common.{◌≡◌, ℕ, ◌+◌, ◌<◌, List, [], ◌∷◌, ◌++◌, length, take, get_or, refl, sym, ◌∙◌, arith}
-use Rattle.std.proofs.lemmas.List.{take_more, length-take-le}
-use Rattle.uring_machine.specs.Histories.{History, followed}
-use Rattle.uring_machine.specs.declared.steps.Step.{Step}
-use Rattle.uring_machine.specs.declared.answers.Answer.{Answer}
+-- Histories from events written oldest first: what `history_of` makes of a list with one event more, and of two lists.
+-- From std's lemmas on `reverse`. `follow_next` is one round of `run`.
+-- Stable: other crates may import `history_of-snoc`, `history_of-cons` and `history_of-append`.
+use Rattle.std.proofs.Common.{◌≡◌, ℕ, ◌+◌, ◌<◌, List, [], ◌∷◌, ◌++◌, length, take, get_or, refl, sym, ap, ◌∙◌, arith, append_assoc}
+use Rattle.std.specs.List.{zip}
+use Rattle.std.proofs.lemmas.List.{take_more, length-take-le, reverse-append}
+use Rattle.uring_machine.specs.Histories.{Event, History, history_of}
+use Rattle.uring_machine.specs.declared.step.Step.{Step}
+use Rattle.uring_machine.specs.declared.answer.Answer.{Answer}
 
--- the last step comes last
-pub followed_more : (h : History) (steps : List Step) (answers : List Answer) (s : Step) (a : Answer) → length steps ≡ length answers
-    → followed h (steps ++ s ∷ []) (answers ++ a ∷ []) ≡ (s, a) ∷ followed h steps answers
-followed_more h [] [] s a e = refl
-followed_more h [] (first ∷ answers) s a e = absurd (omega (arith, e))
-followed_more h (first ∷ steps) [] s a e = absurd (omega (arith, e))
-followed_more h (first ∷ steps) (answer ∷ answers) s a e = followed_more ((first, answer) ∷ h) steps answers s a (omega (arith, e))
+-- what happened last stands first
+pub history_of-snoc : (events : List Event) (e : Event) → history_of (events ++ e ∷ []) ≡ e ∷ history_of events
+history_of-snoc events e = reverse-append events (e ∷ [])
+
+-- what happened first stands right behind what was before
+pub history_of-cons : (e : Event) (events : List Event) (before : History) → history_of (e ∷ events) ++ before ≡ history_of events ++ e ∷ before
+history_of-cons e events before = ap (λ h. h ++ before) (reverse-append (e ∷ []) events) ∙ append_assoc (history_of events) (e ∷ []) before
+
+-- what happened later stands before what happened earlier
+pub history_of-append : (earlier later : List Event) (before : History) → history_of (earlier ++ later) ++ before ≡ history_of later ++ (history_of earlier ++ before)
+history_of-append earlier later before = ap (λ h. h ++ before) (reverse-append earlier later) ∙ append_assoc (history_of later) (history_of earlier) before
+
+-- the last step stands beside the last answer
+zip-snoc : (steps : List Step) (answers : List Answer) (s : Step) (a : Answer) → length steps ≡ length answers → zip (steps ++ s ∷ []) (answers ++ a ∷ []) ≡ zip steps answers ++ (s, a) ∷ []
+zip-snoc [] [] s a e = refl
+zip-snoc [] (first ∷ answers) s a e = absurd (omega (arith, e))
+zip-snoc (first ∷ steps) [] s a e = absurd (omega (arith, e))
+zip-snoc (first ∷ steps) (answer ∷ answers) s a e = ap (λ events. (first, answer) ∷ events) (zip-snoc steps answers s a (omega (arith, e)))
 
 -- one step more
 pub follow_next : (h : History) (steps : List Step) (i : ℕ) (answers pushed : List Answer) (s : Step) (a : Answer) → i < length steps → s ≡ get_or steps i s → length answers ≡ i → pushed ≡ answers ++ a ∷ []
-    → followed h (take (i + 1) steps) pushed ≡ (s, a) ∷ followed h (take i steps) answers
+    → history_of (zip (take (i + 1) steps) pushed) ++ h ≡ (s, a) ∷ (history_of (zip (take i steps) answers) ++ h)
 follow_next h steps i answers pushed s a lt at many more =
-    rw (take_more steps i s lt, ← at, more) (followed_more h (take i steps) answers s a (length-take-le i steps (omega arith) ∙ sym many))
+    rw (take_more steps i s lt, ← at, more)
+    (ap (λ events. history_of events ++ h) (zip-snoc (take i steps) answers s a (length-take-le i steps (omega arith) ∙ sym many))
+    ∙ ap (λ k. k ++ h) (history_of-snoc (zip (take i steps) answers) (s, a)))

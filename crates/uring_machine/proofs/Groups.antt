@@ -5,7 +5,7 @@ use Rattle.std.specs.Ordering.{int_eq}
 use Rattle.uring_entry.specs.declared.errno.TheConstants.{EINVAL, ECANCELED}
 use Rattle.std.proofs.lemmas.Bool.{and_left, or_right, eq-eqb, ne_eqb}
 use Rattle.std.proofs.lemmas.List.{length-append, get_or_append_left}
-use Rattle.uring_entry.specs.Layout.{Entry, zero_entry}
+use Rattle.uring_entry.specs.Layout.{Sqe, zero_entry}
 use Rattle.uring_entry.specs.Success.{is_success}
 use Rattle.uring_entry.specs.Preparation.{is_faulty}
 use Rattle.uring_entry.specs.Requests.{Requests, entry_of, has_failed, is_soft, is_last, is_linked, is_joined, is_in_group, some_member, is_in_faulty_group, is_behind_failure, is_cancelled, is_doomed, with_call}
@@ -14,7 +14,7 @@ use Rattle.uring_entry.proofs.RequestLemmas.{is_joined-no}
 use Rattle.uring_machine.proofs.SoundRequests.{IsSoundRequests, IsFree, EndsDoomed}
 use Rattle.uring_machine.proofs.ListCounts.{any_kept, any_push}
 
-module _ (r : Requests) (entries : List Entry) (cut : (length r.accepted ≡ 0) ⊎ (list_any (λ c. c == length r.accepted) r.cuts ≡ true)) where
+module _ (r : Requests) (entries : List Sqe) (cut : (length r.accepted ≡ 0) ⊎ (list_any (λ c. c == length r.accepted) r.cuts ≡ true)) where
   pub longer : length r.accepted ≤ length (with_call r entries).accepted
   longer = omega (arith, length-append r.accepted entries)
 
@@ -52,7 +52,7 @@ module _ (r : Requests) (entries : List Entry) (cut : (length r.accepted ≡ 0) 
   group_apart : (m n : ℕ) → length r.accepted ≤ m → n < length r.accepted → is_in_group (with_call r entries) m n ≡ false
   group_apart m n le below = apart (min m n) (max m n) (omega arith) (omega arith)
 
-  pub member_kept : (p : Entry → Bool) (n : ℕ) → n < length r.accepted → some_member (with_call r entries) p n ≡ some_member r p n
+  pub member_kept : (p : Sqe → Bool) (n : ℕ) → n < length r.accepted → some_member (with_call r entries) p n ≡ some_member r p n
   unfolding some_member
   member_kept p n below =
       some_below-between (λ m. is_in_group (with_call r entries) m n && p (entry_of (with_call r entries) m)) (length r.accepted) (length (with_call r entries).accepted) longer

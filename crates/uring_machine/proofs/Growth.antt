@@ -1,13 +1,15 @@
--- What stays of the requests as a history goes on.
+-- What stays of the requests as a history goes on: those accepted by then keep their entries and groups, and the doomed stay doomed.
+-- By `Change`, event by event (`event_grows`), and over a history by induction (`grows`).
+-- Stable: other crates may import `Grows` with its fields, as `same_entry`, and `event_grows`, `grows`, `lawful_before`.
 use Rattle.std.proofs.Common.{◌≡◌, ℕ, ◌<◌, ◌≤◌, ℤ, true, List, [], ◌∷◌, ◌++◌, length, refl, sym, subst, ◌∙◌, ◌⊎◌, inl, inr, arith}
-use Rattle.uring_entry.specs.Shape.{Shape}
-use Rattle.uring_entry.specs.Layout.{Entry}
+use Rattle.uring_entry.specs.Setup.{Setup}
+use Rattle.uring_entry.specs.Layout.{Sqe}
 use Rattle.uring_entry.specs.Submission.{entries_of, places_from}
 use Rattle.uring_entry.specs.Requests.{Requests, entry_of, is_joined, is_draining, is_drain, some_member, is_doomed, is_cancelled, doomed_result, cancel_result, with_call, with_started}
 use Rattle.uring_machine.specs.World.{World, happens, taking_of, ending_of}
 use Rattle.uring_machine.specs.Histories.{History, world, IsLawfulApart}
-use Rattle.uring_machine.specs.declared.steps.Step.{Step}
-use Rattle.uring_machine.specs.declared.answers.Answer.{Answer}
+use Rattle.uring_machine.specs.declared.step.Step.{Step}
+use Rattle.uring_machine.specs.declared.answer.Answer.{Answer}
 use Rattle.uring_machine.proofs.Changes.{Change, change_of, refuses, fills, stages, stores, loads, begins, takes, drops, closes, runs, dooms, cancels, finishes, flushes, sees_tail, reaps, stores_head, shuts}
 use Rattle.uring_machine.proofs.RequestEnds.{IsChoice, ended_as, end_doom, end_join, choice_of, no_choice}
 use Rattle.uring_entry.proofs.EventLemmas.{is_doomed-started, is_joined-started, is_draining-started}
@@ -58,7 +60,7 @@ end_grows r n res bytes cancelled choice =
       stays_doomed = λ m lt e. end_doom r n res bytes cancelled choice m e;
     }
 
-call_grows : (r : Requests) (entries : List Entry) → (length r.accepted ≡ 0) ⊎ (list_any (λ c. c == length r.accepted) r.cuts ≡ true) → Grows r (with_call r entries)
+call_grows : (r : Requests) (entries : List Sqe) → (length r.accepted ≡ 0) ⊎ (list_any (λ c. c == length r.accepted) r.cuts ≡ true) → Grows r (with_call r entries)
 call_grows r entries cut =
     record {
       longer_then = longer r entries cut;
@@ -69,7 +71,7 @@ call_grows r entries cut =
       stays_doomed = λ n lt e. doom_kept r entries cut n lt ∙ e;
     }
 
-change_grows : (g : Shape) (w : World) (s : Step) (a : Answer) → Change g w s a → (length w.requests.accepted ≡ 0) ⊎ (list_any (λ c. c == length w.requests.accepted) w.requests.cuts ≡ true) → Grows w.requests (happens g w s a).requests
+change_grows : (g : Setup) (w : World) (s : Step) (a : Answer) → Change g w s a → (length w.requests.accepted ≡ 0) ⊎ (list_any (λ c. c == length w.requests.accepted) w.requests.cuts ≡ true) → Grows w.requests (happens g w s a).requests
 change_grows g w s a (refuses _ _ same silent) cut = subst (λ v. Grows w.requests v.requests) (sym (same w)) (same_grows w.requests)
 change_grows g w s a (fills slot entry free) cut = same_grows w.requests
 change_grows g w s a (stages word room) cut = same_grows w.requests
@@ -89,15 +91,15 @@ change_grows g w s a (reaps completion next) cut = same_grows w.requests
 change_grows g w s a (stores_head head) cut = same_grows w.requests
 change_grows g w s a (shuts no_call) cut = same_grows w.requests
 
-pub event_grows : (g : Shape) (s : Step) (a : Answer) (before : History) → IsLawfulApart g ((s, a) ∷ before) → Grows (world g before).requests (world g ((s, a) ∷ before)).requests
+pub event_grows : (g : Setup) (s : Step) (a : Answer) (before : History) → IsLawfulApart g ((s, a) ∷ before) → Grows (world g before).requests (world g ((s, a) ∷ before)).requests
 event_grows g s a before lawful = change_grows g (world g before) s a (change_of g (world g before) s a lawful.0) (sound_of g before lawful.1).requests.cut_at_end
 
-pub grows : (g : Shape) (after before : History) → IsLawfulApart g (after ++ before) → Grows (world g before).requests (world g (after ++ before)).requests
+pub grows : (g : Setup) (after before : History) → IsLawfulApart g (after ++ before) → Grows (world g before).requests (world g (after ++ before)).requests
 grows g [] before lawful = same_grows (world g before).requests
 grows g ((s, a) ∷ after) before lawful =
     then_grows (world g before).requests (world g (after ++ before)).requests (world g ((s, a) ∷ after ++ before)).requests (grows g after before lawful.1) (event_grows g s a (after ++ before) lawful)
 
 -- what a history is made of is lawful
-pub lawful_before : (g : Shape) (after before : History) → IsLawfulApart g (after ++ before) → IsLawfulApart g before
+pub lawful_before : (g : Setup) (after before : History) → IsLawfulApart g (after ++ before) → IsLawfulApart g before
 lawful_before g [] before lawful = lawful
 lawful_before g ((s, a) ∷ after) before lawful = lawful_before g after before lawful.1

@@ -32,3 +32,9 @@ pub mod Outstanding
 pub mod Numbers
 pub mod Settling
 pub mod WholeLaws
+pub mod FilesApart
+pub mod FileLaws
+pub mod PublishedItems
+pub mod Standing
+pub mod WholeCalls
+mod WorkedHistory

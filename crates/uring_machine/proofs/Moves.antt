@@ -1,21 +1,21 @@
 -- What an event makes of the requests, each with what is known of it because its answer was called for.
 use Rattle.std.proofs.Common.{◌≡◌, ℕ, ℤ, Bool, true, false, not, List, if◌then◌else◌, refl, sym, subst}
-use Rattle.uring_entry.specs.Shape.{Shape}
-use Rattle.uring_entry.specs.Layout.{Entry}
+use Rattle.uring_entry.specs.Setup.{Setup}
+use Rattle.uring_entry.specs.Layout.{Sqe}
 use Rattle.uring_entry.specs.Preparation.{is_cancel}
 use Rattle.uring_entry.specs.Submission.{entries_of, places_from}
 use Rattle.uring_entry.specs.Requests.{Requests, entry_of, is_outstanding, is_running, is_doomed, is_ready, doomed_result, cancel_result, no_bytes, with_call, with_started, with_ended, with_issued_end}
 use Rattle.uring_machine.specs.World.{World, happens, taking_of, ending_of}
-use Rattle.uring_machine.specs.Answers.{CalledForApart}
-use Rattle.uring_machine.specs.declared.steps.Step.{Step}
-use Rattle.uring_machine.specs.declared.steps.Step.TheVariants as step
-use Rattle.uring_machine.specs.declared.answers.Answer.{Answer}
-use Rattle.uring_machine.specs.declared.answers.Answer.TheVariants as answer
+use Rattle.uring_machine.specs.StepAnswers.{CalledForApart}
+use Rattle.uring_machine.specs.declared.step.Step.{Step}
+use Rattle.uring_machine.specs.declared.step.Step.TheVariants as step
+use Rattle.uring_machine.specs.declared.answer.Answer.{Answer}
+use Rattle.uring_machine.specs.declared.answer.Answer.TheVariants as answer
 use Rattle.uring_machine.proofs.Changes.{Change, refuses, fills, stages, stores, loads, begins, takes, drops, closes, runs, dooms, cancels, finishes, flushes, sees_tail, reaps, stores_head, shuts}
 
 pub data Move (r : Requests) : Step → Answer → Requests → Type 0 where
   stays : (s : Step) (a : Answer) → Move r s a r
-  accepts : (s : Step) (a : Answer) (entries : List Entry) → Move r s a (with_call r entries)
+  accepts : (s : Step) (a : Answer) (entries : List Sqe) → Move r s a (with_call r entries)
   starts : (n : ℕ) → is_cancel (entry_of r n) ≡ false → Move r (step.Issue n) answer.Run (with_started r n)
   ends_doomed : (n : ℕ) → Move r (step.Issue n) (answer.Ended (doomed_result r n) no_bytes) (with_issued_end r n (doomed_result r n))
   ends_cancel : (n : ℕ) → is_cancel (entry_of r n) ≡ true → Move r (step.Issue n) (answer.Ended (cancel_result r n) no_bytes) (with_issued_end r n (cancel_result r n))
@@ -32,7 +32,7 @@ run_no_cancel true false true ready true as_doomed as_cancel e = absurd cc
 run_no_cancel true false false false true as_doomed as_cancel e = absurd cc
 run_no_cancel true false false true true as_doomed as_cancel e = absurd cc
 
-pub move_of : (g : Shape) (w : World) (s : Step) (a : Answer) → Change g w s a → CalledForApart g w s a → Move w.requests s a (happens g w s a).requests
+pub move_of : (g : Setup) (w : World) (s : Step) (a : Answer) → Change g w s a → CalledForApart g w s a → Move w.requests s a (happens g w s a).requests
 move_of g w s a (refuses _ _ same silent) called = subst (λ v. Move w.requests s a v.requests) (sym (same w)) (stays s a)
 move_of g w s a (fills slot entry free) called = stays _ _
 move_of g w s a (stages word room) called = stays _ _

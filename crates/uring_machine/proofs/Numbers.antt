@@ -2,17 +2,17 @@
 use Rattle.std.proofs.Common.{◌≡◌, ℕ, ◌+◌, ◌-◌, ◌^◌, ◌≤◌, Bool, true, false, [], ◌∷◌, length, drop, is_some, if◌then◌else◌, refl, sym, subst, arith}
 use Rattle.std.proofs.lemmas.Bool.{ltb-false}
 use Rattle.std.proofs.lemmas.List.{length-append, length-take}
-use Rattle.uring_entry.specs.Shape.{Shape}
+use Rattle.uring_entry.specs.Setup.{Setup}
 use Rattle.uring_entry.specs.Submission.{Call, taken, call_length, entries_of, places_from}
 use Rattle.uring_entry.specs.Requests.{is_outstanding, outstanding_in}
 use Rattle.uring_rings.proofs.Places.{entries_and_dropped}
 use Rattle.uring_machine.specs.World.{World, happens, taking_of, ending_of}
-use Rattle.uring_machine.specs.Answers.{CalledForApart, OrAgain, is_spent}
+use Rattle.uring_machine.specs.StepAnswers.{CalledForApart, OrAgain, is_spent}
 use Rattle.uring_machine.specs.Core.{positions_of}
 use Rattle.uring_machine.specs.Histories.{History, world, IsLawfulApart}
-use Rattle.uring_machine.specs.declared.steps.Step.{Step}
-use Rattle.uring_machine.specs.declared.answers.Answer.{Answer}
-use Rattle.uring_machine.specs.declared.answers.Answer.TheVariants as answer
+use Rattle.uring_machine.specs.declared.step.Step.{Step}
+use Rattle.uring_machine.specs.declared.answer.Answer.{Answer}
+use Rattle.uring_machine.specs.declared.answer.Answer.TheVariants as answer
 use Rattle.uring_machine.proofs.Changes.{Change, change_of, refuses, fills, stages, stores, loads, begins, takes, drops, closes, runs, dooms, cancels, finishes, flushes, sees_tail, reaps, stores_head, shuts}
 use Rattle.uring_machine.proofs.Outstanding.{count_below-few}
 
@@ -32,7 +32,7 @@ few_entries : (w : World) (call : Call) → length (entries_of (places_from w.su
 few_entries w call =
     omega (arith, entries_and_dropped (places_from w.submission call.count), length-take call.count (drop (taken w.submission) w.submission.published))
 
-few_kept : (g : Shape) (w : World) (s : Step) (a : Answer) → Change g w s a → CalledForApart g w s a → AreFew w → AreFew (happens g w s a)
+few_kept : (g : Setup) (w : World) (s : Step) (a : Answer) → Change g w s a → CalledForApart g w s a → AreFew w → AreFew (happens g w s a)
 few_kept g w s a (refuses _ _ same silent) called i = subst AreFew (sym (same w)) i
 few_kept g w s a (fills slot entry free) called i = i
 few_kept g w s a (stages word room) called i = i
@@ -57,10 +57,10 @@ few_kept g w s a (reaps completion next) called i = i
 few_kept g w s a (stores_head head) called i = i
 few_kept g w s a (shuts no_call) called i = i
 
-few_accepted : (g : Shape) (h : History) → IsLawfulApart g h → AreFew (world g h)
+few_accepted : (g : Setup) (h : History) → IsLawfulApart g h → AreFew (world g h)
 few_accepted g [] lawful = omega arith
 few_accepted g ((s, a) ∷ before) lawful = few_kept g (world g before) s a (change_of g (world g before) s a lawful.0) lawful.0 (few_accepted g before lawful.1)
 
 -- fewer than 2 ^ 63 are outstanding
-pub few_outstanding : (g : Shape) (h : History) → IsLawfulApart g h → outstanding_in (world g h).requests ≤ 2 ^ 63 - 1
+pub few_outstanding : (g : Setup) (h : History) → IsLawfulApart g h → outstanding_in (world g h).requests ≤ 2 ^ 63 - 1
 few_outstanding g h lawful = omega (arith, few_accepted g h lawful, count_below-few (is_outstanding (world g h).requests) (length (world g h).requests.accepted))

@@ -5,18 +5,18 @@ use Rattle.std.proofs.lemmas.Bool.{and_cases, and_from, both_ways, not-false, eq
 use Rattle.std.proofs.lemmas.Bool.Decides.{Decides-int_eq}
 use Rattle.std.proofs.lemmas.List.Folds.{list_any_at}
 use Rattle.std.proofs.lemmas.Option.{slice_get_within, get_or_from_slice_get}
-use Rattle.uring_entry.specs.Shape.{Shape, IsShape}
+use Rattle.uring_entry.specs.Setup.{Setup}
 use Rattle.uring_entry.specs.declared.errno.TheConstants.{EALREADY, ECANCELED}
 use Rattle.uring_entry.specs.Requests.{Requests, Ending, has_started, has_ended, is_joined, is_draining, is_doomed, is_ready, is_running, waits_for, doomed_result, cancel_result, result_for, target_of}
 use Rattle.uring_entry.proofs.RequestLemmas.{is_ready-inside}
 use Rattle.uring_machine.specs.World.{World}
-use Rattle.uring_machine.specs.Answers.{IsEnded}
+use Rattle.uring_machine.specs.StepAnswers.{IsEnded}
 use Rattle.uring_machine.specs.Histories.{History, world, IsLawfulApart}
 use Rattle.uring_machine.specs.Direct.{started_by}
 use Rattle.uring_machine.specs.Laws.{DoomedNeverRun, IsStart, times_ended}
-use Rattle.uring_machine.specs.declared.steps.Step.TheVariants as step
-use Rattle.uring_machine.specs.declared.answers.Answer.{Answer}
-use Rattle.uring_machine.specs.declared.answers.Answer.TheVariants as answer
+use Rattle.uring_machine.specs.declared.step.Step.TheVariants as step
+use Rattle.uring_machine.specs.declared.answer.Answer.{Answer}
+use Rattle.uring_machine.specs.declared.answer.Answer.TheVariants as answer
 use Rattle.uring_machine.proofs.Changes.{Change, change_of, IsSilent, refuses, runs, dooms, cancels}
 use Rattle.uring_machine.proofs.SoundRequests.{IsSoundRequests, EndsDoomed, is_otherwise, outstanding_tells}
 use Rattle.uring_machine.proofs.ListCounts.{count_none, count_some}
@@ -40,7 +40,7 @@ ends_doomed r k e s at doomed =
       | inr free ↦ absurd (both_ways _ free.spared doomed)
     ]
 
-pub never_run : (g : Shape) (h : History) → IsLawfulApart g h → DoomedNeverRun g h
+pub never_run : (g : Setup) (h : History) → IsLawfulApart g h → DoomedNeverRun g h
 never_run g h lawful =
     let s = (sound_of g h lawful).requests in
     let t = tells_requests g h lawful in
@@ -65,7 +65,7 @@ refused_no_end n _ silent ended = ended
 refused_no_run : (n : ℕ) (a : Answer) → IsSilent (step.Issue n, a) → a ≡ answer.Run → ⊥
 refused_no_run n a silent run = let e : started_by (step.Issue n, answer.Run) ≡ None = subst (λ b. started_by (step.Issue n, b) ≡ None) run silent.starts in absurd cc
 
-doomed_just_before : (g : Shape) (w : World) (n : ℕ) (a : Answer) (bytes : List ℕ) → Change g w (step.Issue n) a → a ≡ answer.Ended (neg_ℤ ECANCELED) bytes → is_doomed w.requests n ≡ true
+doomed_just_before : (g : Setup) (w : World) (n : ℕ) (a : Answer) (bytes : List ℕ) → Change g w (step.Issue n) a → a ≡ answer.Ended (neg_ℤ ECANCELED) bytes → is_doomed w.requests n ≡ true
 doomed_just_before g w n a bytes (refuses _ _ same silent) is = absurd (refused_no_end n a silent (subst IsEnded (sym is) tt))
 doomed_just_before g w n a bytes (runs _ outstanding idle spared ready) is = absurd cc
 doomed_just_before g w n a bytes (dooms _ outstanding idle doomed) is = doomed
@@ -73,13 +73,13 @@ doomed_just_before g w n a bytes (cancels _ outstanding idle spared ready cancel
     let e : cancel_result w.requests n ≡ neg_ℤ ECANCELED = cc in
     absurd (both_ways _ (cancel_unlike w.requests (target_of w.requests n)) ((Decides-int_eq (cancel_result w.requests n) (neg_ℤ ECANCELED)).1 e))
 
-pub were_doomed : (g : Shape) (after before : History) (n : ℕ) (bytes : List ℕ) → IsShape g → IsLawfulApart g (after ++ (step.Issue n, answer.Ended (neg_ℤ ECANCELED) bytes) ∷ before) → is_doomed (world g before).requests n ≡ true
-were_doomed g after before n bytes shape lawful =
+pub were_doomed : (g : Setup) (after before : History) (n : ℕ) (bytes : List ℕ) → IsLawfulApart g (after ++ (step.Issue n, answer.Ended (neg_ℤ ECANCELED) bytes) ∷ before) → is_doomed (world g before).requests n ≡ true
+were_doomed g after before n bytes lawful =
     let l = lawful_before g after ((step.Issue n, answer.Ended (neg_ℤ ECANCELED) bytes) ∷ before) lawful in
     doomed_just_before g (world g before) n _ bytes (change_of g (world g before) (step.Issue n) _ l.0) refl
 
-pub stay_doomed : (g : Shape) (after before : History) (n : ℕ) → IsShape g → IsLawfulApart g (after ++ before) → n < length (world g before).requests.accepted → is_doomed (world g before).requests n ≡ true → is_doomed (world g (after ++ before)).requests n ≡ true
-stay_doomed g after before n shape lawful within doomed = (grows g after before lawful).stays_doomed n within doomed
+pub stay_doomed : (g : Setup) (after before : History) (n : ℕ) → IsLawfulApart g (after ++ before) → n < length (world g before).requests.accepted → is_doomed (world g before).requests n ≡ true → is_doomed (world g (after ++ before)).requests n ≡ true
+stay_doomed g after before n lawful within doomed = (grows g after before lawful).stays_doomed n within doomed
 
 -- Links and drains.
 
@@ -88,7 +88,7 @@ record Started (w : World) (n : ℕ) : Type 0 where
   accepted : n < length w.requests.accepted
   ready : is_ready w.requests n ≡ true
 
-started_ready : (g : Shape) (w : World) (n : ℕ) (a : Answer) → Change g w (step.Issue n) a → IsStart w.requests n a → Started w n
+started_ready : (g : Setup) (w : World) (n : ℕ) (a : Answer) → Change g w (step.Issue n) a → IsStart w.requests n a → Started w n
 started_ready g w n a (refuses _ _ same silent) (inl run) = absurd (refused_no_run n a silent run)
 started_ready g w n a (refuses _ _ same silent) (inr ended) = absurd (refused_no_end n a silent ended.0)
 started_ready g w n a (runs _ outstanding idle spared ready) start = record { accepted = (outstanding_tells w.requests n outstanding).0; ready = ready }
@@ -110,9 +110,9 @@ same_wait r later n m g lt within =
     ∙ ap (λ b. is_joined r m n || b || is_draining later n) (g.same_drain m (omega arith))
     ∙ ap (λ b. is_joined r m n || is_draining r m || b) (g.same_drain n within)
 
-pub waits : (g : Shape) (after before : History) (m n : ℕ) (a : Answer) → IsShape g → IsLawfulApart g (after ++ (step.Issue n, a) ∷ before) → IsStart (world g before).requests n a → m < n
+pub waits : (g : Setup) (after before : History) (m n : ℕ) (a : Answer) → IsLawfulApart g (after ++ (step.Issue n, a) ∷ before) → IsStart (world g before).requests n a → m < n
     → waits_for (world g (after ++ (step.Issue n, a) ∷ before)).requests n m ≡ true → times_ended before m ≡ 1
-waits g after before m n a shape lawful start lt waiting =
+waits g after before m n a lawful start lt waiting =
     let l = lawful_before g after ((step.Issue n, a) ∷ before) lawful in
     let c = change_of g (world g before) (step.Issue n) a l.0 in
     let at = started_ready g (world g before) n a c start in

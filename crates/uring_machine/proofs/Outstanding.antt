@@ -1,4 +1,6 @@
--- How many requests are outstanding.
+-- How many requests are outstanding: none exactly if the count is 0, and one less with each end of one of them.
+-- By induction over the numbers below the count of accepted requests.
+-- Stable: other crates may import `none_outstanding`, `all_ended` and `ended_less`.
 use Rattle.std.proofs.Common.{◌≡◌, ◌≢◌, ℕ, zero, suc, ◌+◌, ◌<◌, ◌≤◌, Bool, true, false, not, ◌&&◌, ltb, cond, ℤ, List, length, refl, sym, ◌∙◌, ap, arith, inl, inr}
 use Rattle.std.proofs.lemmas.Bool.{cases_eq, cases_Bool, and_parts, ltb-true}
 use Rattle.uring_entry.specs.Requests.{Requests, has_ended, is_outstanding, with_ended, outstanding_in}
@@ -63,6 +65,10 @@ none_outstanding r none n = by_bound (ltb n (length r.accepted)) refl where
   by_bound : (within : Bool) → ltb n (length r.accepted) ≡ within → (within && not (has_ended r n)) ≡ false
   by_bound true is = ap (λ b. b && not (has_ended r n)) (sym is) ∙ count_below-none (is_outstanding r) (length r.accepted) none n (ltb-true _ _ is)
   by_bound false is = refl
+
+-- where none is outstanding, none is counted
+pub all_ended : (r : Requests) → ((n : ℕ) → is_outstanding r n ≡ false) → outstanding_in r ≡ 0
+all_ended r none = count_below-zero (is_outstanding r) (length r.accepted) (λ n lt. none n)
 
 -- an end of an outstanding request makes it one less
 pub ended_less : (r : Requests) (n : ℕ) (res : ℤ) (bytes : List ℕ) → is_outstanding r n ≡ true → outstanding_in (with_ended r n res bytes) + 1 ≡ outstanding_in r

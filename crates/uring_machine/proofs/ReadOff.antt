@@ -1,6 +1,6 @@
 -- The lists of a world are its history's own.
 use Rattle.std.proofs.Common.{sym, ap, ◌∙◌}
-use Rattle.uring_entry.specs.Shape.{Shape}
+use Rattle.uring_entry.specs.Setup.{Setup}
 use Rattle.uring_machine.specs.Histories.{History, world, IsLawfulApart}
 use Rattle.uring_machine.specs.HistoryLists.{OwnSubmission, OwnRequests, OwnCompletions}
 use Rattle.uring_machine.proofs.DirectSubmission.{direct_submission, calls_direct, call_direct}
@@ -12,7 +12,7 @@ use Rattle.uring_machine.proofs.DirectRequests.{direct_requests}
 use Rattle.uring_machine.proofs.DirectPlaces.{direct_places}
 use Rattle.uring_machine.proofs.ToldRequests.{tells_requests}
 
-pub own_submission : (g : Shape) (h : History) → IsLawfulApart g h → OwnSubmission g h
+pub own_submission : (g : Setup) (h : History) → IsLawfulApart g h → OwnSubmission g h
 own_submission g h lawful =
     let d = direct_submission g h lawful in
     record {
@@ -26,13 +26,13 @@ own_submission g h lawful =
       is_closed = (direct_requests g h lawful).shut;
     }
 
-pub own_requests : (g : Shape) (h : History) → IsLawfulApart g h → OwnRequests g h
+pub own_requests : (g : Setup) (h : History) → IsLawfulApart g h → OwnRequests g h
 own_requests g h lawful =
     let t = tells_requests g h lawful in
     let d = direct_requests g h lawful in
     record { accepted_taken = d.taken_in; cuts = d.cuts; started = sym t.started; ended = sym t.ended }
 
-pub own_completions : (g : Shape) (h : History) → IsLawfulApart g h → OwnCompletions g h
+pub own_completions : (g : Setup) (h : History) → IsLawfulApart g h → OwnCompletions g h
 own_completions g h lawful =
     let d = direct_completions g h lawful in
     let r = direct_requests g h lawful in

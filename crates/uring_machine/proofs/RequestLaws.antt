@@ -1,16 +1,19 @@
--- The laws of requests.
+-- The laws `each_ends_once` and `least_can_go_on`, and what can be issued.
+-- From what is sound of the requests, and from the answer that is called for.
+-- Stable: other crates may import `issue_goes` and `issued_cases`.
 use Rattle.std.proofs.Common.{◌≡◌, ℕ, ◌<◌, ◌≤◌, ◌==◌, Bool, true, false, not, ◌||◌, List, Option, Some, None, length, count_by, ℤ, if◌then◌else◌, refl, sym, subst, inl, inr, arith}
 use Rattle.std.specs.List.{list_any}
 use Rattle.std.proofs.lemmas.Bool.{and_parts, and_cases, ltb-true, lt-ltb, both_ways, cases_Bool, or_cases, not-false, not-true, false_from_ne_true}
-use Rattle.uring_entry.specs.Shape.{Shape}
+use Rattle.uring_entry.specs.Setup.{Setup}
 use Rattle.uring_entry.specs.Requests.{Requests, has_ended, is_outstanding, least_of, next_of, entry_of, is_doomed, is_ready, is_running, is_issuable, doomed_result, cancel_result, no_bytes}
 use Rattle.uring_entry.proofs.BelowLemmas.{least_below-out, least_below-some, least_below-tells}
 use Rattle.uring_entry.proofs.RequestLemmas.{least_of-goes_on}
 use Rattle.uring_machine.specs.Laws.{LeastCanGoOn, EachEndsOnce, IsIssued}
 use Rattle.uring_entry.specs.Preparation.{is_cancel}
 use Rattle.uring_machine.specs.World.{World}
-use Rattle.uring_machine.specs.Answers.{issue_answer}
-use Rattle.uring_machine.specs.declared.answers.Answer.TheVariants as answer
+use Rattle.uring_machine.specs.StepAnswers.{IsEnded, issue_answer}
+use Rattle.uring_machine.specs.declared.answer.Answer.{Answer}
+use Rattle.uring_machine.specs.declared.answer.Answer.TheVariants as answer
 use Rattle.uring_machine.specs.Histories.{History, world, IsLawfulApart}
 use Rattle.uring_machine.proofs.SoundRequests.{IsSoundRequests}
 use Rattle.uring_machine.proofs.ListCounts.{count_none, count_some}
@@ -27,11 +30,17 @@ answer_goes true false false false cancel as_doomed as_cancel o r d = absurd (le
 answer_goes true false false true true as_doomed as_cancel o r d = tt
 answer_goes true false false true false as_doomed as_cancel o r d = tt
 
-issue_goes : (w : World) (n : ℕ) → is_issuable w.requests n ≡ true → IsIssued (issue_answer w n)
+-- what can be issued is not refused: it runs, or ends
+pub issue_goes : (w : World) (n : ℕ) → is_issuable w.requests n ≡ true → IsIssued (issue_answer w n)
 issue_goes w n issuable =
     let p = and_parts _ _ issuable in
     let q = and_parts _ _ p.0 in
     answer_goes (is_outstanding w.requests n) (is_running w.requests n) (is_doomed w.requests n) (is_ready w.requests n) (is_cancel (entry_of w.requests n)) (doomed_result w.requests n) (cancel_result w.requests n) q.0 (not-true _ q.1) p.1
+
+-- an Issue that isn't refused runs or ends
+pub issued_cases : (a : Answer) → IsIssued a → (a ≡ answer.Run → ⊥) → (IsEnded a → ⊥) → ⊥
+issued_cases answer.Run issued not_run not_ended = not_run refl
+issued_cases a issued not_run not_ended = not_ended issued
 
 -- what can be issued is outstanding
 issuable_outstanding : (r : Requests) (n : ℕ) → is_issuable r n ≡ true → is_outstanding r n ≡ true
@@ -67,7 +76,7 @@ counted p xs some =
       | inr none ↦ absurd (omega (arith, count_none p xs none))
     ]
 
-pub ends_once : (g : Shape) (h : History) → IsLawfulApart g h → EachEndsOnce g h
+pub ends_once : (g : Setup) (h : History) → IsLawfulApart g h → EachEndsOnce g h
 ends_once g h lawful =
     let s = (sound_of g h lawful).requests in
     let t = tells_requests g h lawful in

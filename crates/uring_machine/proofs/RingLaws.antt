@@ -1,17 +1,17 @@
--- What the laws of the rings say, from what is sound.
+-- The laws `reaped_begin_posted` and `nothing_after_close`, from what is sound.
 use Rattle.std.proofs.Common.{◌≡◌, ℕ, ◌≤◌, true, false, [], ◌∷◌, ◌++◌, length, take, drop, Option, Some, None, is_some, refl, sym, subst, ap, ◌∙◌, cond, arith, append_assoc}
 use Rattle.std.specs.List.{list_any}
 use Rattle.std.proofs.lemmas.Bool.{or_from}
 use Rattle.std.proofs.lemmas.List.{take-append-drop, take-take, length-drop, length-take}
-use Rattle.uring_entry.specs.Shape.{Shape, IsShape}
+use Rattle.uring_entry.specs.Setup.{Setup}
 use Rattle.uring_entry.specs.Completions.{Completions}
 use Rattle.uring_machine.specs.World.{World, happens}
 use Rattle.uring_machine.specs.Histories.{History, world, IsLawfulApart}
 use Rattle.uring_machine.specs.Laws.{ReapedBeginPosted, takes_in, in_ring, in_overflow}
-use Rattle.uring_machine.specs.declared.steps.Step.{Step}
-use Rattle.uring_machine.specs.declared.steps.Step.TheVariants as step
-use Rattle.uring_machine.specs.declared.answers.Answer.{Answer}
-use Rattle.uring_machine.specs.declared.answers.Answer.TheVariants as answer
+use Rattle.uring_machine.specs.declared.step.Step.{Step}
+use Rattle.uring_machine.specs.declared.step.Step.TheVariants as step
+use Rattle.uring_machine.specs.declared.answer.Answer.{Answer}
+use Rattle.uring_machine.specs.declared.answer.Answer.TheVariants as answer
 use Rattle.uring_machine.proofs.Changes.{Change, change_of, refuses, fills, stages, stores, loads, begins, takes, drops, closes, runs, dooms, cancels, finishes, flushes, sees_tail, reaps, stores_head, shuts}
 use Rattle.uring_machine.proofs.SoundRings.{IsSoundCompletions}
 
@@ -24,6 +24,7 @@ begin_posted size l s =
       put_posted = s.put_posted;
       ring_holds = omega arith;
       few_stand = omega (arith, length-drop (length l.reaped) (take l.put l.posted), length-take l.put l.posted);
+      full_ring = s.full_ring;
     }
 
 -- the ring is closed, and no call is open
@@ -36,7 +37,7 @@ record StaysShut (w : World) (after : History) : Type 0 where
   shut : IsShut w
   none_in : list_any takes_in after ≡ false
 
-shut_stays : (g : Shape) (w : World) (s : Step) (a : Answer) → Change g w s a → IsShut w → IsShut (happens g w s a) × (takes_in (s, a) ≡ false)
+shut_stays : (g : Setup) (w : World) (s : Step) (a : Answer) → Change g w s a → IsShut w → IsShut (happens g w s a) × (takes_in (s, a) ≡ false)
 shut_stays g w s a (refuses _ _ same silent) i = (subst (λ v. IsShut v) (sym (same w)) i, silent.takes_into)
 shut_stays g w s a (fills slot entry free) i = (record { closed = i.closed; no_call = i.no_call }, refl)
 shut_stays g w s a (stages word room) i = (record { closed = i.closed; no_call = i.no_call }, refl)
@@ -62,7 +63,7 @@ open_none w e = by_call w.submission.call e where
   by_call None e = refl
   by_call (Some call) e = absurd cc
 
-stays_shut : (g : Shape) (after before : History) → IsLawfulApart g (after ++ (step.Close, answer.Shut) ∷ before) → StaysShut (world g (after ++ (step.Close, answer.Shut) ∷ before)) after
+stays_shut : (g : Setup) (after before : History) → IsLawfulApart g (after ++ (step.Close, answer.Shut) ∷ before) → StaysShut (world g (after ++ (step.Close, answer.Shut) ∷ before)) after
 stays_shut g [] before lawful = record { shut = record { closed = refl; no_call = open_none (world g before) lawful.0 }; none_in = refl }
 stays_shut g ((s, a) ∷ after) before lawful =
     let i = stays_shut g after before lawful.1 in
@@ -70,5 +71,5 @@ stays_shut g ((s, a) ∷ after) before lawful =
     let k = shut_stays g _ s a c i.shut in
     record { shut = k.0; none_in = or_from _ _ k.1 i.none_in }
 
-pub nothing_after : (g : Shape) (after before : History) → IsShape g → IsLawfulApart g (after ++ (step.Close, answer.Shut) ∷ before) → list_any takes_in after ≡ false
-nothing_after g after before shape lawful = (stays_shut g after before lawful).none_in
+pub nothing_after : (g : Setup) (after before : History) → IsLawfulApart g (after ++ (step.Close, answer.Shut) ∷ before) → list_any takes_in after ≡ false
+nothing_after g after before lawful = (stays_shut g after before lawful).none_in

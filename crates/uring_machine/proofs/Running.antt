@@ -1,17 +1,20 @@
--- What runs in a lawful history can be asked of files.
+-- What runs in a lawful history can be asked of files: its entry has no fault, since a faulty request is doomed, and it is no cancel, since a cancel ends as it is issued.
+-- By `Moves` and induction over the history for the cancels, and by `started_free` for the faults.
+-- Stable: other crates may import `running_asks`, `no_cancel` and `entry_stays`.
 use Rattle.std.proofs.Common.{◌≡◌, ℕ, ◌==◌, ◌<◌, List, [], ◌∷◌, length, true, false, Option, Some, None, is_some, refl, subst, ◌∙◌, ap, inl, inr}
 use Rattle.std.proofs.lemmas.Bool.{and_parts, both_ways, eqb-true, false_from_ne_true}
 use Rattle.std.proofs.lemmas.List.{get_or_append_left}
-use Rattle.uring_entry.specs.Shape.{Shape}
-use Rattle.uring_entry.specs.Layout.{Entry, zero_entry}
+use Rattle.uring_entry.specs.Setup.{Setup}
+use Rattle.uring_entry.specs.Layout.{Sqe, zero_entry}
 use Rattle.uring_entry.specs.Preparation.{fault_of, is_faulty, is_cancel, operation_of}
 use Rattle.uring_entry.specs.Requests.{Requests, entry_of, has_started, is_running, with_call}
 use Rattle.uring_entry.proofs.RequestLemmas.{is_doomed-own_fault}
 use Rattle.uring_files.specs.Operations.{IsForFiles}
 use Rattle.uring_files.proofs.Prepared.{prepared}
+use Rattle.uring_machine.specs.CalledFor.{RunsOnFiles}
 use Rattle.uring_machine.specs.Histories.{History, world, IsLawfulApart}
-use Rattle.uring_machine.specs.declared.steps.Step.{Step}
-use Rattle.uring_machine.specs.declared.answers.Answer.{Answer}
+use Rattle.uring_machine.specs.declared.step.Step.{Step}
+use Rattle.uring_machine.specs.declared.answer.Answer.{Answer}
 use Rattle.uring_machine.proofs.Changes.{change_of}
 use Rattle.uring_machine.proofs.Moves.{Move, stays, accepts, starts, ends_doomed, ends_cancel, ends_run, move_of}
 use Rattle.uring_machine.proofs.Sound.{sound_of}
@@ -19,7 +22,7 @@ use Rattle.uring_machine.proofs.ListCounts.{any_new}
 use Rattle.uring_machine.proofs.SoundRequests.{IsSoundRequests}
 
 -- a request's entry stays as more are accepted
-pub entry_stays : (r : Requests) (entries : List Entry) (n : ℕ) → n < length r.accepted → entry_of (with_call r entries) n ≡ entry_of r n
+pub entry_stays : (r : Requests) (entries : List Sqe) (n : ℕ) → n < length r.accepted → entry_of (with_call r entries) n ≡ entry_of r n
 entry_stays r entries n lt = get_or_append_left r.accepted entries zero_entry n lt
 
 -- no cancel was started
@@ -34,21 +37,21 @@ no_cancel_kept r q s a (ends_doomed m) i none = none
 no_cancel_kept r q s a (ends_cancel m cancel) i none = none
 no_cancel_kept r q s a (ends_run m res bytes) i none = none
 
-pub no_cancel : (g : Shape) (h : History) → IsLawfulApart g h → NoCancel (world g h).requests
+pub no_cancel : (g : Setup) (h : History) → IsLawfulApart g h → NoCancel (world g h).requests
 no_cancel g [] lawful = λ n started. absurd (let f : false ≡ true = started in cc)
 no_cancel g ((s, a) ∷ before) lawful =
     no_cancel_kept (world g before).requests _ s a (move_of g (world g before) s a (change_of g (world g before) s a lawful.0) lawful.0)
     (sound_of g before lawful.1).requests (no_cancel g before lawful.1)
 
 -- no fault
-without_fault : (e : Entry) → is_faulty e ≡ false → fault_of e ≡ None
+without_fault : (e : Sqe) → is_faulty e ≡ false → fault_of e ≡ None
 without_fault e spared = by_fault (fault_of e) spared where
   by_fault : {X : Type 0} (fault : Option X) → is_some fault ≡ false → fault ≡ None
   by_fault None f = refl
   by_fault (Some x) f = absurd cc
 
 -- the operation of a running request can be asked of files
-pub running_asks : (g : Shape) (h : History) (n : ℕ) → IsLawfulApart g h → is_running (world g h).requests n ≡ true → IsForFiles (operation_of (entry_of (world g h).requests n))
+pub running_asks : (g : Setup) (h : History) (n : ℕ) → IsLawfulApart g h → is_running (world g h).requests n ≡ true → IsForFiles (operation_of (entry_of (world g h).requests n))
 running_asks g h n lawful running =
     let r : Requests = (world g h).requests in
     let i : IsSoundRequests r = (sound_of g h lawful).requests in
@@ -56,3 +59,7 @@ running_asks g h n lawful running =
     let right : is_faulty (entry_of r n) ≡ false =
     false_from_ne_true _ (λ faulty. both_ways _ (i.started_free n started).spared (is_doomed-own_fault r n (i.started_accepted n started) faulty)) in
     prepared (entry_of r n) (without_fault (entry_of r n) right) (no_cancel g h lawful n started)
+
+-- what runs can be carried out on files
+pub runs_on_files : (g : Setup) (h : History) (n : ℕ) → IsLawfulApart g h → is_running (world g h).requests n ≡ true → RunsOnFiles (world g h).requests n
+runs_on_files g h n lawful running = record { no_cancel = no_cancel g h lawful n (and_parts _ _ running).0; asks = running_asks g h n lawful running }

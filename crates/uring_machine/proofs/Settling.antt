@@ -1,33 +1,34 @@
 -- What the steps make that settle requests.
-use Rattle.std.proofs.Common.{◌≡◌, ℕ, ◌+◌, ◌-◌, ◌^◌, ◌≤◌, ℤ, Bool, true, false, not, ◌||◌, List, [], ◌∷◌, ◌++◌, length, Option, Some, None, if◌then◌else◌, refl, sym, subst, ◌∙◌, ap, arith, inl, inr, append_assoc, length-append}
+use Rattle.std.proofs.Common.{◌≡◌, ℕ, ◌+◌, ◌-◌, ◌^◌, ◌≤◌, ℤ, Bool, true, false, not, ◌||◌, List, [], ◌∷◌, ◌++◌, length, Option, Some, None, if◌then◌else◌, refl, sym, subst, ◌∙◌, ap, arith, inl, inr, length-append}
 use Rattle.std.proofs.lemmas.Bool.{and_parts, and_from, or_cases, both_ways, not-true}
 use Rattle.std.proofs.lemmas.List.Folds.{list_all-append}
-use Rattle.uring_entry.specs.Shape.{Shape}
+use Rattle.uring_entry.specs.Setup.{Setup}
 use Rattle.uring_entry.specs.Preparation.{is_cancel}
 use Rattle.uring_entry.specs.Requests.{Requests, entry_of, has_ended, is_outstanding, is_running, is_issuable, is_doomed, is_ready, doomed_result, cancel_result, no_bytes, next_of, least_of, outstanding_in}
 use Rattle.uring_entry.proofs.BelowLemmas.{least_below-tells, least_below-out}
 use Rattle.uring_entry.proofs.RequestLemmas.{least_of-goes_on, is_running-started_same}
 use Rattle.uring_machine.specs.World.{World, issuing, finishing}
-use Rattle.uring_machine.specs.Answers.{IsEnded, FinishesApart, next_answer_of}
-use Rattle.uring_machine.specs.Histories.{History, world}
+use Rattle.uring_machine.specs.StepAnswers.{IsEnded, FinishesApart, next_answer_of}
+use Rattle.uring_machine.specs.Histories.{Event, History, world, history_of}
 use Rattle.uring_files.specs.Contents.{FileContents}
-use Rattle.uring_machine.specs.Core.{Parts, FitsApart}
-use Rattle.uring_machine.specs.Machine.{Holding, Fits}
-use Rattle.uring_machine.specs.Settling.{is_issue_or_finish, just_started, settling_step, AreSettling, HasSettled, IsSettled}
+use Rattle.uring_machine.specs.Core.{Core, FitsApart}
+use Rattle.uring_machine.specs.Machine.{Machine, Fits}
+use Rattle.uring_machine.specs.Settling.{is_issue_or_finish, started_last, settling_step, AreSettling, HasSettled, IsSettled}
 use Rattle.uring_machine.specs.Direct.{started_by}
-use Rattle.uring_machine.specs.declared.steps.Step.TheVariants as step
-use Rattle.uring_machine.specs.declared.answers.Answer.{Answer}
-use Rattle.uring_machine.specs.declared.answers.Answer.TheVariants as answer
+use Rattle.uring_machine.specs.declared.step.Step.TheVariants as step
+use Rattle.uring_machine.specs.declared.answer.Answer.{Answer}
+use Rattle.uring_machine.specs.declared.answer.Answer.TheVariants as answer
+use Rattle.uring_machine.proofs.Following.{history_of-cons, history_of-append}
 use Rattle.uring_machine.proofs.Numbers.{few_outstanding}
 use Rattle.uring_machine.proofs.Outstanding.{ended_less, none_outstanding, count_below-zero}
 
 -- Ends, each of which leaves one outstanding request less.
 
-issue_less : (g : Shape) (w : World) (n : ℕ) (a : Answer) → is_outstanding w.requests n ≡ true → IsEnded a → outstanding_in (issuing g w n a).requests + 1 ≡ outstanding_in w.requests
+issue_less : (g : Setup) (w : World) (n : ℕ) (a : Answer) → is_outstanding w.requests n ≡ true → IsEnded a → outstanding_in (issuing g w n a).requests + 1 ≡ outstanding_in w.requests
 issue_less g w n (answer.Ended res bytes) outstanding ended = ended_less w.requests n res no_bytes outstanding
 issue_less g w n _ outstanding ended = absurd ended
 
-finish_less : (g : Shape) (w : World) (n : ℕ) (a : Answer) → is_outstanding w.requests n ≡ true → IsEnded a → outstanding_in (finishing g w n a).requests + 1 ≡ outstanding_in w.requests
+finish_less : (g : Setup) (w : World) (n : ℕ) (a : Answer) → is_outstanding w.requests n ≡ true → IsEnded a → outstanding_in (finishing g w n a).requests + 1 ≡ outstanding_in w.requests
 finish_less g w n (answer.Ended res bytes) outstanding ended = ended_less w.requests n res bytes outstanding
 finish_less g w n _ outstanding ended = absurd ended
 
@@ -83,7 +84,7 @@ least_runs r n a is other least = by_next (next_of r) refl is where
       ]
 
 -- a machine that answered Next fits what it fitted
-pub next_fits : (m : Holding) (a : Answer) (h : History) → Fits m ((step.Next, a) ∷ h) → Fits m h
+pub next_fits : (m : Machine) (a : Answer) (h : History) → Fits m ((step.Next, a) ∷ h) → Fits m h
 next_fits m a h fits = record { core = record { shows = fits.core.shows; lawful = fits.core.lawful.1 }; files = fits.files; lawful = fits.lawful.1 }
 
 -- Steps that settle further.
@@ -98,42 +99,44 @@ finished_least r n a told other is =
 
 -- events that settle further, behind others that did
 
-started-append : (later earlier : History) → just_started earlier ≡ None → just_started (later ++ earlier) ≡ just_started later
-started-append [] earlier none = none
-started-append (event ∷ later) earlier none = refl
+started-append : (started : Option ℕ) (earlier later : List Event) → started_last started (earlier ++ later) ≡ started_last (started_last started earlier) later
+started-append started [] later = refl
+started-append started (event ∷ earlier) later = started-append (started_by event) earlier later
 
-settling-append : (g : Shape) (before earlier later : History) → just_started earlier ≡ None → AreSettling g (earlier ++ before) later → AreSettling g before earlier → AreSettling g before (later ++ earlier)
-settling-append g before earlier [] none l e = e
-settling-append g before earlier ((s, a) ∷ later) none l e =
-    (rw (started-append later earlier none, append_assoc later earlier before) l.0, settling-append g before earlier later none l.1 e)
+settling-append : (g : Setup) (before : History) (started : Option ℕ) (earlier later : List Event) → AreSettling g before started earlier → AreSettling g (history_of earlier ++ before) (started_last started earlier) later → AreSettling g before started (earlier ++ later)
+settling-append g before started [] later e l = l
+settling-append g before started ((s, a) ∷ earlier) later e l =
+    (e.0, settling-append g ((s, a) ∷ before) (started_by (s, a)) earlier later e.1 (subst (λ h. AreSettling g h (started_last (started_by (s, a)) earlier) later) (history_of-cons (s, a) earlier before) l))
 
 -- how many are outstanding
-pub outstanding_of : (m : Holding) (h : History) → Fits m h → m.core.dispatcher.outstanding ≡ outstanding_in (world m.core.shape h).requests
+pub outstanding_of : (m : Machine) (h : History) → Fits m h → m.core.dispatch.outstanding ≡ outstanding_in (world m.core.setup h).requests
 outstanding_of m h fits = fits.core.shows.requests.outstanding
 
 -- one less is one less of what is held
-one_fewer : (old new : Holding) (h later : History) → new.core.shape ≡ old.core.shape → Fits old h → Fits new later → outstanding_in (world new.core.shape later).requests + 1 ≡ outstanding_in (world new.core.shape h).requests
-    → new.core.dispatcher.outstanding + 1 ≡ old.core.dispatcher.outstanding
+one_fewer : (old new : Machine) (h later : History) → new.core.setup ≡ old.core.setup → Fits old h → Fits new later → outstanding_in (world new.core.setup later).requests + 1 ≡ outstanding_in (world new.core.setup h).requests
+    → new.core.dispatch.outstanding + 1 ≡ old.core.dispatch.outstanding
 one_fewer old new h later same fits reached less =
     omega (arith, less, outstanding_of new later reached, outstanding_of old h fits, ap (λ g. outstanding_in (world g h).requests) same)
 
 -- the next request ran, and was finished
-pub settled_run : (old asked new : Holding) (n : ℕ) (a b c : Answer) (h : History) → asked.core.shape ≡ old.core.shape → new.core.shape ≡ asked.core.shape → a ≡ answer.Next n → b ≡ answer.Run
+pub settled_run : (old asked new : Machine) (n : ℕ) (a b c : Answer) (h : History) → asked.core.setup ≡ old.core.setup → new.core.setup ≡ asked.core.setup → a ≡ answer.Next n → b ≡ answer.Run
     → Fits old h → Fits asked ((step.Next, a) ∷ h) → Fits new ((step.Finish n, c) ∷ (step.Issue n, b) ∷ h) → HasSettled old new h 2 1
 settled_run old asked new n a b c h same kept next ran fits asked_fits new_fits =
-    let g : Shape = new.core.shape in
+    let g : Setup = new.core.setup in
     let r : Requests = (world g h).requests in
     let now : Fits new ((step.Finish n, c) ∷ (step.Issue n, answer.Run) ∷ h) = subst (λ d. Fits new ((step.Finish n, c) ∷ (step.Issue n, d) ∷ h)) ran new_fits in
     let named : answer.Next n ≡ next_answer_of (next_of r) = subst (λ k. answer.Next n ≡ next_answer_of (next_of (world k h).requests)) (sym kept) (sym next ∙ asked_fits.core.lawful.0) in
     let tells = issuable_tells r n (next_tells r n named) in
     let unended : has_ended r n ≡ false = not-true _ (and_parts _ _ tells.0).1 in
     record {
-      events = (step.Finish n, c) ∷ (step.Issue n, b) ∷ [];
-      issues_and_finishes = refl;
-      settling = (rw ran refl, (issued_next r n named, tt));
+      settles = record {
+        events = (step.Issue n, b) ∷ (step.Finish n, c) ∷ [];
+        issues_and_finishes = refl;
+        settling = (issued_next r n named, (rw ran refl, tt));
+        fits = new_fits;
+        many = refl;
+      };
       none_started = refl;
-      fits = new_fits;
-      many = refl;
       few = omega arith;
       fewer =
           one_fewer old new h ((step.Finish n, c) ∷ (step.Issue n, answer.Run) ∷ h) (kept ∙ same) fits now
@@ -141,20 +144,22 @@ settled_run old asked new n a b c h same kept next ran fits asked_fits new_fits 
     }
 
 -- the next request ended as it was issued
-pub settled_end : (old asked new : Holding) (n : ℕ) (a b : Answer) (h : History) → asked.core.shape ≡ old.core.shape → new.core.shape ≡ asked.core.shape → a ≡ answer.Next n → (b ≡ answer.Run → ⊥)
+pub settled_end : (old asked new : Machine) (n : ℕ) (a b : Answer) (h : History) → asked.core.setup ≡ old.core.setup → new.core.setup ≡ asked.core.setup → a ≡ answer.Next n → (b ≡ answer.Run → ⊥)
     → Fits old h → Fits asked ((step.Next, a) ∷ h) → Fits new ((step.Issue n, b) ∷ h) → HasSettled old new h 1 1
 settled_end old asked new n a b h same kept next other fits asked_fits new_fits =
-    let g : Shape = new.core.shape in
+    let g : Setup = new.core.setup in
     let r : Requests = (world g h).requests in
     let named : answer.Next n ≡ next_answer_of (next_of r) = subst (λ k. answer.Next n ≡ next_answer_of (next_of (world k h).requests)) (sym kept) (sym next ∙ asked_fits.core.lawful.0) in
     let tells = issuable_tells r n (next_tells r n named) in
     record {
-      events = (step.Issue n, b) ∷ [];
-      issues_and_finishes = refl;
-      settling = (issued_next r n named, tt);
+      settles = record {
+        events = (step.Issue n, b) ∷ [];
+        issues_and_finishes = refl;
+        settling = (issued_next r n named, tt);
+        fits = new_fits;
+        many = refl;
+      };
       none_started = not_started n b other;
-      fits = new_fits;
-      many = refl;
       few = omega arith;
       fewer =
           one_fewer old new h ((step.Issue n, b) ∷ h) (kept ∙ same) fits new_fits
@@ -163,21 +168,23 @@ settled_end old asked new n a b h same kept next other fits asked_fits new_fits 
     }
 
 -- the least outstanding request ran, and was finished
-pub settled_finish : (old asked new : Holding) (n : ℕ) (a b : Answer) (h : History) → asked.core.shape ≡ old.core.shape → new.core.shape ≡ asked.core.shape → ((k : ℕ) → a ≡ answer.Next k → ⊥)
-    → Fits old h → Some n ≡ least_of (world old.core.shape h).requests → Fits asked ((step.Next, a) ∷ h) → Fits new ((step.Finish n, b) ∷ h) → HasSettled old new h 1 1
+pub settled_finish : (old asked new : Machine) (n : ℕ) (a b : Answer) (h : History) → asked.core.setup ≡ old.core.setup → new.core.setup ≡ asked.core.setup → ((k : ℕ) → a ≡ answer.Next k → ⊥)
+    → Fits old h → Some n ≡ least_of (world old.core.setup h).requests → Fits asked ((step.Next, a) ∷ h) → Fits new ((step.Finish n, b) ∷ h) → HasSettled old new h 1 1
 settled_finish old asked new n a b h same kept other fits least asked_fits new_fits =
-    let g : Shape = new.core.shape in
+    let g : Setup = new.core.setup in
     let r : Requests = (world g h).requests in
     let is : least_of r ≡ Some n = subst (λ k. least_of (world k h).requests ≡ Some n) (sym (kept ∙ same)) (sym least) in
     let told : a ≡ next_answer_of (next_of r) = subst (λ k. a ≡ next_answer_of (next_of (world k h).requests)) (sym kept) asked_fits.core.lawful.0 in
     let running : is_running r n ≡ true = least_runs r n a told other is in
     record {
-      events = (step.Finish n, b) ∷ [];
-      issues_and_finishes = refl;
-      settling = (finished_least r n a told other is, tt);
+      settles = record {
+        events = (step.Finish n, b) ∷ [];
+        issues_and_finishes = refl;
+        settling = (finished_least r n a told other is, tt);
+        fits = new_fits;
+        many = refl;
+      };
       none_started = refl;
-      fits = new_fits;
-      many = refl;
       few = omega arith;
       fewer =
           one_fewer old new h ((step.Finish n, b) ∷ h) (kept ∙ same) fits new_fits
@@ -185,63 +192,64 @@ settled_finish old asked new n a b h same kept other fits least asked_fits new_f
     }
 
 -- something is outstanding, so there is a least
-pub some_least : (m : Holding) (h : History) → Fits m h → 1 ≤ m.core.dispatcher.outstanding → None ≡ least_of (world m.core.shape h).requests → ⊥
+pub some_least : (m : Machine) (h : History) → Fits m h → 1 ≤ m.core.dispatch.outstanding → None ≡ least_of (world m.core.setup h).requests → ⊥
 some_least m h fits some none =
-    let r : Requests = (world m.core.shape h).requests in
+    let r : Requests = (world m.core.setup h).requests in
     let zero_of : outstanding_in r ≡ 0 = count_below-zero (is_outstanding r) (length r.accepted) (least_below-out (is_outstanding r) (length r.accepted) (sym none)) in
     omega (arith, some, zero_of, outstanding_of m h fits)
 
 -- what was settled so far, and what is settled then
-pub settled_more : (first old new : Holding) (h : History) (count more ended : ℕ) → new.core.shape ≡ old.core.shape → HasSettled first old h count ended → ((k : History) → Fits old k → HasSettled old new k more 1) → HasSettled first new h (count + more) (ended + 1)
+pub settled_more : (first old new : Machine) (h : History) (count more ended : ℕ) → new.core.setup ≡ old.core.setup → HasSettled first old h count ended → ((k : History) → Fits old k → HasSettled old new k more 1) → HasSettled first new h (count + more) (ended + 1)
 settled_more first old new h count more ended same before next =
-    let last = next (before.events ++ h) before.fits in
+    let b = before.settles in
+    let last = next (history_of b.events ++ h) b.fits in
+    let l = last.settles in
+    let behind : AreSettling new.core.setup (history_of b.events ++ h) (started_last None b.events) l.events = subst (λ started. AreSettling new.core.setup (history_of b.events ++ h) started l.events) (sym before.none_started) l.settling in
     record {
-      events = last.events ++ before.events;
-      issues_and_finishes = list_all-append is_issue_or_finish last.events before.events ∙ and_from _ _ last.issues_and_finishes before.issues_and_finishes;
-      settling = settling-append new.core.shape h before.events last.events before.none_started last.settling (subst (λ g. AreSettling g h before.events) (sym same) before.settling);
-      none_started = started-append last.events before.events before.none_started ∙ last.none_started;
-      fits = subst (λ k. Fits new k) (sym (append_assoc last.events before.events h)) last.fits;
-      many = omega (arith, length-append last.events before.events, last.many, before.many);
+      settles = record {
+        events = b.events ++ l.events;
+        issues_and_finishes = list_all-append is_issue_or_finish b.events l.events ∙ and_from _ _ b.issues_and_finishes l.issues_and_finishes;
+        settling = settling-append new.core.setup h None b.events l.events (subst (λ g. AreSettling g h None b.events) (sym same) b.settling) behind;
+        fits = subst (λ k. Fits new k) (sym (history_of-append b.events l.events h)) l.fits;
+        many = omega (arith, length-append b.events l.events, l.many, b.many);
+      };
+      none_started = started-append None b.events l.events ∙ ap (λ started. started_last started l.events) before.none_started ∙ last.none_started;
       few = omega (arith, last.few, before.few);
       fewer = omega (arith, last.fewer, before.fewer);
     }
 
 -- nothing was settled yet
-pub settled_none : (m : Holding) (h : History) → Fits m h → HasSettled m m h 0 0
-settled_none m h fits = record { events = []; issues_and_finishes = refl; settling = tt; none_started = refl; fits = fits; many = refl; few = omega arith; fewer = omega arith }
+pub settled_none : (m : Machine) (h : History) → Fits m h → HasSettled m m h 0 0
+settled_none m h fits = record { settles = record { events = []; issues_and_finishes = refl; settling = tt; fits = fits; many = refl }; none_started = refl; few = omega arith; fewer = omega arith }
 
 -- all that was outstanding was settled
-pub settled_all : (old new : Holding) (h : History) (count ended : ℕ) → new.core.shape ≡ old.core.shape → Fits old h → ended ≡ outstanding_in (world old.core.shape h).requests → HasSettled old new h count ended → IsSettled new h count
+pub settled_all : (old new : Machine) (h : History) (count ended : ℕ) → new.core.setup ≡ old.core.setup → Fits old h → ended ≡ outstanding_in (world old.core.setup h).requests → HasSettled old new h count ended → IsSettled new h count
 settled_all old new h count ended same fits all s =
     record {
-      events = s.events;
-      issues_and_finishes = s.issues_and_finishes;
-      settling = s.settling;
-      fits = s.fits;
-      many = s.many;
+      settles = s.settles;
       few = omega (arith, s.few, all, ap (λ g. outstanding_in (world g h).requests) same);
       none_outstanding =
-          none_outstanding (world new.core.shape (s.events ++ h)).requests
-          (omega (arith, s.fewer, all, outstanding_of old h fits, outstanding_of new (s.events ++ h) s.fits));
+          none_outstanding (world new.core.setup (history_of s.settles.events ++ h)).requests
+          (omega (arith, s.fewer, all, outstanding_of old h fits, outstanding_of new (history_of s.settles.events ++ h) s.settles.fits));
     }
 
 -- this number is how many are outstanding
-pub record IsCounted (m : Holding) (n : ℕ) : Type 0 where
+pub record IsCounted (m : Machine) (n : ℕ) : Type 0 where
   pub history : History
   pub fits : Fits m history
-  pub same : n ≡ m.core.dispatcher.outstanding
+  pub same : n ≡ m.core.dispatch.outstanding
   pub few : n ≤ 2 ^ 63 - 1
 
-pub counted : (core : Parts) (files : List FileContents) (now : Holding) (n : ℕ) → record { core = core; files = files } ≡ now → ((h : History) × Fits (record { core = core; files = files }) h)
-    → ((h : History) → FitsApart core h → n ≡ outstanding_in (world core.shape h).requests) → IsCounted now n
+pub counted : (core : Core) (files : List FileContents) (now : Machine) (n : ℕ) → record { core = core; files = files } ≡ now → ((h : History) × Fits (record { core = core; files = files }) h)
+    → ((h : History) → FitsApart core h → n ≡ outstanding_in (world core.setup h).requests) → IsCounted now n
 counted core files now n is some counts =
     subst (λ m. IsCounted m n) is
     (let h : History = some.0 in
     let fits = some.1 in
-    let many : n ≡ outstanding_in (world core.shape h).requests = counts h fits.core in
+    let many : n ≡ outstanding_in (world core.setup h).requests = counts h fits.core in
     record {
       history = h;
       fits = fits;
       same = many ∙ sym (outstanding_of (record { core = core; files = files }) h fits);
-      few = omega (arith, many, few_outstanding core.shape h fits.core.lawful);
+      few = omega (arith, many, few_outstanding core.setup h fits.core.lawful);
     })

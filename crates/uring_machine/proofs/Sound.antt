@@ -1,10 +1,10 @@
 -- What holds of everything that a lawful history has made.
 use Rattle.std.proofs.Common.{ℕ, [], ◌∷◌, refl, sym, subst, arith}
-use Rattle.uring_entry.specs.Shape.{Shape}
+use Rattle.uring_entry.specs.Setup.{Setup}
 use Rattle.uring_machine.specs.World.{World, at_first, happens, taking_of, ending_of}
 use Rattle.uring_machine.specs.Histories.{History, world, IsLawfulApart}
-use Rattle.uring_machine.specs.declared.steps.Step.{Step}
-use Rattle.uring_machine.specs.declared.answers.Answer.{Answer}
+use Rattle.uring_machine.specs.declared.step.Step.{Step}
+use Rattle.uring_machine.specs.declared.answer.Answer.{Answer}
 use Rattle.uring_machine.proofs.Changes.{Change, change_of, refuses, fills, stages, stores, loads, begins, takes, drops, closes, runs, dooms, cancels, finishes, flushes, sees_tail, reaps, stores_head, shuts}
 use Rattle.uring_machine.proofs.SoundRings.{IsSoundCompletions, IsSoundSubmission, end_sound, flush_sound, see_tail_sound, reap_sound, store_head_sound, stage_sound, store_sound, load_sound, begin_sound, take_sound, close_sound}
 use Rattle.uring_machine.proofs.SoundRequests.{IsSoundRequests, first_requests, start_sound}
@@ -13,7 +13,7 @@ use Rattle.uring_machine.proofs.Groups.{call_sound}
 use Rattle.uring_entry.specs.Submission.{no_submission, entries_of, places_from}
 use Rattle.uring_entry.specs.Completions.{no_completion}
 
-pub record IsSound (g : Shape) (w : World) : Type 0 where
+pub record IsSound (g : Setup) (w : World) : Type 0 where
   pub submission : IsSoundSubmission g.sq w.submission
   pub completions : IsSoundCompletions g.cq w.completions
   pub requests : IsSoundRequests w.requests
@@ -22,13 +22,13 @@ first_submission : (size : ℕ) → IsSoundSubmission size no_submission
 first_submission size = record { seen_first = omega arith; call_published = omega arith; within_call = omega arith; few = omega arith }
 
 first_completions : (size : ℕ) → IsSoundCompletions size no_completion
-first_completions size = record { begins = refl; reaped_seen = omega arith; seen_put = omega arith; put_posted = omega arith; seen_head_head = omega arith; head_reaped = omega arith; fits = omega arith }
+first_completions size = record { begins = refl; reaped_seen = omega arith; seen_put = omega arith; put_posted = omega arith; seen_head_head = omega arith; head_reaped = omega arith; fits = omega arith; full_ring = λ waits. absurd (omega arith) }
 
-first_sound : (g : Shape) → IsSound g at_first
+first_sound : (g : Setup) → IsSound g at_first
 first_sound g = record { submission = first_submission g.sq; completions = first_completions g.cq; requests = first_requests }
 
 -- a change keeps the submission ring sound
-submission_kept : (g : Shape) (w : World) (s : Step) (a : Answer) → Change g w s a → IsSoundSubmission g.sq w.submission → IsSoundSubmission g.sq (happens g w s a).submission
+submission_kept : (g : Setup) (w : World) (s : Step) (a : Answer) → Change g w s a → IsSoundSubmission g.sq w.submission → IsSoundSubmission g.sq (happens g w s a).submission
 submission_kept g w s a (refuses _ _ same silent) i = subst (λ v. IsSoundSubmission g.sq v.submission) (sym (same w)) i
 submission_kept g w s a (fills slot entry free) i = record { seen_first = i.seen_first; call_published = i.call_published; within_call = i.within_call; few = i.few }
 submission_kept g w s a (stages word room) i = stage_sound g.sq w.submission word room i
@@ -49,7 +49,7 @@ submission_kept g w s a (stores_head head) i = i
 submission_kept g w s a (shuts e) i = i
 
 -- a change keeps the completion ring sound
-completions_kept : (g : Shape) (w : World) (s : Step) (a : Answer) → Change g w s a → IsSoundCompletions g.cq w.completions → IsSoundCompletions g.cq (happens g w s a).completions
+completions_kept : (g : Setup) (w : World) (s : Step) (a : Answer) → Change g w s a → IsSoundCompletions g.cq w.completions → IsSoundCompletions g.cq (happens g w s a).completions
 completions_kept g w s a (refuses _ _ same silent) i = subst (λ v. IsSoundCompletions g.cq v.completions) (sym (same w)) i
 completions_kept g w s a (fills slot entry free) i = i
 completions_kept g w s a (stages word room) i = i
@@ -70,7 +70,7 @@ completions_kept g w s a (stores_head head) i = store_head_sound g.cq w.completi
 completions_kept g w s a (shuts e) i = i
 
 -- a change keeps the requests sound
-requests_kept : (g : Shape) (w : World) (s : Step) (a : Answer) → Change g w s a → IsSoundRequests w.requests → IsSoundRequests (happens g w s a).requests
+requests_kept : (g : Setup) (w : World) (s : Step) (a : Answer) → Change g w s a → IsSoundRequests w.requests → IsSoundRequests (happens g w s a).requests
 requests_kept g w s a (refuses _ _ same silent) i = subst (λ v. IsSoundRequests v.requests) (sym (same w)) i
 requests_kept g w s a (fills slot entry free) i = i
 requests_kept g w s a (stages word room) i = i
@@ -90,7 +90,7 @@ requests_kept g w s a (reaps completion next) i = i
 requests_kept g w s a (stores_head head) i = i
 requests_kept g w s a (shuts no_call) i = i
 
-pub sound_of : (g : Shape) (h : History) → IsLawfulApart g h → IsSound g (world g h)
+pub sound_of : (g : Setup) (h : History) → IsLawfulApart g h → IsSound g (world g h)
 sound_of g [] lawful = first_sound g
 sound_of g ((s, a) ∷ before) lawful =
     let i = sound_of g before lawful.1 in

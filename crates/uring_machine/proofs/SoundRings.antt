@@ -1,12 +1,12 @@
 -- What holds of both rings' lists in every lawful history.
-use Rattle.std.proofs.Common.{◌≡◌, ℕ, ◌+◌, ◌-◌, ◌<◌, ◌≤◌, Bool, true, false, eqb, List, [], ◌∷◌, ◌++◌, length, take, map, Option, Some, None, slice_get, cond, refl, sym, ap, ◌∙◌, arith}
-use Rattle.std.proofs.lemmas.Bool.{ltb-true, eqb-true, eqb-false, and_parts}
+use Rattle.std.proofs.Common.{◌≡◌, ℕ, ◌+◌, ◌-◌, ◌<◌, ◌≤◌, Bool, true, false, eqb, List, [], ◌∷◌, ◌++◌, length, take, map, Option, Some, None, slice_get, cond, refl, sym, ap, ◌∙◌, arith, inl, inr}
+use Rattle.std.proofs.lemmas.Bool.{ltb-true, ltb-false, eqb-true, eqb-false, and_cases, and_parts}
 use Rattle.std.proofs.lemmas.List.{length_push, length-append, length-map, take-append-le, take_more}
 use Rattle.std.proofs.lemmas.List.Sums.{sum_by_push}
 use Rattle.std.proofs.lemmas.Option.{slice_get_within, get_or_from_slice_get}
-use Rattle.uring_entry.specs.Layout.{Completion}
-use Rattle.uring_entry.specs.Submission.{Submission, Call, Place, staged, taken, pending, is_full, call_length, filled, indexed, stored, loaded, begun, took, closed}
-use Rattle.uring_entry.specs.Completions.{Completions, has_room, next_to_reap, with_posted, flushed, with_tail_loaded, with_reaped, with_head_stored}
+use Rattle.uring_entry.specs.Layout.{Cqe}
+use Rattle.uring_entry.specs.Submission.{Submission, Call, Place, staged, taken, pending, is_full, call_length, with_filled, with_staged, with_published, with_head_loaded, with_begun, with_taken, with_closed}
+use Rattle.uring_entry.specs.Completions.{Completions, has_room, next_to_reap, with_posted, with_flushed, with_tail_loaded, with_reaped, with_head_stored}
 
 -- The completion ring.
 
@@ -18,14 +18,22 @@ pub record IsSoundCompletions (size : ℕ) (l : Completions) : Type 0 where
   pub seen_head_head : l.seen_head ≤ l.head
   pub head_reaped : l.head ≤ length l.reaped
   pub fits : l.put ≤ l.seen_head + size
+  pub full_ring : l.put < length l.posted → l.put ≡ l.seen_head + size
 
-posted_begins : (xs ys : List Completion) (c : Completion) → length xs ≤ length ys → xs ≡ take (length xs) ys → xs ≡ take (length xs) (ys ++ c ∷ [])
+posted_begins : (xs ys : List Cqe) (c : Cqe) → length xs ≤ length ys → xs ≡ take (length xs) ys → xs ≡ take (length xs) (ys ++ c ∷ [])
 posted_begins xs ys c within e = e ∙ sym (take-append-le (length xs) ys (c ∷ []) within)
 
-pub post_sound : (size : ℕ) (l : Completions) (c : Completion) → IsSoundCompletions size l → IsSoundCompletions size (with_posted size l c)
+pub post_sound : (size : ℕ) (l : Completions) (c : Cqe) → IsSoundCompletions size l → IsSoundCompletions size (with_posted size l c)
 post_sound size l c s = by_room (has_room size l) refl where
   room_tells : has_room size l ≡ true → (l.put ≡ length l.posted) × (l.put - l.seen_head < size)
   room_tells e = let p = and_parts _ _ e in (eqb-true _ _ p.0, ltb-true _ _ p.1)
+
+  no_room : has_room size l ≡ false → l.put ≡ l.seen_head + size
+  no_room e =
+      elim (and_cases (eqb l.put (length l.posted)) _ e) [
+        | inl waiting ↦ (let differ = eqb-false _ _ waiting in s.full_ring (omega arith))
+        | inr full ↦ (let none = ltb-false _ _ full in omega arith)
+      ]
 
   by_room : (room : Bool) → has_room size l ≡ room → IsSoundCompletions size (record l { posted = l.posted ++ c ∷ []; put = cond room (l.put + 1) l.put })
   by_room true e =
@@ -38,6 +46,7 @@ post_sound size l c s = by_room (has_room size l) refl where
         seen_head_head = s.seen_head_head;
         head_reaped = s.head_reaped;
         fits = omega arith;
+        full_ring = λ waits. absurd (omega (arith, length_push l.posted c));
       }
   by_room false e =
       record {
@@ -48,13 +57,14 @@ post_sound size l c s = by_room (has_room size l) refl where
         seen_head_head = s.seen_head_head;
         head_reaped = s.head_reaped;
         fits = s.fits;
+        full_ring = λ waits. no_room e;
       }
 
-pub end_sound : (size : ℕ) (l : Completions) (c : Completion) (told : Bool) → IsSoundCompletions size l → IsSoundCompletions size (cond told (with_posted size l c) l)
+pub end_sound : (size : ℕ) (l : Completions) (c : Cqe) (told : Bool) → IsSoundCompletions size l → IsSoundCompletions size (cond told (with_posted size l c) l)
 end_sound size l c true s = post_sound size l c s
 end_sound size l c false s = s
 
-pub flush_sound : (size : ℕ) (l : Completions) → IsSoundCompletions size l → IsSoundCompletions size (flushed size l)
+pub flush_sound : (size : ℕ) (l : Completions) → IsSoundCompletions size l → IsSoundCompletions size (with_flushed size l)
 flush_sound size l s =
     record {
       begins = s.begins;
@@ -64,6 +74,7 @@ flush_sound size l s =
       seen_head_head = omega arith;
       head_reaped = s.head_reaped;
       fits = omega arith;
+      full_ring = λ waits. omega arith;
     }
 
 pub see_tail_sound : (size : ℕ) (l : Completions) → IsSoundCompletions size l → IsSoundCompletions size (with_tail_loaded l)
@@ -76,15 +87,16 @@ see_tail_sound size l s =
       seen_head_head = s.seen_head_head;
       head_reaped = s.head_reaped;
       fits = s.fits;
+      full_ring = s.full_ring;
     }
 
-next_tells : (l : Completions) (c : Completion) → next_to_reap l ≡ Some c → (eqb (length l.reaped) l.seen_tail ≡ false) × (slice_get l.posted (length l.reaped) ≡ Some c)
+next_tells : (l : Completions) (c : Cqe) → next_to_reap l ≡ Some c → (eqb (length l.reaped) l.seen_tail ≡ false) × (slice_get l.posted (length l.reaped) ≡ Some c)
 next_tells l c e = by_end (eqb (length l.reaped) l.seen_tail) e where
   by_end : (at_end : Bool) → cond at_end None (slice_get l.posted (length l.reaped)) ≡ Some c → (at_end ≡ false) × (slice_get l.posted (length l.reaped) ≡ Some c)
   by_end true e = absurd cc
   by_end false e = (refl, e)
 
-pub reap_sound : (size : ℕ) (l : Completions) (c : Completion) → next_to_reap l ≡ Some c → IsSoundCompletions size l → IsSoundCompletions size (with_reaped l c)
+pub reap_sound : (size : ℕ) (l : Completions) (c : Cqe) → next_to_reap l ≡ Some c → IsSoundCompletions size l → IsSoundCompletions size (with_reaped l c)
 reap_sound size l c e s =
     let t = next_tells l c e in
     let differ = eqb-false _ _ t.0 in
@@ -98,6 +110,7 @@ reap_sound size l c e s =
       seen_head_head = s.seen_head_head;
       head_reaped = omega arith;
       fits = s.fits;
+      full_ring = s.full_ring;
     }
 
 pub store_head_sound : (size : ℕ) (l : Completions) → IsSoundCompletions size l → IsSoundCompletions size (with_head_stored l)
@@ -110,6 +123,7 @@ store_head_sound size l s =
       seen_head_head = omega arith;
       head_reaped = omega arith;
       fits = s.fits;
+      full_ring = s.full_ring;
     }
 
 -- The submission ring.
@@ -129,31 +143,31 @@ pub record IsSoundSubmission (size : ℕ) (l : Submission) : Type 0 where
   pub within_call : open_taken l.call ≤ open_count l.call
   pub few : staged l ≤ l.seen_head + size
 
-pub stage_sound : (size : ℕ) (l : Submission) (word : ℕ) → is_full size l ≡ false → IsSoundSubmission size l → IsSoundSubmission size (indexed l word)
+pub stage_sound : (size : ℕ) (l : Submission) (word : ℕ) → is_full size l ≡ false → IsSoundSubmission size l → IsSoundSubmission size (with_staged l word)
 stage_sound size l word e s =
     let differ = eqb-false _ _ e in
     record { seen_first = s.seen_first; call_published = s.call_published; within_call = s.within_call; few = omega (arith, length_push l.fresh word) }
 
-pub store_sound : (size : ℕ) (l : Submission) → IsSoundSubmission size l → IsSoundSubmission size (stored size l)
+pub store_sound : (size : ℕ) (l : Submission) → IsSoundSubmission size l → IsSoundSubmission size (with_published size l)
 store_sound size l s =
     let n = length-append l.published (map (Rattle.uring_entry.specs.Submission.place_of size l.content) l.fresh) in
     let m = length-map l.fresh (Rattle.uring_entry.specs.Submission.place_of size l.content) in
     record { seen_first = s.seen_first; call_published = omega arith; within_call = s.within_call; few = omega arith }
 
-pub load_sound : (size : ℕ) (l : Submission) → IsSoundSubmission size l → IsSoundSubmission size (loaded l)
+pub load_sound : (size : ℕ) (l : Submission) → IsSoundSubmission size l → IsSoundSubmission size (with_head_loaded l)
 load_sound size l s = record { seen_first = omega arith; call_published = s.call_published; within_call = s.within_call; few = omega arith }
 
-pub begin_sound : (size : ℕ) (l : Submission) (count : ℕ) → IsSoundSubmission size l → IsSoundSubmission size (begun l count)
+pub begin_sound : (size : ℕ) (l : Submission) (count : ℕ) → IsSoundSubmission size l → IsSoundSubmission size (with_begun l count)
 begin_sound size l count s = record { seen_first = s.seen_first; call_published = omega arith; within_call = omega arith; few = s.few }
 
-pub take_sound : (size : ℕ) (l : Submission) (call : Call) → l.call ≡ Some call → eqb call.taken call.count ≡ false → IsSoundSubmission size l → IsSoundSubmission size (took l call)
+pub take_sound : (size : ℕ) (l : Submission) (call : Call) → l.call ≡ Some call → eqb call.taken call.count ≡ false → IsSoundSubmission size l → IsSoundSubmission size (with_taken l call)
 take_sound size l call e f s =
     let differ = eqb-false _ _ f in
     let c = ap open_count e in
     let t = ap open_taken e in
     record { seen_first = s.seen_first; call_published = omega arith; within_call = omega arith; few = s.few }
 
-pub close_sound : (size : ℕ) (l : Submission) (call : Call) → l.call ≡ Some call → IsSoundSubmission size l → IsSoundSubmission size (closed l call)
+pub close_sound : (size : ℕ) (l : Submission) (call : Call) → l.call ≡ Some call → IsSoundSubmission size l → IsSoundSubmission size (with_closed l call)
 close_sound size l call e s =
     let c = ap open_count e in
     let n = sum_by_push (λ x. x) l.calls call.count in

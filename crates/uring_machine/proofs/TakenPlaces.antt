@@ -6,18 +6,18 @@ use Rattle.std.proofs.lemmas.List.{take-append-le, take_more}
 use Rattle.std.proofs.lemmas.List.Elements.{filter_map-append}
 use Rattle.std.proofs.lemmas.List.Sums.{sum_by_push}
 use Rattle.std.proofs.lemmas.Option.{slice_get_within, get_or_from_slice_get}
-use Rattle.uring_entry.specs.Shape.{Shape, IsShape}
-use Rattle.uring_entry.specs.Layout.{Entry}
+use Rattle.uring_entry.specs.Setup.{Setup, IsWithinLimits}
+use Rattle.uring_entry.specs.Layout.{Sqe}
 use Rattle.uring_entry.specs.Requests.{doomed_result, cancel_result, no_bytes}
 use Rattle.uring_entry.specs.Submission.{Submission, Call, Place, taken, entries_of, place_of, call_length}
 use Rattle.uring_machine.specs.World.{World, happens, taking_of, ending_of}
 use Rattle.uring_machine.specs.Histories.{History, world, IsLawfulApart}
 use Rattle.uring_machine.specs.Direct.{takes_position, entry_taken_by, entries_taken, positions_taken}
 use Rattle.uring_machine.specs.Laws.{TakenOnceInOrder}
-use Rattle.uring_machine.specs.declared.steps.Step.{Step}
-use Rattle.uring_machine.specs.declared.steps.Step.TheVariants as step
-use Rattle.uring_machine.specs.declared.answers.Answer.{Answer}
-use Rattle.uring_machine.specs.declared.answers.Answer.TheVariants as answer
+use Rattle.uring_machine.specs.declared.step.Step.{Step}
+use Rattle.uring_machine.specs.declared.step.Step.TheVariants as step
+use Rattle.uring_machine.specs.declared.answer.Answer.{Answer}
+use Rattle.uring_machine.specs.declared.answer.Answer.TheVariants as answer
 use Rattle.uring_machine.proofs.Changes.{Change, change_of, refuses, fills, stages, stores, loads, begins, takes, drops, closes, runs, dooms, cancels, finishes, flushes, sees_tail, reaps, stores_head, shuts}
 use Rattle.uring_machine.proofs.SoundRings.{IsSoundSubmission, open_taken, open_count}
 use Rattle.uring_machine.proofs.Sound.{sound_of}
@@ -33,13 +33,13 @@ pub record TakesPlaces (h : History) (w : World) : Type 0 where
   pub entries : entries_taken h ≡ entries_of (take (reached w.submission) w.submission.published)
 
 -- a beginning that goes one place further
-one_further : (places : List Place) (k : ℕ) (place : Place) (entry : Option Entry) → slice_get places k ≡ Some place → place.entry ≡ entry → entries_of (take (k + 1) places) ≡ entries_of (take k places) ++ cons_option entry []
+one_further : (places : List Place) (k : ℕ) (place : Place) (entry : Option Sqe) → slice_get places k ≡ Some place → place.entry ≡ entry → entries_of (take (k + 1) places) ≡ entries_of (take k places) ++ cons_option entry []
 one_further places k place entry at is =
     ap entries_of (take_more places k place (slice_get_within places k place at)) ∙ filter_map-append (λ p. p.entry) (take k places) (get_or places k place ∷ [])
     ∙ ap (λ p. entries_of (take k places) ++ cons_option p.entry []) (get_or_from_slice_get places k place place at)
     ∙ ap (λ o. entries_of (take k places) ++ cons_option o []) is
 
-took_valid : (h : History) (w : World) (entry : Entry) (call : Call) (place : Place) → w.submission.call ≡ Some call → slice_get w.submission.published (taken w.submission + call.taken) ≡ Some place → place.entry ≡ Some entry
+took_valid : (h : History) (w : World) (entry : Sqe) (call : Call) (place : Place) → w.submission.call ≡ Some call → slice_get w.submission.published (taken w.submission + call.taken) ≡ Some place → place.entry ≡ Some entry
     → TakesPlaces h w → TakesPlaces ((step.Take, answer.Entry entry) ∷ h) (taking_of w (Some call))
 took_valid h w entry call place opened at valid i =
     let t : open_taken w.submission.call ≡ call.taken = ap open_taken opened in
@@ -60,7 +60,7 @@ took_invalid h w call place opened at invalid i =
       entries = i.entries ∙ ap (λ k. entries_of (take k w.submission.published)) here ∙ sym (append-nil _) ∙ sym (one_further w.submission.published (taken w.submission + call.taken) place None at invalid) ∙ ap (λ k. entries_of (take k w.submission.published)) (omega arith);
     }
 
-closed_places : (g : Shape) (h : History) (w : World) (accepted missed head : ℕ) (call : Call) → w.submission.call ≡ Some call → nat_lt call.taken call.count ≡ false → IsSoundSubmission g.sq w.submission
+closed_places : (g : Setup) (h : History) (w : World) (accepted missed head : ℕ) (call : Call) → w.submission.call ≡ Some call → nat_lt call.taken call.count ≡ false → IsSoundSubmission g.sq w.submission
     → TakesPlaces h w → TakesPlaces ((step.End, answer.Taken accepted missed head) ∷ h) (ending_of w (Some call))
 closed_places g h w accepted missed head call opened all sound i =
     let t : open_taken w.submission.call ≡ call.taken = ap open_taken opened in
@@ -73,7 +73,7 @@ closed_places g h w accepted missed head call opened all sound i =
       entries = i.entries ∙ ap (λ k. entries_of (take k w.submission.published)) same;
     }
 
-begun_places : (g : Shape) (h : History) (w : World) (count : ℕ) → w.submission.call ≡ None → TakesPlaces h w → TakesPlaces ((step.Begin count, answer.Call (call_length w.submission count)) ∷ h) (happens g w (step.Begin count) (answer.Call (call_length w.submission count)))
+begun_places : (g : Setup) (h : History) (w : World) (count : ℕ) → w.submission.call ≡ None → TakesPlaces h w → TakesPlaces ((step.Begin count, answer.Call (call_length w.submission count)) ∷ h) (happens g w (step.Begin count) (answer.Call (call_length w.submission count)))
 begun_places g h w count no_call i =
     let t : open_taken w.submission.call ≡ 0 = ap open_taken no_call in
     let same : reached w.submission ≡ taken w.submission + 0 = omega arith in
@@ -82,14 +82,14 @@ begun_places g h w count no_call i =
       entries = i.entries ∙ ap (λ k. entries_of (take k w.submission.published)) same;
     }
 
-stored_places : (g : Shape) (h : History) (w : World) (tail : ℕ) → IsSoundSubmission g.sq w.submission → TakesPlaces h w → TakesPlaces ((step.StoreTail, answer.Tail tail) ∷ h) (happens g w step.StoreTail (answer.Tail tail))
+stored_places : (g : Setup) (h : History) (w : World) (tail : ℕ) → IsSoundSubmission g.sq w.submission → TakesPlaces h w → TakesPlaces ((step.StoreTail, answer.Tail tail) ∷ h) (happens g w step.StoreTail (answer.Tail tail))
 stored_places g h w tail sound i =
     record {
       count = count_same takes_position (step.StoreTail, answer.Tail tail) h refl ∙ i.count;
       entries = i.entries ∙ ap entries_of (sym (take-append-le (reached w.submission) w.submission.published (map (place_of g.sq w.submission.content) w.submission.fresh) (omega arith)));
     }
 
-places_kept : (g : Shape) (h : History) (w : World) (s : Step) (a : Answer) → Change g w s a → IsSoundSubmission g.sq w.submission → TakesPlaces h w → TakesPlaces ((s, a) ∷ h) (happens g w s a)
+places_kept : (g : Setup) (h : History) (w : World) (s : Step) (a : Answer) → Change g w s a → IsSoundSubmission g.sq w.submission → TakesPlaces h w → TakesPlaces ((s, a) ∷ h) (happens g w s a)
 places_kept g h w s a (refuses _ _ same silent) sound i = subst (λ v. TakesPlaces ((s, a) ∷ h) v) (sym (same w)) (record { count = count_same takes_position (s, a) h silent.takes ∙ i.count; entries = told_same entry_taken_by (s, a) h silent.takes_entry ∙ i.entries })
 places_kept g h w s a (fills slot entry free) sound i = record { count = count_same takes_position (step.Fill slot entry, answer.Filled) h refl ∙ i.count; entries = i.entries }
 places_kept g h w s a (stages word room) sound i = record { count = count_same takes_position (step.Index word, answer.Staged) h refl ∙ i.count; entries = i.entries }
@@ -109,13 +109,13 @@ places_kept g h w s a (reaps completion next) sound i = record { count = count_s
 places_kept g h w s a (stores_head head) sound i = record { count = count_same takes_position (step.StoreCqHead, answer.Head head) h refl ∙ i.count; entries = i.entries }
 places_kept g h w s a (shuts no_call) sound i = record { count = count_same takes_position (step.Close, answer.Shut) h refl ∙ i.count; entries = i.entries }
 
-pub takes_places : (g : Shape) (h : History) → IsLawfulApart g h → TakesPlaces h (world g h)
+pub takes_places : (g : Setup) (h : History) → IsLawfulApart g h → TakesPlaces h (world g h)
 takes_places g [] lawful = record { count = refl; entries = refl }
 takes_places g ((s, a) ∷ before) lawful =
     places_kept g before (world g before) s a (change_of g (world g before) s a lawful.0) (sound_of g before lawful.1).submission (takes_places g before lawful.1)
 
-pub once_in_order : (g : Shape) (h : History) → IsShape g → IsLawfulApart g h → TakenOnceInOrder g h
-once_in_order g h shape lawful =
+pub once_in_order : (g : Setup) (h : History) → IsWithinLimits g → IsLawfulApart g h → TakenOnceInOrder g h
+once_in_order g h setup lawful =
     let s = (sound_of g h lawful).submission in
     let t = takes_places g h lawful in
     record {

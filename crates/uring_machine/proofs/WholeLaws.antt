@@ -1,6 +1,6 @@
 -- Histories whose ends are called for by their files too.
 use Rattle.std.proofs.Common.{◌≡◌, ℕ, ◌<◌, ℤ, pos, negsuc, neg_ℤ, Bool, true, false, cond, Option, Some, None, List, [], ◌∷◌, ◌++◌, refl, subst, inl, inr, arith}
-use Rattle.uring_entry.specs.Shape.{Shape}
+use Rattle.uring_entry.specs.Setup.{Setup}
 use Rattle.uring_entry.specs.Requests.{is_running}
 use Rattle.uring_entry.specs.declared.errno.TheConstants.{ECANCELED}
 use Rattle.uring_entry.specs.declared.operation.Op.{Op}
@@ -9,14 +9,14 @@ use Rattle.uring_entry.specs.declared.outcomes.Outcome.{Outcome}
 use Rattle.uring_files.specs.Contents.{FileContents, read_outcome, is_too_long}
 use Rattle.uring_files.specs.Operations.{IsOutcome, result_of, ended_with, on_file, file_of}
 use Rattle.uring_machine.specs.World.{World}
-use Rattle.uring_machine.specs.Answers.{CalledForApart, FinishesApart}
-use Rattle.uring_machine.specs.Contents.{CalledFor, IsLawful, EndsOn, files_of}
+use Rattle.uring_machine.specs.StepAnswers.{CalledForApart, FinishesApart}
+use Rattle.uring_machine.specs.CalledFor.{CalledFor, IsLawful, EndsOn, files_of}
 use Rattle.uring_machine.specs.Histories.{History, world, IsLawfulApart}
 use Rattle.uring_entry.specs.Requests.{Requests}
-use Rattle.uring_machine.specs.declared.steps.Step.{Step}
-use Rattle.uring_machine.specs.declared.steps.Step.TheVariants as step
-use Rattle.uring_machine.specs.declared.answers.Answer.{Answer}
-use Rattle.uring_machine.specs.declared.answers.Answer.TheVariants as answer
+use Rattle.uring_machine.specs.declared.step.Step.{Step}
+use Rattle.uring_machine.specs.declared.step.Step.TheVariants as step
+use Rattle.uring_machine.specs.declared.answer.Answer.{Answer}
+use Rattle.uring_machine.specs.declared.answer.Answer.TheVariants as answer
 
 -- an end on the files is an end apart from them
 finish_apart : (files : List FileContents) (r : Requests) (n : ℕ) (b : Bool) (a : Answer) → EndsOn files r n b a → FinishesApart b a
@@ -24,7 +24,7 @@ finish_apart files r n true (answer.Ended res bytes) e = tt
 finish_apart files r n true _ e = absurd e
 finish_apart files r n false a e = e
 
-apart_called : (g : Shape) (w : World) (s : Step) (a : Answer) → CalledFor g w s a → CalledForApart g w s a
+apart_called : (g : Setup) (w : World) (s : Step) (a : Answer) → CalledFor g w s a → CalledForApart g w s a
 apart_called g w (step.Fill slot entry) a called = called
 apart_called g w (step.Index word) a called = called
 apart_called g w step.StoreTail a called = called
@@ -41,12 +41,12 @@ apart_called g w step.StoreCqHead a called = called
 apart_called g w step.Close a called = called
 apart_called g w step.Next a called = called
 
-pub lawful_apart : (g : Shape) (h : History) → IsLawful g h → IsLawfulApart g h
+pub lawful_apart : (g : Setup) (h : History) → IsLawful g h → IsLawfulApart g h
 lawful_apart g [] lawful = tt
 lawful_apart g ((s, a) ∷ before) lawful = (apart_called g (world g before) s a lawful.0, lawful_apart g before lawful.1)
 
 -- what came before in a lawful history is lawful
-lawful_before : (g : Shape) (after before : History) → IsLawful g (after ++ before) → IsLawful g before
+lawful_before : (g : Setup) (after before : History) → IsLawful g (after ++ before) → IsLawful g before
 lawful_before g [] before lawful = lawful
 lawful_before g ((s, a) ∷ after) before lawful = lawful_before g after before lawful.1
 
@@ -97,7 +97,7 @@ ends_not : (files : List FileContents) (r : Requests) (n : ℕ) (b : Bool) (byte
 ends_not files r n true bytes e = outcome_not files _ (record { res = neg_ℤ ECANCELED; bytes = bytes }) e (unfold_negsuc 124)
 ends_not files r n false bytes e = cc
 
-pub finish_never_cancels : (g : Shape) (after before : History) (n : ℕ) (bytes : List ℕ) → IsLawful g (after ++ (step.Finish n, answer.Ended (neg_ℤ ECANCELED) bytes) ∷ before) → ⊥
+pub finish_never_cancels : (g : Setup) (after before : History) (n : ℕ) (bytes : List ℕ) → IsLawful g (after ++ (step.Finish n, answer.Ended (neg_ℤ ECANCELED) bytes) ∷ before) → ⊥
 finish_never_cancels g after before n bytes lawful =
     let called = (lawful_before g after _ lawful).0 in
     ends_not (files_of g (world g before)) (world g before).requests n (is_running (world g before).requests n) bytes called

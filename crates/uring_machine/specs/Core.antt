@@ -1,32 +1,32 @@
 -- What rings and dispatcher hold, and the history that this fits.
-use Rattle.std.specs.Prelude.{◌≡◌, ℕ, ◌+◌, ◌-◌, ◌^◌, ◌≤◌, Bool, true, List, [], length, Option, Some, None, if◌then◌else◌}
-use Rattle.uring_entry.specs.Shape.{Shape, IsShape}
-use Rattle.uring_entry.specs.Layout.{Entry}
-use Rattle.uring_entry.specs.Submission.{Submission, Call, entries_from}
-use Rattle.uring_rings.specs.SubmissionRing.{SubmissionQueue, ShowsSubmission}
-use Rattle.uring_rings.specs.CompletionRing.{CompletionQueue, ShowsCompletions}
-use Rattle.uring_dispatch.specs.Dispatcher.{Dispatcher, Shows}
+use Rattle.std.specs.Prelude.{◌≡◌, ℕ, ◌+◌, ◌-◌, ◌^◌, ◌<◌, ◌≤◌, ◌⊎◌, Bool, true, List, [], length, Option, Some, None, if◌then◌else◌}
+use Rattle.uring_entry.specs.Setup.{Setup, IsWithinLimits}
+use Rattle.uring_entry.specs.Layout.{Sqe}
+use Rattle.uring_entry.specs.Submission.{Submission, Call, call_length, entries_from}
+use Rattle.uring_rings.specs.Sq.{Sq, ShowsSubmission}
+use Rattle.uring_rings.specs.Cq.{Cq, ShowsCompletions}
+use Rattle.uring_dispatch.specs.Dispatch.{Dispatch, ShowsRequests}
 use Rattle.uring_machine.specs.World.{World}
 use Rattle.uring_machine.specs.Histories.{History, world, IsLawfulApart}
 use Rattle.uring_entry.specs.Requests.{is_running, outstanding_in, running_in}
 use Rattle.uring_entry.specs.declared.outcomes.Outcome.{Outcome}
-use Rattle.uring_machine.specs.declared.answers.Answer.{Answer}
-use Rattle.uring_machine.specs.declared.answers.Answer.TheVariants as answer
+use Rattle.uring_machine.specs.declared.answer.Answer.{Answer}
+use Rattle.uring_machine.specs.declared.answer.Answer.TheVariants as answer
 use Rattle.uring_machine.specs.declared.counts.Counts.{Counts}
-use Rattle.uring_machine.specs.declared.steps.Step.{Step}
-use Rattle.uring_machine.specs.declared.steps.Step.TheVariants as step
+use Rattle.uring_machine.specs.declared.step.Step.{Step}
+use Rattle.uring_machine.specs.declared.step.Step.TheVariants as step
 
 -- The parts of a core: both rings, the dispatcher, the entries that the open call took, and whether the ring is closed.
-pub record Parts : Type 0 where
-  pub shape : Shape
-  pub submissions : SubmissionQueue
-  pub completions : CompletionQueue
-  pub dispatcher : Dispatcher
-  pub held : List Entry
+pub record Core : Type 0 where
+  pub setup : Setup
+  pub sq : Sq
+  pub completions : Cq
+  pub dispatch : Dispatch
+  pub held : List Sqe
   pub is_closed : Bool
 
 -- the entries that the open call took so far
-abbrev pub held_by : Submission → Option Call → List Entry
+abbrev pub held_by : Submission → Option Call → List Sqe
 held_by l None = []
 held_by l (Some call) = entries_from l call.taken
 
@@ -36,29 +36,45 @@ positions_of None = 0
 positions_of (Some call) = call.count
 
 -- The parts show what has happened.
-pub record ShowsWorld (p : Parts) (w : World) : Type 0 where
-  pub submission : ShowsSubmission p.shape p.submissions w.submission
-  pub completions : ShowsCompletions p.shape p.completions w.completions
-  pub requests : Shows p.dispatcher w.requests
+pub record ShowsWorld (p : Core) (w : World) : Type 0 where
+  pub submission : ShowsSubmission p.setup p.sq w.submission
+  pub completions : ShowsCompletions p.setup p.completions w.completions
+  pub requests : ShowsRequests p.dispatch w.requests
   pub held : p.held ≡ held_by w.submission w.submission.call
   pub closed : p.is_closed ≡ w.is_closed
-  pub between : p.dispatcher.is_between_calls ≡ true
+  pub between : p.dispatch.is_between_calls ≡ true
   -- what is outstanding, and what the open call may still accept, will find room to be accepted and to end
-  pub room_to_post : p.dispatcher.outstanding + positions_of w.submission.call ≤ p.completions.room
-  pub room_to_accept : positions_of w.submission.call ≤ p.dispatcher.room
+  pub room_to_post : p.dispatch.outstanding + positions_of w.submission.call ≤ p.completions.room
+  pub room_to_accept : positions_of w.submission.call ≤ p.dispatch.room
+  -- and memory is there for each post that is promised
+  pub promised : p.completions.room ≤ p.completions.spare
   -- numbers stay below 2 ^ 63, those of the open call too
-  pub numbers : p.dispatcher.accepted + positions_of w.submission.call ≤ 2 ^ 63 - 1
+  pub numbers : p.dispatch.accepted + positions_of w.submission.call ≤ 2 ^ 63 - 1
   -- no more was posted than has ended
-  pub posts : length w.completions.posted + p.dispatcher.outstanding ≤ p.dispatcher.accepted
+  pub posts : length w.completions.posted + p.dispatch.outstanding ≤ p.dispatch.accepted
 
 -- The core fits a history: it shows what the history has made, and each answer was called for, apart from what operations gave.
-pub record FitsApart (p : Parts) (h : History) : Type 0 where
-  pub shows : ShowsWorld p (world p.shape h)
-  pub lawful : IsLawfulApart p.shape h
+pub record FitsApart (p : Core) (h : History) : Type 0 where
+  pub shows : ShowsWorld p (world p.setup h)
+  pub lawful : IsLawfulApart p.setup h
 
 -- some history is fitted
-abbrev pub IsCore : Parts → Type 0
-IsCore p = IsShape p.shape × (h : History) × FitsApart p h
+abbrev pub IsCore : Core → Type 0
+IsCore p = IsWithinLimits p.setup × (h : History) × FitsApart p h
+
+-- Memory is short for a call of so many positions: the dispatcher has none for so many requests, or the completion ring none for their ends and those of all outstanding requests.
+abbrev pub IsShortFor : Core → ℕ → Type 0
+IsShortFor p length = (p.dispatch.room < length) ⊎ (p.completions.spare < p.dispatch.outstanding + length)
+
+-- memory is short for this step, of which only a Begin asks for any. Our own rule
+abbrev pub IsShortOfMemory : Core → World → Step → Type 0
+IsShortOfMemory p w (step.Begin count) = IsShortFor p (call_length w.submission count)
+IsShortOfMemory p w _ = ⊥
+
+-- No memory was given back: as many requests have memory, accepted or not, and as many completions in the overflow list, waiting or not. Our own rule
+pub record HasNoLessMemory (old new : Core) : Type 0 where
+  pub requests : old.dispatch.accepted + old.dispatch.room ≤ new.dispatch.accepted + new.dispatch.room
+  pub completions : length old.completions.overflow + old.completions.spare ≤ length new.completions.overflow + new.completions.spare
 
 -- any step but a finish
 abbrev pub IsNoFinish : Step → Type 0

@@ -2,14 +2,14 @@
 use Rattle.std.specs.Prelude.{ℕ, ◌+◌, Bool, true, false, not, ◌&&◌, ◌==◌, nat_lt, List, [], ◌∷◌, ◌++◌, length, take, sum, count_by, Option, Some, None, is_some, unwrap_or, if◌then◌else◌, slice_index_or}
 use Rattle.std.specs.List.{filter_map}
 use Rattle.std.specs.Option.{option_or}
-use Rattle.uring_entry.specs.Layout.{Entry, Completion, zero_entry}
+use Rattle.uring_entry.specs.Layout.{Sqe, Cqe, zero_entry}
 use Rattle.uring_entry.specs.Success.{posts_completion}
 use Rattle.uring_entry.specs.Submission.{Call}
 use Rattle.uring_entry.specs.Completions.{completion_for}
 use Rattle.uring_entry.specs.Requests.{Ending}
 use Rattle.uring_machine.specs.Histories.{Event, History}
-use Rattle.uring_machine.specs.declared.steps.Step.TheVariants as step
-use Rattle.uring_machine.specs.declared.answers.Answer.TheVariants as answer
+use Rattle.uring_machine.specs.declared.step.Step.TheVariants as step
+use Rattle.uring_machine.specs.declared.answer.Answer.TheVariants as answer
 
 -- What one event tells.
 
@@ -25,7 +25,7 @@ end_told_by (step.Finish n, answer.Ended res bytes) = Some (record { number = n;
 end_told_by _ = None
 
 -- the completion that the application reaps
-abbrev pub reaped_by : Event → Option Completion
+abbrev pub reaped_by : Event → Option Cqe
 reaped_by (step.Reap, answer.Reaped completion) = Some completion
 reaped_by _ = None
 
@@ -35,12 +35,12 @@ staged_by (step.Index word, answer.Staged) = Some word
 staged_by _ = None
 
 -- the entry that this slot is filled with
-abbrev pub filled_by : ℕ → Event → Option Entry
+abbrev pub filled_by : ℕ → Event → Option Sqe
 filled_by asked (step.Fill slot entry, answer.Filled) = if asked == slot then Some entry else None
 filled_by asked _ = None
 
 -- the entry that a call takes
-abbrev pub entry_taken_by : Event → Option Entry
+abbrev pub entry_taken_by : Event → Option Sqe
 entry_taken_by (step.Take, answer.Entry entry) = Some entry
 entry_taken_by _ = None
 
@@ -132,17 +132,17 @@ abbrev pub ends : History → List Ending
 ends h = told end_told_by h
 
 -- the completions that the application reaped, in order
-abbrev pub reaps : History → List Completion
+abbrev pub reaps : History → List Cqe
 reaps h = told reaped_by h
 
 -- the completion of an end, where these entries were accepted: none, for a success that its entry asks to skip
-abbrev pub completion_of : List Entry → Ending → Option Completion
+abbrev pub completion_of : List Sqe → Ending → Option Cqe
 completion_of accepted e =
     let entry = slice_index_or accepted e.number zero_entry in
     if posts_completion entry e.res then Some (completion_for entry e.res e.bytes) else None
 
 -- the completions posted, in order, where these entries were accepted
-abbrev pub posts : List Entry → History → List Completion
+abbrev pub posts : List Sqe → History → List Cqe
 posts accepted h = filter_map (completion_of accepted) (ends h)
 
 -- the words staged, in order
@@ -154,7 +154,7 @@ abbrev pub published_words : History → List ℕ
 published_words h = staged_words (before_last is_store_tail h)
 
 -- what a slot holds: what it was last filled with, else the zero entry
-abbrev pub slot_content : History → ℕ → Entry
+abbrev pub slot_content : History → ℕ → Sqe
 slot_content h slot = unwrap_or (last_told (filled_by slot) h) zero_entry
 
 -- what stands before the store of the tail that published this position, the first one after its word was staged
@@ -164,7 +164,7 @@ before_published position (event ∷ before) =
     if is_store_tail event && not (nat_lt position (length (published_words before))) then before else before_published position before
 
 -- the entry that a published position has, where the table has size slots: what its slot held as it was published, where its word names a slot
-abbrev pub published_entry : ℕ → History → ℕ → Option Entry
+abbrev pub published_entry : ℕ → History → ℕ → Option Sqe
 published_entry size h position =
     let word = slice_index_or (staged_words h) position 0 in
     if nat_lt word size then Some (slot_content (before_published position h) word) else None
@@ -197,7 +197,7 @@ abbrev pub cut_counts : History → List ℕ
 cut_counts h = sums_from 0 (told accepted_by h)
 
 -- the entries that calls took, in order, and how many positions they took
-abbrev pub entries_taken : History → List Entry
+abbrev pub entries_taken : History → List Sqe
 entries_taken h = told entry_taken_by h
 
 abbrev pub positions_taken : History → ℕ

@@ -1,10 +1,10 @@
 -- Histories: the steps made on a new machine, each with its answer.
-use Rattle.std.specs.Prelude.{List, [], ◌∷◌}
-use Rattle.uring_entry.specs.Shape.{Shape}
+use Rattle.std.specs.Prelude.{List, [], ◌∷◌, reverse}
+use Rattle.uring_entry.specs.Setup.{Setup}
 use Rattle.uring_machine.specs.World.{World, at_first, happens}
-use Rattle.uring_machine.specs.Answers.{CalledForApart}
-use Rattle.uring_machine.specs.declared.steps.Step.{Step}
-use Rattle.uring_machine.specs.declared.answers.Answer.{Answer}
+use Rattle.uring_machine.specs.StepAnswers.{CalledForApart}
+use Rattle.uring_machine.specs.declared.step.Step.{Step}
+use Rattle.uring_machine.specs.declared.answer.Answer.{Answer}
 
 -- a step and its answer
 abbrev pub Event : Type 0
@@ -15,17 +15,15 @@ abbrev pub History : Type 0
 History = List Event
 
 -- what a history has made
-abbrev pub world : Shape → History → World
+abbrev pub world : Setup → History → World
 world g [] = at_first
 world g ((step, answer) ∷ before) = happens g (world g before) step answer
 
 -- each answer is called for by what came before it, apart from what operations gave
-abbrev pub IsLawfulApart : Shape → History → Type 0
+abbrev pub IsLawfulApart : Setup → History → Type 0
 IsLawfulApart g [] = Unit {0}
 IsLawfulApart g ((step, answer) ∷ before) = CalledForApart g (world g before) step answer × IsLawfulApart g before
 
--- a history followed by steps, each with its answer
-abbrev pub followed : History → List Step → List Answer → History
-followed before [] answers = before
-followed before (step ∷ steps) [] = before
-followed before (step ∷ steps) (answer ∷ answers) = followed ((step, answer) ∷ before) steps answers
+-- the history of events that are written in the order in which they happened
+abbrev pub history_of : List Event → History
+history_of events = reverse events

@@ -1,11 +1,14 @@
 pub mod World
-pub mod Answers
+pub mod StepAnswers
 pub mod Histories
 pub mod Direct
 pub mod Laws
 pub mod HistoryLists
 pub mod Told
-pub mod Contents
+pub mod CalledFor
 pub mod Core
 pub mod Machine
 pub mod Settling
+pub mod Finishes
+pub mod Published
+pub mod Standing

@@ -1,13 +1,13 @@
 -- How a machine is settled, and what is left once nothing is outstanding.
-use Rattle.std.specs.Prelude.{◌≡◌, ℕ, ◌+◌, ◌*◌, ◌≤◌, Bool, true, false, [], ◌∷◌, ◌++◌, length, Option, Some, None}
+use Rattle.std.specs.Prelude.{◌≡◌, ℕ, ◌+◌, ◌*◌, ◌≤◌, Bool, true, false, List, [], ◌∷◌, ◌++◌, length, Option, Some, None}
 use Rattle.std.specs.List.{list_all}
-use Rattle.uring_entry.specs.Shape.{Shape}
+use Rattle.uring_entry.specs.Setup.{Setup}
 use Rattle.uring_entry.specs.Requests.{is_outstanding, next_of, least_of, outstanding_in}
-use Rattle.uring_machine.specs.Histories.{Event, History, world}
+use Rattle.uring_machine.specs.Histories.{Event, History, world, history_of}
 use Rattle.uring_machine.specs.Direct.{started_by}
-use Rattle.uring_machine.specs.Machine.{Holding, Fits}
-use Rattle.uring_machine.specs.declared.steps.Step.{Step}
-use Rattle.uring_machine.specs.declared.steps.Step.TheVariants as step
+use Rattle.uring_machine.specs.Machine.{Machine, Fits}
+use Rattle.uring_machine.specs.declared.step.Step.{Step}
+use Rattle.uring_machine.specs.declared.step.Step.TheVariants as step
 
 -- whether an event is an Issue or a Finish
 abbrev pub is_issue_or_finish : Event → Bool
@@ -15,10 +15,10 @@ is_issue_or_finish (step.Issue n, answer) = true
 is_issue_or_finish (step.Finish n, answer) = true
 is_issue_or_finish event = false
 
--- the request that the newest of these events started
-abbrev pub just_started : History → Option ℕ
-just_started [] = None
-just_started (event ∷ before) = started_by event
+-- the request that the last of these events started, the oldest first: this one, if there is no event
+abbrev pub started_last : Option ℕ → List Event → Option ℕ
+started_last started [] = started
+started_last started (event ∷ later) = started_last (started_by event) later
 
 -- the step that settles further: the finish of the request that was just started, else the issue of the next one, and where none can be issued the finish of the least outstanding one. Our own rule
 abbrev pub settling_step : (started next least : Option ℕ) → Option Step
@@ -27,30 +27,30 @@ settling_step None (Some n) least = Some (step.Issue n)
 settling_step None None (Some n) = Some (step.Finish n)
 settling_step None None None = None
 
--- each of these events, which came after this history, is the step that settled further
-abbrev pub AreSettling : Shape → History → History → Type 0
-AreSettling g before [] = Unit {0}
-AreSettling g before ((s, a) ∷ events) =
-    let r = (world g (events ++ before)).requests in
-    (settling_step (just_started events) (next_of r) (least_of r) ≡ Some s) × AreSettling g before events
+-- each of these events, the oldest first, is the step that settles further: the first of them after this history, in which this request was just started
+abbrev pub AreSettling : Setup → History → Option ℕ → List Event → Type 0
+AreSettling g before started [] = Unit {0}
+AreSettling g before started ((s, a) ∷ later) =
+    let r = (world g before).requests in
+    (settling_step started (next_of r) (least_of r) ≡ Some s) × AreSettling g ((s, a) ∷ before) (started_by (s, a)) later
 
--- A machine that fitted this history fits it followed by so many events, each an Issue or a Finish, which ended so many requests: at most two for each.
-pub record HasSettled (old new : Holding) (before : History) (count ended : ℕ) : Type 0 where
-  pub events : History
+-- So many events, the oldest first, each the Issue or the Finish that settles further: a machine that fits the history followed by them.
+pub record Settles (now : Machine) (before : History) (count : ℕ) : Type 0 where
+  pub events : List Event
   pub issues_and_finishes : list_all is_issue_or_finish events ≡ true
-  pub settling : AreSettling new.core.shape before events
-  pub none_started : just_started events ≡ None
-  pub fits : Fits new (events ++ before)
+  pub settling : AreSettling now.core.setup before None events
+  pub fits : Fits now (history_of events ++ before)
   pub many : length events ≡ count
+
+-- A machine that fitted this history fits it followed by so many events that settled further, which ended so many requests: at most two for each. No request was started last.
+pub record HasSettled (old new : Machine) (before : History) (count ended : ℕ) : Type 0 where
+  pub settles : Settles new before count
+  pub none_started : started_last None settles.events ≡ None
   pub few : count ≤ 2 * ended
-  pub fewer : new.core.dispatcher.outstanding + ended ≡ old.core.dispatcher.outstanding
+  pub fewer : new.core.dispatch.outstanding + ended ≡ old.core.dispatch.outstanding
 
--- A machine that fitted this history was made idle: it fits the history followed by so many events, each the Issue or the Finish that settled further, and nothing is outstanding. The events are at most two for each request that was outstanding.
-pub record IsSettled (idle : Holding) (before : History) (count : ℕ) : Type 0 where
-  pub events : History
-  pub issues_and_finishes : list_all is_issue_or_finish events ≡ true
-  pub settling : AreSettling idle.core.shape before events
-  pub fits : Fits idle (events ++ before)
-  pub many : length events ≡ count
-  pub few : count ≤ 2 * outstanding_in (world idle.core.shape before).requests
-  pub none_outstanding : (n : ℕ) → is_outstanding (world idle.core.shape (events ++ before)).requests n ≡ false
+-- A machine that fitted this history was made idle: it fits the history followed by so many events that settled further, and nothing is outstanding. The events are at most two for each request that was outstanding.
+pub record IsSettled (idle : Machine) (before : History) (count : ℕ) : Type 0 where
+  pub settles : Settles idle before count
+  pub few : count ≤ 2 * outstanding_in (world idle.core.setup before).requests
+  pub none_outstanding : (n : ℕ) → is_outstanding (world idle.core.setup (history_of settles.events ++ before)).requests n ≡ false

@@ -2,10 +2,10 @@
 
 ghost use Rattle.std.specs.Prelude.{◌≡◌};
 ghost use Rattle.uring_machine.specs.Told.{fill_told, index_told, begin_told};
-ghost use Rattle.uring_machine.specs.declared.answers.Answer.TheVariants as answer;
-ghost use Rattle.uring_machine.specs.Answers.{reap_answer_of, next_answer_of};
+ghost use Rattle.uring_machine.specs.declared.answer.Answer.TheVariants as answer;
+ghost use Rattle.uring_machine.specs.StepAnswers.{reap_answer_of, next_answer_of};
 
-use crate::answers::Answer;
+use crate::answer::Answer;
 use uring_entry::Cqe;
 use uring_rings::{BeginAnswer, FillAnswer, IndexAnswer};
 

@@ -1,15 +1,18 @@
-ghost use Rattle.std.specs.Prelude.{◌≡◌, ◌∷◌, [], IfOk, slice_get};
+ghost use Rattle.std.specs.Prelude.{◌≡◌, ◌∷◌, [], IfOk, IfSome, slice_get};
+ghost use Rattle.uring_entry.specs.Setup.{IsWithinLimits};
 ghost use Rattle.uring_entry.specs.Completions.{unreaped};
-ghost use Rattle.uring_entry.specs.Requests.{least_of, operation_running};
+ghost use Rattle.uring_entry.specs.Requests.{least_of, operation_running, next_of};
+ghost use Rattle.uring_files.specs.Operations.{IsForFiles};
 ghost use Rattle.uring_machine.specs.Histories.{History, world};
-ghost use Rattle.uring_machine.specs.declared.steps.Step.TheVariants as step;
+ghost use Rattle.uring_machine.specs.declared.step.Step.TheVariants as step;
+ghost use Rattle.uring_machine.specs.declared.answer.Answer.TheVariants as answer;
 
 use crate::acceptance::accept_call;
-use crate::answers::Answer;
+use crate::answer::Answer;
 use crate::conversions::{tell_begin, tell_end, tell_fill, tell_index, tell_next, tell_reap};
 use crate::counts::Counts;
 use crate::posting::tell;
-use crate::steps::Step;
+use crate::step::Step;
 use std::alloc::{AllocError, Global};
 use std::marker::Model;
 use uring_dispatch::{Dispatch, Finished, Issued, ReserveError};
@@ -23,31 +26,31 @@ pub struct Core {
     sq: Sq,
     cq: Cq,
     dispatch: Dispatch,
-
-    /// The entries that the open call took, in order.
+    // The entries that the open call took, in order. There is room for those of a whole ring.
     held: Vec<Sqe>,
+    // Whether a Close was answered Shut.
     is_closed: bool,
 }
 
 impl Model for Core {
-    ghost use Rattle.uring_machine.specs.Core.{Parts};
+    ghost use Rattle.uring_machine.specs.Core.{Core};
 
-    ghost Value = { Parts };
+    ghost Value = { Core };
 
     ghost use Rattle.std.specs.Prelude.{◌≤◌, vec_capacity};
     ghost use Rattle.uring_machine.specs.Core.{IsCore};
 
-    ghost view = { λ c. record { shape = c.setup; submissions = c.sq; completions = c.cq; dispatcher = c.dispatch; held = c.held.items; is_closed = c.is_closed } };
+    ghost view = { λ c. record { setup = c.setup; sq = c.sq; completions = c.cq; dispatch = c.dispatch; held = c.held.items; is_closed = c.is_closed } };
 
-    ghost invariant = { λ c. (c.setup.sq ≤ vec_capacity c.held) × IsCore (record { shape = c.setup; submissions = c.sq; completions = c.cq; dispatcher = c.dispatch; held = c.held.items; is_closed = c.is_closed }) };
+    ghost invariant = { λ c. (c.setup.sq ≤ vec_capacity c.held) × IsCore (record { setup = c.setup; sq = c.sq; completions = c.cq; dispatch = c.dispatch; held = c.held.items; is_closed = c.is_closed }) };
 }
 
 impl Core {
-    ghost use Rattle.uring_machine.specs.Core.{FitsApart, IsNoFinish, IsFinished, IsCounts};
+    ghost use Rattle.uring_machine.specs.Core.{FitsApart, IsNoFinish, IsFinished, IsCounts, IsShortOfMemory, HasNoLessMemory};
 
     /// A core of this set-up on which nothing has happened. `AllocError`: memory was refused.
     pub fn new(alloc: Global, setup: &Setup) -> Result<Core, AllocError>
-        ensures shape { IfOk result (λ core. core.shape ≡ setup.now) }
+        ensures setup { IfOk result (λ core. core.setup ≡ setup.now) }
         ensures fits { IfOk result (λ core. FitsApart core []) }
     {
         let held = Vec::with_capacity(alloc, setup.sq() as usize)?;
@@ -61,11 +64,15 @@ impl Core {
         })
     }
 
-    /// Makes one step, and answers it. Condition: it is no `Finish`, which is a call of its own. Only `Begin` asks for memory; where it is refused the answer is `Again`, and nothing is consumed.
+    /// Makes one step, and answers it. Condition: it is no `Finish`, which is a call of its own. Only `Begin` asks for memory, and only if its call may need more than is there; if that is refused the answer is `Again`, and nothing is consumed.
     pub fn step(&mut self, step: Step) -> Answer
         requires { IsNoFinish step }
-        ensures shape { self.new.shape ≡ self.old.shape }
+        ensures setup { self.new.setup ≡ self.old.setup }
         ensures fits { (h : History) → FitsApart self.old h → FitsApart self.new ((step, result) ∷ h) }
+
+        // Memory that was once had is never refused again.
+        ensures again { (h : History) → FitsApart self.old h → result ≡ answer.Again → IsShortOfMemory self.old (world self.old.setup h) step }
+        ensures memory { HasNoLessMemory self.old self.new }
     {
         match step {
             Step::Fill { slot, entry } => self.fill(slot, entry),
@@ -82,15 +89,16 @@ impl Core {
             Step::Reap => self.reap(),
             Step::StoreCqHead => self.store_cq_head(),
             Step::Close => self.close(),
-            Step::Next => self.next(),
+            Step::Next => self.ask_next(),
         }
     }
 
     /// Ends the running request of this number with an outcome from outside, any one, and posts its completion, unless it succeeded and is to be skipped; `NotRunning` where it isn't running, and then nothing changes.
     pub fn finish(&mut self, number: u64, outcome: Outcome) -> Answer
-        ensures shape { self.new.shape ≡ self.old.shape }
+        ensures setup { self.new.setup ≡ self.old.setup }
         ensures fits { (h : History) → FitsApart self.old h → FitsApart self.new ((step.Finish number, result) ∷ h) }
-        ensures outcome { (h : History) → FitsApart self.old h → IsFinished (world self.old.shape h) number outcome result }
+        ensures memory { HasNoLessMemory self.old self.new }
+        ensures outcome { (h : History) → FitsApart self.old h → IsFinished (world self.old.setup h) number outcome result }
     {
         let entry = self.dispatch.entry(number);
         match self.dispatch.finish(number, outcome) {
@@ -104,30 +112,46 @@ impl Core {
         }
     }
 
-    /// The operation of the request of this number: `Some` exactly where it is running.
+    /// The operation of the request of this number: `Some` exactly if it is running. It can be carried out on files.
     pub fn running_op(&self, number: u64) -> Option<Op>
-        ensures { (h : History) → FitsApart self.now h → result ≡ operation_running (world self.now.shape h).requests number }
+        ensures value { (h : History) → FitsApart self.now h → result ≡ operation_running (world self.now.setup h).requests number }
+        ensures asks { IfSome result IsForFiles }
     {
         self.dispatch.running_op(number)
     }
 
+    /// The least request that can be issued: what `Step::Next` is answered. It is no step, and so not part of a history.
+    pub fn next(&self) -> Option<u64>
+        ensures { (h : History) → FitsApart self.now h → result ≡ next_of (world self.now.setup h).requests }
+    {
+        self.dispatch.next()
+    }
+
     /// The least outstanding request.
-    pub(crate) fn least(&self) -> Option<u64>
-        ensures { (h : History) → FitsApart self.now h → result ≡ least_of (world self.now.shape h).requests }
+    pub fn least(&self) -> Option<u64>
+        ensures { (h : History) → FitsApart self.now h → result ≡ least_of (world self.now.setup h).requests }
     {
         self.dispatch.least()
     }
 
+    /// The set-up of the rings.
+    pub fn setup(&self) -> Setup
+        ensures value { result ≡ self.now.setup }
+        ensures limits { IsWithinLimits self.now.setup }
+    {
+        self.setup
+    }
+
     /// The completion at this place, from 0, among those posted and not reaped, the oldest first: `None` past the last.
     pub fn rest(&self, place: u64) -> Option<Cqe>
-        ensures { (h : History) → FitsApart self.now h → result ≡ slice_get (unreaped (world self.now.shape h).completions) place }
+        ensures { (h : History) → FitsApart self.now h → result ≡ slice_get (unreaped (world self.now.setup h).completions) place }
     {
         self.cq.rest(place)
     }
 
     /// How many requests were accepted, are outstanding and run, and how many completions were posted and reaped.
     pub fn counts(&self) -> Counts
-        ensures { (h : History) → FitsApart self.now h → IsCounts (world self.now.shape h) result }
+        ensures { (h : History) → FitsApart self.now h → IsCounts (world self.now.setup h) result }
     {
         Counts {
             accepted: self.dispatch.accepted(),
@@ -140,40 +164,46 @@ impl Core {
 
     /// The application writes an entry to a slot.
     fn fill(&mut self, slot: u32, entry: Sqe) -> Answer
-        ensures shape { self.new.shape ≡ self.old.shape }
+        ensures setup { self.new.setup ≡ self.old.setup }
         ensures fits { (h : History) → FitsApart self.old h → FitsApart self.new ((step.Fill slot entry, result) ∷ h) }
+        ensures memory { HasNoLessMemory self.old self.new }
     {
         tell_fill(self.sq.fill(slot, entry))
     }
 
     /// The application stages a word.
     fn index(&mut self, word: u32) -> Answer
-        ensures shape { self.new.shape ≡ self.old.shape }
+        ensures setup { self.new.setup ≡ self.old.setup }
         ensures fits { (h : History) → FitsApart self.old h → FitsApart self.new ((step.Index word, result) ∷ h) }
+        ensures memory { HasNoLessMemory self.old self.new }
     {
         tell_index(self.sq.index(word))
     }
 
     /// The application publishes what is staged.
     fn store_tail(&mut self) -> Answer
-        ensures shape { self.new.shape ≡ self.old.shape }
+        ensures setup { self.new.setup ≡ self.old.setup }
         ensures fits { (h : History) → FitsApart self.old h → FitsApart self.new ((step.StoreTail, result) ∷ h) }
+        ensures memory { HasNoLessMemory self.old self.new }
     {
         Answer::Tail(self.sq.store_tail())
     }
 
     /// The application loads the submission ring's head.
     fn load_head(&mut self) -> Answer
-        ensures shape { self.new.shape ≡ self.old.shape }
+        ensures setup { self.new.setup ≡ self.old.setup }
         ensures fits { (h : History) → FitsApart self.old h → FitsApart self.new ((step.LoadHead, result) ∷ h) }
+        ensures memory { HasNoLessMemory self.old self.new }
     {
         Answer::Head(self.sq.load_head())
     }
 
     /// The dispatcher opens a call, once there is room for all its requests and for the ends of these and of all outstanding ones.
     fn begin(&mut self, count: u32) -> Answer
-        ensures shape { self.new.shape ≡ self.old.shape }
+        ensures setup { self.new.setup ≡ self.old.setup }
         ensures fits { (h : History) → FitsApart self.old h → FitsApart self.new ((step.Begin count, result) ∷ h) }
+        ensures memory { HasNoLessMemory self.old self.new }
+        ensures again { (h : History) → FitsApart self.old h → result ≡ answer.Again → IsShortOfMemory self.old (world self.old.setup h) (step.Begin count) }
     {
         if self.is_closed {
             return Answer::Closed;
@@ -196,8 +226,9 @@ impl Core {
 
     /// The dispatcher copies the call's next position.
     fn take(&mut self) -> Answer
-        ensures shape { self.new.shape ≡ self.old.shape }
+        ensures setup { self.new.setup ≡ self.old.setup }
         ensures fits { (h : History) → FitsApart self.old h → FitsApart self.new ((step.Take, result) ∷ h) }
+        ensures memory { HasNoLessMemory self.old self.new }
     {
         match self.sq.take() {
             TakeAnswer::Entry(entry) => {
@@ -212,8 +243,9 @@ impl Core {
 
     /// The dispatcher closes the call, and accepts its entries.
     fn end(&mut self) -> Answer
-        ensures shape { self.new.shape ≡ self.old.shape }
+        ensures setup { self.new.setup ≡ self.old.setup }
         ensures fits { (h : History) → FitsApart self.old h → FitsApart self.new ((step.End, result) ∷ h) }
+        ensures memory { HasNoLessMemory self.old self.new }
     {
         match self.sq.end() {
             EndAnswer::Taken(taken) => {
@@ -232,8 +264,9 @@ impl Core {
 
     /// The dispatcher issues a request.
     fn issue(&mut self, number: u64) -> Answer
-        ensures shape { self.new.shape ≡ self.old.shape }
+        ensures setup { self.new.setup ≡ self.old.setup }
         ensures fits { (h : History) → FitsApart self.old h → FitsApart self.new ((step.Issue number, result) ∷ h) }
+        ensures memory { HasNoLessMemory self.old self.new }
     {
         let entry = self.dispatch.entry(number);
         match self.dispatch.issue(number) {
@@ -252,40 +285,45 @@ impl Core {
 
     /// The dispatcher loads the completion ring's head, and moves what fits out of the overflow list.
     fn flush(&mut self) -> Answer
-        ensures shape { self.new.shape ≡ self.old.shape }
+        ensures setup { self.new.setup ≡ self.old.setup }
         ensures fits { (h : History) → FitsApart self.old h → FitsApart self.new ((step.Flush, result) ∷ h) }
+        ensures memory { HasNoLessMemory self.old self.new }
     {
         Answer::Moved(self.cq.flush())
     }
 
     /// The application loads the completion ring's tail.
     fn load_cq_tail(&mut self) -> Answer
-        ensures shape { self.new.shape ≡ self.old.shape }
+        ensures setup { self.new.setup ≡ self.old.setup }
         ensures fits { (h : History) → FitsApart self.old h → FitsApart self.new ((step.LoadCqTail, result) ∷ h) }
+        ensures memory { HasNoLessMemory self.old self.new }
     {
         Answer::Tail(self.cq.load_tail())
     }
 
     /// The application copies the next completion.
     fn reap(&mut self) -> Answer
-        ensures shape { self.new.shape ≡ self.old.shape }
+        ensures setup { self.new.setup ≡ self.old.setup }
         ensures fits { (h : History) → FitsApart self.old h → FitsApart self.new ((step.Reap, result) ∷ h) }
+        ensures memory { HasNoLessMemory self.old self.new }
     {
         tell_reap(self.cq.reap())
     }
 
     /// The application stores the completion ring's head.
     fn store_cq_head(&mut self) -> Answer
-        ensures shape { self.new.shape ≡ self.old.shape }
+        ensures setup { self.new.setup ≡ self.old.setup }
         ensures fits { (h : History) → FitsApart self.old h → FitsApart self.new ((step.StoreCqHead, result) ∷ h) }
+        ensures memory { HasNoLessMemory self.old self.new }
     {
         Answer::Head(self.cq.store_head())
     }
 
     /// The dispatcher closes the ring.
     fn close(&mut self) -> Answer
-        ensures shape { self.new.shape ≡ self.old.shape }
+        ensures setup { self.new.setup ≡ self.old.setup }
         ensures fits { (h : History) → FitsApart self.old h → FitsApart self.new ((step.Close, result) ∷ h) }
+        ensures memory { HasNoLessMemory self.old self.new }
     {
         if self.sq.in_call() {
             return Answer::InCall;
@@ -295,10 +333,11 @@ impl Core {
     }
 
     /// The dispatcher asks for the least request that can be issued.
-    fn next(&mut self) -> Answer
-        ensures shape { self.new.shape ≡ self.old.shape }
+    fn ask_next(&mut self) -> Answer
+        ensures setup { self.new.setup ≡ self.old.setup }
         ensures fits { (h : History) → FitsApart self.old h → FitsApart self.new ((step.Next, result) ∷ h) }
+        ensures memory { HasNoLessMemory self.old self.new }
     {
-        tell_next(self.dispatch.next())
+        tell_next(self.next())
     }
 }

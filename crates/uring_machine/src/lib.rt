@@ -2,7 +2,7 @@
 #![tactic(auto)]
 
 mod acceptance;
-mod answers;
+mod answer;
 mod conversions;
 mod cores;
 mod counts;
@@ -10,16 +10,13 @@ pub mod laws;
 mod machine;
 mod posting;
 mod runs;
-mod steps;
+mod step;
 
-pub use answers::Answer;
+pub use answer::Answer;
 pub use cores::Core;
 pub use counts::Counts;
 pub use machine::Machine;
 pub use runs::run;
-pub use steps::Step;
+pub use step::Step;
 pub use uring_entry::{BadSetup, Cqe, Fault, Op, Outcome, Setup, Sqe, SqeFlags};
 pub use uring_files::FileState;
-
-#[cfg(test)]
-mod tests;

@@ -1,17 +1,19 @@
-ghost use Rattle.std.specs.Prelude.{◌≡◌, ◌≤◌, ◌∷◌, [], IfOk, slice_get};
+ghost use Rattle.std.specs.Prelude.{◌≡◌, ◌≤◌, ◌∷◌, [], IfOk, IfSome, slice_get};
+ghost use Rattle.uring_entry.specs.Setup.{IsWithinLimits};
 ghost use Rattle.uring_entry.specs.Completions.{unreaped};
-ghost use Rattle.uring_entry.specs.Requests.{operation_running};
-ghost use Rattle.uring_files.specs.Operations.{state_of, byte_of};
-ghost use Rattle.uring_machine.specs.Contents.{CalledFor, files_of};
-ghost use Rattle.uring_machine.specs.Core.{IsCounts};
+ghost use Rattle.uring_entry.specs.Requests.{operation_running, next_of, least_of};
+ghost use Rattle.uring_files.specs.Operations.{IsForFiles, state_of, byte_of};
+ghost use Rattle.uring_machine.specs.CalledFor.{CalledFor, files_of};
+ghost use Rattle.uring_machine.specs.Core.{IsCounts, IsShortOfMemory, HasNoLessMemory};
 ghost use Rattle.uring_machine.specs.Histories.{History, world};
 ghost use Rattle.uring_machine.specs.Settling.{HasSettled, IsSettled};
-ghost use Rattle.uring_machine.specs.declared.steps.Step.TheVariants as step;
+ghost use Rattle.uring_machine.specs.declared.step.Step.TheVariants as step;
+ghost use Rattle.uring_machine.specs.declared.answer.Answer.TheVariants as answer;
 
-use crate::answers::Answer;
+use crate::answer::Answer;
 use crate::cores::Core;
 use crate::counts::Counts;
-use crate::steps::Step;
+use crate::step::Step;
 use std::alloc::{AllocError, Global};
 use std::marker::Model;
 use uring_entry::{Cqe, Op, Setup};
@@ -27,9 +29,9 @@ pub struct Machine {
 }
 
 impl Model for Machine {
-    ghost use Rattle.uring_machine.specs.Machine.{Holding};
+    ghost use Rattle.uring_machine.specs.Machine.{Machine};
 
-    ghost Value = { Holding };
+    ghost Value = { Machine };
 
     ghost use Rattle.uring_machine.specs.Histories.{History};
     ghost use Rattle.uring_machine.specs.Machine.{Fits};
@@ -44,7 +46,7 @@ impl Machine {
 
     /// A machine of this set-up on which nothing has happened, its files empty. `AllocError`: memory was refused.
     pub fn new(alloc: Global, setup: &Setup) -> Result<Machine, AllocError>
-        ensures shape { IfOk result (λ machine. machine.core.shape ≡ setup.now) }
+        ensures setup { IfOk result (λ machine. machine.core.setup ≡ setup.now) }
         ensures fits { IfOk result (λ machine. Fits machine []) }
     {
         Ok(Machine {
@@ -55,11 +57,15 @@ impl Machine {
 
     /// Makes one step, and answers it.
     ///
-    /// Only `Begin` and the `Finish` of a write that lengthens its file ask for memory. Where it is refused, `Begin` is answered `Again`, and nothing is consumed; the write ends with -12 (ENOMEM).
+    /// Only `Begin` and the `Finish` of a write that lengthens its file ask for memory, `Begin` only if its call may need more than is there. If it is refused, `Begin` is answered `Again`, and nothing is consumed; the write ends with -12 (ENOMEM).
     pub fn step(&mut self, step: Step) -> Answer
-        ensures shape { self.new.core.shape ≡ self.old.core.shape }
+        ensures setup { self.new.core.setup ≡ self.old.core.setup }
         ensures fits { (h : History) → Fits self.old h → Fits self.new ((step, result) ∷ h) }
-        ensures called { (h : History) → Fits self.old h → CalledFor self.old.core.shape (world self.old.core.shape h) step result }
+        ensures called { (h : History) → Fits self.old h → CalledFor self.old.core.setup (world self.old.core.setup h) step result }
+
+        // Memory that was once had is never refused again.
+        ensures again { (h : History) → Fits self.old h → result ≡ answer.Again → IsShortOfMemory self.old.core (world self.old.core.setup h) step }
+        ensures memory { HasNoLessMemory self.old.core self.new.core }
     {
         match step {
             Step::Finish { number } => self.finish(number),
@@ -69,35 +75,58 @@ impl Machine {
 
     /// The completion at this place, from 0, among those posted and not reaped, the oldest first: `None` past the last.
     pub fn rest(&self, place: u64) -> Option<Cqe>
-        ensures { (h : History) → Fits self.now h → result ≡ slice_get (unreaped (world self.now.core.shape h).completions) place }
+        ensures { (h : History) → Fits self.now h → result ≡ slice_get (unreaped (world self.now.core.setup h).completions) place }
     {
         self.core.rest(place)
     }
 
     /// How many requests were accepted, are outstanding and run, and how many completions were posted and reaped.
     pub fn counts(&self) -> Counts
-        ensures { (h : History) → Fits self.now h → IsCounts (world self.now.core.shape h) result }
+        ensures { (h : History) → Fits self.now h → IsCounts (world self.now.core.setup h) result }
     {
         self.core.counts()
     }
 
-    /// The operation of the request of this number: `Some` exactly where it is running.
+    /// The operation of the request of this number: `Some` exactly if it is running. It can be carried out on files.
     pub fn running_op(&self, number: u64) -> Option<Op>
-        ensures { (h : History) → Fits self.now h → result ≡ operation_running (world self.now.core.shape h).requests number }
+        ensures value { (h : History) → Fits self.now h → result ≡ operation_running (world self.now.core.setup h).requests number }
+        ensures asks { IfSome result IsForFiles }
     {
         self.core.running_op(number)
     }
 
+    /// The least request that can be issued: what `Step::Next` is answered. It is no step, and so not part of a history.
+    pub fn next(&self) -> Option<u64>
+        ensures { (h : History) → Fits self.now h → result ≡ next_of (world self.now.core.setup h).requests }
+    {
+        self.core.next()
+    }
+
+    /// The least outstanding request.
+    pub fn least(&self) -> Option<u64>
+        ensures { (h : History) → Fits self.now h → result ≡ least_of (world self.now.core.setup h).requests }
+    {
+        self.core.least()
+    }
+
+    /// The set-up of the rings and files.
+    pub fn setup(&self) -> Setup
+        ensures value { result ≡ self.now.core.setup }
+        ensures limits { IsWithinLimits self.now.core.setup }
+    {
+        self.core.setup()
+    }
+
     /// How the file of a descriptor stands: `None` where there is none.
     pub fn state(&self, fd: i32) -> Option<FileState>
-        ensures { (h : History) → Fits self.now h → result ≡ state_of (files_of self.now.core.shape (world self.now.core.shape h)) fd }
+        ensures { (h : History) → Fits self.now h → result ≡ state_of (files_of self.now.core.setup (world self.now.core.setup h)) fd }
     {
         self.files.state(fd)
     }
 
     /// The byte at offset `at` of the file of a descriptor: `None` where there is no such file, or the offset isn't below its length.
     pub fn byte(&self, fd: i32, at: u64) -> Option<u8>
-        ensures { (h : History) → Fits self.now h → result ≡ byte_of (files_of self.now.core.shape (world self.now.core.shape h)) fd at }
+        ensures { (h : History) → Fits self.now h → result ≡ byte_of (files_of self.now.core.setup (world self.now.core.setup h)) fd at }
     {
         self.files.byte(fd, at)
     }
@@ -106,7 +135,7 @@ impl Machine {
     ///
     /// Until nothing is outstanding it issues the next request, and finishes it if it runs; where none can be issued, it finishes the least that runs.
     pub fn settle_idle(&mut self) -> u64
-        ensures shape { self.new.core.shape ≡ self.old.core.shape }
+        ensures setup { self.new.core.setup ≡ self.old.core.setup }
         ensures settled { (h : History) → Fits self.old h → IsSettled self.new h result }
     {
         let outstanding = self.core.counts().outstanding;
@@ -119,8 +148,8 @@ impl Machine {
 
     /// Ends one outstanding request: the next, or where none can be issued the least outstanding one, which then runs. Answers the steps made.
     fn settle_one(&mut self) -> u64
-        requires { 1 ≤ self.old.core.dispatcher.outstanding }
-        ensures shape { self.new.core.shape ≡ self.old.core.shape }
+        requires { 1 ≤ self.old.core.dispatch.outstanding }
+        ensures setup { self.new.core.setup ≡ self.old.core.setup }
         ensures steps { result ≤ 2 }
         ensures settled { (h : History) → Fits self.old h → HasSettled self.old self.new h result 1 }
     {
@@ -144,8 +173,9 @@ impl Machine {
 
     /// Carries out the operation of a running request on the files, and ends the request with what that gave.
     fn finish(&mut self, number: u64) -> Answer
-        ensures shape { self.new.core.shape ≡ self.old.core.shape }
+        ensures setup { self.new.core.setup ≡ self.old.core.setup }
         ensures fits { (h : History) → Fits self.old h → Fits self.new ((step.Finish number, result) ∷ h) }
+        ensures memory { HasNoLessMemory self.old.core self.new.core }
     {
         match self.core.running_op(number) {
             Some(op) => {

@@ -1,18 +1,20 @@
-ghost use Rattle.std.specs.Prelude.{◌≡◌, length, IfOk, OnErr};
-ghost use Rattle.uring_machine.specs.Histories.{History, followed};
+ghost use Rattle.std.specs.Prelude.{◌≡◌, ◌++◌, ◌<◌, length, IfOk, OnErr};
+ghost use Rattle.std.specs.List.{zip};
+ghost use Rattle.uring_machine.specs.Histories.{History, history_of};
 ghost use Rattle.uring_machine.specs.Machine.{Fits};
 
-use crate::answers::Answer;
+use crate::answer::Answer;
 use crate::machine::Machine;
-use crate::steps::Step;
+use crate::step::Step;
 use std::alloc::{AllocError, Global};
 
-/// Makes these steps in order, and gives their answers. Room for all answers is asked for first: at `AllocError` no step was made.
+/// Makes these steps in order, and gives their answers. Room for all answers is asked for first: at `AllocError` no step was made. A list of no step needs none.
 pub fn run(alloc: Global, machine: &mut Machine, steps: &[Step]) -> Result<Vec<Answer>, AllocError>
-    ensures shape { machine.new.core.shape ≡ machine.old.core.shape }
+    ensures setup { machine.new.core.setup ≡ machine.old.core.setup }
     ensures answers { IfOk result (λ answers. length answers.items ≡ length steps.now) }
-    ensures fits { IfOk result (λ answers. (h : History) → Fits machine.old h → Fits machine.new (followed h steps.now answers.items)) }
+    ensures fits { IfOk result (λ answers. (h : History) → Fits machine.old h → Fits machine.new (history_of (zip steps.now answers.items) ++ h)) }
     ensures err { OnErr result (machine.new ≡ machine.old) }
+    ensures some { OnErr result (0 < length steps.now) }
 {
     let mut answers = Vec::with_capacity(alloc, steps.len())?;
     for step in steps {

@@ -1,4 +1,6 @@
--- Index words and the counts that they stand for, over plain numbers.
+-- Index words and the counts that they stand for, over plain numbers: two counts less than 2 ^ 32 apart with one word are one, and the cell of a count.
+-- By arithmetic on remainders alone: nothing here knows of a ring.
+-- Stable: rings as shared words are to cite these lemmas too.
 use Rattle.std.proofs.Common.{◌≡◌, ◌≢◌, List, length, set, get_or, ℕ, ◌+◌, ◌-◌, ◌*◌, ◌/◌, ◌%◌, ◌^◌, ◌<◌, ◌≤◌, sym, ap, ◌∙◌, subst, ⊎_elim, arith}
 use Rattle.std.proofs.lemmas.Bool.{cases_lt, cases_eq, cases_order}
 use Rattle.std.proofs.lemmas.Nat.{and_mask, pow_below, mod_below, div-add-mod'}
@@ -40,11 +42,9 @@ same_remainder n a b some ordered near same =
 pub cell_of_word : (j k x : ℕ) → j + k ≡ 32 → x % 2 ^ 32 % 2 ^ k ≡ x % 2 ^ k
 cell_of_word j k x whole = subst (λ (w : ℕ). x % 2 ^ w % 2 ^ k ≡ x % 2 ^ k) whole (mod-mod-pow x j k)
 
--- a mask, which is one less than a power of two, keeps the remainder
-pub cell_by_mask : (x mask : ℕ) → IsPowerOfTwo (mask + 1) → bit_and x mask ≡ x % (mask + 1)
-cell_by_mask x mask (k, e) =
-    let m : 2 ^ k - 1 ≡ mask = omega arith in
-    subst (λ (w : ℕ). bit_and x w ≡ x % (mask + 1)) m (and_mask x k ∙ ap (λ (n : ℕ). x % n) (sym e))
+-- the mask of a power of two, which is one less, keeps the remainder
+pub cell_by_mask : (x size : ℕ) → IsPowerOfTwo size → bit_and x (size - 1) ≡ x % size
+cell_by_mask x size (k, e) = subst (λ (n : ℕ). bit_and x (n - 1) ≡ x % n) (sym e) (and_mask x k)
 
 -- a power of two that is at most 2 ^ 32 has an exponent of at most 32
 exponent_fits : (k : ℕ) → 2 ^ k ≤ 2 ^ 32 → k ≤ 32

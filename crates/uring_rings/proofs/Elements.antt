@@ -1,4 +1,6 @@
--- Elements of lists, by their places.
+-- Elements of lists, by their places: of two lists joined, and of an array read at a word's cell.
+-- By induction over the list: nothing here knows of a ring.
+-- Stable: rings as shared words are to cite these lemmas too.
 use Rattle.std.proofs.Common.{◌≡◌, ℕ, ◌-◌, ◌%◌, ◌<◌, ◌≤◌, List, [], ◌∷◌, ◌++◌, length, get_or, zero, suc, refl, sym, ap, ◌∙◌, arith}
 use Rattle.std.proofs.lemmas.List.{get_or_read}
 use Rattle.std.specs.List.{slice_get}

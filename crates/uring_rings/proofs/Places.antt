@@ -7,10 +7,10 @@ use Rattle.std.proofs.lemmas.Option.{slice_get_within, get_or_from_slice_get}
 use Rattle.std.proofs.Math.Seq.{take-add}
 use Rattle.std.specs.List.{slice_get, cons_option}
 use Rattle.std.specs.Prelude.{is_none}
-use Rattle.uring_entry.specs.Layout.{Entry}
+use Rattle.uring_entry.specs.Layout.{Sqe}
 use Rattle.uring_entry.specs.Submission.{Place, entries_of, dropped_in}
 
-one_more : (o : Option Entry) (xs : List Entry) (m n : ℕ) → length xs + m ≡ n → length (cons_option o xs) + (cond (is_none o) 1 0 + m) ≡ suc n
+one_more : (o : Option Sqe) (xs : List Sqe) (m n : ℕ) → length xs + m ≡ n → length (cons_option o xs) + (cond (is_none o) 1 0 + m) ≡ suc n
 one_more None xs m n e = omega arith
 one_more (Some x) xs m n e = omega arith
 
@@ -29,7 +29,7 @@ places_more places n t p found =
     take_more (drop n places) t p short ∙ ap (λ (q : Place). take t (drop n places) ++ q ∷ []) here
 
 -- one more place with an entry is one more entry
-pub entry_more : (places : List Place) (n t : ℕ) (p : Place) (e : Entry) → slice_get places (n + t) ≡ Some p → p.entry ≡ Some e → length (entries_of (take (t + 1) (drop n places))) ≡ length (entries_of (take t (drop n places))) + 1
+pub entry_more : (places : List Place) (n t : ℕ) (p : Place) (e : Sqe) → slice_get places (n + t) ≡ Some p → p.entry ≡ Some e → length (entries_of (take (t + 1) (drop n places))) ≡ length (entries_of (take t (drop n places))) + 1
 entry_more places n t p e found has =
     rw (places_more places n t p found, filter_map-append, has) (length_push _ _)
 

@@ -5,15 +5,15 @@ use Rattle.std.proofs.lemmas.List.Sums.{sum_by_push}
 use Rattle.std.proofs.lemmas.Option.{same_Some}
 use Rattle.std.specs.List.{slice_get}
 use Rattle.std.specs.Option.{option_map, option_and_then, IfSome}
-use Rattle.uring_entry.specs.Layout.{Entry}
-use Rattle.uring_entry.specs.Shape.{Shape}
-use Rattle.uring_entry.specs.Words.{word_of}
-use Rattle.uring_entry.specs.Submission.{Submission, Place, Call, taken, pending, dropped, dropped_in, place_of, entries_of, places_from, closed}
+use Rattle.uring_entry.specs.Layout.{Sqe}
+use Rattle.uring_entry.specs.Setup.{Setup}
+use Rattle.uring_entry.specs.IndexWords.{word_of}
+use Rattle.uring_entry.specs.Submission.{Submission, Place, Call, taken, pending, dropped, dropped_in, place_of, entries_of, places_from, with_closed}
 use Rattle.uring_rings.specs.declared.answers.take_answer.TakeAnswer.TheVariants.{Entry as Given, Dropped, NoMore}
 use Rattle.uring_rings.specs.declared.answers.end_answer.EndAnswer.TheVariants.{Taken as Closed, NotAll}
 use Rattle.uring_rings.specs.declared.open_call.OpenCall.{OpenCall}
-use Rattle.uring_rings.specs.SubmissionRing.{SubmissionQueue, ShowsSubmission, progress}
-use Rattle.uring_rings.specs.SubmissionAnswers.{take_answer, take_in, given, taken_on, end_of, end_answer, closed_on}
+use Rattle.uring_rings.specs.Sq.{Sq, ShowsSubmission, progress}
+use Rattle.uring_rings.specs.SqAnswers.{take_answer, take_in, given, taken_on, end_of, end_answer, closed_on}
 use Rattle.uring_rings.proofs.Counts.{word_after}
 use Rattle.uring_rings.proofs.Places.{entry_more, dropped_more, entries_and_dropped, dropped_beyond}
 use Rattle.uring_rings.proofs.SubmissionWords.{reads_place}
@@ -32,7 +32,7 @@ is_open l c (Some call) is (within, ready) =
     record { call = call; is = refl; same = same_Some c (progress l call) is; within = within; ready = ready }
 
 -- The open call's next position: its place, and what the call has taken before it.
-pub record TakesPlace (g : Shape) (l : Submission) (c : OpenCall) (word : ℕ) : Type 0 where
+pub record TakesPlace (g : Setup) (l : Submission) (c : OpenCall) (word : ℕ) : Type 0 where
   pub call : Call
   pub is : l.call ≡ Some call
   pub same : c ≡ progress l call
@@ -42,7 +42,7 @@ pub record TakesPlace (g : Shape) (l : Submission) (c : OpenCall) (word : ℕ) :
   pub found : slice_get l.published (taken l + call.taken) ≡ Some place
   pub of_word : place ≡ place_of g.sq l.content word
 
-pub takes_place : (g : Shape) (q : SubmissionQueue) (l : Submission) (c : OpenCall) (word : ℕ) → ShowsSubmission g q l → q.call ≡ Some c → (c.taken ≡ c.count → ⊥) → get_or q.array ((q.head + c.taken) % 2 ^ 32 % q.size) 0 ≡ word → TakesPlace g l c word
+pub takes_place : (g : Setup) (q : Sq) (l : Submission) (c : OpenCall) (word : ℕ) → ShowsSubmission g q l → q.call ≡ Some c → (c.taken ≡ c.count → ⊥) → get_or q.array ((q.head + c.taken) % 2 ^ 32 % q.size) 0 ≡ word → TakesPlace g l c word
 takes_place g q l c word s is_call more read =
     let o = is_open l c l.call (sym is_call ∙ s.call) s.call_fits in
     let at : c.taken ≡ o.call.taken = ap (λ (d : OpenCall). d.taken) o.same in
@@ -65,7 +65,7 @@ takes_place g q l c word s is_call more read =
     }
 
 -- what the call answers is what the word's place has
-take_answer_is : (g : Shape) (l : Submission) (c : OpenCall) (word : ℕ) → TakesPlace g l c word → take_answer l ≡ given (cond (ltb word g.sq) (Some (l.content word)) None)
+take_answer_is : (g : Setup) (l : Submission) (c : OpenCall) (word : ℕ) → TakesPlace g l c word → take_answer l ≡ given (cond (ltb word g.sq) (Some (l.content word)) None)
 take_answer_is g l c word t =
     let apart : t.call.taken ≢ t.call.count = λ e. absurd (omega (arith, t.less)) in
     ap (take_in l) t.is
@@ -73,11 +73,11 @@ take_answer_is g l c word t =
     ∙ ap (λ (o : Option Place). given (option_and_then (λ (p : Place). p.entry) o)) t.found
     ∙ ap (λ (p : Place). given p.entry) t.of_word
 
-pub take_gives : (g : Shape) (l : Submission) (c : OpenCall) (word : ℕ) (entry : Entry) → TakesPlace g l c word → word < g.sq → entry ≡ l.content word → Given entry ≡ take_answer l
+pub take_gives : (g : Setup) (l : Submission) (c : OpenCall) (word : ℕ) (entry : Sqe) → TakesPlace g l c word → word < g.sq → entry ≡ l.content word → Given entry ≡ take_answer l
 take_gives g l c word entry t valid held =
-    sym (take_answer_is g l c word t ∙ ap (λ (b : Bool). given (cond b (Some (l.content word)) None)) (lt-ltb word g.sq valid) ∙ ap (λ (e : Entry). Given e) (sym held))
+    sym (take_answer_is g l c word t ∙ ap (λ (b : Bool). given (cond b (Some (l.content word)) None)) (lt-ltb word g.sq valid) ∙ ap (λ (e : Sqe). Given e) (sym held))
 
-pub take_drops : (g : Shape) (l : Submission) (c : OpenCall) (word : ℕ) → TakesPlace g l c word → g.sq ≤ word → Dropped ≡ take_answer l
+pub take_drops : (g : Setup) (l : Submission) (c : OpenCall) (word : ℕ) → TakesPlace g l c word → g.sq ≤ word → Dropped ≡ take_answer l
 take_drops g l c word t bad =
     sym (take_answer_is g l c word t ∙ ap (λ (b : Bool). given (cond b (Some (l.content word)) None)) (le-ltb word g.sq bad))
 
@@ -90,7 +90,7 @@ same_progress c d to at of =
     ap counted to ∙ ap moved at ∙ ap given_so_far of
 
 -- the call goes on by one position
-take_shows : (g : Shape) (q : SubmissionQueue) (l : Submission) (c : OpenCall) (word n : ℕ) → ShowsSubmission g q l → (t : TakesPlace g l c word) → n ≡ length (entries_of (take (t.call.taken + 1) (drop (taken l) l.published))) → ShowsSubmission g (record q { call = Some (record { count = c.count; taken = c.taken + 1; accepted = n }) }) (taken_on l l.call)
+take_shows : (g : Setup) (q : Sq) (l : Submission) (c : OpenCall) (word n : ℕ) → ShowsSubmission g q l → (t : TakesPlace g l c word) → n ≡ length (entries_of (take (t.call.taken + 1) (drop (taken l) l.published))) → ShowsSubmission g (record q { call = Some (record { count = c.count; taken = c.taken + 1; accepted = n }) }) (taken_on l l.call)
 take_shows g q l c word n s t is_n =
     let at : c.taken ≡ t.call.taken = ap (λ (d : OpenCall). d.taken) t.same in
     let to : c.count ≡ t.call.count = ap (λ (d : OpenCall). d.count) t.same in
@@ -114,7 +114,7 @@ take_shows g q l c word n s t is_n =
       places = s.places;
     })
 
-pub take_gives_shows : (g : Shape) (q : SubmissionQueue) (l : Submission) (c : OpenCall) (word : ℕ) → ShowsSubmission g q l → TakesPlace g l c word → word < g.sq → ShowsSubmission g (record q { call = Some (record { count = c.count; taken = c.taken + 1; accepted = c.accepted + 1 }) }) (taken_on l l.call)
+pub take_gives_shows : (g : Setup) (q : Sq) (l : Submission) (c : OpenCall) (word : ℕ) → ShowsSubmission g q l → TakesPlace g l c word → word < g.sq → ShowsSubmission g (record q { call = Some (record { count = c.count; taken = c.taken + 1; accepted = c.accepted + 1 }) }) (taken_on l l.call)
 take_gives_shows g q l c word s t valid =
     let has : t.place.entry ≡ Some (l.content word) =
     ap (λ (p : Place). p.entry) t.of_word ∙ ap (λ (b : Bool). cond b (Some (l.content word)) None) (lt-ltb word g.sq valid) in
@@ -122,7 +122,7 @@ take_gives_shows g q l c word s t valid =
     take_shows g q l c word (c.accepted + 1) s t
     (ap (λ (m : ℕ). m + 1) before ∙ sym (entry_more l.published (taken l) t.call.taken t.place (l.content word) t.found has))
 
-pub take_drops_shows : (g : Shape) (q : SubmissionQueue) (l : Submission) (c : OpenCall) (word : ℕ) → ShowsSubmission g q l → TakesPlace g l c word → g.sq ≤ word → ShowsSubmission g (record q { call = Some (record { count = c.count; taken = c.taken + 1; accepted = c.accepted }) }) (taken_on l l.call)
+pub take_drops_shows : (g : Setup) (q : Sq) (l : Submission) (c : OpenCall) (word : ℕ) → ShowsSubmission g q l → TakesPlace g l c word → g.sq ≤ word → ShowsSubmission g (record q { call = Some (record { count = c.count; taken = c.taken + 1; accepted = c.accepted }) }) (taken_on l l.call)
 take_drops_shows g q l c word s t bad =
     let none : t.place.entry ≡ None =
     ap (λ (p : Place). p.entry) t.of_word ∙ ap (λ (b : Bool). cond b (Some (l.content word)) None) (le-ltb word g.sq bad) in
@@ -138,7 +138,7 @@ pub record IsDone (l : Submission) (c : OpenCall) : Type 0 where
   pub all : call.taken ≡ call.count
   pub ready : call.count ≤ pending l
 
-pub is_done : (g : Shape) (q : SubmissionQueue) (l : Submission) (c : OpenCall) → ShowsSubmission g q l → q.call ≡ Some c → c.count ≤ c.taken → IsDone l c
+pub is_done : (g : Setup) (q : Sq) (l : Submission) (c : OpenCall) → ShowsSubmission g q l → q.call ≡ Some c → c.count ≤ c.taken → IsDone l c
 is_done g q l c s is_call through =
     let o = is_open l c l.call (sym is_call ∙ s.call) s.call_fits in
     let at : c.taken ≡ o.call.taken = ap (λ (d : OpenCall). d.taken) o.same in
@@ -154,37 +154,37 @@ is_done g q l c s is_call through =
     }
 
 -- the words dropped once the call is closed
-dropped_closed : (g : Shape) (q : SubmissionQueue) (l : Submission) (c : OpenCall) → ShowsSubmission g q l → (e : IsDone l c) → (q.dropped + (c.count - c.accepted)) % 2 ^ 32 ≡ dropped (closed l e.call)
+dropped_closed : (g : Setup) (q : Sq) (l : Submission) (c : OpenCall) → ShowsSubmission g q l → (e : IsDone l c) → (q.dropped + (c.count - c.accepted)) % 2 ^ 32 ≡ dropped (with_closed l e.call)
 dropped_closed g q l c s e =
-    let all : taken (closed l e.call) ≡ taken l + e.call.count = sum_by_push (λ (n : ℕ). n) l.calls e.call.count in
+    let all : taken (with_closed l e.call) ≡ taken l + e.call.count = sum_by_push (λ (n : ℕ). n) l.calls e.call.count in
     let split = entries_and_dropped (take e.call.count (drop (taken l) l.published)) in
     let long : length (take e.call.count (drop (taken l) l.published)) ≡ e.call.count =
     length-take-le e.call.count (drop (taken l) l.published) (simp length-drop e.ready) in
     let beyond = dropped_beyond l.published (taken l) e.call.count in
-    let after : dropped (closed l e.call) ≡ dropped_in (take (taken l + e.call.count) l.published) % 2 ^ 32 =
+    let after : dropped (with_closed l e.call) ≡ dropped_in (take (taken l + e.call.count) l.published) % 2 ^ 32 =
     ap (λ (n : ℕ). dropped_in (take n l.published) % 2 ^ 32) all in
     omega (arith, s.dropped, e.count, e.accepted)
 
 -- the head once the call is closed
-head_closed : (g : Shape) (q : SubmissionQueue) (l : Submission) (c : OpenCall) (head : ℕ) → ShowsSubmission g q l → (e : IsDone l c) → head ≡ (q.head + c.count) % 2 ^ 32 → head ≡ word_of g.start (taken (closed l e.call))
+head_closed : (g : Setup) (q : Sq) (l : Submission) (c : OpenCall) (head : ℕ) → ShowsSubmission g q l → (e : IsDone l c) → head ≡ (q.head + c.count) % 2 ^ 32 → head ≡ word_of g.start (taken (with_closed l e.call))
 head_closed g q l c head s e is_head =
-    let all : taken (closed l e.call) ≡ taken l + e.call.count = sum_by_push (λ (n : ℕ). n) l.calls e.call.count in
+    let all : taken (with_closed l e.call) ≡ taken l + e.call.count = sum_by_push (λ (n : ℕ). n) l.calls e.call.count in
     is_head
     ∙ ap (λ (w : ℕ). (w + c.count) % 2 ^ 32) s.head
     ∙ ap (λ (n : ℕ). (word_of g.start (taken l) + n) % 2 ^ 32) e.count
     ∙ word_after g.start (taken l) e.call.count
     ∙ ap (word_of g.start) (sym all)
 
-pub end_answers : (g : Shape) (q : SubmissionQueue) (l : Submission) (c : OpenCall) (head : ℕ) → ShowsSubmission g q l → IsDone l c → head ≡ (q.head + c.count) % 2 ^ 32 → Closed (record { accepted = c.accepted; dropped = (q.dropped + (c.count - c.accepted)) % 2 ^ 32; head = head }) ≡ end_answer g l
+pub end_answers : (g : Setup) (q : Sq) (l : Submission) (c : OpenCall) (head : ℕ) → ShowsSubmission g q l → IsDone l c → head ≡ (q.head + c.count) % 2 ^ 32 → Closed (record { accepted = c.accepted; dropped = (q.dropped + (c.count - c.accepted)) % 2 ^ 32; head = head }) ≡ end_answer g l
 end_answers g q l c head s e is_head =
     let dropped_is = dropped_closed g q l c s e in
     let head_is = head_closed g q l c head s e is_head in
     let accepted_is = e.accepted in
-    sym (ap (end_of g l) e.is ∙ ap (λ (b : Bool). cond b (Closed (record { accepted = length (entries_of (places_from l e.call.count)); dropped = dropped (closed l e.call); head = word_of g.start (taken (closed l e.call)) })) NotAll) (eq-eqb e.call.taken e.call.count e.all) ∙ cc)
+    sym (ap (end_of g l) e.is ∙ ap (λ (b : Bool). cond b (Closed (record { accepted = length (entries_of (places_from l e.call.count)); dropped = dropped (with_closed l e.call); head = word_of g.start (taken (with_closed l e.call)) })) NotAll) (eq-eqb e.call.taken e.call.count e.all) ∙ cc)
 
-pub end_shows : (g : Shape) (q : SubmissionQueue) (l : Submission) (c : OpenCall) (head : ℕ) → ShowsSubmission g q l → IsDone l c → head ≡ (q.head + c.count) % 2 ^ 32 → ShowsSubmission g (record q { head = head; dropped = (q.dropped + (c.count - c.accepted)) % 2 ^ 32; call = None }) (closed_on l l.call)
+pub end_shows : (g : Setup) (q : Sq) (l : Submission) (c : OpenCall) (head : ℕ) → ShowsSubmission g q l → IsDone l c → head ≡ (q.head + c.count) % 2 ^ 32 → ShowsSubmission g (record q { head = head; dropped = (q.dropped + (c.count - c.accepted)) % 2 ^ 32; call = None }) (closed_on l l.call)
 end_shows g q l c head s e is_head =
-    let all : taken (closed l e.call) ≡ taken l + e.call.count = sum_by_push (λ (n : ℕ). n) l.calls e.call.count in
+    let all : taken (with_closed l e.call) ≡ taken l + e.call.count = sum_by_push (λ (n : ℕ). n) l.calls e.call.count in
     subst (λ (o : Option Call). ShowsSubmission g (record q { head = head; dropped = (q.dropped + (c.count - c.accepted)) % 2 ^ 32; call = None }) (closed_on l o)) (sym e.is)
     (record {
       size = s.size;

@@ -7,21 +7,21 @@ use Rattle.std.proofs.lemmas.Option.{get_or_from_slice_get, slice_get-get_or, sa
 use Rattle.std.specs.Int.{IsPowerOfTwo}
 use Rattle.std.specs.List.{slice_get}
 use Rattle.std.specs.Option.{option_map, IfSome}
-use Rattle.uring_entry.specs.Layout.{Entry}
-use Rattle.uring_entry.specs.Shape.{Shape}
-use Rattle.uring_entry.specs.Words.{word_of}
-use Rattle.uring_entry.specs.Submission.{Submission, Place, Call, taken, staged, pending, dropped_in, place_of, entries_of, places_from, is_busy, filled, indexed, stored}
-use Rattle.uring_rings.specs.SubmissionRing.{SubmissionQueue, IsSubmissionQueue, ShowsSubmission, words, progress}
+use Rattle.uring_entry.specs.Layout.{Sqe}
+use Rattle.uring_entry.specs.Setup.{Setup}
+use Rattle.uring_entry.specs.IndexWords.{word_of}
+use Rattle.uring_entry.specs.Submission.{Submission, Place, Call, taken, staged, pending, dropped_in, place_of, entries_of, places_from, is_busy, with_filled, with_staged, with_published}
+use Rattle.uring_rings.specs.Sq.{Sq, IsSq, ShowsSubmission, words, progress}
 use Rattle.uring_rings.proofs.Elements.{slice_get-append_left, slice_get-append_right}
 use Rattle.uring_rings.proofs.Counts.{distance_of_words, word_after, cells_after_write}
 use Rattle.uring_rings.proofs.SubmissionWords.{length-words, words-indexed, words-stored, size_limit, not_named}
 
 -- the size of the set-up is a power of two
-pub size_power : (g : Shape) (q : SubmissionQueue) (l : Submission) → IsSubmissionQueue q.size q.table q.array q.call → ShowsSubmission g q l → IsPowerOfTwo g.sq
+pub size_power : (g : Setup) (q : Sq) (l : Submission) → IsSq q.size q.table q.array q.call → ShowsSubmission g q l → IsPowerOfTwo g.sq
 size_power g q l i s = subst IsPowerOfTwo s.size i.power
 
 -- a word is staged in the next cell
-pub index_shows : (g : Shape) (q : SubmissionQueue) (l : Submission) (d tail cell word : ℕ) → IsSubmissionQueue q.size q.table q.array q.call → ShowsSubmission g q l → d < 2 ^ 32 → (q.seen_head + d) % 2 ^ 32 ≡ q.tail → (d ≡ q.size → ⊥) → tail ≡ (q.tail + 1) % 2 ^ 32 → cell ≡ q.tail % q.size → ShowsSubmission g (record q { tail = tail; array = set q.array cell word }) (indexed l word)
+pub index_shows : (g : Setup) (q : Sq) (l : Submission) (d tail cell word : ℕ) → IsSq q.size q.table q.array q.call → ShowsSubmission g q l → d < 2 ^ 32 → (q.seen_head + d) % 2 ^ 32 ≡ q.tail → (d ≡ q.size → ⊥) → tail ≡ (q.tail + 1) % 2 ^ 32 → cell ≡ q.tail % q.size → ShowsSubmission g (record q { tail = tail; array = set q.array cell word }) (with_staged l word)
 index_shows g q l d tail cell word i s small leads not_full is_tail is_cell =
     let limit : g.sq ≤ 4096 = size_limit g q l i s in
     let ordered : l.seen_head ≤ staged l = omega (arith, s.seen_first, s.taken_first) in
@@ -29,11 +29,11 @@ index_shows g q l d tail cell word i s small leads not_full is_tail is_cell =
     let above : d ≡ staged l - l.seen_head =
     distance_of_words g.start (staged l) l.seen_head d small ordered near (ap (λ (w : ℕ). (w + d) % 2 ^ 32) (sym s.seen_head) ∙ leads ∙ s.tail) in
     let room : staged l < l.seen_head + g.sq = omega (arith, s.few, s.size) in
-    let grown : staged (indexed l word) ≡ staged l + 1 = simp length-append (omega arith) in
+    let grown : staged (with_staged l word) ≡ staged l + 1 = simp length-append (omega arith) in
     let size_fits : g.sq ≤ 2 ^ 32 = omega arith in
     let cells_length : length q.array ≡ g.sq = i.cells ∙ s.size in
     let cell_of_tail : cell ≡ (g.start + staged l) % 2 ^ 32 % g.sq = is_cell ∙ ap (λ (n : ℕ). q.tail % n) s.size ∙ ap (λ (n : ℕ). n % g.sq) s.tail in
-    let last : word ≡ get_or (words (indexed l word)) (staged l) 0 = rw words-indexed (sym (get_or_push (words l) word 0 (staged l) (length-words l))) in
+    let last : word ≡ get_or (words (with_staged l word)) (staged l) 0 = rw words-indexed (sym (get_or_push (words l) word 0 (staged l) (length-words l))) in
     let before = λ (k : ℕ) (from : l.seen_head ≤ k) (to : k < staged l).
     let within : k < length (words l) = rw length-words to in
     s.cells k from to ∙ sym (ap (λ (ws : List ℕ). get_or ws k 0) (words-indexed l word) ∙ get_or_append_left (words l) (word ∷ []) 0 k within) in
@@ -50,12 +50,12 @@ index_shows g q l d tail cell word i s small leads not_full is_tail is_cell =
       call = s.call;
       call_fits = s.call_fits;
       slots = s.slots;
-      cells = λ k from to. cells_after_write q.array (λ (n : ℕ). get_or (words (indexed l word)) n 0) 0 word g.start g.sq l.seen_head (staged l) cell (size_power g q l i s) size_fits cells_length ordered room cell_of_tail last before k from (omega arith);
+      cells = λ k from to. cells_after_write q.array (λ (n : ℕ). get_or (words (with_staged l word)) n 0) 0 word g.start g.sq l.seen_head (staged l) cell (size_power g q l i s) size_fits cells_length ordered room cell_of_tail last before k from (omega arith);
       places = s.places;
     }
 
 -- a table's slots after one was written
-slot_after_fill : (table : List Entry) (content : ℕ → Entry) (slot n : ℕ) (entry : Entry) → slot < length table → slice_get table n ≡ Some (content n) → n < length table → slice_get (set table slot entry) n ≡ Some (cond (eqb n slot) entry (content n))
+slot_after_fill : (table : List Sqe) (content : ℕ → Sqe) (slot n : ℕ) (entry : Sqe) → slot < length table → slice_get table n ≡ Some (content n) → n < length table → slice_get (set table slot entry) n ≡ Some (cond (eqb n slot) entry (content n))
 slot_after_fill table content slot n entry within old short =
     let kept : n < length (set table slot entry) = simp length-set short in
     slice_get-get_or (set table slot entry) n [] kept
@@ -65,11 +65,11 @@ slot_after_fill table content slot n entry within old short =
     (cases_eq n slot)
 
 -- the place of a word that doesn't name the slot written
-place_kept : (size : ℕ) (content : ℕ → Entry) (slot : ℕ) (entry : Entry) (word : ℕ) → word ≢ slot → place_of size content word ≡ place_of size (λ (n : ℕ). cond (eqb n slot) entry (content n)) word
+place_kept : (size : ℕ) (content : ℕ → Sqe) (slot : ℕ) (entry : Sqe) (word : ℕ) → word ≢ slot → place_of size content word ≡ place_of size (λ (n : ℕ). cond (eqb n slot) entry (content n)) word
 place_kept size content slot entry word apart = rw (ne_eqb word slot apart) refl
 
 -- a slot that isn't busy is filled
-pub fill_shows : (g : Shape) (q : SubmissionQueue) (l : Submission) (slot : ℕ) (entry : Entry) → IsSubmissionQueue q.size q.table q.array q.call → ShowsSubmission g q l → slot < q.size → is_busy l slot ≡ false → ShowsSubmission g (record q { table = set q.table slot entry }) (filled l slot entry)
+pub fill_shows : (g : Setup) (q : Sq) (l : Submission) (slot : ℕ) (entry : Sqe) → IsSq q.size q.table q.array q.call → ShowsSubmission g q l → slot < q.size → is_busy l slot ≡ false → ShowsSubmission g (record q { table = set q.table slot entry }) (with_filled l slot entry)
 fill_shows g q l slot entry i s below free =
     let within : slot < length q.table = omega (arith, i.slots) in
     record {
@@ -90,25 +90,25 @@ fill_shows g q l slot entry i s below free =
     }
 
 -- publishing leaves what an open call took
-progress_kept : (size : ℕ) (l : Submission) (o : Option Call) → IfSome o (λ call. (call.taken ≤ call.count) × (call.count ≤ pending l)) → taken l ≤ length l.published → option_map (progress l) o ≡ option_map (progress (stored size l)) o
+progress_kept : (size : ℕ) (l : Submission) (o : Option Call) → IfSome o (λ call. (call.taken ≤ call.count) × (call.count ≤ pending l)) → taken l ≤ length l.published → option_map (progress l) o ≡ option_map (progress (with_published size l)) o
 progress_kept size l None fits first = refl
 progress_kept size l (Some call) (within, ready) first =
     let xs : List Place = map (place_of size l.content) l.fresh in
     let before : call.taken ≤ length (drop (taken l) l.published) = simp length-drop (omega arith) in
-    let same : places_from l call.taken ≡ places_from (stored size l) call.taken =
+    let same : places_from l call.taken ≡ places_from (with_published size l) call.taken =
     sym (ap (λ (ps : List Place). take call.taken ps) (drop-append-le (taken l) l.published xs first)
     ∙ take-append-le call.taken (drop (taken l) l.published) xs before) in
     ap (λ (ps : List Place). Some (record { count = call.count; taken = call.taken; accepted = length (entries_of ps) })) same
 
 -- publishing leaves an open call's positions published
-fits_kept : (size : ℕ) (l : Submission) (o : Option Call) → IfSome o (λ call. (call.taken ≤ call.count) × (call.count ≤ pending l)) → IfSome o (λ call. (call.taken ≤ call.count) × (call.count ≤ pending (stored size l)))
+fits_kept : (size : ℕ) (l : Submission) (o : Option Call) → IfSome o (λ call. (call.taken ≤ call.count) × (call.count ≤ pending l)) → IfSome o (λ call. (call.taken ≤ call.count) × (call.count ≤ pending (with_published size l)))
 fits_kept size l None fits = fits
 fits_kept size l (Some call) (within, ready) =
     let grown = length-append l.published (map (place_of size l.content) l.fresh) in
     (within, omega arith)
 
 -- a place made of a word is the word's
-placed_by : (size : ℕ) (content : ℕ → Entry) (ws : List ℕ) (k : ℕ) (p : Place) → slice_get (map (place_of size content) ws) k ≡ Some p → p ≡ place_of size content p.word
+placed_by : (size : ℕ) (content : ℕ → Sqe) (ws : List ℕ) (k : ℕ) (p : Place) → slice_get (map (place_of size content) ws) k ≡ Some p → p ≡ place_of size content p.word
 placed_by size content [] k p found = cc
 placed_by size content (w ∷ ws) zero p found =
     let is : place_of size content w ≡ p = same_Some (place_of size content w) p found in
@@ -124,11 +124,11 @@ placed_both P xs ys low first second k p from found =
     (cases_lt k (length xs))
 
 -- everything staged is published
-pub store_shows : (g : Shape) (q : SubmissionQueue) (l : Submission) → ShowsSubmission g q l → ShowsSubmission g (record q { published = q.tail }) (stored g.sq l)
+pub store_shows : (g : Setup) (q : Sq) (l : Submission) → ShowsSubmission g q l → ShowsSubmission g (record q { published = q.tail }) (with_published g.sq l)
 store_shows g q l s =
     let xs : List Place = map (place_of g.sq l.content) l.fresh in
     let grown : length (l.published ++ xs) ≡ staged l = simp (length-append, length-map) in
-    let same : staged (stored g.sq l) ≡ staged l = omega (arith, grown) in
+    let same : staged (with_published g.sq l) ≡ staged l = omega (arith, grown) in
     let more : length l.published ≤ length (l.published ++ xs) = omega arith in
     record {
       size = s.size;

@@ -5,11 +5,11 @@ use Rattle.std.proofs.lemmas.List.Folds.{list_any_at, list_any_none}
 use Rattle.std.proofs.lemmas.Bool.{false≢true}
 use Rattle.std.proofs.lemmas.Option.{slice_get_within, get_or_from_slice_get, slice_get-get_or}
 use Rattle.std.specs.List.{slice_get}
-use Rattle.uring_entry.specs.Layout.{Entry}
-use Rattle.uring_entry.specs.Shape.{Shape}
-use Rattle.uring_entry.specs.Words.{word_of}
-use Rattle.uring_entry.specs.Submission.{Submission, Place, staged, place_of, stored, indexed, is_busy}
-use Rattle.uring_rings.specs.SubmissionRing.{SubmissionQueue, IsSubmissionQueue, ShowsSubmission, words}
+use Rattle.uring_entry.specs.Layout.{Sqe}
+use Rattle.uring_entry.specs.Setup.{Setup}
+use Rattle.uring_entry.specs.IndexWords.{word_of}
+use Rattle.uring_entry.specs.Submission.{Submission, Place, staged, place_of, with_published, with_staged, is_busy}
+use Rattle.uring_rings.specs.Sq.{Sq, IsSq, ShowsSubmission, words}
 use Rattle.uring_rings.proofs.Counts.{word_after, distance_of_words}
 
 -- there are as many words as staged positions
@@ -32,28 +32,28 @@ place_at l k within =
     (get_or l.published k none, slice_get-get_or l.published k none within)
 
 -- one more word is staged
-pub words-indexed : (l : Submission) (word : ℕ) → words (indexed l word) ≡ words l ++ word ∷ []
+pub words-indexed : (l : Submission) (word : ℕ) → words (with_staged l word) ≡ words l ++ word ∷ []
 words-indexed l word = sym (append_assoc (map (λ (q : Place). q.word) l.published) l.fresh (word ∷ []))
 
 -- a place keeps its word
-words_of_places : (size : ℕ) (content : ℕ → Entry) (ws : List ℕ) → map (λ (q : Place). q.word) (map (place_of size content) ws) ≡ ws
+words_of_places : (size : ℕ) (content : ℕ → Sqe) (ws : List ℕ) → map (λ (q : Place). q.word) (map (place_of size content) ws) ≡ ws
 words_of_places size content [] = refl
 words_of_places size content (w ∷ ws) = ap (λ (vs : List ℕ). w ∷ vs) (words_of_places size content ws)
 
 -- publishing changes no word
-pub words-stored : (size : ℕ) (l : Submission) → words (stored size l) ≡ words l
+pub words-stored : (size : ℕ) (l : Submission) → words (with_published size l) ≡ words l
 words-stored size l =
     append-nil (map (λ (q : Place). q.word) (l.published ++ map (place_of size l.content) l.fresh))
     ∙ map-append (λ (q : Place). q.word) l.published (map (place_of size l.content) l.fresh)
     ∙ ap (λ (ws : List ℕ). map (λ (q : Place). q.word) l.published ++ ws) (words_of_places size l.content l.fresh)
 
 -- What is read k cells on from the word of a count: the word of a published position.
-pub record ReadsPlace (g : Shape) (q : SubmissionQueue) (l : Submission) (count word k : ℕ) : Type 0 where
+pub record ReadsPlace (g : Setup) (q : Sq) (l : Submission) (count word k : ℕ) : Type 0 where
   pub place : Place
   pub found : slice_get l.published (count + k) ≡ Some place
   pub read : get_or q.array ((word + k) % 2 ^ 32 % q.size) 0 ≡ place.word
 
-pub reads_place : (g : Shape) (q : SubmissionQueue) (l : Submission) (count word k : ℕ) → ShowsSubmission g q l → word ≡ word_of g.start count → l.seen_head ≤ count → count + k < length l.published → ReadsPlace g q l count word k
+pub reads_place : (g : Setup) (q : Sq) (l : Submission) (count word k : ℕ) → ShowsSubmission g q l → word ≡ word_of g.start count → l.seen_head ≤ count → count + k < length l.published → ReadsPlace g q l count word k
 reads_place g q l count word k s is_word seen within =
     let (p, found) = place_at l (count + k) within in
     let from : l.seen_head ≤ count + k = omega arith in
@@ -69,14 +69,14 @@ reads_place g q l count word k s is_word seen within =
     }
 
 -- the distance of the published tail from the head last loaded
-pub published_above : (g : Shape) (q : SubmissionQueue) (l : Submission) (d : ℕ) → ShowsSubmission g q l → g.sq ≤ 4096 → d < 2 ^ 32 → (q.seen_head + d) % 2 ^ 32 ≡ q.published → d ≡ length l.published - l.seen_head
+pub published_above : (g : Setup) (q : Sq) (l : Submission) (d : ℕ) → ShowsSubmission g q l → g.sq ≤ 4096 → d < 2 ^ 32 → (q.seen_head + d) % 2 ^ 32 ≡ q.published → d ≡ length l.published - l.seen_head
 published_above g q l d s limit small leads =
     let ordered : l.seen_head ≤ length l.published = omega (arith, s.seen_first, s.taken_first) in
     let near : length l.published < l.seen_head + 2 ^ 32 = omega (arith, s.few) in
     distance_of_words g.start (length l.published) l.seen_head d small ordered near (ap (λ (w : ℕ). (w + d) % 2 ^ 32) (sym s.seen_head) ∙ leads ∙ s.published)
 
 -- a slot that a cell above the head last loaded names is busy
-pub busy_at : (g : Shape) (q : SubmissionQueue) (l : Submission) (k slot : ℕ) → ShowsSubmission g q l → l.seen_head + k < length l.published → get_or q.array ((q.seen_head + k) % 2 ^ 32 % q.size) 0 ≡ slot → is_busy l slot ≡ true
+pub busy_at : (g : Setup) (q : Sq) (l : Submission) (k slot : ℕ) → ShowsSubmission g q l → l.seen_head + k < length l.published → get_or q.array ((q.seen_head + k) % 2 ^ 32 % q.size) 0 ≡ slot → is_busy l slot ≡ true
 busy_at g q l k slot s within named =
     let r = reads_place g q l l.seen_head q.seen_head k s s.seen_head (omega arith) within in
     let short : k < length (drop l.seen_head l.published) = simp length-drop (omega arith) in
@@ -86,7 +86,7 @@ busy_at g q l k slot s within named =
     list_any_at (λ (p : Place). eqb p.word slot) (drop l.seen_head l.published) k r.place short (ap (λ (p : Place). eqb p.word slot) here ∙ eq-eqb r.place.word slot same)
 
 -- a slot that no such cell names isn't
-pub not_busy : (g : Shape) (q : SubmissionQueue) (l : Submission) (slot : ℕ) → ShowsSubmission g q l → ((k : ℕ) → l.seen_head + k < length l.published → get_or q.array ((q.seen_head + k) % 2 ^ 32 % q.size) 0 ≡ slot → ⊥) → is_busy l slot ≡ false
+pub not_busy : (g : Setup) (q : Sq) (l : Submission) (slot : ℕ) → ShowsSubmission g q l → ((k : ℕ) → l.seen_head + k < length l.published → get_or q.array ((q.seen_head + k) % 2 ^ 32 % q.size) 0 ≡ slot → ⊥) → is_busy l slot ≡ false
 not_busy g q l slot s unnamed =
     list_any_none (λ (p : Place). eqb p.word slot) (drop l.seen_head l.published)
     (λ k d short.
@@ -112,17 +112,17 @@ not_named l slot k p free from found named =
     false≢true (sym free ∙ busy)
 
 -- The ring's size is below the limit.
-pub size_limit : (g : Shape) (q : SubmissionQueue) (l : Submission) → IsSubmissionQueue q.size q.table q.array q.call → ShowsSubmission g q l → g.sq ≤ 4096
+pub size_limit : (g : Setup) (q : Sq) (l : Submission) → IsSq q.size q.table q.array q.call → ShowsSubmission g q l → g.sq ≤ 4096
 size_limit g q l i s = omega (arith, i.limit, s.size)
 
 -- the loop over the d positions above the head last loaded found one that names the slot
-pub loop_finds : (g : Shape) (q : SubmissionQueue) (l : Submission) (d k slot : ℕ) → IsSubmissionQueue q.size q.table q.array q.call → ShowsSubmission g q l → d < 2 ^ 32 → (q.seen_head + d) % 2 ^ 32 ≡ q.published → k < d → get_or q.array ((q.seen_head + k) % 2 ^ 32 % q.size) 0 ≡ slot → is_busy l slot ≡ true
+pub loop_finds : (g : Setup) (q : Sq) (l : Submission) (d k slot : ℕ) → IsSq q.size q.table q.array q.call → ShowsSubmission g q l → d < 2 ^ 32 → (q.seen_head + d) % 2 ^ 32 ≡ q.published → k < d → get_or q.array ((q.seen_head + k) % 2 ^ 32 % q.size) 0 ≡ slot → is_busy l slot ≡ true
 loop_finds g q l d k slot i s small leads below named =
     let above = published_above g q l d s (size_limit g q l i s) small leads in
     busy_at g q l k slot s (omega arith) named
 
 -- it found none
-pub loop_passes : (g : Shape) (q : SubmissionQueue) (l : Submission) (d k slot : ℕ) → IsSubmissionQueue q.size q.table q.array q.call → ShowsSubmission g q l → d < 2 ^ 32 → (q.seen_head + d) % 2 ^ 32 ≡ q.published → d ≤ k → ((j : ℕ) → j < k → get_or q.array ((q.seen_head + j) % 2 ^ 32 % q.size) 0 ≡ slot → ⊥) → is_busy l slot ≡ false
+pub loop_passes : (g : Setup) (q : Sq) (l : Submission) (d k slot : ℕ) → IsSq q.size q.table q.array q.call → ShowsSubmission g q l → d < 2 ^ 32 → (q.seen_head + d) % 2 ^ 32 ≡ q.published → d ≤ k → ((j : ℕ) → j < k → get_or q.array ((q.seen_head + j) % 2 ^ 32 % q.size) 0 ≡ slot → ⊥) → is_busy l slot ≡ false
 loop_passes g q l d k slot i s small leads all unnamed =
     let above = published_above g q l d s (size_limit g q l i s) small leads in
     not_busy g q l slot s (λ j within. unnamed j (omega arith))

@@ -1,3 +1,3 @@
-pub mod SubmissionRing
-pub mod SubmissionAnswers
-pub mod CompletionRing
+pub mod Sq
+pub mod SqAnswers
+pub mod Cq

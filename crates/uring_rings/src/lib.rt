@@ -4,16 +4,13 @@
 #![tactic(auto)]
 
 mod answers;
-mod completion_ring;
-mod indices;
+mod cq;
+mod index;
 mod open_call;
-mod submission_ring;
+mod sq;
 
 pub use answers::{BeginAnswer, EndAnswer, FillAnswer, IndexAnswer, TakeAnswer, Taken};
-pub use completion_ring::Cq;
-pub use indices::Index;
-pub use submission_ring::Sq;
+pub use cq::Cq;
+pub use index::Index;
+pub use sq::Sq;
 pub use uring_entry::{BadSetup, Cqe, Fault, Op, Outcome, Setup, Sqe, SqeFlags};
-
-#[cfg(test)]
-mod tests;

@@ -1,6 +1,6 @@
 use Rattle.std.proofs.Common.{sym, ◌∙◌, ap}
 use Rattle.uring_entry.proofs.RequestLemmas.{is_doomed-cancelled, is_doomed-behind, is_doomed-else}
-use Rattle.uring_dispatch.specs.declared.held.Request.{Request}
+use Rattle.uring_dispatch.specs.declared.request.Request.{Request}
 use Rattle.uring_dispatch.proofs.Standing.{read_at}
 use Rattle.uring_dispatch.proofs.doom.is_doomed.Goals as goal
 

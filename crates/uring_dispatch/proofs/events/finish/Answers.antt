@@ -3,7 +3,7 @@ use Rattle.std.specs.Int.{w32}
 use Rattle.std.proofs.lemmas.Int.{to_z-of_z}
 use Rattle.uring_entry.specs.Success.{is_success}
 use Rattle.uring_dispatch.specs.Held.{ended_state}
-use Rattle.uring_dispatch.specs.declared.held.Request.{Request}
+use Rattle.uring_dispatch.specs.declared.request.Request.{Request}
 use Rattle.uring_dispatch.proofs.Changes.{ended-held, running-unended}
 use Rattle.uring_dispatch.proofs.Standing.{read_at}
 use Rattle.uring_dispatch.proofs.events.finish.Goals as goal

@@ -1,7 +1,7 @@
 use Rattle.std.proofs.Common.{sym, ◌∙◌, ap, refl, negsuc, rules}
 use Rattle.std.specs.Int.{w32}
 use Rattle.std.proofs.lemmas.Int.{to_z-of_z}
-use Rattle.uring_dispatch.specs.declared.held.Request.{Request}
+use Rattle.uring_dispatch.specs.declared.request.Request.{Request}
 use Rattle.uring_dispatch.specs.Held.{in_over}
 use Rattle.uring_dispatch.proofs.Standing.{read_at}
 use Rattle.uring_dispatch.proofs.Changes.{issued_end-held, started-held, none_chosen}

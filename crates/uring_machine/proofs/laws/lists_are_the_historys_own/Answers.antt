@@ -5,8 +5,8 @@ use Rattle.uring_machine.proofs.laws.lists_are_the_historys_own.Goals as goal
 pub returns : goal.returns
 returns c =
     record {
-      submission = λ g h shape lawful. own_submission g h lawful;
-      requests = λ g h shape lawful. own_requests g h lawful;
-      completions = λ g h shape lawful. own_completions g h lawful;
-      cancelled = λ g h m shape lawful. (chosen_in g h lawful m, chosen_stays g h lawful m);
+      submission = λ g h setup lawful. own_submission g h lawful;
+      requests = λ g h setup lawful. own_requests g h lawful;
+      completions = λ g h setup lawful. own_completions g h lawful;
+      cancelled = λ g h setup lawful m. (chosen_in g h lawful m, chosen_stays g h lawful m);
     }

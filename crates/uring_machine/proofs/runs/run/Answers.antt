@@ -8,7 +8,7 @@ loop-step-preserved c =
     record {
       answers = omega (arith, i.answers, c.push_reserved.ensures.len);
       room = omega (arith, i.room, c.push_reserved.ensures.capacity);
-      shape = c.step.ensures.shape ∙ i.shape;
+      setup = c.step.ensures.setup ∙ i.setup;
       fits = λ h f.
           rw (follow_next h c.args.steps.now c.loop-step.step-index c.loop-step.answers.items c.push_reserved.new.self.items c.step-item.result c.step.result (omega arith) c.step-item.is (omega arith) c.push_reserved.ensures.items)
           (c.step.ensures.fits _ (i.fits h f));

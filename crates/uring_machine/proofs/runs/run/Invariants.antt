@@ -1,5 +1,6 @@
-use Rattle.std.proofs.Common.{◌≡◌, ◌≤◌, length, take, vec_len, vec_capacity}
-use Rattle.uring_machine.specs.Histories.{History, followed}
+use Rattle.std.proofs.Common.{◌≡◌, ◌≤◌, ◌++◌, length, take, vec_len, vec_capacity}
+use Rattle.std.specs.List.{zip}
+use Rattle.uring_machine.specs.Histories.{History, history_of}
 use Rattle.uring_machine.specs.Machine.{Fits}
 use Rattle.uring_machine.proofs.runs.run.Given as goal
 
@@ -8,6 +9,6 @@ abbrev pub invariant-loop-step : goal.invariant-loop-step
 invariant-loop-step l = record {
   answers : vec_len l.answers ≡ l.step-index;
   room : length l.steps ≤ vec_capacity l.answers;
-  shape : l.machine.core.shape ≡ l.initial.machine.core.shape;
-  fits : (h : History) → Fits l.initial.machine h → Fits l.machine (followed h (take l.step-index l.steps) l.answers.items);
+  setup : l.machine.core.setup ≡ l.initial.machine.core.setup;
+  fits : (h : History) → Fits l.initial.machine h → Fits l.machine (history_of (zip (take l.step-index l.steps) l.answers.items) ++ h);
 }

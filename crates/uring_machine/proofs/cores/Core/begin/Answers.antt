@@ -1,4 +1,4 @@
-use Rattle.std.proofs.Common.{◌+◌, refl, sym, ◌∙◌, ap, arith, Err}
+use Rattle.std.proofs.Common.{◌+◌, refl, sym, ◌∙◌, ap, arith, Err, inl}
 use Rattle.uring_machine.proofs.CoreSteps.{core_after}
 use Rattle.uring_machine.proofs.CoreCalls.{spent_goes, again_goes, call_goes, may_open, within_unless, on_success}
 use Rattle.uring_machine.proofs.cores.Core.begin.Goals as goal
@@ -23,7 +23,7 @@ returns-in-Err-NoMemory-clause-fits c =
     rw (← c.self.view_is) (again_goes _ c.reserve.new.self _ c.args.count c.from-length.result
     (may_open _ c.args.count _ _ _ _ c.if-self.false c.if-in_call.false c.in_call.ensures c.pending.ensures.value c.min.ensures c.from-length.ensures)
     (within_unless _ _ (λ above. let bad = c.reserve.ensures.spent.1 above in let is = c.in-Err-NoMemory.is in let no = c.in-Err-NoMemory.field-0-is in cc))
-    c.reserve.ensures.counts c.reserve.ensures.between c.reserve.ensures.shows refl)
+    c.reserve.ensures.counts c.reserve.ensures.between c.reserve.ensures.shows refl (inl (c.reserve.ensures.no_memory (c.in-Err-NoMemory.is ∙ ap Err c.in-Err-NoMemory.field-0-is))))
 
 pub invariant_of-self-2 : goal.invariant_of-self-2
 invariant_of-self-2 c = (
@@ -32,7 +32,7 @@ invariant_of-self-2 c = (
       (may_open _ c.args.count _ _ _ _ c.if-self.false c.if-in_call.false c.in_call.ensures c.pending.ensures.value c.min.ensures c.from-length.ensures)
       (within_unless _ _ (λ above. let bad = c.reserve.ensures.spent.1 above in let is = c.in-Ok.is in cc))
       c.reserve.ensures.counts c.in-Ok.ensures.ok c.reserve.ensures.between c.reserve.ensures.shows c.reserve-2.ensures.shows
-      (on_success c.reserve-2.result _ (sym c.is_err.ensures.value ∙ c.if-is_err.false) c.reserve-2.ensures.ok ∙ ap (λ n. n + c.from-length.result) c.outstanding.ensures.value)
+      (on_success c.reserve-2.result _ (sym c.is_err.ensures.value ∙ c.if-is_err.false) c.reserve-2.ensures.ok ∙ ap (λ n. n + c.from-length.result) c.outstanding.ensures.value) c.reserve-2.ensures.memory
       c.begin.ensures.answer c.begin.ensures.shows) c.self.invariant.1,
 )
 
@@ -42,5 +42,5 @@ returns-clause-fits c =
     (may_open _ c.args.count _ _ _ _ c.if-self.false c.if-in_call.false c.in_call.ensures c.pending.ensures.value c.min.ensures c.from-length.ensures)
     (within_unless _ _ (λ above. let bad = c.reserve.ensures.spent.1 above in let is = c.in-Ok.is in cc))
     c.reserve.ensures.counts c.in-Ok.ensures.ok c.reserve.ensures.between c.reserve.ensures.shows c.reserve-2.ensures.shows
-    (on_success c.reserve-2.result _ (sym c.is_err.ensures.value ∙ c.if-is_err.false) c.reserve-2.ensures.ok ∙ ap (λ n. n + c.from-length.result) c.outstanding.ensures.value)
+    (on_success c.reserve-2.result _ (sym c.is_err.ensures.value ∙ c.if-is_err.false) c.reserve-2.ensures.ok ∙ ap (λ n. n + c.from-length.result) c.outstanding.ensures.value) c.reserve-2.ensures.memory
     c.begin.ensures.answer c.begin.ensures.shows)

@@ -6,4 +6,4 @@ pub invariant_of-result : goal.invariant_of-result
 invariant_of-result c =
     let size = c.sq.ensures.value in
     let capacity = c.in_ok-held.ensures.capacity in
-    (omega arith, (c.sq.ensures.shape, [], new_fits _ c.in_ok-new.ensures c.in_ok-new-2.ensures.shows c.new-3.ensures.shows c.new-3.ensures.between c.in_ok-held.ensures.items refl))
+    (omega arith, (c.sq.ensures.limits, [], new_fits _ c.in_ok-new.ensures c.in_ok-new-2.ensures.shows c.in_ok-new-2.ensures.room c.new-3.ensures.shows c.new-3.ensures.between c.in_ok-held.ensures.items refl))

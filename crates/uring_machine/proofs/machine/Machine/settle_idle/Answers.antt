@@ -3,7 +3,7 @@ use Rattle.uring_machine.proofs.Settling.{counted, outstanding_of, settled_none,
 use Rattle.uring_machine.proofs.machine.Machine.settle_idle.Goals as goal
 
 pub loop-init : goal.loop-init
-loop-init c = record { shape = refl; settled = λ h fits. settled_none c.args.self.now h fits }
+loop-init c = record { setup = refl; settled = λ h fits. settled_none c.args.self.now h fits }
 
 pub settle_one-steps-requires : goal.settle_one-steps-requires
 settle_one-steps-requires c =
@@ -18,15 +18,15 @@ overflow_add-steps c =
 pub loop-preserved : goal.loop-preserved
 loop-preserved c =
     record {
-      shape = c.settle_one-steps.ensures.shape ∙ c.loop.invariant.shape;
+      setup = c.settle_one-steps.ensures.setup ∙ c.loop.invariant.setup;
       settled = λ h fits.
-          settled_more c.args.self.now c.loop.self c.settle_one-steps.new.self h c.loop.steps c.settle_one-steps.result c.loop.counter c.settle_one-steps.ensures.shape (c.loop.invariant.settled h fits) c.settle_one-steps.ensures.settled;
+          settled_more c.args.self.now c.loop.self c.settle_one-steps.new.self h c.loop.steps c.settle_one-steps.result c.loop.counter c.settle_one-steps.ensures.setup (c.loop.invariant.settled h fits) c.settle_one-steps.ensures.settled;
     }
 
-pub returns-clause-shape : goal.returns-clause-shape
-returns-clause-shape c = c.loop.invariant.shape
+pub returns-clause-setup : goal.returns-clause-setup
+returns-clause-setup c = c.loop.invariant.setup
 
 pub returns-clause-settled : goal.returns-clause-settled
 returns-clause-settled c = λ h fits.
     let held = counted c.self.inside.core c.self.inside.files c.args.self.now c.counts-outstanding.result.outstanding c.self.view_is c.self.invariant (λ k f. (c.counts-outstanding.ensures k f).outstanding) in
-    settled_all c.args.self.now c.loop.self h c.loop.steps c.loop.counter c.loop.invariant.shape fits (omega (arith, held.same, outstanding_of c.args.self.now h fits)) (c.loop.invariant.settled h fits)
+    settled_all c.args.self.now c.loop.self h c.loop.steps c.loop.counter c.loop.invariant.setup fits (omega (arith, held.same, outstanding_of c.args.self.now h fits)) (c.loop.invariant.settled h fits)

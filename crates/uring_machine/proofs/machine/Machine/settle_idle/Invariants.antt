@@ -7,6 +7,6 @@ use Rattle.uring_machine.proofs.machine.Machine.settle_idle.Given as goal
 -- a request was settled each time
 abbrev pub invariant-loop : goal.invariant-loop
 invariant-loop l = record {
-  shape : l.self.core.shape ≡ l.initial.self.core.shape;
+  setup : l.self.core.setup ≡ l.initial.self.core.setup;
   settled : (h : History) → Fits l.initial.self h → HasSettled l.initial.self l.self h l.steps l.counter;
 }

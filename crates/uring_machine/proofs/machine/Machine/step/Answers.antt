@@ -7,20 +7,20 @@ invariant_of-self c =
     let h = c.self.invariant.0 in
     let fits = c.self.invariant.1 in (
       (c.args.step, c.step.result) ∷ h,
-      step_fits c.self.inside.core c.step.new.self c.self.inside.files c.args.step c.step.result h c.step.ensures.shape (no_finish c.args.step c.in_default.not-Finish) fits (c.step.ensures.fits h fits.core),
+      step_fits c.self.inside.core c.step.new.self c.self.inside.files c.args.step c.step.result h c.step.ensures.setup (no_finish c.args.step c.in_default.not-Finish) fits (c.step.ensures.fits h fits.core),
     )
 
-pub returns-in_default-clause-shape : goal.returns-in_default-clause-shape
-returns-in_default-clause-shape c = rw (← c.self.view_is) c.step.ensures.shape
+pub returns-in_default-clause-setup : goal.returns-in_default-clause-setup
+returns-in_default-clause-setup c = rw (← c.self.view_is) c.step.ensures.setup
 
 pub returns-in_default-clause-fits : goal.returns-in_default-clause-fits
 returns-in_default-clause-fits c =
     rw (← c.self.view_is)
-    (λ h fits. step_fits c.self.inside.core c.step.new.self c.self.inside.files c.args.step c.step.result h c.step.ensures.shape (no_finish c.args.step c.in_default.not-Finish) fits (c.step.ensures.fits h fits.core))
+    (λ h fits. step_fits c.self.inside.core c.step.new.self c.self.inside.files c.args.step c.step.result h c.step.ensures.setup (no_finish c.args.step c.in_default.not-Finish) fits (c.step.ensures.fits h fits.core))
 
 pub returns-in_default-clause-called : goal.returns-in_default-clause-called
 returns-in_default-clause-called c =
     rw (← c.self.view_is)
     (λ h fits.
-    called_for c.self.inside.core.shape c.step.new.self c.self.inside.files c.args.step c.step.result h c.step.ensures.shape
-    (step_fits c.self.inside.core c.step.new.self c.self.inside.files c.args.step c.step.result h c.step.ensures.shape (no_finish c.args.step c.in_default.not-Finish) fits (c.step.ensures.fits h fits.core)))
+    called_for c.self.inside.core.setup c.step.new.self c.self.inside.files c.args.step c.step.result h c.step.ensures.setup
+    (step_fits c.self.inside.core c.step.new.self c.self.inside.files c.args.step c.step.result h c.step.ensures.setup (no_finish c.args.step c.in_default.not-Finish) fits (c.step.ensures.fits h fits.core)))

@@ -1,0 +1,281 @@
+/* wulgach.h - the io_uring protocol of Linux as a core in user space, proved correct, for C and C++.
+ *
+ * A core is a pair of rings and its requests, moved one step at a time. The two sides of the rings, the
+ * application and the dispatcher (the kernel's side), make their steps in any order; each step has one answer.
+ * A core carries nothing out: how a running request ends comes from the caller (wulgach_core_finish), who
+ * keeps the files. A machine is a core with up to 64 files of at most 65,536 bytes each in memory.
+ *
+ * What is proved, and what isn't. Each function below is proved to do what the contracts of the library say: after
+ * any calls in any order, each answer is the one that the definitions of the protocol give for the calls before it.
+ * Not proved: that this header describes the library (a test in C uses every field and every kind), the C
+ * compiler, the `static inline` functions at the end of this file, the C library's malloc, and whatever the
+ * caller does. The stack must suffice: a call takes a few kilobytes.
+ *
+ * What a caller owes. The library can't check these, and breaking one is undefined behaviour.
+ *   - A place (struct wulgach_core, struct wulgach_machine) is zero before its first use: `= { 0 }`. After that
+ *     its bytes are left alone, and never copied to be used twice. A place may be moved (memcpy) if the old one
+ *     isn't used again.
+ *   - No pointer is null, each points to a whole struct of its type, and those of one call don't overlap.
+ *   - A core stays on the thread that made it. It holds a raw pointer, for whose type no crossing of threads is
+ *     proved; nothing in it is tied to a thread, but the proof doesn't say so.
+ *   - No call from a signal handler, nor in the forked child of a process with threads.
+ *   - malloc, realloc and free are one allocator, and align a block as C demands.
+ *
+ * Results. Each function returns 0, or the negative of an error number; if it isn't 0, nothing has changed:
+ *   -9  (EBADF)   the place is empty. Returned by every function but `new`, and only then.
+ *   -22 (EINVAL)  from `step`: the words give no step. From `new`: a number of the set-up is out of its range.
+ *   -12 (ENOMEM)  from `new`: memory was refused.
+ *   -2  (ENOENT)  from a function that reads: there is no such completion, request, file or byte.
+ */
+#ifndef WULGACH_H
+#define WULGACH_H
+
+#include <stdbool.h>
+#include <stdint.h>
+
+#ifdef __cplusplus
+extern "C" {
+#endif
+
+/* A place for a core, and one for a machine. All zero: empty. The fields belong to the library. */
+struct wulgach_core {
+    void *at;
+    bool is_full;
+};
+
+struct wulgach_machine {
+    void *at;
+    bool is_full;
+};
+
+/* The sizes of a pair of rings. */
+struct wulgach_setup {
+    uint32_t sq;    /* entries of the submission ring: 1 to 4,096, rounded up to a power of two */
+    uint32_t cq;    /* entries of the completion ring, if has_cq: 1 to 8,192, rounded up, not below the other ring's */
+    uint32_t files; /* files: 1 to 64 */
+    uint32_t start; /* the index word at which both rings begin: any 32 bits */
+    bool has_cq;    /* whether cq is asked for; else the completion ring is twice the submission ring */
+};
+
+/* The kinds of steps, and which fields of struct wulgach_step each uses. */
+enum wulgach_step_kind {
+    WULGACH_FILL = 0,           /* the application writes entry to slot word */
+    WULGACH_INDEX = 1,          /* the application stages word: the slot of its next position, or any other word */
+    WULGACH_STORE_TAIL = 2,     /* the application publishes what is staged */
+    WULGACH_LOAD_HEAD = 3,      /* the application loads the submission ring's head */
+    WULGACH_BEGIN = 4,          /* the dispatcher opens a call of at most word positions */
+    WULGACH_TAKE = 5,           /* the dispatcher copies the call's next position */
+    WULGACH_END = 6,            /* the dispatcher closes the call, and accepts its entries */
+    WULGACH_ISSUE = 7,          /* the dispatcher issues request number */
+    WULGACH_FINISH = 8,         /* the dispatcher finishes running request number. For a machine only: a core
+                                   is told by wulgach_core_finish */
+    WULGACH_FLUSH = 9,          /* the dispatcher loads the completion ring's head, and moves overflowed
+                                   completions into the ring */
+    WULGACH_LOAD_CQ_TAIL = 10,  /* the application loads the completion ring's tail */
+    WULGACH_REAP = 11,          /* the application copies the next completion */
+    WULGACH_STORE_CQ_HEAD = 12, /* the application stores the completion ring's head */
+    WULGACH_CLOSE = 13,         /* the dispatcher closes the ring: no call is opened from then on */
+    WULGACH_NEXT = 14           /* the dispatcher asks for the least request that can be issued */
+};
+
+/* A step. A field that a kind doesn't use may hold anything. */
+struct wulgach_step {
+    uint32_t kind;      /* enum wulgach_step_kind */
+    uint32_t word;      /* FILL: the slot. INDEX: the word. BEGIN: the count. Any 32 bits */
+    uint64_t number;    /* ISSUE, FINISH: the request, by its number in the order of acceptance, from 0 */
+    uint64_t entry[16]; /* FILL: the entry, 128 bytes, byte 0 in the low byte of word 0 */
+};
+
+/* The kinds of answers, to which steps they come, and which fields of struct wulgach_answer each uses. A
+ * refusal changes nothing. */
+enum wulgach_answer_kind {
+    WULGACH_FILLED = 0,       /* FILL: the slot holds the entry */
+    WULGACH_NO_SLOT = 1,      /* FILL: the slot isn't below the submission ring's size */
+    WULGACH_BUSY = 2,         /* FILL: a published position that isn't known to be taken names the slot */
+    WULGACH_STAGED = 3,       /* INDEX: the word is staged */
+    WULGACH_FULL = 4,         /* INDEX: the ring is full, as far as the application knows */
+    WULGACH_TAIL = 5,         /* STORE_TAIL, LOAD_CQ_TAIL: word is the tail */
+    WULGACH_HEAD = 6,         /* LOAD_HEAD, STORE_CQ_HEAD: word is the head */
+    WULGACH_CALL = 7,         /* BEGIN: a call of word positions is open, 0 to 4,096 */
+    WULGACH_CLOSED = 8,       /* BEGIN: the ring is closed */
+    WULGACH_IN_CALL = 9,      /* BEGIN, CLOSE: a call is open */
+    WULGACH_SPENT = 10,       /* BEGIN: the numbers of requests are used up, after 2^63 - 1 of them */
+    WULGACH_AGAIN = 11,       /* BEGIN: memory was refused, and nothing is consumed */
+    WULGACH_ENTRY = 12,       /* TAKE: entry is a copy of the entry */
+    WULGACH_DROPPED = 13,     /* TAKE: the position's word names no slot, and is dropped */
+    WULGACH_NO_MORE = 14,     /* TAKE: every position of the call is taken */
+    WULGACH_NO_CALL = 15,     /* TAKE, END: no call is open */
+    WULGACH_TAKEN = 16,       /* END: word entries were accepted; dropped words so far, modulo 2^32; the head */
+    WULGACH_NOT_ALL = 17,     /* END: positions of the call are left */
+    WULGACH_RUN = 18,         /* ISSUE: the request runs. wulgach_core_running_op says what to do */
+    WULGACH_ENDED = 19,       /* ISSUE, FINISH: the request ended with res and bytes */
+    WULGACH_NOT_READY = 20,   /* ISSUE: the request waits for earlier ones */
+    WULGACH_RUNNING = 21,     /* ISSUE: the request runs already */
+    WULGACH_UNKNOWN = 22,     /* ISSUE: no such request is outstanding */
+    WULGACH_NOT_RUNNING = 23, /* FINISH: the request isn't running */
+    WULGACH_MOVED = 24,       /* FLUSH: number completions moved into the ring, 0 to 8,192 */
+    WULGACH_REAPED = 25,      /* REAP: the completion of user data number, with res and bytes */
+    WULGACH_NOTHING = 26,     /* REAP: no completion is shown. NEXT: no request can be issued */
+    WULGACH_SHUT = 27,        /* CLOSE: the ring is closed */
+    WULGACH_NEXT_IS = 28      /* NEXT: request number can be issued */
+};
+
+/* An answer. A field that a kind doesn't use is 0. */
+struct wulgach_answer {
+    uint32_t kind;      /* enum wulgach_answer_kind */
+    uint32_t word;      /* TAIL, HEAD, CALL; TAKEN: how many entries were accepted */
+    uint32_t dropped;   /* TAKEN */
+    uint32_t head;      /* TAKEN */
+    uint64_t number;    /* MOVED, NEXT_IS; REAPED: the user data */
+    uint64_t entry[16]; /* ENTRY */
+    int32_t res;        /* ENDED, REAPED */
+    uint8_t bytes[64];  /* ENDED, REAPED */
+};
+
+/* The bytes that an outcome carries: what a read gave, and zeros behind it; zeros for all else. */
+struct wulgach_bytes {
+    uint8_t bytes[64];
+};
+
+/* How far a core or a machine has come. Each is at most 2^63 - 1. */
+struct wulgach_counts {
+    uint64_t accepted;    /* the requests accepted: their numbers are 0 to accepted - 1 */
+    uint64_t outstanding; /* those of them that haven't ended */
+    uint64_t running;     /* those of them that run */
+    uint64_t posted;      /* the completions posted */
+    uint64_t reaped;      /* the completions reaped */
+};
+
+/* A completion. */
+struct wulgach_completion {
+    uint64_t user_data; /* of its entry */
+    int32_t res;        /* 0 or more, or the negative of an error number */
+    uint8_t bytes[64];
+};
+
+/* What a running request asks for. A field that an operation hasn't is 0. */
+struct wulgach_operation {
+    uint32_t code;     /* enum wulgach_code */
+    int32_t fd;        /* READ, WRITE, FSYNC: the descriptor, whether there is such a file or not */
+    uint64_t off;      /* READ, WRITE: the offset in bytes, below 2^64 - 1 */
+    uint64_t target;   /* CANCEL: the user data (a cancel never runs: it ends as it is issued) */
+    uint32_t len;      /* READ, WRITE: how many bytes, 0 to 64 */
+    uint8_t bytes[64]; /* WRITE: the data */
+};
+
+/* How a file of a machine stands. */
+struct wulgach_file {
+    uint64_t writes; /* how many writes succeeded, modulo 2^64 */
+    uint64_t synced; /* what writes was at the last fsync; 0 if there was none */
+    uint32_t len;    /* its length in bytes: at most 65,536 */
+};
+
+/* Operations and flags of an entry, with the numbers of <linux/io_uring.h>. */
+enum wulgach_code {
+    WULGACH_OP_NOP = 0,
+    WULGACH_OP_FSYNC = 3,
+    WULGACH_OP_CANCEL = 14,
+    WULGACH_OP_READ = 22,
+    WULGACH_OP_WRITE = 23
+};
+
+enum wulgach_flag {
+    WULGACH_IO_DRAIN = 2,
+    WULGACH_IO_LINK = 4,
+    WULGACH_IO_HARDLINK = 8,
+    WULGACH_ASYNC = 16,
+    WULGACH_CQE_SKIP_SUCCESS = 64
+};
+
+/* Puts a new core into a place, empty or not: a core that was there is freed. -22 exactly if a number of the
+ * set-up is out of its range, -12 if memory was refused; the place then keeps what it had. */
+int32_t wulgach_core_new(struct wulgach_core *core, const struct wulgach_setup *setup);
+
+/* Makes one step, and writes its answer. -22 exactly if kind is 8 (FINISH) or above 14. */
+int32_t wulgach_core_step(struct wulgach_core *core, const struct wulgach_step *step, struct wulgach_answer *answer);
+
+/* Ends running request number with any result and any bytes, and writes the answer: ENDED with that very outcome
+ * exactly if it was running, else NOT_RUNNING. A request succeeded if a read or a write moved all its bytes, or
+ * anything else gave 0; any other result is a failure, which breaks a link. */
+int32_t wulgach_core_finish(struct wulgach_core *core, uint64_t number, int32_t res, const struct wulgach_bytes *bytes, struct wulgach_answer *answer);
+
+/* Writes how far the core has come. */
+int32_t wulgach_core_counts(struct wulgach_core *core, struct wulgach_counts *counts);
+
+/* Writes completion index, from 0, of those posted and not reaped, the oldest first. -2 past the last. */
+int32_t wulgach_core_rest(struct wulgach_core *core, uint64_t index, struct wulgach_completion *completion);
+
+/* Writes what running request number asks for. -2 exactly if it isn't running. */
+int32_t wulgach_core_running_op(struct wulgach_core *core, uint64_t number, struct wulgach_operation *operation);
+
+/* Writes the least outstanding request, which is the next to go on if nothing else can. -2 if nothing is outstanding. */
+int32_t wulgach_core_least(struct wulgach_core *core, uint64_t *number);
+
+/* Frees the core, and leaves the place empty. */
+int32_t wulgach_core_free(struct wulgach_core *core);
+
+/* The same of a machine. -22 of `step` exactly if kind is above 14. */
+int32_t wulgach_machine_new(struct wulgach_machine *machine, const struct wulgach_setup *setup);
+int32_t wulgach_machine_step(struct wulgach_machine *machine, const struct wulgach_step *step, struct wulgach_answer *answer);
+int32_t wulgach_machine_counts(struct wulgach_machine *machine, struct wulgach_counts *counts);
+int32_t wulgach_machine_rest(struct wulgach_machine *machine, uint64_t index, struct wulgach_completion *completion);
+int32_t wulgach_machine_running_op(struct wulgach_machine *machine, uint64_t number, struct wulgach_operation *operation);
+int32_t wulgach_machine_least(struct wulgach_machine *machine, uint64_t *number);
+int32_t wulgach_machine_free(struct wulgach_machine *machine);
+
+/* Writes how the file of a descriptor stands. -2 if there is no such file. */
+int32_t wulgach_machine_state(struct wulgach_machine *machine, int32_t fd, struct wulgach_file *file);
+
+/* Writes the byte at an offset of a file. -2 if there is no such file, or the offset isn't below its length. */
+int32_t wulgach_machine_byte(struct wulgach_machine *machine, int32_t fd, uint64_t at, uint8_t *byte);
+
+/* Entries. These functions aren't part of what is proved. */
+
+static inline void wulgach_entry(uint64_t entry[16], uint8_t code, uint64_t user_data, uint8_t flags, int32_t fd)
+{
+    for (int i = 0; i < 16; i++)
+        entry[i] = 0;
+    entry[0] = (uint64_t)code | (uint64_t)flags << 8 | (uint64_t)(uint32_t)fd << 32;
+    entry[4] = user_data;
+}
+
+static inline void wulgach_nop(uint64_t entry[16], uint64_t user_data, uint8_t flags)
+{
+    wulgach_entry(entry, WULGACH_OP_NOP, user_data, flags, 0);
+}
+
+/* Reads len bytes from offset off on: at most 64, else the entry is faulty. */
+static inline void wulgach_read(uint64_t entry[16], uint64_t user_data, uint8_t flags, int32_t fd, uint64_t off, uint32_t len)
+{
+    wulgach_entry(entry, WULGACH_OP_READ, user_data, flags, fd);
+    entry[1] = off;
+    entry[3] = len;
+}
+
+/* Writes the first len of these bytes, at most 64, at offset off. */
+static inline void wulgach_write(uint64_t entry[16], uint64_t user_data, uint8_t flags, int32_t fd, uint64_t off, const uint8_t *bytes, uint32_t len)
+{
+    wulgach_entry(entry, WULGACH_OP_WRITE, user_data, flags, fd);
+    entry[1] = off;
+    entry[3] = len;
+    for (uint32_t i = 0; i < len && i < 64; i++)
+        entry[8 + i / 8] |= (uint64_t)bytes[i] << i % 8 * 8;
+}
+
+static inline void wulgach_fsync(uint64_t entry[16], uint64_t user_data, uint8_t flags, int32_t fd)
+{
+    wulgach_entry(entry, WULGACH_OP_FSYNC, user_data, flags, fd);
+}
+
+/* Cancels the request of user data target. */
+static inline void wulgach_cancel(uint64_t entry[16], uint64_t user_data, uint8_t flags, uint64_t target)
+{
+    wulgach_entry(entry, WULGACH_OP_CANCEL, user_data, flags, 0);
+    entry[2] = target;
+}
+
+#ifdef __cplusplus
+}
+#endif
+
+#endif

@@ -1,0 +1,3 @@
+pub mod CoreBox
+pub mod MachineBox
+pub mod Slots

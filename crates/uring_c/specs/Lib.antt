@@ -1,0 +1,9 @@
+pub mod Slots
+pub mod Boxes
+pub mod Places
+pub mod StepForm
+pub mod AnswerForm
+pub mod OperationForm
+pub mod SetUps
+pub mod Stepping
+pub mod ReadingForms

@@ -1,0 +1,14 @@
+-- What a place of a C program holds.
+use Rattle.std.specs.Prelude.{Option}
+use Rattle.uring_machine.specs.Core.{Core}
+use Rattle.uring_machine.specs.Machine.{Machine}
+use Rattle.uring_c.specs.declared.core_place.CorePlace.{CorePlace}
+use Rattle.uring_c.specs.declared.machine_place.MachinePlace.{MachinePlace}
+
+-- the core in a place, if there is one
+abbrev pub core_in : CorePlace → Option Core
+core_in place = place.slot.core
+
+-- the machine in a place, if there is one
+abbrev pub machine_in : MachinePlace → Option Machine
+machine_in place = place.slot.machine

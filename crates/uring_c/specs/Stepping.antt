@@ -1,0 +1,55 @@
+-- What a call makes of what a place holds.
+use Rattle.std.specs.Prelude.{◌≡◌, ℕ, ◌∷◌, Option, IsSomeAnd}
+use Rattle.uring_entry.specs.declared.outcomes.Outcome.{Outcome}
+use Rattle.uring_machine.specs.CalledFor.{CalledFor}
+use Rattle.uring_machine.specs.Core.{Core, FitsApart, IsFinished, IsShortOfMemory, HasNoLessMemory}
+use Rattle.uring_machine.specs.Histories.{History, world}
+use Rattle.uring_machine.specs.Machine.{Machine, Fits}
+use Rattle.uring_machine.specs.declared.answer.Answer.{Answer}
+use Rattle.uring_machine.specs.declared.answer.Answer.TheVariants as answer
+use Rattle.uring_machine.specs.declared.step.Step.{Step}
+use Rattle.uring_machine.specs.declared.step.Step.TheVariants as step
+use Rattle.uring_c.specs.AnswerForm.{words_of}
+use Rattle.uring_c.specs.declared.answer_words.AnswerWords.{AnswerWords}
+
+-- A core has made this step, and answered so: it fits every history that it did, followed by both.
+pub record SteppedApart (s : Step) (a : Answer) (old new : Core) : Type 0 where
+  pub setup : new.setup ≡ old.setup
+  pub fits : (h : History) → FitsApart old h → FitsApart new ((s, a) ∷ h)
+  -- Again comes only if memory is short, and memory that was once had is never refused again
+  pub again : (h : History) → FitsApart old h → a ≡ answer.Again → IsShortOfMemory old (world old.setup h) s
+  pub memory : HasNoLessMemory old new
+
+-- A core was told how this request ended, and answered so: the request ends with that outcome exactly if it was running.
+pub record FinishedApart (number : ℕ) (outcome : Outcome) (a : Answer) (old new : Core) : Type 0 where
+  pub setup : new.setup ≡ old.setup
+  pub fits : (h : History) → FitsApart old h → FitsApart new ((step.Finish number, a) ∷ h)
+  pub memory : HasNoLessMemory old new
+  pub told : (h : History) → FitsApart old h → IsFinished (world old.setup h) number outcome a
+
+-- A machine has made this step, and answered so: it fits every history that it did, followed by both, and the answer is called for.
+pub record Stepped (s : Step) (a : Answer) (old new : Machine) : Type 0 where
+  pub setup : new.core.setup ≡ old.core.setup
+  pub fits : (h : History) → Fits old h → Fits new ((s, a) ∷ h)
+  pub called : (h : History) → Fits old h → CalledFor old.core.setup (world old.core.setup h) s a
+  -- Again comes only if memory is short, and memory that was once had is never refused again
+  pub again : (h : History) → Fits old h → a ≡ answer.Again → IsShortOfMemory old.core (world old.core.setup h) s
+  pub memory : HasNoLessMemory old.core new.core
+
+-- The core of a place has made this step, and these words tell its answer.
+pub record TellsStepApart (s : Step) (old new : Option Core) (words : AnswerWords) : Type 0 where
+  pub given : Answer
+  pub told : words ≡ words_of given
+  pub made : IsSomeAnd old (λ before. IsSomeAnd new (SteppedApart s given before))
+
+-- The core of a place was told how this request ended, and these words tell its answer.
+pub record TellsFinish (number : ℕ) (outcome : Outcome) (old new : Option Core) (words : AnswerWords) : Type 0 where
+  pub given : Answer
+  pub told : words ≡ words_of given
+  pub made : IsSomeAnd old (λ before. IsSomeAnd new (FinishedApart number outcome given before))
+
+-- The machine of a place has made this step, and these words tell its answer.
+pub record TellsStep (s : Step) (old new : Option Machine) (words : AnswerWords) : Type 0 where
+  pub given : Answer
+  pub told : words ≡ words_of given
+  pub made : IsSomeAnd old (λ before. IsSomeAnd new (Stepped s given before))

@@ -1,0 +1,104 @@
+//! The calls of a core, made on the core in a place. Each takes the core out, and puts it back; its box doesn't move.
+ghost use Rattle.std.specs.Prelude.{◌≡◌, [], IsSome, IfOk, IsSomeAnd, slice_get};
+ghost use Rattle.uring_entry.specs.Completions.{unreaped};
+ghost use Rattle.uring_entry.specs.Requests.{least_of, operation_running};
+ghost use Rattle.uring_machine.specs.Core.{FitsApart, IsCounts, IsNoFinish};
+ghost use Rattle.uring_machine.specs.Histories.{History, world};
+ghost use Rattle.uring_c.specs.Places.{core_in};
+ghost use Rattle.uring_c.specs.Stepping.{SteppedApart, FinishedApart};
+
+use crate::core_place::CorePlace;
+use std::alloc::{AllocError, Global};
+use uring_machine::{Answer, Core, Counts, Cqe, Op, Outcome, Setup, Step};
+
+/// A new core, in a box. `AllocError`: out of memory.
+pub(crate) fn new_core(alloc: Global, setup: &Setup) -> Result<Box<Core, Global>, AllocError>
+    ensures { IfOk result (λ core. (core.value.setup ≡ setup.now) × FitsApart core.value []) }
+{
+    Ok(Box::new(alloc, Core::new(alloc, setup)?)?)
+}
+
+impl CorePlace {
+    /// Makes one step.
+    pub(crate) fn step(&mut self, alloc: Global, step: Step) -> Answer
+        requires full { IsSome (core_in self.old) }
+        requires no_finish { IsNoFinish step }
+        ensures { IsSomeAnd (core_in self.old) (λ old. IsSomeAnd (core_in self.new) (SteppedApart step result old)) }
+    {
+        let Some(mut core) = self.take(alloc) else {
+            unreachable!()
+        };
+        let answer = core.step(step);
+        self.put(core);
+        answer
+    }
+
+    /// Ends a running request with an outcome from outside.
+    pub(crate) fn finish(&mut self, alloc: Global, number: u64, outcome: Outcome) -> Answer
+        requires { IsSome (core_in self.old) }
+        ensures { IsSomeAnd (core_in self.old) (λ old. IsSomeAnd (core_in self.new) (FinishedApart number outcome result old)) }
+    {
+        let Some(mut core) = self.take(alloc) else {
+            unreachable!()
+        };
+        let answer = core.finish(number, outcome);
+        self.put(core);
+        answer
+    }
+
+    /// How far the core has come.
+    pub(crate) fn counts(&mut self, alloc: Global) -> Counts
+        requires { IsSome (core_in self.old) }
+        ensures kept { core_in self.new ≡ core_in self.old }
+        ensures counts { IsSomeAnd (core_in self.old) (λ core. (h : History) → FitsApart core h → IsCounts (world core.setup h) result) }
+    {
+        let Some(core) = self.take(alloc) else {
+            unreachable!()
+        };
+        let counts = core.counts();
+        self.put(core);
+        counts
+    }
+
+    /// The completion at this place among those that wait.
+    pub(crate) fn rest(&mut self, alloc: Global, place: u64) -> Option<Cqe>
+        requires { IsSome (core_in self.old) }
+        ensures kept { core_in self.new ≡ core_in self.old }
+        ensures completion { IsSomeAnd (core_in self.old) (λ core. (h : History) → FitsApart core h → result ≡ slice_get (unreaped (world core.setup h).completions) place) }
+    {
+        let Some(core) = self.take(alloc) else {
+            unreachable!()
+        };
+        let completion = core.rest(place);
+        self.put(core);
+        completion
+    }
+
+    /// The least outstanding request.
+    pub(crate) fn least(&mut self, alloc: Global) -> Option<u64>
+        requires { IsSome (core_in self.old) }
+        ensures kept { core_in self.new ≡ core_in self.old }
+        ensures least { IsSomeAnd (core_in self.old) (λ core. (h : History) → FitsApart core h → result ≡ least_of (world core.setup h).requests) }
+    {
+        let Some(core) = self.take(alloc) else {
+            unreachable!()
+        };
+        let least = core.least();
+        self.put(core);
+        least
+    }
+
+    /// The operation of a running request.
+    pub(crate) fn running_op(&mut self, alloc: Global, number: u64) -> Option<Op>
+        requires { IsSome (core_in self.old) }
+        ensures kept { core_in self.new ≡ core_in self.old }
+        ensures operation { IsSomeAnd (core_in self.old) (λ core. (h : History) → FitsApart core h → result ≡ operation_running (world core.setup h).requests number) }
+    {
+        let Some(core) = self.take(alloc) else {
+            unreachable!()
+        };
+        let op = core.running_op(number);
+        self.put(core);
+        op
+    }
+}

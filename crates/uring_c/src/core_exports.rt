@@ -1,0 +1,186 @@
+//! The calls of a core that C makes: `wulgach_core_..` of the header.
+//!
+//! Each returns 0, or the negative of an error number: -9 (EBADF) exactly at an empty place.
+ghost use Rattle.std.specs.Prelude.{◌≡◌, ◌↔◌, [], pos, neg_ℤ, None, IsSome, IfSome, IsSomeAnd, MatchOption, slice_get};
+ghost use Rattle.uring_entry.specs.Completions.{unreaped};
+ghost use Rattle.uring_entry.specs.Requests.{least_of, operation_running};
+ghost use Rattle.uring_entry.specs.declared.errno.TheConstants.{EBADF, EINVAL, ENOENT, ENOMEM};
+ghost use Rattle.uring_machine.specs.Core.{FitsApart, IsCounts};
+ghost use Rattle.uring_machine.specs.Histories.{History, world};
+ghost use Rattle.uring_c.specs.OperationForm.{words_of_operation};
+ghost use Rattle.uring_c.specs.Places.{core_in};
+ghost use Rattle.uring_c.specs.ReadingForms.{words_of_completion, counts_told};
+ghost use Rattle.uring_c.specs.SetUps.{IsAskedFor, IsRefused};
+ghost use Rattle.uring_c.specs.StepForm.{core_step_of};
+ghost use Rattle.uring_c.specs.Stepping.{TellsStepApart, TellsFinish};
+
+use crate::answer_words::{AnswerWords, answer_words};
+use crate::completion_words::{CompletionWords, OutcomeBytes, completion_words};
+use crate::core_calls::new_core;
+use crate::core_place::CorePlace;
+use crate::count_words::{CountWords, count_words};
+use crate::operation_words::{OperationWords, operation_words};
+use crate::set_up_words::SetupWords;
+use crate::step_words::StepWords;
+use std::alloc::Global;
+use uring_entry::errno;
+use uring_machine::Outcome;
+
+/// Puts a new core into a place; what was there is freed. -22 (EINVAL) exactly if the set-up is refused; -12 (ENOMEM) if memory is. Then the place keeps what it had.
+#[unsafe(no_mangle)]
+pub extern "C" fn wulgach_core_new(alloc: Global, place: &mut CorePlace, setup: &SetupWords) -> i32
+    ensures refused { (result ≡ neg_ℤ EINVAL) ↔ IsRefused setup.now }
+    ensures results { (result ≡ pos 0 → ⊥) → (result ≡ neg_ℤ EINVAL → ⊥) → result ≡ neg_ℤ ENOMEM }
+    ensures kept { (result ≡ pos 0 → ⊥) → core_in place.new ≡ core_in place.old }
+    ensures made { result ≡ pos 0 → IsSomeAnd (core_in place.new) (λ core. IsAskedFor setup.now core.setup × FitsApart core []) }
+{
+    let Some(setup) = setup.set_up() else {
+        return -errno::EINVAL;
+    };
+    let Ok(core) = new_core(alloc, &setup) else {
+        return -errno::ENOMEM;
+    };
+    place.put(core);
+    0
+}
+
+/// Makes one step, and writes its answer. -22 (EINVAL) exactly if the words give no step of a core. A refusal changes nothing.
+#[unsafe(no_mangle)]
+pub extern "C" fn wulgach_core_step(
+    alloc: Global,
+    place: &mut CorePlace,
+    step: &StepWords,
+    answer: &mut AnswerWords,
+) -> i32
+    ensures empty { (result ≡ neg_ℤ EBADF) ↔ (core_in place.old ≡ None) }
+    ensures no_step { (result ≡ neg_ℤ EINVAL) ↔ (IsSome (core_in place.old) × (core_step_of step.now ≡ None)) }
+    ensures kept { (result ≡ pos 0 → ⊥) → (core_in place.new ≡ core_in place.old) × (answer.new ≡ answer.old) }
+    ensures made { IsSome (core_in place.old) → IfSome (core_step_of step.now) (λ s. (result ≡ pos 0) × TellsStepApart s (core_in place.old) (core_in place.new) answer.new) }
+{
+    if !place.is_full {
+        return -errno::EBADF;
+    }
+    let Some(step) = step.core_step() else {
+        return -errno::EINVAL;
+    };
+    *answer = answer_words(&place.step(alloc, step));
+    0
+}
+
+/// Ends the running request of this number with an outcome from outside, and writes the answer.
+#[unsafe(no_mangle)]
+pub extern "C" fn wulgach_core_finish(
+    alloc: Global,
+    place: &mut CorePlace,
+    number: u64,
+    res: i32,
+    bytes: &OutcomeBytes,
+    answer: &mut AnswerWords,
+) -> i32
+    ensures empty { (result ≡ neg_ℤ EBADF) ↔ (core_in place.old ≡ None) }
+    ensures kept { core_in place.old ≡ None → (core_in place.new ≡ None) × (answer.new ≡ answer.old) }
+    ensures made { IsSome (core_in place.old) → (result ≡ pos 0) × TellsFinish number (record { res = res; bytes = bytes.now.bytes }) (core_in place.old) (core_in place.new) answer.new }
+{
+    if !place.is_full {
+        return -errno::EBADF;
+    }
+    let outcome = Outcome {
+        res,
+        bytes: bytes.bytes,
+    };
+    *answer = answer_words(&place.finish(alloc, number, outcome));
+    0
+}
+
+/// Writes how far a core has come.
+#[unsafe(no_mangle)]
+pub extern "C" fn wulgach_core_counts(
+    alloc: Global,
+    place: &mut CorePlace,
+    counts: &mut CountWords,
+) -> i32
+    ensures empty { (result ≡ neg_ℤ EBADF) ↔ (core_in place.old ≡ None) }
+    ensures kept { core_in place.new ≡ core_in place.old }
+    ensures counts { IfSome (core_in place.old) (λ core. (result ≡ pos 0) × ((h : History) → FitsApart core h → IsCounts (world core.setup h) (counts_told counts.new))) }
+{
+    if !place.is_full {
+        return -errno::EBADF;
+    }
+    *counts = count_words(&place.counts(alloc));
+    0
+}
+
+/// Writes the completion at this place, from 0, among those that are posted and not reaped, the oldest first. -2 (ENOENT) past the last.
+#[unsafe(no_mangle)]
+pub extern "C" fn wulgach_core_rest(
+    alloc: Global,
+    place: &mut CorePlace,
+    index: u64,
+    completion: &mut CompletionWords,
+) -> i32
+    ensures empty { (result ≡ neg_ℤ EBADF) ↔ (core_in place.old ≡ None) }
+    ensures kept { core_in place.new ≡ core_in place.old }
+    ensures completion { IfSome (core_in place.old) (λ core. (h : History) → FitsApart core h → MatchOption (slice_get (unreaped (world core.setup h).completions) index) ((result ≡ neg_ℤ ENOENT) × (completion.new ≡ completion.old)) (λ c. (result ≡ pos 0) × (completion.new ≡ words_of_completion c))) }
+{
+    if !place.is_full {
+        return -errno::EBADF;
+    }
+    let Some(found) = place.rest(alloc, index) else {
+        return -errno::ENOENT;
+    };
+    *completion = completion_words(&found);
+    0
+}
+
+/// Writes the least outstanding request. -2 (ENOENT) if nothing is outstanding.
+#[unsafe(no_mangle)]
+pub extern "C" fn wulgach_core_least(alloc: Global, place: &mut CorePlace, number: &mut u64) -> i32
+    ensures empty { (result ≡ neg_ℤ EBADF) ↔ (core_in place.old ≡ None) }
+    ensures kept { core_in place.new ≡ core_in place.old }
+    ensures least { IfSome (core_in place.old) (λ core. (h : History) → FitsApart core h → MatchOption (least_of (world core.setup h).requests) ((result ≡ neg_ℤ ENOENT) × (number.new ≡ number.old)) (λ least. (result ≡ pos 0) × (number.new ≡ least))) }
+{
+    if !place.is_full {
+        return -errno::EBADF;
+    }
+    let Some(found) = place.least(alloc) else {
+        return -errno::ENOENT;
+    };
+    *number = found;
+    0
+}
+
+/// Writes the operation of a running request. -2 (ENOENT) if it isn't running.
+#[unsafe(no_mangle)]
+pub extern "C" fn wulgach_core_running_op(
+    alloc: Global,
+    place: &mut CorePlace,
+    number: u64,
+    operation: &mut OperationWords,
+) -> i32
+    ensures empty { (result ≡ neg_ℤ EBADF) ↔ (core_in place.old ≡ None) }
+    ensures kept { core_in place.new ≡ core_in place.old }
+    ensures operation { IfSome (core_in place.old) (λ core. (h : History) → FitsApart core h → MatchOption (operation_running (world core.setup h).requests number) ((result ≡ neg_ℤ ENOENT) × (operation.new ≡ operation.old)) (λ op. (result ≡ pos 0) × (operation.new ≡ words_of_operation op))) }
+{
+    if !place.is_full {
+        return -errno::EBADF;
+    }
+    let Some(found) = place.running_op(alloc, number) else {
+        return -errno::ENOENT;
+    };
+    *operation = operation_words(&found);
+    0
+}
+
+/// Frees the core of a place, which is empty from then on.
+#[unsafe(no_mangle)]
+pub extern "C" fn wulgach_core_free(alloc: Global, place: &mut CorePlace) -> i32
+    ensures empty { (result ≡ neg_ℤ EBADF) ↔ (core_in place.old ≡ None) }
+    ensures freed { core_in place.new ≡ None }
+    ensures done { IsSome (core_in place.old) → result ≡ pos 0 }
+{
+    if place.take(alloc).is_some() {
+        0
+    } else {
+        -errno::EBADF
+    }
+}

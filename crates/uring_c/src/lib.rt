@@ -1,0 +1,19 @@
+//! The proved core and machine for programs in C. `c/wulgach.h` is the header: what it says of a call is the contract of the function of that name here, in the words that cross.
+#![tactic(auto)]
+
+mod answer_words;
+mod completion_words;
+mod core_calls;
+mod core_exports;
+mod core_place;
+mod core_slot;
+mod count_words;
+mod machine_calls;
+mod machine_exports;
+mod machine_place;
+mod machine_slot;
+mod operation_words;
+mod parts;
+mod set_up_words;
+mod state_words;
+mod step_words;

@@ -1,0 +1,121 @@
+//! The calls of a machine, made on the machine in a place. Each takes the machine out, and puts it back; its box doesn't move.
+ghost use Rattle.std.specs.Prelude.{◌≡◌, [], IsSome, IfOk, IsSomeAnd, slice_get};
+ghost use Rattle.uring_entry.specs.Completions.{unreaped};
+ghost use Rattle.uring_entry.specs.Requests.{least_of, operation_running};
+ghost use Rattle.uring_machine.specs.Core.{IsCounts};
+ghost use Rattle.uring_machine.specs.CalledFor.{files_of};
+ghost use Rattle.uring_machine.specs.Histories.{History, world};
+ghost use Rattle.uring_machine.specs.Machine.{Fits};
+ghost use Rattle.uring_files.specs.Operations.{state_of, byte_of};
+ghost use Rattle.uring_c.specs.Places.{machine_in};
+ghost use Rattle.uring_c.specs.Stepping.{Stepped};
+
+use crate::machine_place::MachinePlace;
+use std::alloc::{AllocError, Global};
+use uring_machine::{Answer, Counts, Cqe, FileState, Machine, Op, Setup, Step};
+
+/// A new machine, in a box. `AllocError`: out of memory.
+pub(crate) fn new_machine(alloc: Global, setup: &Setup) -> Result<Box<Machine, Global>, AllocError>
+    ensures { IfOk result (λ machine. (machine.value.core.setup ≡ setup.now) × Fits machine.value []) }
+{
+    Ok(Box::new(alloc, Machine::new(alloc, setup)?)?)
+}
+
+impl MachinePlace {
+    /// Makes one step.
+    pub(crate) fn step(&mut self, alloc: Global, step: Step) -> Answer
+        requires { IsSome (machine_in self.old) }
+        ensures { IsSomeAnd (machine_in self.old) (λ old. IsSomeAnd (machine_in self.new) (Stepped step result old)) }
+    {
+        let Some(mut machine) = self.take(alloc) else {
+            unreachable!()
+        };
+        let answer = machine.step(step);
+        self.put(machine);
+        answer
+    }
+
+    /// How far the machine has come.
+    pub(crate) fn counts(&mut self, alloc: Global) -> Counts
+        requires { IsSome (machine_in self.old) }
+        ensures kept { machine_in self.new ≡ machine_in self.old }
+        ensures counts { IsSomeAnd (machine_in self.old) (λ machine. (h : History) → Fits machine h → IsCounts (world machine.core.setup h) result) }
+    {
+        let Some(machine) = self.take(alloc) else {
+            unreachable!()
+        };
+        let counts = machine.counts();
+        self.put(machine);
+        counts
+    }
+
+    /// The completion at this place among those that wait.
+    pub(crate) fn rest(&mut self, alloc: Global, place: u64) -> Option<Cqe>
+        requires { IsSome (machine_in self.old) }
+        ensures kept { machine_in self.new ≡ machine_in self.old }
+        ensures completion { IsSomeAnd (machine_in self.old) (λ machine. (h : History) → Fits machine h → result ≡ slice_get (unreaped (world machine.core.setup h).completions) place) }
+    {
+        let Some(machine) = self.take(alloc) else {
+            unreachable!()
+        };
+        let completion = machine.rest(place);
+        self.put(machine);
+        completion
+    }
+
+    /// The least outstanding request.
+    pub(crate) fn least(&mut self, alloc: Global) -> Option<u64>
+        requires { IsSome (machine_in self.old) }
+        ensures kept { machine_in self.new ≡ machine_in self.old }
+        ensures least { IsSomeAnd (machine_in self.old) (λ machine. (h : History) → Fits machine h → result ≡ least_of (world machine.core.setup h).requests) }
+    {
+        let Some(machine) = self.take(alloc) else {
+            unreachable!()
+        };
+        let least = machine.least();
+        self.put(machine);
+        least
+    }
+
+    /// The operation of a running request.
+    pub(crate) fn running_op(&mut self, alloc: Global, number: u64) -> Option<Op>
+        requires { IsSome (machine_in self.old) }
+        ensures kept { machine_in self.new ≡ machine_in self.old }
+        ensures operation { IsSomeAnd (machine_in self.old) (λ machine. (h : History) → Fits machine h → result ≡ operation_running (world machine.core.setup h).requests number) }
+    {
+        let Some(machine) = self.take(alloc) else {
+            unreachable!()
+        };
+        let op = machine.running_op(number);
+        self.put(machine);
+        op
+    }
+
+    /// How the file of a descriptor stands.
+    pub(crate) fn state(&mut self, alloc: Global, fd: i32) -> Option<FileState>
+        requires { IsSome (machine_in self.old) }
+        ensures kept { machine_in self.new ≡ machine_in self.old }
+        ensures state { IsSomeAnd (machine_in self.old) (λ machine. (h : History) → Fits machine h → result ≡ state_of (files_of machine.core.setup (world machine.core.setup h)) fd) }
+    {
+        let Some(machine) = self.take(alloc) else {
+            unreachable!()
+        };
+        let state = machine.state(fd);
+        self.put(machine);
+        state
+    }
+
+    /// The byte at an offset of the file of a descriptor.
+    pub(crate) fn byte(&mut self, alloc: Global, fd: i32, at: u64) -> Option<u8>
+        requires { IsSome (machine_in self.old) }
+        ensures kept { machine_in self.new ≡ machine_in self.old }
+        ensures byte { IsSomeAnd (machine_in self.old) (λ machine. (h : History) → Fits machine h → result ≡ byte_of (files_of machine.core.setup (world machine.core.setup h)) fd at) }
+    {
+        let Some(machine) = self.take(alloc) else {
+            unreachable!()
+        };
+        let byte = machine.byte(fd, at);
+        self.put(machine);
+        byte
+    }
+}

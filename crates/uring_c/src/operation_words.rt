@@ -1,0 +1,78 @@
+//! An operation as words that C can read.
+ghost use Rattle.std.specs.Prelude.{◌≡◌};
+ghost use Rattle.uring_c.specs.OperationForm as spec;
+
+use uring_entry::opcode;
+use uring_machine::Op;
+
+/// The words of an operation: `struct wulgach_operation` of the header. A word that an operation hasn't is 0.
+#[repr(C)]
+#[derive(Clone, Copy, Drop)]
+pub struct OperationWords {
+    /// The code of the operation, as in an entry.
+    pub code: u32,
+
+    /// The descriptor of the file.
+    pub fd: i32,
+
+    /// The offset in the file.
+    pub off: u64,
+
+    /// The user data that a cancel names.
+    pub target: u64,
+
+    /// How many bytes to move: 0 to 64.
+    pub len: u32,
+
+    /// The data of a write.
+    pub bytes: [u8; 64],
+}
+
+/// The words of an operation.
+pub(crate) fn operation_words(op: &Op) -> OperationWords
+    ensures { result ≡ spec.words_of_operation op.now }
+{
+    match *op {
+        Op::Nop => bare(opcode::NOP),
+        Op::Read { fd, off, len } => OperationWords {
+            fd,
+            off,
+            len,
+            ..bare(opcode::READ)
+        },
+        Op::Write {
+            fd,
+            off,
+            len,
+            bytes,
+        } => OperationWords {
+            fd,
+            off,
+            len,
+            bytes,
+            ..bare(opcode::WRITE)
+        },
+        Op::Fsync { fd } => OperationWords {
+            fd,
+            ..bare(opcode::FSYNC)
+        },
+        Op::Cancel { target } => OperationWords {
+            target,
+            ..bare(opcode::ASYNC_CANCEL)
+        },
+    }
+}
+
+/// The words of an operation that has only its code.
+fn bare(code: u8) -> OperationWords
+    ensures { result ≡ spec.bare code }
+{
+    OperationWords {
+        code: u32::from(code),
+        fd: 0,
+        off: 0,
+        target: 0,
+        len: 0,
+        bytes: [0; 64],
+    }
+}

@@ -1,9 +1,0 @@
-use Rattle.std.proofs.Common.{◌≡◌, ◌++◌, ◌∷◌, []}
-use Rattle.std.specs.Prelude.{string_bytes}
-use Rattle.uring_cli.proofs.Sessions.{on_ok_from, ended_line}
-use Rattle.uring_cli.proofs.session.Session.end_line.Goals as goal
-
-pub returns : goal.returns
-returns c = on_ok_from c.push_str.result _ (λ ok.
-    let text : string_bytes c.push_str.new.self ≡ string_bytes c.answer_line.new.text ++ 10 ∷ [] = rw ok at c.push_str.ensures.bytes in
-    rw (text, c.clear.ensures.items) (λ shape before told h. ended_line shape _ _ _ _ before told _ _ c.in_ok-answer_line.ensures h))

@@ -1,5 +1,0 @@
-mod command_lines;
-mod growth;
-mod rows;
-mod streams;
-mod traces;

@@ -1,0 +1,106 @@
+-- Glue. The dispatcher as its callers see it.
+use Rattle.std.specs.Prelude.{◌≡◌, ℕ, ◌+◌, ◌-◌, ◌≤◌, Bool, true, not, ◌||◌, ◌==◌, List, length, count_by}
+use Rattle.uring_entry.specs.Requests.{Requests, outstanding_in, running_in}
+use Rattle.uring_dispatch.specs.declared.request.Request.{Request}
+use Rattle.uring_dispatch.specs.Held.{AreHeld, request_at, is_over, is_running}
+use Rattle.uring_dispatch.specs.declared.issue_answer.Issued.{Issued}
+use Rattle.uring_dispatch.specs.declared.issue_answer.Issued.TheVariants.{Run, Ended}
+use Rattle.uring_dispatch.specs.declared.finish_answer.Finished.{Finished}
+use Rattle.uring_dispatch.specs.declared.finish_answer.Finished.TheVariants as finish
+
+-- what the dispatcher keeps of the requests. Only `ShowsRequests` says what it means
+abbrev pub Held : Type 0
+Held = List Request
+
+-- The dispatcher: numbers, and what it keeps.
+pub record Dispatch : Type 0 where
+  -- the requests accepted
+  pub accepted : ℕ
+  -- those of them that haven't ended
+  pub outstanding : ℕ
+  -- those of them that were started and haven't ended
+  pub running : ℕ
+  -- how many more can be accepted before memory is to be reserved
+  pub room : ℕ
+  -- whether the last call's end was told since the last request was accepted, or none was accepted yet
+  pub is_between_calls : Bool
+  pub held : Held
+
+-- the dispatcher that keeps these requests, with room for so many in all
+abbrev pub dispatch_of : List Request → ℕ → Dispatch
+dispatch_of held capacity = record {
+  accepted = length held;
+  outstanding = count_by (λ q. not (is_over q)) held;
+  running = count_by is_running held;
+  room = capacity - length held;
+  is_between_calls = (length held == 0) || (request_at held (length held - 1)).ends_call;
+  held = held;
+}
+
+-- what is kept stands for these requests
+unfoldable pub StandsFor : Held → Requests → Type 0
+StandsFor held r = AreHeld held r
+
+-- The dispatcher shows these requests: everything it answers is as the definitions on them say.
+pub record ShowsRequests (d : Dispatch) (r : Requests) : Type 0 where
+  pub accepted : d.accepted ≡ length r.accepted
+  pub outstanding : d.outstanding ≡ outstanding_in r
+  pub running : d.running ≡ running_in r
+  pub held : StandsFor d.held r
+
+-- the same numbers of requests, and no less room
+pub record IsSameCount (old new : Dispatch) : Type 0 where
+  pub accepted : new.accepted ≡ old.accepted
+  pub outstanding : new.outstanding ≡ old.outstanding
+  pub running : new.running ≡ old.running
+  pub room : old.room ≤ new.room
+
+-- one more request was accepted
+pub record HasAccepted (old new : Dispatch) : Type 0 where
+  pub accepted : new.accepted ≡ old.accepted + 1
+  pub outstanding : new.outstanding ≡ old.outstanding + 1
+  pub running : new.running ≡ old.running
+  pub room : new.room + 1 ≡ old.room
+
+-- a call was ended: nothing but that is new
+pub record HasEndedCall (old new : Dispatch) : Type 0 where
+  pub accepted : new.accepted ≡ old.accepted
+  pub outstanding : new.outstanding ≡ old.outstanding
+  pub running : new.running ≡ old.running
+  pub room : new.room ≡ old.room
+  pub between : new.is_between_calls ≡ true
+
+-- one of the outstanding requests was started
+pub record HasStarted (old new : Dispatch) : Type 0 where
+  pub accepted : new.accepted ≡ old.accepted
+  pub outstanding : new.outstanding ≡ old.outstanding
+  pub running : new.running ≡ old.running + 1
+  pub room : old.room ≤ new.room
+  pub between : new.is_between_calls ≡ old.is_between_calls
+
+-- one of the outstanding requests ended, which wasn't running
+pub record HasEnded (old new : Dispatch) : Type 0 where
+  pub accepted : new.accepted ≡ old.accepted
+  pub outstanding : new.outstanding + 1 ≡ old.outstanding
+  pub running : new.running ≡ old.running
+  pub room : old.room ≤ new.room
+  pub between : new.is_between_calls ≡ old.is_between_calls
+
+-- one of the running requests ended
+pub record HasFinished (old new : Dispatch) : Type 0 where
+  pub accepted : new.accepted ≡ old.accepted
+  pub outstanding : new.outstanding + 1 ≡ old.outstanding
+  pub running : new.running + 1 ≡ old.running
+  pub room : old.room ≤ new.room
+  pub between : new.is_between_calls ≡ old.is_between_calls
+
+-- what an issue with this answer changes in the numbers; a refusal changes nothing
+abbrev pub IssueCounts : Issued → Dispatch → Dispatch → Type 0
+IssueCounts (Run op) old new = HasStarted old new
+IssueCounts (Ended res) old new = HasEnded old new
+IssueCounts _ old new = new ≡ old
+
+-- what a finish with this answer changes in the numbers; a refusal changes nothing
+abbrev pub FinishCounts : Finished → Dispatch → Dispatch → Type 0
+FinishCounts finish.Ended old new = HasFinished old new
+FinishCounts finish.NotRunning old new = new ≡ old

@@ -1,0 +1,197 @@
+ghost use Rattle.std.specs.Prelude.{◌≡◌, ◌+◌, ◌-◌, ◌^◌, ◌<◌, ◌≤◌, ◌↔◌, IsTrue, true, false, OnOk, OnErr, IsOk, IsErrOf};
+ghost use Rattle.uring_entry.specs.Requests.{Requests, no_request, with_accepted, with_cut, next_of, least_of, operation_running, entry_outstanding, outstanding_in, running_in};
+ghost use Rattle.uring_dispatch.specs.IssueAndFinish.{issued, after_issue, finished, after_finish};
+
+use crate::finish_answer::Finished;
+use crate::request::Request;
+use crate::issue_answer::Issued;
+use crate::refusal::ReserveError;
+use crate::{events, search};
+use std::alloc::Global;
+use std::marker::Model;
+use uring_entry::{Op, Outcome, Sqe, prepare};
+
+/// The requests that were accepted, numbered from 0 in the order of their acceptance, with what was made of them. Which of them wait, are doomed or may start is that of io_uring_enter(2), IOSQE_IO_DRAIN, IOSQE_IO_LINK, IOSQE_IO_HARDLINK and IORING_OP_ASYNC_CANCEL; the numbers, and that a request is issued by its number, are our own rule.
+///
+/// A submission call gives its entries one by one to `accept` and ends with `end_call`; every other call is made between submission calls.
+#[derive(Drop)]
+pub struct Dispatch {
+    requests: Vec<Request>,
+}
+
+impl Model for Dispatch {
+    ghost use Rattle.std.specs.Prelude.{vec_capacity};
+    ghost use Rattle.uring_dispatch.specs.Dispatch.{Dispatch, dispatch_of};
+
+    ghost Value = { Dispatch };
+
+    ghost view = { λ d. dispatch_of d.requests.items (vec_capacity d.requests) };
+}
+
+impl Dispatch {
+    ghost use Rattle.uring_dispatch.specs.Dispatch.{ShowsRequests, IsSameCount, HasAccepted, IssueCounts, FinishCounts};
+
+    /// The most requests that are ever accepted: 2^63 - 1. Our own rule.
+    pub const MAX_ACCEPTED: u64 = 9_223_372_036_854_775_807;
+
+    /// A dispatcher that has accepted nothing. It takes no memory yet.
+    pub fn new(alloc: Global) -> Dispatch
+        ensures shows { ShowsRequests result no_request }
+        ensures between { result.is_between_calls ≡ true }
+    {
+        Dispatch {
+            requests: Vec::new(alloc),
+        }
+    }
+
+    /// Asks for the memory of `count` more requests, any number: so many can be accepted from here on.
+    ///
+    /// `Spent` comes where they and those accepted so far are more than `MAX_ACCEPTED`; otherwise `NoMemory` where memory is refused. Neither changes anything. Our own rule.
+    pub fn reserve(&mut self, count: u64) -> Result<(), ReserveError>
+        requires { IsTrue self.old.is_between_calls }
+        ensures ok { OnOk result (count ≤ self.new.room) }
+        ensures spent { IsErrOf result ReserveError.Spent ↔ (2 ^ 63 - 1 < self.old.accepted + count) }
+        ensures no_memory { IsErrOf result ReserveError.NoMemory → self.old.room < count }
+        ensures err { OnErr result (self.new ≡ self.old) }
+        ensures counts { IsSameCount self.old self.new }
+        ensures between { self.new.is_between_calls ≡ true }
+        ensures shows { (r : Requests) → ShowsRequests self.old r → ShowsRequests self.new r }
+    {
+        if count > Dispatch::MAX_ACCEPTED - self.accepted() {
+            return Err(ReserveError::Spent);
+        }
+        match self.requests.reserve(count as usize) {
+            Ok(()) => Ok(()),
+            Err(_) => Err(ReserveError::NoMemory),
+        }
+    }
+
+    /// Accepts an entry: its number is that of the requests accepted before it. It becomes one of the open submission call's.
+    ///
+    /// Condition: its memory was asked for by `reserve`.
+    pub fn accept(&mut self, entry: Sqe)
+        requires { 0 < self.old.room }
+        ensures shows { (r : Requests) → ShowsRequests self.old r → ShowsRequests self.new (with_accepted r entry) }
+        ensures counts { HasAccepted self.old self.new }
+        ensures between { self.new.is_between_calls ≡ false }
+    {
+        self.requests.push_reserved(Request::new(entry));
+    }
+
+    /// Ends a submission call: no group goes on past it. io_uring_enter(2), IOSQE_IO_LINK.
+    pub fn end_call(&mut self)
+        ensures shows { (r : Requests) → ShowsRequests self.old r → ShowsRequests self.new (with_cut r) }
+        ensures counts { IsSameCount self.old self.new }
+        ensures between { self.new.is_between_calls ≡ true }
+    {
+        events::end_call(&mut self.requests);
+    }
+
+    /// Issues request `n`, any number. It ends at once where it is doomed, with -22 (EINVAL) where it has a fault itself and else with -125 (ECANCELED), or where it is a cancel that may start, with 0, -2 (ENOENT) or -114 (EALREADY); otherwise it starts where it may.
+    ///
+    /// Refused with `Unknown` where it isn't outstanding, with `Running` where it runs already, and with `NotReady` where it isn't doomed and waits for earlier requests. A refusal changes nothing. The order of these is our own rule.
+    pub fn issue(&mut self, n: u64) -> Issued
+        requires { IsTrue self.old.is_between_calls }
+        ensures answer { (r : Requests) → ShowsRequests self.old r → result ≡ issued r n }
+        ensures shows { (r : Requests) → ShowsRequests self.old r → ShowsRequests self.new (after_issue r n result) }
+        ensures counts { IssueCounts result self.old self.new }
+    {
+        if n >= self.accepted() {
+            return Issued::Unknown;
+        }
+        events::issue(&mut self.requests, n as usize)
+    }
+
+    /// Ends request `n` with this outcome. Refused with `NotRunning` where it isn't running, and then nothing changes. Our own rule.
+    pub fn finish(&mut self, n: u64, outcome: Outcome) -> Finished
+        requires { IsTrue self.old.is_between_calls }
+        ensures answer { (r : Requests) → ShowsRequests self.old r → result ≡ finished r n }
+        ensures shows { (r : Requests) → ShowsRequests self.old r → ShowsRequests self.new (after_finish r n outcome result) }
+        ensures counts { FinishCounts result self.old self.new }
+    {
+        if n >= self.accepted() {
+            return Finished::NotRunning;
+        }
+        events::finish(&mut self.requests, n as usize, outcome)
+    }
+
+    /// The operation of request `n`: `Some` exactly where it is running.
+    pub fn running_op(&self, n: u64) -> Option<Op>
+        requires { IsTrue self.now.is_between_calls }
+        ensures { (r : Requests) → ShowsRequests self.now r → result ≡ operation_running r n }
+    {
+        if n >= self.accepted() {
+            return None;
+        }
+        let request = &self.requests[n as usize];
+        if request.is_running() {
+            prepare(&request.entry).ok()
+        } else {
+            None
+        }
+    }
+
+    /// The entry of request `n`: `Some` exactly where it is outstanding, that is accepted and not ended.
+    pub fn entry(&self, n: u64) -> Option<Sqe>
+        requires { IsTrue self.now.is_between_calls }
+        ensures { (r : Requests) → ShowsRequests self.now r → result ≡ entry_outstanding r n }
+    {
+        if n >= self.accepted() {
+            return None;
+        }
+        let request = &self.requests[n as usize];
+        if request.is_over() {
+            None
+        } else {
+            Some(request.entry)
+        }
+    }
+
+    /// The least request that `issue` doesn't refuse, if there is one. Our own rule.
+    pub fn next(&self) -> Option<u64>
+        requires { IsTrue self.now.is_between_calls }
+        ensures { (r : Requests) → ShowsRequests self.now r → result ≡ next_of r }
+    {
+        search::next(&self.requests)
+    }
+
+    /// The least outstanding request, if there is one.
+    pub fn least(&self) -> Option<u64>
+        requires { IsTrue self.now.is_between_calls }
+        ensures { (r : Requests) → ShowsRequests self.now r → result ≡ least_of r }
+    {
+        search::least(&self.requests)
+    }
+
+    /// How many requests were accepted: at most `MAX_ACCEPTED`.
+    pub fn accepted(&self) -> u64
+        ensures value { result ≡ self.now.accepted }
+        ensures limit { result ≤ 2 ^ 63 - 1 }
+    {
+        self.requests.len() as u64
+    }
+
+    /// How many of them haven't ended.
+    pub fn outstanding(&self) -> u64
+        requires { IsTrue self.now.is_between_calls }
+        ensures value { result ≡ self.now.outstanding }
+        ensures shown { (r : Requests) → ShowsRequests self.now r → result ≡ outstanding_in r }
+    {
+        self.requests
+            .iter()
+            .filter(|request| !request.is_over())
+            .count() as u64
+    }
+
+    /// How many of them were started and haven't ended.
+    pub fn running(&self) -> u64
+        requires { IsTrue self.now.is_between_calls }
+        ensures value { result ≡ self.now.running }
+        ensures shown { (r : Requests) → ShowsRequests self.now r → result ≡ running_in r }
+    {
+        self.requests
+            .iter()
+            .filter(|request| request.is_running())
+            .count() as u64
+    }
+}

@@ -1,3 +1,0 @@
-mod entries;
-mod preparation_table;
-mod set_ups;

@@ -1,0 +1,84 @@
+-- Each file stands by itself: the laws of `files_stand_alone` as lemmas, by cases of the operation.
+-- Stable: other crates may import `others_stay`, `files_apart` and `ends_apart`.
+use Rattle.std.proofs.Common.{◌≡◌, ◌≢◌, ℕ, zero, suc, ℤ, pos, negsuc, neg_ℤ, Bool, true, false, not, ◌&&◌, cond, List, [], ◌∷◌, take, get_or, refl, sym, ap, ◌∙◌, inl, inr}
+use Rattle.std.specs.Prelude.{slice_get, slice_set}
+use Rattle.std.specs.Option.{option_map, option_map_or}
+use Rattle.std.specs.Ordering.{int_eq}
+use Rattle.std.proofs.lemmas.Bool.{cases_Bool, both_ways}
+use Rattle.std.proofs.lemmas.Bool.Decides.{Decides-int_eq}
+use Rattle.uring_entry.specs.declared.errno.TheConstants.{EFBIG}
+use Rattle.uring_entry.specs.declared.operation.Op.TheVariants.{Nop, Read, Write, Fsync, Cancel}
+use Rattle.uring_files.specs.Contents.{FileContents, empty_file, read_outcome, is_too_long, is_past_end, written, with_writes_synced}
+use Rattle.uring_files.specs.Operations.{file_of, with_changed, on_file, ended_with}
+use Rattle.uring_files.specs.Laws.{AgreeAt, OthersStay, FilesStandAlone, EndsStandAlone}
+
+-- what stands at a place after one was set
+
+set_same : {X : Type 0} (xs : List X) (i : ℕ) (d : X) (change : X → X) → slice_get (slice_set xs i (change (get_or xs i d))) i ≡ option_map change (slice_get xs i)
+set_same [] i d change = refl
+set_same (x ∷ xs) zero d change = refl
+set_same (x ∷ xs) (suc i) d change = set_same xs i d change
+
+set_other : {X : Type 0} (xs : List X) (i j : ℕ) (x : X) → j ≢ i → slice_get (slice_set xs i x) j ≡ slice_get xs j
+set_other [] i j x differ = refl
+set_other (y ∷ ys) zero zero x differ = absurd (differ refl)
+set_other (y ∷ ys) zero (suc j) x differ = refl
+set_other (y ∷ ys) (suc i) zero x differ = refl
+set_other (y ∷ ys) (suc i) (suc j) x differ = set_other ys i j x (λ e. differ (ap suc e))
+
+-- the file of a descriptor after that of one was changed
+
+changed_same : (files : List FileContents) (fd : ℤ) (change : FileContents → FileContents) → file_of (with_changed files fd change) fd ≡ option_map change (file_of files fd)
+changed_same files (pos fd) change = set_same files fd empty_file change
+changed_same files (negsuc below) change = refl
+
+changed_other : (files : List FileContents) (own fd : ℤ) (change : FileContents → FileContents) → fd ≢ own → file_of (with_changed files own change) fd ≡ file_of files fd
+changed_other files (pos k) (pos j) change differ = set_other files k j _ (λ e. differ (ap pos e))
+changed_other files (pos k) (negsuc below) change differ = refl
+changed_other files (negsuc below) fd change differ = refl
+
+unlike : (x y : ℤ) → int_eq x y ≡ false → x ≢ y
+unlike x y e same = both_ways _ e ((Decides-int_eq x y).1 same)
+
+-- a change of one file, if some test is passed
+
+chosen_other : (chosen : Bool) (files : List FileContents) (own fd : ℤ) (change : FileContents → FileContents) → int_eq fd own ≡ false → file_of (cond chosen (with_changed files own change) files) fd ≡ file_of files fd
+chosen_other true files own fd change differ = changed_other files own fd change (unlike fd own differ)
+chosen_other false files own fd change differ = refl
+
+chosen_apart : (chosen : Bool) (files others : List FileContents) (own fd : ℤ) (change : FileContents → FileContents) → AgreeAt fd files others
+    → AgreeAt fd (cond chosen (with_changed files own change) files) (cond chosen (with_changed others own change) others)
+chosen_apart false files others own fd change same = same
+chosen_apart true files others own fd change same =
+    elim (cases_Bool (int_eq fd own)) [
+      | inl here ↦
+          let e : fd ≡ own = (Decides-int_eq fd own).0 here in
+          ap (λ k. file_of (with_changed files k change) fd) (sym e) ∙ changed_same files fd change ∙ ap (option_map change) same
+          ∙ sym (changed_same others fd change) ∙ ap (λ k. file_of (with_changed others k change) fd) e
+      | inr differ ↦ changed_other files own fd change (unlike fd own differ) ∙ same ∙ sym (changed_other others own fd change (unlike fd own differ))
+    ]
+
+pub others_stay : OthersStay
+others_stay files Nop res fd other = refl
+others_stay files (Read own off len) res fd other = refl
+others_stay files (Write own off len bytes) res fd other = chosen_other (int_eq res (pos len)) files own fd (written off (take len bytes)) other
+others_stay files (Fsync own) res fd other = chosen_other (int_eq res (pos 0)) files own fd with_writes_synced other
+others_stay files (Cancel target) res fd other = refl
+
+pub files_apart : FilesStandAlone
+files_apart files others Nop res fd same = same
+files_apart files others (Read own off len) res fd same = same
+files_apart files others (Write own off len bytes) res fd same = chosen_apart (int_eq res (pos len)) files others own fd (written off (take len bytes)) same
+files_apart files others (Fsync own) res fd same = chosen_apart (int_eq res (pos 0)) files others own fd with_writes_synced same
+files_apart files others (Cancel target) res fd same = same
+
+itself : (fd : ℤ) → int_eq fd fd ≡ true
+itself fd = (Decides-int_eq fd fd).1 refl
+
+pub ends_apart : EndsStandAlone
+ends_apart files others Nop agree = (refl, refl)
+ends_apart files others (Read fd off len) agree = (ap (λ file. on_file file (read_outcome off len)) (agree fd (itself fd)), refl)
+ends_apart files others (Write fd off len bytes) agree =
+    (ap (λ file. on_file file (λ f. ended_with (cond (is_too_long off len) (neg_ℤ EFBIG) (pos len)))) (agree fd (itself fd)), ap (λ file. option_map_or (λ f. not (is_too_long off len) && is_past_end off len f) file false) (agree fd (itself fd)))
+ends_apart files others (Fsync fd) agree = (ap (λ file. on_file file (λ f. ended_with (pos 0))) (agree fd (itself fd)), refl)
+ends_apart files others (Cancel target) agree = (refl, refl)

@@ -1,0 +1,4 @@
+mod dispatch;
+mod entry;
+mod files;
+mod rings;

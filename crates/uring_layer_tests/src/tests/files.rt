@@ -1,0 +1,291 @@
+//! Operations on files, at their edges and at size.
+
+ghost use Rattle.std.specs.Prelude.{◌≤◌, length};
+
+use std::process::Abort;
+use std::test::Fail;
+use uring_entry::{Op, Outcome};
+use uring_files::{FileState, Files};
+
+/// The result of a write of this text.
+fn write(files: &mut Files, fd: i32, off: u64, text: &[u8]) -> i32
+    requires { length text.now ≤ 64 }
+{
+    let mut bytes = [0; 64];
+    bytes[..text.len()].copy_from_slice(text);
+    let len = text.len() as u32;
+    let op = Op::Write {
+        fd,
+        off,
+        len,
+        bytes,
+    };
+    files.apply(&op).res
+}
+
+/// The outcome of a read of up to 64 bytes.
+fn read(files: &mut Files, fd: i32, off: u64, len: u32) -> Outcome {
+    let len = len.min(64);
+    files.apply(&Op::Read { fd, off, len })
+}
+
+/// How a file of this length stands.
+fn standing(len: u32, writes: u64, synced: u64) -> Option<FileState> {
+    Some(FileState {
+        len,
+        writes,
+        synced,
+    })
+}
+
+/// What operations in turn answered, and how two files stood after the first ones and in the end.
+#[derive(Drop)]
+struct InTurn {
+    results: [i32; 6],
+    read: Outcome,
+    bytes: [Option<u8>; 3],
+    first: [Option<FileState>; 3],
+    last: [Option<FileState>; 2],
+}
+
+fn in_turn(files: &mut Files) -> InTurn {
+    let wrote = write(files, 0, 2, b"ab");
+    let found = read(files, 0, 0, 64);
+    let too_long = write(files, 0, 65_535, b"ab");
+    let unknown = read(files, 7, 0, 1).res;
+    let nothing = files.apply(&Op::Nop).res;
+    let bytes = [files.byte(0, 0), files.byte(0, 2), files.byte(0, 4)];
+    let first = [files.state(0), files.state(1), files.state(2)];
+    let empty = write(files, 0, 70_000, b"");
+    let unsynced = files.state(0);
+    let synced = files.apply(&Op::Fsync { fd: 0 }).res;
+    InTurn {
+        results: [wrote, too_long, unknown, nothing, empty, synced],
+        read: found,
+        bytes,
+        first,
+        last: [unsynced, files.state(0)],
+    }
+}
+
+fn check_in_turn(rt: &impl Abort, went: &InTurn) {
+    let mut found = [0; 64];
+    found[2] = 0x61;
+    found[3] = 0x62;
+    assert_eq!(rt; went.results, [2, -27, -9, 0, 0, 0]);
+    assert_eq!(rt; went.read.res, 4);
+    assert_eq!(rt; went.read.bytes, found);
+    assert_eq!(rt; went.bytes, [Some(0), Some(97), None]);
+    assert_eq!(rt; went.first, [standing(4, 1, 0), standing(0, 0, 0), None]);
+    assert_eq!(rt; went.last, [standing(4, 2, 0), standing(4, 2, 2)]);
+}
+
+#[test]
+fn operations_in_turn(rt: HostRuntime) -> Result<(), Fail> {
+    let mut files = Files::new(rt.alloc(), 2)?;
+    let went = in_turn(&mut files);
+    check_in_turn(&rt, &went);
+    Ok(())
+}
+
+/// A transfer of up to 64 bytes: its descriptor, its offset, its length, and the result that is wanted.
+type Transfer = (i32, u64, u32, i32);
+
+/// The place of the first write that ends otherwise.
+fn first_wrong_write(files: &mut Files, rows: &[Transfer]) -> Option<usize> {
+    for (place, (fd, off, len, wanted)) in rows.iter().enumerate() {
+        let text = [7; 64];
+        let len = text.len().min(*len as usize);
+        if write(files, *fd, *off, &text[..len]) != *wanted {
+            return Some(place);
+        }
+    }
+    None
+}
+
+/// The place of the first read that ends otherwise.
+fn first_wrong_read(files: &mut Files, rows: &[Transfer]) -> Option<usize> {
+    for (place, (fd, off, len, wanted)) in rows.iter().enumerate() {
+        if read(files, *fd, *off, *len).res != *wanted {
+            return Some(place);
+        }
+    }
+    None
+}
+
+static EDGES: [Transfer; 13] = [
+    (0, u64::MAX - 1, 4, -27),
+    (0, u64::MAX, 1, -27),
+    (0, u64::MAX, 0, 0),
+    (0, 65_536, 1, -27),
+    (0, 65_473, 64, -27),
+    (0, 65_472, 64, 64),
+    (0, 65_535, 1, 1),
+    (63, 65_535, 1, 1),
+    (64, 0, 1, -9),
+    (-1, 0, 1, -9),
+    (64, 0, 0, -9),
+    (-1, u64::MAX - 1, 4, -9),
+    (i32::MIN, 0, 1, -9),
+];
+
+#[test]
+fn writes_at_the_edges(rt: HostRuntime) -> Result<(), Fail> {
+    let mut files = Files::new(rt.alloc(), 64)?;
+    let wrong = first_wrong_write(&mut files, &EDGES);
+    let stands = [
+        files.state(0),
+        files.state(63),
+        files.state(64),
+        files.state(-1),
+    ];
+    let absent = (files.byte(-1, 0), files.apply(&Op::Fsync { fd: 64 }).res);
+    assert_eq!(rt; wrong, None);
+    assert_eq!(rt;
+        stands,
+        [standing(65_536, 3, 0), standing(65_536, 1, 0), None, None]
+    );
+    assert_eq!(rt; absent, (None, -9));
+    Ok(())
+}
+
+/// Fills file 0 by whole lines of 64 bytes. How many ended otherwise than with 64.
+fn failures_of_filling(files: &mut Files) -> usize {
+    let mut failures: usize = 0;
+    for line in 0..1_024 {
+        if write(files, 0, 64 * line, &[7; 64]) != 64 {
+            failures = failures.wrapping_add(1);
+        }
+    }
+    failures
+}
+
+static READS_OF_A_FULL_FILE: [Transfer; 7] = [
+    (0, 0, 64, 64),
+    (0, 65_500, 64, 36),
+    (0, 65_536, 64, 0),
+    (0, 1, 0, 0),
+    (0, u64::MAX - 1, 64, 0),
+    (1, 0, 1, -9),
+    (-1, 0, 0, -9),
+];
+
+#[test]
+fn reads_of_a_full_file(rt: HostRuntime) -> Result<(), Fail> {
+    let mut files = Files::new(rt.alloc(), 1)?;
+    let failures = failures_of_filling(&mut files);
+    let over = write(&mut files, 0, 65_536, &[7]);
+    let stands = files.state(0);
+    let bytes = [
+        files.byte(0, 65_535),
+        files.byte(0, 65_536),
+        files.byte(0, u64::MAX),
+    ];
+    let wrong = first_wrong_read(&mut files, &READS_OF_A_FULL_FILE);
+    assert_eq!(rt; (failures, over), (0, -27));
+    assert_eq!(rt; stands, standing(65_536, 1_024, 0));
+    assert_eq!(rt; bytes, [Some(7), None, None]);
+    assert_eq!(rt; wrong, None);
+    Ok(())
+}
+
+/// Writes behind gaps in a file that isn't empty, up to its largest size.
+static GAPS: [Transfer; 9] = [
+    (0, 0, 3, 3),
+    (0, 4, 1, 1),
+    (0, 100, 64, 64),
+    (0, 1_000, 1, 1),
+    (0, 5_000, 64, 64),
+    (0, 20_000, 64, 64),
+    (0, 40_000, 7, 7),
+    (0, 65_472, 64, 64),
+    (0, 3, 1, 1),
+];
+
+/// In each of 64 files a write of 5 bytes, and one of 6 behind a gap. How many ended otherwise.
+fn failures_behind_gaps(files: &mut Files) -> usize {
+    let mut failures: usize = 0;
+    for fd in 0..64u8 {
+        let first = write(files, i32::from(fd), 0, b"first");
+        let second = write(files, i32::from(fd), 1_000 * u64::from(fd), b"second");
+        if (first, second) != (5, 6) {
+            failures = failures.wrapping_add(1);
+        }
+    }
+    failures
+}
+
+/// With ample memory no write is out of memory, however many files there are and however far it lies behind a file's end.
+#[test]
+fn gaps_in_files_that_are_not_empty(rt: HostRuntime) -> Result<(), Fail> {
+    let mut one = Files::new(rt.alloc(), 1)?;
+    let wrong = first_wrong_write(&mut one, &GAPS);
+    let bytes = [
+        one.byte(0, 3),
+        one.byte(0, 5),
+        one.byte(0, 65_471),
+        one.byte(0, 65_535),
+    ];
+    let stands = one.state(0);
+    let mut many = Files::new(rt.alloc(), 64)?;
+    let failures = failures_behind_gaps(&mut many);
+    let last = many.state(63);
+    assert_eq!(rt; wrong, None);
+    assert_eq!(rt; bytes, [Some(7), Some(0), Some(0), Some(7)]);
+    assert_eq!(rt; stands, standing(65_536, 9, 0));
+    assert_eq!(rt; (failures, last), (0, standing(63_006, 2, 0)));
+    Ok(())
+}
+
+/// Two writes of one file, the second behind a gap: their results, how the file stood after each, and three of its bytes.
+#[derive(Drop)]
+struct Grown {
+    results: (i32, i32),
+    stands: [Option<FileState>; 2],
+    bytes: [Option<u8>; 4],
+}
+
+fn grow_twice(files: &mut Files) -> Grown {
+    let first = write(files, 0, 0, b"ab");
+    let before = files.state(0);
+    let second = write(files, 0, 5_000, b"cd");
+    Grown {
+        results: (first, second),
+        stands: [before, files.state(0)],
+        bytes: [
+            files.byte(0, 0),
+            files.byte(0, 1),
+            files.byte(0, 2),
+            files.byte(0, 5_001),
+        ],
+    }
+}
+
+fn check_grown(rt: &impl Abort, grown: &Grown) {
+    match grown.results {
+        (first, -12) => {
+            assert_eq!(rt; first, 2);
+            assert_eq!(rt; grown.stands, [standing(2, 1, 0), standing(2, 1, 0)]);
+            assert_eq!(rt; grown.bytes, [Some(97), Some(98), None, None]);
+        }
+        (-12, second) => {
+            assert_eq!(rt; second, 2);
+            assert_eq!(rt; grown.stands, [standing(0, 0, 0), standing(5_002, 1, 0)]);
+            assert_eq!(rt; grown.bytes, [Some(0), Some(0), Some(0), Some(100)]);
+        }
+        results => {
+            assert_eq!(rt; results, (2, 2));
+            assert_eq!(rt; grown.stands, [standing(2, 1, 0), standing(5_002, 2, 0)]);
+            assert_eq!(rt; grown.bytes, [Some(97), Some(98), Some(0), Some(100)]);
+        }
+    }
+}
+
+/// With ample memory the writes grow the file. Run with one allocation refused, one of them ends with -12 and leaves the file as before.
+#[test]
+fn a_file_grows_or_stays(rt: HostRuntime) -> Result<(), Fail> {
+    let mut files = Files::new(rt.alloc(), 1)?;
+    let went = grow_twice(&mut files);
+    check_grown(&rt, &went);
+    Ok(())
+}

@@ -1,0 +1,164 @@
+-- The law `published_is_told`: the items published are those that the events tell, and so is the count of dropped words.
+-- The items: from `own_submission`, position by position. The count: what all calls took less the entries among it,
+-- which `takes_places` has; kept from the last close on by induction over the history.
+use Rattle.std.proofs.Common.{◌≡◌, ℕ, suc, ◌+◌, ◌%◌, ◌^◌, ◌<◌, ◌≤◌, Bool, true, false, cond, nat_lt, List, [], ◌∷◌, length, map, take, count_by, get_or, Option, Some, None, slice_get, if◌then◌else◌, refl, sym, subst, ap, ap₂, ◌∙◌, arith}
+use Rattle.std.specs.Prelude.{All, is_none}
+use Rattle.std.specs.List.{enumerate_from, cons_option}
+use Rattle.std.proofs.lemmas.Bool.{ltb-false}
+use Rattle.std.proofs.lemmas.List.{get_or-map, get_or_append_left, length-map, length-take-le, length_push, take-append-le}
+use Rattle.std.proofs.lemmas.List.Elements.{All-nil, All-cons}
+use Rattle.std.proofs.lemmas.List.Sums.{sum_by-cons, sum_by_push}
+use Rattle.std.proofs.lemmas.Option.{slice_get_within, get_or_from_slice_get}
+use Rattle.uring_entry.specs.Setup.{Setup}
+use Rattle.uring_entry.specs.Layout.{Sqe}
+use Rattle.uring_entry.specs.Submission.{Submission, Call, Place, place_of, taken, entries_of, dropped_in}
+use Rattle.uring_machine.specs.World.{World, happens, taking_of, ending_of}
+use Rattle.uring_machine.specs.Direct.{takes_position, entry_taken_by, with_told, closes_call, entries_taken, positions_taken, staged_words, published_words, published_entry, slot_content, before_published}
+use Rattle.uring_machine.specs.Histories.{Event, History, world, IsLawfulApart}
+use Rattle.uring_machine.specs.HistoryLists.{OwnSubmission}
+use Rattle.uring_machine.specs.Published.{item_of, published_items, IsItem, items_told, drops_position, positions_dropped, OwnPublished}
+use Rattle.uring_machine.specs.declared.step.Step.{Step}
+use Rattle.uring_machine.specs.declared.step.Step.TheVariants as step
+use Rattle.uring_machine.specs.declared.answer.Answer.{Answer}
+use Rattle.uring_machine.specs.declared.answer.Answer.TheVariants as answer
+use Rattle.uring_machine.proofs.Changes.{Change, change_of, refuses, fills, stages, stores, loads, begins, takes, drops, closes, runs, dooms, cancels, finishes, flushes, sees_tail, reaps, stores_head, shuts}
+use Rattle.uring_machine.proofs.ReadOff.{own_submission}
+use Rattle.uring_machine.proofs.Sound.{sound_of}
+use Rattle.uring_machine.proofs.SoundRings.{open_taken, open_count}
+use Rattle.uring_machine.proofs.TakenPlaces.{reached, takes_places}
+use Rattle.uring_machine.proofs.Telling.{count_more, count_same, before_same}
+
+-- The items.
+
+-- places whose entries are told by their positions, from n on
+items_are : (entry_at : ℕ → Option Sqe) (places : List Place) (n : ℕ) → ((k : ℕ) (p : Place) → slice_get places k ≡ Some p → p.entry ≡ entry_at (n + k))
+    → map (λ p. item_of p.word p.entry) places ≡ map (λ q. item_of q.1 (entry_at q.0)) (enumerate_from n (map (λ p. p.word) places))
+items_are entry_at [] n at = refl
+items_are entry_at (p ∷ places) n at =
+    ap₂ (λ item rest. item ∷ rest) (ap (item_of p.word) (at 0 p refl ∙ ap entry_at (let e : n + 0 ≡ n = omega arith in e)))
+    (items_are entry_at places (n + 1) (λ k q e. at (suc k) q e ∙ ap entry_at (let f : n + suc k ≡ n + 1 + k = omega arith in f)))
+
+items_tell : (g : Setup) (h : History) → OwnSubmission g h → published_items (world g h).submission ≡ items_told g.sq h
+items_tell g h own =
+    items_are (published_entry g.sq h) (world g h).submission.published 0 (λ k p at. own.entries k p at ∙ ap (published_entry g.sq h) (let e : k ≡ 0 + k = omega arith in e))
+    ∙ ap (λ words. map (λ q. item_of q.1 (published_entry g.sq h q.0)) (enumerate_from 0 words)) own.published
+
+-- the entry of a place, by its word
+all_items : (size : ℕ) (places : List Place) → ((k : ℕ) (p : Place) → slice_get places k ≡ Some p → p.entry ≡ None → size ≤ p.word) → All (IsItem size) (map (λ p. item_of p.word p.entry) places)
+all_items size [] at = All-nil (IsItem size)
+all_items size (p ∷ places) at = All-cons (IsItem size) (item_of p.word p.entry) (map (λ q. item_of q.word q.entry) places) (first p.entry refl) (all_items size places (λ k q e. at (suc k) q e)) where
+  first : (entry : Option Sqe) → p.entry ≡ entry → IsItem size (item_of p.word entry)
+  first None e = at 0 p refl e
+  first (Some entry) e = tt
+
+bad_is_high : (word size : ℕ) (entry : Sqe) → None ≡ (if nat_lt word size then Some entry else None) → size ≤ word
+bad_is_high word size entry e = by_test (nat_lt word size) refl e where
+  by_test : (low : Bool) → nat_lt word size ≡ low → None ≡ (if low then Some entry else None) → size ≤ word
+  by_test true is e = absurd cc
+  by_test false is e = ltb-false _ _ is
+
+word_is : (g : Setup) (h : History) → OwnSubmission g h → (k : ℕ) (p : Place) → slice_get (world g h).submission.published k ≡ Some p → get_or (staged_words h) k 0 ≡ p.word
+word_is g h own k p at =
+    let places : List Place = (world g h).submission.published in
+    let within : k < length places = slice_get_within places k p at in
+    let words : length (published_words h) ≡ length places = ap length (sym own.published) ∙ length-map places (λ q. q.word) in
+    ap (λ words. get_or words k 0) (sym own.staged)
+    ∙ get_or_append_left (published_words h) (world g h).submission.fresh 0 k (omega arith)
+    ∙ ap (λ words. get_or words k 0) (sym own.published)
+    ∙ get_or-map (λ q. q.word) places k p 0 within
+    ∙ ap (λ q. q.word) (get_or_from_slice_get places k p p at)
+
+items_sound : (g : Setup) (h : History) → OwnSubmission g h → All (IsItem g.sq) (published_items (world g h).submission)
+items_sound g h own =
+    all_items g.sq (world g h).submission.published
+    (λ k p at none. subst (λ word. g.sq ≤ word) (word_is g h own k p at) (bad_is_high (get_or (staged_words h) k 0) g.sq (slot_content (before_published k h) (get_or (staged_words h) k 0)) (sym none ∙ own.entries k p at)))
+
+-- What calls dropped.
+
+-- of places, those with an entry and those without
+entries_and_dropped : (places : List Place) → length (entries_of places) + dropped_in places ≡ length places
+entries_and_dropped [] = refl
+entries_and_dropped (p ∷ places) = by_entry p.entry refl (entries_and_dropped places) where
+  by_entry : (entry : Option Sqe) → p.entry ≡ entry → length (entries_of places) + dropped_in places ≡ length places → length (entries_of (p ∷ places)) + dropped_in (p ∷ places) ≡ suc (length places)
+  by_entry None e rest =
+      let same : length (entries_of (p ∷ places)) ≡ length (entries_of places) = ap (λ o. length (cons_option o (entries_of places))) e in
+      let one : ◌≡◌ {A = ℕ} (cond (is_none p.entry) 1 0) 1 = ap (λ o. cond (is_none o) 1 0) e in
+      omega (arith, rest, same, one, sum_by-cons (λ q. cond (is_none q.entry) 1 0) p places)
+  by_entry (Some entry) e rest =
+      let more : length (entries_of (p ∷ places)) ≡ suc (length (entries_of places)) = ap (λ o. length (cons_option o (entries_of places))) e in
+      let none : ◌≡◌ {A = ℕ} (cond (is_none p.entry) 1 0) 0 = ap (λ o. cond (is_none o) 1 0) e in
+      omega (arith, rest, more, none, sum_by-cons (λ q. cond (is_none q.entry) 1 0) p places)
+
+-- of the positions taken, those with an entry and those dropped
+taken_or_dropped : (h : History) → length (entries_taken h) + count_by drops_position h ≡ positions_taken h
+taken_or_dropped [] = refl
+taken_or_dropped (e ∷ h) = by_event e (taken_or_dropped h) where
+  none_more : (event : Event) → entry_taken_by event ≡ None → drops_position event ≡ false → takes_position event ≡ false → length (entries_taken h) + count_by drops_position h ≡ positions_taken h → length (entries_taken (event ∷ h)) + count_by drops_position (event ∷ h) ≡ positions_taken (event ∷ h)
+  none_more event none idle still rest =
+      let same : length (entries_taken (event ∷ h)) ≡ length (entries_taken h) = ap (λ o. length (with_told (entries_taken h) o)) none in
+      omega (arith, rest, same, count_same drops_position event h idle, count_same takes_position event h still)
+
+  by_event : (event : Event) → length (entries_taken h) + count_by drops_position h ≡ positions_taken h → length (entries_taken (event ∷ h)) + count_by drops_position (event ∷ h) ≡ positions_taken (event ∷ h)
+  by_event (step.Take, answer.Entry entry) rest =
+      omega (arith, rest, length_push (entries_taken h) entry, count_same drops_position (step.Take, answer.Entry entry) h refl, count_more takes_position (step.Take, answer.Entry entry) h refl)
+  by_event (step.Take, answer.Dropped) rest = omega (arith, rest, count_more drops_position (step.Take, answer.Dropped) h refl, count_more takes_position (step.Take, answer.Dropped) h refl)
+  by_event event rest = none_more event refl refl refl rest
+
+-- as many were dropped as the positions that were taken have no entry
+dropped_by_all : (g : Setup) (h : History) → IsLawfulApart g h → count_by drops_position h ≡ dropped_in (take (reached (world g h).submission) (world g h).submission.published)
+dropped_by_all g h lawful =
+    let l : Submission = (world g h).submission in
+    let t = takes_places g h lawful in
+    let s = (sound_of g h lawful).submission in
+    omega (arith, taken_or_dropped h, t.count, ap length t.entries, entries_and_dropped (take (reached l) l.published), length-take-le (reached l) l.published (omega (arith, s.call_published, s.within_call)))
+
+-- as many were dropped before the last close as the positions of closed calls have no entry
+abbrev Drops : History → World → Type 0
+Drops h w = positions_dropped h ≡ dropped_in (take (taken w.submission) w.submission.published)
+
+closed_drops : (g : Setup) (h : History) → IsLawfulApart g h → (accepted missed head : ℕ) (call : Call) → (world g h).submission.call ≡ Some call → nat_lt call.taken call.count ≡ false → Drops ((step.End, answer.Taken accepted missed head) ∷ h) (ending_of (world g h) (Some call))
+closed_drops g h lawful accepted missed head call opened all =
+    let l : Submission = (world g h).submission in
+    let s = (sound_of g h lawful).submission in
+    let t : open_taken l.call ≡ call.taken = ap open_taken opened in
+    let c : open_count l.call ≡ call.count = ap open_count opened in
+    let n = sum_by_push (λ x. x) l.calls call.count in
+    let f = ltb-false _ _ all in
+    let same : reached l ≡ taken (ending_of (world g h) (Some call)).submission = omega (arith, s.within_call) in
+    dropped_by_all g h lawful ∙ ap (λ k. dropped_in (take k l.published)) same
+
+drops_kept : (g : Setup) (h : History) (s : Step) (a : Answer) → IsLawfulApart g h → Change g (world g h) s a → Drops h (world g h) → Drops ((s, a) ∷ h) (happens g (world g h) s a)
+drops_kept g h s a lawful (refuses _ _ same silent) i = subst (λ v. Drops ((s, a) ∷ h) v) (sym (same (world g h))) (ap (count_by drops_position) (before_same closes_call (s, a) h silent.closes) ∙ i)
+drops_kept g h s a lawful (fills slot entry free) i = i
+drops_kept g h s a lawful (stages word room) i = i
+drops_kept g h s a lawful (stores tail) i =
+    let l : Submission = (world g h).submission in
+    i ∙ ap dropped_in (sym (take-append-le (taken l) l.published (map (place_of g.sq l.content) l.fresh) (omega (arith, (sound_of g h lawful).submission.call_published))))
+drops_kept g h s a lawful (loads head) i = i
+drops_kept g h s a lawful (begins count is_open no_call) i = i
+drops_kept g h s a lawful (takes entry call place opened left at valid) i = subst (λ o. Drops ((step.Take, answer.Entry entry) ∷ h) (taking_of (world g h) o)) (sym opened) i
+drops_kept g h s a lawful (drops call place opened left at invalid) i = subst (λ o. Drops ((step.Take, answer.Dropped) ∷ h) (taking_of (world g h) o)) (sym opened) i
+drops_kept g h s a lawful (closes accepted missed head call opened all counted) i = subst (λ o. Drops ((step.End, answer.Taken accepted missed head) ∷ h) (ending_of (world g h) o)) (sym opened) (closed_drops g h lawful accepted missed head call opened all)
+drops_kept g h s a lawful (runs n outstanding idle spared ready) i = i
+drops_kept g h s a lawful (dooms n outstanding idle doomed) i = i
+drops_kept g h s a lawful (cancels n outstanding idle spared ready cancel) i = i
+drops_kept g h s a lawful (finishes n res bytes running) i = i
+drops_kept g h s a lawful (flushes moved) i = i
+drops_kept g h s a lawful (sees_tail tail) i = i
+drops_kept g h s a lawful (reaps completion next) i = i
+drops_kept g h s a lawful (stores_head head) i = i
+drops_kept g h s a lawful (shuts no_call) i = i
+
+drops_told : (g : Setup) (h : History) → IsLawfulApart g h → Drops h (world g h)
+drops_told g [] lawful = refl
+drops_told g ((s, a) ∷ before) lawful = drops_kept g before s a lawful.1 (change_of g (world g before) s a lawful.0) (drops_told g before lawful.1)
+
+pub own_published : (g : Setup) (h : History) → IsLawfulApart g h → OwnPublished g h
+own_published g h lawful =
+    let own = own_submission g h lawful in
+    record {
+      items = items_tell g h own;
+      are_items = items_sound g h own;
+      calls = own.calls;
+      dropped_words = ap (λ n. n % 2 ^ 32) (sym (drops_told g h lawful));
+    }

@@ -1,0 +1,51 @@
+-- What the application published, and what the calls took and dropped of it.
+use Rattle.std.specs.Prelude.{◌≡◌, ℕ, ◌%◌, ◌^◌, ◌≤◌, Bool, true, false, List, map, count_by, Option, Some, None, All}
+use Rattle.std.specs.List.{enumerate_from}
+use Rattle.uring_entry.specs.Setup.{Setup}
+use Rattle.uring_entry.specs.Layout.{Sqe}
+use Rattle.uring_entry.specs.Submission.{Submission, dropped}
+use Rattle.uring_machine.specs.Direct.{before_last, closes_call, published_words, published_entry, call_counts}
+use Rattle.uring_machine.specs.Histories.{Event, History, world}
+use Rattle.uring_machine.specs.declared.step.Step.TheVariants as step
+use Rattle.uring_machine.specs.declared.answer.Answer.TheVariants as answer
+
+-- What a published position holds: the entry of the slot that its word names, or a word that names none.
+pub data Published : Type 0 where
+  with_entry : Sqe → Published
+  bad_word : ℕ → Published
+
+-- a word, with its entry if it names a slot
+abbrev pub item_of : ℕ → Option Sqe → Published
+item_of word (Some entry) = with_entry entry
+item_of word None = bad_word word
+
+-- the published items, in order
+abbrev pub published_items : Submission → List Published
+published_items l = map (λ place. item_of place.word place.entry) l.published
+
+-- an item of a ring of this size: a bad word isn't below the size. Our own rule
+abbrev pub IsItem : ℕ → Published → Type 0
+IsItem size (with_entry entry) = Unit {0}
+IsItem size (bad_word word) = size ≤ word
+
+-- Read straight off a history.
+
+-- the items published: at each position its word, with the entry that the word's slot held as it was published
+abbrev pub items_told : ℕ → History → List Published
+items_told size h = map (λ place. item_of place.1 (published_entry size h place.0)) (enumerate_from 0 (published_words h))
+
+-- whether a call drops a position, whose word names no slot
+abbrev pub drops_position : Event → Bool
+drops_position (step.Take, answer.Dropped) = true
+drops_position _ = false
+
+-- how many positions were dropped by calls that closed: those before the last close
+abbrev pub positions_dropped : History → ℕ
+positions_dropped h = count_by drops_position (before_last closes_call h)
+
+-- What was published, taken and dropped is what the events tell. The count of dropped words wraps at 32 bits: io_uring_setup(2), on dropped.
+pub record OwnPublished (g : Setup) (h : History) : Type 0 where
+  pub items : published_items (world g h).submission ≡ items_told g.sq h
+  pub are_items : All (IsItem g.sq) (published_items (world g h).submission)
+  pub calls : (world g h).submission.calls ≡ call_counts h
+  pub dropped_words : dropped (world g h).submission ≡ positions_dropped h % 2 ^ 32

@@ -1,0 +1,32 @@
+mod cores;
+mod growth;
+mod settling;
+mod sizes;
+
+use uring_entry::Sqe;
+use uring_machine::{Answer, Machine, Step};
+
+/// Publishes these entries, from slot 0 on, as the application does, and tells how many they are.
+fn publish(machine: &mut Machine, entries: &[Sqe]) -> u32 {
+    let mut count = 0;
+    for entry in entries {
+        machine.step(Step::Fill {
+            slot: count,
+            entry: *entry,
+        });
+        machine.step(Step::Index { word: count });
+        count = count.wrapping_add(1);
+    }
+    machine.step(Step::StoreTail);
+    count
+}
+
+/// Takes so many positions of the open call and ends it, as the dispatcher does. Returns what the end is answered.
+fn take_call(machine: &mut Machine, count: u32) -> Answer {
+    for _ in 0..count {
+        machine.step(Step::Take);
+    }
+    let answer = machine.step(Step::End);
+    machine.step(Step::LoadHead);
+    answer
+}

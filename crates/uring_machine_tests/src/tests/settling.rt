@@ -1,0 +1,151 @@
+//! What a machine tells of itself, and that it settles. What owns a machine returns plain values, and asserts nothing: so the tests are proved soon.
+
+use crate::tests::{publish, take_call};
+use bitflags::Flags;
+use std::alloc::Global;
+use std::test::Fail;
+use uring_entry::{Op, Setup, Sqe, SqeFlags};
+use uring_files::FileState;
+use uring_machine::{Counts, Machine, Step};
+
+/// A new machine with rings of 4 and 2 files, to which these entries were submitted in one call.
+fn submitted(alloc: Global, entries: &[Sqe]) -> Result<Machine, Fail> {
+    let setup = Setup::new(4, Some(4), 2, 0)?;
+    let mut machine = Machine::new(alloc, &setup)?;
+    submit(&mut machine, entries);
+    Ok(machine)
+}
+
+/// Submits these entries in one call.
+fn submit(machine: &mut Machine, entries: &[Sqe]) {
+    let count = publish(machine, entries);
+    machine.step(Step::Begin { count });
+    take_call(machine, count);
+}
+
+/// The steps that settle a new machine with these entries, and its counts then.
+fn settled(alloc: Global, entries: &[Sqe]) -> Result<(u64, Counts), Fail> {
+    let mut machine = submitted(alloc, entries)?;
+    let steps = machine.settle_idle();
+    Ok((steps, machine.counts()))
+}
+
+/// The counts of a machine that is idle, of whose completions none was reaped.
+fn idle(accepted: u64, posted: u64) -> Counts {
+    Counts {
+        accepted,
+        outstanding: 0,
+        running: 0,
+        posted,
+        reaped: 0,
+    }
+}
+
+#[test]
+fn drain_settles(rt: HostRuntime) -> Result<(), Fail> {
+    let entries = [
+        Sqe::nop(1, 0),
+        Sqe::nop(2, SqeFlags::IO_DRAIN.bits()),
+        Sqe::nop(3, 0),
+    ];
+    let (steps, counts) = settled(rt.alloc(), &entries)?;
+    assert_eq!(rt; steps, 6);
+    assert_eq!(rt; counts, idle(3, 3));
+    Ok(())
+}
+
+#[test]
+fn faulty_group_settles(rt: HostRuntime) -> Result<(), Fail> {
+    let entries = [
+        Sqe::nop(1, SqeFlags::IO_LINK.bits()),
+        Sqe::with_opcode(99, 2, 0),
+    ];
+    let (steps, counts) = settled(rt.alloc(), &entries)?;
+    assert_eq!(rt; steps, 2);
+    assert_eq!(rt; counts, idle(2, 2));
+    Ok(())
+}
+
+/// The user data of the completions that rest, by their places, once two calls were submitted and each request was finished. The ring holds two of them.
+fn resting(alloc: Global) -> Result<[Option<u64>; 4], Fail> {
+    let setup = Setup::new(2, Some(2), 2, 0)?;
+    let mut machine = Machine::new(alloc, &setup)?;
+    submit(&mut machine, &[Sqe::nop(1, 0), Sqe::nop(2, 0)]);
+    submit(&mut machine, &[Sqe::nop(3, 0)]);
+    for number in 0..3 {
+        machine.step(Step::Issue { number });
+        machine.step(Step::Finish { number });
+    }
+    let mut rest = [None; 4];
+    for (place, user_data) in rest.iter_mut().enumerate() {
+        *user_data = machine
+            .rest(place as u64)
+            .map(|completion| completion.user_data());
+    }
+    Ok(rest)
+}
+
+#[test]
+fn completions_rest_until_reaped(rt: HostRuntime) -> Result<(), Fail> {
+    let rest = resting(rt.alloc())?;
+    assert_eq!(rt; rest, [Some(1), Some(2), Some(3), None]);
+    Ok(())
+}
+
+/// What a machine tells as it runs a sync, once both entries are accepted: the least and the next request before the sync is issued and after, and the operations of both.
+#[derive(Clone, Copy)]
+struct Told {
+    sq: u32,
+    least: [Option<u64>; 2],
+    next: [Option<u64>; 2],
+    running: [Option<Op>; 2],
+}
+
+/// What a machine tells of a write and a sync of another file, and of the files once it is idle: their states, the last of a file that isn't there, and bytes of the first.
+fn written(alloc: Global) -> Result<(Told, [Option<FileState>; 3], [Option<u8>; 5]), Fail> {
+    let entries = [Sqe::write(1, 0, 0, 2, b"ab"), Sqe::fsync(2, 0, 1)];
+    let mut machine = submitted(alloc, &entries)?;
+    let (least, next) = (machine.least(), machine.next());
+    machine.step(Step::Issue { number: 0 });
+    let told = Told {
+        sq: machine.setup().sq(),
+        least: [least, machine.least()],
+        next: [next, machine.next()],
+        running: [machine.running_op(1), machine.running_op(0)],
+    };
+    machine.settle_idle();
+    let states = [machine.state(0), machine.state(1), machine.state(2)];
+    let mut bytes = [None; 5];
+    for (at, byte) in bytes.iter_mut().enumerate() {
+        *byte = machine.byte(0, at as u64);
+    }
+    Ok((told, states, bytes))
+}
+
+#[test]
+fn write_reaches_its_file(rt: HostRuntime) -> Result<(), Fail> {
+    let (told, states, bytes) = written(rt.alloc())?;
+    assert_eq!(rt; told.sq, 4);
+    assert_eq!(rt; told.least, [Some(0), Some(0)]);
+    assert_eq!(rt; told.next, [Some(0), Some(1)]);
+    let mut data = [0; 64];
+    data[0] = b'a';
+    data[1] = b'b';
+    let write = Op::Write {
+        fd: 0,
+        off: 2,
+        len: 2,
+        bytes: data,
+    };
+    assert_eq!(rt; told.running, [None, Some(write)]);
+    let state = |len, writes, synced| {
+        Some(FileState {
+            len,
+            writes,
+            synced,
+        })
+    };
+    assert_eq!(rt; states, [state(4, 1, 0), state(0, 0, 0), None]);
+    assert_eq!(rt; bytes, [Some(0), Some(0), Some(b'a'), Some(b'b'), None]);
+    Ok(())
+}

@@ -1,0 +1,83 @@
+//! Calls at size, with ample memory: so that none is refused that had no need to be.
+
+use crate::tests::take_call;
+use std::alloc::Global;
+use std::test::Fail;
+use uring_entry::{Cqe, Setup, Sqe};
+use uring_machine::{Answer, Counts, Machine, Step, run};
+use uring_rings::Cq;
+
+/// Submits a call of so many requests that do nothing, all by the entry of one slot. Returns what Begin and End are answered.
+fn submit(machine: &mut Machine, count: u32) -> (Answer, Answer) {
+    machine.step(Step::Fill {
+        slot: 0,
+        entry: Sqe::nop(7, 0),
+    });
+    for _ in 0..count {
+        machine.step(Step::Index { word: 0 });
+    }
+    machine.step(Step::StoreTail);
+    let begun = machine.step(Step::Begin { count });
+    (begun, take_call(machine, count))
+}
+
+/// What two calls on the largest rings are answered, the second of a whole ring, and the counts then.
+fn large_calls(alloc: Global) -> Result<([(Answer, Answer); 2], Counts), Fail> {
+    let setup = Setup::new(4_096, Some(8_192), 1, 0)?;
+    let mut machine = Machine::new(alloc, &setup)?;
+    let calls = [submit(&mut machine, 1_100), submit(&mut machine, 4_096)];
+    Ok((calls, machine.counts()))
+}
+
+#[test]
+fn a_whole_ring_is_submitted_beside_others(rt: HostRuntime) -> Result<(), Fail> {
+    let (calls, counts) = large_calls(rt.alloc())?;
+    let taken = |accepted, head| Answer::Taken {
+        accepted,
+        dropped: 0,
+        head,
+    };
+    assert!(rt; calls[0] == (Answer::Call(1_100), taken(1_100, 1_100)));
+    assert!(rt; calls[1] == (Answer::Call(4_096), taken(4_096, 5_196)));
+    assert_eq!(rt; (counts.accepted, counts.outstanding), (5_196, 5_196));
+    Ok(())
+}
+
+/// How many answers a run of so many steps gives, and the last of them.
+fn long_run(alloc: Global, count: usize) -> Result<(usize, Option<Answer>), Fail> {
+    let setup = Setup::new(1, None, 1, 0)?;
+    let mut machine = Machine::new(alloc, &setup)?;
+    let steps = vec![in alloc; Step::LoadHead; count]?;
+    let answers = run(alloc, &mut machine, steps.as_slice())?;
+    Ok((answers.len(), answers.last().copied()))
+}
+
+#[test]
+fn many_steps_run(rt: HostRuntime) -> Result<(), Fail> {
+    let (count, last) = long_run(rt.alloc(), 100_000)?;
+    assert_eq!(rt; count, 100_000);
+    assert_eq!(rt; last, Some(Answer::Head(0)));
+    Ok(())
+}
+
+/// How many completions rest of so many that were promised at once to a ring of one, and then posted.
+fn promised(alloc: Global, count: u64) -> Result<(u64, Option<u64>), Fail> {
+    let setup = Setup::new(1, Some(1), 1, 0)?;
+    let mut ring = Cq::new(alloc, &setup)?;
+    ring.reserve(count)?;
+    ring.reserve(count)?;
+    for user_data in 0..count {
+        ring.post(Cqe::new(user_data, 0, [0; 64]));
+    }
+    let last = ring
+        .rest(count.saturating_sub(1))
+        .map(|completion| completion.user_data());
+    Ok((ring.posted(), last))
+}
+
+#[test]
+fn many_posts_are_promised(rt: HostRuntime) -> Result<(), Fail> {
+    assert_eq!(rt; promised(rt.alloc(), 101)?, (101, Some(100)));
+    assert_eq!(rt; promised(rt.alloc(), 10_001)?, (10_001, Some(10_000)));
+    Ok(())
+}

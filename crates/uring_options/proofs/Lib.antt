@@ -1,0 +1,4 @@
+pub mod Walks
+pub mod Numbers
+pub mod CommandLine
+pub mod Refusals

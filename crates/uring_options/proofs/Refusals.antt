@@ -1,0 +1,107 @@
+-- When numbers are refused, and what else a command line can end with.
+use Rattle.std.proofs.Common.{◌≡◌, ◌∙◌, ◌*◌, ◌<◌, ◌≤◌, ◌^◌, ◌↔◌, ℕ, zero, suc, List, [], Option, Some, None, Result, Ok, Err, refl, sym, ap, subst, inl, inr, arith}
+use Rattle.std.specs.Prelude.{codes, unwrap_or, IfOk, IfErr, IsErrOf, IsErrAnd}
+use Rattle.std.specs.Int.{IsNextPowerOfTwo}
+use Rattle.std.specs.Str.Parse.{digits_value, without_leading_plus}
+use Rattle.std.proofs.Math.Nat.{pow-suc}
+use Rattle.std.proofs.lemmas.Bool.{cases_lt}
+use Rattle.clap.specs.Faults.{fault_of}
+use Rattle.clap.specs.Kinds.{Kinds, HasKind, IsAmong}
+use Rattle.clap.specs.Simple.{subcommand_of}
+use Rattle.clap.specs.Values.{kind_of}
+use Rattle.clap.specs.Walk.{Row, Text}
+use Rattle.clap.specs.declared.error.Error.{Error}
+use Rattle.clap.specs.declared.error.kind.ErrorKind.TheVariants.{OutOfMemory}
+use Rattle.uring_entry.specs.Setup.{IsBadCq}
+use Rattle.uring_entry.proofs.Powers.{rounded_once}
+use Rattle.uring_options.specs.CommandLine.{uring, trace_rows, Gives, Numbers, AreInRange, GivesNumbers, IsWithin, IsTraceOver, IsTooSmall, AskFor, AskForTooSmall, IsMemory}
+use Rattle.uring_options.specs.declared.answers.Options.{Options}
+use Rattle.uring_options.specs.declared.answers.Options.TheVariants.{Trace}
+use Rattle.uring_options.specs.declared.answers.OptionsFault.{OptionsFault}
+use Rattle.uring_options.specs.declared.answers.OptionsFault.TheVariants.{Small, Words}
+
+-- ---- sizes
+
+-- a size up to a power of two can be rounded
+rounding : (k n : ℕ) → 1 ≤ n → n ≤ 2 ^ k → (p : ℕ) × IsNextPowerOfTwo n p
+rounding zero n some within = (1, ((0, refl), omega arith, omega arith))
+rounding (suc k) n some within = elim (cases_lt (2 ^ k) n) [
+  | inl above ↦ let next : 2 ^ suc k ≡ 2 ^ k * 2 = pow-suc 2 k in (2 ^ suc k, ((suc k, refl), within, omega arith))
+  | inr below ↦ rounding k n some below
+]
+
+-- numbers in their ranges are refused for a small completion ring alone
+pub too_small : (n : Numbers) → AreInRange n → ((p : ℕ) → IsNextPowerOfTwo (unwrap_or n.sq 4) p → IsBadCq p n.cq) → IsTooSmall n
+too_small n ranges bad = sizes (rounding 12 (unwrap_or n.sq 4) (some_sq n.sq ranges.sq) (most_sq n.sq ranges.sq))
+  where
+    some_sq : (sq : Option ℕ) → IsWithin 1 4096 sq → 1 ≤ unwrap_or sq 4
+    some_sq None within = omega arith
+    some_sq (Some sq) within = within.0
+
+    most_sq : (sq : Option ℕ) → IsWithin 1 4096 sq → unwrap_or sq 4 ≤ 2 ^ 12
+    most_sq None within = omega arith
+    most_sq (Some sq) within = within.1
+
+    given : (p : ℕ) → IsNextPowerOfTwo (unwrap_or n.sq 4) p → (cq : Option ℕ) → n.cq ≡ cq → IsWithin 1 8192 cq → IsBadCq p cq → IsTooSmall n
+    given p rounded None is within none = absurd none
+    given p rounded (Some cq) is within (inl (inl low)) = absurd (omega arith)
+    given p rounded (Some cq) is within (inl (inr high)) = absurd (omega arith)
+    given p rounded (Some cq) is within (inr smaller) =
+        let q = rounding 13 cq within.0 within.1 in
+        record { cq = cq; given = is; sq_size = p; sq_rounded = rounded; cq_size = q.0; cq_rounded = q.1; smaller = smaller q.0 q.1 }
+
+    sizes : ((p : ℕ) × IsNextPowerOfTwo (unwrap_or n.sq 4) p) → IsTooSmall n
+    sizes p = given p.0 p.1 n.cq refl ranges.cq (bad p.0 p.1)
+
+-- ---- one outcome excludes the others
+
+gives_once : (rows : List Row) (id : Text) (a b : Option ℕ) → Gives rows id a → Gives rows id b → a ≡ b
+gives_once rows id None None x y = refl
+gives_once rows id None (Some b) x y = let e : None ≡ Some y.0 = sym x ∙ y.1 in absurd cc
+gives_once rows id (Some a) None x y = let e : None ≡ Some x.0 = sym y ∙ x.1 in absurd cc
+gives_once rows id (Some a) (Some b) x y =
+    let text : x.0 ≡ y.0 = let e : Some x.0 ≡ Some y.0 = sym x.1 ∙ y.1 in cc in
+    ap (λ (k : ℕ). Some k) (x.2.value ∙ ap (λ (t : Text). digits_value 10 (without_leading_plus t)) text ∙ sym y.2.value)
+
+not_both : (words : List Text) (o : Options) → AskFor words o → AskForTooSmall words → ⊥
+not_both words (Trace s) (n, writes, set_up) (m, small_writes, small) =
+    let sq : n.sq ≡ m.sq = gives_once (trace_rows (subcommand_of uring words)) (codes "sq") n.sq m.sq writes.numbers.sq small_writes.numbers.sq in
+    let cq : n.cq ≡ m.cq = gives_once (trace_rows (subcommand_of uring words)) (codes "cq") n.cq m.cq writes.numbers.cq small_writes.numbers.cq in
+    let given : n.cq ≡ Some small.cq = cq ∙ small.given in
+    let asked : 1 ≤ small.cq = subst (λ o. 1 ≤ unwrap_or o (2 * s.sq)) given set_up.cq_asked in
+    let size = subst (λ o. IsNextPowerOfTwo (unwrap_or o (2 * s.sq)) s.cq) given set_up.cq_rounded in
+    let sq_size : IsNextPowerOfTwo (unwrap_or n.sq 4) small.sq_size = subst (λ o. IsNextPowerOfTwo (unwrap_or o 4) small.sq_size) (sym sq) small.sq_rounded in
+    let same_sq = rounded_once (unwrap_or n.sq 4) s.sq small.sq_size set_up.sq_rounded sq_size set_up.sq_asked in
+    let same_cq = rounded_once small.cq s.cq small.cq_size size small.cq_rounded asked in
+    let holds : s.sq ≤ s.cq = set_up.limits.cq_holds_sq in
+    let smaller : small.cq_size < small.sq_size = small.smaller in
+    omega arith
+
+-- words without a fault fail by memory alone
+memory_alone : (kinds : Kinds) (e : Error) → kinds ≡ [] → HasKind kinds e → kind_of e ≡ OutOfMemory
+memory_alone kinds e none (inl memory) = memory
+memory_alone kinds e none (inr among) = absurd (subst (λ ks. IsAmong (kind_of e) ks) none among)
+
+-- what a refusal shows
+abbrev pub IsRefusal : List Text → OptionsFault → Type 0
+IsRefusal words Small = AskForTooSmall words
+IsRefusal words (Words e) = HasKind (fault_of uring words) e
+
+pub small_exactly : (words : List Text) (r : Result Options OptionsFault) → IfOk r (AskFor words) → IfErr r (IsRefusal words)
+    → IsErrOf r Small ↔ (AskForTooSmall words × ¬ IsErrAnd r IsMemory)
+small_exactly words (Ok o) asked refused = ((λ e. absurd cc), (λ h. absurd (not_both words o asked h.0)))
+small_exactly words (Err Small) asked refused = ((λ _. (refused, λ m. m)), (λ _. refl))
+small_exactly words (Err (Words e)) asked refused = ((λ e. absurd cc), (λ h. absurd (h.1 (memory_alone (fault_of uring words) e h.0.1.no_fault refused))))
+
+-- ---- what the rows of the options ask for
+
+pub asked : (words : List Text) (rows : List Row) (o : Options) → fault_of uring words ≡ [] → trace_rows (subcommand_of uring words) ≡ rows → ((n : Numbers) × GivesNumbers rows n × IsTraceOver n o) → AskFor words o
+asked words rows o no_fault is (n, gives, over) = (n, record { no_fault = no_fault; numbers = subst (λ (rs : List Row). GivesNumbers rs n) (sym is) gives }, over)
+
+pub refused : (words : List Text) (rows : List Row) (e : OptionsFault) → fault_of uring words ≡ [] → trace_rows (subcommand_of uring words) ≡ rows → (e ≡ Small) × ((n : Numbers) × GivesNumbers rows n × IsTooSmall n) → IsRefusal words e
+refused words rows e no_fault is (small, (n, gives, too)) =
+    subst (IsRefusal words) (sym small) (n, record { no_fault = no_fault; numbers = subst (λ (rs : List Row). GivesNumbers rs n) (sym is) gives }, too)
+
+pub refused_by_words : (words : List Text) (r : Result Options OptionsFault) (e : Error) → IsErrAnd r (λ f. f ≡ Words e) → HasKind (fault_of uring words) e → IsErrOf r Small ↔ (AskForTooSmall words × ¬ IsErrAnd r IsMemory)
+refused_by_words words (Ok o) e is kind = absurd is
+refused_by_words words (Err f) e is kind = small_exactly words (Err f) tt (subst (IsRefusal words) (sym is) kind)

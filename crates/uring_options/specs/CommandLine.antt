@@ -1,0 +1,120 @@
+-- The command line, and what it asks for. The options are our own rule.
+use Rattle.std.specs.Prelude.{◌≡◌, ℕ, ◌<◌, ◌≤◌, pos, List, [], Option, Some, None, codes, unwrap_or, if◌then◌else◌}
+use Rattle.std.specs.Int.{IsNextPowerOfTwo}
+use Rattle.std.specs.Str.{bytes_eq}
+use Rattle.std.specs.Str.Parse.{IsNumeral, digits_value, without_leading_plus}
+use Rattle.clap.specs.Faults.{fault_of}
+use Rattle.clap.specs.Kinds.{Kinds, HasKind}
+use Rattle.clap.specs.Simple.{App, new_app, new_rule, subcommand_of, with_rule, with_subcommand}
+use Rattle.clap.specs.Values.{kind_of}
+use Rattle.clap.specs.Walk.{Row, Rule, Text, one_of}
+use Rattle.clap.specs.declared.builder.action.ArgAction.TheVariants.{Set}
+use Rattle.clap.specs.declared.builder.value_parser.ValueParser.{ValueParser}
+use Rattle.clap.specs.declared.builder.value_parser.ValueParser.TheVariants.{Signed}
+use Rattle.clap.specs.declared.error.kind.ErrorKind.TheVariants.{OutOfMemory}
+use Rattle.uring_entry.specs.Setup.{IsSetupFor}
+use Rattle.uring_options.specs.declared.answers.Options.{Options}
+use Rattle.uring_options.specs.declared.answers.Options.TheVariants.{Trace}
+use Rattle.uring_options.specs.declared.answers.OptionsFault.{OptionsFault}
+use Rattle.uring_options.specs.declared.answers.OptionsFault.TheVariants.{Small, Words}
+
+-- an option of this name that takes a number, as clap's parser checks it
+abbrev pub option_rule : Text → ValueParser → Rule
+option_rule id parser = record (new_rule id) { long = Some id; value_names = 1; action = Some Set; parser = Some parser }
+
+-- `uring trace`: four options that take a number
+abbrev pub trace_app : App
+trace_app =
+    with_rule
+    (with_rule
+    (with_rule (with_rule (new_app (codes "trace")) (option_rule (codes "sq") (Signed (pos 1) (pos 4096)))) (option_rule (codes "cq") (Signed (pos 1) (pos 8192))))
+    (option_rule (codes "files") (Signed (pos 1) (pos 64))))
+    (option_rule (codes "start") (Signed (pos 0) (pos 4294967295)))
+
+-- the program's command line, as clap sees a command
+abbrev pub uring : App
+uring = with_subcommand (new_app (codes "uring")) trace_app.top
+
+-- what the words after `uring trace` give, nothing without that command
+abbrev pub trace_rows : Option (Text × List Row) → List Row
+trace_rows None = []
+trace_rows (Some named) = if bytes_eq named.0 (codes "trace") then named.1 else []
+
+-- n is the number that a text writes in decimal digits, which may follow a plus
+pub record IsNumber (text : Text) (n : ℕ) : Type 0 where
+  pub digits : IsNumeral 10 (without_leading_plus text)
+  pub value : n ≡ digits_value 10 (without_leading_plus text)
+
+-- what the option of a name gives: nothing where it is absent, and else the number that its text writes
+abbrev pub Gives : List Row → Text → Option ℕ → Type 0
+Gives rows id None = one_of id rows ≡ None
+Gives rows id (Some n) = (text : Text) × (one_of id rows ≡ Some text) × IsNumber text n
+
+-- the number, where it is given, is from low to high
+abbrev pub IsWithin : ℕ → ℕ → Option ℕ → Type 0
+IsWithin low high None = Unit {0}
+IsWithin low high (Some n) = (low ≤ n) × (n ≤ high)
+
+-- the numbers of `uring trace`, each where it is given
+pub record Numbers : Type 0 where
+  pub sq : Option ℕ
+  pub cq : Option ℕ
+  pub files : Option ℕ
+  pub start : Option ℕ
+
+-- each number is in its option's range
+pub record AreInRange (n : Numbers) : Type 0 where
+  pub sq : IsWithin 1 4096 n.sq
+  pub cq : IsWithin 1 8192 n.cq
+  pub files : IsWithin 1 64 n.files
+  pub start : IsWithin 0 4294967295 n.start
+
+-- the options give these numbers, each in its range
+pub record GivesNumbers (rows : List Row) (n : Numbers) : Type 0 where
+  pub sq : Gives rows (codes "sq") n.sq
+  pub cq : Gives rows (codes "cq") n.cq
+  pub files : Gives rows (codes "files") n.files
+  pub start : Gives rows (codes "start") n.start
+  pub in_range : AreInRange n
+
+-- clap finds no fault in the words of a command line, and they give these numbers
+pub record Writes (words : List Text) (n : Numbers) : Type 0 where
+  pub no_fault : fault_of uring words ≡ []
+  pub numbers : GivesNumbers (trace_rows (subcommand_of uring words)) n
+
+-- a trace over the set-up of these numbers: 4 entries, a completion ring of twice as many, 2 files and the word 0 where none is given
+abbrev pub IsTraceOver : Numbers → Options → Type 0
+IsTraceOver n (Trace s) = IsSetupFor (unwrap_or n.sq 4) n.cq (unwrap_or n.files 2) (unwrap_or n.start 0) s
+
+-- a completion ring is given, and is smaller after rounding than the submission ring
+pub record IsTooSmall (n : Numbers) : Type 0 where
+  pub cq : ℕ
+  pub given : n.cq ≡ Some cq
+  pub sq_size : ℕ
+  pub sq_rounded : IsNextPowerOfTwo (unwrap_or n.sq 4) sq_size
+  pub cq_size : ℕ
+  pub cq_rounded : IsNextPowerOfTwo cq cq_size
+  pub smaller : cq_size < sq_size
+
+-- the words write numbers, and ask for the trace over them
+abbrev pub AskFor : List Text → Options → Type 0
+AskFor words o = (n : Numbers) × Writes words n × IsTraceOver n o
+
+-- the words write numbers of which the completion ring's is too small
+abbrev pub AskForTooSmall : List Text → Type 0
+AskForTooSmall words = (n : Numbers) × Writes words n × IsTooSmall n
+
+-- a fault of the words, whose kind is one of these, or want of memory
+abbrev pub IsWords : Kinds → OptionsFault → Type 0
+IsWords kinds Small = ⊥
+IsWords kinds (Words e) = HasKind kinds e
+
+-- want of memory
+abbrev pub IsMemory : OptionsFault → Type 0
+IsMemory Small = ⊥
+IsMemory (Words e) = kind_of e ≡ OutOfMemory
+
+-- a fault that is no small ring is one that clap finds in the words, or want of memory
+abbrev pub IsFaultOf : List Text → OptionsFault → Type 0
+IsFaultOf words Small = Unit {0}
+IsFaultOf words (Words e) = HasKind (fault_of uring words) e

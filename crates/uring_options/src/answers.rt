@@ -1,0 +1,45 @@
+//! What a command line leads to.
+
+use std::alloc::{AllocError, AllocFailed};
+use thiserror::Error;
+use uring_entry::Setup;
+
+/// What a command line asks for.
+#[derive(Clone, Copy, Debug, Drop, PartialEq, Eq)]
+pub enum Options {
+    /// `uring trace`, or `uring` alone: a trace over this set-up.
+    Trace(Setup),
+}
+
+/// Why a command line is refused.
+#[derive(Debug, Drop, Error)]
+pub enum OptionsFault {
+    /// The completion ring is smaller after rounding than the submission ring.
+    #[error("completion ring too small")]
+    Small,
+
+    /// The words are no command line of the program, ask for help, or memory was refused while they were read.
+    #[error(transparent)]
+    Words(clap::Error),
+}
+
+impl From<clap::Error> for OptionsFault {
+    ghost use Rattle.std.specs.Prelude.{◌≡◌};
+    ghost use Rattle.uring_options.specs.declared.answers.OptionsFault.TheVariants.{Words};
+
+    ghost from_gives = { λ error fault. fault ≡ Words error };
+
+    fn from(error: clap::Error) -> OptionsFault {
+        OptionsFault::Words(error)
+    }
+}
+
+impl From<AllocError> for OptionsFault {
+    ghost use Rattle.uring_options.specs.CommandLine.{IsMemory};
+
+    ghost from_gives = { λ _ fault. IsMemory fault };
+
+    fn from(error: AllocError) -> OptionsFault {
+        OptionsFault::Words(clap::Error::from(error))
+    }
+}

@@ -1,0 +1,9 @@
+//! The command line of `uring`, and what it asks for. Its `specs/` say which words give which numbers, and when they are refused.
+#![tactic(auto)]
+
+mod answers;
+mod command_line;
+
+pub use answers::{Options, OptionsFault};
+pub use command_line::{not_text, options};
+pub use uring_entry::Setup;

@@ -1,3 +1,0 @@
-mod completions;
-mod index_words;
-mod submissions;

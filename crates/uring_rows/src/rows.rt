@@ -1,0 +1,60 @@
+//! A row: a set-up, steps, and the answers that are wanted.
+
+ghost use Rattle.std.specs.Prelude.{◌≡◌, ◌↔◌};
+
+use std::alloc::Global;
+use uring_entry::Setup;
+use uring_trace::{TraceFault, trace};
+
+/// What is said of a row.
+#[derive(Clone, Copy, Debug, Drop, PartialEq, Eq)]
+pub(crate) enum Verdict {
+    /// The answers are the wanted ones.
+    Same,
+
+    /// The answers differ from the wanted ones, behind as many lines that are the same.
+    Differs { lines: usize },
+
+    /// The set-up isn't four numbers, or they are no set-up.
+    BadSetup,
+
+    /// The trace stopped before its end.
+    Stopped(TraceFault),
+}
+
+/// Runs steps on a new machine of this set-up, and compares the answers with the wanted ones.
+pub(crate) fn judge(alloc: Global, setup: &str, steps: &str, wanted: &str) -> Verdict {
+    let Some(setup) = setup_of(setup) else {
+        return Verdict::BadSetup;
+    };
+    let mut answers = Vec::new(alloc);
+    match trace(alloc, &mut steps.as_bytes(), &mut answers, &setup) {
+        Ok(()) => compare(answers.as_slice(), wanted.as_bytes()),
+        Err(fault) => Verdict::Stopped(fault),
+    }
+}
+
+/// The set-up of four numbers with spaces between them.
+fn setup_of(text: &str) -> Option<Setup> {
+    let mut numbers = text.split_whitespace();
+    let sq = numbers.next()?.parse().ok()?;
+    let cq = numbers.next()?.parse().ok()?;
+    let files = numbers.next()?.parse().ok()?;
+    let start = numbers.next()?.parse().ok()?;
+    Setup::new(sq, Some(cq), files, start).ok()
+}
+
+/// Compares the answers with the wanted ones.
+fn compare(answers: &[u8], wanted: &[u8]) -> Verdict
+    ensures { (result ≡ Verdict.Same) ↔ (answers.now ≡ wanted.now) }
+{
+    if answers == wanted {
+        return Verdict::Same;
+    }
+    let same = answers
+        .iter()
+        .zip(wanted)
+        .take_while(|(byte, other)| byte == other);
+    let lines = same.filter(|(byte, _)| **byte == b'\n').count();
+    Verdict::Differs { lines }
+}

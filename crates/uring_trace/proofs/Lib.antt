@@ -1,0 +1,13 @@
+pub mod Options
+pub mod Numbers
+pub mod Bytes
+pub mod Trimming
+pub mod Spellings
+pub mod NumberLaws
+pub mod FlagLaws
+pub mod Sessions
+pub mod Traces
+pub mod HexLaws
+pub mod FormLaws
+pub mod EntryLaws
+pub mod LineLaws

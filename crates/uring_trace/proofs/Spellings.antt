@@ -1,0 +1,164 @@
+-- What is read of a line's words is what they spell.
+use Rattle.std.proofs.Common.{◌≡◌, ℕ, ◌^◌, ◌<◌, ◌≤◌, Bool, true, false, cond, eqb, List, [], ◌∷◌, length, Option, Some, None, refl, sym, ap, subst, ◌∙◌, arith, inl, inr}
+use Rattle.std.specs.Prelude.{codes, MatchOption}
+use Rattle.std.specs.Option.{option_map}
+use Rattle.std.specs.Bool.{MatchBool}
+use Rattle.std.specs.Str.{bytes_eq}
+use Rattle.std.specs.Fmt.{decimal}
+use Rattle.std.proofs.lemmas.Bool.{eqb-true}
+use Rattle.std.proofs.lemmas.List.{nil_from_length}
+use Rattle.std.proofs.lemmas.Slice.Eq.{bytes_eq-Decides}
+use Rattle.uring_entry.specs.Layout.{Sqe}
+use Rattle.uring_machine.specs.declared.step.Step.{Step}
+use Rattle.uring_machine.specs.declared.step.Step.TheVariants as step
+use Rattle.uring_trace.specs.Words.{words_of}
+use Rattle.uring_trace.specs.Spelling.{Form, Spells, SpellsForm, IsEntryOf, IsStep, IsBad}
+use Rattle.uring_trace.specs.Reading.{ReadsStep, ReadsFill, number_of, form_of, step_of_one, step_of_two}
+use Rattle.uring_trace.proofs.Options.{chosen, some_is}
+use Rattle.uring_trace.proofs.NumberLaws.{number_found, number_again}
+use Rattle.uring_trace.proofs.FormLaws.{named, mapped, form_found, form_again}
+use Rattle.uring_trace.proofs.EntryLaws.{entry_once}
+
+-- one word
+abbrev SpellsOne : Step → List ℕ → Type 0
+SpellsOne s name = Spells (name ∷ []) s
+
+one_is : (text : List ℕ) (t s : Step) → Spells (text ∷ []) t → Some t ≡ Some s → SpellsOne s text
+one_is text t s h e = subst (Spells (text ∷ [])) (some_is t s e) h
+
+one_found : (name : List ℕ) (s : Step) → step_of_one name ≡ Some s → Spells (name ∷ []) s
+unfolding step_of_one
+one_found name s e =
+    named name (codes "tail") (SpellsOne s) (Some step.StoreTail) _ s e (one_is (codes "tail") step.StoreTail s refl) (λ e.
+    named name (codes "head") (SpellsOne s) (Some step.LoadHead) _ s e (one_is (codes "head") step.LoadHead s refl) (λ e.
+    named name (codes "take") (SpellsOne s) (Some step.Take) _ s e (one_is (codes "take") step.Take s refl) (λ e.
+    named name (codes "end") (SpellsOne s) (Some step.End) _ s e (one_is (codes "end") step.End s refl) (λ e.
+    named name (codes "flush") (SpellsOne s) (Some step.Flush) _ s e (one_is (codes "flush") step.Flush s refl) (λ e.
+    named name (codes "cqtail") (SpellsOne s) (Some step.LoadCqTail) _ s e (one_is (codes "cqtail") step.LoadCqTail s refl) (λ e.
+    named name (codes "reap") (SpellsOne s) (Some step.Reap) _ s e (one_is (codes "reap") step.Reap s refl) (λ e.
+    named name (codes "cqhead") (SpellsOne s) (Some step.StoreCqHead) _ s e (one_is (codes "cqhead") step.StoreCqHead s refl) (λ e.
+    named name (codes "close") (SpellsOne s) (Some step.Close) _ s e (one_is (codes "close") step.Close s refl) (λ e.
+    named name (codes "next") (SpellsOne s) (Some step.Next) None s e (one_is (codes "next") step.Next s refl) (λ e. absurd (let no : None ≡ Some s = e in cc)))))))))))
+
+-- a name and a number
+abbrev SpellsTwo : List ℕ → Step → List ℕ → Type 0
+SpellsTwo word s name = Spells (name ∷ word ∷ []) s
+
+two_is : (text word : List ℕ) (limit : ℕ) (made : ℕ → Step) (s : Step) → limit ≤ 2 ^ 64 → ((n : ℕ) → n < limit → Spells (text ∷ decimal n ∷ []) (made n)) → option_map made (number_of limit word) ≡ Some s → SpellsTwo word s text
+two_is text word limit made s le h e =
+    let m = mapped made (number_of limit word) s e in
+    let n = number_found limit word m.0 le m.1 in
+    subst (λ (w : List ℕ). Spells (text ∷ w ∷ []) s) (sym n.0) (subst (Spells (text ∷ decimal m.0 ∷ [])) m.2 (h m.0 n.1))
+
+two_found : (name word : List ℕ) (s : Step) → step_of_two name word ≡ Some s → Spells (name ∷ word ∷ []) s
+unfolding step_of_two
+two_found name word s e =
+    named name (codes "index") (SpellsTwo word s) (option_map (λ n. step.Index n) (number_of (2 ^ 32) word)) _ s e (two_is (codes "index") word (2 ^ 32) (λ n. step.Index n) s (omega arith) (λ n lt. (refl, lt))) (λ e.
+    named name (codes "begin") (SpellsTwo word s) (option_map (λ n. step.Begin n) (number_of (2 ^ 32) word)) _ s e (two_is (codes "begin") word (2 ^ 32) (λ n. step.Begin n) s (omega arith) (λ n lt. (refl, lt))) (λ e.
+    named name (codes "issue") (SpellsTwo word s) (option_map (λ n. step.Issue n) (number_of (2 ^ 64) word)) _ s e (two_is (codes "issue") word (2 ^ 64) (λ n. step.Issue n) s (omega arith) (λ n lt. (refl, lt))) (λ e.
+    named name (codes "finish") (SpellsTwo word s) (option_map (λ n. step.Finish n) (number_of (2 ^ 64) word)) None s e (two_is (codes "finish") word (2 ^ 64) (λ n. step.Finish n) s (omega arith) (λ n lt. (refl, lt))) (λ e. absurd (let no : None ≡ Some s = e in cc)))))
+
+-- a fill
+fill_found : (word : List ℕ) (rest : List (List ℕ)) (s : Step) (o : Option ℕ) (f : Option Form) → number_of (2 ^ 32) word ≡ o → form_of rest ≡ f → ReadsFill (Some s) o f → Spells (codes "fill" ∷ word ∷ rest) s
+fill_found word rest s None f n r e = absurd cc
+fill_found word rest s (Some slot) None n r e = absurd cc
+fill_found word rest s (Some slot) (Some f) n r e =
+    let number = number_found (2 ^ 32) word slot (omega arith) n in
+    let filled : Spells (codes "fill" ∷ word ∷ rest) (step.Fill slot e.0) =
+    (rest, ap (λ (w : List ℕ). codes "fill" ∷ w ∷ rest) number.0, number.1, record { form = f; spells = form_found rest f r; is_entry = e.2 }) in
+    subst (Spells (codes "fill" ∷ word ∷ rest)) (some_is (step.Fill slot e.0) s (sym e.1)) filled
+
+some_of_more : (name word : List ℕ) (rest : List (List ℕ)) (s : Step) (b : Bool) → bytes_eq name (codes "fill") ≡ b → MatchBool b (ReadsFill (Some s) (number_of (2 ^ 32) word) (form_of rest)) (Some s ≡ cond (eqb (length rest) 0) (step_of_two name word) None) → Spells (name ∷ word ∷ rest) s
+some_of_more name word rest s true is e =
+    subst (λ (n : List ℕ). Spells (n ∷ word ∷ rest) s) (sym ((bytes_eq-Decides name (codes "fill")).0 is)) (fill_found word rest s (number_of (2 ^ 32) word) (form_of rest) refl refl e)
+some_of_more name word rest s false is e =
+    elim (chosen (eqb (length rest) 0) (step_of_two name word) None (Some s) (sym e)) [
+      | inl p ↦ subst (λ (l : List (List ℕ)). Spells (name ∷ word ∷ l) s) (sym (nil_from_length rest (eqb-true (length rest) 0 p.0))) (two_found name word s p.1)
+      | inr p ↦ absurd (let no : None ≡ Some s = p.1 in cc)
+    ]
+
+step_found : (words : List (List ℕ)) (s : Step) → ReadsStep (Some s) words → Spells words s
+step_found [] s e = absurd cc
+step_found (name ∷ []) s e = one_found name s (sym e)
+step_found (name ∷ word ∷ rest) s e = some_of_more name word rest s (bytes_eq name (codes "fill")) refl e
+
+-- ---- what is spelled is read
+
+one_again : (name : List ℕ) (s : Step) → step_of_one name ≡ Some s → (words : List (List ℕ)) → words ≡ name ∷ [] → ReadsStep (Some s) words
+one_again name s e words is = subst (ReadsStep (Some s)) (sym is) (sym e)
+
+two_again : (name : List ℕ) (n limit : ℕ) (made : ℕ → Step) → limit ≤ 2 ^ 64 → n < limit → bytes_eq name (codes "fill") ≡ false → step_of_two name (decimal n) ≡ option_map made (number_of limit (decimal n)) → (words : List (List ℕ)) → words ≡ name ∷ decimal n ∷ []
+    → ReadsStep (Some (made n)) words
+two_again name n limit made le lt other e words is =
+    let read : Some (made n) ≡ step_of_two name (decimal n) = sym (e ∙ ap (option_map made) (number_again limit n le lt)) in
+    let reads : ReadsStep (Some (made n)) (name ∷ decimal n ∷ []) = rw other read in
+    subst (ReadsStep (Some (made n))) (sym is) reads
+
+fill_again : (slot : ℕ) (entry : Sqe) (rest : List (List ℕ)) (f : Form) → slot < 2 ^ 32 → SpellsForm rest f → IsEntryOf f entry → (words : List (List ℕ)) → words ≡ codes "fill" ∷ decimal slot ∷ rest → ReadsStep (Some (step.Fill slot entry)) words
+fill_again slot entry rest f lt h is_entry words is =
+    let filled : ReadsFill (Some (step.Fill slot entry)) (number_of (2 ^ 32) (decimal slot)) (form_of rest) = rw (number_again (2 ^ 32) slot (omega arith) lt, form_again rest f h) (entry, refl, is_entry) in
+    subst (ReadsStep (Some (step.Fill slot entry))) (sym is) filled
+
+step_again : (words : List (List ℕ)) (s : Step) → Spells words s → ReadsStep (Some s) words
+unfolding step_of_one step_of_two
+step_again words (step.Fill slot entry) h = fill_again slot entry h.0 h.3.form h.2 h.3.spells h.3.is_entry words h.1
+step_again words (step.Index n) h = two_again (codes "index") n (2 ^ 32) (λ n. step.Index n) (omega arith) h.1 refl refl words h.0
+step_again words (step.Begin n) h = two_again (codes "begin") n (2 ^ 32) (λ n. step.Begin n) (omega arith) h.1 refl refl words h.0
+step_again words (step.Issue n) h = two_again (codes "issue") n (2 ^ 64) (λ n. step.Issue n) (omega arith) h.1 refl refl words h.0
+step_again words (step.Finish n) h = two_again (codes "finish") n (2 ^ 64) (λ n. step.Finish n) (omega arith) h.1 refl refl words h.0
+step_again words step.StoreTail h = one_again (codes "tail") step.StoreTail refl words h
+step_again words step.LoadHead h = one_again (codes "head") step.LoadHead refl words h
+step_again words step.Take h = one_again (codes "take") step.Take refl words h
+step_again words step.End h = one_again (codes "end") step.End refl words h
+step_again words step.Flush h = one_again (codes "flush") step.Flush refl words h
+step_again words step.LoadCqTail h = one_again (codes "cqtail") step.LoadCqTail refl words h
+step_again words step.Reap h = one_again (codes "reap") step.Reap refl words h
+step_again words step.StoreCqHead h = one_again (codes "cqhead") step.StoreCqHead refl words h
+step_again words step.Close h = one_again (codes "close") step.Close refl words h
+step_again words step.Next h = one_again (codes "next") step.Next refl words h
+
+-- ---- words are read in one way
+
+none_some : (o : Option Step) (s : Step) → None ≡ o → Some s ≡ o → ⊥
+none_some o s r q = absurd (let no : None ≡ Some s = r ∙ sym q in cc)
+
+no_fill : (o : Option ℕ) (f : Option Form) (s : Step) → ReadsFill None o f → ReadsFill (Some s) o f → ⊥
+no_fill None f s r q = absurd cc
+no_fill (Some slot) None s r q = absurd cc
+no_fill (Some slot) (Some f) s r q = none_some (Some (step.Fill slot r.0)) (step.Fill slot r.0) r.1 refl
+
+no_more : (b : Bool) (o : Option ℕ) (f : Option Form) (other : Option Step) (s : Step) → MatchBool b (ReadsFill None o f) (None ≡ other) → MatchBool b (ReadsFill (Some s) o f) (Some s ≡ other) → ⊥
+no_more true o f other s r q = no_fill o f s r q
+no_more false o f other s r q = none_some other s r q
+
+none_and_step : (words : List (List ℕ)) (s : Step) → ReadsStep None words → ReadsStep (Some s) words → ⊥
+none_and_step [] s r q = absurd cc
+none_and_step (name ∷ []) s r q = none_some (step_of_one name) s r q
+none_and_step (name ∷ word ∷ rest) s r q = no_more (bytes_eq name (codes "fill")) (number_of (2 ^ 32) word) (form_of rest) (cond (eqb (length rest) 0) (step_of_two name word) None) s r q
+
+fill_once : (o : Option ℕ) (f : Option Form) (s t : Step) → ReadsFill (Some s) o f → ReadsFill (Some t) o f → s ≡ t
+fill_once None f s t r q = absurd cc
+fill_once (Some slot) None s t r q = absurd cc
+fill_once (Some slot) (Some f) s t r q =
+    let s_is : s ≡ step.Fill slot r.0 = some_is s (step.Fill slot r.0) r.1 in
+    let t_is : t ≡ step.Fill slot q.0 = some_is t (step.Fill slot q.0) q.1 in
+    let same : r.0 ≡ q.0 = entry_once f r.0 q.0 r.2 q.2 in
+    s_is ∙ ap (λ (entry : Sqe). step.Fill slot entry) same ∙ sym t_is
+
+more_once : (b : Bool) (o : Option ℕ) (f : Option Form) (other : Option Step) (s t : Step) → MatchBool b (ReadsFill (Some s) o f) (Some s ≡ other) → MatchBool b (ReadsFill (Some t) o f) (Some t ≡ other) → s ≡ t
+more_once true o f other s t r q = fill_once o f s t r q
+more_once false o f other s t r q = some_is s t (r ∙ sym q)
+
+read_once : (words : List (List ℕ)) (s t : Step) → ReadsStep (Some s) words → ReadsStep (Some t) words → s ≡ t
+read_once [] s t r q = absurd cc
+read_once (name ∷ []) s t r q = some_is s t (r ∙ sym q)
+read_once (name ∷ word ∷ rest) s t r q = more_once (bytes_eq name (codes "fill")) (number_of (2 ^ 32) word) (form_of rest) (cond (eqb (length rest) 0) (step_of_two name word) None) s t r q
+
+-- a line is one step at most
+pub step_once : (line : List ℕ) (s t : Step) → IsStep line s → IsStep line t → s ≡ t
+step_once line s t h k = read_once (words_of line) s t (step_again (words_of line) s h.spells) (step_again (words_of line) t k.spells)
+
+-- what a line is read as
+pub read_line : (line : List ℕ) (read : Option Step) → length line ≤ 300 → ReadsStep read (words_of line) → MatchOption read (IsBad line) (IsStep line)
+read_line line None le e = λ s h. none_and_step (words_of line) s e (step_again (words_of line) s h.spells)
+read_line line (Some s) le e = record { short = le; spells = step_found (words_of line) s e }

@@ -1,0 +1,26 @@
+use Rattle.std.proofs.Common.{◌≡◌, [], ℕ, take, subst, rules}
+use Rattle.std.specs.Io.KnownBytes.{Consumes}
+use Rattle.uring_trace.proofs.Traces.{at_start, all_read, goes_on, not_answered, tried_again, read_failed}
+use Rattle.uring_trace.proofs.trace_loop.answer_all.Goals as goal
+
+pub loop-alloc-init : goal.loop-alloc-init
+loop-alloc-init g c = λ setup h. at_start setup _ _ c.args.session.now h
+
+pub returns-in-Ok-eq0-clause-lines : goal.returns-in-Ok-eq0-clause-lines
+returns-in-Ok-eq0-clause-lines g c = λ setup h.
+    let none_is : c.in-Ok-eq0.field-0 ≡ 0 = search rules in
+    let read : Consumes (g.R.Read.remaining c.loop-alloc.reader) (g.R.Read.remaining c.read_once.new.reader) [] =
+    subst (λ (n : ℕ). Consumes (g.R.Read.remaining c.loop-alloc.reader) (g.R.Read.remaining c.read_once.new.reader) (take n c.read_once.new.buf)) none_is c.in-Ok-eq0.ensures.bytes.0 in
+    all_read setup _ _ _ _ _ _ _ c.loop-alloc.session read (c.in-Ok-eq0.ensures.bytes.1 none_is (search rules)) (c.answer_last.ensures.lines setup) (c.loop-alloc.invariant setup h)
+
+pub loop-alloc-preserved-in-Continue-1 : goal.loop-alloc-preserved-in-Continue-1
+loop-alloc-preserved-in-Continue-1 g c = λ setup h. goes_on setup _ _ _ _ _ _ c.loop-alloc.session c.answer.new.session _ c.in-Ok.ensures.bytes.0 (c.in_ok-answer-in-Ok.ensures.lines setup) (c.loop-alloc.invariant setup h)
+
+pub returns-in_err-answer-in-Ok-clause-lines : goal.returns-in_err-answer-in-Ok-clause-lines
+returns-in_err-answer-in-Ok-clause-lines g c = λ setup h. not_answered setup _ _ _ _ _ _ _ _ c.loop-alloc.session _ (search rules) c.in-Ok.ensures.bytes.0 (c.in_err-answer-in-Ok.ensures.lines setup) (c.loop-alloc.invariant setup h)
+
+pub loop-alloc-preserved : goal.loop-alloc-preserved
+loop-alloc-preserved g c = λ setup h. tried_again setup _ _ _ _ _ c.loop-alloc.session c.in-Err.ensures.bytes (c.loop-alloc.invariant setup h)
+
+pub returns-clause-lines : goal.returns-clause-lines
+returns-clause-lines g c = λ setup h. read_failed setup _ _ _ _ _ c.loop-alloc.session (search rules) (c.loop-alloc.invariant setup h)

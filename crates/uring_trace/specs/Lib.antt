@@ -1,0 +1,9 @@
+pub mod Words
+pub mod Spelling
+pub mod Reading
+pub mod Text
+pub mod Lines
+pub mod Exchanges
+pub mod Traces
+pub mod Sessions
+pub mod Streams

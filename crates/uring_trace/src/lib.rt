@@ -1,0 +1,17 @@
+//! The language of a trace: steps as lines of text, each with its answer, and the run of such lines from a reader to a writer.
+#![tactic(auto)]
+
+mod answer_text;
+mod entry_words;
+mod flag_words;
+mod hex_words;
+pub mod laws;
+mod number_words;
+mod session;
+mod step_lines;
+mod streams;
+mod trace_fault;
+mod trace_loop;
+
+pub use trace_fault::TraceFault;
+pub use trace_loop::trace;

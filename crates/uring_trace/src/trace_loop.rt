@@ -1,0 +1,120 @@
+//! The run of a trace over two streams.
+
+ghost use Rattle.std.specs.Prelude.{◌≡◌, ◌≢◌, ℕ, List, [], ◌++◌, Err, IfErr};
+ghost use Rattle.std.specs.Io.KnownBytes.{Appends};
+ghost use Rattle.uring_entry.specs.Setup.{Setup};
+ghost use Rattle.uring_trace.specs.Sessions.{Has, TookIn};
+ghost use Rattle.uring_trace.specs.Streams.{AreOver};
+ghost use Rattle.uring_trace.specs.Traces.{Traces, Writes, WritesText};
+
+use crate::session::Session;
+use crate::streams::{Calls, read_once, write_once};
+use crate::trace_fault::TraceFault;
+use std::alloc::Global;
+use std::io::{Read, Write};
+use uring_machine::Setup;
+
+/// Most bytes that are read at once.
+const CHUNK: usize = 512;
+
+/// Reads steps from `reader`, one a line, makes them on a new machine of this set-up, and writes the answers to `writer`, one a line, until the input ends. A line that is no step is answered `bad line`.
+///
+/// Whatever has been read is answered before the next read, so a terminal sees the answer to each line at once. An interrupted read or write is made again.
+///
+/// - `Read`: a read failed, or 2^64 - 1 reads were made. Every complete line read so far has been answered.
+/// - `Write`: a write failed or took no byte, or 2^64 - 1 writes were made. The answers are cut short.
+/// - `Memory`: memory was refused. The lines before some line have been answered, and no later one.
+pub fn trace<R: Read, W: Write>(
+    alloc: Global,
+    reader: &mut R,
+    writer: &mut W,
+    setup: &Setup,
+) -> Result<(), TraceFault>
+    ensures { Traces setup.now result (R.remaining reader.old) (R.remaining reader.new) (W.contents writer.old) (W.contents writer.new) }
+{
+    let mut session = Session::new(alloc, setup)?;
+    answer_all(
+        alloc,
+        &mut session,
+        reader,
+        writer,
+        &mut Calls::new(),
+        &mut Calls::new(),
+    )
+}
+
+/// Answers line by line until the input ends.
+fn answer_all<R: Read, W: Write>(
+    alloc: Global,
+    session: &mut Session,
+    reader: &mut R,
+    writer: &mut W,
+    reads: &mut Calls,
+    writes: &mut Calls,
+) -> Result<(), TraceFault>
+    ensures lines { (setup : Setup) → Has setup session.old [] [] → Traces setup result (R.remaining reader.old) (R.remaining reader.new) (W.contents writer.old) (W.contents writer.new) }
+
+    // A stream is blamed only if it gave up.
+    ensures read { result ≡ Err TraceFault.Read → AreOver reads.new }
+    ensures write { result ≡ Err TraceFault.Write → AreOver writes.new }
+{
+    let mut chunk = [0; CHUNK];
+    while !reads.are_over() {
+        match read_once(reader, &mut chunk, reads) {
+            Ok(0) => return answer_last(alloc, session, writer, writes),
+            Ok(count) => answer(alloc, session, &chunk[..count], writer, writes)?,
+            Err(_) => {}
+        }
+    }
+    Err(TraceFault::Read)
+}
+
+/// Takes in these bytes, and writes the answers to the lines that they complete.
+fn answer<W: Write>(
+    alloc: Global,
+    session: &mut Session,
+    bytes: &[u8],
+    writer: &mut W,
+    writes: &mut Calls,
+) -> Result<(), TraceFault>
+    ensures lines { (setup : Setup) (before told : List ℕ) → Has setup session.old before told → (written : List ℕ) × Appends (W.contents writer.old) (W.contents writer.new) written × TookIn setup result session.new (before ++ bytes.now) (told ++ written) }
+    ensures read { IfErr result (λ fault. fault ≢ TraceFault.Read) }
+    ensures write { result ≡ Err TraceFault.Write → AreOver writes.new }
+{
+    let mut text = String::new(alloc);
+    session.feed(bytes, &mut text)?;
+    write_all(writer, text.as_bytes(), writes)
+}
+
+/// Ends the input, and writes the answer to a last line without an end.
+fn answer_last<W: Write>(
+    alloc: Global,
+    session: &mut Session,
+    writer: &mut W,
+    writes: &mut Calls,
+) -> Result<(), TraceFault>
+    ensures lines { (setup : Setup) (before told : List ℕ) → Has setup session.old before told → (written : List ℕ) × Appends (W.contents writer.old) (W.contents writer.new) written × Writes setup result before (told ++ written) }
+    ensures read { IfErr result (λ fault. fault ≢ TraceFault.Read) }
+    ensures write { result ≡ Err TraceFault.Write → AreOver writes.new }
+{
+    let mut text = String::new(alloc);
+    session.finish(&mut text)?;
+    write_all(writer, text.as_bytes(), writes)
+}
+
+/// Writes all these bytes.
+fn write_all<W: Write>(writer: &mut W, bytes: &[u8], writes: &mut Calls) -> Result<(), TraceFault>
+    ensures text { (written : List ℕ) × Appends (W.contents writer.old) (W.contents writer.new) written × WritesText result bytes.now written }
+    ensures write { IfErr result (λ _. AreOver writes.new) }
+{
+    let mut rest = bytes;
+    while !rest.is_empty() {
+        if writes.are_over() {
+            return Err(TraceFault::Write);
+        }
+        if let Ok(count) = write_once(writer, rest, writes) {
+            rest = rest.split_at(count).1;
+        }
+    }
+    Ok(())
+}

@@ -1,0 +1,5 @@
+pub mod Waiting
+pub mod Replaying
+pub mod Turns
+pub mod Broken
+pub mod Unreaped

@@ -1,0 +1,90 @@
+-- The same steps have the same answers, unless memory is refused.
+use Rattle.std.proofs.Common.{◌≡◌, ℕ, ◌+◌, neg_ℤ, Bool, true, false, ◌||◌, List, [], ◌∷◌, ◌++◌, length, ◌⊎◌, inl, inr, refl, sym, subst, ◌∙◌, ap, arith}
+use Rattle.std.specs.List.{list_any, zip}
+use Rattle.std.specs.Ordering.{int_eq}
+use Rattle.uring_entry.specs.Setup.{Setup}
+use Rattle.uring_entry.specs.Requests.{Requests, is_running}
+use Rattle.uring_entry.specs.declared.errno.TheConstants.{ENOMEM}
+use Rattle.uring_entry.specs.declared.outcomes.Outcome.{Outcome}
+use Rattle.uring_files.specs.Contents.{FileContents}
+use Rattle.uring_machine.specs.World.{World}
+use Rattle.uring_machine.specs.StepAnswers.{OrAgain, begin_answer}
+use Rattle.uring_machine.specs.Histories.{Event, History, world, history_of}
+use Rattle.uring_machine.specs.CalledFor.{CalledFor, EndsOn, IsLawful, files_of}
+use Rattle.uring_machine.specs.declared.step.Step.{Step}
+use Rattle.uring_machine.specs.declared.step.Step.TheVariants as step
+use Rattle.uring_machine.specs.declared.answer.Answer.{Answer}
+use Rattle.uring_machine.specs.declared.answer.Answer.TheVariants as answer
+use Rattle.uring_machine.proofs.Following.{history_of-cons}
+use Rattle.uring_uses.specs.Replays.{is_out_of_memory, RanOutOfMemory, AreReplays}
+
+-- one answer, or memory was refused for one of the two
+abbrev pub AreSame : Answer → Answer → Type 0
+AreSame x y = (x ≡ y) ⊎ ((is_out_of_memory x ≡ true) ⊎ (is_out_of_memory y ≡ true))
+
+opened_same : (called x y : Answer) → OrAgain called x → OrAgain called y → AreSame x y
+opened_same (answer.Call count) x y (inl p) (inl q) = inl (p ∙ sym q)
+opened_same (answer.Call count) x y (inl p) (inr q) = inr (inr (ap is_out_of_memory q.0))
+opened_same (answer.Call count) x y (inr p) q = inr (inl (ap is_out_of_memory p.0))
+opened_same _ x y p q = inl (p ∙ sym q)
+
+-- how a finish ended, as an answer
+abbrev ended : Outcome → Answer
+ended outcome = answer.Ended outcome.res outcome.bytes
+
+finished_same : (files : List FileContents) (r : Requests) (n : ℕ) (running : Bool) (x y : Answer) → EndsOn files r n running x → EndsOn files r n running y → AreSame x y
+finished_same files r n false x y p q = inl (p ∙ sym q)
+finished_same files r n true (answer.Ended res bytes) (answer.Ended other more) (inl p) (inl q) = inl (ap ended (p ∙ sym q))
+finished_same files r n true (answer.Ended res bytes) (answer.Ended other more) (inl p) (inr q) = inr (inr (ap (λ (o : Outcome). int_eq o.res (neg_ℤ ENOMEM)) q.1))
+finished_same files r n true (answer.Ended res bytes) (answer.Ended other more) (inr p) q = inr (inl (ap (λ (o : Outcome). int_eq o.res (neg_ℤ ENOMEM)) p.1))
+finished_same files r n true (answer.Ended res bytes) _ p q = absurd q
+finished_same files r n true _ y p q = absurd p
+
+called_same : (g : Setup) (w : World) (s : Step) (x y : Answer) → CalledFor g w s x → CalledFor g w s y → AreSame x y
+called_same g w (step.Begin count) x y p q = opened_same (begin_answer w count) x y p q
+called_same g w (step.Finish n) x y p q = finished_same (files_of g w) w.requests n (is_running w.requests n) x y p q
+called_same g w _ x y p q = inl (p ∙ sym q)
+
+lawful_before : (g : Setup) (h later : History) → IsLawful g (later ++ h) → IsLawful g h
+lawful_before g h [] lawful = lawful
+lawful_before g h ((s, a) ∷ later) lawful = lawful_before g h later lawful.1
+
+-- the first of some events comes before the others
+first_before : (g : Setup) (h : History) (e : Event) (events : List Event) → IsLawful g (history_of (e ∷ events) ++ h) → IsLawful g (history_of events ++ e ∷ h)
+first_before g h e events lawful = subst (λ k. IsLawful g k) (history_of-cons e events h) lawful
+
+or_later : (first later : Bool) → later ≡ true → (first || later) ≡ true
+or_later true later e = refl
+or_later false later e = e
+
+or_first : (first later : Bool) → first ≡ true → (first || later) ≡ true
+or_first true later e = refl
+or_first false later e = cc
+
+-- one more answer, the same in both
+one_more : (x y : Answer) (xs ys : List Answer) → x ≡ y → AreReplays xs ys → AreReplays (x ∷ xs) (y ∷ ys)
+one_more x y xs ys same (inl rest) = inl (cc)
+one_more x y xs ys same (inr (inl refused)) = inr (inl (or_later (is_out_of_memory x) (list_any is_out_of_memory xs) refused))
+one_more x y xs ys same (inr (inr refused)) = inr (inr (or_later (is_out_of_memory y) (list_any is_out_of_memory ys) refused))
+
+-- the same steps after the same history
+pub replayed : (g : Setup) (h : History) (steps : List Step) (xs ys : List Answer) → length xs ≡ length steps → length ys ≡ length steps → IsLawful g (history_of (zip steps xs) ++ h) → IsLawful g (history_of (zip steps ys) ++ h) → AreReplays xs ys
+replayed g h [] [] [] m n p q = inl refl
+replayed g h [] [] (y ∷ ys) m n p q = absurd (omega (arith, n))
+replayed g h [] (x ∷ xs) ys m n p q = absurd (omega (arith, m))
+replayed g h (s ∷ steps) [] ys m n p q = absurd (omega (arith, m))
+replayed g h (s ∷ steps) (x ∷ xs) [] m n p q = absurd (omega (arith, n))
+replayed g h (s ∷ steps) (x ∷ xs) (y ∷ ys) m n p q =
+    let one : IsLawful g (history_of (zip steps xs) ++ (s, x) ∷ h) = first_before g h (s, x) (zip steps xs) p in
+    let two : IsLawful g (history_of (zip steps ys) ++ (s, y) ∷ h) = first_before g h (s, y) (zip steps ys) q in
+    let first = (lawful_before g ((s, x) ∷ h) (history_of (zip steps xs)) one).0 in
+    let second = (lawful_before g ((s, y) ∷ h) (history_of (zip steps ys)) two).0 in
+    elim (called_same g (world g h) s x y first second) [
+      | inl same ↦
+          one_more x y xs ys same
+          (replayed g ((s, x) ∷ h) steps xs ys (omega (arith, m)) (omega (arith, n)) one (subst (λ a. IsLawful g (history_of (zip steps ys) ++ (s, a) ∷ h)) (sym same) two))
+      | inr refused ↦ elim refused [
+        | inl e ↦ inr (inl (or_first (is_out_of_memory x) (list_any is_out_of_memory xs) e))
+        | inr e ↦ inr (inr (or_first (is_out_of_memory y) (list_any is_out_of_memory ys) e))
+      ]
+    ]

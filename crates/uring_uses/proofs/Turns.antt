@@ -1,0 +1,205 @@
+-- What one turn of a simulation makes.
+use Rattle.std.proofs.Common.{◌≡◌, ℕ, ◌+◌, ◌<◌, ◌≤◌, ℤ, Bool, true, false, not, ◌||◌, List, [], ◌∷◌, ◌++◌, length, Option, Some, None, if◌then◌else◌, refl, sym, subst, ◌∙◌, ap, arith, inl, inr, append_assoc}
+use Rattle.std.proofs.lemmas.Bool.{and_parts, and_from, or_cases, both_ways, not-true, cases_eq}
+use Rattle.std.proofs.lemmas.List.Folds.{list_all-append}
+use Rattle.uring_entry.specs.Setup.{Setup}
+use Rattle.uring_entry.specs.Preparation.{is_cancel, operation_of}
+use Rattle.uring_entry.specs.Requests.{Requests, entry_of, has_ended, is_outstanding, is_running, is_issuable, is_doomed, is_ready, doomed_result, cancel_result, no_bytes, next_of, least_of, with_started, with_ended, operation_running, outstanding_in}
+use Rattle.uring_entry.proofs.BelowLemmas.{least_below-tells, least_below-out}
+use Rattle.uring_entry.proofs.RequestLemmas.{least_of-goes_on, is_running-started_same, is_running-started_other, is_running-ended_same, is_running-ended_other}
+use Rattle.uring_machine.specs.World.{World, issuing, finishing}
+use Rattle.uring_machine.specs.StepAnswers.{IsEnded, FinishesApart, issue_answer, next_answer_of}
+use Rattle.uring_machine.specs.Histories.{History, world}
+use Rattle.uring_machine.specs.Core.{Core, FitsApart}
+use Rattle.uring_machine.specs.Settling.{is_issue_or_finish}
+use Rattle.uring_machine.specs.declared.step.Step.TheVariants as step
+use Rattle.uring_machine.specs.declared.answer.Answer.{Answer}
+use Rattle.uring_machine.specs.declared.answer.Answer.TheVariants as answer
+use Rattle.uring_machine.proofs.Outstanding.{ended_less, none_outstanding, count_below-zero}
+use Rattle.uring_uses.specs.Simulations.{NoneRuns, HasRun, IsIdle}
+
+-- The next request.
+
+next_is : (next : Option ℕ) (n : ℕ) → answer.Next n ≡ next_answer_of next → next ≡ Some n
+next_is None n e = absurd cc
+next_is (Some m) n e = let same : m ≡ n = cc in ap Some same
+
+-- the next can be issued
+pub next_issuable : (r : Requests) (n : ℕ) → answer.Next n ≡ next_answer_of (next_of r) → is_issuable r n ≡ true
+next_issuable r n e = (least_below-tells (is_issuable r) (length r.accepted) n (next_is (next_of r) n e)).holds
+
+-- with something outstanding and nothing running there is a next
+pub some_next : (r : Requests) (a : Answer) → ((n : ℕ) → is_running r n ≡ false) → 1 ≤ outstanding_in r → a ≡ next_answer_of (next_of r) → ((k : ℕ) → a ≡ answer.Next k → ⊥) → ⊥
+some_next r a quiet some is other = by_least (least_of r) refl where
+  by_next : (n : ℕ) → least_of r ≡ Some n → (next : Option ℕ) → next_of r ≡ next → a ≡ next_answer_of next → ⊥
+  by_next n least (Some m) next e = other m e
+  by_next n least None next e =
+      elim (or_cases _ _ (least_of-goes_on r n least)) [
+        | inl running ↦ both_ways _ (quiet n) running
+        | inr issuable ↦ both_ways _ (least_below-out (is_issuable r) (length r.accepted) next n (least_below-tells (is_outstanding r) (length r.accepted) n least).below) issuable
+      ]
+
+  by_least : (least : Option ℕ) → least_of r ≡ least → ⊥
+  by_least (Some n) least = by_next n least (next_of r) refl is
+  by_least None none =
+      let zero_of : outstanding_in r ≡ 0 = count_below-zero (is_outstanding r) (length r.accepted) (least_below-out (is_outstanding r) (length r.accepted) none) in
+      omega (arith, some, zero_of)
+
+-- The issue of the next request.
+
+pub record IsWaiting (r : Requests) (n : ℕ) : Type 0 where
+  pub outstanding : is_outstanding r n ≡ true
+  pub unended : has_ended r n ≡ false
+  pub unstarted : is_running r n ≡ false
+  pub free : (is_doomed r n || is_ready r n) ≡ true
+
+pub issuable_waits : (r : Requests) (n : ℕ) → is_issuable r n ≡ true → IsWaiting r n
+issuable_waits r n issuable =
+    let p = and_parts _ _ issuable in
+    let q = and_parts _ _ p.0 in
+    record { outstanding = q.0; unended = not-true _ (and_parts _ _ q.0).1; unstarted = not-true _ q.1; free = p.1 }
+
+ends_or_runs : (outstanding running doomed ready cancel : Bool) (as_doomed as_cancel : ℤ) (a : Answer) → outstanding ≡ true → running ≡ false → (doomed || ready) ≡ true
+    → a ≡ (if not outstanding then answer.Unknown else (if running then answer.Running else (if doomed then answer.Ended as_doomed no_bytes else (if not ready then answer.NotReady else (if cancel then answer.Ended as_cancel no_bytes else answer.Run)))))
+    → (a ≡ answer.Run → ⊥) → IsEnded a
+ends_or_runs false running doomed ready cancel x y a o r f is other = absurd cc
+ends_or_runs true true doomed ready cancel x y a o r f is other = absurd cc
+ends_or_runs true false true ready cancel x y a o r f is other = subst IsEnded (sym is) tt
+ends_or_runs true false false false cancel x y a o r f is other = absurd (let e : false ≡ true = f in cc)
+ends_or_runs true false false true true x y a o r f is other = subst IsEnded (sym is) tt
+ends_or_runs true false false true false x y a o r f is other = absurd (other is)
+
+-- what is issued next and doesn't run, ends
+pub issue_ends : (w : World) (n : ℕ) (a : Answer) → is_issuable w.requests n ≡ true → a ≡ issue_answer w n → (a ≡ answer.Run → ⊥) → IsEnded a
+issue_ends w n a issuable is other =
+    let r : Requests = w.requests in
+    let waits = issuable_waits r n issuable in
+    ends_or_runs (is_outstanding r n) (is_running r n) (is_doomed r n) (is_ready r n) (is_cancel (entry_of r n)) (doomed_result r n) (cancel_result r n) a waits.outstanding waits.unstarted waits.free is other
+
+-- Nothing runs afterwards.
+
+quiet_after_end : (r : Requests) (n : ℕ) (res : ℤ) (bytes : List ℕ) → ((k : ℕ) → is_running r k ≡ false) → (k : ℕ) → is_running (with_ended r n res bytes) k ≡ false
+quiet_after_end r n res bytes quiet k =
+    elim (cases_eq k n) [
+      | inl same ↦ subst (λ j. is_running (with_ended r n res bytes) j ≡ false) (sym same) (is_running-ended_same r n res bytes)
+      | inr other ↦ is_running-ended_other r n res bytes k other ∙ quiet k
+    ]
+
+quiet_after_run : (r : Requests) (n : ℕ) (res : ℤ) (bytes : List ℕ) → ((k : ℕ) → is_running r k ≡ false) → (k : ℕ) → is_running (with_ended (with_started r n) n res bytes) k ≡ false
+quiet_after_run r n res bytes quiet k =
+    elim (cases_eq k n) [
+      | inl same ↦ subst (λ j. is_running (with_ended (with_started r n) n res bytes) j ≡ false) (sym same) (is_running-ended_same (with_started r n) n res bytes)
+      | inr other ↦ is_running-ended_other (with_started r n) n res bytes k other ∙ is_running-started_other r n k other ∙ quiet k
+    ]
+
+-- A turn.
+
+-- a core that answered Next fits what it fitted
+pub fits_without_next : (p : Core) (a : Answer) (h : History) → FitsApart p ((step.Next, a) ∷ h) → FitsApart p h
+fits_without_next p a h fits = record { shows = fits.shows; lawful = fits.lawful.1 }
+
+-- it ended as it was issued
+pub turn_ended : (p : Core) (h : History) (n : ℕ) (a : Answer) → NoneRuns (world p.setup h) → is_outstanding (world p.setup h).requests n ≡ true → IsEnded a → FitsApart p ((step.Issue n, a) ∷ h) → HasRun p h 1
+turn_ended p h n (answer.Ended res bytes) quiet outstanding ended fits =
+    record {
+      events = (step.Issue n, answer.Ended res bytes) ∷ [];
+      issues_and_finishes = refl;
+      fits = fits;
+      quiet = quiet_after_end (world p.setup h).requests n res no_bytes quiet;
+      fewer = ended_less (world p.setup h).requests n res no_bytes outstanding;
+    }
+turn_ended p h n _ quiet outstanding ended fits = absurd ended
+
+-- it ran, and was finished
+pub turn_run : (p : Core) (h : History) (n : ℕ) (res : ℤ) (bytes : List ℕ) → NoneRuns (world p.setup h) → is_outstanding (world p.setup h).requests n ≡ true
+    → FitsApart p ((step.Finish n, answer.Ended res bytes) ∷ (step.Issue n, answer.Run) ∷ h) → HasRun p h 1
+turn_run p h n res bytes quiet outstanding fits =
+    record {
+      events = (step.Finish n, answer.Ended res bytes) ∷ (step.Issue n, answer.Run) ∷ [];
+      issues_and_finishes = refl;
+      fits = fits;
+      quiet = quiet_after_run (world p.setup h).requests n res bytes quiet;
+      fewer = ended_less (with_started (world p.setup h).requests n) n res bytes outstanding;
+    }
+
+-- the parts as a turn leaves them have the set-up that they had
+next_told : (old asked : Core) (h : History) (a : Answer) → asked.setup ≡ old.setup → FitsApart asked ((step.Next, a) ∷ h) → a ≡ next_answer_of (next_of (world old.setup h).requests)
+next_told old asked h a same fits = subst (λ g. a ≡ next_answer_of (next_of (world g h).requests)) same fits.lawful.0
+
+-- Next is answered
+pub turn_goes_on : (old asked : Core) (h : History) (a : Answer) → asked.setup ≡ old.setup → NoneRuns (world old.setup h) → 1 ≤ outstanding_in (world old.setup h).requests → FitsApart asked ((step.Next, a) ∷ h) → ((k : ℕ) → a ≡ answer.Next k → ⊥) → ⊥
+turn_goes_on old asked h a same quiet some fits other = some_next (world old.setup h).requests a quiet some (next_told old asked h a same fits) other
+
+-- the next request, named by the answer
+named_waits : (old asked : Core) (h : History) (n : ℕ) (a : Answer) → asked.setup ≡ old.setup → a ≡ answer.Next n → FitsApart asked ((step.Next, a) ∷ h) → is_issuable (world old.setup h).requests n ≡ true
+named_waits old asked h n a same named fits = next_issuable (world old.setup h).requests n (sym named ∙ next_told old asked h a same fits)
+
+-- the next request ends as it is issued
+pub turn_issue : (old asked new : Core) (h : History) (n : ℕ) (a b : Answer) → asked.setup ≡ old.setup → new.setup ≡ asked.setup → a ≡ answer.Next n → (b ≡ answer.Run → ⊥) → NoneRuns (world old.setup h)
+    → FitsApart asked ((step.Next, a) ∷ h) → FitsApart new ((step.Issue n, b) ∷ h) → HasRun new h 1
+turn_issue old asked new h n a b same kept named other quiet asked_fits fits =
+    let issuable : is_issuable (world new.setup h).requests n ≡ true = subst (λ g. is_issuable (world g h).requests n ≡ true) (sym (kept ∙ same)) (named_waits old asked h n a same named asked_fits) in
+    turn_ended new h n b (subst (λ g. NoneRuns (world g h)) (sym (kept ∙ same)) quiet) (issuable_waits (world new.setup h).requests n issuable).outstanding
+    (issue_ends (world new.setup h) n b issuable fits.lawful.0 other) fits
+
+-- the next request runs
+pub record IsStarted (p : Core) (h : History) (n : ℕ) : Type 0 where
+  pub waits : IsWaiting (world p.setup h).requests n
+  pub quiet : NoneRuns (world p.setup h)
+  pub runs : is_running (world p.setup ((step.Issue n, answer.Run) ∷ h)).requests n ≡ true
+  pub fits : FitsApart p ((step.Issue n, answer.Run) ∷ h)
+
+pub turn_start : (old asked new : Core) (h : History) (n : ℕ) (a b : Answer) → asked.setup ≡ old.setup → new.setup ≡ asked.setup → a ≡ answer.Next n → b ≡ answer.Run → NoneRuns (world old.setup h)
+    → FitsApart asked ((step.Next, a) ∷ h) → FitsApart new ((step.Issue n, b) ∷ h) → IsStarted new h n
+turn_start old asked new h n a b same kept named ran quiet asked_fits fits =
+    let issuable : is_issuable (world new.setup h).requests n ≡ true = subst (λ g. is_issuable (world g h).requests n ≡ true) (sym (kept ∙ same)) (named_waits old asked h n a same named asked_fits) in
+    let waits = issuable_waits (world new.setup h).requests n issuable in
+    record {
+      waits = waits;
+      quiet = subst (λ g. NoneRuns (world g h)) (sym (kept ∙ same)) quiet;
+      runs = is_running-started_same (world new.setup h).requests n waits.unended;
+      fits = subst (λ d. FitsApart new ((step.Issue n, d) ∷ h)) ran fits;
+    }
+
+-- so it has an operation
+pub turn_operation : (p : Core) (h : History) (n : ℕ) → IsStarted p h n → None ≡ operation_running (world p.setup ((step.Issue n, answer.Run) ∷ h)).requests n → ⊥
+turn_operation p h n started none = by_running (is_running (world p.setup ((step.Issue n, answer.Run) ∷ h)).requests n) started.runs none where
+  by_running : (running : Bool) → running ≡ true → None ≡ (if running then Some (operation_of (entry_of (world p.setup ((step.Issue n, answer.Run) ∷ h)).requests n)) else None) → ⊥
+  by_running true is f = cc
+  by_running false is f = cc
+
+-- and is finished
+finish_ended : (p : Core) (h : History) (n : ℕ) (d : Answer) → IsWaiting (world p.setup h).requests n → NoneRuns (world p.setup h) → IsEnded d → FitsApart p ((step.Finish n, d) ∷ (step.Issue n, answer.Run) ∷ h) → HasRun p h 1
+finish_ended p h n (answer.Ended res bytes) waits quiet ended fits = turn_run p h n res bytes quiet waits.outstanding fits
+finish_ended p h n _ waits quiet ended fits = absurd ended
+
+pub turn_finish : (ran new : Core) (h : History) (n : ℕ) (d : Answer) → new.setup ≡ ran.setup → IsStarted ran h n → FitsApart new ((step.Finish n, d) ∷ (step.Issue n, answer.Run) ∷ h) → HasRun new h 1
+turn_finish ran new h n d same started fits =
+    let waits : IsWaiting (world new.setup h).requests n = subst (λ g. IsWaiting (world g h).requests n) (sym same) started.waits in
+    let runs : is_running (world new.setup ((step.Issue n, answer.Run) ∷ h)).requests n ≡ true = subst (λ g. is_running (world g ((step.Issue n, answer.Run) ∷ h)).requests n ≡ true) (sym same) started.runs in
+    finish_ended new h n d waits (subst (λ g. NoneRuns (world g h)) (sym same) started.quiet) (subst (λ running. FinishesApart running d) runs fits.lawful.0) fits
+
+-- Many turns.
+
+pub run_none : (p : Core) (h : History) → NoneRuns (world p.setup h) → FitsApart p h → HasRun p h 0
+run_none p h quiet fits = record { events = []; issues_and_finishes = refl; fits = fits; quiet = quiet; fewer = omega arith }
+
+pub run_more : (old new : Core) (h : History) (ended : ℕ) → new.setup ≡ old.setup → (before : HasRun old h ended) → HasRun new (before.events ++ h) 1 → HasRun new h (ended + 1)
+run_more old new h ended same before last =
+    record {
+      events = last.events ++ before.events;
+      issues_and_finishes = list_all-append is_issue_or_finish last.events before.events ∙ and_from _ _ last.issues_and_finishes before.issues_and_finishes;
+      fits = subst (λ k. FitsApart new k) (sym (append_assoc last.events before.events h)) last.fits;
+      quiet = subst (λ k. NoneRuns (world new.setup k)) (sym (append_assoc last.events before.events h)) last.quiet;
+      fewer = subst (λ k. outstanding_in (world new.setup k).requests + (ended + 1) ≡ outstanding_in (world new.setup h).requests) (sym (append_assoc last.events before.events h))
+          (omega (arith, last.fewer, before.fewer, ap (λ g. outstanding_in (world g (before.events ++ h)).requests) same, ap (λ g. outstanding_in (world g h).requests) same));
+    }
+
+pub run_all : (p : Core) (h : History) (ended : ℕ) → ended ≡ outstanding_in (world p.setup h).requests → HasRun p h ended → IsIdle p h
+run_all p h ended all run =
+    record {
+      events = run.events;
+      issues_and_finishes = run.issues_and_finishes;
+      fits = run.fits;
+      none_outstanding = none_outstanding (world p.setup (run.events ++ h)).requests (omega (arith, run.fewer, all));
+    }

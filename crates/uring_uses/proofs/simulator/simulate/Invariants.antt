@@ -1,0 +1,13 @@
+use Rattle.std.proofs.Common.{◌≡◌, ◌≤◌}
+use Rattle.uring_entry.specs.Requests.{outstanding_in}
+use Rattle.uring_machine.specs.Core.{FitsApart}
+use Rattle.uring_machine.specs.Histories.{History, world}
+use Rattle.uring_uses.specs.Simulations.{NoneRuns, HasRun}
+use Rattle.uring_uses.proofs.simulator.simulate.Given as goal
+
+-- a request was ended each time
+abbrev pub invariant-loop : goal.invariant-loop
+invariant-loop l = record {
+  setup : l.core.setup ≡ l.initial.core.setup;
+  ended : (h : History) → FitsApart l.initial.core h → NoneRuns (world l.initial.core.setup h) → HasRun l.core h l.counter;
+}

@@ -1,0 +1,4 @@
+pub mod Replays
+pub mod Disks
+pub mod Simulations
+pub mod Leftovers

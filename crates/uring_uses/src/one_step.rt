@@ -1,0 +1,20 @@
+ghost use Rattle.std.specs.Prelude.{◌≡◌, ◌∷◌, ℕ, ◌<◌, true, IsTrue};
+ghost use Rattle.uring_entry.specs.Requests.{waits_for, has_ended};
+ghost use Rattle.uring_machine.specs.Histories.{History, world};
+ghost use Rattle.uring_machine.specs.Machine.{Fits};
+ghost use Rattle.uring_machine.specs.declared.answer.Answer.{Answer};
+ghost use Rattle.uring_machine.specs.declared.step.Step.TheVariants as step;
+
+use uring_machine::{Answer, Machine, Step};
+
+/// Issues a request, and says whether it runs now. If it does, every earlier request that it waits for has ended: the members before it in its chain, and whatever a drain puts before it.
+pub fn starts(machine: &mut Machine, number: u64) -> bool
+    ensures fits { (h : History) → Fits machine.old h → (a : Answer) × Fits machine.new ((step.Issue number, a) ∷ h) }
+    ensures in_order { IsTrue result → (h : History) (m : ℕ) → Fits machine.old h → m < number
+        → waits_for (world machine.old.core.setup h).requests number m ≡ true → has_ended (world machine.old.core.setup h).requests m ≡ true }
+{
+    match machine.step(Step::Issue { number }) {
+        Answer::Run => true,
+        _ => false,
+    }
+}

@@ -1,0 +1,44 @@
+use std::alloc::{AllocError, Global};
+use uring_machine::{Core, Sqe, Step};
+
+/// The steps of one whole submission: each entry goes into a slot, slots are staged and published, and a call takes and accepts them all. Loading the head frees the slots for the next submission.
+pub fn submission(alloc: Global, entries: &[Sqe]) -> Result<Vec<Step>, AllocError> {
+    let mut steps = Vec::new(alloc);
+    let mut count: u32 = 0;
+    for entry in entries {
+        steps.push(Step::Fill {
+            slot: count,
+            entry: *entry,
+        })?;
+        steps.push(Step::Index { word: count })?;
+        count = count.saturating_add(1);
+    }
+    steps.push(Step::StoreTail)?;
+    steps.push(Step::Begin { count })?;
+    for _ in entries {
+        steps.push(Step::Take)?;
+    }
+    steps.push(Step::End)?;
+    steps.push(Step::LoadHead)?;
+    Ok(steps)
+}
+
+/// The same on a core, step by step.
+pub fn submit(core: &mut Core, entries: &[Sqe]) {
+    let mut count: u32 = 0;
+    for entry in entries {
+        core.step(Step::Fill {
+            slot: count,
+            entry: *entry,
+        });
+        core.step(Step::Index { word: count });
+        count = count.saturating_add(1);
+    }
+    core.step(Step::StoreTail);
+    core.step(Step::Begin { count });
+    for _ in entries {
+        core.step(Step::Take);
+    }
+    core.step(Step::End);
+    core.step(Step::LoadHead);
+}

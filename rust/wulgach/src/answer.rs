@@ -1,0 +1,126 @@
+use crate::entry::Entry;
+use crate::ffi;
+
+/// A completion: the user data of its request, the result, and 64 bytes, those that a read gave first.
+#[derive(Clone, Copy, Debug, PartialEq, Eq)]
+pub struct Completion {
+    pub user_data: u64,
+    /// 0 or more, or the negative of an error number.
+    pub res: i32,
+    pub bytes: [u8; 64],
+}
+
+/// The answer to a step. A refusal changes nothing.
+#[derive(Clone, Copy, Debug, PartialEq, Eq)]
+pub enum Answer {
+    /// To `Fill`: the slot holds the entry.
+    Filled,
+    /// To `Fill`: the slot isn't below the submission ring's size.
+    NoSlot,
+    /// To `Fill`: a published position that isn't known to be taken names the slot.
+    Busy,
+    /// To `Index`: the word is staged.
+    Staged,
+    /// To `Index`: the ring is full, as far as the application knows.
+    Full,
+    /// To `StoreTail` and `LoadCqTail`: the tail as an index word.
+    Tail(u32),
+    /// To `LoadHead` and `StoreCqHead`: the head as an index word.
+    Head(u32),
+    /// To `Begin`: a call of this many positions is open.
+    Call(u32),
+    /// To `Begin`: the ring is closed.
+    Closed,
+    /// To `Begin` and `Close`: a call is open.
+    InCall,
+    /// To `Begin`: the numbers of requests are used up.
+    Spent,
+    /// To `Begin`: out of memory; nothing is consumed.
+    Again,
+    /// To `Take`: a copy of the entry that the position names.
+    Entry(Entry),
+    /// To `Take`: the position's word names no slot, and is dropped.
+    Dropped,
+    /// To `Take`: every position of the call is taken.
+    NoMore,
+    /// To `Take` and `End`: no call is open.
+    NoCall,
+    /// To `End`: how many entries were accepted, how many words were ever dropped (modulo 2^32), and the head.
+    Taken {
+        accepted: u32,
+        dropped: u32,
+        head: u32,
+    },
+    /// To `End`: positions of the call are left.
+    NotAll,
+    /// To `Issue`: the request runs.
+    Run,
+    /// To `Issue` and `Finish`: the request ended with this result and these bytes.
+    Ended { res: i32, bytes: [u8; 64] },
+    /// To `Issue`: the request waits for earlier ones.
+    NotReady,
+    /// To `Issue`: the request runs already.
+    Running,
+    /// To `Issue`: no such request is outstanding.
+    Unknown,
+    /// To `Finish`: the request isn't running.
+    NotRunning,
+    /// To `Flush`: how many completions moved into the ring.
+    Moved(u64),
+    /// To `Reap`: the next completion.
+    Reaped(Completion),
+    /// To `Reap`: no completion is shown. To `Next`: no request can be issued.
+    Nothing,
+    /// To `Close`: the ring is closed.
+    Shut,
+    /// To `Next`: the least request that can be issued.
+    Next(u64),
+}
+
+impl Answer {
+    pub(crate) fn of(words: &ffi::Answer) -> Answer {
+        match words.kind {
+            0 => Answer::Filled,
+            1 => Answer::NoSlot,
+            2 => Answer::Busy,
+            3 => Answer::Staged,
+            4 => Answer::Full,
+            5 => Answer::Tail(words.word),
+            6 => Answer::Head(words.word),
+            7 => Answer::Call(words.word),
+            8 => Answer::Closed,
+            9 => Answer::InCall,
+            10 => Answer::Spent,
+            11 => Answer::Again,
+            12 => Answer::Entry(Entry::from_words(words.entry)),
+            13 => Answer::Dropped,
+            14 => Answer::NoMore,
+            15 => Answer::NoCall,
+            16 => Answer::Taken {
+                accepted: words.word,
+                dropped: words.dropped,
+                head: words.head,
+            },
+            17 => Answer::NotAll,
+            18 => Answer::Run,
+            19 => Answer::Ended {
+                res: words.res,
+                bytes: words.bytes,
+            },
+            20 => Answer::NotReady,
+            21 => Answer::Running,
+            22 => Answer::Unknown,
+            23 => Answer::NotRunning,
+            24 => Answer::Moved(words.number),
+            25 => Answer::Reaped(Completion {
+                user_data: words.number,
+                res: words.res,
+                bytes: words.bytes,
+            }),
+            26 => Answer::Nothing,
+            27 => Answer::Shut,
+            28 => Answer::Next(words.number),
+            kind => unreachable!("no answer has the kind {kind}"),
+        }
+    }
+}

@@ -1,0 +1,122 @@
+use crate::answer::{Answer, Completion};
+use crate::error::{made, Error};
+use crate::ffi::{self, Place};
+use crate::reading::{self, Counts, Operation};
+use crate::setup::Setup;
+use crate::step::Step;
+use std::cell::UnsafeCell;
+
+/// A pair of rings and its requests, without files: how a running request ends comes from the caller.
+///
+/// It stays on the thread that made it, since crossing isn't proved: it is neither `Send` nor `Sync`.
+///
+/// ```
+/// use wulgach::{Answer, Core, Entry, Operation, Setup, Step};
+///
+/// # fn main() -> Result<(), wulgach::Error> {
+/// let mut core = Core::new(&Setup::default())?;
+/// core.step(Step::Fill { slot: 0, entry: Entry::read(7, 0, 1, 100, 3) })?;
+/// core.step(Step::Index { word: 0 })?;
+/// core.step(Step::StoreTail)?;
+/// core.step(Step::Begin { count: 1 })?;
+/// core.step(Step::Take)?;
+/// core.step(Step::End)?;
+/// assert_eq!(core.step(Step::Issue { number: 0 })?, Answer::Run);
+/// assert_eq!(core.running_op(0), Some(Operation::Read { fd: 1, off: 100, len: 3 }));
+///
+/// let mut bytes = [0; 64];
+/// bytes[..3].copy_from_slice(b"abc");
+/// assert_eq!(core.finish(0, 3, bytes), Answer::Ended { res: 3, bytes });
+/// assert_eq!(core.rest(0).map(|completion| completion.res), Some(3));
+/// # Ok(())
+/// # }
+/// ```
+#[derive(Debug)]
+pub struct Core {
+    place: UnsafeCell<Place>,
+}
+
+impl Core {
+    /// A new core.
+    ///
+    /// ```
+    /// use wulgach::{Core, Error, Setup};
+    ///
+    /// let too_many = Setup { sq: 4097, ..Setup::default() };
+    /// assert_eq!(Core::new(&too_many).err(), Some(Error::BadSetup));
+    /// ```
+    pub fn new(setup: &Setup) -> Result<Core, Error> {
+        let mut place = Place::empty();
+        // SAFETY: the place is empty, and the structs are those of the header.
+        made(unsafe { ffi::wulgach_core_new(&mut place, &setup.words()) })?;
+        Ok(Core {
+            place: UnsafeCell::new(place),
+        })
+    }
+
+    /// Makes one step, and returns its answer. `Error::FinishOfCore` exactly for `Step::Finish`.
+    pub fn step(&mut self, step: Step) -> Result<Answer, Error> {
+        let mut answer = ffi::Answer::ZERO;
+        // SAFETY: the place is full from `new` on, and lent to this call alone.
+        match unsafe { ffi::wulgach_core_step(self.place.get_mut(), &step.words(), &mut answer) } {
+            0 => Ok(Answer::of(&answer)),
+            _ => Err(Error::FinishOfCore),
+        }
+    }
+
+    /// Ends the running request of this number with any result and any bytes: `Ended` with these, or `NotRunning`.
+    pub fn finish(&mut self, number: u64, res: i32, bytes: [u8; 64]) -> Answer {
+        let mut answer = ffi::Answer::ZERO;
+        // SAFETY: as in `step`.
+        unsafe {
+            ffi::wulgach_core_finish(
+                self.place.get_mut(),
+                number,
+                res,
+                &ffi::Bytes { bytes },
+                &mut answer,
+            )
+        };
+        Answer::of(&answer)
+    }
+
+    /// How far the core has come.
+    pub fn counts(&self) -> Counts {
+        let mut counts = reading::NO_COUNTS;
+        // SAFETY: the place is full, no reference to it is handed out, and a core is used by one thread.
+        unsafe { ffi::wulgach_core_counts(self.place.get(), &mut counts) };
+        reading::counts(&counts)
+    }
+
+    /// The completion at this index among those posted and not reaped, the oldest first.
+    pub fn rest(&self, index: u64) -> Option<Completion> {
+        let mut completion = reading::NO_COMPLETION;
+        // SAFETY: as in `counts`.
+        let result = unsafe { ffi::wulgach_core_rest(self.place.get(), index, &mut completion) };
+        (result == 0).then(|| reading::completion(&completion))
+    }
+
+    /// The least outstanding request, which is the next to go on if nothing else can.
+    pub fn least(&self) -> Option<u64> {
+        let mut number = 0;
+        // SAFETY: as in `counts`.
+        let result = unsafe { ffi::wulgach_core_least(self.place.get(), &mut number) };
+        (result == 0).then_some(number)
+    }
+
+    /// What the request of this number asks for, if it is running.
+    pub fn running_op(&self, number: u64) -> Option<Operation> {
+        let mut operation = reading::NO_OPERATION;
+        // SAFETY: as in `counts`.
+        let result =
+            unsafe { ffi::wulgach_core_running_op(self.place.get(), number, &mut operation) };
+        (result == 0).then(|| reading::operation(&operation))
+    }
+}
+
+impl Drop for Core {
+    fn drop(&mut self) {
+        // SAFETY: the place is full, and isn't used again.
+        unsafe { ffi::wulgach_core_free(self.place.get_mut()) };
+    }
+}

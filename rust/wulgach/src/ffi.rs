@@ -1,0 +1,136 @@
+//! The structs and functions of `c/wulgach.h`.
+
+use std::ffi::c_void;
+
+/// A place for a core or a machine. All zero: empty.
+#[repr(C)]
+#[derive(Debug)]
+pub struct Place {
+    pub at: *mut c_void,
+    pub is_full: bool,
+}
+
+impl Place {
+    pub const fn empty() -> Place {
+        Place {
+            at: std::ptr::null_mut(),
+            is_full: false,
+        }
+    }
+}
+
+#[repr(C)]
+pub struct Setup {
+    pub sq: u32,
+    pub cq: u32,
+    pub files: u32,
+    pub start: u32,
+    pub has_cq: bool,
+}
+
+#[repr(C)]
+pub struct Step {
+    pub kind: u32,
+    pub word: u32,
+    pub number: u64,
+    pub entry: [u64; 16],
+}
+
+#[repr(C)]
+pub struct Answer {
+    pub kind: u32,
+    pub word: u32,
+    pub dropped: u32,
+    pub head: u32,
+    pub number: u64,
+    pub entry: [u64; 16],
+    pub res: i32,
+    pub bytes: [u8; 64],
+}
+
+impl Answer {
+    pub const ZERO: Answer = Answer {
+        kind: 0,
+        word: 0,
+        dropped: 0,
+        head: 0,
+        number: 0,
+        entry: [0; 16],
+        res: 0,
+        bytes: [0; 64],
+    };
+}
+
+#[repr(C)]
+pub struct Bytes {
+    pub bytes: [u8; 64],
+}
+
+#[repr(C)]
+pub struct Counts {
+    pub accepted: u64,
+    pub outstanding: u64,
+    pub running: u64,
+    pub posted: u64,
+    pub reaped: u64,
+}
+
+#[repr(C)]
+pub struct Completion {
+    pub user_data: u64,
+    pub res: i32,
+    pub bytes: [u8; 64],
+}
+
+#[repr(C)]
+pub struct Operation {
+    pub code: u32,
+    pub fd: i32,
+    pub off: u64,
+    pub target: u64,
+    pub len: u32,
+    pub bytes: [u8; 64],
+}
+
+#[repr(C)]
+pub struct File {
+    pub writes: u64,
+    pub synced: u64,
+    pub len: u32,
+}
+
+extern "C" {
+    pub fn wulgach_core_new(core: *mut Place, setup: *const Setup) -> i32;
+    pub fn wulgach_core_step(core: *mut Place, step: *const Step, answer: *mut Answer) -> i32;
+    pub fn wulgach_core_finish(
+        core: *mut Place,
+        number: u64,
+        res: i32,
+        bytes: *const Bytes,
+        answer: *mut Answer,
+    ) -> i32;
+    pub fn wulgach_core_counts(core: *mut Place, counts: *mut Counts) -> i32;
+    pub fn wulgach_core_rest(core: *mut Place, index: u64, completion: *mut Completion) -> i32;
+    pub fn wulgach_core_running_op(core: *mut Place, number: u64, operation: *mut Operation)
+        -> i32;
+    pub fn wulgach_core_least(core: *mut Place, number: *mut u64) -> i32;
+    pub fn wulgach_core_free(core: *mut Place) -> i32;
+    pub fn wulgach_machine_new(machine: *mut Place, setup: *const Setup) -> i32;
+    pub fn wulgach_machine_step(machine: *mut Place, step: *const Step, answer: *mut Answer)
+        -> i32;
+    pub fn wulgach_machine_counts(machine: *mut Place, counts: *mut Counts) -> i32;
+    pub fn wulgach_machine_rest(
+        machine: *mut Place,
+        index: u64,
+        completion: *mut Completion,
+    ) -> i32;
+    pub fn wulgach_machine_running_op(
+        machine: *mut Place,
+        number: u64,
+        operation: *mut Operation,
+    ) -> i32;
+    pub fn wulgach_machine_state(machine: *mut Place, fd: i32, file: *mut File) -> i32;
+    pub fn wulgach_machine_byte(machine: *mut Place, fd: i32, at: u64, byte: *mut u8) -> i32;
+    pub fn wulgach_machine_least(machine: *mut Place, number: *mut u64) -> i32;
+    pub fn wulgach_machine_free(machine: *mut Place) -> i32;
+}

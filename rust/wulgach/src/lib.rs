@@ -1,0 +1,30 @@
+//! The io_uring protocol of Linux as a core in user space, proved correct.
+//!
+//! A [`Core`] is a pair of rings and its requests, moved one [`Step`] at a time. The two sides of the rings, the application and the dispatcher (the kernel's side), make their steps in any order; each step has one [`Answer`]. A core carries nothing out: the caller says how a running request ended. A [`Machine`] is a core with files in memory.
+//!
+//! # What is proved, and what isn't
+//!
+//! The library below, `libwulgach.a`, is proved: after any calls in any order, each answer is the one that the definitions of the protocol give for the calls before it. This crate isn't proved: it is a thin layer over that library's header, `c/wulgach.h`, and is tested. Nor are the Rust compiler, the linker and the allocator of C.
+//!
+//! # Building
+//!
+//! The build looks for `libwulgach.a` in the folder that the variable `WULGACH_LIB_DIR` names, else asks `pkg-config`, else looks into `c/out` of the repository.
+
+mod answer;
+mod core;
+mod entry;
+mod error;
+mod ffi;
+mod machine;
+mod reading;
+mod setup;
+mod step;
+
+pub use crate::answer::{Answer, Completion};
+pub use crate::core::Core;
+pub use crate::entry::{flags, Entry};
+pub use crate::error::Error;
+pub use crate::machine::Machine;
+pub use crate::reading::{Counts, FileState, Operation};
+pub use crate::setup::Setup;
+pub use crate::step::Step;

@@ -1,0 +1,126 @@
+use crate::answer::{Answer, Completion};
+use crate::error::{made, Error};
+use crate::ffi::{self, Place};
+use crate::reading::{self, Counts, FileState, Operation};
+use crate::setup::Setup;
+use crate::step::Step;
+use std::cell::UnsafeCell;
+
+/// A pair of rings, its requests and up to 64 files in memory, of at most 65,536 bytes each.
+///
+/// It stays on the thread that made it, since crossing isn't proved: it is neither `Send` nor `Sync`.
+///
+/// ```
+/// use wulgach::{flags, Answer, Entry, Machine, Setup, Step};
+///
+/// # fn main() -> Result<(), wulgach::Error> {
+/// let mut machine = Machine::new(&Setup::default())?;
+/// let chain = [Entry::write(1, flags::IO_LINK, 0, 0, b"hello"), Entry::fsync(2, 0, 0)];
+/// for (slot, entry) in (0..).zip(chain) {
+///     machine.step(Step::Fill { slot, entry });
+///     machine.step(Step::Index { word: slot });
+/// }
+/// machine.step(Step::StoreTail);
+/// machine.step(Step::Begin { count: 2 });
+/// machine.step(Step::Take);
+/// machine.step(Step::Take);
+/// assert_eq!(machine.step(Step::End), Answer::Taken { accepted: 2, dropped: 0, head: 2 });
+///
+/// assert_eq!(machine.step(Step::Issue { number: 1 }), Answer::NotReady);
+/// while let Answer::Next(number) = machine.step(Step::Next) {
+///     machine.step(Step::Issue { number });
+///     machine.step(Step::Finish { number });
+/// }
+/// assert_eq!(machine.byte(0, 4), Some(b'o'));
+/// assert_eq!(machine.state(0).map(|file| file.synced), Some(1));
+/// # Ok(())
+/// # }
+/// ```
+#[derive(Debug)]
+pub struct Machine {
+    place: UnsafeCell<Place>,
+}
+
+impl Machine {
+    /// A new machine, its files empty.
+    pub fn new(setup: &Setup) -> Result<Machine, Error> {
+        let mut place = Place::empty();
+        // SAFETY: the place is empty, and the structs are those of the header.
+        made(unsafe { ffi::wulgach_machine_new(&mut place, &setup.words()) })?;
+        Ok(Machine {
+            place: UnsafeCell::new(place),
+        })
+    }
+
+    /// Makes one step, and returns its answer.
+    pub fn step(&mut self, step: Step) -> Answer {
+        let mut answer = ffi::Answer::ZERO;
+        // SAFETY: the place is full from `new` on, and lent to this call alone.
+        unsafe { ffi::wulgach_machine_step(self.place.get_mut(), &step.words(), &mut answer) };
+        Answer::of(&answer)
+    }
+
+    /// How far the machine has come.
+    pub fn counts(&self) -> Counts {
+        let mut counts = reading::NO_COUNTS;
+        // SAFETY: the place is full, no reference to it is handed out, and a machine is used by one thread.
+        unsafe { ffi::wulgach_machine_counts(self.place.get(), &mut counts) };
+        reading::counts(&counts)
+    }
+
+    /// The completion at this index among those posted and not reaped, the oldest first.
+    pub fn rest(&self, index: u64) -> Option<Completion> {
+        let mut completion = reading::NO_COMPLETION;
+        // SAFETY: as in `counts`.
+        let result = unsafe { ffi::wulgach_machine_rest(self.place.get(), index, &mut completion) };
+        (result == 0).then(|| reading::completion(&completion))
+    }
+
+    /// The least outstanding request, which is the next to go on if nothing else can.
+    pub fn least(&self) -> Option<u64> {
+        let mut number = 0;
+        // SAFETY: as in `counts`.
+        let result = unsafe { ffi::wulgach_machine_least(self.place.get(), &mut number) };
+        (result == 0).then_some(number)
+    }
+
+    /// What the request of this number asks for, if it is running.
+    pub fn running_op(&self, number: u64) -> Option<Operation> {
+        let mut operation = reading::NO_OPERATION;
+        // SAFETY: as in `counts`.
+        let result =
+            unsafe { ffi::wulgach_machine_running_op(self.place.get(), number, &mut operation) };
+        (result == 0).then(|| reading::operation(&operation))
+    }
+
+    /// How the file of a descriptor stands.
+    pub fn state(&self, fd: i32) -> Option<FileState> {
+        let mut file = ffi::File {
+            writes: 0,
+            synced: 0,
+            len: 0,
+        };
+        // SAFETY: as in `counts`.
+        let result = unsafe { ffi::wulgach_machine_state(self.place.get(), fd, &mut file) };
+        (result == 0).then_some(FileState {
+            len: file.len,
+            writes: file.writes,
+            synced: file.synced,
+        })
+    }
+
+    /// The byte at an offset of the file of a descriptor.
+    pub fn byte(&self, fd: i32, at: u64) -> Option<u8> {
+        let mut byte = 0;
+        // SAFETY: as in `counts`.
+        let result = unsafe { ffi::wulgach_machine_byte(self.place.get(), fd, at, &mut byte) };
+        (result == 0).then_some(byte)
+    }
+}
+
+impl Drop for Machine {
+    fn drop(&mut self) {
+        // SAFETY: the place is full, and isn't used again.
+        unsafe { ffi::wulgach_machine_free(self.place.get_mut()) };
+    }
+}
