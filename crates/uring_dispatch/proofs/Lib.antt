@@ -1,6 +1,9 @@
-pub mod Extents
-pub mod Standing
-pub mod Changes
+pub mod Counting
+pub mod WindowLemmas
+pub mod BarrierLemmas
+pub mod HeldLemmas
+pub mod EndLemmas
 pub mod Issues
-pub mod Numbers
+pub mod Changes
+pub mod Accepts
 pub mod Views
