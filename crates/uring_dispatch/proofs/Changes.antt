@@ -15,7 +15,7 @@ use Rattle.uring_dispatch.specs.declared.request.Request.{Request}
 use Rattle.uring_dispatch.specs.Window.{Window, at, end_of, one_if, Changes, started, chosen, IsAsBefore}
 use Rattle.uring_dispatch.specs.Groups.{Groups, group_at, IsBeyond}
 use Rattle.uring_dispatch.specs.Held.{IsSound, IsShown, AreHeld}
-use Rattle.uring_dispatch.proofs.WindowLemmas.{at-past}
+use Rattle.uring_dispatch.proofs.WindowFront.{at-past}
 use Rattle.uring_dispatch.proofs.Counting.{count_below-changed}
 use Rattle.uring_dispatch.proofs.HeldLemmas.{some_none, same_some, shown-within, running-some}
 

@@ -1,9 +1,14 @@
 pub mod Counting
 pub mod WindowLemmas
+pub mod WindowEvents
+pub mod WindowFront
 pub mod BarrierLemmas
+pub mod GroupsKept
 pub mod HeldLemmas
 pub mod EndLemmas
+pub mod EndsHeld
 pub mod Issues
 pub mod Changes
 pub mod Accepts
+pub mod AcceptsHeld
 pub mod Views

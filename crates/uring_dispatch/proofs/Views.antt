@@ -13,7 +13,7 @@ use Rattle.uring_dispatch.specs.declared.issue_answer.Issued.{Issued}
 use Rattle.uring_dispatch.specs.declared.issue_answer.Issued.TheVariants.{Run, Ended, NotReady, Running, Unknown}
 use Rattle.uring_dispatch.specs.declared.finish_answer.Finished.{Finished}
 use Rattle.uring_dispatch.specs.declared.finish_answer.Finished.TheVariants as finish
-use Rattle.uring_dispatch.proofs.WindowLemmas.{at-room}
+use Rattle.uring_dispatch.proofs.WindowFront.{at-room}
 use Rattle.uring_dispatch.proofs.HeldLemmas.{is_some_value, some_none, shown-within, outstanding-none, outstanding-some, running-some}
 
 -- the room isn't part of what is shown

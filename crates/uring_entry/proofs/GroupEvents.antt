@@ -149,10 +149,13 @@ first_member-changed p q from end n le lt was others =
     kept : (o : Option ℕ) → earlier_of o false n ≡ o
     kept None = refl
     kept (Some m) = refl
+
     at_n : q n ≡ true → (leb from n && q n) ≡ true
     at_n holds = and_from _ _ (le-leb from n le) holds
+
     at_other : (m : ℕ) → m ≢ n → (leb from m && q m) ≡ (leb from m && p m)
     at_other m ne = ap (λ b. leb from m && b) (others m ne)
+
     here : (o : Option ℕ) → least_below (λ m. leb from m && p m) end ≡ o → q n ≡ true → least_below (λ m. leb from m && q m) end ≡ earlier_of o true n
     here None e holds =
         least_below-some (λ m. leb from m && q m) end n lt (at_n holds)

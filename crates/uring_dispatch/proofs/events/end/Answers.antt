@@ -5,7 +5,8 @@ use Rattle.uring_entry.specs.Groups.{earlier_of}
 use Rattle.uring_dispatch.specs.Window.{end_of, one_if}
 use Rattle.uring_dispatch.specs.Groups.{Groups, IsBeyond}
 use Rattle.uring_dispatch.specs.Held.{HasLost}
-use Rattle.uring_dispatch.proofs.EndLemmas.{Ends, end-sound_last, end-sound_more, end-held, shows-none, shows-more}
+use Rattle.uring_dispatch.proofs.EndLemmas.{Ends, end-sound_last, end-sound_more}
+use Rattle.uring_dispatch.proofs.EndsHeld.{end-held, shows-none, shows-more}
 use Rattle.uring_dispatch.proofs.events.end.Goals as goal
 
 pub group_of-group-requires : goal.group_of-group-requires

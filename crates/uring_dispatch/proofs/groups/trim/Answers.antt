@@ -5,7 +5,8 @@ use Rattle.std.specs.List.{list_any}
 use Rattle.slab.specs.Slab.{get}
 use Rattle.uring_dispatch.specs.declared.group.Barrier.{Barrier}
 use Rattle.uring_dispatch.specs.Groups.{covers, IsSorted, IsBeyond, drain_of}
-use Rattle.uring_dispatch.proofs.BarrierLemmas.{popped-barrier, covered-pop, beyond-pop, sorted-pop, starts_at-no, starts_at-yes, head_at}
+use Rattle.uring_dispatch.proofs.BarrierLemmas.{popped-barrier, covered-pop, beyond-pop}
+use Rattle.uring_dispatch.proofs.GroupsKept.{sorted-pop, starts_at-no, starts_at-yes, head_at}
 use Rattle.uring_dispatch.proofs.groups.trim.Goals as goal
 
 pub loop-barrier-preserved : goal.loop-barrier-preserved

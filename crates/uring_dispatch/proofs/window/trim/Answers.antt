@@ -2,7 +2,8 @@ use Rattle.std.proofs.Common.{◌≡◌, ◌<◌, sym, ◌∙◌, ap, arith, len
 use Rattle.std.specs.Option.{option_to_list}
 use Rattle.std.specs.VecDeque.{deque_len}
 use Rattle.uring_dispatch.specs.Window.{key_at}
-use Rattle.uring_dispatch.proofs.WindowLemmas.{popped, key_at-pop}
+use Rattle.uring_dispatch.proofs.WindowLemmas.{key_at-pop}
+use Rattle.uring_dispatch.proofs.WindowFront.{popped}
 use Rattle.uring_dispatch.proofs.window.trim.Goals as goal
 
 pub loop-keys-preserved : goal.loop-keys-preserved

@@ -3,7 +3,8 @@ use Rattle.std.proofs.lemmas.Bool.{false≢true}
 use Rattle.uring_dispatch.specs.declared.request.Request.{Request}
 use Rattle.uring_dispatch.specs.Dispatch.{Dispatch}
 use Rattle.uring_dispatch.proofs.Views.{held-from, shows-held}
-use Rattle.uring_dispatch.proofs.Accepts.{accepts, accept-sound, accept-held, kept-op}
+use Rattle.uring_dispatch.proofs.Accepts.{accept-sound}
+use Rattle.uring_dispatch.proofs.AcceptsHeld.{accepts, accept-held, kept-op}
 use Rattle.uring_dispatch.proofs.dispatch.Dispatch.accept.Goals as goal
 
 pub invariant_of-self : goal.invariant_of-self

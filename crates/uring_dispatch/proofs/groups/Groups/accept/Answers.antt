@@ -1,7 +1,7 @@
 use Rattle.std.proofs.Common.{arith, ap, ◌∙◌, Some}
 use Rattle.uring_dispatch.specs.declared.group.Group.{Group}
 use Rattle.uring_dispatch.specs.Groups.{Groups, with_barrier}
-use Rattle.uring_dispatch.proofs.BarrierLemmas.{IsAccepted, accept-groups, accept-front, beyond-with, only_key, last-kept}
+use Rattle.uring_dispatch.proofs.GroupsKept.{IsAccepted, accept-groups, accept-front, beyond-with, only_key, last-kept}
 use Rattle.uring_dispatch.proofs.groups.Groups.accept.Goals as goal
 
 pub invariant_of-self : goal.invariant_of-self

@@ -1,6 +1,6 @@
 use Rattle.std.proofs.Common.{◌≡◌, ◌<◌, inl, inr, length, arith, refl}
 use Rattle.std.proofs.lemmas.Bool.{ltb-true, ltb-false, cases_lt, false≢true}
-use Rattle.uring_dispatch.proofs.BarrierLemmas.{before-held, before-free, none-free}
+use Rattle.uring_dispatch.proofs.GroupsKept.{before-held, before-free, none-free}
 use Rattle.uring_dispatch.proofs.groups.Groups.has_barrier_before.Goals as goal
 
 pub returns-in-Some-clause-held : goal.returns-in-Some-clause-held

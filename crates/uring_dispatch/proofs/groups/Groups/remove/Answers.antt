@@ -1,6 +1,6 @@
 use Rattle.std.proofs.Common.{arith, ap, ◌∙◌}
 use Rattle.uring_dispatch.specs.Groups.{Groups}
-use Rattle.uring_dispatch.proofs.BarrierLemmas.{remove-groups}
+use Rattle.uring_dispatch.proofs.GroupsKept.{remove-groups}
 use Rattle.uring_dispatch.proofs.groups.Groups.remove.Goals as goal
 
 pub invariant_of-self : goal.invariant_of-self

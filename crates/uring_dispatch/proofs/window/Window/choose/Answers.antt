@@ -1,6 +1,7 @@
 use Rattle.std.proofs.Common.{arith, sym, ◌∙◌, ap, is_some}
 use Rattle.uring_dispatch.specs.Window.{Window, at}
-use Rattle.uring_dispatch.proofs.WindowLemmas.{by_key, keyless, write-changes, choose-window}
+use Rattle.uring_dispatch.proofs.WindowEvents.{write-changes}
+use Rattle.uring_dispatch.proofs.WindowFront.{by_key, keyless, choose-window}
 use Rattle.uring_dispatch.proofs.window.Window.choose.Goals as goal
 
 pub unreachable-requires : goal.unreachable-requires

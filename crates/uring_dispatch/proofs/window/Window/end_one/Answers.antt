@@ -2,7 +2,9 @@ use Rattle.std.proofs.Common.{◌-◌, arith, sym, ◌∙◌, ap, is_some, None}
 use Rattle.std.proofs.lemmas.List.{length-set}
 use Rattle.slab.specs.Slab.{slab_len}
 use Rattle.uring_dispatch.specs.Window.{Window, key_at, at}
-use Rattle.uring_dispatch.proofs.WindowLemmas.{by_key, keyless, key_at-within, ended-counted, end-changes, end-window, trim-changes, trim-window}
+use Rattle.uring_dispatch.proofs.WindowLemmas.{key_at-within}
+use Rattle.uring_dispatch.proofs.WindowEvents.{end-changes, end-window, trim-changes, trim-window}
+use Rattle.uring_dispatch.proofs.WindowFront.{by_key, keyless, ended-counted}
 use Rattle.uring_dispatch.proofs.window.Window.end_one.Goals as goal
 
 pub unreachable-requires : goal.unreachable-requires

@@ -1,4 +1,4 @@
-use Rattle.uring_dispatch.proofs.WindowLemmas.{before-none}
+use Rattle.uring_dispatch.proofs.WindowFront.{before-none}
 use Rattle.std.proofs.Common.{arith}
 use Rattle.uring_dispatch.proofs.window.Window.first.Goals as goal
 

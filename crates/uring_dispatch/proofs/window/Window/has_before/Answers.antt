@@ -1,6 +1,6 @@
 use Rattle.std.proofs.Common.{◌≡◌, ◌<◌, length, arith, sym, ◌∙◌}
 use Rattle.std.proofs.lemmas.Bool.{ltb-true, ltb-false, eqb-true, eqb-false}
-use Rattle.uring_dispatch.proofs.WindowLemmas.{at-empty, before-some, before-none}
+use Rattle.uring_dispatch.proofs.WindowFront.{at-empty, before-some, before-none}
 use Rattle.uring_dispatch.proofs.window.Window.has_before.Goals as goal
 
 pub returns-then-not-is_empty-clause-some : goal.returns-then-not-is_empty-clause-some

@@ -1,6 +1,6 @@
 use Rattle.std.proofs.Common.{sym, ◌∙◌, arith, length, ◌<◌}
 use Rattle.std.proofs.lemmas.Bool.{eqb-true, eqb-false}
-use Rattle.uring_dispatch.proofs.WindowLemmas.{at-empty, first-outstanding}
+use Rattle.uring_dispatch.proofs.WindowFront.{at-empty, first-outstanding}
 use Rattle.uring_dispatch.proofs.window.Window.least.Goals as goal
 
 pub returns-then-is_empty : goal.returns-then-is_empty

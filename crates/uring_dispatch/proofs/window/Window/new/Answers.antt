@@ -1,5 +1,5 @@
 use Rattle.std.proofs.Common.{arith, refl}
-use Rattle.uring_dispatch.proofs.WindowLemmas.{at-empty, empty-window}
+use Rattle.uring_dispatch.proofs.WindowFront.{at-empty, empty-window}
 use Rattle.uring_dispatch.proofs.window.Window.new.Goals as goal
 
 pub invariant_of-result : goal.invariant_of-result

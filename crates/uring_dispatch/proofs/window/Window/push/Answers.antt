@@ -1,6 +1,7 @@
 use Rattle.std.proofs.Common.{arith, ap}
 use Rattle.uring_dispatch.specs.Window.{Window}
-use Rattle.uring_dispatch.proofs.WindowLemmas.{push-changes, push-window, trimmed-push}
+use Rattle.uring_dispatch.proofs.WindowEvents.{push-changes, push-window}
+use Rattle.uring_dispatch.proofs.WindowFront.{trimmed-push}
 use Rattle.uring_dispatch.proofs.window.Window.push.Goals as goal
 
 pub invariant_of-self : goal.invariant_of-self

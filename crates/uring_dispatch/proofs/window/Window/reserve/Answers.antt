@@ -2,7 +2,7 @@ use Rattle.std.proofs.Common.{arith, ap}
 use Rattle.slab.specs.Slab.{Slab}
 use Rattle.uring_dispatch.specs.declared.request.Request.{Request}
 use Rattle.uring_dispatch.specs.Window.{end_of}
-use Rattle.uring_dispatch.proofs.WindowLemmas.{room-window}
+use Rattle.uring_dispatch.proofs.WindowFront.{room-window}
 use Rattle.uring_dispatch.proofs.window.Window.reserve.Goals as goal
 
 pub invariant_of-self-2 : goal.invariant_of-self-2

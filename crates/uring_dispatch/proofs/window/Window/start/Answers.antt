@@ -1,6 +1,7 @@
 use Rattle.std.proofs.Common.{arith, sym, ◌∙◌, ap, is_some}
 use Rattle.uring_dispatch.specs.Window.{Window, at, runs}
-use Rattle.uring_dispatch.proofs.WindowLemmas.{by_key, keyless, write-changes, start-window, running-fits}
+use Rattle.uring_dispatch.proofs.WindowEvents.{write-changes}
+use Rattle.uring_dispatch.proofs.WindowFront.{by_key, keyless, start-window, running-fits}
 use Rattle.uring_dispatch.proofs.window.Window.start.Goals as goal
 
 pub unreachable-requires : goal.unreachable-requires
