@@ -16,8 +16,8 @@ use Rattle.uring_entry.specs.declared.operation.Op.{Op}
 use Rattle.uring_rings.specs.Sq.{Sq, ShowsSubmission}
 use Rattle.uring_rings.specs.SqAnswers as ring
 use Rattle.uring_rings.specs.Cq.{Cq, ShowsCompletions}
-use Rattle.uring_rings.specs.declared.answers.end_answer.EndAnswer.TheVariants as ended_as
-use Rattle.uring_rings.specs.declared.answers.taken_counts.Taken.{Taken}
+use Rattle.uring_rings.specs.declared.answers.EndAnswer.TheVariants as ended_as
+use Rattle.uring_rings.specs.declared.answers.Taken.{Taken}
 use Rattle.uring_dispatch.specs.Dispatch.{Dispatch, ShowsRequests, HasStarted, HasEnded, HasFinished}
 use Rattle.uring_dispatch.specs.IssueAndFinish.{issued, issued_waiting, finished}
 use Rattle.uring_dispatch.specs.declared.issue_answer.Issued.{Issued}

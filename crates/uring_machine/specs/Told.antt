@@ -1,10 +1,10 @@
 -- Glue. What the submission ring answers, as answers of the machine.
-use Rattle.uring_rings.specs.declared.answers.fill_answer.FillAnswer.{FillAnswer}
-use Rattle.uring_rings.specs.declared.answers.fill_answer.FillAnswer.TheVariants as fill
-use Rattle.uring_rings.specs.declared.answers.index_answer.IndexAnswer.{IndexAnswer}
-use Rattle.uring_rings.specs.declared.answers.index_answer.IndexAnswer.TheVariants as index
-use Rattle.uring_rings.specs.declared.answers.begin_answer.BeginAnswer.{BeginAnswer}
-use Rattle.uring_rings.specs.declared.answers.begin_answer.BeginAnswer.TheVariants as begin
+use Rattle.uring_rings.specs.declared.answers.FillAnswer.{FillAnswer}
+use Rattle.uring_rings.specs.declared.answers.FillAnswer.TheVariants as fill
+use Rattle.uring_rings.specs.declared.answers.IndexAnswer.{IndexAnswer}
+use Rattle.uring_rings.specs.declared.answers.IndexAnswer.TheVariants as index
+use Rattle.uring_rings.specs.declared.answers.BeginAnswer.{BeginAnswer}
+use Rattle.uring_rings.specs.declared.answers.BeginAnswer.TheVariants as begin
 use Rattle.uring_machine.specs.declared.answer.Answer.{Answer}
 use Rattle.uring_machine.specs.declared.answer.Answer.TheVariants as answer
 

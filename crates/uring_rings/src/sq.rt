@@ -7,7 +7,6 @@ ghost use Rattle.uring_rings.specs.SqAnswers.{fill_answer, after_fill, index_ans
 
 use crate::answers::{BeginAnswer, EndAnswer, FillAnswer, IndexAnswer, TakeAnswer, Taken};
 use crate::index::Index;
-use crate::open_call::OpenCall;
 use std::alloc::{AllocError, Global};
 use std::marker::Model;
 use uring_entry::{Setup, Sqe};
@@ -30,6 +29,19 @@ pub struct Sq {
     table: Vec<Sqe>,
     // The words that name slots of the table.
     array: Vec<u32>,
+}
+
+/// How far the open submission call has come.
+#[derive(Clone, Copy, Debug, PartialEq, Eq)]
+pub struct OpenCall {
+    /// The positions that it takes.
+    pub count: u32,
+
+    /// Those of them that were taken.
+    pub taken: u32,
+
+    /// Those of the taken ones that had an entry.
+    pub accepted: u32,
 }
 
 impl Model for Sq {
