@@ -1,9 +1,7 @@
 ghost use Rattle.std.specs.Prelude.{◌≡◌, replicate, IfOk, IfSome, OnErr};
 ghost use Rattle.uring_files.specs.Operations as spec;
 
-use crate::file::File;
-use crate::state::FileState;
-use crate::write_fault::WriteFault;
+use crate::file::{File, FileState, WriteFault};
 use std::alloc::{AllocError, Global};
 use std::marker::Model;
 use uring_entry::{Op, Outcome, errno};
