@@ -12,7 +12,7 @@ use Rattle.uring_entry.specs.Requests.{is_running, outstanding_in, running_in}
 use Rattle.uring_entry.specs.declared.operation.Outcome.{Outcome}
 use Rattle.uring_machine.specs.declared.answer.Answer.{Answer}
 use Rattle.uring_machine.specs.declared.answer.Answer.TheVariants as answer
-use Rattle.uring_machine.specs.declared.counts.Counts.{Counts}
+use Rattle.uring_machine.specs.declared.cores.Counts.{Counts}
 use Rattle.uring_machine.specs.declared.step.Step.{Step}
 use Rattle.uring_machine.specs.declared.step.Step.TheVariants as step
 
