@@ -2,7 +2,7 @@
 
 use uring_entry::Sqe;
 
-/// What `Sq::fill` answers. The refusals, in this order, are our own rule.
+/// What `Sq::fill` returns. The refusals, in this order, are our own rule.
 #[derive(Clone, Copy, Debug, PartialEq, Eq)]
 pub enum FillAnswer {
     /// The slot isn't below the ring's size.
@@ -15,7 +15,7 @@ pub enum FillAnswer {
     Filled,
 }
 
-/// What `Sq::index` answers. Our own rule: io_uring(7) leaves it to the application not to fill the ring too far.
+/// What `Sq::index` returns. Our own rule: io_uring(7) leaves it to the application not to fill the ring too far.
 #[derive(Clone, Copy, Debug, PartialEq, Eq)]
 pub enum IndexAnswer {
     /// As many positions as the ring's size are staged or published at or after the head that the application last loaded.
@@ -25,7 +25,7 @@ pub enum IndexAnswer {
     Staged,
 }
 
-/// What `Sq::begin` answers. The number of positions is that of io_uring_enter(2), to_submit; the refusal is our own rule.
+/// What `Sq::begin` returns. The number of positions is that of io_uring_enter(2), to_submit; the refusal is our own rule.
 #[derive(Clone, Copy, Debug, PartialEq, Eq)]
 pub enum BeginAnswer {
     /// A call is open.
@@ -35,7 +35,7 @@ pub enum BeginAnswer {
     Call(u32),
 }
 
-/// What `Sq::take` answers. The refusals, in this order, are our own rule.
+/// What `Sq::take` returns. The refusals, in this order, are our own rule.
 #[derive(Clone, Copy, Debug, PartialEq, Eq)]
 pub enum TakeAnswer {
     /// No call is open.
@@ -64,7 +64,7 @@ pub struct Taken {
     pub head: u32,
 }
 
-/// What `Sq::end` answers. The refusals, in this order, are our own rule.
+/// What `Sq::end` returns. The refusals, in this order, are our own rule.
 #[derive(Clone, Copy, Debug, PartialEq, Eq)]
 pub enum EndAnswer {
     /// No call is open.
