@@ -1,7 +1,7 @@
 use Rattle.std.proofs.Common.{◌≡◌, ◌+◌, ◌++◌, take}
 use Rattle.uring_entry.specs.Requests.{Requests}
 use Rattle.uring_dispatch.specs.Dispatch.{ShowsRequests}
-use Rattle.uring_machine.proofs.acceptance.accept_call.Given as goal
+use Rattle.uring_machine.proofs.cores.accept_call.Given as goal
 
 -- the entries so far are accepted, and there is room for the rest
 abbrev pub invariant-loop-entry : goal.invariant-loop-entry
