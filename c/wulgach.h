@@ -208,6 +208,9 @@ int32_t wulgach_core_rest(struct wulgach_core *core, uint64_t index, struct wulg
 /* Writes what running request number asks for. -2 exactly if it isn't running. */
 int32_t wulgach_core_running_op(struct wulgach_core *core, uint64_t number, struct wulgach_operation *operation);
 
+/* Writes the least outstanding request, which is the next to go on if nothing else can. -2 if nothing is outstanding. */
+int32_t wulgach_core_least(struct wulgach_core *core, uint64_t *number);
+
 /* Frees the core, and leaves the place empty. */
 int32_t wulgach_core_free(struct wulgach_core *core);
 
@@ -217,6 +220,7 @@ int32_t wulgach_machine_step(struct wulgach_machine *machine, const struct wulga
 int32_t wulgach_machine_counts(struct wulgach_machine *machine, struct wulgach_counts *counts);
 int32_t wulgach_machine_rest(struct wulgach_machine *machine, uint64_t index, struct wulgach_completion *completion);
 int32_t wulgach_machine_running_op(struct wulgach_machine *machine, uint64_t number, struct wulgach_operation *operation);
+int32_t wulgach_machine_least(struct wulgach_machine *machine, uint64_t *number);
 int32_t wulgach_machine_free(struct wulgach_machine *machine);
 
 /* Writes how the file of a descriptor stands. -2 if there is no such file. */

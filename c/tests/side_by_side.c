@@ -5,6 +5,8 @@
  * At the end every kind of step and of answer must have come, but for those that need memory to be refused or 2^63 requests.
  *
  *   side_by_side TRACE FIRST_SEED SEEDS STEPS
+ *
+ * If TRACE is a folder, nothing is run: each trace, its options and its answers are written there, as `rt try --cases` takes them.
  */
 #define _POSIX_C_SOURCE 200809L
 #include "wulgach.h"
@@ -13,6 +15,7 @@
 #include <stdio.h>
 #include <stdlib.h>
 #include <string.h>
+#include <sys/stat.h>
 #include <unistd.h>
 
 enum { FILE_SIZE = 65536, MAX_FILES = 64 };
@@ -445,6 +448,14 @@ static void check_counts(const struct model *m, int32_t result, const struct wul
     check(result == 0 && c->accepted == m->accepted && c->outstanding == m->accepted - m->ended && c->running == m->running && c->posted == m->posted_count && c->reaped == m->reaped, "counts");
 }
 
+static void check_least(const struct model *m, int32_t result, const uint64_t *number)
+{
+    uint64_t least = 0;
+    while (least < m->accepted && m->requests[least].state == ENDED)
+        least++;
+    check(result == (least < m->accepted ? 0 : -2) && (result != 0 || *number == least), "the least outstanding request");
+}
+
 static void check_rest(const struct model *m, uint64_t index, int32_t result, const struct wulgach_completion *c)
 {
     if (m->reaped + index >= m->posted_count) {
@@ -489,6 +500,8 @@ static void check_readers(struct wulgach_machine *machine, struct wulgach_core *
     struct wulgach_operation op = {0};
     check_operation(r, wulgach_machine_running_op(machine, number, &op), &op);
     check_operation(r, wulgach_core_running_op(core, number, &op), &op);
+    check_least(m, wulgach_machine_least(machine, &number), &number);
+    check_least(m, wulgach_core_least(core, &number), &number);
     check_file(machine, m, setup);
 }
 
@@ -512,13 +525,21 @@ static struct wulgach_setup random_setup(void)
     return setup;
 }
 
+/* The options of a set-up, with this between two words. */
+static void print_options(char *out, size_t size, const struct wulgach_setup *setup, char between)
+{
+    char cq[32] = "";
+    if (setup->has_cq)
+        snprintf(cq, sizeof cq, "--cq%c%" PRIu32 "%c", between, setup->cq, between);
+    snprintf(out, size, "--sq%c%" PRIu32 "%c%s--files%c%" PRIu32 "%c--start%c%" PRIu32, between, setup->sq, between, cq, between, setup->files, between, between, setup->start);
+}
+
 /* The answers of the program to these lines are this text. */
 static void compare(const char *trace, const char *lines, const struct wulgach_setup *setup, const char *text)
 {
-    char command[1024], cq[32] = "";
-    if (setup->has_cq)
-        snprintf(cq, sizeof cq, " --cq %" PRIu32, setup->cq);
-    snprintf(command, sizeof command, "'%s' trace --sq %" PRIu32 "%s --files %" PRIu32 " --start %" PRIu32 " < '%s'", trace, setup->sq, cq, setup->files, setup->start, lines);
+    char command[1024], options[128];
+    print_options(options, sizeof options, setup, ' ');
+    snprintf(command, sizeof command, "'%s' trace %s < '%s'", trace, options, lines);
     FILE *out = popen(command, "r");
     check(out != NULL, "the trace program doesn't start");
     size_t at = 0;
@@ -532,7 +553,24 @@ static void compare(const char *trace, const char *lines, const struct wulgach_s
     check(pclose(out) == 0, "the trace program fails");
 }
 
-static void play(const char *trace, const char *path, uint32_t steps)
+static void write_file(const char *path, const char *end, const char *head, const char *text)
+{
+    char name[1024];
+    snprintf(name, sizeof name, "%s%s", path, end);
+    FILE *file = fopen(name, "w");
+    check(file && fprintf(file, "%s%s", head, text) >= 0 && fclose(file) == 0, "a file can't be written");
+}
+
+/* Writes what the program is to be given and is to answer beside these lines. */
+static void write_case(const char *lines, const struct wulgach_setup *setup, const char *text)
+{
+    char options[128];
+    print_options(options, sizeof options, setup, '\n');
+    write_file(lines, ".args", "trace\n", options);
+    write_file(lines, ".stdout", "", text);
+}
+
+static void play(const char *trace, bool is_folder, const char *path, uint32_t steps)
 {
     struct wulgach_setup setup = random_setup();
     struct wulgach_machine machine = {0};
@@ -561,7 +599,10 @@ static void play(const char *trace, const char *path, uint32_t steps)
     }
     fclose(lines);
     fclose(answers);
-    compare(trace, path, &setup, text);
+    if (is_folder)
+        write_case(path, &setup, text);
+    else
+        compare(trace, path, &setup, text);
     free(text);
     check(wulgach_machine_free(&machine) == 0 && wulgach_core_free(&core) == 0, "free");
     free(m.requests);
@@ -578,18 +619,22 @@ int main(int argc, char **argv)
     }
     uint64_t first = strtoull(argv[2], NULL, 10), seeds = strtoull(argv[3], NULL, 10);
     uint32_t steps = (uint32_t)strtoul(argv[4], NULL, 10);
-    char path[] = "/tmp/side_by_side.XXXXXX";
-    int fd = mkstemp(path);
-    if (fd < 0)
-        return 2;
-    close(fd);
+    struct stat stat_of;
+    bool is_folder = stat(argv[1], &stat_of) == 0 && S_ISDIR(stat_of.st_mode);
+    char path[1024] = "/tmp/side_by_side.XXXXXX";
+    int fd = is_folder ? -1 : mkstemp(path);
+    if (fd >= 0)
+        close(fd);
     for (seed = first; seed < first + seeds; seed++) {
         rng_state = seed * 0x9e3779b97f4a7c15u | 1;
         for (int i = 0; i < 8; i++)
             roll();
-        play(argv[1], path, steps);
+        if (is_folder)
+            snprintf(path, sizeof path, "%s/seed_%" PRIu64, argv[1], seed);
+        play(argv[1], is_folder, path, steps);
     }
-    unlink(path);
+    if (!is_folder)
+        unlink(path);
     for (int kind = 0; kind < 15; kind++)
         check(steps_seen[kind] > 0, words[kind]);
     for (int kind = 0; kind < 29; kind++)
@@ -597,6 +642,6 @@ int main(int argc, char **argv)
             fprintf(stderr, "side_by_side: no answer of kind %d\n", kind);
             return 1;
         }
-    printf("%" PRIu64 " traces of %" PRIu32 " steps: the same answers\n", seeds, steps);
+    printf("%" PRIu64 " traces of %" PRIu32 " steps: %s\n", seeds, steps, is_folder ? "written" : "the same answers");
     return 0;
 }

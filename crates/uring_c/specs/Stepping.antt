@@ -1,6 +1,6 @@
 -- What a call makes of what a place holds.
 use Rattle.std.specs.Prelude.{◌≡◌, ℕ, ◌∷◌, Option, IsSomeAnd}
-use Rattle.uring_entry.specs.declared.outcomes.Outcome.{Outcome}
+use Rattle.uring_entry.specs.declared.operation.Outcome.{Outcome}
 use Rattle.uring_machine.specs.CalledFor.{CalledFor}
 use Rattle.uring_machine.specs.Core.{Core, FitsApart, IsFinished, IsShortOfMemory, HasNoLessMemory}
 use Rattle.uring_machine.specs.Histories.{History, world}
@@ -32,6 +32,9 @@ pub record Stepped (s : Step) (a : Answer) (old new : Machine) : Type 0 where
   pub setup : new.core.setup ≡ old.core.setup
   pub fits : (h : History) → Fits old h → Fits new ((s, a) ∷ h)
   pub called : (h : History) → Fits old h → CalledFor old.core.setup (world old.core.setup h) s a
+  -- Again comes only if memory is short, and memory that was once had is never refused again
+  pub again : (h : History) → Fits old h → a ≡ answer.Again → IsShortOfMemory old.core (world old.core.setup h) s
+  pub memory : HasNoLessMemory old.core new.core
 
 -- The core of a place has made this step, and these words tell its answer.
 pub record TellsStepApart (s : Step) (old new : Option Core) (words : AnswerWords) : Type 0 where

@@ -1,7 +1,7 @@
 //! The calls of a core, made on the core in a place. Each takes the core out, and puts it back; its box doesn't move.
 ghost use Rattle.std.specs.Prelude.{◌≡◌, [], IsSome, IfOk, IsSomeAnd, slice_get};
 ghost use Rattle.uring_entry.specs.Completions.{unreaped};
-ghost use Rattle.uring_entry.specs.Requests.{operation_running};
+ghost use Rattle.uring_entry.specs.Requests.{least_of, operation_running};
 ghost use Rattle.uring_machine.specs.Core.{FitsApart, IsCounts, IsNoFinish};
 ghost use Rattle.uring_machine.specs.Histories.{History, world};
 ghost use Rattle.uring_c.specs.Places.{core_in};
@@ -72,6 +72,20 @@ impl CorePlace {
         let completion = core.rest(place);
         self.put(core);
         completion
+    }
+
+    /// The least outstanding request.
+    pub(crate) fn least(&mut self, alloc: Global) -> Option<u64>
+        requires { IsSome (core_in self.old) }
+        ensures kept { core_in self.new ≡ core_in self.old }
+        ensures least { IsSomeAnd (core_in self.old) (λ core. (h : History) → FitsApart core h → result ≡ least_of (world core.setup h).requests) }
+    {
+        let Some(core) = self.take(alloc) else {
+            unreachable!()
+        };
+        let least = core.least();
+        self.put(core);
+        least
     }
 
     /// The operation of a running request.

@@ -1,7 +1,7 @@
 //! The calls of a machine, made on the machine in a place. Each takes the machine out, and puts it back; its box doesn't move.
 ghost use Rattle.std.specs.Prelude.{◌≡◌, [], IsSome, IfOk, IsSomeAnd, slice_get};
 ghost use Rattle.uring_entry.specs.Completions.{unreaped};
-ghost use Rattle.uring_entry.specs.Requests.{operation_running};
+ghost use Rattle.uring_entry.specs.Requests.{least_of, operation_running};
 ghost use Rattle.uring_machine.specs.Core.{IsCounts};
 ghost use Rattle.uring_machine.specs.CalledFor.{files_of};
 ghost use Rattle.uring_machine.specs.Histories.{History, world};
@@ -61,6 +61,20 @@ impl MachinePlace {
         let completion = machine.rest(place);
         self.put(machine);
         completion
+    }
+
+    /// The least outstanding request.
+    pub(crate) fn least(&mut self, alloc: Global) -> Option<u64>
+        requires { IsSome (machine_in self.old) }
+        ensures kept { machine_in self.new ≡ machine_in self.old }
+        ensures least { IsSomeAnd (machine_in self.old) (λ machine. (h : History) → Fits machine h → result ≡ least_of (world machine.core.setup h).requests) }
+    {
+        let Some(machine) = self.take(alloc) else {
+            unreachable!()
+        };
+        let least = machine.least();
+        self.put(machine);
+        least
     }
 
     /// The operation of a running request.

@@ -3,7 +3,7 @@
 //! Each returns 0, or the negative of an error number: -9 (EBADF) exactly at an empty place.
 ghost use Rattle.std.specs.Prelude.{◌≡◌, ◌↔◌, [], pos, neg_ℤ, None, IsSome, IfSome, IsSomeAnd, MatchOption, slice_get};
 ghost use Rattle.uring_entry.specs.Completions.{unreaped};
-ghost use Rattle.uring_entry.specs.Requests.{operation_running};
+ghost use Rattle.uring_entry.specs.Requests.{least_of, operation_running};
 ghost use Rattle.uring_entry.specs.declared.errno.TheConstants.{EBADF, EINVAL, ENOENT, ENOMEM};
 ghost use Rattle.uring_machine.specs.Core.{IsCounts};
 ghost use Rattle.uring_machine.specs.CalledFor.{files_of};
@@ -111,6 +111,27 @@ pub extern "C" fn wulgach_machine_rest(
         return -errno::ENOENT;
     };
     *completion = completion_words(&found);
+    0
+}
+
+/// Writes the least outstanding request. -2 (ENOENT) if nothing is outstanding.
+#[unsafe(no_mangle)]
+pub extern "C" fn wulgach_machine_least(
+    alloc: Global,
+    place: &mut MachinePlace,
+    number: &mut u64,
+) -> i32
+    ensures empty { (result ≡ neg_ℤ EBADF) ↔ (machine_in place.old ≡ None) }
+    ensures kept { machine_in place.new ≡ machine_in place.old }
+    ensures least { IfSome (machine_in place.old) (λ machine. (h : History) → Fits machine h → MatchOption (least_of (world machine.core.setup h).requests) ((result ≡ neg_ℤ ENOENT) × (number.new ≡ number.old)) (λ least. (result ≡ pos 0) × (number.new ≡ least))) }
+{
+    if !place.is_full {
+        return -errno::EBADF;
+    }
+    let Some(found) = place.least(alloc) else {
+        return -errno::ENOENT;
+    };
+    *number = found;
     0
 }
 

@@ -1,16 +1,18 @@
 -- Glue. The dispatcher as its callers see it.
-use Rattle.std.specs.Prelude.{◌≡◌, ℕ, ◌+◌, ◌-◌, ◌≤◌, Bool, true, not, ◌||◌, ◌==◌, List, length, count_by}
+use Rattle.std.specs.Prelude.{◌≡◌, ℕ, ◌+◌, ◌<◌, ◌≤◌, ◌^◌, Bool, true, None, length}
 use Rattle.uring_entry.specs.Requests.{Requests, outstanding_in, running_in}
-use Rattle.uring_dispatch.specs.declared.request.Request.{Request}
-use Rattle.uring_dispatch.specs.Held.{AreHeld, request_at, is_over, is_running}
+use Rattle.uring_dispatch.specs.Window.{Window, end_of}
+use Rattle.uring_dispatch.specs.Groups.{Groups}
+use Rattle.uring_dispatch.specs.Held.{AreHeld, IsSound}
 use Rattle.uring_dispatch.specs.declared.issue_answer.Issued.{Issued}
 use Rattle.uring_dispatch.specs.declared.issue_answer.Issued.TheVariants.{Run, Ended}
 use Rattle.uring_dispatch.specs.declared.finish_answer.Finished.{Finished}
 use Rattle.uring_dispatch.specs.declared.finish_answer.Finished.TheVariants as finish
 
 -- what the dispatcher keeps of the requests. Only `ShowsRequests` says what it means
-abbrev pub Held : Type 0
-Held = List Request
+pub record Held : Type 0 where
+  pub window : Window
+  pub groups : Groups
 
 -- The dispatcher: numbers, and what it keeps.
 pub record Dispatch : Type 0 where
@@ -26,20 +28,28 @@ pub record Dispatch : Type 0 where
   pub is_between_calls : Bool
   pub held : Held
 
--- the dispatcher that keeps these requests, with room for so many in all
-abbrev pub dispatch_of : List Request → ℕ → Dispatch
-dispatch_of held capacity = record {
-  accepted = length held;
-  outstanding = count_by (λ q. not (is_over q)) held;
-  running = count_by is_running held;
-  room = capacity - length held;
-  is_between_calls = (length held == 0) || (request_at held (length held - 1)).ends_call;
-  held = held;
+-- the dispatcher that keeps these. What more each of them has room for is not told
+abbrev pub dispatch_of : Window → Groups → ℕ → Bool → Dispatch
+dispatch_of w g room between = record {
+  accepted = end_of w;
+  outstanding = w.outstanding;
+  running = w.running;
+  room = room;
+  is_between_calls = between;
+  held = record { window = record w { room = 0 }; groups = record g { room = 0 } };
 }
+
+-- What is so whatever happened: the parts fit one another and have the room that is told, and nothing joins a group between calls.
+pub record IsDispatch (w : Window) (g : Groups) (room : ℕ) (between : Bool) : Type 0 where
+  pub sound : IsSound w g
+  pub window : room ≤ w.room
+  pub groups : room ≤ g.room
+  pub closed : between ≡ true → g.last ≡ None
+  pub fits : end_of w + w.room < 2 ^ 63
 
 -- what is kept stands for these requests
 unfoldable pub StandsFor : Held → Requests → Type 0
-StandsFor held r = AreHeld held r
+StandsFor held r = AreHeld held.window held.groups r
 
 -- The dispatcher shows these requests: everything it answers is as the definitions on them say.
 pub record ShowsRequests (d : Dispatch) (r : Requests) : Type 0 where

@@ -1,96 +1,88 @@
--- Glue. What the dispatcher holds of the requests.
-use Rattle.std.specs.Prelude.{◌≡◌, ℕ, ◌+◌, ◌<◌, ◌≤◌, suc, Bool, true, false, not, ◌&&◌, ◌||◌, ◌==◌, List, length, slice_index_or, slice_range}
+-- Glue. What the dispatcher holds: the outstanding requests and their groups.
+use Rattle.std.specs.Prelude.{◌≡◌, ℕ, ◌+◌, suc, ◌<◌, ◌≤◌, true, false, not, ◌==◌, length, Option, Some, None, is_some, if◌then◌else◌}
 use Rattle.std.specs.List.{list_any}
-use Rattle.uring_entry.specs.Layout.{Sqe, zero_entry}
-use Rattle.uring_entry.specs.Preparation.{is_faulty}
-use Rattle.uring_entry.specs.Requests as spec
-use Rattle.uring_entry.specs.Requests.{Requests, entry_of, is_linked, is_soft}
+use Rattle.uring_entry.specs.Layout.{Sqe}
+use Rattle.uring_entry.specs.declared.operation.Op.{Op}
+use Rattle.uring_entry.specs.Preparation.{is_faulty, operation_of}
+use Rattle.uring_entry.specs.Requests.{Requests, entry_of, has_started, has_ended, is_last, is_cancelled, outstanding_in, running_in}
+use Rattle.uring_entry.specs.Groups.{IsGroup, first_fault, first_drain, first_broken}
 use Rattle.uring_dispatch.specs.declared.request.Request.{Request}
-use Rattle.uring_dispatch.specs.declared.progress.State.{State}
-use Rattle.uring_dispatch.specs.declared.progress.State.TheVariants.{Waiting, Running, Succeeded, Failed}
+use Rattle.uring_dispatch.specs.declared.group.Group.{Group}
+use Rattle.uring_dispatch.specs.Window.{Window, at, end_of}
+use Rattle.uring_dispatch.specs.Groups.{Groups, group_at, IsBeyond}
 
--- a request as it is accepted
-abbrev pub fresh : Sqe → Request
-fresh entry = record { entry = entry; ends_call = false; is_cancelled = false; state = Waiting }
+-- what an entry asks for, if it has no fault
+abbrev pub op_of : Sqe → Option Op
+op_of e = if is_faulty e then None else Some (operation_of e)
 
-abbrev pub in_running : State → Bool
-in_running Running = true
-in_running _ = false
+-- Under this key the group of request n is kept.
+pub record HasGroup (g : Groups) (key n : ℕ) : Type 0 where
+  pub group : Group
+  pub found : group_at g key ≡ Some group
+  pub from : group.from ≤ n
+  pub to : n < group.end
 
-abbrev pub in_over : State → Bool
-in_over Succeeded = true
-in_over Failed = true
-in_over _ = false
+-- The least outstanding member of a kept group is told.
+pub record IsKept (w : Window) (q : Group) : Type 0 where
+  pub from : q.from ≤ q.least
+  pub to : q.least < q.end
+  pub end : q.end ≤ end_of w
+  pub over : (m : ℕ) → q.from ≤ m → m < q.least → at w m ≡ None
+  pub here : is_some (at w q.least) ≡ true
 
-abbrev pub in_failed : State → Bool
-in_failed Failed = true
-in_failed _ = false
+-- What is so of the requests and the groups together, whatever happened.
+pub record IsSound (w : Window) (g : Groups) : Type 0 where
+  pub linked : (n : ℕ) (q : Request) → at w n ≡ Some q → HasGroup g q.group n
+  pub members : (key : ℕ) (q : Group) (n : ℕ) (request : Request) → group_at g key ≡ Some q → q.from ≤ n → n < q.end → at w n ≡ Some request → request.group ≡ key
+  pub kept : (key : ℕ) (q : Group) → group_at g key ≡ Some q → IsKept w q
+  pub beyond : IsBeyond g.barriers (end_of w)
+  pub last : (key : ℕ) (q : Group) → g.last ≡ Some key → group_at g key ≡ Some q → q.end ≡ end_of w
 
-abbrev pub is_running : Request → Bool
-is_running q = in_running q.state
-
--- it has ended
-abbrev pub is_over : Request → Bool
-is_over q = in_over q.state
-
--- it has ended without success
-abbrev pub has_failed : Request → Bool
-has_failed q = in_failed q.state
-
--- it is the last member of its group
-abbrev pub ends_group : Request → Bool
-ends_group q = not (is_linked q.entry) || q.ends_call
-
--- its failure dooms the members behind it
-abbrev pub breaks_links : Request → Bool
-breaks_links q = is_soft q.entry && has_failed q
-
--- the request of this number; where there is none, one that was never started
-abbrev pub request_at : List Request → ℕ → Request
-request_at held n = slice_index_or held n (fresh zero_entry)
-
--- the request in this state
-abbrev pub with_state : Request → State → Request
-with_state q state = record q { state = state }
-
--- a request that a cancel chose
-abbrev pub chosen : Request → Request
-chosen q = record q { is_cancelled = true }
-
--- the final state: succeeded or failed
-abbrev pub ended_state : Bool → State
-ended_state true = Succeeded
-ended_state false = Failed
-
--- The held requests are those of the lists.
-pub record AreHeld (held : List Request) (r : Requests) : Type 0 where
-  pub count : length held ≡ length r.accepted
-  pub entry : (n : ℕ) → (request_at held n).entry ≡ entry_of r n
-  pub ends_call : (n : ℕ) → (request_at held n).ends_call ≡ list_any (λ cut. cut == n + 1) r.cuts
-  pub cancelled : (n : ℕ) → (request_at held n).is_cancelled ≡ spec.is_cancelled r n
-  pub running : (n : ℕ) → is_running (request_at held n) ≡ spec.is_running r n
-  pub over : (n : ℕ) → is_over (request_at held n) ≡ spec.has_ended r n
-  pub failed : (n : ℕ) → has_failed (request_at held n) ≡ spec.has_failed r n
+-- A kept request is the request n of the lists.
+pub record IsShown (r : Requests) (n : ℕ) (q : Request) : Type 0 where
+  pub entry : q.entry ≡ entry_of r n
+  pub op : q.op ≡ op_of (entry_of r n)
+  pub unended : has_ended r n ≡ false
+  pub cancelled : q.is_cancelled ≡ is_cancelled r n
+  pub running : q.is_running ≡ has_started r n
   -- only what is without fault was started
-  pub sound : (n : ℕ) → spec.is_running r n ≡ true → is_faulty (entry_of r n) ≡ false
+  pub sound : q.is_running ≡ true → is_faulty (entry_of r n) ≡ false
 
--- start is the first member of n's group
-pub record BeginsGroup (held : List Request) (n start : ℕ) : Type 0 where
-  pub from : start ≤ n
-  pub joined : (k : ℕ) → start ≤ k → k < n → ends_group (request_at held k) ≡ false
-  pub begins : (k : ℕ) → suc k ≡ start → ends_group (request_at held k) ≡ true
+-- A kept group is one of the lists.
+pub record IsShownGroup (r : Requests) (q : Group) : Type 0 where
+  pub group : IsGroup r q.from q.end
+  pub fault : q.fault ≡ first_fault r q.from q.end
+  pub drain : q.drain ≡ first_drain r q.from q.end
+  pub broken : q.broken ≡ first_broken r q.from q.end
 
--- end is the number behind the last member of n's group
-pub record EndsGroup (held : List Request) (n end : ℕ) : Type 0 where
-  pub to : n < end
-  pub within : end ≤ length held
-  pub joined : (k : ℕ) → n ≤ k → suc k < end → ends_group (request_at held k) ≡ false
-  pub stops : (k : ℕ) → suc k ≡ end → end < length held → ends_group (request_at held k) ≡ true
+-- Nothing happened to a number that wasn't given.
+pub record IsUntouched (r : Requests) (n : ℕ) : Type 0 where
+  pub started : has_started r n ≡ false
+  pub ended : has_ended r n ≡ false
+  pub cancelled : is_cancelled r n ≡ false
+  pub cut : list_any (λ cut. cut == n + 1) r.cuts ≡ false
 
--- these are the members of n's group
-pub record IsGroup (held : List Request) (n : ℕ) (group : List Request) : Type 0 where
-  pub start : ℕ
-  pub end : ℕ
-  pub begins : BeginsGroup held n start
-  pub ends : EndsGroup held n end
-  pub members : group ≡ slice_range held start end
+-- What is held is what the lists say.
+pub record AreHeld (w : Window) (g : Groups) (r : Requests) : Type 0 where
+  pub count : length r.accepted ≡ end_of w
+  pub outstanding : w.outstanding ≡ outstanding_in r
+  pub running : w.running ≡ running_in r
+  pub ended : (n : ℕ) → at w n ≡ None → n < length r.accepted → has_ended r n ≡ true
+  pub shown : (n : ℕ) (q : Request) → at w n ≡ Some q → IsShown r n q
+  pub groups : (key : ℕ) (q : Group) → group_at g key ≡ Some q → IsShownGroup r q
+  pub last : (k : ℕ) → suc k ≡ length r.accepted → is_last r k ≡ not (is_some g.last)
+  pub untouched : (n : ℕ) → length r.accepted ≤ n → IsUntouched r n
+
+-- The least outstanding number from this one on and below the end, or else the end.
+pub record IsNext (w : Window) (from end n : ℕ) : Type 0 where
+  pub from_on : from ≤ n
+  pub up_to : n ≤ end
+  pub over : (m : ℕ) → from ≤ m → m < n → at w m ≡ None
+  pub here : n < end → is_some (at w n) ≡ true
+
+-- One request fewer is outstanding, and so many fewer are running.
+pub record HasLost (old new : Window) (running : ℕ) : Type 0 where
+  pub end : end_of new ≡ end_of old
+  pub outstanding : new.outstanding + 1 ≡ old.outstanding
+  pub runs : new.running + running ≡ old.running
+  pub room : new.room ≡ old.room

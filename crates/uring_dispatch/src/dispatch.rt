@@ -3,10 +3,12 @@ ghost use Rattle.uring_entry.specs.Requests.{Requests, no_request, with_accepted
 ghost use Rattle.uring_dispatch.specs.IssueAndFinish.{issued, after_issue, finished, after_finish};
 
 use crate::finish_answer::Finished;
-use crate::request::Request;
+use crate::groups::Groups;
 use crate::issue_answer::Issued;
 use crate::refusal::ReserveError;
-use crate::{events, search};
+use crate::request::Request;
+use crate::window::Window;
+use crate::{events, standing};
 use std::alloc::Global;
 use std::marker::Model;
 use uring_entry::{Op, Outcome, Sqe, prepare};
@@ -16,16 +18,22 @@ use uring_entry::{Op, Outcome, Sqe, prepare};
 /// A submission call gives its entries one by one to `accept` and ends with `end_call`; every other call is made between submission calls.
 #[derive(Drop)]
 pub struct Dispatch {
-    requests: Vec<Request>,
+    window: Window,
+    groups: Groups,
+    // How many more requests can be accepted: the memory of all that they need was asked for.
+    room: u64,
+    // Whether no submission call is open.
+    is_between_calls: bool,
 }
 
 impl Model for Dispatch {
-    ghost use Rattle.std.specs.Prelude.{vec_capacity};
-    ghost use Rattle.uring_dispatch.specs.Dispatch.{Dispatch, dispatch_of};
+    ghost use Rattle.uring_dispatch.specs.Dispatch.{Dispatch, dispatch_of, IsDispatch};
 
     ghost Value = { Dispatch };
 
-    ghost view = { λ d. dispatch_of d.requests.items (vec_capacity d.requests) };
+    ghost view = { λ d. dispatch_of d.window d.groups d.room d.is_between_calls };
+
+    ghost invariant = { λ d. IsDispatch d.window d.groups d.room d.is_between_calls };
 }
 
 impl Dispatch {
@@ -40,7 +48,10 @@ impl Dispatch {
         ensures between { result.is_between_calls ≡ true }
     {
         Dispatch {
-            requests: Vec::new(alloc),
+            window: Window::new(alloc),
+            groups: Groups::new(alloc),
+            room: 0,
+            is_between_calls: true,
         }
     }
 
@@ -60,10 +71,17 @@ impl Dispatch {
         if count > Dispatch::MAX_ACCEPTED - self.accepted() {
             return Err(ReserveError::Spent);
         }
-        match self.requests.reserve(count as usize) {
-            Ok(()) => Ok(()),
-            Err(_) => Err(ReserveError::NoMemory),
+        if count <= self.room {
+            return Ok(());
         }
+        if self.window.reserve(count).is_err() {
+            return Err(ReserveError::NoMemory);
+        }
+        if self.groups.reserve(count).is_err() {
+            return Err(ReserveError::NoMemory);
+        }
+        self.room = count;
+        Ok(())
     }
 
     /// Accepts an entry: its number is that of the requests accepted before it. It becomes one of the open submission call's.
@@ -75,7 +93,17 @@ impl Dispatch {
         ensures counts { HasAccepted self.old self.new }
         ensures between { self.new.is_between_calls ≡ false }
     {
-        self.requests.push_reserved(Request::new(entry));
+        let op = prepare(&entry).ok();
+        let group = self.groups.accept(self.window.end(), &entry, op.is_none());
+        self.window.push(Request {
+            entry,
+            op,
+            group,
+            is_cancelled: false,
+            is_running: false,
+        });
+        self.room -= 1;
+        self.is_between_calls = false;
     }
 
     /// Ends a submission call: no group goes on past it. io_uring_enter(2), IOSQE_IO_LINK.
@@ -84,7 +112,8 @@ impl Dispatch {
         ensures counts { IsSameCount self.old self.new }
         ensures between { self.new.is_between_calls ≡ true }
     {
-        events::end_call(&mut self.requests);
+        self.groups.close();
+        self.is_between_calls = true;
     }
 
     /// Issues request `n`, any number. It ends at once where it is doomed, with -22 (EINVAL) where it has a fault itself and else with -125 (ECANCELED), or where it is a cancel that may start, with 0, -2 (ENOENT) or -114 (EALREADY); otherwise it starts where it may.
@@ -96,10 +125,7 @@ impl Dispatch {
         ensures shows { (r : Requests) → ShowsRequests self.old r → ShowsRequests self.new (after_issue r n result) }
         ensures counts { IssueCounts result self.old self.new }
     {
-        if n >= self.accepted() {
-            return Issued::Unknown;
-        }
-        events::issue(&mut self.requests, n as usize)
+        events::issue(&mut self.window, &mut self.groups, n)
     }
 
     /// Ends request `n` with this outcome. Refused with `NotRunning` where it isn't running, and then nothing changes. Our own rule.
@@ -109,10 +135,7 @@ impl Dispatch {
         ensures shows { (r : Requests) → ShowsRequests self.old r → ShowsRequests self.new (after_finish r n outcome result) }
         ensures counts { FinishCounts result self.old self.new }
     {
-        if n >= self.accepted() {
-            return Finished::NotRunning;
-        }
-        events::finish(&mut self.requests, n as usize, outcome)
+        events::finish(&mut self.window, &mut self.groups, n, outcome)
     }
 
     /// The operation of request `n`: `Some` exactly where it is running.
@@ -120,15 +143,8 @@ impl Dispatch {
         requires { IsTrue self.now.is_between_calls }
         ensures { (r : Requests) → ShowsRequests self.now r → result ≡ operation_running r n }
     {
-        if n >= self.accepted() {
-            return None;
-        }
-        let request = &self.requests[n as usize];
-        if request.is_running() {
-            prepare(&request.entry).ok()
-        } else {
-            None
-        }
+        let request = self.window.get(n)?;
+        if request.is_running { request.op } else { None }
     }
 
     /// The entry of request `n`: `Some` exactly where it is outstanding, that is accepted and not ended.
@@ -136,14 +152,9 @@ impl Dispatch {
         requires { IsTrue self.now.is_between_calls }
         ensures { (r : Requests) → ShowsRequests self.now r → result ≡ entry_outstanding r n }
     {
-        if n >= self.accepted() {
-            return None;
-        }
-        let request = &self.requests[n as usize];
-        if request.is_over() {
-            None
-        } else {
-            Some(request.entry)
+        match self.window.get(n) {
+            Some(request) => Some(request.entry),
+            None => None,
         }
     }
 
@@ -152,7 +163,7 @@ impl Dispatch {
         requires { IsTrue self.now.is_between_calls }
         ensures { (r : Requests) → ShowsRequests self.now r → result ≡ next_of r }
     {
-        search::next(&self.requests)
+        standing::next(&self.window, &self.groups)
     }
 
     /// The least outstanding request, if there is one.
@@ -160,7 +171,7 @@ impl Dispatch {
         requires { IsTrue self.now.is_between_calls }
         ensures { (r : Requests) → ShowsRequests self.now r → result ≡ least_of r }
     {
-        search::least(&self.requests)
+        self.window.least()
     }
 
     /// How many requests were accepted: at most `MAX_ACCEPTED`.
@@ -168,7 +179,7 @@ impl Dispatch {
         ensures value { result ≡ self.now.accepted }
         ensures limit { result ≤ 2 ^ 63 - 1 }
     {
-        self.requests.len() as u64
+        self.window.end()
     }
 
     /// How many of them haven't ended.
@@ -177,10 +188,7 @@ impl Dispatch {
         ensures value { result ≡ self.now.outstanding }
         ensures shown { (r : Requests) → ShowsRequests self.now r → result ≡ outstanding_in r }
     {
-        self.requests
-            .iter()
-            .filter(|request| !request.is_over())
-            .count() as u64
+        self.window.outstanding()
     }
 
     /// How many of them were started and haven't ended.
@@ -189,9 +197,6 @@ impl Dispatch {
         ensures value { result ≡ self.now.running }
         ensures shown { (r : Requests) → ShowsRequests self.now r → result ≡ running_in r }
     {
-        self.requests
-            .iter()
-            .filter(|request| request.is_running())
-            .count() as u64
+        self.window.running()
     }
 }

@@ -1,132 +1,174 @@
-//! What happens to the held requests: they are issued, chosen by a cancel, and finished.
+//! What happens to the outstanding requests: they are issued, chosen by a cancel, and finished.
 
-ghost use Rattle.std.specs.Prelude.{◌≡◌, ℕ, ◌<◌, true, false, length, slice_set, IfSome};
-ghost use Rattle.uring_entry.specs.Requests.{Requests, with_cut, with_issued_end};
+ghost use Rattle.std.specs.Prelude.{◌≡◌, ℕ, ℤ, ◌+◌, ◌<◌, ◌≤◌, List, true, false, Some, None, is_some, Bool, not, ◌&&◌};
+ghost use Rattle.uring_entry.specs.Requests.{Requests, entry_of, with_ended, with_issued_end};
 ghost use Rattle.uring_entry.specs.Requests as spec;
+ghost use Rattle.uring_entry.specs.Groups.{earlier_of};
 ghost use Rattle.uring_entry.specs.Preparation.{is_cancel};
+ghost use Rattle.uring_entry.specs.Success as success;
+ghost use Rattle.uring_entry.specs.Layout.{addr_of};
 ghost use Rattle.uring_dispatch.specs.IssueAndFinish.{issued, issued_waiting, after_issue, finished, after_finish};
-ghost use Rattle.uring_dispatch.specs.Dispatch.{dispatch_of, HasEndedCall, HasEnded, IssueCounts, FinishCounts};
-ghost use Rattle.uring_dispatch.specs.Held.{AreHeld, request_at, with_state, chosen, ended_state};
+ghost use Rattle.uring_dispatch.specs.Dispatch.{dispatch_of, HasEnded, IssueCounts, FinishCounts};
+ghost use Rattle.uring_dispatch.specs.Window.{at, end_of, runs, one_if};
+ghost use Rattle.uring_dispatch.specs.Groups.{group_at};
+ghost use Rattle.uring_dispatch.specs.Held.{AreHeld, IsSound, IsNext, HasLost};
 
-use crate::doom::is_doomed;
 use crate::finish_answer::Finished;
-use crate::request::Request;
+use crate::group::{Group, earlier_of};
+use crate::groups::Groups;
 use crate::issue_answer::Issued;
-use crate::progress::State;
-use crate::readiness::is_ready;
-use crate::target::target;
-use uring_entry::{Op, Outcome, errno, prepare, succeeded};
+use crate::request::Request;
+use crate::standing::{group_of, is_doomed, is_ready, target};
+use crate::window::Window;
+use uring_entry::{Op, Outcome, errno, succeeded};
 
-/// Notes that a submission call closed behind the last request.
-pub(crate) fn end_call(requests: &mut [Request])
-    ensures held { (r : Requests) → AreHeld requests.old r → AreHeld requests.new (with_cut r) }
-    ensures counts { (capacity : ℕ) → HasEndedCall (dispatch_of requests.old capacity) (dispatch_of requests.new capacity) }
+/// Ends request `n`, and lets go what was kept of it; its group goes with its last member.
+fn end(window: &mut Window, groups: &mut Groups, n: u64, is_success: bool)
+    requires sound { IsSound window.old groups.old }
+    requires closed { groups.old.last ≡ None }
+    requires there { is_some (at window.old n) ≡ true }
+    ensures sound { IsSound window.new groups.new }
+    ensures closed { groups.new.last ≡ None }
+    ensures groups_room { groups.new.room ≡ groups.old.room }
+    ensures held { (r : Requests) (res : ℤ) (bytes : List ℕ) → AreHeld window.old groups.old r → is_success ≡ success.is_success (entry_of r n) res → AreHeld window.new groups.new (with_ended r n res bytes) }
+    ensures counts { HasLost window.old window.new (one_if (runs (at window.old n))) }
 {
-    if let Some(last) = requests.last_mut() {
-        last.ends_call = true;
+    let request = window.end_one(n);
+    let group = group_of(groups, &request);
+    let least = next_outstanding(window, group.least, group.end);
+    if least == group.end {
+        groups.remove(request.group);
+        return;
     }
+    let is_break = breaks(&request, is_success);
+    let broken = earlier_of(group.broken, is_break, n);
+    let group = Group {
+        least,
+        broken,
+        ..group
+    };
+    groups.update(request.group, group);
 }
 
-/// Issues request `n`: it ends where it is doomed or a cancel that may be carried out, starts where it may, and is left as it is otherwise.
-pub(crate) fn issue(requests: &mut [Request], n: usize) -> Issued
-    requires { n < length requests.old }
-    ensures answer { (r : Requests) → AreHeld requests.old r → result ≡ issued r n }
-    ensures held { (r : Requests) → AreHeld requests.old r → AreHeld requests.new (after_issue r n result) }
-    ensures counts { (capacity : ℕ) → IssueCounts result (dispatch_of requests.old capacity) (dispatch_of requests.new capacity) }
+/// The least outstanding number from this one on and below the end, or else the end.
+fn next_outstanding(window: &Window, from: u64, end: u64) -> u64
+    requires { from ≤ end }
+    ensures { IsNext window.now from end result }
 {
-    match requests[n].state {
-        State::Succeeded | State::Failed => Issued::Unknown,
-        State::Running => Issued::Running,
-        State::Waiting => issue_waiting(requests, n),
+    for m in from..end {
+        if window.get(m).is_some() {
+            return m;
+        }
     }
+    end
+}
+
+/// Whether a request that ended so dooms the members behind it.
+fn breaks(request: &Request, is_success: bool) -> bool
+    ensures { result ≡ (spec.is_soft request.now.entry && not is_success) }
+{
+    request.entry.is_soft() && !is_success
+}
+
+/// Issues request `n`: it ends if it is doomed or a cancel that may be carried out, starts if it may, and is left as it is otherwise.
+pub(crate) fn issue(window: &mut Window, groups: &mut Groups, n: u64) -> Issued
+    requires sound { IsSound window.old groups.old }
+    requires closed { groups.old.last ≡ None }
+    ensures sound { IsSound window.new groups.new }
+    ensures closed { groups.new.last ≡ None }
+    ensures groups_room { groups.new.room ≡ groups.old.room }
+    ensures answer { (r : Requests) → AreHeld window.old groups.old r → result ≡ issued r n }
+    ensures held { (r : Requests) → AreHeld window.old groups.old r → AreHeld window.new groups.new (after_issue r n result) }
+    ensures counts { (room : ℕ) (between : Bool) → IssueCounts result (dispatch_of window.old groups.old room between) (dispatch_of window.new groups.new room between) }
+    ensures room { window.new.room ≡ window.old.room }
+{
+    let Some(request) = window.get(n) else {
+        return Issued::Unknown;
+    };
+    if request.is_running {
+        return Issued::Running;
+    }
+    let request = *request;
+    issue_waiting(window, groups, n, request)
 }
 
 /// Issues request `n`, which was not started.
-fn issue_waiting(requests: &mut [Request], n: usize) -> Issued
-    requires within { n < length requests.old }
-    requires waiting { (request_at requests.old n).state ≡ State.Waiting }
-    ensures answer { (r : Requests) → AreHeld requests.old r → result ≡ issued_waiting r n }
-    ensures held { (r : Requests) → AreHeld requests.old r → AreHeld requests.new (after_issue r n result) }
-    ensures counts { (capacity : ℕ) → IssueCounts result (dispatch_of requests.old capacity) (dispatch_of requests.new capacity) }
+fn issue_waiting(window: &mut Window, groups: &mut Groups, n: u64, request: Request) -> Issued
+    requires sound { IsSound window.old groups.old }
+    requires closed { groups.old.last ≡ None }
+    requires there { at window.old n ≡ Some request }
+    requires waits { request.is_running ≡ false }
+    ensures sound { IsSound window.new groups.new }
+    ensures closed { groups.new.last ≡ None }
+    ensures groups_room { groups.new.room ≡ groups.old.room }
+    ensures answer { (r : Requests) → AreHeld window.old groups.old r → result ≡ issued_waiting r n }
+    ensures held { (r : Requests) → AreHeld window.old groups.old r → AreHeld window.new groups.new (after_issue r n result) }
+    ensures counts { (room : ℕ) (between : Bool) → IssueCounts result (dispatch_of window.old groups.old room between) (dispatch_of window.new groups.new room between) }
+    ensures room { window.new.room ≡ window.old.room }
 {
-    let Ok(op) = prepare(&requests[n].entry) else {
-        set_state(requests, n, State::Failed);
+    let Some(op) = request.op else {
+        end(window, groups, n, false);
         return Issued::Ended(-errno::EINVAL);
     };
-    if is_doomed(requests, n) {
-        set_state(requests, n, State::Failed);
+    if is_doomed(window, groups, n, &request) {
+        end(window, groups, n, false);
         return Issued::Ended(-errno::ECANCELED);
     }
-    if !is_ready(requests, n) {
+    if !is_ready(window, groups, n, &request) {
         return Issued::NotReady;
     }
     if let Op::Cancel { .. } = op {
-        return Issued::Ended(cancel(requests, n));
+        return Issued::Ended(cancel(window, groups, n, request.entry.addr()));
     }
-    set_state(requests, n, State::Running);
+    window.start(n);
     Issued::Run(op)
 }
 
-/// Carries out the cancel `n`, and gives its result: ENOENT where there is no request to choose, EALREADY where the one chosen is running, else 0. io_uring_enter(2), IORING_OP_ASYNC_CANCEL.
-fn cancel(requests: &mut [Request], n: usize) -> i32
-    requires within { n < length requests.old }
-    requires waiting { (request_at requests.old n).state ≡ State.Waiting }
-    ensures answer { (r : Requests) → AreHeld requests.old r → result ≡ spec.cancel_result r n }
-    ensures held { (r : Requests) → AreHeld requests.old r → is_cancel (spec.entry_of r n) ≡ true → AreHeld requests.new (with_issued_end r n result) }
-    ensures counts { (capacity : ℕ) → HasEnded (dispatch_of requests.old capacity) (dispatch_of requests.new capacity) }
+/// Carries out the cancel `n` of these user data, and gives its result: ENOENT if there is no request to choose, EALREADY if the one chosen is running, else 0. io_uring_enter(2), IORING_OP_ASYNC_CANCEL.
+fn cancel(window: &mut Window, groups: &mut Groups, n: u64, user_data: u64) -> i32
+    requires sound { IsSound window.old groups.old }
+    requires closed { groups.old.last ≡ None }
+    requires there { is_some (at window.old n) ≡ true }
+    requires waits { runs (at window.old n) ≡ false }
+    ensures sound { IsSound window.new groups.new }
+    ensures closed { groups.new.last ≡ None }
+    ensures groups_room { groups.new.room ≡ groups.old.room }
+    ensures answer { (r : Requests) → AreHeld window.old groups.old r → user_data ≡ addr_of (entry_of r n) → result ≡ spec.cancel_result r n }
+    ensures held { (r : Requests) → AreHeld window.old groups.old r → user_data ≡ addr_of (entry_of r n) → is_cancel (entry_of r n) ≡ true → AreHeld window.new groups.new (with_issued_end r n result) }
+    ensures counts { HasLost window.old window.new 0 }
 {
-    let Some(m) = target(requests, n) else {
-        set_state(requests, n, State::Failed);
+    let Some(m) = target(window, groups, n, user_data) else {
+        end(window, groups, n, false);
         return -errno::ENOENT;
     };
-    if requests[m].is_running() {
-        set_state(requests, n, State::Failed);
+    if window.is_running(m) {
+        end(window, groups, n, false);
         return -errno::EALREADY;
     }
-    choose(requests, m);
-    set_state(requests, n, State::Succeeded);
+    window.choose(m);
+    end(window, groups, n, true);
     0
 }
 
-/// Finishes request `n` with this outcome where it is running, and leaves it as it is otherwise.
-pub(crate) fn finish(requests: &mut [Request], n: usize, outcome: Outcome) -> Finished
-    requires { n < length requests.old }
-    ensures answer { (r : Requests) → AreHeld requests.old r → result ≡ finished r n }
-    ensures held { (r : Requests) → AreHeld requests.old r → AreHeld requests.new (after_finish r n outcome result) }
-    ensures counts { (capacity : ℕ) → FinishCounts result (dispatch_of requests.old capacity) (dispatch_of requests.new capacity) }
+/// Finishes request `n` with this outcome if it is running, and leaves it as it is otherwise.
+pub(crate) fn finish(window: &mut Window, groups: &mut Groups, n: u64, outcome: Outcome) -> Finished
+    requires sound { IsSound window.old groups.old }
+    requires closed { groups.old.last ≡ None }
+    ensures sound { IsSound window.new groups.new }
+    ensures closed { groups.new.last ≡ None }
+    ensures groups_room { groups.new.room ≡ groups.old.room }
+    ensures answer { (r : Requests) → AreHeld window.old groups.old r → result ≡ finished r n }
+    ensures held { (r : Requests) → AreHeld window.old groups.old r → AreHeld window.new groups.new (after_finish r n outcome result) }
+    ensures counts { (room : ℕ) (between : Bool) → FinishCounts result (dispatch_of window.old groups.old room between) (dispatch_of window.new groups.new room between) }
+    ensures room { window.new.room ≡ window.old.room }
 {
-    let request = &requests[n];
-    if !request.is_running() {
+    let Some(request) = window.get(n) else {
+        return Finished::NotRunning;
+    };
+    if !request.is_running {
         return Finished::NotRunning;
     }
-    let state = end_state(succeeded(&request.entry, outcome.res));
-    set_state(requests, n, state);
+    let is_success = succeeded(&request.entry, outcome.res);
+    end(window, groups, n, is_success);
     Finished::Ended
-}
-
-/// How far a request has come that ended.
-fn end_state(is_success: bool) -> State
-    ensures { result ≡ ended_state is_success }
-{
-    if is_success {
-        State::Succeeded
-    } else {
-        State::Failed
-    }
-}
-
-/// Says how far request `n` has come.
-fn set_state(requests: &mut [Request], n: usize, state: State)
-    requires { n < length requests.old }
-    ensures { requests.new ≡ slice_set requests.old n (with_state (request_at requests.old n) state) }
-{
-    requests[n].state = state;
-}
-
-/// Notes that a cancel chose request `n`.
-fn choose(requests: &mut [Request], n: usize)
-    requires { n < length requests.old }
-    ensures { requests.new ≡ slice_set requests.old n (chosen (request_at requests.old n)) }
-{
-    requests[n].is_cancelled = true;
 }

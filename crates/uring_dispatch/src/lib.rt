@@ -2,18 +2,16 @@
 #![tactic(auto)]
 
 mod dispatch;
-mod doom;
 mod events;
 mod finish_answer;
+mod group;
 mod groups;
-mod request;
 mod issue_answer;
 pub mod laws;
-mod progress;
-mod readiness;
 mod refusal;
-mod search;
-mod target;
+mod request;
+mod standing;
+mod window;
 
 pub use dispatch::Dispatch;
 pub use finish_answer::Finished;

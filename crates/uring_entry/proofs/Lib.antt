@@ -5,3 +5,5 @@ pub mod SetupLemmas
 pub mod BelowLemmas
 pub mod RequestLemmas
 pub mod EventLemmas
+pub mod GroupLemmas
+pub mod GroupEvents

@@ -8,5 +8,6 @@ pub mod Below
 pub mod IndexWords
 pub mod Submission
 pub mod Requests
+pub mod Groups
 pub mod Completions
 pub mod Texts

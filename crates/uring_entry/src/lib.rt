@@ -3,26 +3,24 @@
 
 mod bad_setup;
 mod cqe;
-mod sqe;
 pub mod errno;
 mod fault;
 mod flags;
 pub mod laws;
 pub mod opcode;
 mod operation;
-mod outcomes;
 mod payload;
 mod preparation;
 mod setup;
+mod sqe;
 mod success;
 
 pub use bad_setup::BadSetup;
 pub use cqe::Cqe;
-pub use sqe::Sqe;
 pub use fault::Fault;
 pub use flags::SqeFlags;
-pub use operation::Op;
-pub use outcomes::Outcome;
+pub use operation::{Op, Outcome};
 pub use preparation::prepare;
 pub use setup::Setup;
-pub use success::succeeded;
+pub use sqe::Sqe;
+pub use success::{posts_completion, succeeded};

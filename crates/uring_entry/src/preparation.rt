@@ -3,11 +3,11 @@ ghost use Rattle.uring_entry.specs.Preparation.{fault_of, operation_of};
 ghost use Rattle.uring_entry.specs.Preparation as spec;
 ghost use Rattle.uring_entry.specs.declared.opcode.TheConstants.{READ, WRITE};
 
-use crate::sqe::Sqe;
 use crate::fault::Fault;
 use crate::flags::SqeFlags;
 use crate::opcode;
 use crate::operation::Op;
+use crate::sqe::Sqe;
 use bitflags::Flags;
 
 /// What an entry asks for, or the first of its faults in the order of `Fault`. A field that an operation doesn't use may hold anything.

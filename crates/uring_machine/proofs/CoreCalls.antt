@@ -9,8 +9,8 @@ use Rattle.uring_entry.specs.Completions.{Completions}
 use Rattle.uring_rings.specs.Sq.{Sq, ShowsSubmission}
 use Rattle.uring_rings.specs.SqAnswers as ring
 use Rattle.uring_rings.specs.Cq.{Cq, ShowsCompletions, KeepsMemory}
-use Rattle.uring_rings.specs.declared.answers.begin_answer.BeginAnswer.{BeginAnswer}
-use Rattle.uring_rings.specs.declared.answers.begin_answer.BeginAnswer.TheVariants as begin
+use Rattle.uring_rings.specs.declared.answers.BeginAnswer.{BeginAnswer}
+use Rattle.uring_rings.specs.declared.answers.BeginAnswer.TheVariants as begin
 use Rattle.uring_dispatch.specs.Dispatch.{Dispatch, ShowsRequests, IsSameCount}
 use Rattle.uring_machine.specs.World.{World}
 use Rattle.uring_machine.specs.StepAnswers.{OrAgain, begin_answer}

@@ -11,13 +11,13 @@ use Rattle.uring_entry.specs.Submission.{Submission, Call, no_submission, taken,
 use Rattle.uring_entry.specs.Requests.{Requests, no_request, entry_of, has_started, has_ended, is_outstanding, is_running, is_doomed, is_ready, doomed_result, cancel_result, no_bytes, with_call, with_ended, with_issued_end, with_started, entry_outstanding}
 use Rattle.uring_entry.specs.Preparation.{is_cancel, operation_of}
 use Rattle.uring_entry.specs.Completions.{Completions, no_completion, with_end, with_posted}
-use Rattle.uring_entry.specs.declared.outcomes.Outcome.{Outcome}
+use Rattle.uring_entry.specs.declared.operation.Outcome.{Outcome}
 use Rattle.uring_entry.specs.declared.operation.Op.{Op}
 use Rattle.uring_rings.specs.Sq.{Sq, ShowsSubmission}
 use Rattle.uring_rings.specs.SqAnswers as ring
 use Rattle.uring_rings.specs.Cq.{Cq, ShowsCompletions}
-use Rattle.uring_rings.specs.declared.answers.end_answer.EndAnswer.TheVariants as ended_as
-use Rattle.uring_rings.specs.declared.answers.taken_counts.Taken.{Taken}
+use Rattle.uring_rings.specs.declared.answers.EndAnswer.TheVariants as ended_as
+use Rattle.uring_rings.specs.declared.answers.Taken.{Taken}
 use Rattle.uring_dispatch.specs.Dispatch.{Dispatch, ShowsRequests, HasStarted, HasEnded, HasFinished}
 use Rattle.uring_dispatch.specs.IssueAndFinish.{issued, issued_waiting, finished}
 use Rattle.uring_dispatch.specs.declared.issue_answer.Issued.{Issued}

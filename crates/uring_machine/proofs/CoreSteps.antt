@@ -10,10 +10,10 @@ use Rattle.uring_entry.specs.Completions.{Completions, next_to_reap, with_flushe
 use Rattle.uring_rings.specs.Sq.{Sq, ShowsSubmission}
 use Rattle.uring_rings.specs.SqAnswers as ring
 use Rattle.uring_rings.specs.Cq.{Cq, ShowsCompletions, KeepsMemory, after_reap}
-use Rattle.uring_rings.specs.declared.answers.fill_answer.FillAnswer.{FillAnswer}
-use Rattle.uring_rings.specs.declared.answers.fill_answer.FillAnswer.TheVariants as fill
-use Rattle.uring_rings.specs.declared.answers.index_answer.IndexAnswer.{IndexAnswer}
-use Rattle.uring_rings.specs.declared.answers.index_answer.IndexAnswer.TheVariants as index
+use Rattle.uring_rings.specs.declared.answers.FillAnswer.{FillAnswer}
+use Rattle.uring_rings.specs.declared.answers.FillAnswer.TheVariants as fill
+use Rattle.uring_rings.specs.declared.answers.IndexAnswer.{IndexAnswer}
+use Rattle.uring_rings.specs.declared.answers.IndexAnswer.TheVariants as index
 use Rattle.uring_machine.specs.World.{World, filling, staging, reaping}
 use Rattle.uring_machine.specs.StepAnswers.{fill_answer, reap_answer_of}
 use Rattle.uring_machine.specs.Histories.{Event, History, world}

@@ -9,8 +9,8 @@ use Rattle.uring_entry.specs.Layout.{Sqe}
 use Rattle.uring_entry.specs.Submission.{Submission, Call, Place, taken, pending, staged, entries_of, with_taken}
 use Rattle.uring_rings.specs.Sq.{Sq, ShowsSubmission}
 use Rattle.uring_rings.specs.SqAnswers as ring
-use Rattle.uring_rings.specs.declared.answers.take_answer.TakeAnswer.{TakeAnswer}
-use Rattle.uring_rings.specs.declared.answers.take_answer.TakeAnswer.TheVariants as took_as
+use Rattle.uring_rings.specs.declared.answers.TakeAnswer.{TakeAnswer}
+use Rattle.uring_rings.specs.declared.answers.TakeAnswer.TheVariants as took_as
 use Rattle.uring_rings.proofs.Places.{places_more, entries_and_dropped}
 use Rattle.uring_machine.specs.World.{World, taking_of}
 use Rattle.uring_machine.specs.StepAnswers.{take_answer_in}

@@ -12,7 +12,7 @@ use Rattle.clap.specs.Facts.{parser_of_value}
 use Rattle.clap.specs.Lexer.{without_minus}
 use Rattle.clap.specs.Faults.{fault_of, level_fault, entered_fault, is_simple_and_free}
 use Rattle.clap.specs.Kinds.{value_kinds, values_kinds}
-use Rattle.clap.specs.Simple.{Setup, argument_words, built, built_leaf, entered, help_shape, inherited, marked_built, with_leaf_noted, is_simple, label_of, names_of, rows_at, subcommand_of}
+use Rattle.clap.specs.Simple.{Shape, argument_words, built, built_leaf, entered, help_shape, inherited, marked_built, with_leaf_noted, is_simple, label_of, names_of, rows_at, subcommand_of}
 use Rattle.clap.specs.Values.{IsSignedIn, reading_of}
 use Rattle.clap.specs.ValueTests.{accepts}
 use Rattle.clap.specs.Walk.{Row, Rule, Text, action_of, answers_to, nothing_held, one_of, rows_after, stop_after}
@@ -111,10 +111,10 @@ unfolding clap_on_literals
 uring_is_free = refl
 
 -- `uring trace` as it is built, with its flag for help
-abbrev trace_shape : Setup
+abbrev trace_shape : Shape
 trace_shape = built_leaf (inherited (with_leaf_noted (marked_built uring.top)) trace_app.top)
 
-abbrev help_leaf : Setup
+abbrev help_leaf : Shape
 help_leaf = built_leaf help_shape
 
 subcommands : (built uring).subs ≡ trace_shape ∷ help_leaf ∷ []
@@ -166,19 +166,19 @@ trace_numbers words passes =
       },
     )
 
-met_numbers : (words : List Text) (s : Setup) → Among s (trace_shape ∷ help_leaf ∷ []) → level_fault s [] nothing_held words false [] ≡ [] → HasNumbers (trace_rows (Some (rows_at s words)))
+met_numbers : (words : List Text) (s : Shape) → Among s (trace_shape ∷ help_leaf ∷ []) → level_fault s [] nothing_held words false [] ≡ [] → HasNumbers (trace_rows (Some (rows_at s words)))
 met_numbers words s (inl is) passes =
-    let go : (t : Setup) → trace_shape ≡ t → level_fault t [] nothing_held words false [] ≡ [] → HasNumbers (trace_rows (Some (rows_at t words))) =
-    λ t is passes. subst (λ (u : Setup). HasNumbers (trace_rows (Some (rows_at u words)))) is (trace_numbers words (subst (λ (u : Setup). level_fault u [] nothing_held words false [] ≡ []) (sym is) passes)) in
+    let go : (t : Shape) → trace_shape ≡ t → level_fault t [] nothing_held words false [] ≡ [] → HasNumbers (trace_rows (Some (rows_at t words))) =
+    λ t is passes. subst (λ (u : Shape). HasNumbers (trace_rows (Some (rows_at u words)))) is (trace_numbers words (subst (λ (u : Shape). level_fault u [] nothing_held words false [] ≡ []) (sym is) passes)) in
     go s is passes
-met_numbers words s (inr (inl is)) passes = subst (λ (u : Setup). HasNumbers (trace_rows (Some (rows_at u words)))) is no_numbers
+met_numbers words s (inr (inl is)) passes = subst (λ (u : Shape). HasNumbers (trace_rows (Some (rows_at u words)))) is no_numbers
 met_numbers words s (inr (inr none)) passes = absurd none
 
 stop_numbers : (stop : Option (Text × List Text)) → entered_fault (built uring) stop ≡ [] → HasNumbers (trace_rows (entered (built uring) stop))
 stop_numbers None passes = no_numbers
 stop_numbers (Some p) passes = go (find (λ s. answers_to p.0 (label_of s)) (built uring).subs) refl passes
   where
-    go : (o : Option Setup) → find (λ s. answers_to p.0 (label_of s)) (built uring).subs ≡ o → option_map_or (λ s. level_fault s [] nothing_held p.1 false []) o [] ≡ []
+    go : (o : Option Shape) → find (λ s. answers_to p.0 (label_of s)) (built uring).subs ≡ o → option_map_or (λ s. level_fault s [] nothing_held p.1 false []) o [] ≡ []
         → HasNumbers (trace_rows (option_map (λ s. rows_at s p.1) o))
     go None found e = no_numbers
     go (Some s) found e = met_numbers p.1 s (found_among (λ s. answers_to p.0 (label_of s)) (built uring).subs s found).0 e

@@ -73,7 +73,7 @@ not_both words (Trace s) (n, writes, set_up) (m, small_writes, small) =
     let sq_size : IsNextPowerOfTwo (unwrap_or n.sq 4) small.sq_size = subst (λ o. IsNextPowerOfTwo (unwrap_or o 4) small.sq_size) (sym sq) small.sq_rounded in
     let same_sq = rounded_once (unwrap_or n.sq 4) s.sq small.sq_size set_up.sq_rounded sq_size set_up.sq_asked in
     let same_cq = rounded_once small.cq s.cq small.cq_size size small.cq_rounded asked in
-    let holds : s.sq ≤ s.cq = set_up.shape.cq_holds_sq in
+    let holds : s.sq ≤ s.cq = set_up.limits.cq_holds_sq in
     let smaller : small.cq_size < small.sq_size = small.smaller in
     omega arith
 

@@ -6,7 +6,7 @@ use Rattle.std.specs.Option.{option_map_or}
 use Rattle.std.specs.Str.{bytes_eq, chars}
 use Rattle.clap.specs.Lexer.{long_of, short_of}
 use Rattle.clap.specs.Walk.{Row, Rule, Text, Held, Walk, Waiting, Outcome, Step, Names, action_of, reading_by, has_row, at_row, used, used_as, values_or_missing, more_values, used_by_id, settled_rows, option_word, short_or_plain, has_long, has_short, takes_values, attached_value, arg_by_id, arg_by_long, arg_by_short, arg_by_index, settled, reacted, option_met, flag_met, long_met, short_met, bundle_met, bundle_step, bundle, after_flag, plain_word, long_or_other, subcommand_met, subcommand_or_other, word_met, positional_held, is_pending, takes_several, to_positional, after_step, walked, walked_from, default_rows, walk, walk_from, with_default, nothing_held, rows_after, done, waits, plain, refused, option, idle, positional, next, trailing, subcommand, value}
-use Rattle.clap.specs.Simple.{Setup}
+use Rattle.clap.specs.Simple.{Shape}
 use Rattle.clap.specs.Kinds.{Kinds, or_else}
 use Rattle.clap.specs.Faults.{values_fault, action_fault, use_fault, settle_fault, react_fault, option_fault, long_fault, short_fault, bundle_step_fault, flags_fault, bundle_fault, flag_word_fault, other_fault, word_fault, positional_fault, step_fault, turn_fault, walk_fault, level_fault, stray_fault}
 use Rattle.clap.specs.declared.builder.action.ArgAction.{ArgAction}
@@ -210,7 +210,7 @@ module _ (rules : List Rule) where
         go None e = plain_row waiting word h each
         go (Some flags) e = after_row waiting word (bundle rules flags h).0 (bundle rules flags h).1 (bundle_row (length flags) flags h.skip plain (record h { skip = 0 }) each e)
 
-    other_row : (s : Setup) (o : Option Text) (waiting : Waiting) (position : ℕ) (word : Text) (h : Held) → s.rules ≡ rules → s.args_override_self ≡ false → Rows h.rows → other_fault s o word h ≡ []
+    other_row : (s : Shape) (o : Option Text) (waiting : Waiting) (position : ℕ) (word : Text) (h : Held) → s.rules ≡ rules → s.args_override_self ≡ false → Rows h.rows → other_fault s o word h ≡ []
         → Rows (subcommand_or_other rules o waiting position word h).0.rows
     other_row s (Some name) waiting position word h is once each passes = each
     other_row s None waiting position word h is once each passes = go (bytes_eq word (45 ∷ 45 ∷ [])) passes
@@ -220,7 +220,7 @@ module _ (rules : List Rule) where
         go true e = each
         go false e = flag_word_row waiting word (long_of word) h each (rw (is, once) at e)
 
-    word_row : (s : Setup) (names : Names) (is_trailing : Bool) (waiting : Waiting) (position : ℕ) (word : Text) (h : Held) → s.rules ≡ rules → s.args_override_self ≡ false → Rows h.rows
+    word_row : (s : Shape) (names : Names) (is_trailing : Bool) (waiting : Waiting) (position : ℕ) (word : Text) (h : Held) → s.rules ≡ rules → s.args_override_self ≡ false → Rows h.rows
         → word_fault s names is_trailing waiting word h ≡ [] → Rows (word_met rules names is_trailing waiting position word h).0.rows
     word_row s names true waiting position word h is once each passes = each
     word_row s names false waiting position word h is once each passes = other_row s (subcommand_met names waiting word) waiting position word h is once each passes
@@ -233,7 +233,7 @@ module _ (rules : List Rule) where
         go true e = each
         go false e = settled_row h each e
 
-    step_taken_row : (s : Setup) (word : Text) (w : Walk) (h : Held) (step : Step) → s.rules ≡ rules → s.args_override_self ≡ false → Rows h.rows → step_fault s w.position h step ≡ []
+    step_taken_row : (s : Shape) (word : Text) (w : Walk) (h : Held) (step : Step) → s.rules ≡ rules → s.args_override_self ≡ false → Rows h.rows → step_fault s w.position h step ≡ []
         → Rows (after_step rules word w h step).held.rows
     step_taken_row s word w h (next waiting) is once each passes = each
     step_taken_row s word w h (trailing position) is once each passes = each
@@ -244,7 +244,7 @@ module _ (rules : List Rule) where
         go None e = each
         go (Some a) e = positional_row a word h each e
 
-    turn_row : (s : Setup) (names : Names) (w : Walk) (word : Text) → s.rules ≡ rules → s.args_override_self ≡ false → Rows w.held.rows → turn_fault s names w word ≡ []
+    turn_row : (s : Shape) (names : Names) (w : Walk) (word : Text) → s.rules ≡ rules → s.args_override_self ≡ false → Rows w.held.rows → turn_fault s names w word ≡ []
         → Rows (walked rules names w word).held.rows
     unfolding walked
     turn_row s names w word is once each passes = go w.stopped passes
@@ -261,7 +261,7 @@ module _ (rules : List Rule) where
             let step = subst (λ rs. step_fault s w.position (word_met rs names w.is_trailing w.waiting w.position word w.held).0 (word_met rs names w.is_trailing w.waiting w.position word w.held).1 ≡ []) is both.1 in
             step_taken_row s word w met.0 met.1 is once (word_row s names w.is_trailing w.waiting w.position word w.held is once each both.0) step
 
-    walk_row : (s : Setup) (names : Names) (w : Walk) (words : List Text) → s.rules ≡ rules → s.args_override_self ≡ false → Rows w.held.rows → walk_fault s names w words ≡ []
+    walk_row : (s : Shape) (names : Names) (w : Walk) (words : List Text) → s.rules ≡ rules → s.args_override_self ≡ false → Rows w.held.rows → walk_fault s names w words ≡ []
         → Rows (fold (walked rules names) w words).held.rows
     unfolding walk_fault
     walk_row s names w [] is once each passes = each
@@ -281,7 +281,7 @@ module _ (rules : List Rule) where
         go false = rw none.0 refl
 
     -- words without a fault leave rows of the rules
-    pub rows_of_rules : (s : Setup) (words : List Text) → s.rules ≡ rules → s.args_override_self ≡ false → Each (λ (a : Rule). a.defaults ≡ []) rules
+    pub rows_of_rules : (s : Shape) (words : List Text) → s.rules ≡ rules → s.args_override_self ≡ false → Each (λ (a : Rule). a.defaults ≡ []) rules
         → level_fault s [] nothing_held words false [] ≡ [] → Each (IsRowOf rules) (rows_after rules [] words)
     rows_of_rules s words is once none passes =
         let walk_passes = neither_fails _ _ passes in

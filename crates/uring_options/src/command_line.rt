@@ -48,6 +48,9 @@ Steps, a line each, and their answers:
   next           name the request to be issued next: next N, none
 Any other line is answered bad line, and is no step.
 
+Requests are numbered from 0 on, in the order in which they are accepted, over
+all calls: NUM is that number. A dropped word has none, a faulty entry has one.
+
 UD, TARGET, OFF and NUM are numbers up to 2^64 - 1, SLOT, WORD, COUNT and LEN
 up to 2^32 - 1, CODE up to 255; FD has 32 bits and a sign. FLAGS is - or letters:
 D drain, L link, H hard link, A async, S skip success. HEX is - or 1 to 64 bytes

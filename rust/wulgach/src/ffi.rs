@@ -113,6 +113,7 @@ extern "C" {
     pub fn wulgach_core_rest(core: *mut Place, index: u64, completion: *mut Completion) -> i32;
     pub fn wulgach_core_running_op(core: *mut Place, number: u64, operation: *mut Operation)
         -> i32;
+    pub fn wulgach_core_least(core: *mut Place, number: *mut u64) -> i32;
     pub fn wulgach_core_free(core: *mut Place) -> i32;
     pub fn wulgach_machine_new(machine: *mut Place, setup: *const Setup) -> i32;
     pub fn wulgach_machine_step(machine: *mut Place, step: *const Step, answer: *mut Answer)
@@ -130,5 +131,6 @@ extern "C" {
     ) -> i32;
     pub fn wulgach_machine_state(machine: *mut Place, fd: i32, file: *mut File) -> i32;
     pub fn wulgach_machine_byte(machine: *mut Place, fd: i32, at: u64, byte: *mut u8) -> i32;
+    pub fn wulgach_machine_least(machine: *mut Place, number: *mut u64) -> i32;
     pub fn wulgach_machine_free(machine: *mut Place) -> i32;
 }

@@ -76,6 +76,14 @@ impl Machine {
         (result == 0).then(|| reading::completion(&completion))
     }
 
+    /// The least outstanding request, which is the next to go on if nothing else can.
+    pub fn least(&self) -> Option<u64> {
+        let mut number = 0;
+        // SAFETY: as in `counts`.
+        let result = unsafe { ffi::wulgach_machine_least(self.place.get(), &mut number) };
+        (result == 0).then_some(number)
+    }
+
     /// What the request of this number asks for, if it is running.
     pub fn running_op(&self, number: u64) -> Option<Operation> {
         let mut operation = reading::NO_OPERATION;

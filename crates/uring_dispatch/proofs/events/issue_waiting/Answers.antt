@@ -1,50 +1,62 @@
-use Rattle.std.proofs.Common.{sym, ◌∙◌, ap, refl, negsuc, rules}
+use Rattle.std.proofs.Common.{sym, ◌∙◌, ap, refl, negsuc, rules, arith}
 use Rattle.std.specs.Int.{w32}
 use Rattle.std.proofs.lemmas.Int.{to_z-of_z}
-use Rattle.uring_dispatch.specs.declared.request.Request.{Request}
-use Rattle.uring_dispatch.specs.Held.{in_over}
-use Rattle.uring_dispatch.proofs.Standing.{read_at}
-use Rattle.uring_dispatch.proofs.Changes.{issued_end-held, started-held, none_chosen}
-use Rattle.uring_dispatch.proofs.Issues.{issued-faulty, issued-cancel, issued-run, right-entry, is_cancel-entry}
+use Rattle.uring_entry.specs.Layout.{addr_of}
+use Rattle.uring_entry.specs.Requests.{entry_of, no_bytes}
+use Rattle.uring_dispatch.specs.Window.{started}
+use Rattle.uring_dispatch.proofs.HeldLemmas.{shown-within}
+use Rattle.uring_dispatch.proofs.Changes.{write-sound, start-held, ends-alone, none_chosen}
+use Rattle.uring_dispatch.proofs.Issues.{op-none, op-some, issued-faulty, issued-doomed, issued-cancel, issued-run, is_cancel-operation}
 use Rattle.uring_dispatch.proofs.events.issue_waiting.Goals as goal
 
 pub returns-in_default-clause-answer : goal.returns-in_default-clause-answer
 returns-in_default-clause-answer c = λ r h.
-    let q = read_at c.args.requests.now c.args.n c.index-requests-n.result c.requires.within c.index-requests-n.is in
-    issued-faulty _ r _ _ c.in_default.field-0 h c.requires.within (ap (λ (x : Request). x.entry) (sym c.index-requests-n.is ∙ q)) c.in_default.ensures.faulty
+    let shown = h.shown c.args.n c.args.request c.requires.there in
+    issued-faulty r c.args.n (shown-within _ _ r c.args.n c.args.request c.requires.sound h c.requires.there) (op-none (entry_of r c.args.n) (sym c.in_default.is ∙ shown.op))
 
 pub returns-in_default-clause-held : goal.returns-in_default-clause-held
 returns-in_default-clause-held c = λ r h.
-    rw c.set_state.ensures
-    (issued_end-held _ r _ _ _ h c.requires.within (ap in_over c.requires.waiting) refl (none_chosen r c.args.n (negsuc 21) refl))
+    ends-alone _ _ r c.args.n (negsuc 21) (none_chosen r c.args.n (negsuc 21) refl) (c.end.ensures.held r (negsuc 21) no_bytes h refl)
+
+pub returns-then-is_doomed-clause-answer : goal.returns-then-is_doomed-clause-answer
+returns-then-is_doomed-clause-answer c = λ r h.
+    let shown = h.shown c.args.n c.args.request c.requires.there in
+    let does = op-some (entry_of r c.args.n) c.in-Some.op (sym c.in-Some.is ∙ shown.op) in
+    issued-doomed r c.args.n (sym (c.is_doomed.ensures r h) ∙ c.if-is_doomed.true) does.0
 
 pub returns-then-is_doomed-clause-held : goal.returns-then-is_doomed-clause-held
 returns-then-is_doomed-clause-held c = λ r h.
-    rw c.set_state-then-is_doomed.ensures
-    (issued_end-held _ r _ _ _ h c.requires.within (ap in_over c.requires.waiting) refl (none_chosen r c.args.n (negsuc 124) refl))
+    ends-alone _ _ r c.args.n (negsuc 124) (none_chosen r c.args.n (negsuc 124) refl) (c.end-then-is_doomed.ensures.held r (negsuc 124) no_bytes h refl)
 
 pub returns-in-Cancel-clause-answer : goal.returns-in-Cancel-clause-answer
 returns-in-Cancel-clause-answer c = λ r h.
-    let q = read_at c.args.requests.now c.args.n c.index-requests-n.result c.requires.within c.index-requests-n.is in
+    let shown = h.shown c.args.n c.args.request c.requires.there in
+    let does = op-some (entry_of r c.args.n) c.in-Some.op (sym c.in-Some.is ∙ shown.op) in
     rw (to_z-of_z w32 c.cancel.result (search rules))
-    (issued-cancel r _ _ (sym (c.is_doomed.ensures r h) ∙ c.if-is_doomed.false) (sym (c.is_ready.ensures r h) ∙ c.if-not-is_ready.false)
-    (is_cancel-entry _ r _ _ _ _ h (ap (λ (x : Request). x.entry) (sym c.index-requests-n.is ∙ q)) c.in-Ok.ensures.right.1 c.in-Cancel.is) (c.cancel.ensures.answer r h))
+    (issued-cancel r c.args.n _ (sym (c.is_doomed.ensures r h) ∙ c.if-is_doomed.false) (sym (c.is_ready.ensures r h) ∙ c.if-not-is_ready.false)
+    (is_cancel-operation (entry_of r c.args.n) c.in-Cancel.target (sym does.1 ∙ c.in-Cancel.is))
+    (c.cancel.ensures.answer r h (c.addr.ensures ∙ ap addr_of shown.entry)))
 
 pub returns-in-Cancel-clause-held : goal.returns-in-Cancel-clause-held
 returns-in-Cancel-clause-held c = λ r h.
-    let q = read_at c.args.requests.now c.args.n c.index-requests-n.result c.requires.within c.index-requests-n.is in
+    let shown = h.shown c.args.n c.args.request c.requires.there in
+    let does = op-some (entry_of r c.args.n) c.in-Some.op (sym c.in-Some.is ∙ shown.op) in
     rw (to_z-of_z w32 c.cancel.result (search rules))
-    (c.cancel.ensures.held r h
-    (is_cancel-entry _ r _ _ _ _ h (ap (λ (x : Request). x.entry) (sym c.index-requests-n.is ∙ q)) c.in-Ok.ensures.right.1 c.in-Cancel.is))
+    (c.cancel.ensures.held r h (c.addr.ensures ∙ ap addr_of shown.entry) (is_cancel-operation (entry_of r c.args.n) c.in-Cancel.target (sym does.1 ∙ c.in-Cancel.is)))
 
-pub returns-clause-answer : goal.returns-clause-answer
-returns-clause-answer c = λ r h.
-    let q = read_at c.args.requests.now c.args.n c.index-requests-n.result c.requires.within c.index-requests-n.is in
-    issued-run _ r _ _ _ h (ap (λ (x : Request). x.entry) (sym c.index-requests-n.is ∙ q)) (sym (c.is_doomed.ensures r h) ∙ c.if-is_doomed.false)
-    (sym (c.is_ready.ensures r h) ∙ c.if-not-is_ready.false) c.in-Ok.ensures.right.1 c.in_default-op.not-Cancel
-
-pub returns-clause-held : goal.returns-clause-held
-returns-clause-held c = λ r h.
-    let q = read_at c.args.requests.now c.args.n c.index-requests-n.result c.requires.within c.index-requests-n.is in
-    rw c.set_state-2.ensures
-    (started-held _ r _ h c.requires.within (ap in_over c.requires.waiting) (right-entry _ r _ _ h (ap (λ (x : Request). x.entry) (sym c.index-requests-n.is ∙ q)) c.in-Ok.ensures.right.0))
+pub returns : goal.returns
+returns c =
+    let same = c.start.ensures.same in
+    record {
+      sound = write-sound _ _ _ c.args.n c.args.request (started c.args.request) c.requires.sound c.requires.there (c.start.ensures.changes _ c.requires.there) refl same.end;
+      closed = c.requires.closed;
+      groups_room = refl;
+      answer = λ r h.
+          let does = op-some (entry_of r c.args.n) c.in-Some.op (sym c.in-Some.is ∙ (h.shown c.args.n c.args.request c.requires.there).op) in
+          issued-run r c.args.n c.in-Some.op (sym (c.is_doomed.ensures r h) ∙ c.if-is_doomed.false) (sym (c.is_ready.ensures r h) ∙ c.if-not-is_ready.false) does.1 c.in_default-op.not-Cancel;
+      held = λ r h.
+          let does = op-some (entry_of r c.args.n) c.in-Some.op (sym c.in-Some.is ∙ (h.shown c.args.n c.args.request c.requires.there).op) in
+          start-held _ _ _ r c.args.n c.args.request c.requires.sound h c.requires.there c.requires.waits does.0 (c.start.ensures.changes _ c.requires.there) same c.start.ensures.running;
+      counts = λ room between. record { accepted = same.end; outstanding = same.outstanding; running = c.start.ensures.running; room = omega arith; between = refl };
+      room = same.room;
+    }

@@ -1,9 +1,13 @@
-use Rattle.std.proofs.Common.{arith}
-use Rattle.std.proofs.lemmas.List.{with_items_is}
-use Rattle.uring_dispatch.proofs.Views.{shows-list, held-from}
+use Rattle.std.proofs.Common.{refl, None}
+use Rattle.uring_entry.specs.Requests.{with_cut}
+use Rattle.uring_dispatch.proofs.Views.{held-from, shows-held}
+use Rattle.uring_dispatch.proofs.Accepts.{cut-held, cut-sound}
 use Rattle.uring_dispatch.proofs.dispatch.Dispatch.end_call.Goals as goal
 
+pub invariant_of-self : goal.invariant_of-self
+invariant_of-self c =
+    let i = c.self.invariant in
+    rw c.close.ensures (record { sound = cut-sound _ _ i.sound; window = i.window; groups = i.groups; closed = λ e. refl; fits = i.fits })
+
 pub returns-clause-shows : goal.returns-clause-shows
-returns-clause-shows c = λ r s.
-    shows-list _ c.end_call.new.requests _ _ (with_items_is c.self.inside.requests c.end_call.new.requests (omega arith))
-    (c.end_call.ensures.held r (rw c.deref_mut.ensures.value (held-from _ _ _ r c.self.view_is s)))
+returns-clause-shows c = λ r s. rw c.close.ensures (shows-held c.self.inside.window (record c.self.inside.groups { last = None }) (with_cut r) c.self.inside.room _ (cut-held c.self.inside.window c.self.inside.groups r (held-from _ _ c.self.inside.groups _ _ r c.self.view_is s)))

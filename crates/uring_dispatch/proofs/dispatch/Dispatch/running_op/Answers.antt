@@ -1,23 +1,16 @@
-use Rattle.std.proofs.Common.{◌<◌, length, sym, ◌∙◌, ap, arith}
-use Rattle.uring_dispatch.specs.Held.{is_running}
-use Rattle.uring_dispatch.proofs.Standing.{read_at}
-use Rattle.uring_dispatch.proofs.Views.{held-from, operation-none, operation-some, shows-past}
+use Rattle.std.proofs.Common.{sym, ◌∙◌}
+use Rattle.uring_dispatch.proofs.HeldLemmas.{running-none, running-some}
+use Rattle.uring_dispatch.proofs.Views.{held-from, operation-none, operation-some}
 use Rattle.uring_dispatch.proofs.dispatch.Dispatch.running_op.Goals as goal
 
-pub returns-then-n-accepted : goal.returns-then-n-accepted
-returns-then-n-accepted c = λ r s. operation-none r _ (shows-past _ r _ s (omega (arith, c.accepted.ensures.value)))
+pub returns-in_err-request : goal.returns-in_err-request
+returns-in_err-request c = λ r s.
+    c.from_residual.ensures ∙ operation-none r c.args.n (running-none _ c.self.inside.groups r c.args.n (held-from _ _ c.self.inside.groups _ _ r c.self.view_is s) (sym c.in_err-request.ensures))
 
-pub returns-then-is_running : goal.returns-then-is_running
-returns-then-is_running c = λ r s.
-    let h = held-from _ _ _ r c.self.view_is s in
-    let lt : c.args.n < length c.self.inside.requests.items = omega (arith, h.count, s.accepted, c.accepted.ensures.value, c.if-n-accepted.false) in
-    c.ok.ensures.value
-    ∙ operation-some _ r _ c.index-request.result.now _ h (read_at _ _ _ lt c.index-request.ensures) (sym c.is_running.ensures ∙ c.if-is_running.true)
-    c.prepare.ensures.right c.prepare.ensures.faulty
+pub returns-then-request : goal.returns-then-request
+returns-then-request c = λ r s.
+    operation-some _ c.self.inside.groups r c.args.n c.in_ok-request.request.now (held-from _ _ c.self.inside.groups _ _ r c.self.view_is s) (sym c.in_ok-request.ensures) c.if-request.true
 
-pub returns-else-is_running : goal.returns-else-is_running
-returns-else-is_running c = λ r s.
-    let h = held-from _ _ _ r c.self.view_is s in
-    let lt : c.args.n < length c.self.inside.requests.items = omega (arith, h.count, s.accepted, c.accepted.ensures.value, c.if-n-accepted.false) in
-    operation-none r _
-    (sym (h.running c.args.n) ∙ ap is_running (sym (read_at _ _ _ lt c.index-request.ensures)) ∙ sym c.is_running.ensures ∙ c.if-is_running.false)
+pub returns-else-request : goal.returns-else-request
+returns-else-request c = λ r s.
+    operation-none r c.args.n (running-some _ c.self.inside.groups r c.args.n c.in_ok-request.request.now (held-from _ _ c.self.inside.groups _ _ r c.self.view_is s) (sym c.in_ok-request.ensures) ∙ c.if-request.false)

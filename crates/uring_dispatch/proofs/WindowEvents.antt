@@ -1,0 +1,178 @@
+-- What the events of the window keep: each key has a request, none stands twice, and the running requests are counted.
+use Rattle.std.proofs.Common.{◌≡◌, ◌≢◌, ℕ, suc, ◌+◌, ◌-◌, ◌<◌, ◌≤◌, ◌⊎◌, List, [], ◌∷◌, ◌++◌, length, get_or, set, false, Option, Some, None, is_some, refl, sym, ◌∙◌, ap, arith, inl, inr, length-append}
+use Rattle.std.proofs.lemmas.Bool.{cases_eq, both_ways}
+use Rattle.std.proofs.lemmas.List.{length-set}
+use Rattle.uring_dispatch.specs.declared.request.Request.{Request}
+use Rattle.uring_entry.specs.Below.{count_below}
+use Rattle.uring_dispatch.specs.Window.{Window, key_at, found_by, at, end_of, runs, one_if, IsWindow, Changes}
+use Rattle.uring_dispatch.proofs.Counting.{count_below-same, count_below-changed}
+use Rattle.uring_dispatch.proofs.WindowLemmas.{some_none, key_at-within, key_at-push_here, key_at-push_other, key_at-set_here, key_at-set_other, at-keyed, at-key}
+
+-- What the changes of the window keep.
+
+found-other : (was now : List (Option Request)) (key : ℕ) (o : Option ℕ) → ((k : ℕ) → k ≢ key → get_or now k None ≡ get_or was k None) → ((k : ℕ) → o ≡ Some k → k ≢ key) → found_by now o ≡ found_by was o
+found-other was now key None h ne = refl
+found-other was now key (Some k) h ne = h k (ne k refl)
+
+same_some : {X : Type 0} (a b : X) → Some a ≡ Some b → a ≡ b
+same_some a b e = cc
+
+-- what a request of a new key leaves as it was
+unused : (w : Window) (key n k : ℕ) → IsWindow w → get_or w.requests key None ≡ None → key_at w.first w.keys n ≡ Some k → k ≢ key
+unused w key n k i vacant e same = both_ways _ (ap is_some (ap (λ j. get_or w.requests j None) same ∙ vacant)) (i.present n k e)
+
+pub push-changes : (w : Window) (requests : List (Option Request)) (key outstanding room : ℕ) (q : Request) → IsWindow w → get_or w.requests key None ≡ None → get_or requests key None ≡ Some q → ((k : ℕ) → k ≢ key → get_or requests k None ≡ get_or w.requests k None) → Changes w (record { first = w.first; keys = w.keys ++ Some key ∷ []; requests = requests; outstanding = outstanding; running = w.running; room = room }) (end_of w) (Some q)
+push-changes w requests key outstanding room q i vacant here others =
+    let v : Window = record { first = w.first; keys = w.keys ++ Some key ∷ []; requests = requests; outstanding = outstanding; running = w.running; room = room } in
+    record {
+      here = at-keyed v (end_of w) (Some key) (key_at-push_here w.first w.keys (Some key)) ∙ here;
+      others = λ k ne.
+          at-keyed v k (key_at w.first w.keys k) (key_at-push_other w.first w.keys (Some key) k ne)
+          ∙ found-other w.requests requests key (key_at w.first w.keys k) others (λ j e. unused w key k j i vacant e)
+          ∙ sym (at-key w k);
+    }
+
+push-cases : (w : Window) (key n k : ℕ) → key_at w.first (w.keys ++ Some key ∷ []) n ≡ Some k → ((n ≡ end_of w) × (k ≡ key)) ⊎ (key_at w.first w.keys n ≡ Some k)
+push-cases w key n k e =
+    elim (cases_eq n (end_of w)) [
+      | inl same ↦
+          inl (same, same_some k key (sym e ∙ ap (key_at w.first (w.keys ++ Some key ∷ [])) same ∙ key_at-push_here w.first w.keys (Some key)))
+      | inr other ↦ inr (sym (key_at-push_other w.first w.keys (Some key) n other) ∙ e)
+    ]
+
+pub push-window : (w : Window) (requests : List (Option Request)) (key outstanding room : ℕ) (q : Request) → IsWindow w → get_or w.requests key None ≡ None → get_or requests key None ≡ Some q → ((k : ℕ) → k ≢ key → get_or requests k None ≡ get_or w.requests k None) → q.is_running ≡ false → room + 1 ≡ w.room → IsWindow (record { first = w.first; keys = w.keys ++ Some key ∷ []; requests = requests; outstanding = outstanding; running = w.running; room = room })
+push-window w requests key outstanding room q i vacant here others waits less =
+    let v : Window = record { first = w.first; keys = w.keys ++ Some key ∷ []; requests = requests; outstanding = outstanding; running = w.running; room = room } in
+    let changes = push-changes w requests key outstanding room q i vacant here others in
+    let longer : length (w.keys ++ Some key ∷ []) ≡ length w.keys + 1 = length-append w.keys (Some key ∷ []) in
+    let end : end_of v ≡ suc (end_of w) = omega arith in
+    record {
+      present = λ n k e.
+          elim (push-cases w key n k e) [
+            | inl new ↦ ap (λ j. is_some (get_or requests j None)) new.1 ∙ ap is_some here
+            | inr old ↦ ap is_some (others k (unused w key n k i vacant old)) ∙ i.present n k old
+          ];
+      distinct = λ m n k a b.
+          elim (push-cases w key m k a) [
+            | inl new ↦
+                elim (push-cases w key n k b) [
+                  | inl again ↦ new.0 ∙ sym again.0
+                  | inr old ↦ absurd (unused w key n k i vacant old new.1)
+                ]
+            | inr was ↦
+                elim (push-cases w key n k b) [
+                  | inl new ↦ absurd (unused w key m k i vacant was new.1)
+                  | inr old ↦ i.distinct m n k was old
+                ]
+          ];
+      counted =
+          let before : count_below (λ n. runs (at v n)) (end_of w) ≡ count_below (λ n. runs (at w n)) (end_of w) =
+          count_below-same (λ n. runs (at v n)) (λ n. runs (at w n)) (end_of w) (λ k lt. ap runs (changes.others k (λ e. absurd (omega (arith, e)))))
+          in
+          let last : one_if (runs (at v (end_of w))) ≡ 0 = ap (λ o. one_if (runs o)) changes.here ∙ ap one_if waits in
+          let whole : count_below (λ n. runs (at v n)) (end_of v) ≡ count_below (λ n. runs (at v n)) (suc (end_of w)) = ap (count_below (λ n. runs (at v n))) end in
+          let was = i.counted in
+          omega arith;
+      fits = omega (arith, i.fits);
+    }
+
+-- a request is written under the key of its number
+other_key : (w : Window) (n k key : ℕ) → IsWindow w → key_at w.first w.keys n ≡ Some key → k ≢ n → (j : ℕ) → key_at w.first w.keys k ≡ Some j → j ≢ key
+other_key w n k key i e ne j is same = ne (i.distinct k n key (is ∙ ap Some same) e)
+
+pub write-changes : (w : Window) (requests : List (Option Request)) (n key outstanding running : ℕ) (q : Request) → IsWindow w → key_at w.first w.keys n ≡ Some key → get_or requests key None ≡ Some q → ((k : ℕ) → k ≢ key → get_or requests k None ≡ get_or w.requests k None) → Changes w (record w { requests = requests; outstanding = outstanding; running = running }) n (Some q)
+write-changes w requests n key outstanding running q i e here others =
+    let v : Window = record w { requests = requests; outstanding = outstanding; running = running } in
+    record {
+      here = at-keyed v n (Some key) e ∙ here;
+      others = λ k ne.
+          at-key v k ∙ found-other w.requests requests key (key_at w.first w.keys k) others (other_key w n k key i e ne) ∙ sym (at-key w k);
+    }
+
+pub write-window : (w : Window) (requests : List (Option Request)) (n key outstanding running : ℕ) (q : Request) → IsWindow w → key_at w.first w.keys n ≡ Some key → get_or requests key None ≡ Some q → ((k : ℕ) → k ≢ key → get_or requests k None ≡ get_or w.requests k None) → running + one_if (runs (at w n)) ≡ w.running + one_if q.is_running → IsWindow (record w { requests = requests; outstanding = outstanding; running = running })
+write-window w requests n key outstanding running q i e here others count =
+    let v : Window = record w { requests = requests; outstanding = outstanding; running = running } in
+    let changes = write-changes w requests n key outstanding running q i e here others in
+    record {
+      present = λ m k is.
+          elim (cases_eq k key) [
+            | inl same ↦ ap (λ j. is_some (get_or requests j None)) same ∙ ap is_some here
+            | inr other ↦ ap is_some (others k other) ∙ i.present m k is
+          ];
+      distinct = i.distinct;
+      counted =
+          let inside = key_at-within w.first w.keys n key e in
+          let change : count_below (λ m. runs (at v m)) (end_of w) + one_if (runs (at w n)) ≡ count_below (λ m. runs (at w m)) (end_of w) + one_if (runs (at v n)) =
+          count_below-changed (λ m. runs (at w m)) (λ m. runs (at v m)) (end_of w) n inside.1 (λ k ne. ap runs (changes.others k ne))
+          in
+          let now : one_if (runs (at v n)) ≡ one_if q.is_running = ap (λ o. one_if (runs o)) changes.here in
+          let was = i.counted in
+          omega arith;
+      fits = i.fits;
+    }
+
+-- the request of a number ends
+pub end-changes : (w : Window) (requests : List (Option Request)) (n key outstanding running : ℕ) → IsWindow w → key_at w.first w.keys n ≡ Some key → ((k : ℕ) → k ≢ key → get_or requests k None ≡ get_or w.requests k None) → Changes w (record w { keys = set w.keys (n - w.first) None; requests = requests; outstanding = outstanding; running = running }) n None
+end-changes w requests n key outstanding running i e others =
+    let v : Window = record w { keys = set w.keys (n - w.first) None; requests = requests; outstanding = outstanding; running = running } in
+    let inside = key_at-within w.first w.keys n key e in
+    record {
+      here = at-keyed v n None (key_at-set_here w.first w.keys None n inside.0 inside.1);
+      others = λ k ne.
+          at-keyed v k (key_at w.first w.keys k) (key_at-set_other w.first w.keys None n k inside.0 ne)
+          ∙ found-other w.requests requests key (key_at w.first w.keys k) others (other_key w n k key i e ne)
+          ∙ sym (at-key w k);
+    }
+
+end-cases : (w : Window) (n k key : ℕ) → w.first ≤ n → n < end_of w → key_at w.first (set w.keys (n - w.first) None) k ≡ Some key → (k ≢ n) × (key_at w.first w.keys k ≡ Some key)
+end-cases w n k key le lt e =
+    elim (cases_eq k n) [
+      | inl same ↦
+          some_none key _ (ap (key_at w.first (set w.keys (n - w.first) None)) same ∙ key_at-set_here w.first w.keys None n le lt) e
+      | inr other ↦ (other, sym (key_at-set_other w.first w.keys None n k le other) ∙ e)
+    ]
+
+pub end-window : (w : Window) (requests : List (Option Request)) (n key outstanding running : ℕ) → IsWindow w → key_at w.first w.keys n ≡ Some key → ((k : ℕ) → k ≢ key → get_or requests k None ≡ get_or w.requests k None) → (q : Request) → get_or w.requests key None ≡ Some q → running + one_if q.is_running ≡ w.running → IsWindow (record w { keys = set w.keys (n - w.first) None; requests = requests; outstanding = outstanding; running = running })
+end-window w requests n key outstanding running i e others q is count =
+    let v : Window = record w { keys = set w.keys (n - w.first) None; requests = requests; outstanding = outstanding; running = running } in
+    let changes = end-changes w requests n key outstanding running i e others in
+    let inside = key_at-within w.first w.keys n key e in
+    let long : length (set w.keys (n - w.first) None) ≡ length w.keys = length-set w.keys (n - w.first) None in
+    let end : end_of v ≡ end_of w = omega arith in
+    record {
+      present = λ m k is.
+          let old = end-cases w n m k inside.0 inside.1 is in
+          ap is_some (others k (other_key w n m key i e old.0 k old.1)) ∙ i.present m k old.1;
+      distinct = λ a b k x y.
+          i.distinct a b k (end-cases w n a k inside.0 inside.1 x).1 (end-cases w n b k inside.0 inside.1 y).1;
+      counted =
+          let change : count_below (λ m. runs (at v m)) (end_of w) + one_if (runs (at w n)) ≡ count_below (λ m. runs (at w m)) (end_of w) + one_if (runs (at v n)) =
+          count_below-changed (λ m. runs (at w m)) (λ m. runs (at v m)) (end_of w) n inside.1 (λ k ne. ap runs (changes.others k ne))
+          in
+          let ran : one_if (runs (at w n)) ≡ one_if q.is_running = ap (λ o. one_if (runs o)) (at-keyed w n (Some key) e ∙ is) in
+          let now : one_if (runs (at v n)) ≡ 0 = ap (λ o. one_if (runs o)) changes.here in
+          let whole : count_below (λ m. runs (at v m)) (end_of v) ≡ count_below (λ m. runs (at v m)) (end_of w) = ap (count_below (λ m. runs (at v m))) end in
+          let was = i.counted in
+          omega arith;
+      fits = omega (arith, i.fits);
+    }
+
+-- the front is trimmed
+pub trim-window : (w : Window) (first : ℕ) (keys : List (Option ℕ)) → ((n : ℕ) → key_at first keys n ≡ key_at w.first w.keys n) → first + length keys ≡ end_of w → IsWindow w → IsWindow (record w { first = first; keys = keys })
+trim-window w first keys same end i =
+    let v : Window = record w { first = first; keys = keys } in
+    record {
+      present = λ n k e. i.present n k (sym (same n) ∙ e);
+      distinct = λ m n k a b. i.distinct m n k (sym (same m) ∙ a) (sym (same n) ∙ b);
+      counted =
+          i.counted
+          ∙ count_below-same (λ n. runs (at w n)) (λ n. runs (at v n)) (end_of w) (λ k lt. ap runs (at-key w k ∙ ap (found_by w.requests) (sym (same k)) ∙ sym (at-key v k)))
+          ∙ ap (count_below (λ n. runs (at v n))) (sym end);
+      fits = omega (arith, i.fits);
+    }
+
+pub trim-changes : (u w : Window) (first : ℕ) (keys : List (Option ℕ)) (n : ℕ) → ((k : ℕ) → key_at first keys k ≡ key_at w.first w.keys k) → Changes u w n None → Changes u (record w { first = first; keys = keys }) n None
+trim-changes u w first keys n same c =
+    let v : Window = record w { first = first; keys = keys } in
+    let kept : (k : ℕ) → at v k ≡ at w k = λ k. at-key v k ∙ ap (found_by w.requests) (same k) ∙ sym (at-key w k) in
+    record { here = kept n ∙ c.here; others = λ k ne. kept k ∙ c.others k ne }

@@ -1,0 +1,18 @@
+use Rattle.std.proofs.Common.{arith, ap, ◌∙◌, sym}
+use Rattle.uring_dispatch.specs.Dispatch.{Dispatch}
+use Rattle.uring_dispatch.proofs.Views.{on-ok, on-err, dispatcher-window, dispatcher-both}
+use Rattle.uring_dispatch.proofs.dispatch.Dispatch.reserve.Goals as goal
+
+pub invariant_of-self-then-is_err-2 : goal.invariant_of-self-then-is_err-2
+invariant_of-self-then-is_err-2 c =
+    let window = on-ok _ _ (sym c.is_err.ensures.value ∙ c.if-is_err.false) c.reserve.ensures.ok in
+    let groups = on-err _ _ (sym c.is_err-2.ensures.value ∙ c.if-is_err-2.true) c.reserve-2.ensures.err in
+    let accepted = ap (λ (d : Dispatch). d.accepted) c.self.view_is in
+    rw (window, groups) (dispatcher-window _ _ _ _ c.args.count c.self.invariant (omega arith) (omega arith))
+
+pub invariant_of-self-2 : goal.invariant_of-self-2
+invariant_of-self-2 c =
+    let window = on-ok _ _ (sym c.is_err.ensures.value ∙ c.if-is_err.false) c.reserve.ensures.ok in
+    let groups = on-ok _ _ (sym c.is_err-2.ensures.value ∙ c.if-is_err-2.false) c.reserve-2.ensures.ok in
+    let accepted = ap (λ (d : Dispatch). d.accepted) c.self.view_is in
+    rw (window, groups) (dispatcher-both _ _ _ _ c.args.count c.self.invariant (omega arith))

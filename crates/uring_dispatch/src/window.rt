@@ -1,0 +1,283 @@
+//! The outstanding requests by their numbers.
+
+ghost use Rattle.std.specs.Prelude.{◌≡◌, ◌≢◌, ℕ, ◌+◌, ◌-◌, ◌^◌, ◌<◌, ◌≤◌, true, false, Some, None, OnOk, OnErr, MatchOption, is_some, option_copied, length, slice_set};
+ghost use Rattle.std.specs.VecDeque.{deque_len, deque_capacity};
+ghost use Rattle.slab.specs.Slab.{get, slab_len, ContainsKey};
+ghost use Rattle.uring_dispatch.specs.Window.{key_at, at, end_of, runs, one_if, started, chosen, Changes, IsFirst, IsTrimmed, IsAsBefore, HasBefore};
+
+use crate::request::Request;
+use slab::Slab;
+use std::alloc::{AllocError, Global};
+use std::collections::VecDeque;
+use std::marker::Model;
+
+/// The outstanding requests, found by their numbers. They end in any order; the window begins with the least of them.
+#[derive(Drop)]
+pub(crate) struct Window {
+    // The least outstanding number, or the next number if no request is outstanding.
+    first: u64,
+    // From `first` on: the key of each request, or none if it has ended.
+    keys: VecDeque<Option<usize>>,
+    requests: Slab<Request>,
+    // How many of them are running.
+    running: u64,
+    // How many more can be pushed: their memory was asked for.
+    room: u64,
+}
+
+impl Model for Window {
+    ghost use Rattle.std.specs.Prelude.{◌+◌, ◌≤◌};
+    ghost use Rattle.std.specs.VecDeque.{deque_len, deque_capacity};
+    ghost use Rattle.slab.specs.Slab.{slab_len};
+    ghost use Rattle.uring_dispatch.specs.Window.{Window as Kept, IsWindow, IsTrimmed};
+
+    ghost Value = { Kept };
+
+    ghost view = { λ w. record {
+      first = w.first;
+      keys = w.keys.items;
+      requests = w.requests.slots;
+      outstanding = slab_len w.requests;
+      running = w.running;
+      room = w.room;
+    } };
+
+    ghost invariant = { λ w. IsWindow (record {
+      first = w.first;
+      keys = w.keys.items;
+      requests = w.requests.slots;
+      outstanding = slab_len w.requests;
+      running = w.running;
+      room = w.room;
+    }) × IsTrimmed w.keys.items × (deque_len w.keys + w.room ≤ deque_capacity w.keys) × (slab_len w.requests + w.room ≤ w.requests.capacity) };
+}
+
+impl Window {
+    /// Nothing yet. It takes no memory.
+    pub(crate) fn new(alloc: Global) -> Window
+        ensures none { (n : ℕ) → at result n ≡ None }
+        ensures end { end_of result ≡ 0 }
+        ensures outstanding { result.outstanding ≡ 0 }
+        ensures running { result.running ≡ 0 }
+        ensures room { result.room ≡ 0 }
+    {
+        Window {
+            first: 0,
+            keys: VecDeque::new(alloc),
+            requests: Slab::new(alloc),
+            running: 0,
+            room: 0,
+        }
+    }
+
+    /// The number that the window begins with: nothing before it is outstanding.
+    pub(crate) fn first(&self) -> u64
+        ensures value { result ≡ self.now.first }
+        ensures before { (n : ℕ) → n < result → at self.now n ≡ None }
+        ensures within { result ≤ end_of self.now }
+    {
+        self.first
+    }
+
+    /// The number behind the last request.
+    pub(crate) fn end(&self) -> u64
+        ensures value { result ≡ end_of self.now }
+        ensures limit { result + self.now.room < 2 ^ 63 }
+    {
+        self.first + self.keys.len() as u64
+    }
+
+    /// How many requests are outstanding.
+    pub(crate) fn outstanding(&self) -> u64
+        ensures { result ≡ self.now.outstanding }
+    {
+        self.requests.len() as u64
+    }
+
+    /// How many of them are running.
+    pub(crate) fn running(&self) -> u64
+        ensures { result ≡ self.now.running }
+    {
+        self.running
+    }
+
+    /// Makes room for `count` requests more, in place of what is left of the room. Where memory is refused, nothing changes.
+    pub(crate) fn reserve(&mut self, count: u64) -> Result<(), AllocError>
+        requires { end_of self.old + count < 2 ^ 63 }
+        ensures ok { OnOk result (self.new ≡ record self.old { room = count }) }
+        ensures err { OnErr result (self.new ≡ self.old) }
+    {
+        self.requests.reserve(count as usize)?;
+        self.keys.reserve(count as usize)?;
+        self.room = count;
+        Ok(())
+    }
+
+    /// Adds a request, which was not started.
+    pub(crate) fn push(&mut self, request: Request)
+        requires room { 0 < self.old.room }
+        requires waits { request.is_running ≡ false }
+        ensures changes { Changes self.old self.new (end_of self.old) (Some request) }
+        ensures end { end_of self.new ≡ end_of self.old + 1 }
+        ensures outstanding { self.new.outstanding ≡ self.old.outstanding + 1 }
+        ensures running { self.new.running ≡ self.old.running }
+        ensures room { self.new.room + 1 ≡ self.old.room }
+    {
+        let key = self.requests.insert_reserved(request);
+        self.keys.push_back_reserved(Some(key));
+        self.room -= 1;
+    }
+
+    /// The request of this number, if it is outstanding.
+    pub(crate) fn get(&self, n: u64) -> Option<&Request>
+        ensures { option_copied result ≡ at self.now n }
+    {
+        let key = key_of(self.first, &self.keys, n)?;
+        self.requests.get(key)
+    }
+
+    /// Whether request `n` is running.
+    pub(crate) fn is_running(&self, n: u64) -> bool
+        ensures { result ≡ runs (at self.now n) }
+    {
+        match self.get(n) {
+            Some(request) => request.is_running,
+            None => false,
+        }
+    }
+
+    /// The least outstanding number.
+    pub(crate) fn least(&self) -> Option<u64>
+        ensures { MatchOption result ((n : ℕ) → at self.now n ≡ None) (IsFirst self.now) }
+    {
+        if self.keys.is_empty() {
+            None
+        } else {
+            Some(self.first)
+        }
+    }
+
+    /// Whether a request before the number `n` is outstanding.
+    pub(crate) fn has_before(&self, n: u64) -> bool
+        ensures some { result ≡ true → HasBefore self.now n }
+        ensures none { result ≡ false → (m : ℕ) → m < n → at self.now m ≡ None }
+    {
+        !self.keys.is_empty() && self.first < n
+    }
+
+    /// Starts request `n`, which waits.
+    pub(crate) fn start(&mut self, n: u64)
+        requires there { is_some (at self.old n) ≡ true }
+        requires waits { runs (at self.old n) ≡ false }
+        ensures changes { (q : Request) → at self.old n ≡ Some q → Changes self.old self.new n (Some (started q)) }
+        ensures running { self.new.running ≡ self.old.running + 1 }
+        ensures same { IsAsBefore self.old self.new }
+    {
+        let Some(key) = key_of(self.first, &self.keys, n) else {
+            unreachable!()
+        };
+        mark_running(&mut self.requests, key);
+        self.running += 1;
+    }
+
+    /// Notes that a cancel chose request `n`.
+    pub(crate) fn choose(&mut self, n: u64)
+        requires { is_some (at self.old n) ≡ true }
+        ensures changes { (q : Request) → at self.old n ≡ Some q → Changes self.old self.new n (Some (chosen q)) }
+        ensures running { self.new.running ≡ self.old.running }
+        ensures same { IsAsBefore self.old self.new }
+    {
+        let Some(key) = key_of(self.first, &self.keys, n) else {
+            unreachable!()
+        };
+        mark_cancelled(&mut self.requests, key);
+    }
+
+    /// Ends request `n`, and lets go what was kept of it.
+    pub(crate) fn end_one(&mut self, n: u64) -> Request
+        requires { is_some (at self.old n) ≡ true }
+        ensures request { at self.old n ≡ Some result }
+        ensures changes { Changes self.old self.new n None }
+        ensures end { end_of self.new ≡ end_of self.old }
+        ensures outstanding { self.new.outstanding + 1 ≡ self.old.outstanding }
+        ensures running { self.new.running + one_if result.is_running ≡ self.old.running }
+        ensures room { self.new.room ≡ self.old.room }
+    {
+        let Some(key) = key_of(self.first, &self.keys, n) else {
+            unreachable!()
+        };
+        let request = self.requests.remove(key);
+        self.running = less_if(self.running, request.is_running);
+        forget(&mut self.keys, (n - self.first) as usize);
+        trim(&mut self.first, &mut self.keys);
+        request
+    }
+}
+
+/// Notes that the request of this key was started.
+fn mark_running(requests: &mut Slab<Request>, key: usize)
+    requires { ContainsKey requests.old key }
+    ensures here { (q : Request) → get requests.old key ≡ Some q → get requests.new key ≡ Some (started q) }
+    ensures others { (other : ℕ) → other ≢ key → get requests.new other ≡ get requests.old other }
+    ensures len { slab_len requests.new ≡ slab_len requests.old }
+    ensures capacity { requests.new.capacity ≡ requests.old.capacity }
+{
+    requests[key].is_running = true;
+}
+
+/// Notes that a cancel chose the request of this key.
+fn mark_cancelled(requests: &mut Slab<Request>, key: usize)
+    requires { ContainsKey requests.old key }
+    ensures here { (q : Request) → get requests.old key ≡ Some q → get requests.new key ≡ Some (chosen q) }
+    ensures others { (other : ℕ) → other ≢ key → get requests.new other ≡ get requests.old other }
+    ensures len { slab_len requests.new ≡ slab_len requests.old }
+    ensures capacity { requests.new.capacity ≡ requests.old.capacity }
+{
+    requests[key].is_cancelled = true;
+}
+
+/// Forgets the key at this place.
+fn forget(keys: &mut VecDeque<Option<usize>>, place: usize)
+    requires { place < deque_len keys.old }
+    ensures items { keys.new.items ≡ slice_set keys.old.items place None }
+    ensures len { deque_len keys.new ≡ deque_len keys.old }
+    ensures capacity { deque_capacity keys.new ≡ deque_capacity keys.old }
+{
+    keys[place] = None;
+}
+
+/// One less, if this holds.
+fn less_if(count: u64, is_less: bool) -> u64
+    requires { one_if is_less ≤ count }
+    ensures { result + one_if is_less ≡ count }
+{
+    if is_less { count - 1 } else { count }
+}
+
+/// Drops the numbers that have ended before the first that hasn't.
+fn trim(first: &mut u64, keys: &mut VecDeque<Option<usize>>)
+    requires { first.old + deque_len keys.old < 2 ^ 63 }
+    ensures same { (n : ℕ) → key_at first.new keys.new.items n ≡ key_at first.old keys.old.items n }
+    ensures end { first.new + deque_len keys.new ≡ first.old + deque_len keys.old }
+    ensures shorter { deque_len keys.new ≤ deque_len keys.old }
+    ensures trimmed { IsTrimmed keys.new.items }
+    ensures capacity { deque_capacity keys.new ≡ deque_capacity keys.old }
+{
+    while let Some(None) = keys.front() {
+        keys.pop_front();
+        *first += 1;
+    }
+}
+
+/// The key of the request of this number, if it is outstanding.
+fn key_of(first: u64, keys: &VecDeque<Option<usize>>, n: u64) -> Option<usize>
+    ensures { result ≡ key_at first keys.now.items n }
+{
+    if n < first {
+        return None;
+    }
+    match keys.get((n - first) as usize) {
+        Some(key) => *key,
+        None => None,
+    }
+}

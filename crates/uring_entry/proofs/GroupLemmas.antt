@@ -1,0 +1,155 @@
+-- What is doomed, drains and is ready, from what is known of its group: no more is needed of the members that have ended.
+use Rattle.std.proofs.Common.{◌≡◌, ℕ, zero, suc, ◌+◌, ◌-◌, ◌<◌, ◌≤◌, min, max, List, length, Bool, true, false, not, ◌&&◌, ◌||◌, leb, ltb, Option, Some, None, is_some, refl, sym, ◌∙◌, ap, arith, inl, inr}
+use Rattle.std.proofs.lemmas.Bool.{cases_lt, cases_Bool, and_left, and_right, and_from, and_parts, or_from, or_left, or_right, both_ways, le-leb, lt-leb, lt-ltb, le-ltb, not-true, leb-true}
+use Rattle.uring_entry.specs.Layout.{Sqe}
+use Rattle.uring_entry.specs.Below.{some_below, least_below}
+use Rattle.uring_entry.specs.Requests.{Requests, entry_of, has_ended, has_failed, is_last, is_soft, is_drain, is_joined, is_in_group, some_member, is_in_faulty_group, is_draining, is_behind_failure, is_cancelled, is_doomed, is_ready, holds_back}
+use Rattle.uring_entry.specs.Preparation.{is_faulty}
+use Rattle.uring_entry.specs.Groups.{IsGroup, first_member, is_before, first_fault, first_drain, first_broken}
+use Rattle.uring_entry.proofs.BelowLemmas.{some_below-none, some_below-some, some_below-same, some_below-between, least_below-out, least_below-tells, is_some-least_below}
+use Rattle.uring_entry.proofs.RequestLemmas.{is_joined-yes, is_joined-no, is_joined-inside, is_ready-yes, is_ready-no}
+
+and-true : (b : Bool) → (b && true) ≡ b
+and-true true = refl
+and-true false = refl
+
+and-assoc : (a b c : Bool) → ((a && b) && c) ≡ (a && (b && c))
+and-assoc true b c = refl
+and-assoc false b c = refl
+
+-- Who is a member.
+
+joined-before : (r : Requests) (from end m n : ℕ) → IsGroup r from end → m < from → from ≤ n → is_joined r m n ≡ false
+joined-before r zero end m n g low le = absurd (omega arith)
+joined-before r (suc k) end m n g low le = is_joined-no r m n k (omega arith) (omega arith) (g.begins k refl)
+
+-- an earlier request is in a member's group if it isn't before the first member
+pub joined-member : (r : Requests) (from end m n : ℕ) → IsGroup r from end → from ≤ n → n < end → m ≤ n → is_joined r m n ≡ leb from m
+joined-member r from end m n g high lt le =
+    elim (cases_lt m from) [
+      | inl low ↦ joined-before r from end m n g low high ∙ sym (lt-leb from m low)
+      | inr up ↦ is_joined-yes r m n (λ k a b. g.joined k (omega arith) (omega arith)) ∙ sym (le-leb from m up)
+    ]
+
+joined-past : (r : Requests) (from end n m : ℕ) → IsGroup r from end → n < end → end ≤ m → m < length r.accepted → is_joined r n m ≡ false
+joined-past r from zero n m g lt past within = absurd (omega arith)
+joined-past r from (suc k) n m g lt past within = is_joined-no r n m k (omega arith) (omega arith) (g.ends k refl (omega arith))
+
+in_group-behind : (r : Requests) (from end n m : ℕ) → IsGroup r from end → from ≤ n → n < end → m < length r.accepted → n < m → is_in_group r m n ≡ (leb from m && ltb m end)
+in_group-behind r from end n m g high lt within behind =
+    let low : min m n ≡ n = omega arith in
+    let top : max m n ≡ m = omega arith in
+    ap (λ a. is_joined r a (max m n)) low ∙ ap (is_joined r n) top
+    ∙ elim (cases_lt m end) [
+      | inl inside ↦
+          is_joined-yes r n m (λ k up under. g.joined k (omega arith) (omega arith))
+          ∙ sym (and_from _ _ (le-leb from m (omega arith)) (lt-ltb m end inside))
+      | inr past ↦ joined-past r from end n m g lt past within ∙ sym (and_right _ _ (le-ltb m end past))
+    ]
+
+pub in_group-member : (r : Requests) (from end n m : ℕ) → IsGroup r from end → from ≤ n → n < end → m < length r.accepted → is_in_group r m n ≡ (leb from m && ltb m end)
+in_group-member r from end n m g high lt within =
+    elim (cases_lt n m) [
+      | inl behind ↦ in_group-behind r from end n m g high lt within behind
+      | inr before ↦
+          let low : min m n ≡ m = omega arith in
+          let top : max m n ≡ n = omega arith in
+          ap (λ a. is_joined r a (max m n)) low ∙ ap (is_joined r m) top ∙ joined-member r from end m n g high lt before
+          ∙ sym (and-true (leb from m)) ∙ ap (λ b. leb from m && b) (sym (lt-ltb m end (omega arith)))
+    ]
+
+-- Whether some member has a property.
+
+pub some_member-is : (r : Requests) (p : Sqe → Bool) (from end n : ℕ) → IsGroup r from end → from ≤ n → n < end → some_member r p n ≡ is_some (first_member (λ m. p (entry_of r m)) from end)
+unfolding some_member first_member
+some_member-is r p from end n g high lt =
+    some_below-between (λ m. is_in_group r m n && p (entry_of r m)) end (length r.accepted) g.accepted
+    (λ m past within. and_left _ _ (in_group-member r from end n m g high lt within ∙ and_right _ _ (le-ltb m end past)))
+    ∙ some_below-same (λ m. is_in_group r m n && p (entry_of r m)) (λ m. leb from m && p (entry_of r m)) end
+    (λ m inside.
+    let f = g.accepted in
+    ap (λ b. b && p (entry_of r m))
+    (in_group-member r from end n m g high lt (omega arith) ∙ ap (λ b. leb from m && b) (lt-ltb m end inside) ∙ and-true (leb from m)))
+    ∙ sym (is_some-least_below (λ m. leb from m && p (entry_of r m)) end)
+
+pub draining-is : (r : Requests) (from end n : ℕ) → IsGroup r from end → from ≤ n → n < end → is_draining r n ≡ is_some (first_drain r from end)
+draining-is r from end n g high lt = some_member-is r is_drain from end n g high lt
+
+pub faulty-is : (r : Requests) (from end n : ℕ) → IsGroup r from end → from ≤ n → n < end → is_in_faulty_group r n ≡ is_some (first_fault r from end)
+faulty-is r from end n g high lt = some_member-is r is_faulty from end n g high lt
+
+-- a search below a smaller bound, from the least below a larger one
+pub some_below-least : (p : ℕ → Bool) (end n : ℕ) → n ≤ end → some_below p n ≡ is_before (least_below p end) n
+some_below-least p end n le = go (least_below p end) refl
+  where
+    go : (o : Option ℕ) → least_below p end ≡ o → some_below p n ≡ is_before o n
+    go None e = some_below-none p n (λ k lt. least_below-out p end e k (omega arith))
+    go (Some k) e =
+        let least = least_below-tells p end k e in
+        elim (cases_lt k n) [
+          | inl low ↦ some_below-some p n k low least.holds ∙ sym (lt-ltb k n low)
+          | inr high ↦ some_below-none p n (λ j lt. least.before j (omega arith)) ∙ sym (le-ltb k n high)
+        ]
+
+pub behind-is : (r : Requests) (from end n : ℕ) → IsGroup r from end → from ≤ n → n < end → is_behind_failure r n ≡ is_before (first_broken r from end) n
+unfolding is_behind_failure first_member
+behind-is r from end n g high lt =
+    some_below-same _ (λ m. leb from m && (is_soft (entry_of r m) && has_failed r m)) n
+    (λ m low.
+    and-assoc (is_joined r m n) _ _
+    ∙ ap (λ b. b && (is_soft (entry_of r m) && has_failed r m)) (joined-member r from end m n g high lt (omega arith)))
+    ∙ some_below-least (λ m. leb from m && (is_soft (entry_of r m) && has_failed r m)) end n (omega arith)
+
+-- Whether a request is doomed depends on its group and its own cancellation.
+pub doomed-is : (r : Requests) (from end n : ℕ) → IsGroup r from end → from ≤ n → n < end → is_doomed r n ≡ ((is_some (first_fault r from end) || is_before (first_broken r from end) n) || is_cancelled r n)
+unfolding is_doomed
+doomed-is r from end n g high lt =
+    ap (λ b. (b || is_behind_failure r n) || is_cancelled r n) (faulty-is r from end n g high lt)
+    ∙ ap (λ b. (is_some (first_fault r from end) || b) || is_cancelled r n) (behind-is r from end n g high lt)
+
+-- Whether a request is ready depends on requests that haven't ended.
+
+waits-not : (r : Requests) (n m : ℕ) → is_joined r m n ≡ false → is_draining r m ≡ false → is_draining r n ≡ false → holds_back r n m ≡ false
+waits-not r n m a b c = and_right _ _ (or_from _ _ (or_from _ _ a b) c)
+
+pub ready-yes : (r : Requests) (from end n : ℕ) → IsGroup r from end → from ≤ n → n < end → ((m : ℕ) → from ≤ m → m < n → has_ended r m ≡ true) → ((m : ℕ) → m < from → has_ended r m ≡ false → is_draining r m ≡ false) → (is_draining r n ≡ true → (m : ℕ) → m < from → has_ended r m ≡ true) → is_ready r n ≡ true
+ready-yes r from end n g high lt members drains alone =
+    is_ready-yes r n
+    (λ m low.
+    elim (cases_Bool (has_ended r m)) [
+      | inl over ↦ and_left _ _ (ap not over)
+      | inr going ↦
+          elim (cases_lt m from) [
+            | inr inside ↦ absurd (both_ways _ going (members m inside low))
+            | inl before ↦
+                waits-not r n m (joined-before r from end m n g before high) (drains m before going)
+                (elim (cases_Bool (is_draining r n)) [
+                  | inl draining ↦ absurd (both_ways _ going (alone draining m before))
+                  | inr free ↦ free
+                ])
+          ]
+    ])
+
+pub ready-not_member : (r : Requests) (from end n m : ℕ) → IsGroup r from end → n < end → from ≤ m → m < n → has_ended r m ≡ false → is_ready r n ≡ false
+ready-not_member r from end n m g lt inside low going =
+    is_ready-no r n m low
+    (and_from _ _ (ap not going) (or_left _ _ (or_left _ _ (joined-member r from end m n g (omega arith) lt (omega arith) ∙ le-leb from m inside))))
+
+pub ready-not_alone : (r : Requests) (n m : ℕ) → m < n → has_ended r m ≡ false → is_draining r n ≡ true → is_ready r n ≡ false
+ready-not_alone r n m low going drains = is_ready-no r n m low (and_from _ _ (ap not going) (or_right _ _ drains))
+
+pub ready-not_behind : (r : Requests) (n m : ℕ) → m < n → has_ended r m ≡ false → is_draining r m ≡ true → is_ready r n ≡ false
+ready-not_behind r n m low going drains = is_ready-no r n m low (and_from _ _ (ap not going) (or_left _ _ (or_right _ _ drains)))
+
+-- Two groups of which one begins before the other ends are one: a member of an earlier group lies before the later group.
+pub groups-apart : (r : Requests) (from end first last m : ℕ) → IsGroup r from end → IsGroup r first last → from ≤ m → m < end → m < first → first < end → ⊥
+groups-apart r from end zero last m g h high lt low inside = omega arith
+groups-apart r from end (suc k) last m g h high lt low inside = both_ways _ (g.joined k (omega arith) (omega arith)) (h.begins k refl)
+
+-- a least member that was found is a member
+pub first_member-inside : (p : ℕ → Bool) (from end k : ℕ) → first_member p from end ≡ Some k → (from ≤ k) × (k < end) × (p k ≡ true)
+unfolding first_member
+first_member-inside p from end k e =
+    let least = least_below-tells (λ m. leb from m && p m) end k e in
+    let parts = and_parts (leb from k) (p k) least.holds in
+    (leb-true from k parts.0, least.below, parts.1)
