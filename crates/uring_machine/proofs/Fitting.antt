@@ -22,21 +22,8 @@ use Rattle.uring_machine.proofs.Running.{running_asks}
 
 -- but for a finish, answers are called for as they are apart from files
 called_apart : (g : Setup) (w : World) (s : Step) (a : Answer) → IsNoFinish s → CalledForApart g w s a → CalledFor g w s a
-called_apart g w (step.Fill slot entry) a other called = called
-called_apart g w (step.Index word) a other called = called
-called_apart g w step.StoreTail a other called = called
-called_apart g w step.LoadHead a other called = called
-called_apart g w (step.Begin count) a other called = called
-called_apart g w step.Take a other called = called
-called_apart g w step.End a other called = called
-called_apart g w (step.Issue n) a other called = called
 called_apart g w (step.Finish n) a other called = absurd other
-called_apart g w step.Flush a other called = called
-called_apart g w step.LoadCqTail a other called = called
-called_apart g w step.Reap a other called = called
-called_apart g w step.StoreCqHead a other called = called
-called_apart g w step.Close a other called = called
-called_apart g w step.Next a other called = called
+called_apart g w _ a other called = called
 
 -- the machine with another core of its shape
 pub step_fits : (core later : Core) (files : List FileContents) (s : Step) (a : Answer) (h : History) → later.setup ≡ core.setup → IsNoFinish s
@@ -111,18 +98,5 @@ called_for g core files s a h same fits = subst (λ k. CalledFor k (world k h) s
 
 -- what isn't a Finish is no finish
 pub no_finish : (s : Step) → ((n : ℕ) → s ≡ step.Finish n → ⊥) → IsNoFinish s
-no_finish (step.Fill slot entry) other = tt
-no_finish (step.Index word) other = tt
-no_finish step.StoreTail other = tt
-no_finish step.LoadHead other = tt
-no_finish (step.Begin count) other = tt
-no_finish step.Take other = tt
-no_finish step.End other = tt
-no_finish (step.Issue n) other = tt
 no_finish (step.Finish n) other = other n refl
-no_finish step.Flush other = tt
-no_finish step.LoadCqTail other = tt
-no_finish step.Reap other = tt
-no_finish step.StoreCqHead other = tt
-no_finish step.Close other = tt
-no_finish step.Next other = tt
+no_finish _ other = tt

@@ -25,21 +25,8 @@ finish_apart files r n true _ e = absurd e
 finish_apart files r n false a e = e
 
 apart_called : (g : Setup) (w : World) (s : Step) (a : Answer) → CalledFor g w s a → CalledForApart g w s a
-apart_called g w (step.Fill slot entry) a called = called
-apart_called g w (step.Index word) a called = called
-apart_called g w step.StoreTail a called = called
-apart_called g w step.LoadHead a called = called
-apart_called g w (step.Begin count) a called = called
-apart_called g w step.Take a called = called
-apart_called g w step.End a called = called
-apart_called g w (step.Issue n) a called = called
 apart_called g w (step.Finish n) a called = finish_apart (files_of g w) w.requests n (is_running w.requests n) a called
-apart_called g w step.Flush a called = called
-apart_called g w step.LoadCqTail a called = called
-apart_called g w step.Reap a called = called
-apart_called g w step.StoreCqHead a called = called
-apart_called g w step.Close a called = called
-apart_called g w step.Next a called = called
+apart_called g w _ a called = called
 
 pub lawful_apart : (g : Setup) (h : History) → IsLawful g h → IsLawfulApart g h
 lawful_apart g [] lawful = tt
