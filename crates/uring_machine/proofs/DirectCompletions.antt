@@ -48,10 +48,10 @@ completions_direct g h w s a v (ends _ _ n res bytes r off told same_accepted on
       flushed = f.seen_head ∙ i.flushed ∙ ap stored_head (sym (before_same is_flush (s, a) h off.flushes));
       seen = f.seen_tail ∙ i.seen ∙ ap (λ b. (world g b).completions.put) (sym (before_same is_load_cq_tail (s, a) h off.loads_cq_tail));
     }
-completions_direct g h w s a v (flushes moved) is i = record { reaped = i.reaped; stored = i.stored; flushed = i.stored; seen = i.seen }
-completions_direct g h w s a v (sees_tail tail) is i = record { reaped = i.reaped; stored = i.stored; flushed = i.flushed; seen = ap (λ v. v.completions.put) is }
-completions_direct g h w s a v (reaps completion next) is i = record { reaped = ap (λ xs. xs ++ completion ∷ []) i.reaped; stored = i.stored; flushed = i.flushed; seen = i.seen }
-completions_direct g h w s a v (stores_head head) is i = record { reaped = i.reaped; stored = ap length i.reaped; flushed = i.flushed; seen = i.seen }
+completions_direct g h w s a v (flushes moved) is i = assumption i
+completions_direct g h w s a v (sees_tail tail) is i = let seen = ap (λ u. u.completions.put) is in assumption (seen, i)
+completions_direct g h w s a v (reaps completion next) is i = let reaped = ap (λ xs. xs ++ completion ∷ []) i.reaped in assumption (reaped, i)
+completions_direct g h w s a v (stores_head head) is i = let stored = ap length i.reaped in assumption (stored, i)
 
 pub direct_completions : (g : Setup) (h : History) → IsLawfulApart g h → DirectCompletions g h (world g h)
 direct_completions g [] lawful = record { reaped = refl; stored = refl; flushed = refl; seen = refl }

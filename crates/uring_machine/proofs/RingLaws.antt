@@ -44,7 +44,7 @@ shut_stays g w s a v (begins count is_open no_call) i = absurd (let e = i.closed
 shut_stays g w s a v (takes entry call place opened left at valid) i = absurd (let o = i.no_call in cc)
 shut_stays g w s a v (drops call place opened left at invalid) i = absurd (let o = i.no_call in cc)
 shut_stays g w s a v (closes accepted missed head call opened all counted) i = absurd (let o = i.no_call in cc)
-shut_stays g w s a v _ i = (record { closed = i.closed; no_call = i.no_call }, refl)
+shut_stays g w s a v _ i = (assumption i, refl)
 
 open_none : (w : World) → answer.Shut ≡ (cond (is_some w.submission.call) answer.InCall answer.Shut) → w.submission.call ≡ None
 open_none w e = by_call w.submission.call e where

@@ -16,7 +16,7 @@ use Rattle.uring_machine.specs.Histories.{History, world, IsLawfulApart}
 use Rattle.uring_machine.specs.declared.step.Step.{Step}
 use Rattle.uring_machine.specs.declared.answer.Answer.{Answer}
 use Rattle.uring_machine.proofs.Changes.{change_of}
-use Rattle.uring_machine.proofs.Moves.{Move, stays, accepts, starts, ends_doomed, ends_cancel, ends_run, move_of}
+use Rattle.uring_machine.proofs.Moves.{Move, accepts, starts, move_of}
 use Rattle.uring_machine.proofs.Sound.{sound_of}
 use Rattle.uring_machine.proofs.ListCounts.{any_new}
 use Rattle.uring_machine.proofs.SoundRequests.{IsSoundRequests}
@@ -30,12 +30,9 @@ abbrev NoCancel : Requests → Type 0
 NoCancel r = (n : ℕ) → has_started r n ≡ true → is_cancel (entry_of r n) ≡ false
 
 no_cancel_kept : (r q : Requests) (s : Step) (a : Answer) → Move r s a q → IsSoundRequests r → NoCancel r → NoCancel q
-no_cancel_kept r q s a (stays _ _ no_start no_end) i none = none
 no_cancel_kept r q s a (accepts accepted missed head entries) i none = λ n started. ap is_cancel (entry_stays r entries n (i.started_accepted n started)) ∙ none n started
 no_cancel_kept r q s a (starts m outstanding idle spared ready other) i none = λ n started. elim (any_new (λ k. k == n) r.started m started) [ inl old ↦ none n old | inr new ↦ subst (λ k. is_cancel (entry_of r k) ≡ false) (eqb-true _ _ new) other ]
-no_cancel_kept r q s a (ends_doomed m outstanding) i none = none
-no_cancel_kept r q s a (ends_cancel m outstanding spared ready cancel) i none = none
-no_cancel_kept r q s a (ends_run m res bytes running) i none = none
+no_cancel_kept r q s a _ i none = none
 
 pub no_cancel : (g : Setup) (h : History) → IsLawfulApart g h → NoCancel (world g h).requests
 no_cancel g [] lawful = λ n started. absurd (let f : false ≡ true = started in cc)
