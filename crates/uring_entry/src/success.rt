@@ -1,10 +1,12 @@
 ghost use Rattle.std.specs.Prelude.{◌≡◌};
 ghost use Rattle.uring_entry.specs.Success.{is_success};
+ghost use Rattle.uring_entry.specs.Success as spec;
 
+use crate::flags::SqeFlags;
 use crate::opcode;
 use crate::sqe::Sqe;
 
-/// Whether a request of this entry that ended with `res` succeeded: a read or a write where it moved all `len` bytes, anything else where it gave 0. A short read or write didn't succeed, io_uring_enter(2), IOSQE_IO_LINK.
+/// Whether a request of this entry that ended with `res` succeeded: a read or a write if it moved all `len` bytes, anything else if it gave 0. A short read or write didn't succeed, io_uring_enter(2), IOSQE_IO_LINK.
 pub fn succeeded(entry: &Sqe, res: i32) -> bool
     ensures { result ≡ is_success entry.now res }
 {
@@ -15,4 +17,11 @@ pub fn succeeded(entry: &Sqe, res: i32) -> bool
         0
     };
     i64::from(res) == i64::from(wanted)
+}
+
+/// Whether the end of a request of this entry with `res` posts a completion: each does but a success that the entry asks to skip. io_uring_enter(2), IOSQE_CQE_SKIP_SUCCESS.
+pub fn posts_completion(entry: &Sqe, res: i32) -> bool
+    ensures { result ≡ spec.posts_completion entry.now res }
+{
+    !(entry.has(SqeFlags::CQE_SKIP_SUCCESS) && succeeded(entry, res))
 }
