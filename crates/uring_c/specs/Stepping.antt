@@ -1,6 +1,6 @@
 -- What a call makes of what a place holds.
 use Rattle.std.specs.Prelude.{◌≡◌, ℕ, ◌∷◌, Option, IsSomeAnd}
-use Rattle.uring_entry.specs.declared.outcomes.Outcome.{Outcome}
+use Rattle.uring_entry.specs.declared.operation.Outcome.{Outcome}
 use Rattle.uring_machine.specs.CalledFor.{CalledFor}
 use Rattle.uring_machine.specs.Core.{Core, FitsApart, IsFinished, IsShortOfMemory, HasNoLessMemory}
 use Rattle.uring_machine.specs.Histories.{History, world}

@@ -2,7 +2,7 @@
 use Rattle.std.specs.Prelude.{ℕ, not, if◌then◌else◌}
 use Rattle.uring_entry.specs.Preparation.{is_cancel, operation_of}
 use Rattle.uring_entry.specs.Requests.{Requests, entry_of, is_outstanding, is_running, is_doomed, is_ready, doomed_result, cancel_result, with_started, with_ended, with_issued_end}
-use Rattle.uring_entry.specs.declared.outcomes.Outcome.{Outcome}
+use Rattle.uring_entry.specs.declared.operation.Outcome.{Outcome}
 use Rattle.uring_dispatch.specs.declared.issue_answer.Issued.{Issued}
 use Rattle.uring_dispatch.specs.declared.issue_answer.Issued.TheVariants.{Run, Ended, NotReady, Running, Unknown}
 use Rattle.uring_dispatch.specs.declared.finish_answer.Finished.{Finished}

@@ -14,7 +14,6 @@ ghost use Rattle.uring_dispatch.specs.Groups.{group_at};
 ghost use Rattle.uring_dispatch.specs.Held.{AreHeld, IsSound, IsNext, HasLost};
 
 use crate::finish_answer::Finished;
-use crate::flags::is_soft;
 use crate::group::{Group, earlier_of};
 use crate::groups::Groups;
 use crate::issue_answer::Issued;
@@ -68,7 +67,7 @@ fn next_outstanding(window: &Window, from: u64, end: u64) -> u64
 fn breaks(request: &Request, is_success: bool) -> bool
     ensures { result ≡ (spec.is_soft request.now.entry && not is_success) }
 {
-    is_soft(&request.entry) && !is_success
+    request.entry.is_soft() && !is_success
 }
 
 /// Issues request `n`: it ends if it is doomed or a cancel that may be carried out, starts if it may, and is left as it is otherwise.

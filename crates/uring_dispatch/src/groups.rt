@@ -7,7 +7,6 @@ ghost use Rattle.slab.specs.Slab.{get, slab_len, ContainsKey, HasRoomFor};
 ghost use Rattle.uring_entry.specs.Requests.{is_linked, is_drain};
 ghost use Rattle.uring_dispatch.specs.Groups.{group_at, last_group, drain_of, with_member, with_barrier, starts_at, covers, IsSorted, IsBeyond, IsLiveFront, Exchanges, HasBarrierBefore};
 
-use crate::flags::{is_drain, is_linked};
 use crate::group::{Barrier, Group, found_or};
 use slab::Slab;
 use std::alloc::{AllocError, Global};
@@ -93,7 +92,7 @@ impl Groups {
         ensures last { self.new.last ≡ (if is_linked entry.now then Some result else None) }
         ensures room { self.new.room + 1 ≡ self.old.room }
     {
-        let group = joined(&self.groups, self.last, n, is_drain(entry), is_faulty);
+        let group = joined(&self.groups, self.last, n, entry.is_drain(), is_faulty);
         let key = put(&mut self.groups, self.last, group);
         note_barrier(&mut self.barriers, &group, n, key);
         self.last = joinable(entry, key);
@@ -213,7 +212,7 @@ fn note_barrier(barriers: &mut VecDeque<Barrier>, group: &Group, n: u64, key: us
 fn joinable(entry: &Sqe, key: usize) -> Option<usize>
     ensures { result ≡ (if is_linked entry.now then Some key else None) }
 {
-    if is_linked(entry) { Some(key) } else { None }
+    if entry.is_linked() { Some(key) } else { None }
 }
 
 /// Whether a group drains from just the member `n` on.

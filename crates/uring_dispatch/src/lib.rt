@@ -4,7 +4,6 @@
 mod dispatch;
 mod events;
 mod finish_answer;
-mod flags;
 mod group;
 mod groups;
 mod issue_answer;

@@ -2,10 +2,14 @@ ghost use Rattle.std.specs.Prelude.{◌≡◌, ◌≤◌, ◌+◌, ◌*◌, ◌^
 ghost use Rattle.std.specs.Int.{w32, cast_unsigned};
 ghost use Rattle.std.specs.List.{list_any};
 ghost use Rattle.uring_entry.specs.Layout.{opcode_of, flags_of, ioprio_of, fd_of, off_of, addr_of, len_of, operation_flags_of, user_data_of, reserved_of, payload_of, header, without_data, HasData};
+ghost use Rattle.uring_entry.specs.Layout as layout;
+ghost use Rattle.uring_entry.specs.Requests as spec;
 ghost use Rattle.uring_entry.specs.declared.opcode.TheConstants.{NOP, FSYNC, ASYNC_CANCEL, READ, WRITE};
 
+use crate::flags::SqeFlags;
 use crate::opcode;
 use crate::payload::{bytes_of_words, padded_bytes, words_of_bytes};
+use bitflags::Flags;
 use std::marker::Model;
 
 /// An entry of the submission ring: 128 bytes, little-endian, held as 16 words of 64 bits. Any words are an entry; `prepare` tells what is wrong with it.
@@ -53,6 +57,38 @@ impl Sqe {
         ensures { result ≡ flags_of self.now }
     {
         (self.words[0] >> 8 & 0xff) as u8
+    }
+
+    /// Whether every one of these flags is set.
+    pub fn has(&self, flags: SqeFlags) -> bool
+        ensures { result ≡ layout.has flags.0 self.now }
+    {
+        SqeFlags::from_bits_retain(self.flags()).contains(flags)
+    }
+
+    /// Whether another member of the group follows: io_uring_enter(2), IOSQE_IO_LINK and IOSQE_IO_HARDLINK.
+    pub fn is_linked(&self) -> bool
+        ensures { result ≡ spec.is_linked self.now }
+    {
+        let link = self.has(SqeFlags::IO_LINK);
+        let hardlink = self.has(SqeFlags::IO_HARDLINK);
+        link || hardlink
+    }
+
+    /// Whether a failure dooms the members behind it: `IO_LINK` is set, and `IO_HARDLINK` isn't. io_uring_enter(2), IOSQE_IO_LINK and IOSQE_IO_HARDLINK.
+    pub fn is_soft(&self) -> bool
+        ensures { result ≡ spec.is_soft self.now }
+    {
+        let link = self.has(SqeFlags::IO_LINK);
+        let hardlink = self.has(SqeFlags::IO_HARDLINK);
+        link && !hardlink
+    }
+
+    /// Whether the entry asks that its group drains: io_uring_enter(2), IOSQE_IO_DRAIN.
+    pub fn is_drain(&self) -> bool
+        ensures { result ≡ spec.is_drain self.now }
+    {
+        self.has(SqeFlags::IO_DRAIN)
     }
 
     /// The priority: bytes 2 and 3.

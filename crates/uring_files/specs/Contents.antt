@@ -1,7 +1,7 @@
 -- A file in memory, and what reads, writes and syncs make of it. io_uring_enter(2), IORING_OP_READ, IORING_OP_WRITE and IORING_OP_FSYNC; that files are in memory, their largest size and the counts are our own rule.
 use Rattle.std.specs.Prelude.{ℕ, ◌+◌, ◌-◌, ◌%◌, ◌^◌, pos, Bool, not, ◌&&◌, ◌==◌, nat_lt, min, List, [], ◌++◌, length, take, drop, replicate, if◌then◌else◌}
 use Rattle.uring_entry.specs.Layout.{padded}
-use Rattle.uring_entry.specs.declared.outcomes.Outcome.{Outcome}
+use Rattle.uring_entry.specs.declared.operation.Outcome.{Outcome}
 
 -- A file.
 pub record FileContents : Type 0 where

@@ -6,9 +6,9 @@ use Rattle.uring_entry.specs.Requests.{no_bytes}
 use Rattle.uring_entry.specs.declared.errno.TheConstants.{EBADF, ENOMEM, EFBIG}
 use Rattle.uring_entry.specs.declared.operation.Op.{Op}
 use Rattle.uring_entry.specs.declared.operation.Op.TheVariants.{Nop, Read, Write, Fsync, Cancel}
-use Rattle.uring_entry.specs.declared.outcomes.Outcome.{Outcome}
+use Rattle.uring_entry.specs.declared.operation.Outcome.{Outcome}
 use Rattle.uring_files.specs.Contents.{FileContents, empty_file, read_outcome, is_too_long, is_past_end, written, with_writes_synced}
-use Rattle.uring_files.specs.declared.state.FileState.{FileState}
+use Rattle.uring_files.specs.declared.file.FileState.{FileState}
 
 -- the file of a descriptor: none where it is negative, or not below the number of files
 abbrev pub file_of : List FileContents → ℤ → Option FileContents

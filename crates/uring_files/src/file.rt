@@ -3,11 +3,32 @@ ghost use Rattle.uring_entry.specs.Layout.{padded};
 ghost use Rattle.uring_files.specs.Contents.{empty_file, max_len, read_outcome, is_too_long, is_past_end, written, with_writes_synced};
 
 use crate::bytes::overwrite;
-use crate::state::FileState;
-use crate::write_fault::WriteFault;
 use std::alloc::Global;
 use std::marker::Model;
 use uring_entry::Outcome;
+
+/// How a file stands. Our own rule.
+#[derive(Clone, Copy, Debug, PartialEq, Eq)]
+pub struct FileState {
+    /// The file's length in bytes: at most 65,536.
+    pub len: u32,
+
+    /// How many writes of the file succeeded, those of no bytes included. The count wraps at 2^64.
+    pub writes: u64,
+
+    /// What `writes` was when the file was last synced, 0 if it never was.
+    pub synced: u64,
+}
+
+/// Why a write of a file failed.
+#[derive(Clone, Copy, Debug, PartialEq, Eq)]
+pub(crate) enum WriteFault {
+    /// The file would pass its largest size.
+    TooLong,
+
+    /// Memory for the file's growth was refused.
+    NoMemory,
+}
 
 /// A file in memory, with counts of its successful writes.
 #[derive(Debug, Drop)]

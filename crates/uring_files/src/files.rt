@@ -1,9 +1,7 @@
 ghost use Rattle.std.specs.Prelude.{◌≡◌, replicate, IfOk, IfSome, OnErr};
 ghost use Rattle.uring_files.specs.Operations as spec;
 
-use crate::file::File;
-use crate::state::FileState;
-use crate::write_fault::WriteFault;
+use crate::file::{File, FileState, WriteFault};
 use std::alloc::{AllocError, Global};
 use std::marker::Model;
 use uring_entry::{Op, Outcome, errno};
@@ -41,12 +39,12 @@ impl Files {
         Ok(Files { files })
     }
 
-    /// Carries out an operation, any but a cancel, that moves at most 64 bytes, and answers how it ended. A result of 0 or more is that of a success, and one below 0 the negative of an error number; such an end changes no file.
+    /// Carries out an operation, any but a cancel, that moves at most 64 bytes, and returns how it ended. A result of 0 or more is that of a success, and one below 0 the negative of an error number; such an end changes no file.
     ///
     /// - A no-op gives 0.
-    /// - Any other operation ends with -9 (EBADF) where its descriptor is negative or not below the number of files, before anything else is looked at.
-    /// - A read gives the bytes from its offset on, as many as it asks for and as the file has, and answers how many: 0 at or past the file's end.
-    /// - A write of no bytes gives 0 at any offset, and counts as a successful write. One that would make its file longer than 65,536 bytes ends with -27 (EFBIG), and one that lengthens its file with -12 (ENOMEM) where memory was refused. Else it answers how many bytes it wrote, and a gap between the file's end and its offset is filled with zeros.
+    /// - Any other operation ends with -9 (EBADF) if its descriptor is negative or not below the number of files, before anything else is looked at.
+    /// - A read gives the bytes from its offset on, as many as it asks for and as the file has, and returns how many: 0 at or past the file's end.
+    /// - A write of no bytes gives 0 at any offset, and counts as a successful write. One that would make its file longer than 65,536 bytes ends with -27 (EFBIG), and one that lengthens its file with -12 (ENOMEM) if memory was refused. Else it returns how many bytes it wrote, and a gap between the file's end and its offset is filled with zeros.
     /// - A sync gives 0, and notes the successful writes of its file so far as safe.
     ///
     /// Only a write that lengthens its file takes memory. What the operations do is that of io_uring_enter(2), IORING_OP_NOP, READ, WRITE and FSYNC, and EBADF of its CQE ERRORS. The largest size, that a write past it changes nothing, and that files are in memory, are our own rule.
@@ -69,7 +67,7 @@ impl Files {
         }
     }
 
-    /// How the file of a descriptor stands: `None` where there is none.
+    /// How the file of a descriptor stands: `None` if there is none.
     pub fn state(&self, fd: i32) -> Option<FileState>
         ensures value { result ≡ state_of self.now fd }
         ensures limit { IfSome result (λ state. state.len ≤ max_len) }
@@ -77,7 +75,7 @@ impl Files {
         self.file(fd).map(File::state)
     }
 
-    /// The byte at offset `at` of the file of a descriptor: `None` where there is no such file, or the offset isn't below its length.
+    /// The byte at offset `at` of the file of a descriptor: `None` if there is no such file, or the offset isn't below its length.
     pub fn byte(&self, fd: i32, at: u64) -> Option<u8>
         ensures { result ≡ byte_of self.now fd at }
     {
@@ -95,7 +93,7 @@ impl Files {
         }
     }
 
-    /// Writes the first `len` of the bytes to the file of a descriptor at `off`, and answers the result.
+    /// Writes the first `len` of the bytes to the file of a descriptor at `off`, and returns the result.
     fn write(&mut self, fd: i32, off: u64, len: u32, bytes: &[u8; 64]) -> i32
         requires { len ≤ 64 }
         ensures outcome { IsOutcome self.old (Op.Write fd off len bytes.now) (spec.ended_with result) }
@@ -111,7 +109,7 @@ impl Files {
         }
     }
 
-    /// Notes the successful writes of the file of a descriptor as safe, and answers the result.
+    /// Notes the successful writes of the file of a descriptor as safe, and returns the result.
     fn sync(&mut self, fd: i32) -> i32
         ensures outcome { spec.ended_with result ≡ result_of self.old (Op.Fsync fd) }
         ensures files { self.new ≡ after self.old (Op.Fsync fd) result }

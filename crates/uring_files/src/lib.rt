@@ -5,9 +5,7 @@ mod bytes;
 mod file;
 mod files;
 pub mod laws;
-mod state;
-mod write_fault;
 
+pub use file::FileState;
 pub use files::Files;
-pub use state::FileState;
 pub use uring_entry::{BadSetup, Cqe, Fault, Op, Outcome, Setup, Sqe, SqeFlags};

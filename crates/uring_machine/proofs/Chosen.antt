@@ -10,13 +10,14 @@ use Rattle.uring_entry.specs.Setup.{Setup}
 use Rattle.uring_entry.specs.Preparation.{is_cancel}
 use Rattle.uring_entry.specs.Requests.{Requests, entry_of, is_cancelled, target_of, chosen_by, doomed_result, cancel_result, no_bytes, with_issued_end}
 use Rattle.uring_machine.specs.HistoryLists.{IsChosenIn}
-use Rattle.uring_machine.specs.World.{World, happens, taking_of, ending_of}
+use Rattle.uring_machine.specs.World.{World}
 use Rattle.uring_machine.specs.Histories.{Event, History, world, IsLawfulApart}
 use Rattle.uring_machine.specs.declared.step.Step.{Step}
 use Rattle.uring_machine.specs.declared.step.Step.TheVariants as step
 use Rattle.uring_machine.specs.declared.answer.Answer.{Answer}
 use Rattle.uring_machine.specs.declared.answer.Answer.TheVariants as answer
-use Rattle.uring_machine.proofs.Changes.{Change, change_of, refuses, fills, stages, stores, loads, begins, takes, drops, closes, runs, dooms, cancels, finishes, flushes, sees_tail, reaps, stores_head, shuts}
+use Rattle.uring_machine.proofs.Changes.{change_of}
+use Rattle.uring_machine.proofs.Moves.{Move, ends_doomed, ends_cancel, move_of}
 use Rattle.uring_machine.proofs.RequestEnds.{doomed_unlike_zero}
 use Rattle.uring_machine.proofs.Growth.{event_grows}
 
@@ -60,25 +61,19 @@ record IsChoosing (w : World) (s : Step) (a : Answer) (m : ℕ) : Type 0 where
   step_is : s ≡ step.Issue number
   answer_is : a ≡ answer.Ended (pos 0) no_bytes
 
-new_cancel : (g : Setup) (w : World) (s : Step) (a : Answer) → Change g w s a → (m : ℕ) → is_cancelled (happens g w s a).requests m ≡ true → (is_cancelled w.requests m ≡ true) ⊎ IsChoosing w s a m
-new_cancel g w s a (refuses _ _ same silent) m gone = inl (subst (λ v. is_cancelled v.requests m ≡ true) (same w) gone)
-new_cancel g w s a (fills slot entry free) m gone = inl gone
-new_cancel g w s a (stages word room) m gone = inl gone
-new_cancel g w s a (stores tail) m gone = inl gone
-new_cancel g w s a (loads head) m gone = inl gone
-new_cancel g w s a (begins count is_open no_call) m gone = inl gone
-new_cancel g w s a (takes entry call place opened left at valid) m gone = inl (subst (λ o. is_cancelled (taking_of w o).requests m ≡ true) opened gone)
-new_cancel g w s a (drops call place opened left at invalid) m gone = inl (subst (λ o. is_cancelled (taking_of w o).requests m ≡ true) opened gone)
-new_cancel g w s a (closes accepted missed head call opened all counted) m gone = inl (subst (λ o. is_cancelled (ending_of w o).requests m ≡ true) opened gone)
-new_cancel g w s a (runs n outstanding idle spared ready) m gone = inl gone
-new_cancel g w s a (dooms n outstanding idle doomed) m gone = elim (any_both (λ k. k == m) w.requests.cancelled (chosen_by w.requests n (doomed_result w.requests n)) gone) [ inl old ↦ inl old | inr new ↦ absurd (doomed_chooses_none w.requests n m new) ]
-new_cancel g w s a (cancels n outstanding idle spared ready cancel) m gone = elim (any_both (λ k. k == m) w.requests.cancelled (chosen_by w.requests n (cancel_result w.requests n)) gone) [ inl old ↦ inl old | inr new ↦ inr (let c = chosen_now w.requests n m new in record { number = n; now = c; step_is = refl; answer_is = ap (λ res. answer.Ended res no_bytes) c.result }) ]
-new_cancel g w s a (finishes n res bytes running) m gone = inl gone
-new_cancel g w s a (flushes moved) m gone = inl gone
-new_cancel g w s a (sees_tail tail) m gone = inl gone
-new_cancel g w s a (reaps completion next) m gone = inl gone
-new_cancel g w s a (stores_head head) m gone = inl gone
-new_cancel g w s a (shuts no_call) m gone = inl gone
+new_cancel : (w : World) (s : Step) (a : Answer) (later : Requests) → Move w.requests s a later
+    → (m : ℕ) → is_cancelled later m ≡ true → (is_cancelled w.requests m ≡ true) ⊎ IsChoosing w s a m
+new_cancel w s a later (ends_doomed n outstanding) m gone =
+    elim (any_both (λ k. k == m) w.requests.cancelled (chosen_by w.requests n (doomed_result w.requests n)) gone) [
+      | inl old ↦ inl old
+      | inr new ↦ absurd (doomed_chooses_none w.requests n m new)
+    ]
+new_cancel w s a later (ends_cancel n outstanding spared ready cancel) m gone =
+    elim (any_both (λ k. k == m) w.requests.cancelled (chosen_by w.requests n (cancel_result w.requests n)) gone) [
+      | inl old ↦ inl old
+      | inr new ↦ inr (let c = chosen_now w.requests n m new in record { number = n; now = c; step_is = refl; answer_is = ap (λ res. answer.Ended res no_bytes) c.result })
+    ]
+new_cancel w s a later _ m gone = inl gone
 
 one_later : (g : Setup) (e : Event) (h : History) (m : ℕ) → IsChosenIn g h m → IsChosenIn g (e ∷ h) m
 one_later g e h m c = record { after = e ∷ c.after; before = c.before; number = c.number; bytes = c.bytes; split = ap (λ xs. e ∷ xs) c.split; cancel = c.cancel; target = c.target }
@@ -86,7 +81,7 @@ one_later g e h m c = record { after = e ∷ c.after; before = c.before; number 
 pub chosen_in : (g : Setup) (h : History) → IsLawfulApart g h → (m : ℕ) → is_cancelled (world g h).requests m ≡ true → IsChosenIn g h m
 chosen_in g [] lawful m gone = absurd (let f : false ≡ true = gone in cc)
 chosen_in g ((s, a) ∷ before) lawful m gone =
-    elim (new_cancel g (world g before) s a (change_of g (world g before) s a lawful.0) m gone) [
+    elim (new_cancel (world g before) s a _ (move_of g (world g before) s a (change_of g (world g before) s a lawful.0) lawful.0) m gone) [
       | inl old ↦ one_later g (s, a) before m (chosen_in g before lawful.1 m old)
       | inr new ↦
           record {

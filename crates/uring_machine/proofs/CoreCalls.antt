@@ -9,8 +9,8 @@ use Rattle.uring_entry.specs.Completions.{Completions}
 use Rattle.uring_rings.specs.Sq.{Sq, ShowsSubmission}
 use Rattle.uring_rings.specs.SqAnswers as ring
 use Rattle.uring_rings.specs.Cq.{Cq, ShowsCompletions, KeepsMemory}
-use Rattle.uring_rings.specs.declared.answers.begin_answer.BeginAnswer.{BeginAnswer}
-use Rattle.uring_rings.specs.declared.answers.begin_answer.BeginAnswer.TheVariants as begin
+use Rattle.uring_rings.specs.declared.answers.BeginAnswer.{BeginAnswer}
+use Rattle.uring_rings.specs.declared.answers.BeginAnswer.TheVariants as begin
 use Rattle.uring_dispatch.specs.Dispatch.{Dispatch, ShowsRequests, IsSameCount}
 use Rattle.uring_machine.specs.World.{World}
 use Rattle.uring_machine.specs.StepAnswers.{OrAgain, begin_answer}
@@ -53,27 +53,7 @@ begin_answer_call p w count n may s room =
 -- a dispatcher with the same counts, and rings that show what they did
 same_shown : (p : Core) (w : World) (d : Dispatch) (q : Cq) → ShowsWorld p w → IsSameCount p.dispatch d → d.is_between_calls ≡ true → ShowsRequests d w.requests
     → ShowsCompletions p.setup q w.completions → p.completions.room ≤ q.room → q.room ≤ q.spare → ShowsWorld (record p { dispatch = d; completions = q }) w
-same_shown p w d q s same between shows shown room promised =
-    let a = same.accepted in
-    let o = same.outstanding in
-    let r = same.room in
-    let h = s.room_to_post in
-    let i = s.room_to_accept in
-    let n = s.numbers in
-    let ps = s.posts in
-    record {
-      submission = s.submission;
-      completions = shown;
-      requests = shows;
-      held = s.held;
-      closed = s.closed;
-      between = between;
-      room_to_post = omega arith;
-      room_to_accept = omega arith;
-      promised = promised;
-      numbers = omega arith;
-      posts = omega arith;
-    }
+same_shown p w d q s same between shows shown room promised = grind arith
 
 pub spent_goes : (p : Core) (d : Dispatch) (count n : ℕ) → MayOpen p count n → 2 ^ 63 - 1 < p.dispatch.accepted + n → d ≡ p.dispatch
     → (h : History) → FitsApart p h → FitsApart (record p { dispatch = d }) ((step.Begin count, answer.Spent) ∷ h)
@@ -114,22 +94,11 @@ begun_shows : (p : Core) (w : World) (s' : Sq) (q : Cq) (d : Dispatch) (count n 
     → IsSameCount p.dispatch d → n ≤ d.room → d.is_between_calls ≡ true → ShowsRequests d w.requests → p.dispatch.accepted + n ≤ 2 ^ 63 - 1
     → ShowsWorld (record p { sq = s'; completions = q; dispatch = d }) (record w { submission = with_begun w.submission count })
 begun_shows p w s' q d count n s none length shown kept room promised same fits between shows numbers =
-    let a = same.accepted in
-    let o = same.outstanding in
-    let ps = s.posts in
-    record {
-      submission = shown;
-      completions = kept;
-      requests = shows;
-      held = s.held ∙ ap (held_by w.submission) none;
-      closed = s.closed;
-      between = between;
-      room_to_post = subst (λ k. d.outstanding + k ≤ q.room) length (omega arith);
-      room_to_accept = subst (λ k. k ≤ d.room) length fits;
-      promised = promised;
-      numbers = subst (λ k. d.accepted + k ≤ 2 ^ 63 - 1) length (omega arith);
-      posts = omega arith;
-    }
+    let held = s.held ∙ ap (held_by w.submission) none in
+    let to_post = subst (λ k. d.outstanding + k ≤ q.room) length (omega (arith, room, same)) in
+    let to_accept = subst (λ k. k ≤ d.room) length fits in
+    let below = subst (λ k. d.accepted + k ≤ 2 ^ 63 - 1) length (omega (arith, same, numbers)) in
+    grind (arith, held, to_post, to_accept, below)
 
 pub call_goes : (p : Core) (s' : Sq) (q : Cq) (d : Dispatch) (count n : ℕ) (r : BeginAnswer) → MayOpen p count n → p.dispatch.accepted + n ≤ 2 ^ 63 - 1
     → IsSameCount p.dispatch d → n ≤ d.room → d.is_between_calls ≡ true → ((r : Requests) → ShowsRequests p.dispatch r → ShowsRequests d r)

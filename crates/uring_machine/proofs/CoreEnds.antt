@@ -11,13 +11,13 @@ use Rattle.uring_entry.specs.Submission.{Submission, Call, no_submission, taken,
 use Rattle.uring_entry.specs.Requests.{Requests, no_request, entry_of, has_started, has_ended, is_outstanding, is_running, is_doomed, is_ready, doomed_result, cancel_result, no_bytes, with_call, with_ended, with_issued_end, with_started, entry_outstanding}
 use Rattle.uring_entry.specs.Preparation.{is_cancel, operation_of}
 use Rattle.uring_entry.specs.Completions.{Completions, no_completion, with_end, with_posted}
-use Rattle.uring_entry.specs.declared.outcomes.Outcome.{Outcome}
+use Rattle.uring_entry.specs.declared.operation.Outcome.{Outcome}
 use Rattle.uring_entry.specs.declared.operation.Op.{Op}
 use Rattle.uring_rings.specs.Sq.{Sq, ShowsSubmission}
 use Rattle.uring_rings.specs.SqAnswers as ring
 use Rattle.uring_rings.specs.Cq.{Cq, ShowsCompletions}
-use Rattle.uring_rings.specs.declared.answers.end_answer.EndAnswer.TheVariants as ended_as
-use Rattle.uring_rings.specs.declared.answers.taken_counts.Taken.{Taken}
+use Rattle.uring_rings.specs.declared.answers.EndAnswer.TheVariants as ended_as
+use Rattle.uring_rings.specs.declared.answers.Taken.{Taken}
 use Rattle.uring_dispatch.specs.Dispatch.{Dispatch, ShowsRequests, HasStarted, HasEnded, HasFinished}
 use Rattle.uring_dispatch.specs.IssueAndFinish.{issued, issued_waiting, finished}
 use Rattle.uring_dispatch.specs.declared.issue_answer.Issued.{Issued}
@@ -74,19 +74,9 @@ closed_shows p w q d call s is all accepts few shown =
     let numbers : p.dispatch.accepted + call.count ≤ 2 ^ 63 - 1 = subst (λ c. p.dispatch.accepted + positions_of c ≤ 2 ^ 63 - 1) is s.numbers in
     let posts = s.posts in
     let held : p.held ≡ entries_of (places_from w.submission call.count) = s.held ∙ ap (held_by w.submission) is ∙ ap (λ n. entries_of (places_from w.submission n)) all in
-    record {
-      submission = shown;
-      completions = s.completions;
-      requests = subst (λ xs. ShowsRequests d (with_call w.requests xs)) held (accepts.shows w.requests s.requests);
-      held = refl;
-      closed = s.closed;
-      between = accepts.between;
-      room_to_post = omega arith;
-      room_to_accept = omega arith;
-      promised = s.promised;
-      numbers = omega arith;
-      posts = omega arith;
-    }
+    let requests = subst (λ xs. ShowsRequests d (with_call w.requests xs)) held (accepts.shows w.requests s.requests) in
+    let none_held : ◌≡◌ {A = List Sqe} [] [] = refl in
+    grind (arith, requests, none_held)
 
 closed_answer : (g : Setup) (w : World) (call : Call) (t : Taken) → ended_as.Taken t ≡ ring.end_of g w.submission (Some call) → answer.Taken t.accepted t.dropped t.head ≡ end_answer_in g w (Some call)
 closed_answer g w call t e =
@@ -156,23 +146,13 @@ ended_shows : (p : Core) (w : World) (d : Dispatch) (q : Cq) (r : Requests) (ent
     → ShowsWorld (record p { dispatch = d; completions = q }) (record w { requests = r; completions = with_end p.setup.cq w.completions entry res bytes })
 ended_shows p w d q r entry res bytes s shows accepted outstanding room between shown left promised =
     let few = few_posted p.setup.cq w.completions entry res bytes in
-    let to_post = s.room_to_post in
-    let to_accept = s.room_to_accept in
-    let numbers = s.numbers in
-    let posts = s.posts in
-    record {
-      submission = s.submission;
-      completions = shown;
-      requests = shows;
-      held = s.held;
-      closed = s.closed;
-      between = between ∙ s.between;
-      room_to_post = omega arith;
-      room_to_accept = omega arith;
-      promised = promised s.promised;
-      numbers = omega arith;
-      posts = omega arith;
-    }
+    let in_between = between ∙ s.between in
+    let to_post : d.outstanding + positions_of w.submission.call ≤ q.room = omega (arith, s.room_to_post) in
+    let to_accept : positions_of w.submission.call ≤ d.room = omega (arith, s.room_to_accept) in
+    let numbers : d.accepted + positions_of w.submission.call ≤ 2 ^ 63 - 1 = omega (arith, s.numbers) in
+    let posts : length (with_end p.setup.cq w.completions entry res bytes).posted + d.outstanding ≤ d.accepted = omega (arith, s.posts) in
+    let stays_promised = promised s.promised in
+    assumption (s, shown, shows, in_between, to_post, to_accept, numbers, posts, stays_promised)
 
 -- an outstanding request's entry is there
 pub entry_there : (r : Requests) (n : ℕ) (entry : Sqe) → Some entry ≡ entry_outstanding r n → entry ≡ entry_of r n
@@ -210,27 +190,10 @@ pub run_goes : (p : Core) (d : Dispatch) (n : ℕ) (op : Op)
 run_goes p d n op answered shows counts h f =
     let w = world p.setup h in
     let s = f.shows in
-    let a = counts.accepted in
-    let o = counts.outstanding in
-    let r = counts.room in
-    let to_post = s.room_to_post in
-    let to_accept = s.room_to_accept in
-    let numbers = s.numbers in
-    let posts = s.posts in
+    let started = shows w.requests s.requests in
+    let between = counts.between ∙ s.between in
     record {
-      shows = record {
-        submission = s.submission;
-        completions = s.completions;
-        requests = shows w.requests s.requests;
-        held = s.held;
-        closed = s.closed;
-        between = counts.between ∙ s.between;
-        room_to_post = omega arith;
-        room_to_accept = omega arith;
-        promised = s.promised;
-        numbers = omega arith;
-        posts = omega arith;
-      };
+      shows = grind (arith, s, counts, started, between);
       lawful = (ap issue_told (answered w.requests s.requests) ∙ issue_same w n, f.lawful);
     }
 
@@ -291,19 +254,7 @@ finish_told p n outcome answered h f = rw (running_there (world p.setup h).reque
 pub close_goes : (p : Core) → ((g : Setup) (l : Submission) → ShowsSubmission g p.sq l → false ≡ is_some l.call)
     → (h : History) → FitsApart p h → FitsApart (record p { is_closed = true }) ((step.Close, answer.Shut) ∷ h)
 close_goes p no_call h f = record {
-  shows = record {
-    submission = f.shows.submission;
-    completions = f.shows.completions;
-    requests = f.shows.requests;
-    held = f.shows.held;
-    closed = refl;
-    between = f.shows.between;
-    room_to_post = f.shows.room_to_post;
-    room_to_accept = f.shows.room_to_accept;
-    promised = f.shows.promised;
-    numbers = f.shows.numbers;
-    posts = f.shows.posts;
-  };
+  shows = let closed : true ≡ true = refl in assumption (f.shows, closed);
   lawful = (ap (λ b. cond b answer.InCall answer.Shut) (no_call p.setup _ f.shows.submission), f.lawful);
 }
 
@@ -337,18 +288,6 @@ new_fits p submission completions none_promised requests between held open_ring 
     let a : p.dispatch.accepted ≡ 0 = requests.accepted in
     let o : p.dispatch.outstanding ≡ 0 = requests.outstanding in
     record {
-      shows = record {
-        submission = submission;
-        completions = completions;
-        requests = requests;
-        held = held;
-        closed = open_ring;
-        between = between;
-        room_to_post = omega arith;
-        room_to_accept = omega arith;
-        promised = omega arith;
-        numbers = omega arith;
-        posts = omega arith;
-      };
+      shows = grind arith;
       lawful = tt;
     }

@@ -10,10 +10,10 @@ use Rattle.uring_entry.specs.Completions.{Completions, next_to_reap, with_flushe
 use Rattle.uring_rings.specs.Sq.{Sq, ShowsSubmission}
 use Rattle.uring_rings.specs.SqAnswers as ring
 use Rattle.uring_rings.specs.Cq.{Cq, ShowsCompletions, KeepsMemory, after_reap}
-use Rattle.uring_rings.specs.declared.answers.fill_answer.FillAnswer.{FillAnswer}
-use Rattle.uring_rings.specs.declared.answers.fill_answer.FillAnswer.TheVariants as fill
-use Rattle.uring_rings.specs.declared.answers.index_answer.IndexAnswer.{IndexAnswer}
-use Rattle.uring_rings.specs.declared.answers.index_answer.IndexAnswer.TheVariants as index
+use Rattle.uring_rings.specs.declared.answers.FillAnswer.{FillAnswer}
+use Rattle.uring_rings.specs.declared.answers.FillAnswer.TheVariants as fill
+use Rattle.uring_rings.specs.declared.answers.IndexAnswer.{IndexAnswer}
+use Rattle.uring_rings.specs.declared.answers.IndexAnswer.TheVariants as index
 use Rattle.uring_machine.specs.World.{World, filling, staging, reaping}
 use Rattle.uring_machine.specs.StepAnswers.{fill_answer, reap_answer_of}
 use Rattle.uring_machine.specs.Histories.{Event, History, world}
@@ -36,36 +36,20 @@ completions_shown p h f = f.shows.completions
 -- A change of the submission ring alone, which leaves the open call and what it took as they were.
 pub on_submission : (p : Core) (w : World) (q : Sq) (l : Submission) → ShowsWorld p w → ShowsSubmission p.setup q l → l.call ≡ w.submission.call
     → held_by l l.call ≡ held_by w.submission w.submission.call → ShowsWorld (record p { sq = q }) (record w { submission = l })
-on_submission p w q l s shows call held = record {
-  submission = shows;
-  completions = s.completions;
-  requests = s.requests;
-  held = s.held ∙ sym held;
-  closed = s.closed;
-  between = s.between;
-  room_to_post = subst (λ c. p.dispatch.outstanding + positions_of c ≤ p.completions.room) (sym call) s.room_to_post;
-  room_to_accept = subst (λ c. positions_of c ≤ p.dispatch.room) (sym call) s.room_to_accept;
-  promised = s.promised;
-  numbers = subst (λ c. p.dispatch.accepted + positions_of c ≤ 2 ^ 63 - 1) (sym call) s.numbers;
-  posts = s.posts;
-}
+on_submission p w q l s shows call held =
+    let same_held = s.held ∙ sym held in
+    let to_post = subst (λ c. p.dispatch.outstanding + positions_of c ≤ p.completions.room) (sym call) s.room_to_post in
+    let to_accept = subst (λ c. positions_of c ≤ p.dispatch.room) (sym call) s.room_to_accept in
+    let numbers = subst (λ c. p.dispatch.accepted + positions_of c ≤ 2 ^ 63 - 1) (sym call) s.numbers in
+    assumption (s, shows, same_held, to_post, to_accept, numbers)
 
 -- A change of the completion ring alone, which posts nothing.
 pub on_completions : (p : Core) (w : World) (q : Cq) (l : Completions) → ShowsWorld p w → ShowsCompletions p.setup q l → q.room ≡ p.completions.room → KeepsMemory p.completions q
     → l.posted ≡ w.completions.posted → ShowsWorld (record p { completions = q }) (record w { completions = l })
-on_completions p w q l s shows room memory posted = record {
-  submission = s.submission;
-  completions = shows;
-  requests = s.requests;
-  held = s.held;
-  closed = s.closed;
-  between = s.between;
-  room_to_post = subst (λ r. p.dispatch.outstanding + positions_of w.submission.call ≤ r) (sym room) s.room_to_post;
-  room_to_accept = s.room_to_accept;
-  promised = memory.promised;
-  numbers = s.numbers;
-  posts = subst (λ cs. length cs + p.dispatch.outstanding ≤ p.dispatch.accepted) (sym posted) s.posts;
-}
+on_completions p w q l s shows room memory posted =
+    let to_post = subst (λ r. p.dispatch.outstanding + positions_of w.submission.call ≤ r) (sym room) s.room_to_post in
+    let posts = subst (λ cs. length cs + p.dispatch.outstanding ≤ p.dispatch.accepted) (sym posted) s.posts in
+    assumption (s, shows, to_post, memory, posts)
 
 -- Fill.
 

@@ -9,8 +9,8 @@ use Rattle.uring_entry.specs.Layout.{Sqe}
 use Rattle.uring_entry.specs.Submission.{Submission, Call, Place, taken, pending, staged, entries_of, with_taken}
 use Rattle.uring_rings.specs.Sq.{Sq, ShowsSubmission}
 use Rattle.uring_rings.specs.SqAnswers as ring
-use Rattle.uring_rings.specs.declared.answers.take_answer.TakeAnswer.{TakeAnswer}
-use Rattle.uring_rings.specs.declared.answers.take_answer.TakeAnswer.TheVariants as took_as
+use Rattle.uring_rings.specs.declared.answers.TakeAnswer.{TakeAnswer}
+use Rattle.uring_rings.specs.declared.answers.TakeAnswer.TheVariants as took_as
 use Rattle.uring_rings.proofs.Places.{places_more, entries_and_dropped}
 use Rattle.uring_machine.specs.World.{World, taking_of}
 use Rattle.uring_machine.specs.StepAnswers.{take_answer_in}
@@ -79,19 +79,11 @@ answered_dropped w call place more is has = rw (more, is, has) refl
 taken_shows : (p : Core) (w : World) (q : Sq) (call : Call) (held : List Sqe) → ShowsWorld p w → w.submission.call ≡ Some call → ShowsSubmission p.setup q (with_taken w.submission call)
     → held ≡ entries_of (take (call.taken + 1) (drop (taken w.submission) w.submission.published))
     → ShowsWorld (record p { sq = q; held = held }) (record w { submission = with_taken w.submission call })
-taken_shows p w q call held s is shown holds = record {
-  submission = shown;
-  completions = s.completions;
-  requests = s.requests;
-  held = holds;
-  closed = s.closed;
-  between = s.between;
-  room_to_post = subst (λ c. p.dispatch.outstanding + positions_of c ≤ p.completions.room) is s.room_to_post;
-  room_to_accept = subst (λ c. positions_of c ≤ p.dispatch.room) is s.room_to_accept;
-  promised = s.promised;
-  numbers = subst (λ c. p.dispatch.accepted + positions_of c ≤ 2 ^ 63 - 1) is s.numbers;
-  posts = s.posts;
-}
+taken_shows p w q call held s is shown holds =
+    let to_post = subst (λ c. p.dispatch.outstanding + positions_of c ≤ p.completions.room) is s.room_to_post in
+    let to_accept = subst (λ c. positions_of c ≤ p.dispatch.room) is s.room_to_accept in
+    let numbers = subst (λ c. p.dispatch.accepted + positions_of c ≤ 2 ^ 63 - 1) is s.numbers in
+    assumption (s, shown, holds, to_post, to_accept, numbers)
 
 -- what a take shows and answers, by the call that is open
 pub record Takes (p : Core) (w : World) (q : Sq) (held : List Sqe) (a : Answer) (c : Option Call) : Type 0 where

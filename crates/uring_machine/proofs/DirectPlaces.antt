@@ -7,13 +7,14 @@ use Rattle.uring_entry.specs.Setup.{Setup}
 use Rattle.uring_entry.specs.Layout.{Sqe}
 use Rattle.uring_entry.specs.Submission.{Place, place_of}
 use Rattle.uring_machine.specs.Direct.{staged_by, is_store_tail, staged_words, published_words, slot_content, before_published, published_entry}
-use Rattle.uring_machine.specs.World.{World, happens, taking_of, ending_of}
+use Rattle.uring_machine.specs.World.{World}
 use Rattle.uring_machine.specs.Histories.{Event, History, world, IsLawfulApart}
 use Rattle.uring_machine.specs.declared.step.Step.{Step}
 use Rattle.uring_machine.specs.declared.step.Step.TheVariants as step
 use Rattle.uring_machine.specs.declared.answer.Answer.{Answer}
 use Rattle.uring_machine.specs.declared.answer.Answer.TheVariants as answer
-use Rattle.uring_machine.proofs.Changes.{Change, change_of, refuses, fills, stages, stores, loads, begins, takes, drops, closes, runs, dooms, cancels, finishes, flushes, sees_tail, reaps, stores_head, shuts}
+use Rattle.uring_machine.proofs.Changes.{change_of}
+use Rattle.uring_machine.proofs.SubmissionMoves.{SubmissionMove, stays, stages, stores, submission_move}
 use Rattle.uring_machine.proofs.Telling.{told_same}
 use Rattle.uring_machine.proofs.DirectSubmission.{DirectSubmission, direct_submission}
 
@@ -63,27 +64,14 @@ entry_stored g tail h w d i k p at (inr high) =
     ∙ ap (λ x. entry_at g.sq x h) word_is
     ∙ ap (λ b. entry_at g.sq (get_or (staged_words h) k 0) (cond (not b) h (before_published k h))) (sym (le-ltb k (length (published_words h)) (omega (arith, c.0))))
 
-entries_direct : (g : Setup) (h : History) (w : World) (s : Step) (a : Answer) → Change g w s a → DirectSubmission h w → EntriesTold g h w → EntriesTold g ((s, a) ∷ h) (happens g w s a)
-entries_direct g h w s a (refuses _ _ same silent) d i = subst (λ v. EntriesTold g ((s, a) ∷ h) v) (sym (same w)) (λ k p at. i k p at ∙ sym (entry_same g.sq (s, a) h k silent.stages silent.stores_tail))
-entries_direct g h w s a (fills slot entry free) d i = i
-entries_direct g h w s a (stages word room) d i = λ k p at. i k p at ∙ sym (entry_staged g.sq word h w d k (slice_get_within w.submission.published k p at))
-entries_direct g h w s a (stores tail) d i = λ k p at. entry_stored g tail h w d i k p at (cases_lt k (length w.submission.published))
-entries_direct g h w s a (loads head) d i = i
-entries_direct g h w s a (begins count is_open no_call) d i = i
-entries_direct g h w s a (takes entry call place opened left at valid) d i = subst (λ o. EntriesTold g ((step.Take, answer.Entry entry) ∷ h) (taking_of w o)) (sym opened) i
-entries_direct g h w s a (drops call place opened left at invalid) d i = subst (λ o. EntriesTold g ((step.Take, answer.Dropped) ∷ h) (taking_of w o)) (sym opened) i
-entries_direct g h w s a (closes accepted missed head call opened all counted) d i = subst (λ o. EntriesTold g ((step.End, answer.Taken accepted missed head) ∷ h) (ending_of w o)) (sym opened) i
-entries_direct g h w s a (runs n outstanding idle spared ready) d i = i
-entries_direct g h w s a (dooms n outstanding idle doomed) d i = i
-entries_direct g h w s a (cancels n outstanding idle spared ready cancel) d i = i
-entries_direct g h w s a (finishes n res bytes running) d i = i
-entries_direct g h w s a (flushes moved) d i = i
-entries_direct g h w s a (sees_tail tail) d i = i
-entries_direct g h w s a (reaps completion next) d i = i
-entries_direct g h w s a (stores_head head) d i = i
-entries_direct g h w s a (shuts no_call) d i = i
+entries_direct : (g : Setup) (h : History) (w : World) (s : Step) (a : Answer) (v : World)
+    → SubmissionMove g w s a v → DirectSubmission h w → EntriesTold g h w → EntriesTold g ((s, a) ∷ h) v
+entries_direct g h w s a v (stays _ _ r c is_closed off left) d i = λ k p at. i k p at ∙ sym (entry_same g.sq (s, a) h k off.stages off.stores_tail)
+entries_direct g h w s a v (stages word room) d i = λ k p at. i k p at ∙ sym (entry_staged g.sq word h w d k (slice_get_within w.submission.published k p at))
+entries_direct g h w s a v (stores tail) d i = λ k p at. entry_stored g tail h w d i k p at (cases_lt k (length w.submission.published))
+entries_direct g h w s a v _ d i = i
 
 pub direct_places : (g : Setup) (h : History) → IsLawfulApart g h → EntriesTold g h (world g h)
 direct_places g [] lawful = λ k p at. absurd (let e : None ≡ Some p = at in cc)
 direct_places g ((s, a) ∷ before) lawful =
-    entries_direct g before (world g before) s a (change_of g (world g before) s a lawful.0) (direct_submission g before lawful.1) (direct_places g before lawful.1)
+    entries_direct g before (world g before) s a _ (submission_move g (world g before) s a (change_of g (world g before) s a lawful.0)) (direct_submission g before lawful.1) (direct_places g before lawful.1)

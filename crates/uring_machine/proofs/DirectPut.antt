@@ -1,19 +1,20 @@
 -- How many completions were put into the ring, read off a history.
-use Rattle.std.proofs.Common.{◌≡◌, ℕ, ◌+◌, ◌-◌, ◌==◌, min, nat_lt, Bool, true, false, ◌&&◌, [], ◌∷◌, length, Some, None, is_some, if◌then◌else◌, cond, refl, sym, ap, ap₂, ◌∙◌}
+use Rattle.std.proofs.Common.{◌≡◌, ℕ, ◌+◌, ◌-◌, ◌==◌, min, nat_lt, Bool, true, false, ◌&&◌, [], ◌∷◌, length, Option, Some, None, is_some, if◌then◌else◌, cond, refl, sym, ap, ap₂, ◌∙◌}
 use Rattle.std.specs.List.{filter_map}
 use Rattle.std.specs.Option.{option_and_then}
 use Rattle.uring_entry.specs.Setup.{Setup}
-use Rattle.uring_entry.specs.Layout.{Cqe, user_data_of}
+use Rattle.uring_entry.specs.Layout.{Cqe}
 use Rattle.uring_entry.specs.Success.{posts_completion}
-use Rattle.uring_entry.specs.Completions.{Completions, with_posted}
-use Rattle.uring_entry.specs.Requests.{entry_of, doomed_result, cancel_result, no_bytes}
-use Rattle.uring_machine.specs.World.{happens, taking_of, ending_of}
+use Rattle.uring_entry.specs.Completions.{Completions, with_posted, completion_for}
+use Rattle.uring_entry.specs.Requests.{Ending, entry_of}
+use Rattle.uring_machine.specs.World.{World}
 use Rattle.uring_machine.specs.Histories.{Event, History, world, IsLawfulApart}
-use Rattle.uring_machine.specs.Direct.{before_last, completion_of, stored_head, flushed_head}
+use Rattle.uring_machine.specs.Direct.{end_told_by, is_flush, before_last, completion_of, stored_head, flushed_head}
 use Rattle.uring_machine.specs.HistoryLists.{posted_count, put_count}
 use Rattle.uring_machine.specs.declared.step.Step.{Step}
 use Rattle.uring_machine.specs.declared.answer.Answer.{Answer}
-use Rattle.uring_machine.proofs.Changes.{Change, change_of, refuses, fills, stages, stores, loads, begins, takes, drops, closes, runs, dooms, cancels, finishes, flushes, sees_tail, reaps, stores_head, shuts}
+use Rattle.uring_machine.proofs.Changes.{change_of}
+use Rattle.uring_machine.proofs.CompletionMoves.{CompletionMove, stays, ends, flushes, completion_move}
 use Rattle.uring_machine.proofs.DirectCompletions.{direct_completions}
 use Rattle.uring_machine.proofs.DirectRequests.{direct_requests}
 use Rattle.uring_machine.proofs.ToldRequests.{tells_requests}
@@ -32,25 +33,20 @@ end_put size l true c there posted loaded put_is posted_is loaded_is =
     ∙ ap₂ (λ n k. if (there == n) && nat_lt (there - k) size then there + 1 else there) posted_is loaded_is
 end_put size l false c there posted loaded put_is posted_is loaded_is = put_is
 
-put_direct : (g : Setup) (h : History) (s : Step) (a : Answer) → Change g (world g h) s a → PutFacts g h → (world g h).completions.put ≡ put_count g h → (happens g (world g h) s a).completions.put ≡ put_count g ((s, a) ∷ h)
-put_direct g h s a (refuses _ _ same silent) f i = ap (λ v. v.completions.put) (same (world g h)) ∙ i ∙ sym (ap₂ (λ flush ending. if flush then min (posted_count g h) (stored_head h + g.cq) else (if is_some (option_and_then (completion_of (world g h).requests.accepted) ending) && (put_count g h == posted_count g h) && nat_lt (put_count g h - flushed_head h) g.cq then put_count g h + 1 else put_count g h)) silent.flushes silent.ends)
-put_direct g h s a (fills slot entry free) f i = i
-put_direct g h s a (stages word room) f i = i
-put_direct g h s a (stores tail) f i = i
-put_direct g h s a (loads head) f i = i
-put_direct g h s a (begins count is_open no_call) f i = i
-put_direct g h s a (takes entry call place opened left at valid) f i = ap (λ o. (taking_of (world g h) o).completions.put) opened ∙ i
-put_direct g h s a (drops call place opened left at invalid) f i = ap (λ o. (taking_of (world g h) o).completions.put) opened ∙ i
-put_direct g h s a (closes accepted missed head call opened all counted) f i = ap (λ o. (ending_of (world g h) o).completions.put) opened ∙ i
-put_direct g h s a (runs n outstanding idle spared ready) f i = i
-put_direct g h s a (dooms n outstanding idle doomed) f i = end_put g.cq (world g h).completions (posts_completion (entry_of (world g h).requests n) (doomed_result (world g h).requests n)) (record { user_data = user_data_of (entry_of (world g h).requests n); res = (doomed_result (world g h).requests n); payload = no_bytes }) (put_count g h) (posted_count g h) (flushed_head h) i f.posted f.loaded
-put_direct g h s a (cancels n outstanding idle spared ready cancel) f i = end_put g.cq (world g h).completions (posts_completion (entry_of (world g h).requests n) (cancel_result (world g h).requests n)) (record { user_data = user_data_of (entry_of (world g h).requests n); res = (cancel_result (world g h).requests n); payload = no_bytes }) (put_count g h) (posted_count g h) (flushed_head h) i f.posted f.loaded
-put_direct g h s a (finishes n res bytes running) f i = end_put g.cq (world g h).completions (posts_completion (entry_of (world g h).requests n) res) (record { user_data = user_data_of (entry_of (world g h).requests n); res = res; payload = bytes }) (put_count g h) (posted_count g h) (flushed_head h) i f.posted f.loaded
-put_direct g h s a (flushes moved) f i = ap₂ (λ posted head. min posted (head + g.cq)) f.posted f.stored
-put_direct g h s a (sees_tail tail) f i = i
-put_direct g h s a (reaps completion next) f i = i
-put_direct g h s a (stores_head head) f i = i
-put_direct g h s a (shuts no_call) f i = i
+-- the count that an event makes, by the end that it tells
+put_told : (g : Setup) (h : History) (flushes_now : Bool) (ending told : Option Ending) → flushes_now ≡ false → ending ≡ told
+    → (if flushes_now then min (posted_count g h) (stored_head h + g.cq) else (if is_some (option_and_then (completion_of (world g h).requests.accepted) ending) && (put_count g h == posted_count g h) && nat_lt (put_count g h - flushed_head h) g.cq then put_count g h + 1 else put_count g h))
+    ≡ (if is_some (option_and_then (completion_of (world g h).requests.accepted) told) && (put_count g h == posted_count g h) && nat_lt (put_count g h - flushed_head h) g.cq then put_count g h + 1 else put_count g h)
+put_told g h flushes_now ending told no_flush is =
+    ap₂ (λ flush end. if flush then min (posted_count g h) (stored_head h + g.cq) else (if is_some (option_and_then (completion_of (world g h).requests.accepted) end) && (put_count g h == posted_count g h) && nat_lt (put_count g h - flushed_head h) g.cq then put_count g h + 1 else put_count g h)) no_flush is
+
+put_direct : (g : Setup) (h : History) (s : Step) (a : Answer) (v : World) → CompletionMove g (world g h) s a v → PutFacts g h → (world g h).completions.put ≡ put_count g h → v.completions.put ≡ put_count g ((s, a) ∷ h)
+put_direct g h s a v (stays _ _ l r is_closed off no_end left) f i = i ∙ sym (put_told g h (is_flush (s, a)) (end_told_by (s, a)) None off.flushes no_end)
+put_direct g h s a v (ends _ _ n res bytes r off told same_accepted one_more) f i =
+    end_put g.cq (world g h).completions (posts_completion (entry_of (world g h).requests n) res) (completion_for (entry_of (world g h).requests n) res bytes) (put_count g h) (posted_count g h) (flushed_head h) i f.posted f.loaded
+    ∙ sym (put_told g h (is_flush (s, a)) (end_told_by (s, a)) (Some (record { number = n; res = res; bytes = bytes })) off.flushes told)
+put_direct g h s a v (flushes moved) f i = ap₂ (λ posted head. min posted (head + g.cq)) f.posted f.stored
+put_direct g h s a v _ f i = i
 
 put_facts : (g : Setup) (h : History) → IsLawfulApart g h → PutFacts g h
 put_facts g h lawful =
@@ -63,7 +59,7 @@ put_facts g h lawful =
 
 pub direct_put : (g : Setup) (h : History) → IsLawfulApart g h → (world g h).completions.put ≡ put_count g h
 direct_put g [] lawful = refl
-direct_put g ((s, a) ∷ before) lawful = put_direct g before s a (change_of g (world g before) s a lawful.0) (put_facts g before lawful.1) (direct_put g before lawful.1)
+direct_put g ((s, a) ∷ before) lawful = put_direct g before s a _ (completion_move g (world g before) s a (change_of g (world g before) s a lawful.0)) (put_facts g before lawful.1) (direct_put g before lawful.1)
 
 -- what stands before the last event of a kind is lawful
 pub lawful_last : (g : Setup) (is_kind : Event → Bool) (h : History) → IsLawfulApart g h → IsLawfulApart g (before_last is_kind h)

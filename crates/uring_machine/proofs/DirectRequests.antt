@@ -1,5 +1,5 @@
 -- The accepted entries, the cuts and the completions posted, read off a history.
-use Rattle.std.proofs.Common.{◌≡◌, ℕ, ◌+◌, ◌<◌, ◌==◌, Bool, true, false, ◌||◌, List, [], ◌∷◌, ◌++◌, length, take, map, sum, Some, None, get_or, cond, refl, sym, subst, ap, ap₂, ◌∙◌, arith, append-nil, take-add}
+use Rattle.std.proofs.Common.{◌≡◌, ℕ, ◌+◌, ◌<◌, ◌==◌, Bool, true, false, ◌||◌, List, [], ◌∷◌, ◌++◌, length, take, map, sum, Some, None, get_or, cond, refl, sym, ap, ap₂, ◌∙◌, arith, append-nil, take-add}
 use Rattle.std.specs.List.{list_any, filter_map, cons_option}
 use Rattle.std.proofs.lemmas.Bool.{or_left, or_right, eq-eqb}
 use Rattle.std.proofs.lemmas.List.{length-append, take-append-le, get_or_append_left}
@@ -10,15 +10,15 @@ use Rattle.uring_entry.specs.Layout.{Sqe, Cqe, zero_entry, user_data_of}
 use Rattle.uring_entry.specs.Success.{posts_completion}
 use Rattle.uring_entry.specs.Submission.{Submission, taken, accepted, entries_of, places_from, place_of}
 use Rattle.uring_entry.specs.Completions.{Completions, with_posted, with_end}
-use Rattle.uring_entry.specs.Requests.{Ending, doomed_result, cancel_result, no_bytes}
+use Rattle.uring_entry.specs.Requests.{Ending}
 use Rattle.uring_machine.specs.Direct.{accepted_by, closes_ring, told, sums_from, cut_counts, completion_of}
-use Rattle.uring_machine.specs.World.{World, happens, taking_of, ending_of}
+use Rattle.uring_machine.specs.World.{World, happens}
 use Rattle.uring_machine.specs.Histories.{History, world, IsLawfulApart}
 use Rattle.uring_machine.specs.declared.step.Step.{Step}
-use Rattle.uring_machine.specs.declared.step.Step.TheVariants as step
 use Rattle.uring_machine.specs.declared.answer.Answer.{Answer}
-use Rattle.uring_machine.specs.declared.answer.Answer.TheVariants as answer
-use Rattle.uring_machine.proofs.Changes.{Change, change_of, refuses, fills, stages, stores, loads, begins, takes, drops, closes, runs, dooms, cancels, finishes, flushes, sees_tail, reaps, stores_head, shuts}
+use Rattle.uring_machine.proofs.Changes.{Change, change_of}
+use Rattle.uring_machine.proofs.SubmissionMoves.{SubmissionMove, stays, stores, closes, submission_move}
+use Rattle.uring_machine.proofs.CompletionMoves.{CompletionMove, stays as stays_off, ends, completion_move}
 use Rattle.uring_machine.proofs.Telling.{told_same}
 use Rattle.uring_machine.proofs.Sound.{IsSound, sound_of}
 
@@ -65,25 +65,52 @@ end_posted size l accepted es e posted =
     ∙ ap (λ xs. xs ++ cons_option (completion_of accepted e) []) posted
     ∙ sym (filter_map-append (completion_of accepted) es (e ∷ []))
 
+posted_direct : (g : Setup) (w : World) (s : Step) (a : Answer) (v : World) → CompletionMove g w s a v → IsSound g w
+    → w.completions.posted ≡ filter_map (completion_of w.requests.accepted) w.requests.ended → v.completions.posted ≡ filter_map (completion_of v.requests.accepted) v.requests.ended
+posted_direct g w s a v (stays_off _ _ l r is_closed off no_end left) sound i =
+    i ∙ sym (same_posts w.requests.accepted left.more w.requests.ended sound.requests.ended_accepted)
+    ∙ ap₂ (λ accepted ended. filter_map (completion_of accepted) ended) (sym left.accepted) (sym left.ended)
+posted_direct g w s a v (ends _ _ n res bytes r off told same_accepted one_more) sound i =
+    end_posted g.cq w.completions w.requests.accepted w.requests.ended (record { number = n; res = res; bytes = bytes }) i
+    ∙ ap₂ (λ accepted ended. filter_map (completion_of accepted) ended) (sym same_accepted) (sym one_more)
+posted_direct g w s a v _ sound i = i
+
+-- what of the requests the submission ring tells
+record DirectAccepted (h : History) (w : World) : Type 0 where
+  taken_in : w.requests.accepted ≡ accepted w.submission
+  counted : sum (told accepted_by h) ≡ length w.requests.accepted
+  cuts : w.requests.cuts ≡ cut_counts h
+  shut : w.is_closed ≡ list_any closes_ring h
+
+accepted_direct : (g : Setup) (h : History) (w : World) (s : Step) (a : Answer) (v : World) → SubmissionMove g w s a v → IsSound g w → DirectAccepted h w → DirectAccepted ((s, a) ∷ h) v
+accepted_direct g h w s a v (stays _ _ r c is_closed off left) sound i =
+    record {
+      taken_in = left.accepted ∙ i.taken_in;
+      counted = ap sum (told_same accepted_by (s, a) h off.accepts) ∙ i.counted ∙ ap length (sym left.accepted);
+      cuts = left.cuts ∙ i.cuts ∙ ap (sums_from 0) (sym (told_same accepted_by (s, a) h off.accepts));
+      shut = left.shut ∙ ap (λ b. closes_ring (s, a) || b) i.shut;
+    }
+accepted_direct g h w s a v (stores tail) sound i =
+    let published = map (place_of g.sq w.submission.content) w.submission.fresh in
+    let taken_in = i.taken_in ∙ ap entries_of (sym (take-append-le (taken w.submission) w.submission.published published (omega (arith, sound.submission.call_published)))) in
+    assumption (taken_in, i)
+accepted_direct g h w s a v (closes accepted missed head call opened all counted) sound i =
+    let entries = entries_of (places_from w.submission call.count) in
+    let longer = length-append w.requests.accepted (entries_of (places_from w.submission call.count)) in
+    record {
+      taken_in = ap (λ xs. xs ++ entries) i.taken_in ∙ sym (taken_more w.submission call.count);
+      counted = sum_by_push (λ x. x) (told accepted_by h) accepted ∙ omega (arith, i.counted, counted, longer);
+      cuts = ap₂ (λ xs n. xs ++ n ∷ []) i.cuts (omega (arith, i.counted, counted, longer)) ∙ sym (sums_push 0 (told accepted_by h) accepted);
+      shut = i.shut;
+    }
+accepted_direct g h w s a v _ sound i = assumption i
+
 requests_direct : (g : Setup) (h : History) (w : World) (s : Step) (a : Answer) → Change g w s a → IsSound g w → DirectRequests h w → DirectRequests ((s, a) ∷ h) (happens g w s a)
-requests_direct g h w s a (refuses _ _ same silent) sound i = subst (λ v. DirectRequests ((s, a) ∷ h) v) (sym (same w)) (record { posted = i.posted; taken_in = i.taken_in; counted = ap sum (told_same accepted_by (s, a) h silent.accepts) ∙ i.counted; cuts = i.cuts ∙ ap (sums_from 0) (sym (told_same accepted_by (s, a) h silent.accepts)); shut = i.shut ∙ ap (λ b. b || list_any closes_ring h) (sym silent.shuts_none) })
-requests_direct g h w s a (fills slot entry free) sound i = record { posted = i.posted; taken_in = i.taken_in; counted = i.counted; cuts = i.cuts; shut = i.shut }
-requests_direct g h w s a (stages word room) sound i = record { posted = i.posted; taken_in = i.taken_in; counted = i.counted; cuts = i.cuts; shut = i.shut }
-requests_direct g h w s a (stores tail) sound i = record { posted = i.posted; taken_in = i.taken_in ∙ ap entries_of (sym (take-append-le (taken w.submission) w.submission.published (map (place_of g.sq w.submission.content) w.submission.fresh) (omega (arith, sound.submission.call_published)))); counted = i.counted; cuts = i.cuts; shut = i.shut }
-requests_direct g h w s a (loads head) sound i = record { posted = i.posted; taken_in = i.taken_in; counted = i.counted; cuts = i.cuts; shut = i.shut }
-requests_direct g h w s a (begins count is_open no_call) sound i = record { posted = i.posted; taken_in = i.taken_in; counted = i.counted; cuts = i.cuts; shut = i.shut }
-requests_direct g h w s a (takes entry call place opened left at valid) sound i = subst (λ o. DirectRequests ((step.Take, answer.Entry entry) ∷ h) (taking_of w o)) (sym opened) (record { posted = i.posted; taken_in = i.taken_in; counted = i.counted; cuts = i.cuts; shut = i.shut })
-requests_direct g h w s a (drops call place opened left at invalid) sound i = subst (λ o. DirectRequests ((step.Take, answer.Dropped) ∷ h) (taking_of w o)) (sym opened) (record { posted = i.posted; taken_in = i.taken_in; counted = i.counted; cuts = i.cuts; shut = i.shut })
-requests_direct g h w s a (closes accepted missed head call opened all counted) sound i = subst (λ o. DirectRequests ((step.End, answer.Taken accepted missed head) ∷ h) (ending_of w o)) (sym opened) (record { posted = i.posted ∙ sym (same_posts w.requests.accepted (entries_of (places_from w.submission call.count)) w.requests.ended sound.requests.ended_accepted); taken_in = ap (λ xs. xs ++ entries_of (places_from w.submission call.count)) i.taken_in ∙ sym (taken_more w.submission call.count); counted = sum_by_push (λ x. x) (told accepted_by h) accepted ∙ omega (arith, i.counted, counted, length-append w.requests.accepted (entries_of (places_from w.submission call.count))); cuts = ap₂ (λ xs n. xs ++ n ∷ []) i.cuts (omega (arith, i.counted, counted, length-append w.requests.accepted (entries_of (places_from w.submission call.count)))) ∙ sym (sums_push 0 (told accepted_by h) accepted); shut = i.shut })
-requests_direct g h w s a (runs n outstanding idle spared ready) sound i = record { posted = i.posted; taken_in = i.taken_in; counted = i.counted; cuts = i.cuts; shut = i.shut }
-requests_direct g h w s a (dooms n outstanding idle doomed) sound i = record { posted = end_posted g.cq w.completions w.requests.accepted w.requests.ended (record { number = n; res = doomed_result w.requests n; bytes = no_bytes }) i.posted; taken_in = i.taken_in; counted = i.counted; cuts = i.cuts; shut = i.shut }
-requests_direct g h w s a (cancels n outstanding idle spared ready cancel) sound i = record { posted = end_posted g.cq w.completions w.requests.accepted w.requests.ended (record { number = n; res = cancel_result w.requests n; bytes = no_bytes }) i.posted; taken_in = i.taken_in; counted = i.counted; cuts = i.cuts; shut = i.shut }
-requests_direct g h w s a (finishes n res bytes running) sound i = record { posted = end_posted g.cq w.completions w.requests.accepted w.requests.ended (record { number = n; res = res; bytes = bytes }) i.posted; taken_in = i.taken_in; counted = i.counted; cuts = i.cuts; shut = i.shut }
-requests_direct g h w s a (flushes moved) sound i = record { posted = i.posted; taken_in = i.taken_in; counted = i.counted; cuts = i.cuts; shut = i.shut }
-requests_direct g h w s a (sees_tail tail) sound i = record { posted = i.posted; taken_in = i.taken_in; counted = i.counted; cuts = i.cuts; shut = i.shut }
-requests_direct g h w s a (reaps completion next) sound i = record { posted = i.posted; taken_in = i.taken_in; counted = i.counted; cuts = i.cuts; shut = i.shut }
-requests_direct g h w s a (stores_head head) sound i = record { posted = i.posted; taken_in = i.taken_in; counted = i.counted; cuts = i.cuts; shut = i.shut }
-requests_direct g h w s a (shuts no_call) sound i = record { posted = i.posted; taken_in = i.taken_in; counted = i.counted; cuts = i.cuts; shut = refl }
+requests_direct g h w s a c sound i =
+    let known : DirectAccepted h w = assumption i in
+    let d = accepted_direct g h w s a _ (submission_move g w s a c) sound known in
+    let posted = posted_direct g w s a _ (completion_move g w s a c) sound i.posted in
+    assumption (posted, d)
 
 pub direct_requests : (g : Setup) (h : History) → IsLawfulApart g h → DirectRequests h (world g h)
 direct_requests g [] lawful = record { posted = refl; taken_in = refl; counted = refl; cuts = refl; shut = refl }

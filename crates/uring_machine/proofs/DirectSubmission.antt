@@ -6,15 +6,15 @@ use Rattle.std.proofs.lemmas.List.{length_push, map-append, take_at, get_or_push
 use Rattle.uring_entry.specs.Setup.{Setup}
 use Rattle.uring_entry.specs.Layout.{Sqe, zero_entry}
 use Rattle.uring_entry.specs.Submission.{Call, place_of, call_length}
-use Rattle.uring_entry.specs.Requests.{doomed_result, cancel_result, no_bytes}
 use Rattle.uring_machine.specs.Direct.{filled_by, staged_by, takes_position, opens_call, opened_by, closes_call, is_store_tail, is_load_head, told, last_told, since_last, staged_words, published_words, slot_content, open_call, call_counts, taken_count, loaded_head}
-use Rattle.uring_machine.specs.World.{World, happens, taking_of, ending_of}
+use Rattle.uring_machine.specs.World.{World}
 use Rattle.uring_machine.specs.Histories.{Event, History, world, IsLawfulApart}
 use Rattle.uring_machine.specs.declared.step.Step.{Step}
 use Rattle.uring_machine.specs.declared.step.Step.TheVariants as step
 use Rattle.uring_machine.specs.declared.answer.Answer.{Answer}
 use Rattle.uring_machine.specs.declared.answer.Answer.TheVariants as answer
-use Rattle.uring_machine.proofs.Changes.{Change, change_of, refuses, fills, stages, stores, loads, begins, takes, drops, closes, runs, dooms, cancels, finishes, flushes, sees_tail, reaps, stores_head, shuts}
+use Rattle.uring_machine.proofs.Changes.{change_of}
+use Rattle.uring_machine.proofs.SubmissionMoves.{SubmissionMove, stays, fills, stages, stores, loads, begins, takes, drops, closes, submission_move}
 use Rattle.uring_machine.proofs.Telling.{count_more, count_same, told_same, before_same}
 
 -- how many positions the open call has
@@ -56,29 +56,107 @@ words_of_places size content (word ∷ words) = ap (λ xs. word ∷ xs) (words_o
 own_calls : (h : History) (w : World) → told opened_by h ≡ w.submission.calls ++ open_counts w.submission.call → count_by closes_call h ≡ length w.submission.calls → call_counts h ≡ w.submission.calls
 own_calls h w opened closed = ap₂ (λ n xs. take n xs) closed opened ∙ take_at w.submission.calls (open_counts w.submission.call) (length w.submission.calls) refl
 
-submission_direct : (g : Setup) (h : History) (w : World) (s : Step) (a : Answer) → Change g w s a → DirectSubmission h w → DirectSubmission ((s, a) ∷ h) (happens g w s a)
-submission_direct g h w s a (refuses _ _ same silent) i = subst (λ v. DirectSubmission ((s, a) ∷ h) v) (sym (same w)) (record { content = λ slot. i.content slot ∙ sym (ap (λ o. unwrap_or (option_or o (last_told (filled_by slot) h)) zero_entry) (silent.fills slot)); published = i.published ∙ ap staged_words (sym (before_same is_store_tail (s, a) h silent.stores_tail)); staged = ap (λ b. staged_words b ++ w.submission.fresh) (before_same is_store_tail (s, a) h silent.stores_tail) ∙ i.staged ∙ sym (told_same staged_by (s, a) h silent.stages); opened = told_same opened_by (s, a) h silent.opens ∙ i.opened; closed = count_same closes_call (s, a) h silent.closes ∙ i.closed; openings = count_same opens_call (s, a) h silent.opens_none ∙ i.openings; seen = i.seen ∙ ap taken_count (sym (before_same is_load_head (s, a) h silent.loads_head)); since = same_since (s, a) h w.submission.call silent.opens_none silent.takes i.since })
-submission_direct g h w s a (fills slot entry free) i = record { content = λ asked. ap (λ o. if asked == slot then entry else o) (i.content asked) ∙ sym (fill_tells (asked == slot) entry (last_told (filled_by asked) h)); published = i.published; staged = i.staged; opened = i.opened; closed = count_same closes_call (step.Fill slot entry, answer.Filled) h refl ∙ i.closed; openings = count_same opens_call (step.Fill slot entry, answer.Filled) h refl ∙ i.openings; seen = i.seen; since = same_since (step.Fill slot entry, answer.Filled) h w.submission.call refl refl i.since }
-submission_direct g h w s a (stages word room) i = record { content = i.content; published = i.published; staged = sym (append_assoc (published_words h) w.submission.fresh (word ∷ [])) ∙ ap (λ xs. xs ++ word ∷ []) i.staged; opened = i.opened; closed = count_same closes_call (step.Index word, answer.Staged) h refl ∙ i.closed; openings = count_same opens_call (step.Index word, answer.Staged) h refl ∙ i.openings; seen = i.seen; since = same_since (step.Index word, answer.Staged) h w.submission.call refl refl i.since }
-submission_direct g h w s a (stores tail) i = record { content = i.content; published = map-append (λ p. p.word) w.submission.published (map (place_of g.sq w.submission.content) w.submission.fresh) ∙ ap₂ (λ xs ys. xs ++ ys) i.published (words_of_places g.sq w.submission.content w.submission.fresh) ∙ i.staged; staged = append-nil (staged_words h); opened = i.opened; closed = count_same closes_call (step.StoreTail, answer.Tail tail) h refl ∙ i.closed; openings = count_same opens_call (step.StoreTail, answer.Tail tail) h refl ∙ i.openings; seen = i.seen; since = same_since (step.StoreTail, answer.Tail tail) h w.submission.call refl refl i.since }
-submission_direct g h w s a (loads head) i = record { content = i.content; published = i.published; staged = i.staged; opened = i.opened; closed = count_same closes_call (step.LoadHead, answer.Head head) h refl ∙ i.closed; openings = count_same opens_call (step.LoadHead, answer.Head head) h refl ∙ i.openings; seen = ap sum (sym (own_calls h w i.opened i.closed)); since = same_since (step.LoadHead, answer.Head head) h w.submission.call refl refl i.since }
-submission_direct g h w s a (begins count is_open no_call) i = record { content = i.content; published = i.published; staged = i.staged; opened = ap (λ xs. xs ++ call_length w.submission count ∷ []) (i.opened ∙ ap (λ o. w.submission.calls ++ open_counts o) no_call ∙ append-nil w.submission.calls); closed = count_same closes_call (step.Begin count, answer.Call (call_length w.submission count)) h refl ∙ i.closed; openings = count_more opens_call (step.Begin count, answer.Call (call_length w.submission count)) h refl ∙ omega (arith, i.openings, ap (λ o. length (open_counts o)) no_call); seen = i.seen; since = refl }
-submission_direct g h w s a (takes entry call place opened left at valid) i = subst (λ o. DirectSubmission ((step.Take, answer.Entry entry) ∷ h) (taking_of w o)) (sym opened) (record { content = i.content; published = i.published; staged = i.staged; opened = i.opened ∙ ap (λ o. w.submission.calls ++ open_counts o) opened; closed = count_same closes_call (step.Take, answer.Entry entry) h refl ∙ i.closed; openings = count_same opens_call (step.Take, answer.Entry entry) h refl ∙ i.openings ∙ ap (λ o. length w.submission.calls + length (open_counts o)) opened; seen = i.seen; since = omega (arith, count_more takes_position (step.Take, answer.Entry entry) (since_last opens_call h) refl, subst (λ o. TakenSince o (count_by takes_position (since_last opens_call h))) opened i.since) })
-submission_direct g h w s a (drops call place opened left at invalid) i = subst (λ o. DirectSubmission ((step.Take, answer.Dropped) ∷ h) (taking_of w o)) (sym opened) (record { content = i.content; published = i.published; staged = i.staged; opened = i.opened ∙ ap (λ o. w.submission.calls ++ open_counts o) opened; closed = count_same closes_call (step.Take, answer.Dropped) h refl ∙ i.closed; openings = count_same opens_call (step.Take, answer.Dropped) h refl ∙ i.openings ∙ ap (λ o. length w.submission.calls + length (open_counts o)) opened; seen = i.seen; since = omega (arith, count_more takes_position (step.Take, answer.Dropped) (since_last opens_call h) refl, subst (λ o. TakenSince o (count_by takes_position (since_last opens_call h))) opened i.since) })
-submission_direct g h w s a (closes accepted missed head call opened all counted) i = subst (λ o. DirectSubmission ((step.End, answer.Taken accepted missed head) ∷ h) (ending_of w o)) (sym opened) (record { content = i.content; published = i.published; staged = i.staged; opened = i.opened ∙ ap (λ o. w.submission.calls ++ open_counts o) opened ∙ sym (append-nil (w.submission.calls ++ call.count ∷ [])); closed = count_more closes_call (step.End, answer.Taken accepted missed head) h refl ∙ omega (arith, i.closed, length_push w.submission.calls call.count); openings = count_same opens_call (step.End, answer.Taken accepted missed head) h refl ∙ omega (arith, i.openings, ap (λ o. length (open_counts o)) opened, length_push w.submission.calls call.count); seen = i.seen; since = tt })
-submission_direct g h w s a (runs n outstanding idle spared ready) i = record { content = i.content; published = i.published; staged = i.staged; opened = i.opened; closed = count_same closes_call (step.Issue n, answer.Run) h refl ∙ i.closed; openings = count_same opens_call (step.Issue n, answer.Run) h refl ∙ i.openings; seen = i.seen; since = same_since (step.Issue n, answer.Run) h w.submission.call refl refl i.since }
-submission_direct g h w s a (dooms n outstanding idle doomed) i = record { content = i.content; published = i.published; staged = i.staged; opened = i.opened; closed = count_same closes_call (step.Issue n, answer.Ended (doomed_result w.requests n) no_bytes) h refl ∙ i.closed; openings = count_same opens_call (step.Issue n, answer.Ended (doomed_result w.requests n) no_bytes) h refl ∙ i.openings; seen = i.seen; since = same_since (step.Issue n, answer.Ended (doomed_result w.requests n) no_bytes) h w.submission.call refl refl i.since }
-submission_direct g h w s a (cancels n outstanding idle spared ready cancel) i = record { content = i.content; published = i.published; staged = i.staged; opened = i.opened; closed = count_same closes_call (step.Issue n, answer.Ended (cancel_result w.requests n) no_bytes) h refl ∙ i.closed; openings = count_same opens_call (step.Issue n, answer.Ended (cancel_result w.requests n) no_bytes) h refl ∙ i.openings; seen = i.seen; since = same_since (step.Issue n, answer.Ended (cancel_result w.requests n) no_bytes) h w.submission.call refl refl i.since }
-submission_direct g h w s a (finishes n res bytes running) i = record { content = i.content; published = i.published; staged = i.staged; opened = i.opened; closed = count_same closes_call (step.Finish n, answer.Ended res bytes) h refl ∙ i.closed; openings = count_same opens_call (step.Finish n, answer.Ended res bytes) h refl ∙ i.openings; seen = i.seen; since = same_since (step.Finish n, answer.Ended res bytes) h w.submission.call refl refl i.since }
-submission_direct g h w s a (flushes moved) i = record { content = i.content; published = i.published; staged = i.staged; opened = i.opened; closed = count_same closes_call (step.Flush, answer.Moved moved) h refl ∙ i.closed; openings = count_same opens_call (step.Flush, answer.Moved moved) h refl ∙ i.openings; seen = i.seen; since = same_since (step.Flush, answer.Moved moved) h w.submission.call refl refl i.since }
-submission_direct g h w s a (sees_tail tail) i = record { content = i.content; published = i.published; staged = i.staged; opened = i.opened; closed = count_same closes_call (step.LoadCqTail, answer.Tail tail) h refl ∙ i.closed; openings = count_same opens_call (step.LoadCqTail, answer.Tail tail) h refl ∙ i.openings; seen = i.seen; since = same_since (step.LoadCqTail, answer.Tail tail) h w.submission.call refl refl i.since }
-submission_direct g h w s a (reaps completion next) i = record { content = i.content; published = i.published; staged = i.staged; opened = i.opened; closed = count_same closes_call (step.Reap, answer.Reaped completion) h refl ∙ i.closed; openings = count_same opens_call (step.Reap, answer.Reaped completion) h refl ∙ i.openings; seen = i.seen; since = same_since (step.Reap, answer.Reaped completion) h w.submission.call refl refl i.since }
-submission_direct g h w s a (stores_head head) i = record { content = i.content; published = i.published; staged = i.staged; opened = i.opened; closed = count_same closes_call (step.StoreCqHead, answer.Head head) h refl ∙ i.closed; openings = count_same opens_call (step.StoreCqHead, answer.Head head) h refl ∙ i.openings; seen = i.seen; since = same_since (step.StoreCqHead, answer.Head head) h w.submission.call refl refl i.since }
-submission_direct g h w s a (shuts no_call) i = record { content = i.content; published = i.published; staged = i.staged; opened = i.opened; closed = count_same closes_call (step.Close, answer.Shut) h refl ∙ i.closed; openings = count_same opens_call (step.Close, answer.Shut) h refl ∙ i.openings; seen = i.seen; since = same_since (step.Close, answer.Shut) h w.submission.call refl refl i.since }
+-- what an event leaves that neither opens nor closes a call and takes no position
+record NoneCalled (h : History) (w : World) (e : Event) : Type 0 where
+  closed : count_by closes_call (e ∷ h) ≡ length w.submission.calls
+  openings : count_by opens_call (e ∷ h) ≡ length w.submission.calls + length (open_counts w.submission.call)
+  since : TakenSince w.submission.call (count_by takes_position (since_last opens_call (e ∷ h)))
+
+none_called : (h : History) (w : World) (e : Event) → opens_call e ≡ false → closes_call e ≡ false → takes_position e ≡ false → DirectSubmission h w → NoneCalled h w e
+none_called h w e none_opened none_closed idle i =
+    record {
+      closed = count_same closes_call e h none_closed ∙ i.closed;
+      openings = count_same opens_call e h none_opened ∙ i.openings;
+      since = same_since e h w.submission.call none_opened idle i.since;
+    }
+
+submission_direct : (g : Setup) (h : History) (w : World) (s : Step) (a : Answer) (v : World) → SubmissionMove g w s a v → DirectSubmission h w → DirectSubmission ((s, a) ∷ h) v
+submission_direct g h w s a v (stays _ _ r c is_closed off left) i =
+    record {
+      content = λ slot. i.content slot ∙ sym (ap (λ o. unwrap_or (option_or o (last_told (filled_by slot) h)) zero_entry) (off.fills slot));
+      published = i.published ∙ ap staged_words (sym (before_same is_store_tail (s, a) h off.stores_tail));
+      staged = ap (λ b. staged_words b ++ w.submission.fresh) (before_same is_store_tail (s, a) h off.stores_tail) ∙ i.staged ∙ sym (told_same staged_by (s, a) h off.stages);
+      opened = told_same opened_by (s, a) h off.opens ∙ i.opened;
+      closed = count_same closes_call (s, a) h off.closes ∙ i.closed;
+      openings = count_same opens_call (s, a) h off.opens_none ∙ i.openings;
+      seen = i.seen ∙ ap taken_count (sym (before_same is_load_head (s, a) h off.loads_head));
+      since = same_since (s, a) h w.submission.call off.opens_none off.takes i.since;
+    }
+submission_direct g h w s a v (fills slot entry) i =
+    let f = none_called h w (step.Fill slot entry, answer.Filled) refl refl refl i in
+    let content : (asked : ℕ) → (if asked == slot then entry else w.submission.content asked) ≡ slot_content ((step.Fill slot entry, answer.Filled) ∷ h) asked =
+    λ asked. ap (λ o. if asked == slot then entry else o) (i.content asked) ∙ sym (fill_tells (asked == slot) entry (last_told (filled_by asked) h)) in
+    assumption (content, f, i)
+submission_direct g h w s a v (stages word room) i =
+    let f = none_called h w (step.Index word, answer.Staged) refl refl refl i in
+    let staged = sym (append_assoc (published_words h) w.submission.fresh (word ∷ [])) ∙ ap (λ xs. xs ++ word ∷ []) i.staged in
+    assumption (staged, f, i)
+submission_direct g h w s a v (stores tail) i =
+    let f = none_called h w (step.StoreTail, answer.Tail tail) refl refl refl i in
+    let published =
+    map-append (λ p. p.word) w.submission.published (map (place_of g.sq w.submission.content) w.submission.fresh)
+    ∙ ap₂ (λ xs ys. xs ++ ys) i.published (words_of_places g.sq w.submission.content w.submission.fresh) ∙ i.staged in
+    let staged = append-nil (staged_words h) in
+    assumption (published, staged, f, i)
+submission_direct g h w s a v (loads head) i =
+    let f = none_called h w (step.LoadHead, answer.Head head) refl refl refl i in
+    let seen = ap sum (sym (own_calls h w i.opened i.closed)) in
+    assumption (seen, f, i)
+submission_direct g h w s a v (begins count is_open no_call) i =
+    record {
+      content = i.content;
+      published = i.published;
+      staged = i.staged;
+      opened = ap (λ xs. xs ++ call_length w.submission count ∷ []) (i.opened ∙ ap (λ o. w.submission.calls ++ open_counts o) no_call ∙ append-nil w.submission.calls);
+      closed = count_same closes_call (step.Begin count, answer.Call (call_length w.submission count)) h refl ∙ i.closed;
+      openings =
+          count_more opens_call (step.Begin count, answer.Call (call_length w.submission count)) h refl
+          ∙ omega (arith, i.openings, ap (λ o. length (open_counts o)) no_call);
+      seen = i.seen;
+      since = refl;
+    }
+submission_direct g h w s a v (takes entry call place opened left at valid) i =
+    record {
+      content = i.content;
+      published = i.published;
+      staged = i.staged;
+      opened = i.opened ∙ ap (λ o. w.submission.calls ++ open_counts o) opened;
+      closed = count_same closes_call (step.Take, answer.Entry entry) h refl ∙ i.closed;
+      openings = count_same opens_call (step.Take, answer.Entry entry) h refl ∙ i.openings ∙ ap (λ o. length w.submission.calls + length (open_counts o)) opened;
+      seen = i.seen;
+      since =
+          omega (arith, count_more takes_position (step.Take, answer.Entry entry) (since_last opens_call h) refl, subst (λ o. TakenSince o (count_by takes_position (since_last opens_call h))) opened i.since);
+    }
+submission_direct g h w s a v (drops call place opened left at invalid) i =
+    record {
+      content = i.content;
+      published = i.published;
+      staged = i.staged;
+      opened = i.opened ∙ ap (λ o. w.submission.calls ++ open_counts o) opened;
+      closed = count_same closes_call (step.Take, answer.Dropped) h refl ∙ i.closed;
+      openings = count_same opens_call (step.Take, answer.Dropped) h refl ∙ i.openings ∙ ap (λ o. length w.submission.calls + length (open_counts o)) opened;
+      seen = i.seen;
+      since =
+          omega (arith, count_more takes_position (step.Take, answer.Dropped) (since_last opens_call h) refl, subst (λ o. TakenSince o (count_by takes_position (since_last opens_call h))) opened i.since);
+    }
+submission_direct g h w s a v (closes accepted missed head call opened all counted) i =
+    let longer = length_push w.submission.calls call.count in
+    record {
+      content = i.content;
+      published = i.published;
+      staged = i.staged;
+      opened = i.opened ∙ ap (λ o. w.submission.calls ++ open_counts o) opened ∙ sym (append-nil (w.submission.calls ++ call.count ∷ []));
+      closed = count_more closes_call (step.End, answer.Taken accepted missed head) h refl ∙ omega (arith, i.closed, longer);
+      openings =
+          count_same opens_call (step.End, answer.Taken accepted missed head) h refl
+          ∙ omega (arith, i.openings, ap (λ o. length (open_counts o)) opened, longer);
+      seen = i.seen;
+      since = tt;
+    }
 
 pub direct_submission : (g : Setup) (h : History) → IsLawfulApart g h → DirectSubmission h (world g h)
 direct_submission g [] lawful = record { content = λ slot. refl; published = refl; staged = refl; opened = refl; closed = refl; openings = refl; seen = refl; since = tt }
-direct_submission g ((s, a) ∷ before) lawful = submission_direct g before (world g before) s a (change_of g (world g before) s a lawful.0) (direct_submission g before lawful.1)
+direct_submission g ((s, a) ∷ before) lawful = submission_direct g before (world g before) s a _ (submission_move g (world g before) s a (change_of g (world g before) s a lawful.0)) (direct_submission g before lawful.1)
 
 pub calls_direct : (h : History) (w : World) → DirectSubmission h w → call_counts h ≡ w.submission.calls
 calls_direct h w i = own_calls h w i.opened i.closed

@@ -72,12 +72,12 @@ issued_end r n res files =
     ∙ files_more r files r.ended (record { number = n; res = res; bytes = no_bytes })
 
 move_keeps : (r q : Requests) (s : Step) (a : Answer) (files : List FileContents) → Move r s a q → IsNoFinish s → IsSoundRequests r → files_after q files q.ended ≡ files_after r files r.ended
-move_keeps r q s a files (stays _ _) other i = refl
-move_keeps r q s a files (accepts _ _ entries) other i = files_same r (with_call r entries) files r.ended (λ n there. entry_stays r entries n (i.ended_accepted n there))
-move_keeps r q s a files (starts n no_cancel) other i = files_same r (with_started r n) files r.ended (λ m there. refl)
-move_keeps r q s a files (ends_doomed n) other i = issued_end r n (doomed_result r n) files ∙ doomed_changes_none (files_after r files r.ended) r n
-move_keeps r q s a files (ends_cancel n cancel) other i = issued_end r n (cancel_result r n) files ∙ cancel_changes_none (files_after r files r.ended) (entry_of r n) (cancel_result r n) cancel
-move_keeps r q s a files (ends_run n res bytes) other i = absurd other
+move_keeps r q s a files (stays _ _ no_start no_end) other i = refl
+move_keeps r q s a files (accepts accepted missed head entries) other i = files_same r (with_call r entries) files r.ended (λ n there. entry_stays r entries n (i.ended_accepted n there))
+move_keeps r q s a files (starts n outstanding idle spared ready no_cancel) other i = files_same r (with_started r n) files r.ended (λ m there. refl)
+move_keeps r q s a files (ends_doomed n outstanding) other i = issued_end r n (doomed_result r n) files ∙ doomed_changes_none (files_after r files r.ended) r n
+move_keeps r q s a files (ends_cancel n outstanding spared ready cancel) other i = issued_end r n (cancel_result r n) files ∙ cancel_changes_none (files_after r files r.ended) (entry_of r n) (cancel_result r n) cancel
+move_keeps r q s a files (ends_run n res bytes running) other i = absurd other
 
 -- a step but a finish leaves the files as they are
 pub files_kept : (g : Setup) (s : Step) (a : Answer) (before : History) → IsLawfulApart g ((s, a) ∷ before) → IsNoFinish s → files_of g (world g ((s, a) ∷ before)) ≡ files_of g (world g before)

@@ -1,16 +1,15 @@
 -- What stays of the requests as a history goes on: those accepted by then keep their entries and groups, and the doomed stay doomed.
--- By `Change`, event by event (`event_grows`), and over a history by induction (`grows`).
+-- By `Move`, event by event (`event_grows`), and over a history by induction (`grows`).
 -- Stable: other crates may import `Grows` with its fields, as `same_entry`, and `event_grows`, `grows`, `lawful_before`.
-use Rattle.std.proofs.Common.{◌≡◌, ℕ, ◌<◌, ◌≤◌, ℤ, true, List, [], ◌∷◌, ◌++◌, length, refl, sym, subst, ◌∙◌, ◌⊎◌, inl, inr, arith}
+use Rattle.std.proofs.Common.{◌≡◌, ℕ, ◌<◌, ◌≤◌, ℤ, true, List, [], ◌∷◌, ◌++◌, length, refl, ◌∙◌, ◌⊎◌, inl, inr, arith}
 use Rattle.uring_entry.specs.Setup.{Setup}
 use Rattle.uring_entry.specs.Layout.{Sqe}
-use Rattle.uring_entry.specs.Submission.{entries_of, places_from}
 use Rattle.uring_entry.specs.Requests.{Requests, entry_of, is_joined, is_draining, is_drain, some_member, is_doomed, is_cancelled, doomed_result, cancel_result, with_call, with_started}
-use Rattle.uring_machine.specs.World.{World, happens, taking_of, ending_of}
 use Rattle.uring_machine.specs.Histories.{History, world, IsLawfulApart}
 use Rattle.uring_machine.specs.declared.step.Step.{Step}
 use Rattle.uring_machine.specs.declared.answer.Answer.{Answer}
-use Rattle.uring_machine.proofs.Changes.{Change, change_of, refuses, fills, stages, stores, loads, begins, takes, drops, closes, runs, dooms, cancels, finishes, flushes, sees_tail, reaps, stores_head, shuts}
+use Rattle.uring_machine.proofs.Changes.{change_of}
+use Rattle.uring_machine.proofs.Moves.{Move, stays, accepts, starts, ends_doomed, ends_cancel, ends_run, move_of}
 use Rattle.uring_machine.proofs.RequestEnds.{IsChoice, ended_as, end_doom, end_join, choice_of, no_choice}
 use Rattle.uring_entry.proofs.EventLemmas.{is_doomed-started, is_joined-started, is_draining-started}
 use Rattle.uring_machine.proofs.Groups.{longer, entry_kept, join_kept, member_kept, doom_kept}
@@ -71,28 +70,17 @@ call_grows r entries cut =
       stays_doomed = λ n lt e. doom_kept r entries cut n lt ∙ e;
     }
 
-change_grows : (g : Setup) (w : World) (s : Step) (a : Answer) → Change g w s a → (length w.requests.accepted ≡ 0) ⊎ (list_any (λ c. c == length w.requests.accepted) w.requests.cuts ≡ true) → Grows w.requests (happens g w s a).requests
-change_grows g w s a (refuses _ _ same silent) cut = subst (λ v. Grows w.requests v.requests) (sym (same w)) (same_grows w.requests)
-change_grows g w s a (fills slot entry free) cut = same_grows w.requests
-change_grows g w s a (stages word room) cut = same_grows w.requests
-change_grows g w s a (stores tail) cut = same_grows w.requests
-change_grows g w s a (loads head) cut = same_grows w.requests
-change_grows g w s a (begins count is_open no_call) cut = same_grows w.requests
-change_grows g w s a (takes entry call place opened left at valid) cut = subst (λ o. Grows w.requests (taking_of w o).requests) (sym opened) (same_grows w.requests)
-change_grows g w s a (drops call place opened left at invalid) cut = subst (λ o. Grows w.requests (taking_of w o).requests) (sym opened) (same_grows w.requests)
-change_grows g w s a (closes accepted missed head call opened all counted) cut = subst (λ o. Grows w.requests (ending_of w o).requests) (sym opened) (call_grows w.requests (entries_of (places_from w.submission call.count)) cut)
-change_grows g w s a (runs n outstanding idle spared ready) cut = start_grows w.requests n
-change_grows g w s a (dooms n outstanding idle doomed) cut = end_grows w.requests n _ _ _ (choice_of w.requests n (doomed_result w.requests n) (inl refl))
-change_grows g w s a (cancels n outstanding idle spared ready cancel) cut = end_grows w.requests n _ _ _ (choice_of w.requests n (cancel_result w.requests n) (inr refl))
-change_grows g w s a (finishes n res bytes running) cut = end_grows w.requests n res bytes w.requests.cancelled (no_choice w.requests n)
-change_grows g w s a (flushes moved) cut = same_grows w.requests
-change_grows g w s a (sees_tail tail) cut = same_grows w.requests
-change_grows g w s a (reaps completion next) cut = same_grows w.requests
-change_grows g w s a (stores_head head) cut = same_grows w.requests
-change_grows g w s a (shuts no_call) cut = same_grows w.requests
+move_grows : (r : Requests) (s : Step) (a : Answer) (later : Requests) → Move r s a later
+    → (length r.accepted ≡ 0) ⊎ (list_any (λ c. c == length r.accepted) r.cuts ≡ true) → Grows r later
+move_grows r s a later (stays _ _ no_start no_end) cut = same_grows r
+move_grows r s a later (accepts accepted missed head entries) cut = call_grows r entries cut
+move_grows r s a later (starts n outstanding idle spared ready no_cancel) cut = start_grows r n
+move_grows r s a later (ends_doomed n outstanding) cut = end_grows r n _ _ _ (choice_of r n (doomed_result r n) (inl refl))
+move_grows r s a later (ends_cancel n outstanding spared ready cancel) cut = end_grows r n _ _ _ (choice_of r n (cancel_result r n) (inr refl))
+move_grows r s a later (ends_run n res bytes running) cut = end_grows r n res bytes r.cancelled (no_choice r n)
 
 pub event_grows : (g : Setup) (s : Step) (a : Answer) (before : History) → IsLawfulApart g ((s, a) ∷ before) → Grows (world g before).requests (world g ((s, a) ∷ before)).requests
-event_grows g s a before lawful = change_grows g (world g before) s a (change_of g (world g before) s a lawful.0) (sound_of g before lawful.1).requests.cut_at_end
+event_grows g s a before lawful = move_grows (world g before).requests s a _ (move_of g (world g before) s a (change_of g (world g before) s a lawful.0) lawful.0) (sound_of g before lawful.1).requests.cut_at_end
 
 pub grows : (g : Setup) (after before : History) → IsLawfulApart g (after ++ before) → Grows (world g before).requests (world g (after ++ before)).requests
 grows g [] before lawful = same_grows (world g before).requests

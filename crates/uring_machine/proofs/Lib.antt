@@ -24,6 +24,8 @@ pub mod CoreCalls
 pub mod CoreTakes
 pub mod CoreEnds
 pub mod Moves
+pub mod SubmissionMoves
+pub mod CompletionMoves
 pub mod Running
 pub mod FileHistory
 pub mod Fitting

@@ -6,14 +6,15 @@ use Rattle.uring_entry.specs.Setup.{Setup}
 use Rattle.uring_entry.specs.Submission.{Call, taken, call_length, entries_of, places_from}
 use Rattle.uring_entry.specs.Requests.{is_outstanding, outstanding_in}
 use Rattle.uring_rings.proofs.Places.{entries_and_dropped}
-use Rattle.uring_machine.specs.World.{World, happens, taking_of, ending_of}
+use Rattle.uring_machine.specs.World.{World}
 use Rattle.uring_machine.specs.StepAnswers.{CalledForApart, OrAgain, is_spent}
 use Rattle.uring_machine.specs.Core.{positions_of}
 use Rattle.uring_machine.specs.Histories.{History, world, IsLawfulApart}
 use Rattle.uring_machine.specs.declared.step.Step.{Step}
 use Rattle.uring_machine.specs.declared.answer.Answer.{Answer}
 use Rattle.uring_machine.specs.declared.answer.Answer.TheVariants as answer
-use Rattle.uring_machine.proofs.Changes.{Change, change_of, refuses, fills, stages, stores, loads, begins, takes, drops, closes, runs, dooms, cancels, finishes, flushes, sees_tail, reaps, stores_head, shuts}
+use Rattle.uring_machine.proofs.Changes.{change_of}
+use Rattle.uring_machine.proofs.SubmissionMoves.{SubmissionMove, stays, begins, takes, drops, closes, submission_move}
 use Rattle.uring_machine.proofs.Outstanding.{count_below-few}
 
 -- the requests accepted, with those that the open call may still accept, are fewer than 2 ^ 63
@@ -32,34 +33,21 @@ few_entries : (w : World) (call : Call) → length (entries_of (places_from w.su
 few_entries w call =
     omega (arith, entries_and_dropped (places_from w.submission call.count), length-take call.count (drop (taken w.submission) w.submission.published))
 
-few_kept : (g : Setup) (w : World) (s : Step) (a : Answer) → Change g w s a → CalledForApart g w s a → AreFew w → AreFew (happens g w s a)
-few_kept g w s a (refuses _ _ same silent) called i = subst AreFew (sym (same w)) i
-few_kept g w s a (fills slot entry free) called i = i
-few_kept g w s a (stages word room) called i = i
-few_kept g w s a (stores tail) called i = i
-few_kept g w s a (loads head) called i = i
-few_kept g w s a (begins count is_open no_call) called i =
+few_kept : (g : Setup) (w : World) (s : Step) (a : Answer) (v : World) → SubmissionMove g w s a v → CalledForApart g w s a → AreFew w → AreFew v
+few_kept g w s a v (stays _ _ r c is_closed off left) called i =
+    subst (λ entries. length entries + positions_of w.submission.call ≤ 2 ^ 63 - 1) (sym left.accepted) i
+few_kept g w s a v (begins count is_open no_call) called i =
     ltb-false _ _ (not_spent w.is_closed (is_some w.submission.call) (is_spent w (call_length w.submission count)) (call_length w.submission count) called)
-few_kept g w s a (takes entry call place opened left at valid) called i =
-    subst (λ o. AreFew (taking_of w o)) (sym opened) (subst (λ o. length w.requests.accepted + positions_of o ≤ 2 ^ 63 - 1) opened i)
-few_kept g w s a (drops call place opened left at invalid) called i =
-    subst (λ o. AreFew (taking_of w o)) (sym opened) (subst (λ o. length w.requests.accepted + positions_of o ≤ 2 ^ 63 - 1) opened i)
-few_kept g w s a (closes accepted missed head call opened all many) called i =
+few_kept g w s a v (takes entry call place opened left at valid) called i = subst (λ o. length w.requests.accepted + positions_of o ≤ 2 ^ 63 - 1) opened i
+few_kept g w s a v (drops call place opened left at invalid) called i = subst (λ o. length w.requests.accepted + positions_of o ≤ 2 ^ 63 - 1) opened i
+few_kept g w s a v (closes accepted missed head call opened all many) called i =
     let before : length w.requests.accepted + call.count ≤ 2 ^ 63 - 1 = subst (λ o. length w.requests.accepted + positions_of o ≤ 2 ^ 63 - 1) opened i in
-    subst (λ o. AreFew (ending_of w o)) (sym opened) (omega (arith, before, few_entries w call, length-append w.requests.accepted (entries_of (places_from w.submission call.count))))
-few_kept g w s a (runs n outstanding idle spared ready) called i = i
-few_kept g w s a (dooms n outstanding idle doomed) called i = i
-few_kept g w s a (cancels n outstanding idle spared ready cancel) called i = i
-few_kept g w s a (finishes n res bytes running) called i = i
-few_kept g w s a (flushes moved) called i = i
-few_kept g w s a (sees_tail tail) called i = i
-few_kept g w s a (reaps completion next) called i = i
-few_kept g w s a (stores_head head) called i = i
-few_kept g w s a (shuts no_call) called i = i
+    omega (arith, before, few_entries w call, length-append w.requests.accepted (entries_of (places_from w.submission call.count)))
+few_kept g w s a v _ called i = i
 
 few_accepted : (g : Setup) (h : History) → IsLawfulApart g h → AreFew (world g h)
 few_accepted g [] lawful = omega arith
-few_accepted g ((s, a) ∷ before) lawful = few_kept g (world g before) s a (change_of g (world g before) s a lawful.0) lawful.0 (few_accepted g before lawful.1)
+few_accepted g ((s, a) ∷ before) lawful = few_kept g (world g before) s a _ (submission_move g (world g before) s a (change_of g (world g before) s a lawful.0)) lawful.0 (few_accepted g before lawful.1)
 
 -- fewer than 2 ^ 63 are outstanding
 pub few_outstanding : (g : Setup) (h : History) → IsLawfulApart g h → outstanding_in (world g h).requests ≤ 2 ^ 63 - 1

@@ -12,7 +12,7 @@ use Rattle.std.proofs.lemmas.Option.{slice_get_within, get_or_from_slice_get}
 use Rattle.uring_entry.specs.Setup.{Setup}
 use Rattle.uring_entry.specs.Layout.{Sqe}
 use Rattle.uring_entry.specs.Submission.{Submission, Call, Place, place_of, taken, entries_of, dropped_in}
-use Rattle.uring_machine.specs.World.{World, happens, taking_of, ending_of}
+use Rattle.uring_machine.specs.World.{World, ending_of}
 use Rattle.uring_machine.specs.Direct.{takes_position, entry_taken_by, with_told, closes_call, entries_taken, positions_taken, staged_words, published_words, published_entry, slot_content, before_published}
 use Rattle.uring_machine.specs.Histories.{Event, History, world, IsLawfulApart}
 use Rattle.uring_machine.specs.HistoryLists.{OwnSubmission}
@@ -21,7 +21,8 @@ use Rattle.uring_machine.specs.declared.step.Step.{Step}
 use Rattle.uring_machine.specs.declared.step.Step.TheVariants as step
 use Rattle.uring_machine.specs.declared.answer.Answer.{Answer}
 use Rattle.uring_machine.specs.declared.answer.Answer.TheVariants as answer
-use Rattle.uring_machine.proofs.Changes.{Change, change_of, refuses, fills, stages, stores, loads, begins, takes, drops, closes, runs, dooms, cancels, finishes, flushes, sees_tail, reaps, stores_head, shuts}
+use Rattle.uring_machine.proofs.Changes.{change_of}
+use Rattle.uring_machine.proofs.SubmissionMoves.{SubmissionMove, stays, stores, closes, submission_move}
 use Rattle.uring_machine.proofs.ReadOff.{own_submission}
 use Rattle.uring_machine.proofs.Sound.{sound_of}
 use Rattle.uring_machine.proofs.SoundRings.{open_taken, open_count}
@@ -127,31 +128,17 @@ closed_drops g h lawful accepted missed head call opened all =
     let same : reached l ≡ taken (ending_of (world g h) (Some call)).submission = omega (arith, s.within_call) in
     dropped_by_all g h lawful ∙ ap (λ k. dropped_in (take k l.published)) same
 
-drops_kept : (g : Setup) (h : History) (s : Step) (a : Answer) → IsLawfulApart g h → Change g (world g h) s a → Drops h (world g h) → Drops ((s, a) ∷ h) (happens g (world g h) s a)
-drops_kept g h s a lawful (refuses _ _ same silent) i = subst (λ v. Drops ((s, a) ∷ h) v) (sym (same (world g h))) (ap (count_by drops_position) (before_same closes_call (s, a) h silent.closes) ∙ i)
-drops_kept g h s a lawful (fills slot entry free) i = i
-drops_kept g h s a lawful (stages word room) i = i
-drops_kept g h s a lawful (stores tail) i =
+drops_kept : (g : Setup) (h : History) (s : Step) (a : Answer) (v : World) → IsLawfulApart g h → SubmissionMove g (world g h) s a v → Drops h (world g h) → Drops ((s, a) ∷ h) v
+drops_kept g h s a v lawful (stays _ _ r c is_closed off left) i = ap (count_by drops_position) (before_same closes_call (s, a) h off.closes) ∙ i
+drops_kept g h s a v lawful (stores tail) i =
     let l : Submission = (world g h).submission in
     i ∙ ap dropped_in (sym (take-append-le (taken l) l.published (map (place_of g.sq l.content) l.fresh) (omega (arith, (sound_of g h lawful).submission.call_published))))
-drops_kept g h s a lawful (loads head) i = i
-drops_kept g h s a lawful (begins count is_open no_call) i = i
-drops_kept g h s a lawful (takes entry call place opened left at valid) i = subst (λ o. Drops ((step.Take, answer.Entry entry) ∷ h) (taking_of (world g h) o)) (sym opened) i
-drops_kept g h s a lawful (drops call place opened left at invalid) i = subst (λ o. Drops ((step.Take, answer.Dropped) ∷ h) (taking_of (world g h) o)) (sym opened) i
-drops_kept g h s a lawful (closes accepted missed head call opened all counted) i = subst (λ o. Drops ((step.End, answer.Taken accepted missed head) ∷ h) (ending_of (world g h) o)) (sym opened) (closed_drops g h lawful accepted missed head call opened all)
-drops_kept g h s a lawful (runs n outstanding idle spared ready) i = i
-drops_kept g h s a lawful (dooms n outstanding idle doomed) i = i
-drops_kept g h s a lawful (cancels n outstanding idle spared ready cancel) i = i
-drops_kept g h s a lawful (finishes n res bytes running) i = i
-drops_kept g h s a lawful (flushes moved) i = i
-drops_kept g h s a lawful (sees_tail tail) i = i
-drops_kept g h s a lawful (reaps completion next) i = i
-drops_kept g h s a lawful (stores_head head) i = i
-drops_kept g h s a lawful (shuts no_call) i = i
+drops_kept g h s a v lawful (closes accepted missed head call opened all counted) i = closed_drops g h lawful accepted missed head call opened all
+drops_kept g h s a v lawful _ i = i
 
 drops_told : (g : Setup) (h : History) → IsLawfulApart g h → Drops h (world g h)
 drops_told g [] lawful = refl
-drops_told g ((s, a) ∷ before) lawful = drops_kept g before s a lawful.1 (change_of g (world g before) s a lawful.0) (drops_told g before lawful.1)
+drops_told g ((s, a) ∷ before) lawful = drops_kept g before s a _ lawful.1 (submission_move g (world g before) s a (change_of g (world g before) s a lawful.0)) (drops_told g before lawful.1)
 
 pub own_published : (g : Setup) (h : History) → IsLawfulApart g h → OwnPublished g h
 own_published g h lawful =

@@ -1,18 +1,19 @@
 -- The laws `reaped_begin_posted` and `nothing_after_close`, from what is sound.
 use Rattle.std.proofs.Common.{◌≡◌, ℕ, ◌≤◌, true, false, [], ◌∷◌, ◌++◌, length, take, drop, Option, Some, None, is_some, refl, sym, subst, ap, ◌∙◌, cond, arith, append_assoc}
 use Rattle.std.specs.List.{list_any}
-use Rattle.std.proofs.lemmas.Bool.{or_from}
+use Rattle.std.proofs.lemmas.Bool.{or_from, or_right}
 use Rattle.std.proofs.lemmas.List.{take-append-drop, take-take, length-drop, length-take}
 use Rattle.uring_entry.specs.Setup.{Setup}
 use Rattle.uring_entry.specs.Completions.{Completions}
-use Rattle.uring_machine.specs.World.{World, happens}
+use Rattle.uring_machine.specs.World.{World}
 use Rattle.uring_machine.specs.Histories.{History, world, IsLawfulApart}
 use Rattle.uring_machine.specs.Laws.{ReapedBeginPosted, takes_in, in_ring, in_overflow}
 use Rattle.uring_machine.specs.declared.step.Step.{Step}
 use Rattle.uring_machine.specs.declared.step.Step.TheVariants as step
 use Rattle.uring_machine.specs.declared.answer.Answer.{Answer}
 use Rattle.uring_machine.specs.declared.answer.Answer.TheVariants as answer
-use Rattle.uring_machine.proofs.Changes.{Change, change_of, refuses, fills, stages, stores, loads, begins, takes, drops, closes, runs, dooms, cancels, finishes, flushes, sees_tail, reaps, stores_head, shuts}
+use Rattle.uring_machine.proofs.Changes.{change_of}
+use Rattle.uring_machine.proofs.SubmissionMoves.{SubmissionMove, stays, begins, takes, drops, closes, submission_move}
 use Rattle.uring_machine.proofs.SoundRings.{IsSoundCompletions}
 
 pub begin_posted : (size : ℕ) (l : Completions) → IsSoundCompletions size l → ReapedBeginPosted size l
@@ -37,25 +38,13 @@ record StaysShut (w : World) (after : History) : Type 0 where
   shut : IsShut w
   none_in : list_any takes_in after ≡ false
 
-shut_stays : (g : Setup) (w : World) (s : Step) (a : Answer) → Change g w s a → IsShut w → IsShut (happens g w s a) × (takes_in (s, a) ≡ false)
-shut_stays g w s a (refuses _ _ same silent) i = (subst (λ v. IsShut v) (sym (same w)) i, silent.takes_into)
-shut_stays g w s a (fills slot entry free) i = (record { closed = i.closed; no_call = i.no_call }, refl)
-shut_stays g w s a (stages word room) i = (record { closed = i.closed; no_call = i.no_call }, refl)
-shut_stays g w s a (stores tail) i = (record { closed = i.closed; no_call = i.no_call }, refl)
-shut_stays g w s a (loads head) i = (record { closed = i.closed; no_call = i.no_call }, refl)
-shut_stays g w s a (begins count is_open no_call) i = absurd (let e = i.closed in cc)
-shut_stays g w s a (takes entry call place e f h k) i = absurd (let o = i.no_call in cc)
-shut_stays g w s a (drops call place e f h k) i = absurd (let o = i.no_call in cc)
-shut_stays g w s a (closes accepted missed head call e f counted) i = absurd (let o = i.no_call in cc)
-shut_stays g w s a (runs n e f h k) i = (record { closed = i.closed; no_call = i.no_call }, refl)
-shut_stays g w s a (dooms n e f h) i = (record { closed = i.closed; no_call = i.no_call }, refl)
-shut_stays g w s a (cancels n e f h k l) i = (record { closed = i.closed; no_call = i.no_call }, refl)
-shut_stays g w s a (finishes n res bytes e) i = (record { closed = i.closed; no_call = i.no_call }, refl)
-shut_stays g w s a (flushes moved) i = (record { closed = i.closed; no_call = i.no_call }, refl)
-shut_stays g w s a (sees_tail tail) i = (record { closed = i.closed; no_call = i.no_call }, refl)
-shut_stays g w s a (reaps completion e) i = (record { closed = i.closed; no_call = i.no_call }, refl)
-shut_stays g w s a (stores_head head) i = (record { closed = i.closed; no_call = i.no_call }, refl)
-shut_stays g w s a (shuts e) i = (record { closed = refl; no_call = i.no_call }, refl)
+shut_stays : (g : Setup) (w : World) (s : Step) (a : Answer) (v : World) → SubmissionMove g w s a v → IsShut w → IsShut v × (takes_in (s, a) ≡ false)
+shut_stays g w s a v (stays _ _ r c is_closed off left) i = (record { closed = left.shut ∙ or_right _ _ i.closed; no_call = i.no_call }, off.takes_into)
+shut_stays g w s a v (begins count is_open no_call) i = absurd (let e = i.closed in cc)
+shut_stays g w s a v (takes entry call place opened left at valid) i = absurd (let o = i.no_call in cc)
+shut_stays g w s a v (drops call place opened left at invalid) i = absurd (let o = i.no_call in cc)
+shut_stays g w s a v (closes accepted missed head call opened all counted) i = absurd (let o = i.no_call in cc)
+shut_stays g w s a v _ i = (record { closed = i.closed; no_call = i.no_call }, refl)
 
 open_none : (w : World) → answer.Shut ≡ (cond (is_some w.submission.call) answer.InCall answer.Shut) → w.submission.call ≡ None
 open_none w e = by_call w.submission.call e where
@@ -67,8 +56,8 @@ stays_shut : (g : Setup) (after before : History) → IsLawfulApart g (after ++ 
 stays_shut g [] before lawful = record { shut = record { closed = refl; no_call = open_none (world g before) lawful.0 }; none_in = refl }
 stays_shut g ((s, a) ∷ after) before lawful =
     let i = stays_shut g after before lawful.1 in
-    let c = change_of g (world g (after ++ (step.Close, answer.Shut) ∷ before)) s a lawful.0 in
-    let k = shut_stays g _ s a c i.shut in
+    let move = submission_move g (world g (after ++ (step.Close, answer.Shut) ∷ before)) s a (change_of g (world g (after ++ (step.Close, answer.Shut) ∷ before)) s a lawful.0) in
+    let k = shut_stays g _ s a _ move i.shut in
     record { shut = k.0; none_in = or_from _ _ k.1 i.none_in }
 
 pub nothing_after : (g : Setup) (after before : History) → IsLawfulApart g (after ++ (step.Close, answer.Shut) ∷ before) → list_any takes_in after ≡ false

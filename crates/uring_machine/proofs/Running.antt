@@ -30,12 +30,12 @@ abbrev NoCancel : Requests → Type 0
 NoCancel r = (n : ℕ) → has_started r n ≡ true → is_cancel (entry_of r n) ≡ false
 
 no_cancel_kept : (r q : Requests) (s : Step) (a : Answer) → Move r s a q → IsSoundRequests r → NoCancel r → NoCancel q
-no_cancel_kept r q s a (stays _ _) i none = none
-no_cancel_kept r q s a (accepts _ _ entries) i none = λ n started. ap is_cancel (entry_stays r entries n (i.started_accepted n started)) ∙ none n started
-no_cancel_kept r q s a (starts m other) i none = λ n started. elim (any_new (λ k. k == n) r.started m started) [ inl old ↦ none n old | inr new ↦ subst (λ k. is_cancel (entry_of r k) ≡ false) (eqb-true _ _ new) other ]
-no_cancel_kept r q s a (ends_doomed m) i none = none
-no_cancel_kept r q s a (ends_cancel m cancel) i none = none
-no_cancel_kept r q s a (ends_run m res bytes) i none = none
+no_cancel_kept r q s a (stays _ _ no_start no_end) i none = none
+no_cancel_kept r q s a (accepts accepted missed head entries) i none = λ n started. ap is_cancel (entry_stays r entries n (i.started_accepted n started)) ∙ none n started
+no_cancel_kept r q s a (starts m outstanding idle spared ready other) i none = λ n started. elim (any_new (λ k. k == n) r.started m started) [ inl old ↦ none n old | inr new ↦ subst (λ k. is_cancel (entry_of r k) ≡ false) (eqb-true _ _ new) other ]
+no_cancel_kept r q s a (ends_doomed m outstanding) i none = none
+no_cancel_kept r q s a (ends_cancel m outstanding spared ready cancel) i none = none
+no_cancel_kept r q s a (ends_run m res bytes running) i none = none
 
 pub no_cancel : (g : Setup) (h : History) → IsLawfulApart g h → NoCancel (world g h).requests
 no_cancel g [] lawful = λ n started. absurd (let f : false ≡ true = started in cc)

@@ -1,17 +1,21 @@
 -- What holds of everything that a lawful history has made.
-use Rattle.std.proofs.Common.{ℕ, [], ◌∷◌, refl, sym, subst, arith}
+use Rattle.std.proofs.Common.{ℕ, [], ◌∷◌, refl, arith}
 use Rattle.uring_entry.specs.Setup.{Setup}
-use Rattle.uring_machine.specs.World.{World, at_first, happens, taking_of, ending_of}
+use Rattle.uring_machine.specs.World.{World, at_first}
 use Rattle.uring_machine.specs.Histories.{History, world, IsLawfulApart}
 use Rattle.uring_machine.specs.declared.step.Step.{Step}
 use Rattle.uring_machine.specs.declared.answer.Answer.{Answer}
-use Rattle.uring_machine.proofs.Changes.{Change, change_of, refuses, fills, stages, stores, loads, begins, takes, drops, closes, runs, dooms, cancels, finishes, flushes, sees_tail, reaps, stores_head, shuts}
+use Rattle.uring_machine.proofs.Changes.{change_of}
+use Rattle.uring_machine.proofs.Moves.{Move, stays, accepts, starts, ends_doomed, ends_cancel, ends_run, move_of}
+use Rattle.uring_machine.proofs.SubmissionMoves.{SubmissionMove, stays as stays_off_submission, fills, stages, stores, loads, begins, takes, drops, closes, submission_move}
+use Rattle.uring_machine.proofs.CompletionMoves.{CompletionMove, stays as stays_off_completions, ends, flushes, sees_tail, reaps, stores_head, completion_move}
 use Rattle.uring_machine.proofs.SoundRings.{IsSoundCompletions, IsSoundSubmission, end_sound, flush_sound, see_tail_sound, reap_sound, store_head_sound, stage_sound, store_sound, load_sound, begin_sound, take_sound, close_sound}
 use Rattle.uring_machine.proofs.SoundRequests.{IsSoundRequests, first_requests, start_sound}
 use Rattle.uring_machine.proofs.RequestEnds.{finish_sound, doom_sound, cancel_sound}
 use Rattle.uring_machine.proofs.Groups.{call_sound}
-use Rattle.uring_entry.specs.Submission.{no_submission, entries_of, places_from}
+use Rattle.uring_entry.specs.Submission.{no_submission}
 use Rattle.uring_entry.specs.Completions.{no_completion}
+use Rattle.uring_entry.specs.Requests.{Requests}
 
 pub record IsSound (g : Setup) (w : World) : Type 0 where
   pub submission : IsSoundSubmission g.sq w.submission
@@ -28,67 +32,34 @@ first_sound : (g : Setup) → IsSound g at_first
 first_sound g = record { submission = first_submission g.sq; completions = first_completions g.cq; requests = first_requests }
 
 -- a change keeps the submission ring sound
-submission_kept : (g : Setup) (w : World) (s : Step) (a : Answer) → Change g w s a → IsSoundSubmission g.sq w.submission → IsSoundSubmission g.sq (happens g w s a).submission
-submission_kept g w s a (refuses _ _ same silent) i = subst (λ v. IsSoundSubmission g.sq v.submission) (sym (same w)) i
-submission_kept g w s a (fills slot entry free) i = record { seen_first = i.seen_first; call_published = i.call_published; within_call = i.within_call; few = i.few }
-submission_kept g w s a (stages word room) i = stage_sound g.sq w.submission word room i
-submission_kept g w s a (stores tail) i = store_sound g.sq w.submission i
-submission_kept g w s a (loads head) i = load_sound g.sq w.submission i
-submission_kept g w s a (begins count is_open no_call) i = begin_sound g.sq w.submission count i
-submission_kept g w s a (takes entry call place e f h k) i = subst (λ o. IsSoundSubmission g.sq (taking_of w o).submission) (sym e) (take_sound g.sq w.submission call e f i)
-submission_kept g w s a (drops call place e f h k) i = subst (λ o. IsSoundSubmission g.sq (taking_of w o).submission) (sym e) (take_sound g.sq w.submission call e f i)
-submission_kept g w s a (closes accepted missed head call e f counted) i = subst (λ o. IsSoundSubmission g.sq (ending_of w o).submission) (sym e) (close_sound g.sq w.submission call e i)
-submission_kept g w s a (runs n e f h k) i = i
-submission_kept g w s a (dooms n e f h) i = i
-submission_kept g w s a (cancels n e f h k l) i = i
-submission_kept g w s a (finishes n res bytes e) i = i
-submission_kept g w s a (flushes moved) i = i
-submission_kept g w s a (sees_tail tail) i = i
-submission_kept g w s a (reaps completion e) i = i
-submission_kept g w s a (stores_head head) i = i
-submission_kept g w s a (shuts e) i = i
+submission_kept : (g : Setup) (w : World) (s : Step) (a : Answer) (v : World) → SubmissionMove g w s a v → IsSoundSubmission g.sq w.submission → IsSoundSubmission g.sq v.submission
+submission_kept g w s a v (stays_off_submission _ _ r c is_closed off left) i = i
+submission_kept g w s a v (fills slot entry) i = assumption i
+submission_kept g w s a v (stages word room) i = stage_sound g.sq w.submission word room i
+submission_kept g w s a v (stores tail) i = store_sound g.sq w.submission i
+submission_kept g w s a v (loads head) i = load_sound g.sq w.submission i
+submission_kept g w s a v (begins count is_open no_call) i = begin_sound g.sq w.submission count i
+submission_kept g w s a v (takes entry call place opened left at valid) i = take_sound g.sq w.submission call opened left i
+submission_kept g w s a v (drops call place opened left at invalid) i = take_sound g.sq w.submission call opened left i
+submission_kept g w s a v (closes accepted missed head call opened all counted) i = close_sound g.sq w.submission call opened i
 
 -- a change keeps the completion ring sound
-completions_kept : (g : Setup) (w : World) (s : Step) (a : Answer) → Change g w s a → IsSoundCompletions g.cq w.completions → IsSoundCompletions g.cq (happens g w s a).completions
-completions_kept g w s a (refuses _ _ same silent) i = subst (λ v. IsSoundCompletions g.cq v.completions) (sym (same w)) i
-completions_kept g w s a (fills slot entry free) i = i
-completions_kept g w s a (stages word room) i = i
-completions_kept g w s a (stores tail) i = i
-completions_kept g w s a (loads head) i = i
-completions_kept g w s a (begins count is_open no_call) i = i
-completions_kept g w s a (takes entry call place e f h k) i = subst (λ o. IsSoundCompletions g.cq (taking_of w o).completions) (sym e) i
-completions_kept g w s a (drops call place e f h k) i = subst (λ o. IsSoundCompletions g.cq (taking_of w o).completions) (sym e) i
-completions_kept g w s a (closes accepted missed head call e f counted) i = subst (λ o. IsSoundCompletions g.cq (ending_of w o).completions) (sym e) i
-completions_kept g w s a (runs n e f h k) i = i
-completions_kept g w s a (dooms n e f h) i = end_sound g.cq w.completions _ _ i
-completions_kept g w s a (cancels n e f h k l) i = end_sound g.cq w.completions _ _ i
-completions_kept g w s a (finishes n res bytes e) i = end_sound g.cq w.completions _ _ i
-completions_kept g w s a (flushes moved) i = flush_sound g.cq w.completions i
-completions_kept g w s a (sees_tail tail) i = see_tail_sound g.cq w.completions i
-completions_kept g w s a (reaps completion e) i = reap_sound g.cq w.completions completion e i
-completions_kept g w s a (stores_head head) i = store_head_sound g.cq w.completions i
-completions_kept g w s a (shuts e) i = i
+completions_kept : (g : Setup) (w : World) (s : Step) (a : Answer) (v : World) → CompletionMove g w s a v → IsSoundCompletions g.cq w.completions → IsSoundCompletions g.cq v.completions
+completions_kept g w s a v (stays_off_completions _ _ l r is_closed off no_end left) i = i
+completions_kept g w s a v (ends _ _ n res bytes r off told same_accepted one_more) i = end_sound g.cq w.completions _ _ i
+completions_kept g w s a v (flushes moved) i = flush_sound g.cq w.completions i
+completions_kept g w s a v (sees_tail tail) i = see_tail_sound g.cq w.completions i
+completions_kept g w s a v (reaps completion next) i = reap_sound g.cq w.completions completion next i
+completions_kept g w s a v (stores_head head) i = store_head_sound g.cq w.completions i
 
 -- a change keeps the requests sound
-requests_kept : (g : Setup) (w : World) (s : Step) (a : Answer) → Change g w s a → IsSoundRequests w.requests → IsSoundRequests (happens g w s a).requests
-requests_kept g w s a (refuses _ _ same silent) i = subst (λ v. IsSoundRequests v.requests) (sym (same w)) i
-requests_kept g w s a (fills slot entry free) i = i
-requests_kept g w s a (stages word room) i = i
-requests_kept g w s a (stores tail) i = i
-requests_kept g w s a (loads head) i = i
-requests_kept g w s a (begins count is_open no_call) i = i
-requests_kept g w s a (takes entry call place opened left at valid) i = subst (λ o. IsSoundRequests (taking_of w o).requests) (sym opened) i
-requests_kept g w s a (drops call place opened left at invalid) i = subst (λ o. IsSoundRequests (taking_of w o).requests) (sym opened) i
-requests_kept g w s a (closes accepted missed head call opened all counted) i = subst (λ o. IsSoundRequests (ending_of w o).requests) (sym opened) (call_sound w.requests (entries_of (places_from w.submission call.count)) i.cut_at_end i)
-requests_kept g w s a (runs n outstanding idle spared ready) i = start_sound w.requests n outstanding idle spared ready i
-requests_kept g w s a (dooms n outstanding idle doomed) i = doom_sound w.requests n outstanding i
-requests_kept g w s a (cancels n outstanding idle spared ready cancel) i = cancel_sound w.requests n outstanding spared ready i
-requests_kept g w s a (finishes n res bytes running) i = finish_sound w.requests n res bytes running i
-requests_kept g w s a (flushes moved) i = i
-requests_kept g w s a (sees_tail tail) i = i
-requests_kept g w s a (reaps completion next) i = i
-requests_kept g w s a (stores_head head) i = i
-requests_kept g w s a (shuts no_call) i = i
+requests_kept : (r : Requests) (s : Step) (a : Answer) (later : Requests) → Move r s a later → IsSoundRequests r → IsSoundRequests later
+requests_kept r s a later (stays _ _ no_start no_end) i = i
+requests_kept r s a later (accepts accepted missed head entries) i = call_sound r entries i.cut_at_end i
+requests_kept r s a later (starts n outstanding idle spared ready no_cancel) i = start_sound r n outstanding idle spared ready i
+requests_kept r s a later (ends_doomed n outstanding) i = doom_sound r n outstanding i
+requests_kept r s a later (ends_cancel n outstanding spared ready cancel) i = cancel_sound r n outstanding spared ready i
+requests_kept r s a later (ends_run n res bytes running) i = finish_sound r n res bytes running i
 
 pub sound_of : (g : Setup) (h : History) → IsLawfulApart g h → IsSound g (world g h)
 sound_of g [] lawful = first_sound g
@@ -96,7 +67,7 @@ sound_of g ((s, a) ∷ before) lawful =
     let i = sound_of g before lawful.1 in
     let c = change_of g (world g before) s a lawful.0 in
     record {
-      submission = submission_kept g (world g before) s a c i.submission;
-      completions = completions_kept g (world g before) s a c i.completions;
-      requests = requests_kept g (world g before) s a c i.requests;
+      submission = submission_kept g (world g before) s a _ (submission_move g (world g before) s a c) i.submission;
+      completions = completions_kept g (world g before) s a _ (completion_move g (world g before) s a c) i.completions;
+      requests = requests_kept (world g before).requests s a _ (move_of g (world g before) s a c lawful.0) i.requests;
     }

@@ -38,57 +38,25 @@ post_sound size l c s = by_room (has_room size l) refl where
   by_room : (room : Bool) → has_room size l ≡ room → IsSoundCompletions size (record l { posted = l.posted ++ c ∷ []; put = cond room (l.put + 1) l.put })
   by_room true e =
       let r = room_tells e in
-      record {
-        begins = posted_begins l.reaped l.posted c (omega arith) s.begins;
-        reaped_seen = s.reaped_seen;
-        seen_put = omega arith;
-        put_posted = omega (arith, length_push l.posted c);
-        seen_head_head = s.seen_head_head;
-        head_reaped = s.head_reaped;
-        fits = omega arith;
-        full_ring = λ waits. absurd (omega (arith, length_push l.posted c));
-      }
+      let begins = posted_begins l.reaped l.posted c (omega arith) s.begins in
+      let n = length_push l.posted c in
+      let full_ring : l.put + 1 < length (l.posted ++ c ∷ []) → l.put + 1 ≡ l.seen_head + size = λ waits. absurd (omega arith) in
+      grind (arith, begins, n, full_ring)
   by_room false e =
-      record {
-        begins = posted_begins l.reaped l.posted c (omega arith) s.begins;
-        reaped_seen = s.reaped_seen;
-        seen_put = s.seen_put;
-        put_posted = omega (arith, length_push l.posted c);
-        seen_head_head = s.seen_head_head;
-        head_reaped = s.head_reaped;
-        fits = s.fits;
-        full_ring = λ waits. no_room e;
-      }
+      let begins = posted_begins l.reaped l.posted c (omega arith) s.begins in
+      let put_posted : l.put ≤ length (l.posted ++ c ∷ []) = omega (arith, length_push l.posted c) in
+      let full_ring : l.put < length (l.posted ++ c ∷ []) → l.put ≡ l.seen_head + size = λ waits. no_room e in
+      assumption (begins, put_posted, full_ring, s)
 
 pub end_sound : (size : ℕ) (l : Completions) (c : Cqe) (told : Bool) → IsSoundCompletions size l → IsSoundCompletions size (cond told (with_posted size l c) l)
 end_sound size l c true s = post_sound size l c s
 end_sound size l c false s = s
 
 pub flush_sound : (size : ℕ) (l : Completions) → IsSoundCompletions size l → IsSoundCompletions size (with_flushed size l)
-flush_sound size l s =
-    record {
-      begins = s.begins;
-      reaped_seen = s.reaped_seen;
-      seen_put = omega arith;
-      put_posted = omega arith;
-      seen_head_head = omega arith;
-      head_reaped = s.head_reaped;
-      fits = omega arith;
-      full_ring = λ waits. omega arith;
-    }
+flush_sound size l s = grind arith
 
 pub see_tail_sound : (size : ℕ) (l : Completions) → IsSoundCompletions size l → IsSoundCompletions size (with_tail_loaded l)
-see_tail_sound size l s =
-    record {
-      begins = s.begins;
-      reaped_seen = omega arith;
-      seen_put = omega arith;
-      put_posted = s.put_posted;
-      seen_head_head = s.seen_head_head;
-      head_reaped = s.head_reaped;
-      fits = s.fits;
-      full_ring = s.full_ring;
-    }
+see_tail_sound size l s = grind arith
 
 next_tells : (l : Completions) (c : Cqe) → next_to_reap l ≡ Some c → (eqb (length l.reaped) l.seen_tail ≡ false) × (slice_get l.posted (length l.reaped) ≡ Some c)
 next_tells l c e = by_end (eqb (length l.reaped) l.seen_tail) e where
@@ -102,29 +70,12 @@ reap_sound size l c e s =
     let differ = eqb-false _ _ t.0 in
     let within = slice_get_within _ _ _ t.1 in
     let n = length_push l.reaped c in
-    record {
-      begins = ap (λ xs. xs ++ c ∷ []) s.begins ∙ ap (λ x. take (length l.reaped) l.posted ++ x ∷ []) (sym (get_or_from_slice_get l.posted (length l.reaped) c c t.1)) ∙ sym (take_more l.posted (length l.reaped) c within) ∙ ap (λ k. take k l.posted) (sym n);
-      reaped_seen = omega arith;
-      seen_put = s.seen_put;
-      put_posted = s.put_posted;
-      seen_head_head = s.seen_head_head;
-      head_reaped = omega arith;
-      fits = s.fits;
-      full_ring = s.full_ring;
-    }
+    let begins : l.reaped ++ c ∷ [] ≡ take (length (l.reaped ++ c ∷ [])) l.posted =
+    ap (λ xs. xs ++ c ∷ []) s.begins ∙ ap (λ x. take (length l.reaped) l.posted ++ x ∷ []) (sym (get_or_from_slice_get l.posted (length l.reaped) c c t.1)) ∙ sym (take_more l.posted (length l.reaped) c within) ∙ ap (λ k. take k l.posted) (sym n) in
+    grind (arith, begins, n)
 
 pub store_head_sound : (size : ℕ) (l : Completions) → IsSoundCompletions size l → IsSoundCompletions size (with_head_stored l)
-store_head_sound size l s =
-    record {
-      begins = s.begins;
-      reaped_seen = s.reaped_seen;
-      seen_put = s.seen_put;
-      put_posted = s.put_posted;
-      seen_head_head = omega arith;
-      head_reaped = omega arith;
-      fits = s.fits;
-      full_ring = s.full_ring;
-    }
+store_head_sound size l s = grind arith
 
 -- The submission ring.
 
@@ -146,29 +97,29 @@ pub record IsSoundSubmission (size : ℕ) (l : Submission) : Type 0 where
 pub stage_sound : (size : ℕ) (l : Submission) (word : ℕ) → is_full size l ≡ false → IsSoundSubmission size l → IsSoundSubmission size (with_staged l word)
 stage_sound size l word e s =
     let differ = eqb-false _ _ e in
-    record { seen_first = s.seen_first; call_published = s.call_published; within_call = s.within_call; few = omega (arith, length_push l.fresh word) }
+    grind (arith, length_push l.fresh word)
 
 pub store_sound : (size : ℕ) (l : Submission) → IsSoundSubmission size l → IsSoundSubmission size (with_published size l)
 store_sound size l s =
     let n = length-append l.published (map (Rattle.uring_entry.specs.Submission.place_of size l.content) l.fresh) in
     let m = length-map l.fresh (Rattle.uring_entry.specs.Submission.place_of size l.content) in
-    record { seen_first = s.seen_first; call_published = omega arith; within_call = s.within_call; few = omega arith }
+    grind arith
 
 pub load_sound : (size : ℕ) (l : Submission) → IsSoundSubmission size l → IsSoundSubmission size (with_head_loaded l)
-load_sound size l s = record { seen_first = omega arith; call_published = s.call_published; within_call = s.within_call; few = omega arith }
+load_sound size l s = grind arith
 
 pub begin_sound : (size : ℕ) (l : Submission) (count : ℕ) → IsSoundSubmission size l → IsSoundSubmission size (with_begun l count)
-begin_sound size l count s = record { seen_first = s.seen_first; call_published = omega arith; within_call = omega arith; few = s.few }
+begin_sound size l count s = grind arith
 
 pub take_sound : (size : ℕ) (l : Submission) (call : Call) → l.call ≡ Some call → eqb call.taken call.count ≡ false → IsSoundSubmission size l → IsSoundSubmission size (with_taken l call)
 take_sound size l call e f s =
     let differ = eqb-false _ _ f in
     let c = ap open_count e in
     let t = ap open_taken e in
-    record { seen_first = s.seen_first; call_published = omega arith; within_call = omega arith; few = s.few }
+    grind arith
 
 pub close_sound : (size : ℕ) (l : Submission) (call : Call) → l.call ≡ Some call → IsSoundSubmission size l → IsSoundSubmission size (with_closed l call)
 close_sound size l call e s =
     let c = ap open_count e in
     let n = sum_by_push (λ x. x) l.calls call.count in
-    record { seen_first = omega arith; call_published = omega arith; within_call = omega arith; few = s.few }
+    grind arith

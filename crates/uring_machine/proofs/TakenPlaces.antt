@@ -8,7 +8,6 @@ use Rattle.std.proofs.lemmas.List.Sums.{sum_by_push}
 use Rattle.std.proofs.lemmas.Option.{slice_get_within, get_or_from_slice_get}
 use Rattle.uring_entry.specs.Setup.{Setup, IsWithinLimits}
 use Rattle.uring_entry.specs.Layout.{Sqe}
-use Rattle.uring_entry.specs.Requests.{doomed_result, cancel_result, no_bytes}
 use Rattle.uring_entry.specs.Submission.{Submission, Call, Place, taken, entries_of, place_of, call_length}
 use Rattle.uring_machine.specs.World.{World, happens, taking_of, ending_of}
 use Rattle.uring_machine.specs.Histories.{History, world, IsLawfulApart}
@@ -18,7 +17,8 @@ use Rattle.uring_machine.specs.declared.step.Step.{Step}
 use Rattle.uring_machine.specs.declared.step.Step.TheVariants as step
 use Rattle.uring_machine.specs.declared.answer.Answer.{Answer}
 use Rattle.uring_machine.specs.declared.answer.Answer.TheVariants as answer
-use Rattle.uring_machine.proofs.Changes.{Change, change_of, refuses, fills, stages, stores, loads, begins, takes, drops, closes, runs, dooms, cancels, finishes, flushes, sees_tail, reaps, stores_head, shuts}
+use Rattle.uring_machine.proofs.Changes.{change_of}
+use Rattle.uring_machine.proofs.SubmissionMoves.{SubmissionMove, stays, fills, stages, stores, loads, begins, takes, drops, closes, submission_move}
 use Rattle.uring_machine.proofs.SoundRings.{IsSoundSubmission, open_taken, open_count}
 use Rattle.uring_machine.proofs.Sound.{sound_of}
 use Rattle.uring_machine.proofs.Telling.{count_more, count_same, told_same}
@@ -89,30 +89,23 @@ stored_places g h w tail sound i =
       entries = i.entries ∙ ap entries_of (sym (take-append-le (reached w.submission) w.submission.published (map (place_of g.sq w.submission.content) w.submission.fresh) (omega arith)));
     }
 
-places_kept : (g : Setup) (h : History) (w : World) (s : Step) (a : Answer) → Change g w s a → IsSoundSubmission g.sq w.submission → TakesPlaces h w → TakesPlaces ((s, a) ∷ h) (happens g w s a)
-places_kept g h w s a (refuses _ _ same silent) sound i = subst (λ v. TakesPlaces ((s, a) ∷ h) v) (sym (same w)) (record { count = count_same takes_position (s, a) h silent.takes ∙ i.count; entries = told_same entry_taken_by (s, a) h silent.takes_entry ∙ i.entries })
-places_kept g h w s a (fills slot entry free) sound i = record { count = count_same takes_position (step.Fill slot entry, answer.Filled) h refl ∙ i.count; entries = i.entries }
-places_kept g h w s a (stages word room) sound i = record { count = count_same takes_position (step.Index word, answer.Staged) h refl ∙ i.count; entries = i.entries }
-places_kept g h w s a (stores tail) sound i = stored_places g h w tail sound i
-places_kept g h w s a (loads head) sound i = record { count = count_same takes_position (step.LoadHead, answer.Head head) h refl ∙ i.count; entries = i.entries }
-places_kept g h w s a (begins count is_open no_call) sound i = begun_places g h w count no_call i
-places_kept g h w s a (takes entry call place opened left at valid) sound i = subst (λ o. TakesPlaces ((step.Take, answer.Entry entry) ∷ h) (taking_of w o)) (sym opened) (took_valid h w entry call place opened at valid i)
-places_kept g h w s a (drops call place opened left at invalid) sound i = subst (λ o. TakesPlaces ((step.Take, answer.Dropped) ∷ h) (taking_of w o)) (sym opened) (took_invalid h w call place opened at invalid i)
-places_kept g h w s a (closes accepted missed head call opened all counted) sound i = subst (λ o. TakesPlaces ((step.End, answer.Taken accepted missed head) ∷ h) (ending_of w o)) (sym opened) (closed_places g h w accepted missed head call opened all sound i)
-places_kept g h w s a (runs n outstanding idle spared ready) sound i = record { count = count_same takes_position (step.Issue n, answer.Run) h refl ∙ i.count; entries = i.entries }
-places_kept g h w s a (dooms n outstanding idle doomed) sound i = record { count = count_same takes_position (step.Issue n, answer.Ended (doomed_result w.requests n) no_bytes) h refl ∙ i.count; entries = i.entries }
-places_kept g h w s a (cancels n outstanding idle spared ready cancel) sound i = record { count = count_same takes_position (step.Issue n, answer.Ended (cancel_result w.requests n) no_bytes) h refl ∙ i.count; entries = i.entries }
-places_kept g h w s a (finishes n res bytes running) sound i = record { count = count_same takes_position (step.Finish n, answer.Ended res bytes) h refl ∙ i.count; entries = i.entries }
-places_kept g h w s a (flushes moved) sound i = record { count = count_same takes_position (step.Flush, answer.Moved moved) h refl ∙ i.count; entries = i.entries }
-places_kept g h w s a (sees_tail tail) sound i = record { count = count_same takes_position (step.LoadCqTail, answer.Tail tail) h refl ∙ i.count; entries = i.entries }
-places_kept g h w s a (reaps completion next) sound i = record { count = count_same takes_position (step.Reap, answer.Reaped completion) h refl ∙ i.count; entries = i.entries }
-places_kept g h w s a (stores_head head) sound i = record { count = count_same takes_position (step.StoreCqHead, answer.Head head) h refl ∙ i.count; entries = i.entries }
-places_kept g h w s a (shuts no_call) sound i = record { count = count_same takes_position (step.Close, answer.Shut) h refl ∙ i.count; entries = i.entries }
+places_kept : (g : Setup) (h : History) (w : World) (s : Step) (a : Answer) (v : World)
+    → SubmissionMove g w s a v → IsSoundSubmission g.sq w.submission → TakesPlaces h w → TakesPlaces ((s, a) ∷ h) v
+places_kept g h w s a v (stays _ _ r c is_closed off left) sound i =
+    record { count = count_same takes_position (s, a) h off.takes ∙ i.count; entries = told_same entry_taken_by (s, a) h off.takes_entry ∙ i.entries }
+places_kept g h w s a v (fills slot entry) sound i = record { count = count_same takes_position (step.Fill slot entry, answer.Filled) h refl ∙ i.count; entries = i.entries }
+places_kept g h w s a v (stages word room) sound i = record { count = count_same takes_position (step.Index word, answer.Staged) h refl ∙ i.count; entries = i.entries }
+places_kept g h w s a v (stores tail) sound i = stored_places g h w tail sound i
+places_kept g h w s a v (loads head) sound i = record { count = count_same takes_position (step.LoadHead, answer.Head head) h refl ∙ i.count; entries = i.entries }
+places_kept g h w s a v (begins count is_open no_call) sound i = begun_places g h w count no_call i
+places_kept g h w s a v (takes entry call place opened left at valid) sound i = took_valid h w entry call place opened at valid i
+places_kept g h w s a v (drops call place opened left at invalid) sound i = took_invalid h w call place opened at invalid i
+places_kept g h w s a v (closes accepted missed head call opened all counted) sound i = closed_places g h w accepted missed head call opened all sound i
 
 pub takes_places : (g : Setup) (h : History) → IsLawfulApart g h → TakesPlaces h (world g h)
 takes_places g [] lawful = record { count = refl; entries = refl }
 takes_places g ((s, a) ∷ before) lawful =
-    places_kept g before (world g before) s a (change_of g (world g before) s a lawful.0) (sound_of g before lawful.1).submission (takes_places g before lawful.1)
+    places_kept g before (world g before) s a _ (submission_move g (world g before) s a (change_of g (world g before) s a lawful.0)) (sound_of g before lawful.1).submission (takes_places g before lawful.1)
 
 pub once_in_order : (g : Setup) (h : History) → IsWithinLimits g → IsLawfulApart g h → TakenOnceInOrder g h
 once_in_order g h setup lawful =

@@ -5,7 +5,7 @@ use Rattle.uring_entry.specs.Requests.{is_running}
 use Rattle.uring_entry.specs.declared.errno.TheConstants.{ECANCELED}
 use Rattle.uring_entry.specs.declared.operation.Op.{Op}
 use Rattle.uring_entry.specs.declared.operation.Op.TheVariants.{Nop, Read, Write, Fsync, Cancel}
-use Rattle.uring_entry.specs.declared.outcomes.Outcome.{Outcome}
+use Rattle.uring_entry.specs.declared.operation.Outcome.{Outcome}
 use Rattle.uring_files.specs.Contents.{FileContents, read_outcome, is_too_long}
 use Rattle.uring_files.specs.Operations.{IsOutcome, result_of, ended_with, on_file, file_of}
 use Rattle.uring_machine.specs.World.{World}

@@ -9,10 +9,10 @@ use Rattle.uring_dispatch.specs.Dispatch.{Dispatch, ShowsRequests}
 use Rattle.uring_machine.specs.World.{World}
 use Rattle.uring_machine.specs.Histories.{History, world, IsLawfulApart}
 use Rattle.uring_entry.specs.Requests.{is_running, outstanding_in, running_in}
-use Rattle.uring_entry.specs.declared.outcomes.Outcome.{Outcome}
+use Rattle.uring_entry.specs.declared.operation.Outcome.{Outcome}
 use Rattle.uring_machine.specs.declared.answer.Answer.{Answer}
 use Rattle.uring_machine.specs.declared.answer.Answer.TheVariants as answer
-use Rattle.uring_machine.specs.declared.counts.Counts.{Counts}
+use Rattle.uring_machine.specs.declared.cores.Counts.{Counts}
 use Rattle.uring_machine.specs.declared.step.Step.{Step}
 use Rattle.uring_machine.specs.declared.step.Step.TheVariants as step
 

@@ -5,7 +5,7 @@ use Rattle.uring_entry.specs.Setup.{Setup}
 use Rattle.uring_entry.specs.Preparation.{operation_of}
 use Rattle.uring_entry.specs.Requests.{Requests, Ending, entry_of}
 use Rattle.uring_entry.specs.declared.operation.Op.{Op}
-use Rattle.uring_entry.specs.declared.outcomes.Outcome.{Outcome}
+use Rattle.uring_entry.specs.declared.operation.Outcome.{Outcome}
 use Rattle.uring_files.specs.Contents.{FileContents, empty_file}
 use Rattle.uring_files.specs.Laws.{AgreeAt, is_on}
 use Rattle.uring_files.specs.Operations.{after, IsOutcome}

@@ -1,10 +1,14 @@
 -- Glue. What the submission ring answers, as answers of the machine.
-use Rattle.uring_rings.specs.declared.answers.fill_answer.FillAnswer.{FillAnswer}
-use Rattle.uring_rings.specs.declared.answers.fill_answer.FillAnswer.TheVariants as fill
-use Rattle.uring_rings.specs.declared.answers.index_answer.IndexAnswer.{IndexAnswer}
-use Rattle.uring_rings.specs.declared.answers.index_answer.IndexAnswer.TheVariants as index
-use Rattle.uring_rings.specs.declared.answers.begin_answer.BeginAnswer.{BeginAnswer}
-use Rattle.uring_rings.specs.declared.answers.begin_answer.BeginAnswer.TheVariants as begin
+use Rattle.uring_rings.specs.declared.answers.FillAnswer.{FillAnswer}
+use Rattle.uring_rings.specs.declared.answers.FillAnswer.TheVariants as fill
+use Rattle.uring_rings.specs.declared.answers.IndexAnswer.{IndexAnswer}
+use Rattle.uring_rings.specs.declared.answers.IndexAnswer.TheVariants as index
+use Rattle.uring_rings.specs.declared.answers.BeginAnswer.{BeginAnswer}
+use Rattle.uring_rings.specs.declared.answers.BeginAnswer.TheVariants as begin
+use Rattle.uring_rings.specs.declared.answers.TakeAnswer.{TakeAnswer}
+use Rattle.uring_rings.specs.declared.answers.TakeAnswer.TheVariants as take
+use Rattle.uring_rings.specs.declared.answers.EndAnswer.{EndAnswer}
+use Rattle.uring_rings.specs.declared.answers.EndAnswer.TheVariants as end
 use Rattle.uring_machine.specs.declared.answer.Answer.{Answer}
 use Rattle.uring_machine.specs.declared.answer.Answer.TheVariants as answer
 
@@ -20,3 +24,14 @@ index_told index.Full = answer.Full
 abbrev pub begin_told : BeginAnswer → Answer
 begin_told (begin.Call length) = answer.Call length
 begin_told begin.InCall = answer.InCall
+
+abbrev pub take_told : TakeAnswer → Answer
+take_told (take.Entry entry) = answer.Entry entry
+take_told take.Dropped = answer.Dropped
+take_told take.NoMore = answer.NoMore
+take_told take.NoCall = answer.NoCall
+
+abbrev pub end_told : EndAnswer → Answer
+end_told (end.Taken taken) = answer.Taken taken.accepted taken.dropped taken.head
+end_told end.NotAll = answer.NotAll
+end_told end.NoCall = answer.NoCall

@@ -1,37 +1,93 @@
-//! What the rings answer, as answers of the machine.
+//! What the rings and the dispatcher return, as answers of the machine.
 
 ghost use Rattle.std.specs.Prelude.{◌≡◌};
-ghost use Rattle.uring_machine.specs.Told.{fill_told, index_told, begin_told};
 ghost use Rattle.uring_machine.specs.declared.answer.Answer.TheVariants as answer;
 ghost use Rattle.uring_machine.specs.StepAnswers.{reap_answer_of, next_answer_of};
 
 use crate::answer::Answer;
 use uring_entry::Cqe;
-use uring_rings::{BeginAnswer, FillAnswer, IndexAnswer};
+use uring_rings::{BeginAnswer, EndAnswer, FillAnswer, IndexAnswer, TakeAnswer};
 
-/// The answer to a fill.
-pub(crate) fn tell_fill(answer: FillAnswer) -> Answer
-    ensures { result ≡ fill_told answer }
-{
-    match answer {
-        FillAnswer::Filled => Answer::Filled,
-        FillAnswer::NoSlot => Answer::NoSlot,
-        FillAnswer::Busy => Answer::Busy,
+impl From<FillAnswer> for Answer {
+    ghost use Rattle.std.specs.Prelude.{◌≡◌};
+    ghost use Rattle.uring_machine.specs.Told.{fill_told};
+
+    ghost from_gives = { λ told answer. answer ≡ fill_told told };
+
+    fn from(answer: FillAnswer) -> Answer {
+        match answer {
+            FillAnswer::Filled => Answer::Filled,
+            FillAnswer::NoSlot => Answer::NoSlot,
+            FillAnswer::Busy => Answer::Busy,
+        }
     }
 }
 
-/// The answer to the staging of a word.
-pub(crate) fn tell_index(answer: IndexAnswer) -> Answer
-    ensures { result ≡ index_told answer }
-{
-    match answer {
-        IndexAnswer::Staged => Answer::Staged,
-        IndexAnswer::Full => Answer::Full,
+impl From<IndexAnswer> for Answer {
+    ghost use Rattle.std.specs.Prelude.{◌≡◌};
+    ghost use Rattle.uring_machine.specs.Told.{index_told};
+
+    ghost from_gives = { λ told answer. answer ≡ index_told told };
+
+    fn from(answer: IndexAnswer) -> Answer {
+        match answer {
+            IndexAnswer::Staged => Answer::Staged,
+            IndexAnswer::Full => Answer::Full,
+        }
+    }
+}
+
+impl From<BeginAnswer> for Answer {
+    ghost use Rattle.std.specs.Prelude.{◌≡◌};
+    ghost use Rattle.uring_machine.specs.Told.{begin_told};
+
+    ghost from_gives = { λ told answer. answer ≡ begin_told told };
+
+    fn from(answer: BeginAnswer) -> Answer {
+        match answer {
+            BeginAnswer::Call(length) => Answer::Call(length),
+            BeginAnswer::InCall => Answer::InCall,
+        }
+    }
+}
+
+impl From<TakeAnswer> for Answer {
+    ghost use Rattle.std.specs.Prelude.{◌≡◌};
+    ghost use Rattle.uring_machine.specs.Told.{take_told};
+
+    ghost from_gives = { λ told answer. answer ≡ take_told told };
+
+    fn from(answer: TakeAnswer) -> Answer {
+        match answer {
+            TakeAnswer::Entry(entry) => Answer::Entry(entry),
+            TakeAnswer::Dropped => Answer::Dropped,
+            TakeAnswer::NoMore => Answer::NoMore,
+            TakeAnswer::NoCall => Answer::NoCall,
+        }
+    }
+}
+
+impl From<EndAnswer> for Answer {
+    ghost use Rattle.std.specs.Prelude.{◌≡◌};
+    ghost use Rattle.uring_machine.specs.Told.{end_told};
+
+    ghost from_gives = { λ told answer. answer ≡ end_told told };
+
+    fn from(answer: EndAnswer) -> Answer {
+        match answer {
+            EndAnswer::Taken(taken) => Answer::Taken {
+                accepted: taken.accepted,
+                dropped: taken.dropped,
+                head: taken.head,
+            },
+            EndAnswer::NotAll => Answer::NotAll,
+            EndAnswer::NoCall => Answer::NoCall,
+        }
     }
 }
 
 /// The answer to a reap.
-pub(crate) fn tell_reap(completion: Option<Cqe>) -> Answer
+pub(crate) fn reaped(completion: Option<Cqe>) -> Answer
     ensures { result ≡ reap_answer_of completion }
 {
     match completion {
@@ -41,7 +97,7 @@ pub(crate) fn tell_reap(completion: Option<Cqe>) -> Answer
 }
 
 /// The answer with the request that can be issued next.
-pub(crate) fn tell_next(number: Option<u64>) -> Answer
+pub(crate) fn next_answer(number: Option<u64>) -> Answer
     ensures { result ≡ next_answer_of number }
 {
     match number {
@@ -50,18 +106,8 @@ pub(crate) fn tell_next(number: Option<u64>) -> Answer
     }
 }
 
-/// The answer to the opening of a call.
-pub(crate) fn tell_begin(answer: BeginAnswer) -> Answer
-    ensures { result ≡ begin_told answer }
-{
-    match answer {
-        BeginAnswer::Call(length) => Answer::Call(length),
-        BeginAnswer::InCall => Answer::InCall,
-    }
-}
-
 /// The end of a request.
-pub(crate) fn tell_end(res: i32, bytes: [u8; 64]) -> Answer
+pub(crate) fn ended(res: i32, bytes: [u8; 64]) -> Answer
     ensures { result ≡ answer.Ended res bytes }
 {
     Answer::Ended { res, bytes }

@@ -1,22 +1,21 @@
-ghost use Rattle.std.specs.Prelude.{◌≡◌, ◌∷◌, [], IfOk, IfSome, slice_get};
-ghost use Rattle.uring_entry.specs.Setup.{IsWithinLimits};
-ghost use Rattle.uring_entry.specs.Completions.{unreaped};
-ghost use Rattle.uring_entry.specs.Requests.{least_of, operation_running, next_of};
+ghost use Rattle.std.specs.Prelude.{◌≡◌, ◌+◌, ◌<◌, ◌≤◌, ◌∷◌, [], true, length, IfOk, IfSome, slice_get};
+ghost use Rattle.uring_entry.specs.Setup.{Setup, IsWithinLimits};
+ghost use Rattle.uring_entry.specs.Completions.{Completions, unreaped, with_end};
+ghost use Rattle.uring_entry.specs.Requests.{Requests, least_of, operation_running, next_of, with_call};
+ghost use Rattle.uring_rings.specs.Cq.{ShowsCompletions};
+ghost use Rattle.uring_dispatch.specs.Dispatch.{ShowsRequests};
 ghost use Rattle.uring_files.specs.Operations.{IsForFiles};
 ghost use Rattle.uring_machine.specs.Histories.{History, world};
 ghost use Rattle.uring_machine.specs.declared.step.Step.TheVariants as step;
 ghost use Rattle.uring_machine.specs.declared.answer.Answer.TheVariants as answer;
 
-use crate::acceptance::accept_call;
 use crate::answer::Answer;
-use crate::conversions::{tell_begin, tell_end, tell_fill, tell_index, tell_next, tell_reap};
-use crate::counts::Counts;
-use crate::posting::tell;
+use crate::conversions::{ended, next_answer, reaped};
 use crate::step::Step;
 use std::alloc::{AllocError, Global};
 use std::marker::Model;
 use uring_dispatch::{Dispatch, Finished, Issued, ReserveError};
-use uring_entry::{Cqe, Op, Outcome, Setup, Sqe};
+use uring_entry::{Cqe, Op, Outcome, Setup, Sqe, posts_completion};
 use uring_rings::{Cq, EndAnswer, Sq, TakeAnswer};
 
 /// A pair of rings and its requests, moved one step at a time, without files: how a running request ends comes from outside.
@@ -64,7 +63,7 @@ impl Core {
         })
     }
 
-    /// Makes one step, and answers it. Condition: it is no `Finish`, which is a call of its own. Only `Begin` asks for memory, and only if its call may need more than is there; if that is refused the answer is `Again`, and nothing is consumed.
+    /// Makes one step, and returns its answer. Condition: it is no `Finish`, which is a call of its own. Only `Begin` asks for memory, and only if its call may need more than is there; if that is refused the answer is `Again`, and nothing is consumed.
     pub fn step(&mut self, step: Step) -> Answer
         requires { IsNoFinish step }
         ensures setup { self.new.setup ≡ self.old.setup }
@@ -93,7 +92,7 @@ impl Core {
         }
     }
 
-    /// Ends the running request of this number with an outcome from outside, any one, and posts its completion, unless it succeeded and is to be skipped; `NotRunning` where it isn't running, and then nothing changes.
+    /// Ends the running request of this number with an outcome from outside, any one, and posts its completion, unless it succeeded and is to be skipped; `NotRunning` if it isn't running, and then nothing changes.
     pub fn finish(&mut self, number: u64, outcome: Outcome) -> Answer
         ensures setup { self.new.setup ≡ self.old.setup }
         ensures fits { (h : History) → FitsApart self.old h → FitsApart self.new ((step.Finish number, result) ∷ h) }
@@ -105,8 +104,8 @@ impl Core {
             Finished::Ended => {
                 let Some(entry) = entry else { unreachable!() };
                 let Outcome { res, bytes } = outcome;
-                tell(&mut self.cq, &entry, res, bytes);
-                tell_end(res, bytes)
+                post_end(&mut self.cq, &entry, res, bytes);
+                ended(res, bytes)
             }
             Finished::NotRunning => Answer::NotRunning,
         }
@@ -168,7 +167,7 @@ impl Core {
         ensures fits { (h : History) → FitsApart self.old h → FitsApart self.new ((step.Fill slot entry, result) ∷ h) }
         ensures memory { HasNoLessMemory self.old self.new }
     {
-        tell_fill(self.sq.fill(slot, entry))
+        Answer::from(self.sq.fill(slot, entry))
     }
 
     /// The application stages a word.
@@ -177,7 +176,7 @@ impl Core {
         ensures fits { (h : History) → FitsApart self.old h → FitsApart self.new ((step.Index word, result) ∷ h) }
         ensures memory { HasNoLessMemory self.old self.new }
     {
-        tell_index(self.sq.index(word))
+        Answer::from(self.sq.index(word))
     }
 
     /// The application publishes what is staged.
@@ -221,7 +220,7 @@ impl Core {
         if self.cq.reserve(ends).is_err() {
             return Answer::Again;
         }
-        tell_begin(self.sq.begin(count))
+        Answer::from(self.sq.begin(count))
     }
 
     /// The dispatcher copies the call's next position.
@@ -230,15 +229,11 @@ impl Core {
         ensures fits { (h : History) → FitsApart self.old h → FitsApart self.new ((step.Take, result) ∷ h) }
         ensures memory { HasNoLessMemory self.old self.new }
     {
-        match self.sq.take() {
-            TakeAnswer::Entry(entry) => {
-                self.held.push_reserved(entry);
-                Answer::Entry(entry)
-            }
-            TakeAnswer::Dropped => Answer::Dropped,
-            TakeAnswer::NoMore => Answer::NoMore,
-            TakeAnswer::NoCall => Answer::NoCall,
+        let answer = self.sq.take();
+        if let TakeAnswer::Entry(entry) = answer {
+            self.held.push_reserved(entry);
         }
+        Answer::from(answer)
     }
 
     /// The dispatcher closes the call, and accepts its entries.
@@ -247,19 +242,12 @@ impl Core {
         ensures fits { (h : History) → FitsApart self.old h → FitsApart self.new ((step.End, result) ∷ h) }
         ensures memory { HasNoLessMemory self.old self.new }
     {
-        match self.sq.end() {
-            EndAnswer::Taken(taken) => {
-                accept_call(&mut self.dispatch, &self.held);
-                self.held.clear();
-                Answer::Taken {
-                    accepted: taken.accepted,
-                    dropped: taken.dropped,
-                    head: taken.head,
-                }
-            }
-            EndAnswer::NoCall => Answer::NoCall,
-            EndAnswer::NotAll => Answer::NotAll,
+        let answer = self.sq.end();
+        if let EndAnswer::Taken(_) = answer {
+            accept_call(&mut self.dispatch, &self.held);
+            self.held.clear();
         }
+        Answer::from(answer)
     }
 
     /// The dispatcher issues a request.
@@ -274,8 +262,8 @@ impl Core {
             Issued::Ended(res) => {
                 let Some(entry) = entry else { unreachable!() };
                 let bytes = [0; 64];
-                tell(&mut self.cq, &entry, res, bytes);
-                tell_end(res, bytes)
+                post_end(&mut self.cq, &entry, res, bytes);
+                ended(res, bytes)
             }
             Issued::NotReady => Answer::NotReady,
             Issued::Running => Answer::Running,
@@ -307,7 +295,7 @@ impl Core {
         ensures fits { (h : History) → FitsApart self.old h → FitsApart self.new ((step.Reap, result) ∷ h) }
         ensures memory { HasNoLessMemory self.old self.new }
     {
-        tell_reap(self.cq.reap())
+        reaped(self.cq.reap())
     }
 
     /// The application stores the completion ring's head.
@@ -338,6 +326,53 @@ impl Core {
         ensures fits { (h : History) → FitsApart self.old h → FitsApart self.new ((step.Next, result) ∷ h) }
         ensures memory { HasNoLessMemory self.old self.new }
     {
-        tell_next(self.next())
+        next_answer(self.next())
+    }
+}
+
+/// How far a machine has come. Each number is at most 2^63 - 1.
+#[derive(Clone, Copy, Debug, PartialEq, Eq)]
+pub struct Counts {
+    /// The requests accepted.
+    pub accepted: u64,
+
+    /// Those of them that haven't ended.
+    pub outstanding: u64,
+
+    /// Those of them that run.
+    pub running: u64,
+
+    /// The completions posted.
+    pub posted: u64,
+
+    /// The completions reaped, at most those posted.
+    pub reaped: u64,
+}
+
+/// Accepts the entries of a call, in order, and ends it.
+fn accept_call(dispatch: &mut Dispatch, entries: &[Sqe])
+    requires { length entries.now ≤ dispatch.old.room }
+    ensures shows { (r : Requests) → ShowsRequests dispatch.old r → ShowsRequests dispatch.new (with_call r entries.now) }
+    ensures accepted { dispatch.new.accepted ≡ dispatch.old.accepted + length entries.now }
+    ensures outstanding { dispatch.new.outstanding ≡ dispatch.old.outstanding + length entries.now }
+    ensures memory { dispatch.old.accepted + dispatch.old.room ≤ dispatch.new.accepted + dispatch.new.room }
+    ensures between { dispatch.new.is_between_calls ≡ true }
+{
+    for entry in entries {
+        dispatch.accept(*entry);
+    }
+    dispatch.end_call();
+}
+
+/// Posts the completion of a request that ended, unless it succeeded and is to be skipped.
+fn post_end(cq: &mut Cq, entry: &Sqe, res: i32, bytes: [u8; 64])
+    requires { 0 < cq.old.room }
+    ensures shows { (g : Setup) (l : Completions) → ShowsCompletions g cq.old l → ShowsCompletions g cq.new (with_end g.cq l entry.now res bytes) }
+    ensures room { cq.old.room ≤ cq.new.room + 1 }
+    ensures promised { cq.old.room ≤ cq.old.spare → cq.new.room ≤ cq.new.spare }
+    ensures kept { length cq.old.overflow + cq.old.spare ≤ length cq.new.overflow + cq.new.spare }
+{
+    if posts_completion(entry, res) {
+        cq.post(Cqe::new(entry.user_data(), res, bytes));
     }
 }

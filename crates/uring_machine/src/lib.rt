@@ -1,20 +1,16 @@
 //! The step machine: the steps of application and dispatcher in any order, each with its answer.
 #![tactic(auto)]
 
-mod acceptance;
 mod answer;
 mod conversions;
 mod cores;
-mod counts;
 pub mod laws;
 mod machine;
-mod posting;
 mod runs;
 mod step;
 
 pub use answer::Answer;
-pub use cores::Core;
-pub use counts::Counts;
+pub use cores::{Core, Counts};
 pub use machine::Machine;
 pub use runs::run;
 pub use step::Step;

@@ -11,8 +11,7 @@ ghost use Rattle.uring_machine.specs.declared.step.Step.TheVariants as step;
 ghost use Rattle.uring_machine.specs.declared.answer.Answer.TheVariants as answer;
 
 use crate::answer::Answer;
-use crate::cores::Core;
-use crate::counts::Counts;
+use crate::cores::{Core, Counts};
 use crate::step::Step;
 use std::alloc::{AllocError, Global};
 use std::marker::Model;

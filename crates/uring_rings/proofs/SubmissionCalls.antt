@@ -9,9 +9,9 @@ use Rattle.uring_entry.specs.Layout.{Sqe}
 use Rattle.uring_entry.specs.Setup.{Setup}
 use Rattle.uring_entry.specs.IndexWords.{word_of}
 use Rattle.uring_entry.specs.Submission.{Submission, Place, Call, taken, pending, dropped, dropped_in, place_of, entries_of, places_from, with_closed}
-use Rattle.uring_rings.specs.declared.answers.take_answer.TakeAnswer.TheVariants.{Entry as Given, Dropped, NoMore}
-use Rattle.uring_rings.specs.declared.answers.end_answer.EndAnswer.TheVariants.{Taken as Closed, NotAll}
-use Rattle.uring_rings.specs.declared.open_call.OpenCall.{OpenCall}
+use Rattle.uring_rings.specs.declared.answers.TakeAnswer.TheVariants.{Entry as Given, Dropped, NoMore}
+use Rattle.uring_rings.specs.declared.answers.EndAnswer.TheVariants.{Taken as Closed, NotAll}
+use Rattle.uring_rings.specs.declared.sq.OpenCall.{OpenCall}
 use Rattle.uring_rings.specs.Sq.{Sq, ShowsSubmission, progress}
 use Rattle.uring_rings.specs.SqAnswers.{take_answer, take_in, given, taken_on, end_of, end_answer, closed_on}
 use Rattle.uring_rings.proofs.Counts.{word_after}

@@ -6,7 +6,7 @@ use Rattle.uring_entry.specs.Layout.{Sqe}
 use Rattle.uring_entry.specs.Setup.{Setup}
 use Rattle.uring_entry.specs.IndexWords.{word_of}
 use Rattle.uring_entry.specs.Submission.{Submission, Place, Call, taken, staged, pending, dropped, entries_from, place_of}
-use Rattle.uring_rings.specs.declared.open_call.OpenCall.{OpenCall}
+use Rattle.uring_rings.specs.declared.sq.OpenCall.{OpenCall}
 
 -- What the ring keeps: its size, the words of its tails and heads, the 32-bit count of dropped words, the open call, the table of entries, and the array of words that name them.
 pub record Sq : Type 0 where

@@ -5,16 +5,16 @@ use Rattle.uring_entry.specs.Layout.{Sqe}
 use Rattle.uring_entry.specs.Setup.{Setup}
 use Rattle.uring_entry.specs.IndexWords.{word_of}
 use Rattle.uring_entry.specs.Submission.{Submission, Call, taken, dropped, entries_from, is_busy, is_full, call_length, with_filled, with_staged, with_begun, with_taken, with_closed}
-use Rattle.uring_rings.specs.declared.answers.fill_answer.FillAnswer.{FillAnswer}
-use Rattle.uring_rings.specs.declared.answers.fill_answer.FillAnswer.TheVariants.{NoSlot, Busy, Filled}
-use Rattle.uring_rings.specs.declared.answers.index_answer.IndexAnswer.{IndexAnswer}
-use Rattle.uring_rings.specs.declared.answers.index_answer.IndexAnswer.TheVariants.{Full, Staged}
-use Rattle.uring_rings.specs.declared.answers.begin_answer.BeginAnswer.{BeginAnswer}
-use Rattle.uring_rings.specs.declared.answers.begin_answer.BeginAnswer.TheVariants.{InCall, Call as Opened}
-use Rattle.uring_rings.specs.declared.answers.take_answer.TakeAnswer.{TakeAnswer}
-use Rattle.uring_rings.specs.declared.answers.take_answer.TakeAnswer.TheVariants.{NoCall as NoCallToTake, NoMore, Entry as Given, Dropped}
-use Rattle.uring_rings.specs.declared.answers.end_answer.EndAnswer.{EndAnswer}
-use Rattle.uring_rings.specs.declared.answers.end_answer.EndAnswer.TheVariants.{NoCall as NoCallToEnd, NotAll, Taken as Closed}
+use Rattle.uring_rings.specs.declared.answers.FillAnswer.{FillAnswer}
+use Rattle.uring_rings.specs.declared.answers.FillAnswer.TheVariants.{NoSlot, Busy, Filled}
+use Rattle.uring_rings.specs.declared.answers.IndexAnswer.{IndexAnswer}
+use Rattle.uring_rings.specs.declared.answers.IndexAnswer.TheVariants.{Full, Staged}
+use Rattle.uring_rings.specs.declared.answers.BeginAnswer.{BeginAnswer}
+use Rattle.uring_rings.specs.declared.answers.BeginAnswer.TheVariants.{InCall, Call as Opened}
+use Rattle.uring_rings.specs.declared.answers.TakeAnswer.{TakeAnswer}
+use Rattle.uring_rings.specs.declared.answers.TakeAnswer.TheVariants.{NoCall as NoCallToTake, NoMore, Entry as Given, Dropped}
+use Rattle.uring_rings.specs.declared.answers.EndAnswer.{EndAnswer}
+use Rattle.uring_rings.specs.declared.answers.EndAnswer.TheVariants.{NoCall as NoCallToEnd, NotAll, Taken as Closed}
 
 -- A slot is filled unless there is no such slot, or a position that the application doesn't know to be taken names it. Our own rule
 abbrev pub fill_answer : ℕ → Submission → ℕ → FillAnswer

@@ -6,7 +6,6 @@
 mod answers;
 mod cq;
 mod index;
-mod open_call;
 mod sq;
 
 pub use answers::{BeginAnswer, EndAnswer, FillAnswer, IndexAnswer, TakeAnswer, Taken};

@@ -7,7 +7,6 @@ ghost use Rattle.uring_rings.specs.SqAnswers.{fill_answer, after_fill, index_ans
 
 use crate::answers::{BeginAnswer, EndAnswer, FillAnswer, IndexAnswer, TakeAnswer, Taken};
 use crate::index::Index;
-use crate::open_call::OpenCall;
 use std::alloc::{AllocError, Global};
 use std::marker::Model;
 use uring_entry::{Setup, Sqe};
@@ -30,6 +29,19 @@ pub struct Sq {
     table: Vec<Sqe>,
     // The words that name slots of the table.
     array: Vec<u32>,
+}
+
+/// How far the open submission call has come.
+#[derive(Clone, Copy, Debug, PartialEq, Eq)]
+pub struct OpenCall {
+    /// The positions that it takes.
+    pub count: u32,
+
+    /// Those of them that were taken.
+    pub taken: u32,
+
+    /// Those of the taken ones that had an entry.
+    pub accepted: u32,
 }
 
 impl Model for Sq {
@@ -78,7 +90,7 @@ impl Sq {
 
     /// Writes an entry to a slot of the table.
     ///
-    /// Refused with `NoSlot` where the slot isn't below the ring's size, else with `Busy` where a published position names it that isn't below the head last loaded. Our own rule: so no slot changes under a position, and the table may be read at `take`.
+    /// Refused with `NoSlot` if the slot isn't below the ring's size, else with `Busy` if a published position names it that isn't below the head last loaded. Our own rule: so no slot changes under a position, and the table may be read at `take`.
     pub fn fill(&mut self, slot: u32, entry: Sqe) -> FillAnswer
         ensures answer { (g : Setup) (l : Submission) → ShowsSubmission g self.old l →
             result ≡ fill_answer g.sq l slot }
@@ -98,7 +110,7 @@ impl Sq {
 
     /// Stages a word at the next position, whatever the word: one that isn't below the ring's size names no slot. io_uring(7), Submitting I/O requests.
     ///
-    /// Refused with `Full` where the positions staged and not below the head last loaded are as many as the ring's size: our own rule.
+    /// Refused with `Full` if the positions staged and not below the head last loaded are as many as the ring's size: our own rule.
     pub fn index(&mut self, word: u32) -> IndexAnswer
         ensures answer { (g : Setup) (l : Submission) → ShowsSubmission g self.old l →
             result ≡ index_answer g.sq l }
@@ -115,7 +127,7 @@ impl Sq {
         IndexAnswer::Staged
     }
 
-    /// Publishes every staged position, and answers the tail's word. io_uring(7), Submitting I/O requests. A position's entry is what its slot holds now; a slot that two positions name is copied for each: our own rule.
+    /// Publishes every staged position, and returns the tail's word. io_uring(7), Submitting I/O requests. A position's entry is what its slot holds now; a slot that two positions name is copied for each: our own rule.
     pub fn store_tail(&mut self) -> u32
         ensures answer { (g : Setup) (l : Submission) → ShowsSubmission g self.old l →
             result ≡ word_of g.start (staged l) }
@@ -126,7 +138,7 @@ impl Sq {
         self.published.0
     }
 
-    /// The application loads the head: answers its word. io_uring_setup(2), on head and tail; that `end` alone moves it is our own rule.
+    /// The application loads the head: returns its word. io_uring_setup(2), on head and tail; that `end` alone moves it is our own rule.
     pub fn load_head(&mut self) -> u32
         ensures answer { (g : Setup) (l : Submission) → ShowsSubmission g self.old l →
             result ≡ word_of g.start (taken l) }
@@ -152,9 +164,9 @@ impl Sq {
         self.call.is_some()
     }
 
-    /// Opens a call of `n` positions, or of those pending where they are fewer, and answers how many it takes. io_uring_enter(2), `to_submit` and RETURN VALUE.
+    /// Opens a call of `n` positions, or of those pending if they are fewer, and returns how many it takes. io_uring_enter(2), `to_submit` and RETURN VALUE.
     ///
-    /// Refused with `InCall` where a call is open: our own rule.
+    /// Refused with `InCall` if a call is open: our own rule.
     pub fn begin(&mut self, n: u32) -> BeginAnswer
         ensures answer { (g : Setup) (l : Submission) → ShowsSubmission g self.old l → result ≡ begin_answer l n }
         ensures shows { (g : Setup) (l : Submission) → ShowsSubmission g self.old l →
@@ -173,9 +185,9 @@ impl Sq {
         BeginAnswer::Call(count)
     }
 
-    /// Copies the entry of the open call's next position, or answers `Dropped` where its word names no slot. The call goes on behind such a word: our own rule.
+    /// Copies the entry of the open call's next position, or returns `Dropped` if its word names no slot. The call goes on behind such a word: our own rule.
     ///
-    /// Refused with `NoCall` where no call is open, and with `NoMore` where all positions of the open call are taken.
+    /// Refused with `NoCall` if no call is open, and with `NoMore` if all positions of the open call are taken.
     pub fn take(&mut self) -> TakeAnswer
         ensures answer { (g : Setup) (l : Submission) → ShowsSubmission g self.old l → result ≡ take_answer l }
         ensures shows { (g : Setup) (l : Submission) → ShowsSubmission g self.old l →
@@ -207,7 +219,7 @@ impl Sq {
 
     /// Closes the open call: the head moves past its positions, its entries are accepted, and its dropped words are counted. Before that an entry that was taken isn't accepted: our own rule.
     ///
-    /// Refused with `NoCall` where no call is open, and with `NotAll` where positions of the open call remain.
+    /// Refused with `NoCall` if no call is open, and with `NotAll` if positions of the open call remain.
     pub fn end(&mut self) -> EndAnswer
         ensures answer { (g : Setup) (l : Submission) → ShowsSubmission g self.old l → result ≡ end_answer g l }
         ensures shows { (g : Setup) (l : Submission) → ShowsSubmission g self.old l →

@@ -9,7 +9,7 @@ use Rattle.std.proofs.lemmas.Bool.{eqb-true, eqb-false, ne_eqb, cases_eq, cases_
 use Rattle.std.proofs.lemmas.List.Sums.{sum_by-cons}
 use Rattle.std.proofs.lemmas.Nat.{and_or_self, and_or_apart, or_disjoint}
 use Rattle.std.proofs.lemmas.Slice.Eq.{bytes_eq-Decides}
-use Rattle.uring_trace.specs.Words.{flag_value, NoneAgain, AreFlags}
+use Rattle.uring_trace.specs.Tokens.{flag_value, NoneAgain, AreFlags}
 use Rattle.uring_trace.specs.Reading.{letters_of, flags_of}
 use Rattle.uring_trace.proofs.Options.{chosen, some_is}
 

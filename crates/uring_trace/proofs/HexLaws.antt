@@ -9,7 +9,7 @@ use Rattle.std.proofs.lemmas.Slice.Eq.{bytes_eq-Decides}
 use Rattle.hex.specs.declared.error.FromHexError.{FromHexError}
 use Rattle.hex.specs.Hex.{◌>>=◌, IsBytes, decode_sized, decode_of, decode_pairs, pair_value, value_at, digit_or_error, encode_with, encode_lower, lower_digits, hex_digit_value}
 use Rattle.hex.proofs.HexLemmas.{decode_sized-encode_lower, decode_sized-ok, decode_sized-twice, decode_of-ok, decode_of-even, length-encode_with}
-use Rattle.uring_trace.specs.Words.{hex_or_dash}
+use Rattle.uring_trace.specs.Tokens.{hex_or_dash}
 use Rattle.uring_trace.specs.Spelling.{AreBytes}
 use Rattle.uring_trace.specs.Reading.{is_capital, hex_of, data_of}
 use Rattle.uring_trace.proofs.Options.{test_some, some_is, chosen}

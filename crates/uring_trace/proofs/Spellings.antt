@@ -11,7 +11,7 @@ use Rattle.std.proofs.lemmas.Slice.Eq.{bytes_eq-Decides}
 use Rattle.uring_entry.specs.Layout.{Sqe}
 use Rattle.uring_machine.specs.declared.step.Step.{Step}
 use Rattle.uring_machine.specs.declared.step.Step.TheVariants as step
-use Rattle.uring_trace.specs.Words.{words_of}
+use Rattle.uring_trace.specs.Tokens.{tokens_of}
 use Rattle.uring_trace.specs.Spelling.{Form, Spells, SpellsForm, IsEntryOf, IsStep, IsBad}
 use Rattle.uring_trace.specs.Reading.{ReadsStep, ReadsFill, number_of, form_of, step_of_one, step_of_two}
 use Rattle.uring_trace.proofs.Options.{chosen, some_is}
@@ -156,9 +156,9 @@ read_once (name ∷ word ∷ rest) s t r q = more_once (bytes_eq name (codes "fi
 
 -- a line is one step at most
 pub step_once : (line : List ℕ) (s t : Step) → IsStep line s → IsStep line t → s ≡ t
-step_once line s t h k = read_once (words_of line) s t (step_again (words_of line) s h.spells) (step_again (words_of line) t k.spells)
+step_once line s t h k = read_once (tokens_of line) s t (step_again (tokens_of line) s h.spells) (step_again (tokens_of line) t k.spells)
 
 -- what a line is read as
-pub read_line : (line : List ℕ) (read : Option Step) → length line ≤ 300 → ReadsStep read (words_of line) → MatchOption read (IsBad line) (IsStep line)
-read_line line None le e = λ s h. none_and_step (words_of line) s e (step_again (words_of line) s h.spells)
-read_line line (Some s) le e = record { short = le; spells = step_found (words_of line) s e }
+pub read_line : (line : List ℕ) (read : Option Step) → length line ≤ 300 → ReadsStep read (tokens_of line) → MatchOption read (IsBad line) (IsStep line)
+read_line line None le e = λ s h. none_and_step (tokens_of line) s e (step_again (tokens_of line) s h.spells)
+read_line line (Some s) le e = record { short = le; spells = step_found (tokens_of line) s e }

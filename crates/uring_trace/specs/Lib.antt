@@ -1,4 +1,4 @@
-pub mod Words
+pub mod Tokens
 pub mod Spelling
 pub mod Reading
 pub mod Text

@@ -1,4 +1,4 @@
--- Glue. What the words of a line say, read from the left: what the readers inside answer. What a line means is said in Spelling, and a proof joins the two.
+-- Glue. What the tokens of a line say, read from the left: what the readers inside answer. What a line means is said in Spelling, and a proof joins the two.
 use Rattle.std.specs.Prelude.{◌≡◌, ℕ, zero, suc, Bool, false, ℤ, pos, negsuc, ◌^◌, ◌/◌, ◌==◌, ◌&&◌, nat_lt, nat_le, List, [], ◌∷◌, length, Option, Some, None, if◌then◌else◌, codes}
 use Rattle.std.specs.Option.{option_map, IsSomeAnd}
 use Rattle.std.specs.Result.{result_ok}
@@ -11,7 +11,7 @@ use Rattle.std.specs.Int.RustNames.{bit_and, bit_or}
 use Rattle.hex.specs.Hex.{decode_sized}
 use Rattle.uring_machine.specs.declared.step.Step.{Step}
 use Rattle.uring_machine.specs.declared.step.Step.TheVariants as step
-use Rattle.uring_trace.specs.Words.{flag_value}
+use Rattle.uring_trace.specs.Tokens.{flag_value}
 use Rattle.uring_entry.specs.Layout.{Sqe}
 use Rattle.uring_trace.specs.Spelling.{Form, IsEntryOf}
 use Rattle.uring_trace.specs.Spelling as form
@@ -26,16 +26,16 @@ unfoldable pub is_numeral : List ℕ → Bool
 is_numeral [] = false
 is_numeral (b ∷ bs) = if b == 48 then length bs == 0 else list_all is_ascii_digit (b ∷ bs)
 
--- the number below the limit that a word is
+-- the number below the limit that a token is
 unfoldable pub number_of : ℕ → List ℕ → Option ℕ
-number_of limit word = if is_numeral word && nat_lt (digits_value 10 word) limit then Some (digits_value 10 word) else None
+number_of limit token = if is_numeral token && nat_lt (digits_value 10 token) limit then Some (digits_value 10 token) else None
 
 -- the negative of a number from 1 to 2 ^ 31
 abbrev pub negative_of : ℕ → Option ℤ
 negative_of zero = None
 negative_of (suc n) = if nat_lt n (2 ^ 31) then Some (negsuc n) else None
 
--- the signed number of 32 bits that a word is
+-- the signed number of 32 bits that a token is
 unfoldable pub file_of : List ℕ → Option ℤ
 file_of [] = None
 file_of (b ∷ bs) = if b == 45 then (number_of (2 ^ 64) bs >>= negative_of) else option_map (λ n. pos n) (number_of (2 ^ 31) (b ∷ bs))
@@ -48,23 +48,23 @@ letters_of flags (b ∷ bs) =
     if bit_and flags (flag_value b) == 0 then letters_of (bit_or flags (flag_value b)) bs else None
 
 unfoldable pub flags_of : List ℕ → Option ℕ
-flags_of word = if bytes_eq word (codes "-") then Some 0 else if bytes_eq word [] then None else letters_of 0 word
+flags_of token = if bytes_eq token (codes "-") then Some 0 else if bytes_eq token [] then None else letters_of 0 token
 
 abbrev pub is_capital : ℕ → Bool
 is_capital digit = nat_le 65 digit && nat_le digit 90
 
--- the bytes, so many of them, whose lower case digits the word is
+-- the bytes, so many of them, whose lower case digits the token is
 unfoldable pub hex_of : ℕ → List ℕ → Option (List ℕ)
-hex_of count word = if list_any is_capital word then None else result_ok (decode_sized word count)
+hex_of count token = if list_any is_capital token then None else result_ok (decode_sized token count)
 
 unfoldable pub data_of : List ℕ → Option (List ℕ)
-data_of word =
-    if bytes_eq word (codes "-") then Some [] else
-    if length word / 2 == 0 then None else
-    if nat_lt 64 (length word / 2) then None else
-    hex_of (length word / 2) word
+data_of token =
+    if bytes_eq token (codes "-") then Some [] else
+    if length token / 2 == 0 then None else
+    if nat_lt 64 (length token / 2) then None else
+    hex_of (length token / 2) token
 
--- The forms, by the words behind their names.
+-- The forms, by the tokens behind their names.
 
 unfoldable pub nop_of : List (List ℕ) → Option Form
 nop_of (ud ∷ fl ∷ []) = do
@@ -92,12 +92,12 @@ read_of (ud ∷ fl ∷ file ∷ at ∷ count ∷ []) = do
 read_of _ = None
 
 unfoldable pub write_of : List (List ℕ) → Option Form
-write_of (ud ∷ fl ∷ file ∷ at ∷ word ∷ []) = do
+write_of (ud ∷ fl ∷ file ∷ at ∷ token ∷ []) = do
   user_data ← number_of (2 ^ 64) ud
   flags ← flags_of fl
   fd ← file_of file
   off ← number_of (2 ^ 64) at
-  option_map (λ bytes. form.Write user_data flags fd off bytes) (data_of word)
+  option_map (λ bytes. form.Write user_data flags fd off bytes) (data_of token)
 write_of _ = None
 
 unfoldable pub cancel_of : List (List ℕ) → Option Form
@@ -117,35 +117,35 @@ op_of (op ∷ ud ∷ fl ∷ []) = do
 op_of _ = None
 
 unfoldable pub bytes_form_of : List ℕ → Option Form
-bytes_form_of word = option_map (λ bytes. form.Raw bytes) (hex_of 128 word)
+bytes_form_of token = option_map (λ bytes. form.Raw bytes) (hex_of 128 token)
 
 unfoldable pub raw_of : List (List ℕ) → Option Form
-raw_of (word ∷ []) = bytes_form_of word
+raw_of (token ∷ []) = bytes_form_of token
 raw_of _ = None
 
--- the form that the words of an entry spell
+-- the form that the tokens of an entry spell
 unfoldable pub form_of : List (List ℕ) → Option Form
 form_of [] = None
-form_of (name ∷ words) =
-    if bytes_eq name (codes "nop") then nop_of words else
-    if bytes_eq name (codes "fsync") then fsync_of words else
-    if bytes_eq name (codes "read") then read_of words else
-    if bytes_eq name (codes "write") then write_of words else
-    if bytes_eq name (codes "cancel") then cancel_of words else
-    if bytes_eq name (codes "op") then op_of words else
-    if bytes_eq name (codes "raw") then raw_of words else None
+form_of (name ∷ tokens) =
+    if bytes_eq name (codes "nop") then nop_of tokens else
+    if bytes_eq name (codes "fsync") then fsync_of tokens else
+    if bytes_eq name (codes "read") then read_of tokens else
+    if bytes_eq name (codes "write") then write_of tokens else
+    if bytes_eq name (codes "cancel") then cancel_of tokens else
+    if bytes_eq name (codes "op") then op_of tokens else
+    if bytes_eq name (codes "raw") then raw_of tokens else None
 
 -- what a reader answers of the entry of a form
 abbrev pub ReadsEntry : Option Sqe → Option Form → Type 0
 ReadsEntry read None = read ≡ None
 ReadsEntry read (Some f) = IsSomeAnd read (IsEntryOf f)
 
--- the step of a slot and of what a reader answers of an entry's words
+-- the step of a slot and of what a reader answers of an entry's tokens
 abbrev pub ReadsFill : Option Step → Option ℕ → Option Form → Type 0
 ReadsFill read (Some slot) (Some f) = (entry : Sqe) × (read ≡ Some (step.Fill slot entry)) × IsEntryOf f entry
 ReadsFill read _ _ = read ≡ None
 
--- the step of one word
+-- the step of one token
 unfoldable pub step_of_one : List ℕ → Option Step
 step_of_one name =
     if bytes_eq name (codes "tail") then Some step.StoreTail else
@@ -161,15 +161,15 @@ step_of_one name =
 
 -- the step of a name and a number
 unfoldable pub step_of_two : List ℕ → List ℕ → Option Step
-step_of_two name word =
-    if bytes_eq name (codes "index") then option_map (λ n. step.Index n) (number_of (2 ^ 32) word) else
-    if bytes_eq name (codes "begin") then option_map (λ n. step.Begin n) (number_of (2 ^ 32) word) else
-    if bytes_eq name (codes "issue") then option_map (λ n. step.Issue n) (number_of (2 ^ 64) word) else
-    if bytes_eq name (codes "finish") then option_map (λ n. step.Finish n) (number_of (2 ^ 64) word) else None
+step_of_two name token =
+    if bytes_eq name (codes "index") then option_map (λ n. step.Index n) (number_of (2 ^ 32) token) else
+    if bytes_eq name (codes "begin") then option_map (λ n. step.Begin n) (number_of (2 ^ 32) token) else
+    if bytes_eq name (codes "issue") then option_map (λ n. step.Issue n) (number_of (2 ^ 64) token) else
+    if bytes_eq name (codes "finish") then option_map (λ n. step.Finish n) (number_of (2 ^ 64) token) else None
 
--- What a reader answers of a line's words.
+-- What a reader answers of a line's tokens.
 abbrev pub ReadsStep : Option Step → List (List ℕ) → Type 0
 ReadsStep read [] = read ≡ None
 ReadsStep read (name ∷ []) = read ≡ step_of_one name
-ReadsStep read (name ∷ word ∷ rest) =
-    MatchBool (bytes_eq name (codes "fill")) (ReadsFill read (number_of (2 ^ 32) word) (form_of rest)) (read ≡ (if length rest == 0 then step_of_two name word else None))
+ReadsStep read (name ∷ token ∷ rest) =
+    MatchBool (bytes_eq name (codes "fill")) (ReadsFill read (number_of (2 ^ 32) token) (form_of rest)) (read ≡ (if length rest == 0 then step_of_two name token else None))

@@ -4,7 +4,7 @@ use Rattle.std.specs.Fmt.{decimal, signed_decimal}
 use Rattle.uring_entry.specs.Layout.{Sqe, Cqe, user_data_of}
 use Rattle.uring_machine.specs.declared.answer.Answer.{Answer}
 use Rattle.uring_machine.specs.declared.answer.Answer.TheVariants as answer
-use Rattle.uring_trace.specs.Words.{hex_or_dash}
+use Rattle.uring_trace.specs.Tokens.{hex_or_dash}
 
 -- a byte put before others; a zero before none is dropped
 abbrev pub before_others : ℕ → List ℕ → List ℕ

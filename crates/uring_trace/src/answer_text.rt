@@ -2,7 +2,7 @@
 
 ghost use Rattle.std.specs.Prelude.{◌≡◌, ◌++◌, OnOk, string_bytes, decimal};
 ghost use Rattle.uring_machine.specs.declared.answer.Answer.TheVariants as answer;
-ghost use Rattle.uring_trace.specs.Words.{hex_or_dash};
+ghost use Rattle.uring_trace.specs.Tokens.{hex_or_dash};
 ghost use Rattle.uring_trace.specs.Text.{text_of, completion_text, trimmed};
 
 use std::alloc::{AllocError, Global};

@@ -2,11 +2,11 @@
 #![tactic(auto)]
 
 mod answer_text;
-mod entry_words;
-mod flag_words;
-mod hex_words;
+mod entry_tokens;
+mod flag_tokens;
+mod hex_tokens;
 pub mod laws;
-mod number_words;
+mod number_tokens;
 mod session;
 mod step_lines;
 mod streams;

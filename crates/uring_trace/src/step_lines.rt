@@ -1,12 +1,12 @@
 //! The lines that are steps.
 
 ghost use Rattle.std.specs.Prelude.{◌≡◌, ◌≤◌, ◌^◌, IfOk, MatchOption, length, map};
-ghost use Rattle.uring_trace.specs.Words.{words_of};
+ghost use Rattle.uring_trace.specs.Tokens.{tokens_of};
 ghost use Rattle.uring_trace.specs.Spelling.{IsStep, IsBad};
 ghost use Rattle.uring_trace.specs.Reading.{ReadsStep, ReadsFill, form_of, number_of, step_of_one, step_of_two};
 
-use crate::entry_words::{is, read_entry};
-use crate::number_words::{number, small_number};
+use crate::entry_tokens::{is, read_entry};
+use crate::number_tokens::{number, small_number};
 use std::alloc::{AllocError, Global};
 use uring_machine::Step;
 
@@ -18,35 +18,35 @@ pub(crate) fn read_step(alloc: Global, line: &[u8]) -> Result<Option<Step>, Allo
     requires { length line.now ≤ 300 }
     ensures { IfOk result (λ read. MatchOption read (IsBad line.now) (IsStep line.now)) }
 {
-    let words = split(alloc, line)?;
-    Ok(read_words(words.as_slice()))
+    let tokens = split(alloc, line)?;
+    Ok(read_words(tokens.as_slice()))
 }
 
-/// The words of a line: what stands between its spaces.
+/// The tokens of a line: what stands between its spaces.
 fn split(alloc: Global, line: &[u8]) -> Result<Vec<&[u8]>, AllocError>
-    ensures { IfOk result (λ words. map (λ word. word.now) words.items ≡ words_of line.now) }
+    ensures { IfOk result (λ tokens. map (λ token. token.now) tokens.items ≡ tokens_of line.now) }
 {
     line.split(|byte| *byte == b' ').collect(alloc)
 }
 
-/// The step that these words spell.
-fn read_words(words: &[&[u8]]) -> Option<Step>
-    ensures { ReadsStep result (map (λ word. word.now) words.now) }
+/// The step that these tokens spell.
+fn read_words(tokens: &[&[u8]]) -> Option<Step>
+    ensures { ReadsStep result (map (λ token. token.now) tokens.now) }
 {
-    let (name, words) = words.split_first()?;
-    let Some((word, words)) = words.split_first() else {
+    let (name, tokens) = tokens.split_first()?;
+    let Some((token, tokens)) = tokens.split_first() else {
         return step_of_name(name);
     };
     if is(name, "fill") {
-        fill(word, words)
-    } else if words.is_empty() {
-        step_of_number(name, word)
+        fill(token, tokens)
+    } else if tokens.is_empty() {
+        step_of_number(name, token)
     } else {
         None
     }
 }
 
-/// The step of one word.
+/// The step of one token.
 #[tactic(auto, unfolding(crate::specs::Reading::step_of_one))]
 fn step_of_name(name: &[u8]) -> Option<Step>
     ensures { result ≡ step_of_one name.now }
@@ -68,29 +68,29 @@ fn step_of_name(name: &[u8]) -> Option<Step>
 
 /// The step of a name and a number.
 #[tactic(auto, unfolding(crate::specs::Reading::step_of_two))]
-fn step_of_number(name: &[u8], word: &[u8]) -> Option<Step>
-    ensures { result ≡ step_of_two name.now word.now }
+fn step_of_number(name: &[u8], token: &[u8]) -> Option<Step>
+    ensures { result ≡ step_of_two name.now token.now }
 {
     match name {
         _ if is(name, "index") => Some(Step::Index {
-            word: small_number(word)?,
+            word: small_number(token)?,
         }),
         _ if is(name, "begin") => Some(Step::Begin {
-            count: small_number(word)?,
+            count: small_number(token)?,
         }),
         _ if is(name, "issue") => Some(Step::Issue {
-            number: number(word)?,
+            number: number(token)?,
         }),
         _ if is(name, "finish") => Some(Step::Finish {
-            number: number(word)?,
+            number: number(token)?,
         }),
         _ => None,
     }
 }
 
-/// A fill of a slot with the entry of these words.
+/// A fill of a slot with the entry of these tokens.
 fn fill(slot: &[u8], entry: &[&[u8]]) -> Option<Step>
-    ensures { ReadsFill result (number_of (2 ^ 32) slot.now) (form_of (map (λ word. word.now) entry.now)) }
+    ensures { ReadsFill result (number_of (2 ^ 32) slot.now) (form_of (map (λ token. token.now) entry.now)) }
 {
     Some(Step::Fill {
         slot: small_number(slot)?,

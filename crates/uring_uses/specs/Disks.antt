@@ -3,7 +3,7 @@ use Rattle.std.specs.Prelude.{◌≡◌, ◌≤◌, ℕ, ℤ, pos, neg_ℤ, ◌�
 use Rattle.uring_entry.specs.declared.operation.Op.{Op}
 use Rattle.uring_entry.specs.declared.operation.Op.TheVariants.{Write}
 use Rattle.uring_uses.specs.declared.disk.TheConstants.{EIO}
-use Rattle.uring_entry.specs.declared.outcomes.Outcome.{Outcome}
+use Rattle.uring_entry.specs.declared.operation.Outcome.{Outcome}
 
 -- a write of so many blocks failed with EIO, or moved so many blocks, all of them or fewer
 abbrev pub IsMoved : ℕ → ℤ → Type 0

@@ -38,7 +38,7 @@ invariant_of-self-2 c = (
 
 pub returns-clause-fits : goal.returns-clause-fits
 returns-clause-fits c =
-    rw (c.tell_begin.ensures, ← c.self.view_is) (call_goes _ c.begin.new.self c.reserve-2.new.self c.reserve.new.self c.args.count c.from-length.result c.begin.result
+    rw (c.from.ensures, ← c.self.view_is) (call_goes _ c.begin.new.self c.reserve-2.new.self c.reserve.new.self c.args.count c.from-length.result c.begin.result
     (may_open _ c.args.count _ _ _ _ c.if-self.false c.if-in_call.false c.in_call.ensures c.pending.ensures.value c.min.ensures c.from-length.ensures)
     (within_unless _ _ (λ above. let bad = c.reserve.ensures.spent.1 above in let is = c.in-Ok.is in cc))
     c.reserve.ensures.counts c.in-Ok.ensures.ok c.reserve.ensures.between c.reserve.ensures.shows c.reserve-2.ensures.shows

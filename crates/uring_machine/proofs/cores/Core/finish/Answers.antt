@@ -11,11 +11,11 @@ unreachable-requires c = finished_there _ c.args.number c.self.invariant.1.1 c.s
 pub invariant_of-self : goal.invariant_of-self
 invariant_of-self c = (
   c.self.invariant.0,
-  core_after _ _ _ refl (finish_goes _ c.finish.new.self c.tell.new.cq c.args.number c.args.outcome.res c.args.outcome.bytes c.in-Some.entry c.in-Ended.ensures.answer (λ r s. sym c.in-Some.is ∙ c.entry-entry.ensures r s)
-      c.in-Ended.ensures.shows c.in-Ended.ensures.counts (simp (to_z-of_z w32 c.args.outcome.res (search rules)) at c.tell.ensures.shows) c.tell.ensures.room c.tell.ensures.promised) c.self.invariant.1,
+  core_after _ _ _ refl (finish_goes _ c.finish.new.self c.post_end.new.cq c.args.number c.args.outcome.res c.args.outcome.bytes c.in-Some.entry c.in-Ended.ensures.answer (λ r s. sym c.in-Some.is ∙ c.entry-entry.ensures r s)
+      c.in-Ended.ensures.shows c.in-Ended.ensures.counts (simp (to_z-of_z w32 c.args.outcome.res (search rules)) at c.post_end.ensures.shows) c.post_end.ensures.room c.post_end.ensures.promised) c.self.invariant.1,
 )
 
 pub returns-in-Some-clause-fits : goal.returns-in-Some-clause-fits
 returns-in-Some-clause-fits c =
-    rw (simp (to_z-of_z w32 c.args.outcome.res (search rules)) at c.tell_end.ensures, ← c.self.view_is) (finish_goes _ c.finish.new.self c.tell.new.cq c.args.number c.args.outcome.res c.args.outcome.bytes c.in-Some.entry c.in-Ended.ensures.answer (λ r s. sym c.in-Some.is ∙ c.entry-entry.ensures r s)
-    c.in-Ended.ensures.shows c.in-Ended.ensures.counts (simp (to_z-of_z w32 c.args.outcome.res (search rules)) at c.tell.ensures.shows) c.tell.ensures.room c.tell.ensures.promised)
+    rw (simp (to_z-of_z w32 c.args.outcome.res (search rules)) at c.ended.ensures, ← c.self.view_is) (finish_goes _ c.finish.new.self c.post_end.new.cq c.args.number c.args.outcome.res c.args.outcome.bytes c.in-Some.entry c.in-Ended.ensures.answer (λ r s. sym c.in-Some.is ∙ c.entry-entry.ensures r s)
+    c.in-Ended.ensures.shows c.in-Ended.ensures.counts (simp (to_z-of_z w32 c.args.outcome.res (search rules)) at c.post_end.ensures.shows) c.post_end.ensures.room c.post_end.ensures.promised)
