@@ -2,7 +2,7 @@
 -- `change_of` makes one of each event that was called for: a proof by cases over events has eighteen cases by it, and `refuses` is the one of all that change nothing.
 -- From the definitions of the answers alone.
 -- Stable: other crates may import `Change` with its cases and `change_of`.
-use Rattle.std.proofs.Common.{◌≡◌, ℕ, ◌+◌, ℤ, Bool, true, false, not, nat_lt, eqb, List, length, Option, Some, None, is_some, if◌then◌else◌, slice_get, refl, sym, subst, inl, inr}
+use Rattle.std.proofs.Common.{◌≡◌, ℕ, ◌+◌, ℤ, Bool, true, false, not, nat_lt, eqb, List, length, Option, Some, None, is_some, if◌then◌else◌, slice_get, refl, sym, subst, inl, inr, rules}
 use Rattle.uring_entry.specs.Setup.{Setup}
 use Rattle.uring_entry.specs.Layout.{Sqe, Cqe}
 use Rattle.uring_entry.specs.Preparation.{is_cancel}
@@ -61,23 +61,19 @@ pub data Change (g : Setup) (w : World) : Step → Answer → Type 0 where
   stores_head : (head : ℕ) → Change g w step.StoreCqHead (answer.Head head)
   shuts : w.submission.call ≡ None → Change g w step.Close answer.Shut
 
--- a refusal that computes
-silent : {e : Event} → started_by e ≡ None → end_told_by e ≡ None → reaped_by e ≡ None → staged_by e ≡ None → ((slot : ℕ) → filled_by slot e ≡ None) → entry_taken_by e ≡ None → takes_position e ≡ false → opened_by e ≡ None → closes_call e ≡ false → takes_in e ≡ false → is_store_tail e ≡ false → is_load_head e ≡ false → is_flush e ≡ false → is_load_cq_tail e ≡ false → is_store_cq_head e ≡ false → opens_call e ≡ false → accepted_by e ≡ None → closes_ring e ≡ false → IsSilent e
-silent a b c d f h i j k l m n o p q r s t =
-    record { starts = a; ends = b; reaps = c; stages = d; fills = f; takes_entry = h; takes = i; opens = j; closes = k; takes_into = l; stores_tail = m; loads_head = n; flushes = o; loads_cq_tail = p; stores_cq_head = q; opens_none = r; accepts = s; shuts_none = t }
-
+-- A refusal tells nothing, as it computes.
 module _ (g : Setup) (w : World) where
   fill_of : (slot : ℕ) (entry : Sqe) (beyond busy : Bool) → is_busy w.submission slot ≡ busy → Change g w (step.Fill slot entry) (if beyond then answer.NoSlot else (if busy then answer.Busy else answer.Filled))
-  fill_of slot entry true busy e = refuses _ _ (λ v. refl) (silent refl refl refl refl (λ s. refl) refl refl refl refl refl refl refl refl refl refl refl refl refl)
-  fill_of slot entry false true e = refuses _ _ (λ v. refl) (silent refl refl refl refl (λ s. refl) refl refl refl refl refl refl refl refl refl refl refl refl refl)
+  fill_of slot entry true busy e = refuses _ _ (λ v. refl) (search rules)
+  fill_of slot entry false true e = refuses _ _ (λ v. refl) (search rules)
   fill_of slot entry false false e = fills slot entry e
 
   index_of : (word : ℕ) (full : Bool) → is_full g.sq w.submission ≡ full → Change g w (step.Index word) (if full then answer.Full else answer.Staged)
-  index_of word true e = refuses _ _ (λ v. refl) (silent refl refl refl refl (λ s. refl) refl refl refl refl refl refl refl refl refl refl refl refl refl)
+  index_of word true e = refuses _ _ (λ v. refl) (search rules)
   index_of word false e = stages word e
 
   again : (count : ℕ) → Change g w (step.Begin count) answer.Again
-  again count = refuses _ _ (λ v. refl) (silent refl refl refl refl (λ s. refl) refl refl refl refl refl refl refl refl refl refl refl refl refl)
+  again count = refuses _ _ (λ v. refl) (search rules)
 
   no_call : (call : Option Call) → is_some call ≡ false → call ≡ None
   no_call None e = refl
@@ -85,14 +81,14 @@ module _ (g : Setup) (w : World) where
 
   begin_of : (count : ℕ) (a : Answer) (is_closed in_call spent : Bool) → w.is_closed ≡ is_closed → is_some w.submission.call ≡ in_call
       → OrAgain (if is_closed then answer.Closed else (if in_call then answer.InCall else (if spent then answer.Spent else answer.Call (call_length w.submission count)))) a → Change g w (step.Begin count) a
-  begin_of count a true in_call spent e f h = subst (Change g w (step.Begin count)) (sym h) (refuses _ _ (λ v. refl) (silent refl refl refl refl (λ s. refl) refl refl refl refl refl refl refl refl refl refl refl refl refl))
-  begin_of count a false true spent e f h = subst (Change g w (step.Begin count)) (sym h) (refuses _ _ (λ v. refl) (silent refl refl refl refl (λ s. refl) refl refl refl refl refl refl refl refl refl refl refl refl refl))
-  begin_of count a false false true e f h = subst (Change g w (step.Begin count)) (sym h) (refuses _ _ (λ v. refl) (silent refl refl refl refl (λ s. refl) refl refl refl refl refl refl refl refl refl refl refl refl refl))
+  begin_of count a true in_call spent e f h = subst (Change g w (step.Begin count)) (sym h) (refuses _ _ (λ v. refl) (search rules))
+  begin_of count a false true spent e f h = subst (Change g w (step.Begin count)) (sym h) (refuses _ _ (λ v. refl) (search rules))
+  begin_of count a false false true e f h = subst (Change g w (step.Begin count)) (sym h) (refuses _ _ (λ v. refl) (search rules))
   begin_of count a false false false e f (inl h) = subst (Change g w (step.Begin count)) (sym h) (begins count e (no_call w.submission.call f))
   begin_of count a false false false e f (inr h) = subst (Change g w (step.Begin count)) (sym h.0) (again count)
 
   place_of : (call : Call) (place : Option Place) → w.submission.call ≡ Some call → eqb call.taken call.count ≡ false → slice_get w.submission.published (taken w.submission + call.taken) ≡ place → Change g w step.Take (place_answer place)
-  place_of call None e f h = refuses _ _ (λ v. refl) (silent refl refl refl refl (λ s. refl) refl refl refl refl refl refl refl refl refl refl refl refl refl)
+  place_of call None e f h = refuses _ _ (λ v. refl) (search rules)
   place_of call (Some place) e f h = entry_of_place place.entry refl where
     entry_of_place : (entry : Option Sqe) → place.entry ≡ entry → Change g w step.Take (entry_answer entry)
     entry_of_place None k = drops call place e f h k
@@ -100,48 +96,48 @@ module _ (g : Setup) (w : World) where
 
   take_in_call : (call : Call) (full : Bool) → w.submission.call ≡ Some call → eqb call.taken call.count ≡ full
       → Change g w step.Take (if full then answer.NoMore else place_answer (slice_get w.submission.published (taken w.submission + call.taken)))
-  take_in_call call true e f = refuses _ _ (λ v. refl) (silent refl refl refl refl (λ s. refl) refl refl refl refl refl refl refl refl refl refl refl refl refl)
+  take_in_call call true e f = refuses _ _ (λ v. refl) (search rules)
   take_in_call call false e f = place_of call _ e f refl
 
   take_of : (call : Option Call) → w.submission.call ≡ call → Change g w step.Take (take_answer_in w call)
-  take_of None e = refuses _ _ (λ v. refl) (silent refl refl refl refl (λ s. refl) refl refl refl refl refl refl refl refl refl refl refl refl refl)
+  take_of None e = refuses _ _ (λ v. refl) (search rules)
   take_of (Some call) e = take_in_call call _ e refl
 
   end_in_call : (call : Call) (few : Bool) (accepted missed head : ℕ) → w.submission.call ≡ Some call → nat_lt call.taken call.count ≡ few → accepted ≡ length (entries_of (places_from w.submission call.count))
       → Change g w step.End (if few then answer.NotAll else answer.Taken accepted missed head)
-  end_in_call call true accepted missed head e f counted = refuses _ _ (λ v. refl) (silent refl refl refl refl (λ s. refl) refl refl refl refl refl refl refl refl refl refl refl refl refl)
+  end_in_call call true accepted missed head e f counted = refuses _ _ (λ v. refl) (search rules)
   end_in_call call false accepted missed head e f counted = closes accepted missed head call e f counted
 
   end_of : (call : Option Call) → w.submission.call ≡ call → Change g w step.End (end_answer_in g w call)
-  end_of None e = refuses _ _ (λ v. refl) (silent refl refl refl refl (λ s. refl) refl refl refl refl refl refl refl refl refl refl refl refl refl)
+  end_of None e = refuses _ _ (λ v. refl) (search rules)
   end_of (Some call) e = end_in_call call _ _ _ _ e refl refl
 
   issue_of : (n : ℕ) (outstanding running doomed ready cancel : Bool) → is_outstanding w.requests n ≡ outstanding → is_running w.requests n ≡ running → is_doomed w.requests n ≡ doomed → is_ready w.requests n ≡ ready → is_cancel (entry_of w.requests n) ≡ cancel
       → Change g w (step.Issue n)
       (if not outstanding then answer.Unknown else (if running then answer.Running else (if doomed then answer.Ended (doomed_result w.requests n) no_bytes else (if not ready then answer.NotReady else (if cancel then answer.Ended (cancel_result w.requests n) no_bytes else answer.Run)))))
-  issue_of n false running doomed ready cancel e f h i j = refuses _ _ (λ v. refl) (silent refl refl refl refl (λ s. refl) refl refl refl refl refl refl refl refl refl refl refl refl refl)
-  issue_of n true true doomed ready cancel e f h i j = refuses _ _ (λ v. refl) (silent refl refl refl refl (λ s. refl) refl refl refl refl refl refl refl refl refl refl refl refl refl)
+  issue_of n false running doomed ready cancel e f h i j = refuses _ _ (λ v. refl) (search rules)
+  issue_of n true true doomed ready cancel e f h i j = refuses _ _ (λ v. refl) (search rules)
   issue_of n true false true ready cancel e f h i j = dooms n e f h
-  issue_of n true false false false cancel e f h i j = refuses _ _ (λ v. refl) (silent refl refl refl refl (λ s. refl) refl refl refl refl refl refl refl refl refl refl refl refl refl)
+  issue_of n true false false false cancel e f h i j = refuses _ _ (λ v. refl) (search rules)
   issue_of n true false false true true e f h i j = cancels n e f h i j
   issue_of n true false false true false e f h i j = runs n e f h i
 
   finish_of : (n : ℕ) (running : Bool) (a : Answer) → is_running w.requests n ≡ running → FinishesApart running a → Change g w (step.Finish n) a
-  finish_of n false a e h = subst (Change g w (step.Finish n)) (sym h) (refuses _ _ (λ v. refl) (silent refl refl refl refl (λ s. refl) refl refl refl refl refl refl refl refl refl refl refl refl refl))
+  finish_of n false a e h = subst (Change g w (step.Finish n)) (sym h) (refuses _ _ (λ v. refl) (search rules))
   finish_of n true (answer.Ended res bytes) e h = finishes n res bytes e
   finish_of n true _ e h = absurd h
 
   reap_of : (completion : Option Cqe) → next_to_reap w.completions ≡ completion → Change g w step.Reap (reap_answer_of completion)
-  reap_of None e = refuses _ _ (λ v. refl) (silent refl refl refl refl (λ s. refl) refl refl refl refl refl refl refl refl refl refl refl refl refl)
+  reap_of None e = refuses _ _ (λ v. refl) (search rules)
   reap_of (Some completion) e = reaps completion e
 
   close_of : (in_call : Bool) → is_some w.submission.call ≡ in_call → Change g w step.Close (if in_call then answer.InCall else answer.Shut)
-  close_of true e = refuses _ _ (λ v. refl) (silent refl refl refl refl (λ s. refl) refl refl refl refl refl refl refl refl refl refl refl refl refl)
+  close_of true e = refuses _ _ (λ v. refl) (search rules)
   close_of false e = shuts (no_call w.submission.call e)
 
   next_of_answer : (n : Option ℕ) → Change g w step.Next (next_answer_of n)
-  next_of_answer None = refuses _ _ (λ v. refl) (silent refl refl refl refl (λ s. refl) refl refl refl refl refl refl refl refl refl refl refl refl refl)
-  next_of_answer (Some n) = refuses _ _ (λ v. refl) (silent refl refl refl refl (λ s. refl) refl refl refl refl refl refl refl refl refl refl refl refl refl)
+  next_of_answer None = refuses _ _ (λ v. refl) (search rules)
+  next_of_answer (Some n) = refuses _ _ (λ v. refl) (search rules)
 
   pub change_of : (s : Step) (a : Answer) → CalledForApart g w s a → Change g w s a
   change_of (step.Fill slot entry) a e = subst (Change g w (step.Fill slot entry)) (sym e) (fill_of slot entry _ _ refl)

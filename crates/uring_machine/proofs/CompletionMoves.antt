@@ -1,6 +1,6 @@
 -- What an event makes of the completion ring, each with what is known of it because its answer was called for.
 -- `stays` is the frame of all that leave the ring as it was: whatever became of the rest, they tell nothing of it.
-use Rattle.std.proofs.Common.{◌≡◌, ℕ, ℤ, Bool, false, List, [], ◌∷◌, ◌++◌, Some, None, refl, sym, subst, append-nil}
+use Rattle.std.proofs.Common.{◌≡◌, ℕ, ℤ, Bool, false, List, [], ◌∷◌, ◌++◌, Some, None, refl, sym, subst, append-nil, rules}
 use Rattle.uring_entry.specs.Setup.{Setup}
 use Rattle.uring_entry.specs.Layout.{Sqe, Cqe}
 use Rattle.uring_entry.specs.Submission.{Submission, entries_of, places_from}
@@ -42,28 +42,24 @@ pub data CompletionMove (g : Setup) (w : World) : Step → Answer → World → 
       → CompletionMove g w step.Reap (answer.Reaped completion) (record w { completions = with_reaped w.completions completion })
   stores_head : (head : ℕ) → CompletionMove g w step.StoreCqHead (answer.Head head) (record w { completions = with_head_stored w.completions })
 
--- an event of another ring, which computes
-off : {e : Event} → reaped_by e ≡ None → is_flush e ≡ false → is_load_cq_tail e ≡ false → is_store_cq_head e ≡ false → IsOffCompletions e
-off a b c d = record { reaps = a; flushes = b; loads_cq_tail = c; stores_cq_head = d }
-
 same_ends : (r : Requests) → LeavesEnds r r
 same_ends r = record { more = []; accepted = sym (append-nil r.accepted); ended = refl }
 
 pub completion_move : (g : Setup) (w : World) (s : Step) (a : Answer) → Change g w s a → CompletionMove g w s a (happens g w s a)
 completion_move g w s a (event_refuses _ _ same i) =
-    subst (CompletionMove g w s a) (sym (same w)) (stays s a w.submission w.requests w.is_closed (off i.reaps i.flushes i.loads_cq_tail i.stores_cq_head) i.ends (same_ends w.requests))
+    subst (CompletionMove g w s a) (sym (same w)) (stays s a w.submission w.requests w.is_closed (assumption i) i.ends (same_ends w.requests))
 completion_move g w s a (event_takes entry call place opened left at valid) =
-    subst (λ o. CompletionMove g w step.Take (answer.Entry entry) (taking_of w o)) (sym opened) (stays _ _ _ _ _ (off refl refl refl refl) refl (same_ends w.requests))
+    subst (λ o. CompletionMove g w step.Take (answer.Entry entry) (taking_of w o)) (sym opened) (stays _ _ _ _ _ (search rules) refl (same_ends w.requests))
 completion_move g w s a (event_drops call place opened left at invalid) =
-    subst (λ o. CompletionMove g w step.Take answer.Dropped (taking_of w o)) (sym opened) (stays _ _ _ _ _ (off refl refl refl refl) refl (same_ends w.requests))
+    subst (λ o. CompletionMove g w step.Take answer.Dropped (taking_of w o)) (sym opened) (stays _ _ _ _ _ (search rules) refl (same_ends w.requests))
 completion_move g w s a (event_closes accepted missed head call opened all counted) =
-    subst (λ o. CompletionMove g w step.End (answer.Taken accepted missed head) (ending_of w o)) (sym opened) (stays _ _ _ _ _ (off refl refl refl refl) refl (record { more = entries_of (places_from w.submission call.count); accepted = refl; ended = refl }))
-completion_move g w s a (event_runs n outstanding idle spared ready) = stays _ _ _ _ _ (off refl refl refl refl) refl (record { more = []; accepted = sym (append-nil w.requests.accepted); ended = refl })
-completion_move g w s a (event_dooms n outstanding idle doomed) = ends _ _ n _ _ _ (off refl refl refl refl) refl refl refl
-completion_move g w s a (event_cancels n outstanding idle spared ready cancel) = ends _ _ n _ _ _ (off refl refl refl refl) refl refl refl
-completion_move g w s a (event_finishes n res bytes running) = ends _ _ n res bytes _ (off refl refl refl refl) refl refl refl
+    subst (λ o. CompletionMove g w step.End (answer.Taken accepted missed head) (ending_of w o)) (sym opened) (stays _ _ _ _ _ (search rules) refl (record { more = entries_of (places_from w.submission call.count); accepted = refl; ended = refl }))
+completion_move g w s a (event_runs n outstanding idle spared ready) = stays _ _ _ _ _ (search rules) refl (record { more = []; accepted = sym (append-nil w.requests.accepted); ended = refl })
+completion_move g w s a (event_dooms n outstanding idle doomed) = ends _ _ n _ _ _ (search rules) refl refl refl
+completion_move g w s a (event_cancels n outstanding idle spared ready cancel) = ends _ _ n _ _ _ (search rules) refl refl refl
+completion_move g w s a (event_finishes n res bytes running) = ends _ _ n res bytes _ (search rules) refl refl refl
 completion_move g w s a (event_flushes moved) = flushes moved
 completion_move g w s a (event_sees_tail tail) = sees_tail tail
 completion_move g w s a (event_reaps completion next) = reaps completion next
 completion_move g w s a (event_stores_head head) = stores_head head
-completion_move g w s a _ = stays _ _ _ _ _ (off refl refl refl refl) refl (same_ends w.requests)
+completion_move g w s a _ = stays _ _ _ _ _ (search rules) refl (same_ends w.requests)

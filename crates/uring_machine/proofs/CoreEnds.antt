@@ -50,19 +50,24 @@ pub record Ends (p : Core) (w : World) (q : Sq) (d : Dispatch) (a : Answer) (c :
 sum_more : (ns : List ℕ) (n : ℕ) → sum (ns ++ n ∷ []) ≡ sum ns + n
 sum_more ns n = grind (arith, common_steps)
 
+-- what is told of a call that took all its positions
+abbrev taken_by : Setup → Submission → Call → Taken
+taken_by g l call =
+    record { accepted = length (entries_of (places_from l call.count)); dropped = dropped (with_closed l call); head = word_of g.start (taken (with_closed l call)) }
+
 all_taken : (g : Setup) (l : Submission) (call : Call) (t : Taken) → ended_as.Taken t ≡ ring.end_of g l (Some call) → eqb call.taken call.count ≡ true
 all_taken g l call t e =
     elim (cases_Bool (eqb call.taken call.count)) [
       | inl all ↦ all
-      | inr more ↦ absurd (let f : ended_as.Taken t ≡ ended_as.NotAll = e ∙ ap (λ b. cond b (ended_as.Taken (record { accepted = length (entries_of (places_from l call.count)); dropped = dropped (with_closed l call); head = word_of g.start (taken (with_closed l call)) })) ended_as.NotAll) more in cc)
+      | inr more ↦ absurd (let f : ended_as.Taken t ≡ ended_as.NotAll = e ∙ ap (λ b. cond b (ended_as.Taken (taken_by g l call)) ended_as.NotAll) more in cc)
     ]
 
 told_taken : (g : Setup) (l : Submission) (call : Call) (t : Taken) → ended_as.Taken t ≡ ring.end_of g l (Some call)
-    → t ≡ record { accepted = length (entries_of (places_from l call.count)); dropped = dropped (with_closed l call); head = word_of g.start (taken (with_closed l call)) }
+    → t ≡ taken_by g l call
 told_taken g l call t e =
     let all = all_taken g l call t e in
-    let f : ended_as.Taken t ≡ ended_as.Taken (record { accepted = length (entries_of (places_from l call.count)); dropped = dropped (with_closed l call); head = word_of g.start (taken (with_closed l call)) }) =
-    e ∙ ap (λ b. cond b (ended_as.Taken (record { accepted = length (entries_of (places_from l call.count)); dropped = dropped (with_closed l call); head = word_of g.start (taken (with_closed l call)) })) ended_as.NotAll) all in
+    let f : ended_as.Taken t ≡ ended_as.Taken (taken_by g l call) =
+    e ∙ ap (λ b. cond b (ended_as.Taken (taken_by g l call)) ended_as.NotAll) all in
     cc
 
 closed_shows : (p : Core) (w : World) (q : Sq) (d : Dispatch) (call : Call) → ShowsWorld p w → w.submission.call ≡ Some call → call.taken ≡ call.count → Accepts p d
@@ -110,7 +115,7 @@ end_not_all : (g : Setup) (w : World) (c : Option Call) → IfSome c (λ call. (
 end_not_all g w None fits e = absurd (let f : ended_as.NotAll ≡ ended_as.NoCall = e in cc)
 end_not_all g w (Some call) fits e =
     elim (cases_Bool (eqb call.taken call.count)) [
-      | inl all ↦ absurd (let f : ended_as.NotAll ≡ ended_as.Taken _ = e ∙ ap (λ b. cond b (ended_as.Taken (record { accepted = length (entries_of (places_from w.submission call.count)); dropped = dropped (with_closed w.submission call); head = word_of g.start (taken (with_closed w.submission call)) })) ended_as.NotAll) all in cc)
+      | inl all ↦ absurd (let f : ended_as.NotAll ≡ ended_as.Taken _ = e ∙ ap (λ b. cond b (ended_as.Taken (taken_by g w.submission call)) ended_as.NotAll) all in cc)
       | inr more ↦
           let ne = eqb-false call.taken call.count more in
           let less : nat_lt call.taken call.count ≡ true = lt-ltb call.taken call.count (omega arith) in

@@ -70,6 +70,26 @@ none_called h w e none_opened none_closed idle i =
       since = same_since e h w.submission.call none_opened idle i.since;
     }
 
+-- what an event leaves by which the open call takes a position
+record PositionTaken (h : History) (w : World) (e : Event) (call : Call) : Type 0 where
+  opened : told opened_by h ≡ w.submission.calls ++ call.count ∷ []
+  closed : count_by closes_call (e ∷ h) ≡ length w.submission.calls
+  openings : count_by opens_call (e ∷ h) ≡ length w.submission.calls + 1
+  since : call.taken + 1 ≡ count_by takes_position (since_last opens_call (e ∷ h))
+
+position_taken : (h : History) (w : World) (e : Event) (call : Call) → w.submission.call ≡ Some call → opens_call e ≡ false → closes_call e ≡ false
+    → takes_position e ≡ true → DirectSubmission h w → PositionTaken h w e call
+position_taken h w e call opened none_opened none_closed taken i =
+    let since : call.taken ≡ count_by takes_position (since_last opens_call h) = subst (λ o. TakenSince o (count_by takes_position (since_last opens_call h))) opened i.since in
+    record {
+      opened = i.opened ∙ ap (λ o. w.submission.calls ++ open_counts o) opened;
+      closed = count_same closes_call e h none_closed ∙ i.closed;
+      openings = count_same opens_call e h none_opened ∙ i.openings ∙ ap (λ o. length w.submission.calls + length (open_counts o)) opened;
+      since =
+          omega (arith, count_more takes_position e (since_last opens_call h) taken, since)
+          ∙ ap (λ b. count_by takes_position (cond b [] (e ∷ since_last opens_call h))) (sym none_opened);
+    }
+
 submission_direct : (g : Setup) (h : History) (w : World) (s : Step) (a : Answer) (v : World) → SubmissionMove g w s a v → DirectSubmission h w → DirectSubmission ((s, a) ∷ h) v
 submission_direct g h w s a v (stays _ _ r c is_closed off left) i =
     record {
@@ -83,23 +103,23 @@ submission_direct g h w s a v (stays _ _ r c is_closed off left) i =
       since = same_since (s, a) h w.submission.call off.opens_none off.takes i.since;
     }
 submission_direct g h w s a v (fills slot entry) i =
-    let f = none_called h w (step.Fill slot entry, answer.Filled) refl refl refl i in
+    let f = none_called h w (s, a) refl refl refl i in
     let content : (asked : ℕ) → (if asked == slot then entry else w.submission.content asked) ≡ slot_content ((step.Fill slot entry, answer.Filled) ∷ h) asked =
     λ asked. ap (λ o. if asked == slot then entry else o) (i.content asked) ∙ sym (fill_tells (asked == slot) entry (last_told (filled_by asked) h)) in
     assumption (content, f, i)
 submission_direct g h w s a v (stages word room) i =
-    let f = none_called h w (step.Index word, answer.Staged) refl refl refl i in
+    let f = none_called h w (s, a) refl refl refl i in
     let staged = sym (append_assoc (published_words h) w.submission.fresh (word ∷ [])) ∙ ap (λ xs. xs ++ word ∷ []) i.staged in
     assumption (staged, f, i)
 submission_direct g h w s a v (stores tail) i =
-    let f = none_called h w (step.StoreTail, answer.Tail tail) refl refl refl i in
+    let f = none_called h w (s, a) refl refl refl i in
     let published =
     map-append (λ p. p.word) w.submission.published (map (place_of g.sq w.submission.content) w.submission.fresh)
     ∙ ap₂ (λ xs ys. xs ++ ys) i.published (words_of_places g.sq w.submission.content w.submission.fresh) ∙ i.staged in
     let staged = append-nil (staged_words h) in
     assumption (published, staged, f, i)
 submission_direct g h w s a v (loads head) i =
-    let f = none_called h w (step.LoadHead, answer.Head head) refl refl refl i in
+    let f = none_called h w (s, a) refl refl refl i in
     let seen = ap sum (sym (own_calls h w i.opened i.closed)) in
     assumption (seen, f, i)
 submission_direct g h w s a v (begins count is_open no_call) i =
@@ -116,29 +136,11 @@ submission_direct g h w s a v (begins count is_open no_call) i =
       since = refl;
     }
 submission_direct g h w s a v (takes entry call place opened left at valid) i =
-    record {
-      content = i.content;
-      published = i.published;
-      staged = i.staged;
-      opened = i.opened ∙ ap (λ o. w.submission.calls ++ open_counts o) opened;
-      closed = count_same closes_call (step.Take, answer.Entry entry) h refl ∙ i.closed;
-      openings = count_same opens_call (step.Take, answer.Entry entry) h refl ∙ i.openings ∙ ap (λ o. length w.submission.calls + length (open_counts o)) opened;
-      seen = i.seen;
-      since =
-          omega (arith, count_more takes_position (step.Take, answer.Entry entry) (since_last opens_call h) refl, subst (λ o. TakenSince o (count_by takes_position (since_last opens_call h))) opened i.since);
-    }
+    let f = position_taken h w (s, a) call opened refl refl refl i in
+    assumption (f, i)
 submission_direct g h w s a v (drops call place opened left at invalid) i =
-    record {
-      content = i.content;
-      published = i.published;
-      staged = i.staged;
-      opened = i.opened ∙ ap (λ o. w.submission.calls ++ open_counts o) opened;
-      closed = count_same closes_call (step.Take, answer.Dropped) h refl ∙ i.closed;
-      openings = count_same opens_call (step.Take, answer.Dropped) h refl ∙ i.openings ∙ ap (λ o. length w.submission.calls + length (open_counts o)) opened;
-      seen = i.seen;
-      since =
-          omega (arith, count_more takes_position (step.Take, answer.Dropped) (since_last opens_call h) refl, subst (λ o. TakenSince o (count_by takes_position (since_last opens_call h))) opened i.since);
-    }
+    let f = position_taken h w (s, a) call opened refl refl refl i in
+    assumption (f, i)
 submission_direct g h w s a v (closes accepted missed head call opened all counted) i =
     let longer = length_push w.submission.calls call.count in
     record {

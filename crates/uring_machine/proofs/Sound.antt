@@ -23,7 +23,7 @@ pub record IsSound (g : Setup) (w : World) : Type 0 where
   pub requests : IsSoundRequests w.requests
 
 first_submission : (size : ℕ) → IsSoundSubmission size no_submission
-first_submission size = record { seen_first = omega arith; call_published = omega arith; within_call = omega arith; few = omega arith }
+first_submission size = grind arith
 
 first_completions : (size : ℕ) → IsSoundCompletions size no_completion
 first_completions size = record { begins = refl; reaped_seen = omega arith; seen_put = omega arith; put_posted = omega arith; seen_head_head = omega arith; head_reaped = omega arith; fits = omega arith; full_ring = λ waits. absurd (omega arith) }

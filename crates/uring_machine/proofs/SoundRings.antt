@@ -5,7 +5,7 @@ use Rattle.std.proofs.lemmas.List.{length_push, length-append, length-map, take-
 use Rattle.std.proofs.lemmas.List.Sums.{sum_by_push}
 use Rattle.std.proofs.lemmas.Option.{slice_get_within, get_or_from_slice_get}
 use Rattle.uring_entry.specs.Layout.{Cqe}
-use Rattle.uring_entry.specs.Submission.{Submission, Call, Place, staged, taken, pending, is_full, call_length, with_filled, with_staged, with_published, with_head_loaded, with_begun, with_taken, with_closed}
+use Rattle.uring_entry.specs.Submission.{Submission, Call, staged, taken, is_full, with_staged, with_published, with_head_loaded, with_begun, with_taken, with_closed}
 use Rattle.uring_entry.specs.Completions.{Completions, has_room, next_to_reap, with_posted, with_flushed, with_tail_loaded, with_reaped, with_head_stored}
 
 -- The completion ring.

@@ -1,6 +1,6 @@
 -- What an event makes of the submission ring, each with what is known of it because its answer was called for.
 -- `stays` is the frame of all that leave the ring as it was: whatever became of the rest, they tell nothing of it.
-use Rattle.std.proofs.Common.{◌≡◌, ℕ, Bool, true, false, ◌||◌, nat_lt, eqb, ◌+◌, length, Option, Some, None, slice_get, refl, sym, subst, ap}
+use Rattle.std.proofs.Common.{◌≡◌, ℕ, Bool, false, ◌||◌, nat_lt, eqb, ◌+◌, length, Some, None, slice_get, refl, sym, subst, ap, rules}
 use Rattle.uring_entry.specs.Setup.{Setup}
 use Rattle.uring_entry.specs.Layout.{Sqe}
 use Rattle.uring_entry.specs.Submission.{Call, Place, taken, is_full, call_length, entries_of, places_from, with_filled, with_staged, with_published, with_head_loaded, with_begun}
@@ -60,12 +60,6 @@ pub data SubmissionMove (g : Setup) (w : World) : Step → Answer → World → 
 off_silent : {e : Event} → IsSilent e → IsOffSubmission e
 off_silent i = assumption i
 
--- an event of another ring, which computes
-off : {e : Event} → staged_by e ≡ None → ((slot : ℕ) → filled_by slot e ≡ None) → entry_taken_by e ≡ None → takes_position e ≡ false → opened_by e ≡ None
-    → accepted_by e ≡ None → opens_call e ≡ false → closes_call e ≡ false → takes_in e ≡ false → is_store_tail e ≡ false → is_load_head e ≡ false → IsOffSubmission e
-off a b c d f i h j k l m =
-    record { stages = a; fills = b; takes_entry = c; takes = d; opens = f; opens_none = h; accepts = i; closes = j; takes_into = k; stores_tail = l; loads_head = m }
-
 pub submission_move : (g : Setup) (w : World) (s : Step) (a : Answer) → Change g w s a → SubmissionMove g w s a (happens g w s a)
 submission_move g w s a (event_refuses _ _ same silent) =
     subst (SubmissionMove g w s a) (sym (same w)) (stays s a w.requests w.completions w.is_closed (off_silent silent) (record { accepted = refl; cuts = refl; shut = sym (ap (λ b. b || w.is_closed) silent.shuts_none) }))
@@ -81,4 +75,4 @@ submission_move g w s a (event_drops call place opened left at invalid) =
 submission_move g w s a (event_closes accepted missed head call opened all counted) =
     subst (λ o. SubmissionMove g w step.End (answer.Taken accepted missed head) (ending_of w o)) (sym opened) (closes accepted missed head call opened all counted)
 submission_move g w s a _ =
-    stays _ _ _ _ _ (off refl (λ k. refl) refl refl refl refl refl refl refl refl refl) (record { accepted = refl; cuts = refl; shut = refl })
+    stays _ _ _ _ _ (search rules) (search rules)

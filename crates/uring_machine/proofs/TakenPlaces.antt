@@ -1,5 +1,5 @@
 -- Which positions were taken.
-use Rattle.std.proofs.Common.{◌≡◌, ℕ, ◌+◌, false, nat_lt, List, [], ◌∷◌, ◌++◌, take, map, Option, Some, None, slice_get, get_or, refl, sym, subst, ap, ◌∙◌, arith, append-nil}
+use Rattle.std.proofs.Common.{◌≡◌, ℕ, ◌+◌, false, nat_lt, List, [], ◌∷◌, ◌++◌, take, map, Option, Some, None, slice_get, get_or, refl, sym, ap, ◌∙◌, arith, append-nil}
 use Rattle.std.specs.List.{cons_option}
 use Rattle.std.proofs.lemmas.Bool.{ltb-false}
 use Rattle.std.proofs.lemmas.List.{take-append-le, take_more}
@@ -18,7 +18,7 @@ use Rattle.uring_machine.specs.declared.step.Step.TheVariants as step
 use Rattle.uring_machine.specs.declared.answer.Answer.{Answer}
 use Rattle.uring_machine.specs.declared.answer.Answer.TheVariants as answer
 use Rattle.uring_machine.proofs.Changes.{change_of}
-use Rattle.uring_machine.proofs.SubmissionMoves.{SubmissionMove, stays, fills, stages, stores, loads, begins, takes, drops, closes, submission_move}
+use Rattle.uring_machine.proofs.SubmissionMoves.{SubmissionMove, stays, stores, begins, takes, drops, closes, submission_move}
 use Rattle.uring_machine.proofs.SoundRings.{IsSoundSubmission, open_taken, open_count}
 use Rattle.uring_machine.proofs.Sound.{sound_of}
 use Rattle.uring_machine.proofs.Telling.{count_more, count_same, told_same}
@@ -93,14 +93,12 @@ places_kept : (g : Setup) (h : History) (w : World) (s : Step) (a : Answer) (v :
     → SubmissionMove g w s a v → IsSoundSubmission g.sq w.submission → TakesPlaces h w → TakesPlaces ((s, a) ∷ h) v
 places_kept g h w s a v (stays _ _ r c is_closed off left) sound i =
     record { count = count_same takes_position (s, a) h off.takes ∙ i.count; entries = told_same entry_taken_by (s, a) h off.takes_entry ∙ i.entries }
-places_kept g h w s a v (fills slot entry) sound i = record { count = count_same takes_position (step.Fill slot entry, answer.Filled) h refl ∙ i.count; entries = i.entries }
-places_kept g h w s a v (stages word room) sound i = record { count = count_same takes_position (step.Index word, answer.Staged) h refl ∙ i.count; entries = i.entries }
 places_kept g h w s a v (stores tail) sound i = stored_places g h w tail sound i
-places_kept g h w s a v (loads head) sound i = record { count = count_same takes_position (step.LoadHead, answer.Head head) h refl ∙ i.count; entries = i.entries }
 places_kept g h w s a v (begins count is_open no_call) sound i = begun_places g h w count no_call i
 places_kept g h w s a v (takes entry call place opened left at valid) sound i = took_valid h w entry call place opened at valid i
 places_kept g h w s a v (drops call place opened left at invalid) sound i = took_invalid h w call place opened at invalid i
 places_kept g h w s a v (closes accepted missed head call opened all counted) sound i = closed_places g h w accepted missed head call opened all sound i
+places_kept g h w s a v _ sound i = record { count = count_same takes_position (s, a) h refl ∙ i.count; entries = i.entries }
 
 pub takes_places : (g : Setup) (h : History) → IsLawfulApart g h → TakesPlaces h (world g h)
 takes_places g [] lawful = record { count = refl; entries = refl }
