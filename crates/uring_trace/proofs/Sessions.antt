@@ -1,17 +1,20 @@
 -- What a session keeps, byte by byte and line by line.
-use Rattle.std.proofs.Common.{◌≡◌, ◌≢◌, ℕ, ◌<◌, ◌≤◌, Bool, true, false, List, [], ◌∷◌, ◌++◌, length, take, Option, Result, Ok, Err, refl, sym, ap, subst, ◌∙◌, append_assoc, arith}
+use Rattle.std.proofs.Common.{◌≡◌, ◌≢◌, ℕ, ◌<◌, ◌≤◌, Bool, true, false, List, [], ◌∷◌, ◌++◌, length, take, Option, Some, None, Result, Ok, Err, refl, sym, ap, subst, ◌∙◌, append_assoc, arith}
 use Rattle.std.specs.Prelude.{IfOk, OnOk, MatchOption, is_ok}
 use Rattle.std.specs.List.{AllByRecursion}
+use Rattle.std.specs.Option.{option_to_list}
 use Rattle.std.proofs.lemmas.Bool.{lt-ltb, le-ltb, ltb-false}
 use Rattle.std.proofs.lemmas.List.{append-nil, take_all, take-append-le, length-append, length-take, nil_from_length}
 use Rattle.uring_entry.specs.Setup.{Setup}
 use Rattle.uring_machine.specs.CalledFor.{IsLawful}
+use Rattle.uring_machine.specs.Histories.{Event, History, history_of}
+use Rattle.uring_machine.proofs.Following.{history_of-snoc}
 use Rattle.uring_machine.specs.Machine.{Machine, Fits}
 use Rattle.uring_machine.specs.declared.step.Step.{Step}
 use Rattle.uring_trace.specs.Spelling.{IsStep, IsBad}
 use Rattle.uring_trace.specs.Lines.{IsUnbroken, Splits, with_last, joined, ended}
-use Rattle.uring_trace.specs.Exchanges.{Exchange, Answers, answer_text, lines_of, history_of, with_event}
-use Rattle.uring_trace.specs.Sessions.{Keeps300, AppendsAnswer, Holds}
+use Rattle.uring_trace.specs.Exchanges.{Exchange, Answers, answer_text, lines_of, events_of}
+use Rattle.uring_trace.specs.Sessions.{Keeps300, AppendsAnswer, Holds, with_event}
 use Rattle.uring_trace.specs.Traces.{IsWhole, IsBeginning, IsEnded}
 
 -- a value's fact, whatever the value
@@ -89,11 +92,18 @@ line_is_kept line kept h = h.first ∙ take_all 300 line (ltb-false 300 (length 
 pub read_again : (line kept : List ℕ) (read : Option Step) → MatchOption read (IsBad kept) (IsStep kept) → Keeps300 line kept false → MatchOption read (IsBad line) (IsStep line)
 read_again line kept read h k = subst (λ (l : List ℕ). MatchOption read (IsBad l) (IsStep l)) (line_is_kept line kept k) h
 
+-- the history of one exchange more
+one_more : (event : Option Event) (events : List Event) → with_event event (history_of events) ≡ history_of (events ++ option_to_list event)
+one_more None events = ap (λ (es : List Event). history_of es) (sym (append-nil events))
+one_more (Some event) events = sym (history_of-snoc events event)
+
 -- one exchange more
-answered : (setup : Setup) (m m' : Machine) (xs : List Exchange) (line text before after : List ℕ) → Answers setup xs (text ++ before) → m.core.setup ≡ setup → Fits m (history_of xs) → (a : AppendsAnswer m m' line before after)
+answered : (setup : Setup) (m m' : Machine) (xs : List Exchange) (line text before after : List ℕ) → Answers setup xs (text ++ before) → m.core.setup ≡ setup → Fits m (history_of (events_of xs)) → (a : AppendsAnswer m m' line before after)
     → Answers setup (record { line = line; event = a.event } ∷ xs) (text ++ (after ++ 10 ∷ []))
 answered setup m m' xs line text before after h same fits a = record {
-  lawful = subst (λ (g : Setup). IsLawful g (with_event a.event (history_of xs))) (a.same ∙ same) (a.fits (history_of xs) fits).lawful;
+  lawful =
+      subst (λ (k : History). IsLawful setup k) (one_more a.event (events_of xs))
+      (subst (λ (g : Setup). IsLawful g (with_event a.event (history_of (events_of xs)))) (a.same ∙ same) (a.fits (history_of (events_of xs)) fits).lawful);
   each = (a.read, h.each);
   all = ap (λ (t : List ℕ). text ++ (t ++ 10 ∷ [])) a.appended ∙ simp append_assoc (refl) ∙ ap (λ (t : List ℕ). t ++ ended (answer_text a.event)) h.all;
 }
@@ -110,7 +120,7 @@ ended_line setup m m' kept is_long bytes text before after answer h =
       splits = split_end bytes (lines_of h.exchanges) h.line h.splits;
       keeps = record { first = refl; long = refl };
       same = a.same ∙ h.same;
-      fits = a.fits (history_of h.exchanges) h.fits;
+      fits = subst (λ (k : History). Fits m' k) (one_more a.event (events_of h.exchanges)) (a.fits (history_of (events_of h.exchanges)) h.fits);
     }
 
 last_some : (lines : List (List ℕ)) (rest : List ℕ) → 0 < length rest → with_last lines rest ≡ rest ∷ lines

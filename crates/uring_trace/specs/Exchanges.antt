@@ -1,8 +1,9 @@
 -- The lines of a trace, each with its answer. The language of a trace is our own rule.
-use Rattle.std.specs.Prelude.{◌≡◌, ℕ, List, [], ◌∷◌, Option, Some, None, codes, map}
+use Rattle.std.specs.Prelude.{◌≡◌, ℕ, List, [], ◌∷◌, ◌++◌, Option, Some, None, codes, map}
 use Rattle.std.specs.List.{AllByRecursion}
+use Rattle.std.specs.Option.{option_to_list}
 use Rattle.uring_entry.specs.Setup.{Setup}
-use Rattle.uring_machine.specs.Histories.{Event, History}
+use Rattle.uring_machine.specs.Histories.{Event, history_of}
 use Rattle.uring_machine.specs.CalledFor.{IsLawful}
 use Rattle.uring_trace.specs.Spelling.{IsStep, IsBad}
 use Rattle.uring_trace.specs.Text.{text_of}
@@ -31,16 +32,13 @@ lines_of xs = map (λ x. x.line) xs
 abbrev pub answers_of : List Exchange → List (List ℕ)
 answers_of xs = map (λ x. answer_text x.event) xs
 
-abbrev pub with_event : Option Event → History → History
-with_event None before = before
-with_event (Some event) before = event ∷ before
-
-abbrev pub history_of : List Exchange → History
-history_of [] = []
-history_of (x ∷ before) = with_event x.event (history_of before)
+-- in the order in which they happened
+abbrev pub events_of : List Exchange → List Event
+events_of [] = []
+events_of (x ∷ before) = events_of before ++ option_to_list x.event
 
 -- the exchanges answer their lines, each answer is called for by the steps before it, and the text is the answers, each with its end
 pub record Answers (setup : Setup) (xs : List Exchange) (text : List ℕ) : Type 0 where
   pub each : AllByRecursion (λ x. IsReadAs x.line x.event) xs
-  pub lawful : IsLawful setup (history_of xs)
+  pub lawful : IsLawful setup (history_of (events_of xs))
   pub all : text ≡ joined (answers_of xs)
