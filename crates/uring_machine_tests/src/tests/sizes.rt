@@ -60,6 +60,31 @@ fn many_steps_run(rt: HostRuntime) -> Result<(), Fail> {
     Ok(())
 }
 
+/// The counts after so many calls of one request that does nothing, each of which ends and is reaped before the next.
+fn rounds(alloc: Global, count: u64) -> Result<Counts, Fail> {
+    let setup = Setup::new(1, Some(1), 1, 0)?;
+    let mut machine = Machine::new(alloc, &setup)?;
+    for number in 0..count {
+        submit(&mut machine, 1);
+        machine.step(Step::Issue { number });
+        machine.step(Step::Finish { number });
+        machine.step(Step::LoadCqTail);
+        machine.step(Step::Reap);
+        machine.step(Step::StoreCqHead);
+        machine.step(Step::Flush);
+    }
+    Ok(machine.counts())
+}
+
+#[test]
+fn many_requests_end(rt: HostRuntime) -> Result<(), Fail> {
+    let counts = rounds(rt.alloc(), 100_000)?;
+    assert_eq!(rt; (counts.accepted, counts.outstanding), (100_000, 0));
+    assert_eq!(rt; counts.running, 0);
+    assert_eq!(rt; (counts.posted, counts.reaped), (100_000, 100_000));
+    Ok(())
+}
+
 /// How many completions rest of so many that were promised at once to a ring of one, and then posted.
 fn promised(alloc: Global, count: u64) -> Result<(u64, Option<u64>), Fail> {
     let setup = Setup::new(1, Some(1), 1, 0)?;
