@@ -6,16 +6,16 @@ use std::alloc::{AllocError, Global};
 use std::io::Write;
 use uring_options::OptionsFault;
 
-/// The exit status where the run failed.
+/// The exit status if the run failed.
 const FAILED: u8 = 1;
 
-/// The exit status where the command line is refused, or asks for help.
+/// The exit status if the command line is refused, or asks for help.
 const REFUSED: u8 = 2;
 
-/// The line for want of memory.
+/// The line if memory was refused.
 const OUT_OF_MEMORY: &str = "uring: out of memory\n";
 
-/// Writes what a fault says to `writer`, and answers the exit status, 1 or 2, also where the write fails: 2 for a fault of the command line or a call for help, whose text is clap's own, and 1 for any other, want of memory among them.
+/// Writes what a fault says to `writer`, and returns the exit status, 1 or 2, also if the write fails: 2 for a fault of the command line or a call for help, whose text is clap's own, and 1 for any other, refused memory among them.
 pub fn tell<W: Write>(alloc: Global, writer: &mut W, fault: &Fault) -> u8 {
     let (text, status) = match text_of(alloc, fault) {
         Ok(text) => (text, status_of(fault)),

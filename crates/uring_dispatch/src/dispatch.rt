@@ -57,7 +57,7 @@ impl Dispatch {
 
     /// Asks for the memory of `count` more requests, any number: so many can be accepted from here on.
     ///
-    /// `Spent` comes where they and those accepted so far are more than `MAX_ACCEPTED`; otherwise `NoMemory` where memory is refused. Neither changes anything. Our own rule.
+    /// `Spent` comes if they and those accepted so far are more than `MAX_ACCEPTED`; otherwise `NoMemory` if memory is refused. Neither changes anything. Our own rule.
     pub fn reserve(&mut self, count: u64) -> Result<(), ReserveError>
         requires { IsTrue self.old.is_between_calls }
         ensures ok { OnOk result (count ≤ self.new.room) }
@@ -116,9 +116,9 @@ impl Dispatch {
         self.is_between_calls = true;
     }
 
-    /// Issues request `n`, any number. It ends at once where it is doomed, with -22 (EINVAL) where it has a fault itself and else with -125 (ECANCELED), or where it is a cancel that may start, with 0, -2 (ENOENT) or -114 (EALREADY); otherwise it starts where it may.
+    /// Issues request `n`, any number. It ends at once if it is doomed, with -22 (EINVAL) if it has a fault itself and else with -125 (ECANCELED), or if it is a cancel that may start, with 0, -2 (ENOENT) or -114 (EALREADY); otherwise it starts if it may.
     ///
-    /// Refused with `Unknown` where it isn't outstanding, with `Running` where it runs already, and with `NotReady` where it isn't doomed and waits for earlier requests. A refusal changes nothing. The order of these is our own rule.
+    /// Refused with `Unknown` if it isn't outstanding, with `Running` if it runs already, and with `NotReady` if it isn't doomed and waits for earlier requests. A refusal changes nothing. The order of these is our own rule.
     pub fn issue(&mut self, n: u64) -> Issued
         requires { IsTrue self.old.is_between_calls }
         ensures answer { (r : Requests) → ShowsRequests self.old r → result ≡ issued r n }
@@ -128,7 +128,7 @@ impl Dispatch {
         events::issue(&mut self.window, &mut self.groups, n)
     }
 
-    /// Ends request `n` with this outcome. Refused with `NotRunning` where it isn't running, and then nothing changes. Our own rule.
+    /// Ends request `n` with this outcome. Refused with `NotRunning` if it isn't running, and then nothing changes. Our own rule.
     pub fn finish(&mut self, n: u64, outcome: Outcome) -> Finished
         requires { IsTrue self.old.is_between_calls }
         ensures answer { (r : Requests) → ShowsRequests self.old r → result ≡ finished r n }
@@ -138,7 +138,7 @@ impl Dispatch {
         events::finish(&mut self.window, &mut self.groups, n, outcome)
     }
 
-    /// The operation of request `n`: `Some` exactly where it is running.
+    /// The operation of request `n`: `Some` exactly if it is running.
     pub fn running_op(&self, n: u64) -> Option<Op>
         requires { IsTrue self.now.is_between_calls }
         ensures { (r : Requests) → ShowsRequests self.now r → result ≡ operation_running r n }
@@ -147,7 +147,7 @@ impl Dispatch {
         if request.is_running { request.op } else { None }
     }
 
-    /// The entry of request `n`: `Some` exactly where it is outstanding, that is accepted and not ended.
+    /// The entry of request `n`: `Some` exactly if it is outstanding, that is accepted and not ended.
     pub fn entry(&self, n: u64) -> Option<Sqe>
         requires { IsTrue self.now.is_between_calls }
         ensures { (r : Requests) → ShowsRequests self.now r → result ≡ entry_outstanding r n }

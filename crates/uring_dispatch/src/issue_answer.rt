@@ -6,7 +6,7 @@ pub enum Issued {
     /// It was started, with this operation.
     Run(Op),
 
-    /// It ended with this result: -22 or -125 where it was doomed; 0, -2 or -114 where it is a cancel. io_uring_enter(2), CQE ERRORS, IOSQE_IO_LINK and IORING_OP_ASYNC_CANCEL.
+    /// It ended with this result: -22 or -125 if it was doomed; 0, -2 or -114 if it is a cancel. io_uring_enter(2), CQE ERRORS, IOSQE_IO_LINK and IORING_OP_ASYNC_CANCEL.
     Ended(i32),
 
     /// It waits for earlier requests. io_uring_enter(2), IOSQE_IO_LINK and IOSQE_IO_DRAIN.

@@ -65,7 +65,7 @@ impl Cqe {
         self.user_data
     }
 
-    /// The result: 0 or more where the operation was carried out, else the negative of an error number. io_uring(7), DESCRIPTION.
+    /// The result: 0 or more if the operation was carried out, else the negative of an error number. io_uring(7), DESCRIPTION.
     pub fn res(&self) -> i32
         ensures { result ≡ self.now.res }
     {

@@ -40,7 +40,7 @@ impl Setup {
 
     /// A set-up with a submission ring of `sq` entries (1 to 4,096) and a completion ring of `cq` entries (1 to 8,192), or of twice the submission ring's, each rounded up to a power of two; `files` files (1 to 64); and rings that begin at the index word `start`.
     ///
-    /// `BadSq`, `BadCq` and `BadFiles` come in that order, each where its limit is broken; `BadCq` also where the completion ring is smaller after rounding than the submission ring. Sizes are rounded as in io_uring_setup(2), IORING_SETUP_CQSIZE; the limits are our own rule, and so is that a completion ring of the submission ring's size is taken.
+    /// `BadSq`, `BadCq` and `BadFiles` come in that order, each if its limit is broken; `BadCq` also if the completion ring is smaller after rounding than the submission ring. Sizes are rounded as in io_uring_setup(2), IORING_SETUP_CQSIZE; the limits are our own rule, and so is that a completion ring of the submission ring's size is taken.
     pub fn new(sq: u32, cq: Option<u32>, files: u32, start: u32) -> Result<Setup, BadSetup>
         ensures ok { IfOk result (λ s. IsSetupFor sq cq files start s) }
         ensures bad_sq { IsErrOf result BadSetup.BadSq ↔ IsBadSq sq }
@@ -107,7 +107,7 @@ fn submission_size(asked: u32) -> u32
     asked.next_power_of_two()
 }
 
-/// The entries of the completion ring beside a submission ring of `sq` entries, or none where what is asked for is refused.
+/// The entries of the completion ring beside a submission ring of `sq` entries, or none if what is asked for is refused.
 fn completion_size(sq: u32, asked: Option<u32>) -> Option<u32>
     requires { IsPowerOfTwo sq × (sq ≤ 4096) }
     ensures none { IsNone result ↔ IsBadCq sq asked }

@@ -54,7 +54,7 @@ impl Machine {
         })
     }
 
-    /// Makes one step, and answers it.
+    /// Makes one step, and returns its answer.
     ///
     /// Only `Begin` and the `Finish` of a write that lengthens its file ask for memory, `Begin` only if its call may need more than is there. If it is refused, `Begin` is answered `Again`, and nothing is consumed; the write ends with -12 (ENOMEM).
     pub fn step(&mut self, step: Step) -> Answer
@@ -116,23 +116,23 @@ impl Machine {
         self.core.setup()
     }
 
-    /// How the file of a descriptor stands: `None` where there is none.
+    /// How the file of a descriptor stands: `None` if there is none.
     pub fn state(&self, fd: i32) -> Option<FileState>
         ensures { (h : History) → Fits self.now h → result ≡ state_of (files_of self.now.core.setup (world self.now.core.setup h)) fd }
     {
         self.files.state(fd)
     }
 
-    /// The byte at offset `at` of the file of a descriptor: `None` where there is no such file, or the offset isn't below its length.
+    /// The byte at offset `at` of the file of a descriptor: `None` if there is no such file, or the offset isn't below its length.
     pub fn byte(&self, fd: i32, at: u64) -> Option<u8>
         ensures { (h : History) → Fits self.now h → result ≡ byte_of (files_of self.now.core.setup (world self.now.core.setup h)) fd at }
     {
         self.files.byte(fd, at)
     }
 
-    /// Ends every outstanding request, and answers how many steps that took: at most two for each. Each is an `Issue` or a `Finish`.
+    /// Drains the machine: issues and finishes requests until none is outstanding, and returns how many steps it took, at most two for each.
     ///
-    /// Until nothing is outstanding it issues the next request, and finishes it if it runs; where none can be issued, it finishes the least that runs.
+    /// Until nothing is outstanding it issues the next request, and finishes it if it runs; if none can be issued, it finishes the least that runs.
     pub fn settle_idle(&mut self) -> u64
         ensures setup { self.new.core.setup ≡ self.old.core.setup }
         ensures settled { (h : History) → Fits self.old h → IsSettled self.new h result }
@@ -145,7 +145,7 @@ impl Machine {
         steps
     }
 
-    /// Ends one outstanding request: the next, or where none can be issued the least outstanding one, which then runs. Answers the steps made.
+    /// Ends one outstanding request: the next, or if none can be issued the least outstanding one, which then runs. Returns the number of steps.
     fn settle_one(&mut self) -> u64
         requires { 1 ≤ self.old.core.dispatch.outstanding }
         ensures setup { self.new.core.setup ≡ self.old.core.setup }

@@ -13,13 +13,13 @@ use clap::{Arg, ArgAction, ArgMatches, Command, value_parser};
 use std::alloc::{AllocError, Global};
 use uring_entry::{BadSetup, Setup};
 
-/// Entries of the submission ring where the command line doesn't say.
+/// Entries of the submission ring if the command line doesn't say.
 const DEFAULT_SQ: u32 = 4;
 
-/// Files where the command line doesn't say.
+/// Files if the command line doesn't say.
 const DEFAULT_FILES: u32 = 2;
 
-/// The word at which both rings begin where the command line doesn't say.
+/// The word at which both rings begin if the command line doesn't say.
 const DEFAULT_START: u32 = 0;
 
 /// The lines of a trace, for its help.
@@ -58,16 +58,16 @@ and RAW 128 bytes, in lower case hexadecimal.";
 
 /// Reads a command line, whose first word is the program's name: `uring`, or `uring trace` with options for the entries of the submission ring (`--sq`, 1 to 4,096, else 4) and of the completion ring (`--cq`, 1 to 8,192, else twice as many), for the files (`--files`, 1 to 64, else 2) and for the word at which both rings begin (`--start`, 32 bits, else 0). Our own rule.
 ///
-/// `Small` comes where the options give a completion ring that is smaller after rounding than the submission ring. `Words` comes for any other fault of the words, a number out of its range among them, for a call for help, and where memory is refused. Numbers may have a leading `+` or leading zeros.
+/// `Small` comes if the options give a completion ring that is smaller after rounding than the submission ring. `Words` comes for any other fault of the words, a number out of its range among them, for a call for help, and where memory is refused. Numbers may have a leading `+` or leading zeros.
 pub fn options<'a>(alloc: Global, args: &'a [&'a str]) -> Result<Options, OptionsFault>
     // Words without a fault, with numbers of a set-up, give the trace over it.
     ensures ok { IfOk result (AskFor (texts args.now)) }
 
-    // Small comes exactly where they ask for too small a completion ring, unless memory was refused.
+    // Small comes exactly if they ask for too small a completion ring, unless memory was refused.
     ensures small { IsErrOf result OptionsFault.Small
         ↔ (AskForTooSmall (texts args.now) × ¬ IsErrAnd result IsMemory) }
 
-    // Words comes only for a fault that clap finds in them, or want of memory.
+    // Words comes only for a fault that clap finds in them, or if memory was refused.
     ensures words { IfErr result (IsFaultOf (texts args.now)) }
 {
     let matches = matches_of(alloc, args)?;
@@ -98,7 +98,7 @@ fn trace_of(matches: &ArgMatches<'_>) -> Result<Options, OptionsFault>
     trace_over(sq, cq, files, start)
 }
 
-/// A trace over the set-up of these numbers, and of the defaults for those that are absent. It is refused where the completion ring is too small.
+/// A trace over the set-up of these numbers, and of the defaults for those that are absent. It is refused if the completion ring is too small.
 fn trace_over(
     sq: Option<u32>,
     cq: Option<u32>,

@@ -87,7 +87,7 @@ impl Cq {
         })
     }
 
-    /// Promises `n` posts from here on, any number, in place of what is left of the last promise, and asks for the memory that they may need. Our own rule: a completion is never lost for want of memory.
+    /// Promises `n` posts from here on, any number, in place of what is left of the last promise, and asks for the memory that they may need. Our own rule: a completion is never lost because memory is short.
     ///
     /// An error is a refused allocation, which is asked for only if the overflow list has no memory for `n` more; what is left of the last promise then still stands.
     pub fn reserve(&mut self, n: u64) -> Result<(), AllocError>
@@ -111,7 +111,7 @@ impl Cq {
         Ok(())
     }
 
-    /// Posts a completion, which takes one of the posts promised: into the ring where none waits and the ring holds fewer than its size above the head last loaded by `flush`, else behind the others that wait. io_uring_setup(2), IORING_FEAT_NODROP; that the head counts as last loaded is our own rule.
+    /// Posts a completion, which takes one of the posts promised: into the ring if none waits and the ring holds fewer than its size above the head last loaded by `flush`, else behind the others that wait. io_uring_setup(2), IORING_FEAT_NODROP; that the head counts as last loaded is our own rule.
     ///
     /// Condition: a post is promised.
     pub fn post(&mut self, completion: Cqe)
@@ -131,7 +131,7 @@ impl Cq {
         }
     }
 
-    /// The dispatcher loads the head, and moves as many of the oldest completions that wait as fit into the ring. Answers how many it moved, at most the ring's size. A step of its own: our own rule.
+    /// The dispatcher loads the head, and moves as many of the oldest completions that wait as fit into the ring. Returns how many it moved, at most the ring's size. A step of its own: our own rule.
     pub fn flush(&mut self) -> u64
         ensures answer { (g : Setup) (l : Completions) → ShowsCompletions g self.old l →
             result ≡ (with_flushed g.cq l).put - l.put }
@@ -148,7 +148,7 @@ impl Cq {
         moved
     }
 
-    /// The application loads the tail: answers its word. io_uring(7), Reading completion events.
+    /// The application loads the tail, and returns its word. io_uring(7), Reading completion events.
     pub fn load_tail(&mut self) -> u32
         ensures answer { (g : Setup) (l : Completions) → ShowsCompletions g self.old l →
             result ≡ word_of g.start l.put }
@@ -161,7 +161,7 @@ impl Cq {
         self.seen_tail.0
     }
 
-    /// Copies the next completion. None, with nothing changed, where all that stood in the ring when the tail was last loaded were reaped. io_uring(7), Reading completion events.
+    /// Copies the next completion. None, with nothing changed, if all that stood in the ring when the tail was last loaded were reaped. io_uring(7), Reading completion events.
     pub fn reap(&mut self) -> Option<Cqe>
         ensures answer { (g : Setup) (l : Completions) → ShowsCompletions g self.old l → result ≡ next_to_reap l }
         ensures shows { (g : Setup) (l : Completions) → ShowsCompletions g self.old l →
@@ -179,7 +179,7 @@ impl Cq {
         Some(self.cells[cell])
     }
 
-    /// The application stores the head, behind what it reaped: answers its word. io_uring(7), Reading completion events.
+    /// The application stores the head, behind what it reaped, and returns its word. io_uring(7), Reading completion events.
     pub fn store_head(&mut self) -> u32
         ensures answer { (g : Setup) (l : Completions) → ShowsCompletions g self.old l →
             result ≡ word_of g.start (length l.reaped) }
@@ -231,7 +231,7 @@ impl Cq {
         self.overflow.is_empty() && self.tail.distance(self.seen_head) < self.size
     }
 
-    /// Moves the oldest completion that waits into the ring, if there is one and the ring holds fewer than its size above the head last loaded. Answers whether it did.
+    /// Moves the oldest completion that waits into the ring, if there is one and the ring holds fewer than its size above the head last loaded. Returns whether it did.
     fn move_oldest(&mut self) -> bool
         ensures answer { (g : Setup) (l : Completions) → ShowsCompletions g self.old l →
             result ≡ nat_lt l.put (min (length l.posted) (l.seen_head + g.cq)) }
