@@ -1,0 +1,10 @@
+//! Application, dispatcher and workers as ends that threads own: submissions, completions, jobs and results go from end to end, and the dispatcher records its steps as a trace.
+#![tactic(auto)]
+
+mod item;
+
+pub use item::Item;
+pub use uring_files::FileState;
+pub use uring_machine::{
+    Answer, Core, Counts, Cqe, Fault, Op, Outcome, Setup, Sqe, SqeFlags, Step,
+};
