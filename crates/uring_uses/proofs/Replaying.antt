@@ -1,5 +1,6 @@
 -- The same steps have the same answers, unless memory is refused.
 use Rattle.std.proofs.Common.{◌≡◌, ℕ, ◌+◌, neg_ℤ, Bool, true, false, ◌||◌, List, [], ◌∷◌, ◌++◌, length, ◌⊎◌, inl, inr, refl, sym, subst, ◌∙◌, ap, arith}
+use Rattle.std.proofs.lemmas.List.{append-nil}
 use Rattle.std.specs.List.{list_any, zip}
 use Rattle.std.specs.Ordering.{int_eq}
 use Rattle.uring_entry.specs.Setup.{Setup}
@@ -68,7 +69,7 @@ one_more x y xs ys same (inr (inl refused)) = inr (inl (or_later (is_out_of_memo
 one_more x y xs ys same (inr (inr refused)) = inr (inr (or_later (is_out_of_memory y) (list_any is_out_of_memory ys) refused))
 
 -- the same steps after the same history
-pub replayed : (g : Setup) (h : History) (steps : List Step) (xs ys : List Answer) → length xs ≡ length steps → length ys ≡ length steps → IsLawful g (history_of (zip steps xs) ++ h) → IsLawful g (history_of (zip steps ys) ++ h) → AreReplays xs ys
+replayed : (g : Setup) (h : History) (steps : List Step) (xs ys : List Answer) → length xs ≡ length steps → length ys ≡ length steps → IsLawful g (history_of (zip steps xs) ++ h) → IsLawful g (history_of (zip steps ys) ++ h) → AreReplays xs ys
 replayed g h [] [] [] m n p q = inl refl
 replayed g h [] [] (y ∷ ys) m n p q = absurd (omega (arith, n))
 replayed g h [] (x ∷ xs) ys m n p q = absurd (omega (arith, m))
@@ -88,3 +89,9 @@ replayed g h (s ∷ steps) (x ∷ xs) (y ∷ ys) m n p q =
         | inr e ↦ inr (inr (or_first (is_out_of_memory y) (list_any is_out_of_memory ys) e))
       ]
     ]
+
+-- the same steps from the beginning
+pub replayed_anew : (g : Setup) (steps : List Step) (xs ys : List Answer) → length xs ≡ length steps → length ys ≡ length steps → IsLawful g (history_of (zip steps xs)) → IsLawful g (history_of (zip steps ys)) → AreReplays xs ys
+replayed_anew g steps xs ys m n p q =
+    let anew : (answers : List Answer) → IsLawful g (history_of (zip steps answers)) → IsLawful g (history_of (zip steps answers) ++ []) = λ answers. subst (λ k. IsLawful g k) (sym (append-nil (history_of (zip steps answers)))) in
+    replayed g [] steps xs ys m n (anew xs p) (anew ys q)

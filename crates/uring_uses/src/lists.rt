@@ -1,4 +1,7 @@
-ghost use Rattle.std.specs.Prelude.{IfOk};
+ghost use Rattle.std.specs.List.{zip};
+ghost use Rattle.std.specs.Prelude.{◌≡◌, length, IfOk};
+ghost use Rattle.uring_machine.specs.CalledFor.{IsLawful};
+ghost use Rattle.uring_machine.specs.Histories.{history_of};
 ghost use Rattle.uring_uses.specs.Replays.{AreReplays};
 
 use std::alloc::{AllocError, Global};
@@ -12,9 +15,16 @@ pub fn run_twice(
 ) -> Result<(Vec<Answer>, Vec<Answer>), AllocError>
     ensures { IfOk result (λ both. AreReplays both.0.items both.1.items) }
 {
-    let mut machine = Machine::new(alloc, setup)?;
-    let first = run(alloc, &mut machine, steps)?;
-    let mut machine = Machine::new(alloc, setup)?;
-    let second = run(alloc, &mut machine, steps)?;
+    let first = answers_of(alloc, setup, steps)?;
+    let second = answers_of(alloc, setup, steps)?;
     Ok((first, second))
+}
+
+/// Makes these steps on a new machine.
+fn answers_of(alloc: Global, setup: &Setup, steps: &[Step]) -> Result<Vec<Answer>, AllocError>
+    ensures count { IfOk result (λ answers. length answers.items ≡ length steps.now) }
+    ensures lawful { IfOk result (λ answers. IsLawful setup.now (history_of (zip steps.now answers.items))) }
+{
+    let mut machine = Machine::new(alloc, setup)?;
+    run(alloc, &mut machine, steps)
 }
