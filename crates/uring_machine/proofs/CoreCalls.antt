@@ -52,7 +52,7 @@ begin_answer_call p w count n may s room =
 
 -- a dispatcher with the same counts, and rings that show what they did
 same_shown : (p : Core) (w : World) (d : Dispatch) (q : Cq) → ShowsWorld p w → IsSameCount p.dispatch d → d.is_between_calls ≡ true → ShowsRequests d w.requests
-    → ShowsCompletions p.setup q w.completions → p.completions.room ≤ q.room → q.room ≤ q.spare → ShowsWorld (record p { dispatch = d; completions = q }) w
+    → ShowsCompletions p.setup q w.completions → p.cq.room ≤ q.room → q.room ≤ q.spare → ShowsWorld (record p { dispatch = d; cq = q }) w
 same_shown p w d q s same between shows shown room promised = grind arith
 
 pub spent_goes : (p : Core) (d : Dispatch) (count n : ℕ) → MayOpen p count n → 2 ^ 63 - 1 < p.dispatch.accepted + n → d ≡ p.dispatch
@@ -74,11 +74,11 @@ never_short_for_open_call p w s (inl few_requests) = omega (arith, s.room_to_acc
 never_short_for_open_call p w s (inr few_posts) = omega (arith, s.room_to_post, s.promised)
 
 pub again_goes : (p : Core) (d : Dispatch) (q : Cq) (count n : ℕ) → MayOpen p count n → p.dispatch.accepted + n ≤ 2 ^ 63 - 1
-    → IsSameCount p.dispatch d → d.is_between_calls ≡ true → ((r : Requests) → ShowsRequests p.dispatch r → ShowsRequests d r) → q ≡ p.completions → IsShortFor p n
-    → (h : History) → FitsApart p h → FitsApart (record p { dispatch = d; completions = q }) ((step.Begin count, answer.Again) ∷ h)
+    → IsSameCount p.dispatch d → d.is_between_calls ≡ true → ((r : Requests) → ShowsRequests p.dispatch r → ShowsRequests d r) → q ≡ p.cq → IsShortFor p n
+    → (h : History) → FitsApart p h → FitsApart (record p { dispatch = d; cq = q }) ((step.Begin count, answer.Again) ∷ h)
 again_goes p d q count n may numbers same between shows kept short h f =
-    subst (λ c. FitsApart (record p { dispatch = d; completions = c }) ((step.Begin count, answer.Again) ∷ h)) (sym kept) (record {
-      shows = same_shown p (world p.setup h) d p.completions f.shows same between (shows _ f.shows.requests) f.shows.completions (omega arith) f.shows.promised;
+    subst (λ c. FitsApart (record p { dispatch = d; cq = c }) ((step.Begin count, answer.Again) ∷ h)) (sym kept) (record {
+      shows = same_shown p (world p.setup h) d p.cq f.shows same between (shows _ f.shows.requests) f.shows.completions (omega arith) f.shows.promised;
       lawful = (subst (λ a. OrAgain a answer.Again) (sym (begin_answer_call p (world p.setup h) count n may f.shows numbers)) (inr (refl, short_for_some p (world p.setup h) n f.shows short)), f.lawful);
     })
 
@@ -92,7 +92,7 @@ opened l count n r none length answered = answered ∙ ap (ring.begin_beside l c
 begun_shows : (p : Core) (w : World) (s' : Sq) (q : Cq) (d : Dispatch) (count n : ℕ) → ShowsWorld p w → w.submission.call ≡ None → n ≡ call_length w.submission count
     → ShowsSubmission p.setup s' (with_begun w.submission count) → ShowsCompletions p.setup q w.completions → q.room ≡ p.dispatch.outstanding + n → q.room ≤ q.spare
     → IsSameCount p.dispatch d → n ≤ d.room → d.is_between_calls ≡ true → ShowsRequests d w.requests → p.dispatch.accepted + n ≤ 2 ^ 63 - 1
-    → ShowsWorld (record p { sq = s'; completions = q; dispatch = d }) (record w { submission = with_begun w.submission count })
+    → ShowsWorld (record p { sq = s'; cq = q; dispatch = d }) (record w { submission = with_begun w.submission count })
 begun_shows p w s' q d count n s none length shown kept room promised same fits between shows numbers =
     let held = s.held ∙ ap (held_by w.submission) none in
     let to_post = subst (λ k. d.outstanding + k ≤ q.room) length (omega (arith, room, same)) in
@@ -102,10 +102,10 @@ begun_shows p w s' q d count n s none length shown kept room promised same fits 
 
 pub call_goes : (p : Core) (s' : Sq) (q : Cq) (d : Dispatch) (count n : ℕ) (r : BeginAnswer) → MayOpen p count n → p.dispatch.accepted + n ≤ 2 ^ 63 - 1
     → IsSameCount p.dispatch d → n ≤ d.room → d.is_between_calls ≡ true → ((r : Requests) → ShowsRequests p.dispatch r → ShowsRequests d r)
-    → ((g : Setup) (l : Completions) → ShowsCompletions g p.completions l → ShowsCompletions g q l) → q.room ≡ p.dispatch.outstanding + n → KeepsMemory p.completions q
+    → ((g : Setup) (l : Completions) → ShowsCompletions g p.cq l → ShowsCompletions g q l) → q.room ≡ p.dispatch.outstanding + n → KeepsMemory p.cq q
     → ((g : Setup) (l : Submission) → ShowsSubmission g p.sq l → r ≡ ring.begin_answer l count)
     → ((g : Setup) (l : Submission) → ShowsSubmission g p.sq l → ShowsSubmission g s' (ring.after_begin l count r))
-    → (h : History) → FitsApart p h → FitsApart (record p { sq = s'; completions = q; dispatch = d }) ((step.Begin count, begin_told r) ∷ h)
+    → (h : History) → FitsApart p h → FitsApart (record p { sq = s'; cq = q; dispatch = d }) ((step.Begin count, begin_told r) ∷ h)
 call_goes p s' q d count n r may numbers same fits between shows kept room memory answered shown h f =
     let w = world p.setup h in
     let s = f.shows in
@@ -113,7 +113,7 @@ call_goes p s' q d count n r may numbers same fits between shows kept room memor
     let length = may.positions p.setup w.submission s.submission in
     let is : r ≡ begin.Call n = opened w.submission count n r none length (answered p.setup w.submission s.submission) in
     let after : ShowsSubmission p.setup s' (with_begun w.submission count) = subst (λ b. ShowsSubmission p.setup s' (ring.after_begin w.submission count b)) is (shown p.setup w.submission s.submission) in
-    subst (λ b. FitsApart (record p { sq = s'; completions = q; dispatch = d }) ((step.Begin count, begin_told b) ∷ h)) (sym is) (record {
+    subst (λ b. FitsApart (record p { sq = s'; cq = q; dispatch = d }) ((step.Begin count, begin_told b) ∷ h)) (sym is) (record {
       shows = begun_shows p w s' q d count n s (none_since w.submission.call none) length after (kept p.setup w.completions s.completions) room memory.promised same fits between (shows w.requests s.requests) numbers;
       lawful = (subst (λ a. OrAgain a (answer.Call n)) (sym (begin_answer_call p w count n may s numbers)) (inl refl), f.lawful);
     })

@@ -75,7 +75,7 @@ closed_shows : (p : Core) (w : World) (q : Sq) (d : Dispatch) (call : Call) → 
 closed_shows p w q d call s is all accepts few shown =
     let a = accepts.accepted in
     let o = accepts.outstanding in
-    let room : p.dispatch.outstanding + call.count ≤ p.completions.room = subst (λ c. p.dispatch.outstanding + positions_of c ≤ p.completions.room) is s.room_to_post in
+    let room : p.dispatch.outstanding + call.count ≤ p.cq.room = subst (λ c. p.dispatch.outstanding + positions_of c ≤ p.cq.room) is s.room_to_post in
     let numbers : p.dispatch.accepted + call.count ≤ 2 ^ 63 - 1 = subst (λ c. p.dispatch.accepted + positions_of c ≤ 2 ^ 63 - 1) is s.numbers in
     let posts = s.posts in
     let held : p.held ≡ entries_of (places_from w.submission call.count) = s.held ∙ ap (held_by w.submission) is ∙ ap (λ n. entries_of (places_from w.submission n)) all in
@@ -147,8 +147,8 @@ few_posted size l entry res bytes =
 -- The parts after an end: one request less is outstanding, and one promised post less is left at most.
 ended_shows : (p : Core) (w : World) (d : Dispatch) (q : Cq) (r : Requests) (entry : Sqe) (res : ℤ) (bytes : List ℕ) → ShowsWorld p w
     → ShowsRequests d r → d.accepted ≡ p.dispatch.accepted → d.outstanding + 1 ≡ p.dispatch.outstanding → p.dispatch.room ≤ d.room → d.is_between_calls ≡ p.dispatch.is_between_calls
-    → ShowsCompletions p.setup q (with_end p.setup.cq w.completions entry res bytes) → p.completions.room ≤ q.room + 1 → (p.completions.room ≤ p.completions.spare → q.room ≤ q.spare)
-    → ShowsWorld (record p { dispatch = d; completions = q }) (record w { requests = r; completions = with_end p.setup.cq w.completions entry res bytes })
+    → ShowsCompletions p.setup q (with_end p.setup.cq w.completions entry res bytes) → p.cq.room ≤ q.room + 1 → (p.cq.room ≤ p.cq.spare → q.room ≤ q.spare)
+    → ShowsWorld (record p { dispatch = d; cq = q }) (record w { requests = r; completions = with_end p.setup.cq w.completions entry res bytes })
 ended_shows p w d q r entry res bytes s shows accepted outstanding room between shown left promised =
     let few = few_posted p.setup.cq w.completions entry res bytes in
     let in_between = between ∙ s.between in
@@ -205,8 +205,8 @@ run_goes p d n op answered shows counts h f =
 pub issue_ended_goes : (p : Core) (d : Dispatch) (q : Cq) (n : ℕ) (res : ℤ) (entry : Sqe)
     → ((r : Requests) → ShowsRequests p.dispatch r → issue.Ended res ≡ issued r n) → ((r : Requests) → ShowsRequests p.dispatch r → Some entry ≡ entry_outstanding r n)
     → ((r : Requests) → ShowsRequests p.dispatch r → ShowsRequests d (with_issued_end r n res)) → HasEnded p.dispatch d
-    → ((g : Setup) (l : Completions) → ShowsCompletions g p.completions l → ShowsCompletions g q (with_end g.cq l entry res no_bytes)) → p.completions.room ≤ q.room + 1 → (p.completions.room ≤ p.completions.spare → q.room ≤ q.spare)
-    → (h : History) → FitsApart p h → FitsApart (record p { dispatch = d; completions = q }) ((step.Issue n, answer.Ended res no_bytes) ∷ h)
+    → ((g : Setup) (l : Completions) → ShowsCompletions g p.cq l → ShowsCompletions g q (with_end g.cq l entry res no_bytes)) → p.cq.room ≤ q.room + 1 → (p.cq.room ≤ p.cq.spare → q.room ≤ q.spare)
+    → (h : History) → FitsApart p h → FitsApart (record p { dispatch = d; cq = q }) ((step.Issue n, answer.Ended res no_bytes) ∷ h)
 issue_ended_goes p d q n res entry answered there shows counts shown left promised h f =
     let w = world p.setup h in
     let s = f.shows in
@@ -238,8 +238,8 @@ running_there r n e =
 pub finish_goes : (p : Core) (d : Dispatch) (q : Cq) (n : ℕ) (res : ℤ) (bytes : List ℕ) (entry : Sqe)
     → ((r : Requests) → ShowsRequests p.dispatch r → finish.Ended ≡ finished r n) → ((r : Requests) → ShowsRequests p.dispatch r → Some entry ≡ entry_outstanding r n)
     → ((r : Requests) → ShowsRequests p.dispatch r → ShowsRequests d (with_ended r n res bytes)) → HasFinished p.dispatch d
-    → ((g : Setup) (l : Completions) → ShowsCompletions g p.completions l → ShowsCompletions g q (with_end g.cq l entry res bytes)) → p.completions.room ≤ q.room + 1 → (p.completions.room ≤ p.completions.spare → q.room ≤ q.spare)
-    → (h : History) → FitsApart p h → FitsApart (record p { dispatch = d; completions = q }) ((step.Finish n, answer.Ended res bytes) ∷ h)
+    → ((g : Setup) (l : Completions) → ShowsCompletions g p.cq l → ShowsCompletions g q (with_end g.cq l entry res bytes)) → p.cq.room ≤ q.room + 1 → (p.cq.room ≤ p.cq.spare → q.room ≤ q.spare)
+    → (h : History) → FitsApart p h → FitsApart (record p { dispatch = d; cq = q }) ((step.Finish n, answer.Ended res bytes) ∷ h)
 finish_goes p d q n res bytes entry answered there shows counts shown left promised h f =
     let w = world p.setup h in
     let s = f.shows in
@@ -287,7 +287,7 @@ finished_there p n h f answered none =
 
 -- New.
 
-pub new_fits : (p : Core) → ShowsSubmission p.setup p.sq no_submission → ShowsCompletions p.setup p.completions no_completion → p.completions.room ≡ 0 → ShowsRequests p.dispatch no_request → p.dispatch.is_between_calls ≡ true
+pub new_fits : (p : Core) → ShowsSubmission p.setup p.sq no_submission → ShowsCompletions p.setup p.cq no_completion → p.cq.room ≡ 0 → ShowsRequests p.dispatch no_request → p.dispatch.is_between_calls ≡ true
     → p.held ≡ [] → p.is_closed ≡ false → FitsApart p []
 new_fits p submission completions none_promised requests between held open_ring =
     let a : p.dispatch.accepted ≡ 0 = requests.accepted in

@@ -30,7 +30,7 @@ core_after p q e same goes core = (subst IsWithinLimits (sym same) core.0, e ∷
 pub submission_shown : (p : Core) (h : History) → FitsApart p h → ShowsSubmission p.setup p.sq (world p.setup h).submission
 submission_shown p h f = f.shows.submission
 
-pub completions_shown : (p : Core) (h : History) → FitsApart p h → ShowsCompletions p.setup p.completions (world p.setup h).completions
+pub completions_shown : (p : Core) (h : History) → FitsApart p h → ShowsCompletions p.setup p.cq (world p.setup h).completions
 completions_shown p h f = f.shows.completions
 
 -- A change of the submission ring alone, which leaves the open call and what it took as they were.
@@ -38,14 +38,14 @@ pub on_submission : (p : Core) (w : World) (q : Sq) (l : Submission) → ShowsWo
     → held_by l l.call ≡ held_by w.submission w.submission.call → ShowsWorld (record p { sq = q }) (record w { submission = l })
 on_submission p w q l s shows call held =
     let same_held = s.held ∙ sym held in
-    let to_post = subst (λ c. p.dispatch.outstanding + positions_of c ≤ p.completions.room) (sym call) s.room_to_post in
+    let to_post = subst (λ c. p.dispatch.outstanding + positions_of c ≤ p.cq.room) (sym call) s.room_to_post in
     let to_accept = subst (λ c. positions_of c ≤ p.dispatch.room) (sym call) s.room_to_accept in
     let numbers = subst (λ c. p.dispatch.accepted + positions_of c ≤ 2 ^ 63 - 1) (sym call) s.numbers in
     assumption (s, shows, same_held, to_post, to_accept, numbers)
 
 -- A change of the completion ring alone, which posts nothing.
-pub on_completions : (p : Core) (w : World) (q : Cq) (l : Completions) → ShowsWorld p w → ShowsCompletions p.setup q l → q.room ≡ p.completions.room → KeepsMemory p.completions q
-    → l.posted ≡ w.completions.posted → ShowsWorld (record p { completions = q }) (record w { completions = l })
+pub on_completions : (p : Core) (w : World) (q : Cq) (l : Completions) → ShowsWorld p w → ShowsCompletions p.setup q l → q.room ≡ p.cq.room → KeepsMemory p.cq q
+    → l.posted ≡ w.completions.posted → ShowsWorld (record p { cq = q }) (record w { completions = l })
 on_completions p w q l s shows room memory posted =
     let to_post = subst (λ r. p.dispatch.outstanding + positions_of w.submission.call ≤ r) (sym room) s.room_to_post in
     let posts = subst (λ cs. length cs + p.dispatch.outstanding ≤ p.dispatch.accepted) (sym posted) s.posts in
@@ -140,45 +140,45 @@ load_head_goes p q head answered shown h f =
 -- Flush, LoadCqTail, Reap and StoreCqHead.
 
 pub flush_goes : (p : Core) (q : Cq) (moved : ℕ)
-    → ((g : Setup) (l : Completions) → ShowsCompletions g p.completions l → moved ≡ (with_flushed g.cq l).put - l.put)
-    → ((g : Setup) (l : Completions) → ShowsCompletions g p.completions l → ShowsCompletions g q (with_flushed g.cq l))
-    → q.room ≡ p.completions.room → KeepsMemory p.completions q
-    → (h : History) → FitsApart p h → FitsApart (record p { completions = q }) ((step.Flush, answer.Moved moved) ∷ h)
+    → ((g : Setup) (l : Completions) → ShowsCompletions g p.cq l → moved ≡ (with_flushed g.cq l).put - l.put)
+    → ((g : Setup) (l : Completions) → ShowsCompletions g p.cq l → ShowsCompletions g q (with_flushed g.cq l))
+    → q.room ≡ p.cq.room → KeepsMemory p.cq q
+    → (h : History) → FitsApart p h → FitsApart (record p { cq = q }) ((step.Flush, answer.Moved moved) ∷ h)
 flush_goes p q moved answered shown room memory h f = record {
   shows = on_completions p (world p.setup h) q (with_flushed p.setup.cq (world p.setup h).completions) f.shows (shown p.setup _ f.shows.completions) room memory refl;
   lawful = (ap (λ n. answer.Moved n) (answered p.setup _ f.shows.completions), f.lawful);
 }
 
 pub load_cq_tail_goes : (p : Core) (q : Cq) (tail : ℕ)
-    → ((g : Setup) (l : Completions) → ShowsCompletions g p.completions l → tail ≡ word_of g.start l.put)
-    → ((g : Setup) (l : Completions) → ShowsCompletions g p.completions l → ShowsCompletions g q (with_tail_loaded l))
-    → q.room ≡ p.completions.room → KeepsMemory p.completions q
-    → (h : History) → FitsApart p h → FitsApart (record p { completions = q }) ((step.LoadCqTail, answer.Tail tail) ∷ h)
+    → ((g : Setup) (l : Completions) → ShowsCompletions g p.cq l → tail ≡ word_of g.start l.put)
+    → ((g : Setup) (l : Completions) → ShowsCompletions g p.cq l → ShowsCompletions g q (with_tail_loaded l))
+    → q.room ≡ p.cq.room → KeepsMemory p.cq q
+    → (h : History) → FitsApart p h → FitsApart (record p { cq = q }) ((step.LoadCqTail, answer.Tail tail) ∷ h)
 load_cq_tail_goes p q tail answered shown room memory h f = record {
   shows = on_completions p (world p.setup h) q (with_tail_loaded (world p.setup h).completions) f.shows (shown p.setup _ f.shows.completions) room memory refl;
   lawful = (ap (λ n. answer.Tail n) (answered p.setup _ f.shows.completions), f.lawful);
 }
 
-reap_shows : (p : Core) (w : World) (q : Cq) (r : Option Cqe) → ShowsWorld p w → ShowsCompletions p.setup q (after_reap w.completions r) → q.room ≡ p.completions.room → KeepsMemory p.completions q
-    → ShowsWorld (record p { completions = q }) (reaping w (reap_answer_of r))
+reap_shows : (p : Core) (w : World) (q : Cq) (r : Option Cqe) → ShowsWorld p w → ShowsCompletions p.setup q (after_reap w.completions r) → q.room ≡ p.cq.room → KeepsMemory p.cq q
+    → ShowsWorld (record p { cq = q }) (reaping w (reap_answer_of r))
 reap_shows p w q None s shows room memory = on_completions p w q w.completions s shows room memory refl
 reap_shows p w q (Some completion) s shows room memory = on_completions p w q (with_reaped w.completions completion) s shows room memory refl
 
 pub reap_goes : (p : Core) (q : Cq) (r : Option Cqe)
-    → ((g : Setup) (l : Completions) → ShowsCompletions g p.completions l → r ≡ next_to_reap l)
-    → ((g : Setup) (l : Completions) → ShowsCompletions g p.completions l → ShowsCompletions g q (after_reap l r))
-    → q.room ≡ p.completions.room → KeepsMemory p.completions q
-    → (h : History) → FitsApart p h → FitsApart (record p { completions = q }) ((step.Reap, reap_answer_of r) ∷ h)
+    → ((g : Setup) (l : Completions) → ShowsCompletions g p.cq l → r ≡ next_to_reap l)
+    → ((g : Setup) (l : Completions) → ShowsCompletions g p.cq l → ShowsCompletions g q (after_reap l r))
+    → q.room ≡ p.cq.room → KeepsMemory p.cq q
+    → (h : History) → FitsApart p h → FitsApart (record p { cq = q }) ((step.Reap, reap_answer_of r) ∷ h)
 reap_goes p q r answered shown room memory h f = record {
   shows = reap_shows p (world p.setup h) q r f.shows (shown p.setup _ f.shows.completions) room memory;
   lawful = (ap reap_answer_of (answered p.setup _ f.shows.completions), f.lawful);
 }
 
 pub store_cq_head_goes : (p : Core) (q : Cq) (head : ℕ)
-    → ((g : Setup) (l : Completions) → ShowsCompletions g p.completions l → head ≡ word_of g.start (length l.reaped))
-    → ((g : Setup) (l : Completions) → ShowsCompletions g p.completions l → ShowsCompletions g q (with_head_stored l))
-    → q.room ≡ p.completions.room → KeepsMemory p.completions q
-    → (h : History) → FitsApart p h → FitsApart (record p { completions = q }) ((step.StoreCqHead, answer.Head head) ∷ h)
+    → ((g : Setup) (l : Completions) → ShowsCompletions g p.cq l → head ≡ word_of g.start (length l.reaped))
+    → ((g : Setup) (l : Completions) → ShowsCompletions g p.cq l → ShowsCompletions g q (with_head_stored l))
+    → q.room ≡ p.cq.room → KeepsMemory p.cq q
+    → (h : History) → FitsApart p h → FitsApart (record p { cq = q }) ((step.StoreCqHead, answer.Head head) ∷ h)
 store_cq_head_goes p q head answered shown room memory h f = record {
   shows = on_completions p (world p.setup h) q (with_head_stored (world p.setup h).completions) f.shows (shown p.setup _ f.shows.completions) room memory refl;
   lawful = (ap (λ n. answer.Head n) (answered p.setup _ f.shows.completions), f.lawful);

@@ -80,7 +80,7 @@ taken_shows : (p : Core) (w : World) (q : Sq) (call : Call) (held : List Sqe) �
     → held ≡ entries_of (take (call.taken + 1) (drop (taken w.submission) w.submission.published))
     → ShowsWorld (record p { sq = q; held = held }) (record w { submission = with_taken w.submission call })
 taken_shows p w q call held s is shown holds =
-    let to_post = subst (λ c. p.dispatch.outstanding + positions_of c ≤ p.completions.room) is s.room_to_post in
+    let to_post = subst (λ c. p.dispatch.outstanding + positions_of c ≤ p.cq.room) is s.room_to_post in
     let to_accept = subst (λ c. positions_of c ≤ p.dispatch.room) is s.room_to_accept in
     let numbers = subst (λ c. p.dispatch.accepted + positions_of c ≤ 2 ^ 63 - 1) is s.numbers in
     assumption (s, shown, holds, to_post, to_accept, numbers)

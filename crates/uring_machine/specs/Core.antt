@@ -20,7 +20,7 @@ use Rattle.uring_machine.specs.declared.step.Step.TheVariants as step
 pub record Core : Type 0 where
   pub setup : Setup
   pub sq : Sq
-  pub completions : Cq
+  pub cq : Cq
   pub dispatch : Dispatch
   pub held : List Sqe
   pub is_closed : Bool
@@ -38,16 +38,16 @@ positions_of (Some call) = call.count
 -- The parts show what has happened.
 pub record ShowsWorld (p : Core) (w : World) : Type 0 where
   pub submission : ShowsSubmission p.setup p.sq w.submission
-  pub completions : ShowsCompletions p.setup p.completions w.completions
+  pub completions : ShowsCompletions p.setup p.cq w.completions
   pub requests : ShowsRequests p.dispatch w.requests
   pub held : p.held ≡ held_by w.submission w.submission.call
   pub closed : p.is_closed ≡ w.is_closed
   pub between : p.dispatch.is_between_calls ≡ true
   -- what is outstanding, and what the open call may still accept, will find room to be accepted and to end
-  pub room_to_post : p.dispatch.outstanding + positions_of w.submission.call ≤ p.completions.room
+  pub room_to_post : p.dispatch.outstanding + positions_of w.submission.call ≤ p.cq.room
   pub room_to_accept : positions_of w.submission.call ≤ p.dispatch.room
   -- and memory is there for each post that is promised
-  pub promised : p.completions.room ≤ p.completions.spare
+  pub promised : p.cq.room ≤ p.cq.spare
   -- numbers stay below 2 ^ 63, those of the open call too
   pub numbers : p.dispatch.accepted + positions_of w.submission.call ≤ 2 ^ 63 - 1
   -- no more was posted than has ended
@@ -64,7 +64,7 @@ IsCore p = IsWithinLimits p.setup × (h : History) × FitsApart p h
 
 -- Memory is short for a call of so many positions: the dispatcher has none for so many requests, or the completion ring none for their ends and those of all outstanding requests.
 abbrev pub IsShortFor : Core → ℕ → Type 0
-IsShortFor p length = (p.dispatch.room < length) ⊎ (p.completions.spare < p.dispatch.outstanding + length)
+IsShortFor p length = (p.dispatch.room < length) ⊎ (p.cq.spare < p.dispatch.outstanding + length)
 
 -- memory is short for this step, of which only a Begin asks for any. Our own rule
 abbrev pub IsShortOfMemory : Core → World → Step → Type 0
@@ -74,7 +74,7 @@ IsShortOfMemory p w _ = ⊥
 -- No memory was given back: as many requests have memory, accepted or not, and as many completions in the overflow list, waiting or not. Our own rule
 pub record HasNoLessMemory (old new : Core) : Type 0 where
   pub requests : old.dispatch.accepted + old.dispatch.room ≤ new.dispatch.accepted + new.dispatch.room
-  pub completions : length old.completions.overflow + old.completions.spare ≤ length new.completions.overflow + new.completions.spare
+  pub completions : length old.cq.overflow + old.cq.spare ≤ length new.cq.overflow + new.cq.spare
 
 -- any step but a finish
 abbrev pub IsNoFinish : Step → Type 0

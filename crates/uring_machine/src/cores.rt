@@ -39,9 +39,9 @@ impl Model for Core {
     ghost use Rattle.std.specs.Prelude.{◌≤◌, vec_capacity};
     ghost use Rattle.uring_machine.specs.Core.{IsCore};
 
-    ghost view = { λ c. record { setup = c.setup; sq = c.sq; completions = c.cq; dispatch = c.dispatch; held = c.held.items; is_closed = c.is_closed } };
+    ghost view = { λ c. record { setup = c.setup; sq = c.sq; cq = c.cq; dispatch = c.dispatch; held = c.held.items; is_closed = c.is_closed } };
 
-    ghost invariant = { λ c. (c.setup.sq ≤ vec_capacity c.held) × IsCore (record { setup = c.setup; sq = c.sq; completions = c.cq; dispatch = c.dispatch; held = c.held.items; is_closed = c.is_closed }) };
+    ghost invariant = { λ c. (c.setup.sq ≤ vec_capacity c.held) × IsCore (record { setup = c.setup; sq = c.sq; cq = c.cq; dispatch = c.dispatch; held = c.held.items; is_closed = c.is_closed }) };
 }
 
 impl Core {
