@@ -9,7 +9,7 @@ use Rattle.uring_entry.specs.declared.opcode.TheConstants.{NOP, FSYNC, ASYNC_CAN
 use Rattle.uring_entry.specs.Preparation.{is_faulty, is_cancel, operation_of}
 use Rattle.uring_entry.specs.Requests.{Requests, entry_of, is_outstanding, is_running, is_doomed, is_ready, doomed_result, cancel_result}
 use Rattle.uring_entry.proofs.RequestLemmas.{is_doomed-own_fault}
-use Rattle.uring_dispatch.specs.declared.issue_answer.Issued.TheVariants.{Run, Ended, NotReady, Running, Unknown}
+use Rattle.uring_dispatch.specs.declared.answers.Issued.TheVariants.{Run, Ended, NotReady, Running, Unknown}
 use Rattle.uring_dispatch.specs.IssueAndFinish.{issued, issued_waiting}
 use Rattle.uring_dispatch.specs.Held.{op_of}
 

@@ -9,10 +9,10 @@ use Rattle.uring_dispatch.specs.Window.{Window, at, end_of, IsFirst}
 use Rattle.uring_dispatch.specs.Groups.{Groups, group_at}
 use Rattle.uring_dispatch.specs.Held.{IsSound, AreHeld}
 use Rattle.uring_dispatch.specs.Dispatch.{Dispatch, dispatch_of, ShowsRequests, StandsFor, IsDispatch, IssueCounts, FinishCounts}
-use Rattle.uring_dispatch.specs.declared.issue_answer.Issued.{Issued}
-use Rattle.uring_dispatch.specs.declared.issue_answer.Issued.TheVariants.{Run, Ended, NotReady, Running, Unknown}
-use Rattle.uring_dispatch.specs.declared.finish_answer.Finished.{Finished}
-use Rattle.uring_dispatch.specs.declared.finish_answer.Finished.TheVariants as finish
+use Rattle.uring_dispatch.specs.declared.answers.Issued.{Issued}
+use Rattle.uring_dispatch.specs.declared.answers.Issued.TheVariants.{Run, Ended, NotReady, Running, Unknown}
+use Rattle.uring_dispatch.specs.declared.answers.Finished.{Finished}
+use Rattle.uring_dispatch.specs.declared.answers.Finished.TheVariants as finish
 use Rattle.uring_dispatch.proofs.WindowFront.{at-room}
 use Rattle.uring_dispatch.proofs.HeldLemmas.{is_some_value, some_none, shown-within, outstanding-none, outstanding-some, running-some}
 

@@ -4,10 +4,10 @@ use Rattle.uring_entry.specs.Requests.{Requests, outstanding_in, running_in}
 use Rattle.uring_dispatch.specs.Window.{Window, end_of}
 use Rattle.uring_dispatch.specs.Groups.{Groups}
 use Rattle.uring_dispatch.specs.Held.{AreHeld, IsSound}
-use Rattle.uring_dispatch.specs.declared.issue_answer.Issued.{Issued}
-use Rattle.uring_dispatch.specs.declared.issue_answer.Issued.TheVariants.{Run, Ended}
-use Rattle.uring_dispatch.specs.declared.finish_answer.Finished.{Finished}
-use Rattle.uring_dispatch.specs.declared.finish_answer.Finished.TheVariants as finish
+use Rattle.uring_dispatch.specs.declared.answers.Issued.{Issued}
+use Rattle.uring_dispatch.specs.declared.answers.Issued.TheVariants.{Run, Ended}
+use Rattle.uring_dispatch.specs.declared.answers.Finished.{Finished}
+use Rattle.uring_dispatch.specs.declared.answers.Finished.TheVariants as finish
 
 -- what the dispatcher keeps of the requests. Only `ShowsRequests` says what it means
 pub record Held : Type 0 where
@@ -71,14 +71,6 @@ pub record HasAccepted (old new : Dispatch) : Type 0 where
   pub outstanding : new.outstanding ≡ old.outstanding + 1
   pub running : new.running ≡ old.running
   pub room : new.room + 1 ≡ old.room
-
--- a call was ended: nothing but that is new
-pub record HasEndedCall (old new : Dispatch) : Type 0 where
-  pub accepted : new.accepted ≡ old.accepted
-  pub outstanding : new.outstanding ≡ old.outstanding
-  pub running : new.running ≡ old.running
-  pub room : new.room ≡ old.room
-  pub between : new.is_between_calls ≡ true
 
 -- one of the outstanding requests was started
 pub record HasStarted (old new : Dispatch) : Type 0 where

@@ -3,10 +3,10 @@ use Rattle.std.specs.Prelude.{ℕ, not, if◌then◌else◌}
 use Rattle.uring_entry.specs.Preparation.{is_cancel, operation_of}
 use Rattle.uring_entry.specs.Requests.{Requests, entry_of, is_outstanding, is_running, is_doomed, is_ready, doomed_result, cancel_result, with_started, with_ended, with_issued_end}
 use Rattle.uring_entry.specs.declared.operation.Outcome.{Outcome}
-use Rattle.uring_dispatch.specs.declared.issue_answer.Issued.{Issued}
-use Rattle.uring_dispatch.specs.declared.issue_answer.Issued.TheVariants.{Run, Ended, NotReady, Running, Unknown}
-use Rattle.uring_dispatch.specs.declared.finish_answer.Finished.{Finished}
-use Rattle.uring_dispatch.specs.declared.finish_answer.Finished.TheVariants as finish
+use Rattle.uring_dispatch.specs.declared.answers.Issued.{Issued}
+use Rattle.uring_dispatch.specs.declared.answers.Issued.TheVariants.{Run, Ended, NotReady, Running, Unknown}
+use Rattle.uring_dispatch.specs.declared.answers.Finished.{Finished}
+use Rattle.uring_dispatch.specs.declared.answers.Finished.TheVariants as finish
 
 -- what the issue of a request that was not started is answered: it ends where it is doomed, or is a cancel that may start; another runs where it may start; and else it waits
 abbrev pub issued_waiting : Requests → ℕ → Issued

@@ -1,8 +1,8 @@
 -- What follows from the definitions alone.
 use Rattle.std.specs.Prelude.{◌≡◌, ℕ, Bool, true, false, not, ◌⊎◌, Some}
 use Rattle.uring_entry.specs.Requests.{Requests, is_running, is_issuable, least_of}
-use Rattle.uring_dispatch.specs.declared.issue_answer.Issued.{Issued}
-use Rattle.uring_dispatch.specs.declared.issue_answer.Issued.TheVariants.{Run, Ended, NotReady, Running, Unknown}
+use Rattle.uring_dispatch.specs.declared.answers.Issued.{Issued}
+use Rattle.uring_dispatch.specs.declared.answers.Issued.TheVariants.{Run, Ended, NotReady, Running, Unknown}
 use Rattle.uring_dispatch.specs.IssueAndFinish.{issued}
 
 -- With something outstanding, the least outstanding request is running or can be issued: nothing waits for ever.

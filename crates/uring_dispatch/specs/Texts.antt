@@ -1,7 +1,7 @@
 -- Glue. What a refusal says.
 use Rattle.std.specs.Prelude.{ℕ, List, codes}
-use Rattle.uring_dispatch.specs.declared.refusal.ReserveError.{ReserveError}
-use Rattle.uring_dispatch.specs.declared.refusal.ReserveError.TheVariants.{Spent, NoMemory}
+use Rattle.uring_dispatch.specs.declared.errors.ReserveError.{ReserveError}
+use Rattle.uring_dispatch.specs.declared.errors.ReserveError.TheVariants.{Spent, NoMemory}
 
 abbrev pub refusal_text : ReserveError → List ℕ
 refusal_text Spent = codes "the numbers of requests are spent"

@@ -2,10 +2,9 @@ ghost use Rattle.std.specs.Prelude.{◌≡◌, ◌+◌, ◌-◌, ◌^◌, ◌<�
 ghost use Rattle.uring_entry.specs.Requests.{Requests, no_request, with_accepted, with_cut, next_of, least_of, operation_running, entry_outstanding, outstanding_in, running_in};
 ghost use Rattle.uring_dispatch.specs.IssueAndFinish.{issued, after_issue, finished, after_finish};
 
-use crate::finish_answer::Finished;
+use crate::answers::{Finished, Issued};
+use crate::errors::ReserveError;
 use crate::groups::Groups;
-use crate::issue_answer::Issued;
-use crate::refusal::ReserveError;
 use crate::request::Request;
 use crate::window::Window;
 use crate::{events, standing};

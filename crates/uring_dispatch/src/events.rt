@@ -13,10 +13,9 @@ ghost use Rattle.uring_dispatch.specs.Window.{at, end_of, runs, one_if};
 ghost use Rattle.uring_dispatch.specs.Groups.{group_at};
 ghost use Rattle.uring_dispatch.specs.Held.{AreHeld, IsSound, IsNext, HasLost};
 
-use crate::finish_answer::Finished;
+use crate::answers::{Finished, Issued};
 use crate::group::{Group, earlier_of};
 use crate::groups::Groups;
-use crate::issue_answer::Issued;
 use crate::request::Request;
 use crate::standing::{group_of, is_doomed, is_ready, target};
 use crate::window::Window;

@@ -20,9 +20,9 @@ use Rattle.uring_rings.specs.declared.answers.EndAnswer.TheVariants as ended_as
 use Rattle.uring_rings.specs.declared.answers.Taken.{Taken}
 use Rattle.uring_dispatch.specs.Dispatch.{Dispatch, ShowsRequests, HasStarted, HasEnded, HasFinished}
 use Rattle.uring_dispatch.specs.IssueAndFinish.{issued, issued_waiting, finished}
-use Rattle.uring_dispatch.specs.declared.issue_answer.Issued.{Issued}
-use Rattle.uring_dispatch.specs.declared.issue_answer.Issued.TheVariants as issue
-use Rattle.uring_dispatch.specs.declared.finish_answer.Finished.TheVariants as finish
+use Rattle.uring_dispatch.specs.declared.answers.Issued.{Issued}
+use Rattle.uring_dispatch.specs.declared.answers.Issued.TheVariants as issue
+use Rattle.uring_dispatch.specs.declared.answers.Finished.TheVariants as finish
 use Rattle.uring_machine.specs.World.{World, ending_of}
 use Rattle.uring_machine.specs.StepAnswers.{end_answer_in, issue_answer, FinishesApart}
 use Rattle.uring_machine.specs.Histories.{History, world}

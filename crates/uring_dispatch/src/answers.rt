@@ -1,3 +1,5 @@
+//! What the calls of the dispatcher return.
+
 use uring_entry::Op;
 
 /// What the issue of a request is answered. The refusals are our own rule.
@@ -17,4 +19,14 @@ pub enum Issued {
 
     /// It isn't outstanding: no such number was given, or it has ended.
     Unknown,
+}
+
+/// What the finish of a request is answered. Our own rule.
+#[derive(Clone, Copy, Debug, PartialEq, Eq)]
+pub enum Finished {
+    /// It ended.
+    Ended,
+
+    /// It isn't running.
+    NotRunning,
 }
