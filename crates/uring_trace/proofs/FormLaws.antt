@@ -1,4 +1,4 @@
--- The form that is read of words is the one that they spell.
+-- The form that is read of tokens is the one that they spell.
 use Rattle.std.proofs.Common.{◌≡◌, ℕ, ◌^◌, cond, List, [], ◌∷◌, Option, Some, None, refl, sym, ap, subst, ◌∙◌, arith, inl, inr}
 use Rattle.std.specs.Prelude.{codes, ℤ}
 use Rattle.std.specs.Option.{option_map}
@@ -12,7 +12,7 @@ use Rattle.uring_trace.proofs.NumberLaws.{number_found, number_again, file_found
 use Rattle.uring_trace.proofs.FlagLaws.{flags_found, flags_again}
 use Rattle.uring_trace.proofs.HexLaws.{hex_found, hex_again, data_found, data_again}
 
--- a word that is this name, or another
+-- a token that is this name, or another
 pub named : {A : Type 0} (name text : List ℕ) (P : List ℕ → Type 0) (a other : Option A) (y : A) → cond (bytes_eq name text) a other ≡ Some y → (a ≡ Some y → P text) → (other ≡ Some y → P name) → P name
 named name text P a other y e here there =
     elim (chosen (bytes_eq name text) a other (Some y) e) [
@@ -36,7 +36,7 @@ pub mapped : {A B : Type 0} (f : A → B) (o : Option A) (y : B) → option_map 
 mapped f None y e = absurd cc
 mapped f (Some x) y e = (x, refl, some_is (f x) y e)
 
-nop_found : (words : List (List ℕ)) (f : Form) → nop_of words ≡ Some f → SpellsForm (codes "nop" ∷ words) f
+nop_found : (tokens : List (List ℕ)) (f : Form) → nop_of tokens ≡ Some f → SpellsForm (codes "nop" ∷ tokens) f
 unfolding nop_of
 nop_found [] f e = absurd cc
 nop_found (a ∷ []) f e = absurd cc
@@ -45,11 +45,11 @@ nop_found (ud ∷ fl ∷ []) f e =
     let s1 = bind_some (flags_of fl) (λ x1. Some (form.Nop s0.0 x1)) f s0.2 in
     let n0 = number_found (2 ^ 64) ud s0.0 (omega arith) s0.1 in
     let n1 = flags_found fl s1.0 s1.1 in
-    let words_are : codes "nop" ∷ ud ∷ fl ∷ [] ≡ spelled (form.Nop s0.0 s1.0) fl = ap1 (λ w0. codes "nop" ∷ w0 ∷ fl ∷ []) n0.0 in
-    subst (SpellsForm (codes "nop" ∷ ud ∷ fl ∷ [])) (some_is (form.Nop s0.0 s1.0) f s1.2) (fl, (n0.1, n1), words_are)
+    let tokens_are : codes "nop" ∷ ud ∷ fl ∷ [] ≡ spelled (form.Nop s0.0 s1.0) fl = ap1 (λ w0. codes "nop" ∷ w0 ∷ fl ∷ []) n0.0 in
+    subst (SpellsForm (codes "nop" ∷ ud ∷ fl ∷ [])) (some_is (form.Nop s0.0 s1.0) f s1.2) (fl, (n0.1, n1), tokens_are)
 nop_found (a ∷ b ∷ c ∷ more) f e = absurd cc
 
-fsync_found : (words : List (List ℕ)) (f : Form) → fsync_of words ≡ Some f → SpellsForm (codes "fsync" ∷ words) f
+fsync_found : (tokens : List (List ℕ)) (f : Form) → fsync_of tokens ≡ Some f → SpellsForm (codes "fsync" ∷ tokens) f
 unfolding fsync_of
 fsync_found [] f e = absurd cc
 fsync_found (a ∷ []) f e = absurd cc
@@ -61,11 +61,11 @@ fsync_found (ud ∷ fl ∷ file ∷ []) f e =
     let n0 = number_found (2 ^ 64) ud s0.0 (omega arith) s0.1 in
     let n1 = flags_found fl s1.0 s1.1 in
     let n2 = file_found file s2.0 s2.1 in
-    let words_are : codes "fsync" ∷ ud ∷ fl ∷ file ∷ [] ≡ spelled (form.Fsync s0.0 s1.0 s2.0) fl = ap2 (λ w0 w2. codes "fsync" ∷ w0 ∷ fl ∷ w2 ∷ []) n0.0 n2.0 in
-    subst (SpellsForm (codes "fsync" ∷ ud ∷ fl ∷ file ∷ [])) (some_is (form.Fsync s0.0 s1.0 s2.0) f s2.2) (fl, (n0.1, n1, n2.1), words_are)
+    let tokens_are : codes "fsync" ∷ ud ∷ fl ∷ file ∷ [] ≡ spelled (form.Fsync s0.0 s1.0 s2.0) fl = ap2 (λ w0 w2. codes "fsync" ∷ w0 ∷ fl ∷ w2 ∷ []) n0.0 n2.0 in
+    subst (SpellsForm (codes "fsync" ∷ ud ∷ fl ∷ file ∷ [])) (some_is (form.Fsync s0.0 s1.0 s2.0) f s2.2) (fl, (n0.1, n1, n2.1), tokens_are)
 fsync_found (a ∷ b ∷ c ∷ d ∷ more) f e = absurd cc
 
-read_found : (words : List (List ℕ)) (f : Form) → read_of words ≡ Some f → SpellsForm (codes "read" ∷ words) f
+read_found : (tokens : List (List ℕ)) (f : Form) → read_of tokens ≡ Some f → SpellsForm (codes "read" ∷ tokens) f
 unfolding read_of
 read_found [] f e = absurd cc
 read_found (a ∷ []) f e = absurd cc
@@ -83,11 +83,11 @@ read_found (ud ∷ fl ∷ file ∷ at ∷ count ∷ []) f e =
     let n2 = file_found file s2.0 s2.1 in
     let n3 = number_found (2 ^ 64) at s3.0 (omega arith) s3.1 in
     let n4 = number_found (2 ^ 32) count s4.0 (omega arith) s4.1 in
-    let words_are : codes "read" ∷ ud ∷ fl ∷ file ∷ at ∷ count ∷ [] ≡ spelled (form.Read s0.0 s1.0 s2.0 s3.0 s4.0) fl = ap4 (λ w0 w2 w3 w4. codes "read" ∷ w0 ∷ fl ∷ w2 ∷ w3 ∷ w4 ∷ []) n0.0 n2.0 n3.0 n4.0 in
-    subst (SpellsForm (codes "read" ∷ ud ∷ fl ∷ file ∷ at ∷ count ∷ [])) (some_is (form.Read s0.0 s1.0 s2.0 s3.0 s4.0) f s4.2) (fl, (n0.1, n1, n2.1, n3.1, n4.1), words_are)
+    let tokens_are : codes "read" ∷ ud ∷ fl ∷ file ∷ at ∷ count ∷ [] ≡ spelled (form.Read s0.0 s1.0 s2.0 s3.0 s4.0) fl = ap4 (λ w0 w2 w3 w4. codes "read" ∷ w0 ∷ fl ∷ w2 ∷ w3 ∷ w4 ∷ []) n0.0 n2.0 n3.0 n4.0 in
+    subst (SpellsForm (codes "read" ∷ ud ∷ fl ∷ file ∷ at ∷ count ∷ [])) (some_is (form.Read s0.0 s1.0 s2.0 s3.0 s4.0) f s4.2) (fl, (n0.1, n1, n2.1, n3.1, n4.1), tokens_are)
 read_found (a ∷ b ∷ c ∷ d ∷ g ∷ h ∷ more) f e = absurd cc
 
-cancel_found : (words : List (List ℕ)) (f : Form) → cancel_of words ≡ Some f → SpellsForm (codes "cancel" ∷ words) f
+cancel_found : (tokens : List (List ℕ)) (f : Form) → cancel_of tokens ≡ Some f → SpellsForm (codes "cancel" ∷ tokens) f
 unfolding cancel_of
 cancel_found [] f e = absurd cc
 cancel_found (a ∷ []) f e = absurd cc
@@ -99,11 +99,11 @@ cancel_found (ud ∷ fl ∷ other ∷ []) f e =
     let n0 = number_found (2 ^ 64) ud s0.0 (omega arith) s0.1 in
     let n1 = flags_found fl s1.0 s1.1 in
     let n2 = number_found (2 ^ 64) other s2.0 (omega arith) s2.1 in
-    let words_are : codes "cancel" ∷ ud ∷ fl ∷ other ∷ [] ≡ spelled (form.Cancel s0.0 s1.0 s2.0) fl = ap2 (λ w0 w2. codes "cancel" ∷ w0 ∷ fl ∷ w2 ∷ []) n0.0 n2.0 in
-    subst (SpellsForm (codes "cancel" ∷ ud ∷ fl ∷ other ∷ [])) (some_is (form.Cancel s0.0 s1.0 s2.0) f s2.2) (fl, (n0.1, n1, n2.1), words_are)
+    let tokens_are : codes "cancel" ∷ ud ∷ fl ∷ other ∷ [] ≡ spelled (form.Cancel s0.0 s1.0 s2.0) fl = ap2 (λ w0 w2. codes "cancel" ∷ w0 ∷ fl ∷ w2 ∷ []) n0.0 n2.0 in
+    subst (SpellsForm (codes "cancel" ∷ ud ∷ fl ∷ other ∷ [])) (some_is (form.Cancel s0.0 s1.0 s2.0) f s2.2) (fl, (n0.1, n1, n2.1), tokens_are)
 cancel_found (a ∷ b ∷ c ∷ d ∷ more) f e = absurd cc
 
-op_found : (words : List (List ℕ)) (f : Form) → op_of words ≡ Some f → SpellsForm (codes "op" ∷ words) f
+op_found : (tokens : List (List ℕ)) (f : Form) → op_of tokens ≡ Some f → SpellsForm (codes "op" ∷ tokens) f
 unfolding op_of
 op_found [] f e = absurd cc
 op_found (a ∷ []) f e = absurd cc
@@ -115,66 +115,66 @@ op_found (op ∷ ud ∷ fl ∷ []) f e =
     let n0 = number_found (256) op s0.0 (omega arith) s0.1 in
     let n1 = number_found (2 ^ 64) ud s1.0 (omega arith) s1.1 in
     let n2 = flags_found fl s2.0 s2.1 in
-    let words_are : codes "op" ∷ op ∷ ud ∷ fl ∷ [] ≡ spelled (form.Op s0.0 s1.0 s2.0) fl = ap2 (λ w0 w1. codes "op" ∷ w0 ∷ w1 ∷ fl ∷ []) n0.0 n1.0 in
-    subst (SpellsForm (codes "op" ∷ op ∷ ud ∷ fl ∷ [])) (some_is (form.Op s0.0 s1.0 s2.0) f s2.2) (fl, (n0.1, n1.1, n2), words_are)
+    let tokens_are : codes "op" ∷ op ∷ ud ∷ fl ∷ [] ≡ spelled (form.Op s0.0 s1.0 s2.0) fl = ap2 (λ w0 w1. codes "op" ∷ w0 ∷ w1 ∷ fl ∷ []) n0.0 n1.0 in
+    subst (SpellsForm (codes "op" ∷ op ∷ ud ∷ fl ∷ [])) (some_is (form.Op s0.0 s1.0 s2.0) f s2.2) (fl, (n0.1, n1.1, n2), tokens_are)
 op_found (a ∷ b ∷ c ∷ d ∷ more) f e = absurd cc
 
-write_found : (words : List (List ℕ)) (f : Form) → write_of words ≡ Some f → SpellsForm (codes "write" ∷ words) f
+write_found : (tokens : List (List ℕ)) (f : Form) → write_of tokens ≡ Some f → SpellsForm (codes "write" ∷ tokens) f
 unfolding write_of
 write_found [] f e = absurd cc
 write_found (a ∷ []) f e = absurd cc
 write_found (a ∷ b ∷ []) f e = absurd cc
 write_found (a ∷ b ∷ c ∷ []) f e = absurd cc
 write_found (a ∷ b ∷ c ∷ d ∷ []) f e = absurd cc
-write_found (ud ∷ fl ∷ file ∷ at ∷ word ∷ []) f e =
-    let made : ℕ → ℕ → ℤ → ℕ → Option Form = λ u l d o. option_map (λ bytes. form.Write u l d o bytes) (data_of word) in
-    let s0 = bind_some (number_of (2 ^ 64) ud) (λ u. (flags_of fl >>= λ l. (file_of file >>= λ d. (number_of (2 ^ 64) at >>= λ o. option_map (λ bytes. form.Write u l d o bytes) (data_of word))))) f e in
-    let s1 = bind_some (flags_of fl) (λ l. (file_of file >>= λ d. (number_of (2 ^ 64) at >>= λ o. option_map (λ bytes. form.Write s0.0 l d o bytes) (data_of word)))) f s0.2 in
-    let s2 = bind_some (file_of file) (λ d. (number_of (2 ^ 64) at >>= λ o. option_map (λ bytes. form.Write s0.0 s1.0 d o bytes) (data_of word))) f s1.2 in
-    let s3 = bind_some (number_of (2 ^ 64) at) (λ o. option_map (λ bytes. form.Write s0.0 s1.0 s2.0 o bytes) (data_of word)) f s2.2 in
-    let s4 = mapped (λ bytes. form.Write s0.0 s1.0 s2.0 s3.0 bytes) (data_of word) f s3.2 in
+write_found (ud ∷ fl ∷ file ∷ at ∷ token ∷ []) f e =
+    let made : ℕ → ℕ → ℤ → ℕ → Option Form = λ u l d o. option_map (λ bytes. form.Write u l d o bytes) (data_of token) in
+    let s0 = bind_some (number_of (2 ^ 64) ud) (λ u. (flags_of fl >>= λ l. (file_of file >>= λ d. (number_of (2 ^ 64) at >>= λ o. option_map (λ bytes. form.Write u l d o bytes) (data_of token))))) f e in
+    let s1 = bind_some (flags_of fl) (λ l. (file_of file >>= λ d. (number_of (2 ^ 64) at >>= λ o. option_map (λ bytes. form.Write s0.0 l d o bytes) (data_of token)))) f s0.2 in
+    let s2 = bind_some (file_of file) (λ d. (number_of (2 ^ 64) at >>= λ o. option_map (λ bytes. form.Write s0.0 s1.0 d o bytes) (data_of token))) f s1.2 in
+    let s3 = bind_some (number_of (2 ^ 64) at) (λ o. option_map (λ bytes. form.Write s0.0 s1.0 s2.0 o bytes) (data_of token)) f s2.2 in
+    let s4 = mapped (λ bytes. form.Write s0.0 s1.0 s2.0 s3.0 bytes) (data_of token) f s3.2 in
     let n0 = number_found (2 ^ 64) ud s0.0 (omega arith) s0.1 in
     let n1 = flags_found fl s1.0 s1.1 in
     let n2 = file_found file s2.0 s2.1 in
     let n3 = number_found (2 ^ 64) at s3.0 (omega arith) s3.1 in
-    let n4 = data_found word s4.0 s4.1 in
-    let words_are : codes "write" ∷ ud ∷ fl ∷ file ∷ at ∷ word ∷ [] ≡ spelled (form.Write s0.0 s1.0 s2.0 s3.0 s4.0) fl = ap4 (λ w0 w2 w3 w4. codes "write" ∷ w0 ∷ fl ∷ w2 ∷ w3 ∷ w4 ∷ []) n0.0 n2.0 n3.0 n4.0 in
-    subst (SpellsForm (codes "write" ∷ ud ∷ fl ∷ file ∷ at ∷ word ∷ [])) s4.2 (fl, (n0.1, n1, n2.1, n3.1, n4.1), words_are)
+    let n4 = data_found token s4.0 s4.1 in
+    let tokens_are : codes "write" ∷ ud ∷ fl ∷ file ∷ at ∷ token ∷ [] ≡ spelled (form.Write s0.0 s1.0 s2.0 s3.0 s4.0) fl = ap4 (λ w0 w2 w3 w4. codes "write" ∷ w0 ∷ fl ∷ w2 ∷ w3 ∷ w4 ∷ []) n0.0 n2.0 n3.0 n4.0 in
+    subst (SpellsForm (codes "write" ∷ ud ∷ fl ∷ file ∷ at ∷ token ∷ [])) s4.2 (fl, (n0.1, n1, n2.1, n3.1, n4.1), tokens_are)
 write_found (a ∷ b ∷ c ∷ d ∷ g ∷ h ∷ more) f e = absurd cc
 
-raw_found : (words : List (List ℕ)) (f : Form) → raw_of words ≡ Some f → SpellsForm (codes "raw" ∷ words) f
+raw_found : (tokens : List (List ℕ)) (f : Form) → raw_of tokens ≡ Some f → SpellsForm (codes "raw" ∷ tokens) f
 unfolding raw_of bytes_form_of
 raw_found [] f e = absurd cc
-raw_found (word ∷ []) f e =
-    let s = mapped (λ bytes. form.Raw bytes) (hex_of 128 word) f e in
-    let n = hex_found 128 word s.0 s.1 in
-    subst (SpellsForm (codes "raw" ∷ word ∷ [])) s.2 ([], n.1, ap (λ (w : List ℕ). codes "raw" ∷ w ∷ []) n.0)
+raw_found (token ∷ []) f e =
+    let s = mapped (λ bytes. form.Raw bytes) (hex_of 128 token) f e in
+    let n = hex_found 128 token s.0 s.1 in
+    subst (SpellsForm (codes "raw" ∷ token ∷ [])) s.2 ([], n.1, ap (λ (w : List ℕ). codes "raw" ∷ w ∷ []) n.0)
 raw_found (a ∷ b ∷ more) f e = absurd cc
 
 -- what is read is spelled so
-pub form_found : (words : List (List ℕ)) (f : Form) → form_of words ≡ Some f → SpellsForm words f
+pub form_found : (tokens : List (List ℕ)) (f : Form) → form_of tokens ≡ Some f → SpellsForm tokens f
 unfolding form_of
 form_found [] f e = absurd cc
-form_found (name ∷ words) f e =
-    let P : List ℕ → Type 0 = λ n. SpellsForm (n ∷ words) f in
-    named name (codes "nop") P (nop_of words) _ f e (nop_found words f) (λ e.
-    named name (codes "fsync") P (fsync_of words) _ f e (fsync_found words f) (λ e.
-    named name (codes "read") P (read_of words) _ f e (read_found words f) (λ e.
-    named name (codes "write") P (write_of words) _ f e (write_found words f) (λ e.
-    named name (codes "cancel") P (cancel_of words) _ f e (cancel_found words f) (λ e.
-    named name (codes "op") P (op_of words) _ f e (op_found words f) (λ e.
-    named name (codes "raw") P (raw_of words) None f e (raw_found words f) (λ e. absurd (let no : None ≡ Some f = e in cc))))))))
+form_found (name ∷ tokens) f e =
+    let P : List ℕ → Type 0 = λ n. SpellsForm (n ∷ tokens) f in
+    named name (codes "nop") P (nop_of tokens) _ f e (nop_found tokens f) (λ e.
+    named name (codes "fsync") P (fsync_of tokens) _ f e (fsync_found tokens f) (λ e.
+    named name (codes "read") P (read_of tokens) _ f e (read_found tokens f) (λ e.
+    named name (codes "write") P (write_of tokens) _ f e (write_found tokens f) (λ e.
+    named name (codes "cancel") P (cancel_of tokens) _ f e (cancel_found tokens f) (λ e.
+    named name (codes "op") P (op_of tokens) _ f e (op_found tokens f) (λ e.
+    named name (codes "raw") P (raw_of tokens) None f e (raw_found tokens f) (λ e. absurd (let no : None ≡ Some f = e in cc))))))))
 
-form_again_of : (f : Form) (word : List ℕ) → IsForm f word → form_of (spelled f word) ≡ Some f
+form_again_of : (f : Form) (token : List ℕ) → IsForm f token → form_of (spelled f token) ≡ Some f
 unfolding form_of nop_of fsync_of read_of write_of cancel_of op_of raw_of bytes_form_of
-form_again_of (form.Nop ud fl) word h = rw (number_again (2 ^ 64) ud (omega arith) h.0, flags_again word fl h.1) refl
-form_again_of (form.Fsync ud fl fd) word h = rw (number_again (2 ^ 64) ud (omega arith) h.0, flags_again word fl h.1, file_again fd h.2) refl
-form_again_of (form.Read ud fl fd off len) word h = rw (number_again (2 ^ 64) ud (omega arith) h.0, flags_again word fl h.1, file_again fd h.2, number_again (2 ^ 64) off (omega arith) h.3, number_again (2 ^ 32) len (omega arith) h.4) refl
-form_again_of (form.Write ud fl fd off bytes) word h = rw (number_again (2 ^ 64) ud (omega arith) h.0, flags_again word fl h.1, file_again fd h.2, number_again (2 ^ 64) off (omega arith) h.3, data_again bytes h.4) refl
-form_again_of (form.Cancel ud fl target) word h = rw (number_again (2 ^ 64) ud (omega arith) h.0, flags_again word fl h.1, number_again (2 ^ 64) target (omega arith) h.2) refl
-form_again_of (form.Op code ud fl) word h = rw (number_again 256 code (omega arith) h.0, number_again (2 ^ 64) ud (omega arith) h.1, flags_again word fl h.2) refl
-form_again_of (form.Raw bytes) word h = rw (hex_again 128 bytes h) refl
+form_again_of (form.Nop ud fl) token h = rw (number_again (2 ^ 64) ud (omega arith) h.0, flags_again token fl h.1) refl
+form_again_of (form.Fsync ud fl fd) token h = rw (number_again (2 ^ 64) ud (omega arith) h.0, flags_again token fl h.1, file_again fd h.2) refl
+form_again_of (form.Read ud fl fd off len) token h = rw (number_again (2 ^ 64) ud (omega arith) h.0, flags_again token fl h.1, file_again fd h.2, number_again (2 ^ 64) off (omega arith) h.3, number_again (2 ^ 32) len (omega arith) h.4) refl
+form_again_of (form.Write ud fl fd off bytes) token h = rw (number_again (2 ^ 64) ud (omega arith) h.0, flags_again token fl h.1, file_again fd h.2, number_again (2 ^ 64) off (omega arith) h.3, data_again bytes h.4) refl
+form_again_of (form.Cancel ud fl target) token h = rw (number_again (2 ^ 64) ud (omega arith) h.0, flags_again token fl h.1, number_again (2 ^ 64) target (omega arith) h.2) refl
+form_again_of (form.Op code ud fl) token h = rw (number_again 256 code (omega arith) h.0, number_again (2 ^ 64) ud (omega arith) h.1, flags_again token fl h.2) refl
+form_again_of (form.Raw bytes) token h = rw (hex_again 128 bytes h) refl
 
 -- what is spelled so is read
-pub form_again : (words : List (List ℕ)) (f : Form) → SpellsForm words f → form_of words ≡ Some f
-form_again words f h = ap form_of h.2 ∙ form_again_of f h.0 h.1
+pub form_again : (tokens : List (List ℕ)) (f : Form) → SpellsForm tokens f → form_of tokens ≡ Some f
+form_again tokens f h = ap form_of h.2 ∙ form_again_of f h.0 h.1

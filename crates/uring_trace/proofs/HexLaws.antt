@@ -1,4 +1,4 @@
--- Bytes are read of just the words that are their lower case digits.
+-- Bytes are read of just the tokens that are their lower case digits.
 use Rattle.std.proofs.Common.{◌≡◌, ℕ, zero, suc, ◌+◌, ◌-◌, ◌*◌, ◌/◌, ◌%◌, ◌<◌, ◌≤◌, Bool, true, false, cond, ltb, eqb, ◌&&◌, ◌||◌, List, [], ◌∷◌, length, Option, Some, None, Result, Ok, Err, refl, sym, ap, subst, ◌∙◌, arith, inl, inr}
 use Rattle.std.specs.Prelude.{codes, slice_index, nat_le}
 use Rattle.std.specs.List.{AllByRecursion, list_any}
@@ -140,19 +140,19 @@ ok_from : (r : Result (List ℕ) FromHexError) (bytes : List ℕ) → result_ok 
 ok_from (Ok x) bytes e = ap (λ (l : List ℕ). ok l) (some_is x bytes e)
 ok_from (Err d) bytes e = absurd cc
 
-pub hex_found : (count : ℕ) (word bytes : List ℕ) → hex_of count word ≡ Some bytes → (word ≡ encode_lower bytes) × AreBytes bytes count count
+pub hex_found : (count : ℕ) (token bytes : List ℕ) → hex_of count token ≡ Some bytes → (token ≡ encode_lower bytes) × AreBytes bytes count count
 unfolding hex_of
-hex_found count word bytes e =
-    elim (chosen (list_any is_capital word) None (result_ok (decode_sized word count)) (Some bytes) e) [
+hex_found count token bytes e =
+    elim (chosen (list_any is_capital token) None (result_ok (decode_sized token count)) (Some bytes) e) [
       | inl p ↦ absurd (let no : None ≡ Some bytes = p.1 in cc)
       | inr p ↦
-          let decoded : decode_sized word count ≡ Ok bytes = ok_from (decode_sized word count) bytes p.1 in
-          let size : length word ≡ 2 * count = decode_sized-ok word count bytes decoded in
-          let whole : decode_of word ≡ Ok bytes = sym (decode_sized-twice word count size) ∙ decoded in
-          let facts = decode_of-ok word bytes whole in
-          let pairs : decode_pairs 0 word ≡ Ok bytes = sym (decode_of-even word facts.0) ∙ whole in
-          let both : length word ≡ 2 * length bytes = facts.2 in
-          (pairs_lower 0 word bytes pairs p.0, record { few = omega arith; enough = omega arith; each = bytes_to bytes facts.3 })
+          let decoded : decode_sized token count ≡ Ok bytes = ok_from (decode_sized token count) bytes p.1 in
+          let size : length token ≡ 2 * count = decode_sized-ok token count bytes decoded in
+          let whole : decode_of token ≡ Ok bytes = sym (decode_sized-twice token count size) ∙ decoded in
+          let facts = decode_of-ok token bytes whole in
+          let pairs : decode_pairs 0 token ≡ Ok bytes = sym (decode_of-even token facts.0) ∙ whole in
+          let both : length token ≡ 2 * length bytes = facts.2 in
+          (pairs_lower 0 token bytes pairs p.0, record { few = omega arith; enough = omega arith; each = bytes_to bytes facts.3 })
     ]
 
 encoded_small : (bytes : List ℕ) → AllByRecursion (λ b. b < 256) bytes → list_any is_capital (encode_lower bytes) ≡ false
@@ -173,43 +173,43 @@ shown : (bytes : List ℕ) → 0 < length bytes → hex_or_dash bytes ≡ encode
 shown [] lt = absurd (omega arith)
 shown (b ∷ bytes) lt = refl
 
-pub data_found : (word bytes : List ℕ) → data_of word ≡ Some bytes → (word ≡ hex_or_dash bytes) × AreBytes bytes 0 64
+pub data_found : (token bytes : List ℕ) → data_of token ≡ Some bytes → (token ≡ hex_or_dash bytes) × AreBytes bytes 0 64
 unfolding data_of
-data_found word bytes e =
-    elim (chosen (bytes_eq word (codes "-")) (Some []) (cond (eqb (length word / 2) 0) None (cond (ltb 64 (length word / 2)) None (hex_of (length word / 2) word))) (Some bytes) e) [
+data_found token bytes e =
+    elim (chosen (bytes_eq token (codes "-")) (Some []) (cond (eqb (length token / 2) 0) None (cond (ltb 64 (length token / 2)) None (hex_of (length token / 2) token))) (Some bytes) e) [
       | inl p ↦
           let none : [] ≡ bytes = some_is [] bytes p.1 in
-          subst (λ (l : List ℕ). (word ≡ hex_or_dash l) × AreBytes l 0 64) none ((bytes_eq-Decides word (codes "-")).0 p.0, record { few = omega arith; enough = omega arith; each = tt })
-      | inr p ↦ elim (chosen (eqb (length word / 2) 0) None (cond (ltb 64 (length word / 2)) None (hex_of (length word / 2) word)) (Some bytes) p.1) [
+          subst (λ (l : List ℕ). (token ≡ hex_or_dash l) × AreBytes l 0 64) none ((bytes_eq-Decides token (codes "-")).0 p.0, record { few = omega arith; enough = omega arith; each = tt })
+      | inr p ↦ elim (chosen (eqb (length token / 2) 0) None (cond (ltb 64 (length token / 2)) None (hex_of (length token / 2) token)) (Some bytes) p.1) [
         | inl q ↦ absurd (let no : None ≡ Some bytes = q.1 in cc)
-        | inr q ↦ elim (chosen (ltb 64 (length word / 2)) None (hex_of (length word / 2) word) (Some bytes) q.1) [
+        | inr q ↦ elim (chosen (ltb 64 (length token / 2)) None (hex_of (length token / 2) token) (Some bytes) q.1) [
           | inl s ↦ absurd (let no : None ≡ Some bytes = s.1 in cc)
           | inr s ↦
-              let found = hex_found (length word / 2) word bytes s.1 in
-              let few : length word / 2 ≤ length bytes = found.1.few in
-              let enough : length bytes ≤ length word / 2 = found.1.enough in
-              let most : length word / 2 ≤ 64 = ltb-false 64 (length word / 2) s.0 in
-              let some : length word / 2 ≡ 0 → ⊥ = eqb-false (length word / 2) 0 q.0 in
+              let found = hex_found (length token / 2) token bytes s.1 in
+              let few : length token / 2 ≤ length bytes = found.1.few in
+              let enough : length bytes ≤ length token / 2 = found.1.enough in
+              let most : length token / 2 ≤ 64 = ltb-false 64 (length token / 2) s.0 in
+              let some : length token / 2 ≡ 0 → ⊥ = eqb-false (length token / 2) 0 q.0 in
               (found.0 ∙ sym (shown bytes (omega arith)), record { few = omega arith; enough = omega arith; each = found.1.each })
         ]
       ]
     ]
 
-no_dash : (word : List ℕ) → (length word ≡ 1 → ⊥) → bytes_eq word (codes "-") ≡ false
-no_dash word h =
-    elim (cases_Bool (bytes_eq word (codes "-"))) [
+no_dash : (token : List ℕ) → (length token ≡ 1 → ⊥) → bytes_eq token (codes "-") ≡ false
+no_dash token h =
+    elim (cases_Bool (bytes_eq token (codes "-"))) [
       | inr f ↦ f
-      | inl t ↦ absurd (h (ap length ((bytes_eq-Decides word (codes "-")).0 t)))
+      | inl t ↦ absurd (h (ap length ((bytes_eq-Decides token (codes "-")).0 t)))
     ]
 
-data_again_of : (bytes word : List ℕ) → 0 < length bytes → word ≡ encode_lower bytes → AreBytes bytes 0 64 → data_of word ≡ Some bytes
+data_again_of : (bytes token : List ℕ) → 0 < length bytes → token ≡ encode_lower bytes → AreBytes bytes 0 64 → data_of token ≡ Some bytes
 unfolding data_of
-data_again_of bytes word lt is h =
-    let size : length word ≡ 2 * length bytes = ap length is ∙ length-encode_with lower_digits bytes in
+data_again_of bytes token lt is h =
+    let size : length token ≡ 2 * length bytes = ap length is ∙ length-encode_with lower_digits bytes in
     let most : length bytes ≤ 64 = h.enough in
-    let half : length word / 2 ≡ length bytes = omega arith in
-    let all : hex_of (length bytes) word ≡ Some bytes = ap (hex_of (length bytes)) is ∙ hex_again (length bytes) bytes (record { few = omega arith; enough = omega arith; each = h.each }) in
-    rw (no_dash word (λ one. absurd (omega arith)), half, ne_eqb (length bytes) 0 (λ none. absurd (omega arith)), le-ltb 64 (length bytes) most) all
+    let half : length token / 2 ≡ length bytes = omega arith in
+    let all : hex_of (length bytes) token ≡ Some bytes = ap (hex_of (length bytes)) is ∙ hex_again (length bytes) bytes (record { few = omega arith; enough = omega arith; each = h.each }) in
+    rw (no_dash token (λ one. absurd (omega arith)), half, ne_eqb (length bytes) 0 (λ none. absurd (omega arith)), le-ltb 64 (length bytes) most) all
 
 pub data_again : (bytes : List ℕ) → AreBytes bytes 0 64 → data_of (hex_or_dash bytes) ≡ Some bytes
 unfolding data_of

@@ -60,7 +60,7 @@ pub not_numeral : (limit : ℕ) (w : List ℕ) → is_numeral w ≡ false → nu
 unfolding number_of
 not_numeral limit w e = rw e refl
 
--- what a word's number is
+-- what a token's number is
 pub number_parts : (limit : ℕ) (w : List ℕ) (n : ℕ) → number_of limit w ≡ Some n → (is_numeral w ≡ true) × (digits_value 10 w ≡ n) × (n < limit)
 unfolding number_of
 number_parts limit w n e =
@@ -95,7 +95,7 @@ no_number limit w e le =
       ]
     ]
 
--- a word that doesn't begin with `-`
+-- a token that doesn't begin with `-`
 pub file_other : (w : List ℕ) → (get_or w 0 0 ≡ 45 → ⊥) → option_map (λ n. pos n) (number_of (2 ^ 31) w) ≡ file_of w
 unfolding number_of is_numeral file_of
 file_other [] h = refl

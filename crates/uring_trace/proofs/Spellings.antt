@@ -1,4 +1,4 @@
--- What is read of a line's words is what they spell.
+-- What is read of a line's tokens is what they spell.
 use Rattle.std.proofs.Common.{◌≡◌, ℕ, ◌^◌, ◌<◌, ◌≤◌, Bool, true, false, cond, eqb, List, [], ◌∷◌, length, Option, Some, None, refl, sym, ap, subst, ◌∙◌, arith, inl, inr}
 use Rattle.std.specs.Prelude.{codes, MatchOption}
 use Rattle.std.specs.Option.{option_map}
@@ -19,7 +19,7 @@ use Rattle.uring_trace.proofs.NumberLaws.{number_found, number_again}
 use Rattle.uring_trace.proofs.FormLaws.{named, mapped, form_found, form_again}
 use Rattle.uring_trace.proofs.EntryLaws.{entry_once}
 
--- one word
+-- one token
 abbrev SpellsOne : Step → List ℕ → Type 0
 SpellsOne s name = Spells (name ∷ []) s
 
@@ -42,82 +42,82 @@ one_found name s e =
 
 -- a name and a number
 abbrev SpellsTwo : List ℕ → Step → List ℕ → Type 0
-SpellsTwo word s name = Spells (name ∷ word ∷ []) s
+SpellsTwo token s name = Spells (name ∷ token ∷ []) s
 
-two_is : (text word : List ℕ) (limit : ℕ) (made : ℕ → Step) (s : Step) → limit ≤ 2 ^ 64 → ((n : ℕ) → n < limit → Spells (text ∷ decimal n ∷ []) (made n)) → option_map made (number_of limit word) ≡ Some s → SpellsTwo word s text
-two_is text word limit made s le h e =
-    let m = mapped made (number_of limit word) s e in
-    let n = number_found limit word m.0 le m.1 in
+two_is : (text token : List ℕ) (limit : ℕ) (made : ℕ → Step) (s : Step) → limit ≤ 2 ^ 64 → ((n : ℕ) → n < limit → Spells (text ∷ decimal n ∷ []) (made n)) → option_map made (number_of limit token) ≡ Some s → SpellsTwo token s text
+two_is text token limit made s le h e =
+    let m = mapped made (number_of limit token) s e in
+    let n = number_found limit token m.0 le m.1 in
     subst (λ (w : List ℕ). Spells (text ∷ w ∷ []) s) (sym n.0) (subst (Spells (text ∷ decimal m.0 ∷ [])) m.2 (h m.0 n.1))
 
-two_found : (name word : List ℕ) (s : Step) → step_of_two name word ≡ Some s → Spells (name ∷ word ∷ []) s
+two_found : (name token : List ℕ) (s : Step) → step_of_two name token ≡ Some s → Spells (name ∷ token ∷ []) s
 unfolding step_of_two
-two_found name word s e =
-    named name (codes "index") (SpellsTwo word s) (option_map (λ n. step.Index n) (number_of (2 ^ 32) word)) _ s e (two_is (codes "index") word (2 ^ 32) (λ n. step.Index n) s (omega arith) (λ n lt. (refl, lt))) (λ e.
-    named name (codes "begin") (SpellsTwo word s) (option_map (λ n. step.Begin n) (number_of (2 ^ 32) word)) _ s e (two_is (codes "begin") word (2 ^ 32) (λ n. step.Begin n) s (omega arith) (λ n lt. (refl, lt))) (λ e.
-    named name (codes "issue") (SpellsTwo word s) (option_map (λ n. step.Issue n) (number_of (2 ^ 64) word)) _ s e (two_is (codes "issue") word (2 ^ 64) (λ n. step.Issue n) s (omega arith) (λ n lt. (refl, lt))) (λ e.
-    named name (codes "finish") (SpellsTwo word s) (option_map (λ n. step.Finish n) (number_of (2 ^ 64) word)) None s e (two_is (codes "finish") word (2 ^ 64) (λ n. step.Finish n) s (omega arith) (λ n lt. (refl, lt))) (λ e. absurd (let no : None ≡ Some s = e in cc)))))
+two_found name token s e =
+    named name (codes "index") (SpellsTwo token s) (option_map (λ n. step.Index n) (number_of (2 ^ 32) token)) _ s e (two_is (codes "index") token (2 ^ 32) (λ n. step.Index n) s (omega arith) (λ n lt. (refl, lt))) (λ e.
+    named name (codes "begin") (SpellsTwo token s) (option_map (λ n. step.Begin n) (number_of (2 ^ 32) token)) _ s e (two_is (codes "begin") token (2 ^ 32) (λ n. step.Begin n) s (omega arith) (λ n lt. (refl, lt))) (λ e.
+    named name (codes "issue") (SpellsTwo token s) (option_map (λ n. step.Issue n) (number_of (2 ^ 64) token)) _ s e (two_is (codes "issue") token (2 ^ 64) (λ n. step.Issue n) s (omega arith) (λ n lt. (refl, lt))) (λ e.
+    named name (codes "finish") (SpellsTwo token s) (option_map (λ n. step.Finish n) (number_of (2 ^ 64) token)) None s e (two_is (codes "finish") token (2 ^ 64) (λ n. step.Finish n) s (omega arith) (λ n lt. (refl, lt))) (λ e. absurd (let no : None ≡ Some s = e in cc)))))
 
 -- a fill
-fill_found : (word : List ℕ) (rest : List (List ℕ)) (s : Step) (o : Option ℕ) (f : Option Form) → number_of (2 ^ 32) word ≡ o → form_of rest ≡ f → ReadsFill (Some s) o f → Spells (codes "fill" ∷ word ∷ rest) s
-fill_found word rest s None f n r e = absurd cc
-fill_found word rest s (Some slot) None n r e = absurd cc
-fill_found word rest s (Some slot) (Some f) n r e =
-    let number = number_found (2 ^ 32) word slot (omega arith) n in
-    let filled : Spells (codes "fill" ∷ word ∷ rest) (step.Fill slot e.0) =
+fill_found : (token : List ℕ) (rest : List (List ℕ)) (s : Step) (o : Option ℕ) (f : Option Form) → number_of (2 ^ 32) token ≡ o → form_of rest ≡ f → ReadsFill (Some s) o f → Spells (codes "fill" ∷ token ∷ rest) s
+fill_found token rest s None f n r e = absurd cc
+fill_found token rest s (Some slot) None n r e = absurd cc
+fill_found token rest s (Some slot) (Some f) n r e =
+    let number = number_found (2 ^ 32) token slot (omega arith) n in
+    let filled : Spells (codes "fill" ∷ token ∷ rest) (step.Fill slot e.0) =
     (rest, ap (λ (w : List ℕ). codes "fill" ∷ w ∷ rest) number.0, number.1, record { form = f; spells = form_found rest f r; is_entry = e.2 }) in
-    subst (Spells (codes "fill" ∷ word ∷ rest)) (some_is (step.Fill slot e.0) s (sym e.1)) filled
+    subst (Spells (codes "fill" ∷ token ∷ rest)) (some_is (step.Fill slot e.0) s (sym e.1)) filled
 
-some_of_more : (name word : List ℕ) (rest : List (List ℕ)) (s : Step) (b : Bool) → bytes_eq name (codes "fill") ≡ b → MatchBool b (ReadsFill (Some s) (number_of (2 ^ 32) word) (form_of rest)) (Some s ≡ cond (eqb (length rest) 0) (step_of_two name word) None) → Spells (name ∷ word ∷ rest) s
-some_of_more name word rest s true is e =
-    subst (λ (n : List ℕ). Spells (n ∷ word ∷ rest) s) (sym ((bytes_eq-Decides name (codes "fill")).0 is)) (fill_found word rest s (number_of (2 ^ 32) word) (form_of rest) refl refl e)
-some_of_more name word rest s false is e =
-    elim (chosen (eqb (length rest) 0) (step_of_two name word) None (Some s) (sym e)) [
-      | inl p ↦ subst (λ (l : List (List ℕ)). Spells (name ∷ word ∷ l) s) (sym (nil_from_length rest (eqb-true (length rest) 0 p.0))) (two_found name word s p.1)
+some_of_more : (name token : List ℕ) (rest : List (List ℕ)) (s : Step) (b : Bool) → bytes_eq name (codes "fill") ≡ b → MatchBool b (ReadsFill (Some s) (number_of (2 ^ 32) token) (form_of rest)) (Some s ≡ cond (eqb (length rest) 0) (step_of_two name token) None) → Spells (name ∷ token ∷ rest) s
+some_of_more name token rest s true is e =
+    subst (λ (n : List ℕ). Spells (n ∷ token ∷ rest) s) (sym ((bytes_eq-Decides name (codes "fill")).0 is)) (fill_found token rest s (number_of (2 ^ 32) token) (form_of rest) refl refl e)
+some_of_more name token rest s false is e =
+    elim (chosen (eqb (length rest) 0) (step_of_two name token) None (Some s) (sym e)) [
+      | inl p ↦ subst (λ (l : List (List ℕ)). Spells (name ∷ token ∷ l) s) (sym (nil_from_length rest (eqb-true (length rest) 0 p.0))) (two_found name token s p.1)
       | inr p ↦ absurd (let no : None ≡ Some s = p.1 in cc)
     ]
 
-step_found : (words : List (List ℕ)) (s : Step) → ReadsStep (Some s) words → Spells words s
+step_found : (tokens : List (List ℕ)) (s : Step) → ReadsStep (Some s) tokens → Spells tokens s
 step_found [] s e = absurd cc
 step_found (name ∷ []) s e = one_found name s (sym e)
-step_found (name ∷ word ∷ rest) s e = some_of_more name word rest s (bytes_eq name (codes "fill")) refl e
+step_found (name ∷ token ∷ rest) s e = some_of_more name token rest s (bytes_eq name (codes "fill")) refl e
 
 -- ---- what is spelled is read
 
-one_again : (name : List ℕ) (s : Step) → step_of_one name ≡ Some s → (words : List (List ℕ)) → words ≡ name ∷ [] → ReadsStep (Some s) words
-one_again name s e words is = subst (ReadsStep (Some s)) (sym is) (sym e)
+one_again : (name : List ℕ) (s : Step) → step_of_one name ≡ Some s → (tokens : List (List ℕ)) → tokens ≡ name ∷ [] → ReadsStep (Some s) tokens
+one_again name s e tokens is = subst (ReadsStep (Some s)) (sym is) (sym e)
 
-two_again : (name : List ℕ) (n limit : ℕ) (made : ℕ → Step) → limit ≤ 2 ^ 64 → n < limit → bytes_eq name (codes "fill") ≡ false → step_of_two name (decimal n) ≡ option_map made (number_of limit (decimal n)) → (words : List (List ℕ)) → words ≡ name ∷ decimal n ∷ []
-    → ReadsStep (Some (made n)) words
-two_again name n limit made le lt other e words is =
+two_again : (name : List ℕ) (n limit : ℕ) (made : ℕ → Step) → limit ≤ 2 ^ 64 → n < limit → bytes_eq name (codes "fill") ≡ false → step_of_two name (decimal n) ≡ option_map made (number_of limit (decimal n)) → (tokens : List (List ℕ)) → tokens ≡ name ∷ decimal n ∷ []
+    → ReadsStep (Some (made n)) tokens
+two_again name n limit made le lt other e tokens is =
     let read : Some (made n) ≡ step_of_two name (decimal n) = sym (e ∙ ap (option_map made) (number_again limit n le lt)) in
     let reads : ReadsStep (Some (made n)) (name ∷ decimal n ∷ []) = rw other read in
     subst (ReadsStep (Some (made n))) (sym is) reads
 
-fill_again : (slot : ℕ) (entry : Sqe) (rest : List (List ℕ)) (f : Form) → slot < 2 ^ 32 → SpellsForm rest f → IsEntryOf f entry → (words : List (List ℕ)) → words ≡ codes "fill" ∷ decimal slot ∷ rest → ReadsStep (Some (step.Fill slot entry)) words
-fill_again slot entry rest f lt h is_entry words is =
+fill_again : (slot : ℕ) (entry : Sqe) (rest : List (List ℕ)) (f : Form) → slot < 2 ^ 32 → SpellsForm rest f → IsEntryOf f entry → (tokens : List (List ℕ)) → tokens ≡ codes "fill" ∷ decimal slot ∷ rest → ReadsStep (Some (step.Fill slot entry)) tokens
+fill_again slot entry rest f lt h is_entry tokens is =
     let filled : ReadsFill (Some (step.Fill slot entry)) (number_of (2 ^ 32) (decimal slot)) (form_of rest) = rw (number_again (2 ^ 32) slot (omega arith) lt, form_again rest f h) (entry, refl, is_entry) in
     subst (ReadsStep (Some (step.Fill slot entry))) (sym is) filled
 
-step_again : (words : List (List ℕ)) (s : Step) → Spells words s → ReadsStep (Some s) words
+step_again : (tokens : List (List ℕ)) (s : Step) → Spells tokens s → ReadsStep (Some s) tokens
 unfolding step_of_one step_of_two
-step_again words (step.Fill slot entry) h = fill_again slot entry h.0 h.3.form h.2 h.3.spells h.3.is_entry words h.1
-step_again words (step.Index n) h = two_again (codes "index") n (2 ^ 32) (λ n. step.Index n) (omega arith) h.1 refl refl words h.0
-step_again words (step.Begin n) h = two_again (codes "begin") n (2 ^ 32) (λ n. step.Begin n) (omega arith) h.1 refl refl words h.0
-step_again words (step.Issue n) h = two_again (codes "issue") n (2 ^ 64) (λ n. step.Issue n) (omega arith) h.1 refl refl words h.0
-step_again words (step.Finish n) h = two_again (codes "finish") n (2 ^ 64) (λ n. step.Finish n) (omega arith) h.1 refl refl words h.0
-step_again words step.StoreTail h = one_again (codes "tail") step.StoreTail refl words h
-step_again words step.LoadHead h = one_again (codes "head") step.LoadHead refl words h
-step_again words step.Take h = one_again (codes "take") step.Take refl words h
-step_again words step.End h = one_again (codes "end") step.End refl words h
-step_again words step.Flush h = one_again (codes "flush") step.Flush refl words h
-step_again words step.LoadCqTail h = one_again (codes "cqtail") step.LoadCqTail refl words h
-step_again words step.Reap h = one_again (codes "reap") step.Reap refl words h
-step_again words step.StoreCqHead h = one_again (codes "cqhead") step.StoreCqHead refl words h
-step_again words step.Close h = one_again (codes "close") step.Close refl words h
-step_again words step.Next h = one_again (codes "next") step.Next refl words h
+step_again tokens (step.Fill slot entry) h = fill_again slot entry h.0 h.3.form h.2 h.3.spells h.3.is_entry tokens h.1
+step_again tokens (step.Index n) h = two_again (codes "index") n (2 ^ 32) (λ n. step.Index n) (omega arith) h.1 refl refl tokens h.0
+step_again tokens (step.Begin n) h = two_again (codes "begin") n (2 ^ 32) (λ n. step.Begin n) (omega arith) h.1 refl refl tokens h.0
+step_again tokens (step.Issue n) h = two_again (codes "issue") n (2 ^ 64) (λ n. step.Issue n) (omega arith) h.1 refl refl tokens h.0
+step_again tokens (step.Finish n) h = two_again (codes "finish") n (2 ^ 64) (λ n. step.Finish n) (omega arith) h.1 refl refl tokens h.0
+step_again tokens step.StoreTail h = one_again (codes "tail") step.StoreTail refl tokens h
+step_again tokens step.LoadHead h = one_again (codes "head") step.LoadHead refl tokens h
+step_again tokens step.Take h = one_again (codes "take") step.Take refl tokens h
+step_again tokens step.End h = one_again (codes "end") step.End refl tokens h
+step_again tokens step.Flush h = one_again (codes "flush") step.Flush refl tokens h
+step_again tokens step.LoadCqTail h = one_again (codes "cqtail") step.LoadCqTail refl tokens h
+step_again tokens step.Reap h = one_again (codes "reap") step.Reap refl tokens h
+step_again tokens step.StoreCqHead h = one_again (codes "cqhead") step.StoreCqHead refl tokens h
+step_again tokens step.Close h = one_again (codes "close") step.Close refl tokens h
+step_again tokens step.Next h = one_again (codes "next") step.Next refl tokens h
 
--- ---- words are read in one way
+-- ---- tokens are read in one way
 
 none_some : (o : Option Step) (s : Step) → None ≡ o → Some s ≡ o → ⊥
 none_some o s r q = absurd (let no : None ≡ Some s = r ∙ sym q in cc)
@@ -131,10 +131,10 @@ no_more : (b : Bool) (o : Option ℕ) (f : Option Form) (other : Option Step) (s
 no_more true o f other s r q = no_fill o f s r q
 no_more false o f other s r q = none_some other s r q
 
-none_and_step : (words : List (List ℕ)) (s : Step) → ReadsStep None words → ReadsStep (Some s) words → ⊥
+none_and_step : (tokens : List (List ℕ)) (s : Step) → ReadsStep None tokens → ReadsStep (Some s) tokens → ⊥
 none_and_step [] s r q = absurd cc
 none_and_step (name ∷ []) s r q = none_some (step_of_one name) s r q
-none_and_step (name ∷ word ∷ rest) s r q = no_more (bytes_eq name (codes "fill")) (number_of (2 ^ 32) word) (form_of rest) (cond (eqb (length rest) 0) (step_of_two name word) None) s r q
+none_and_step (name ∷ token ∷ rest) s r q = no_more (bytes_eq name (codes "fill")) (number_of (2 ^ 32) token) (form_of rest) (cond (eqb (length rest) 0) (step_of_two name token) None) s r q
 
 fill_once : (o : Option ℕ) (f : Option Form) (s t : Step) → ReadsFill (Some s) o f → ReadsFill (Some t) o f → s ≡ t
 fill_once None f s t r q = absurd cc
@@ -149,10 +149,10 @@ more_once : (b : Bool) (o : Option ℕ) (f : Option Form) (other : Option Step) 
 more_once true o f other s t r q = fill_once o f s t r q
 more_once false o f other s t r q = some_is s t (r ∙ sym q)
 
-read_once : (words : List (List ℕ)) (s t : Step) → ReadsStep (Some s) words → ReadsStep (Some t) words → s ≡ t
+read_once : (tokens : List (List ℕ)) (s t : Step) → ReadsStep (Some s) tokens → ReadsStep (Some t) tokens → s ≡ t
 read_once [] s t r q = absurd cc
 read_once (name ∷ []) s t r q = some_is s t (r ∙ sym q)
-read_once (name ∷ word ∷ rest) s t r q = more_once (bytes_eq name (codes "fill")) (number_of (2 ^ 32) word) (form_of rest) (cond (eqb (length rest) 0) (step_of_two name word) None) s t r q
+read_once (name ∷ token ∷ rest) s t r q = more_once (bytes_eq name (codes "fill")) (number_of (2 ^ 32) token) (form_of rest) (cond (eqb (length rest) 0) (step_of_two name token) None) s t r q
 
 -- a line is one step at most
 pub step_once : (line : List ℕ) (s t : Step) → IsStep line s → IsStep line t → s ≡ t
