@@ -11,10 +11,11 @@ pub mod laws;
 mod refusal;
 mod request;
 mod standing;
+mod why;
 mod window;
 
 pub use dispatch::Dispatch;
 pub use finish_answer::Finished;
 pub use issue_answer::Issued;
 pub use refusal::ReserveError;
-pub use uring_entry::{BadSetup, Cqe, Fault, Op, Outcome, Setup, Sqe, SqeFlags};
+pub use uring_entry::{BadSetup, Cqe, Doom, Fault, Op, Outcome, Setup, Since, Sqe, SqeFlags, Why};
