@@ -5,6 +5,7 @@ pub mod WindowFront
 pub mod BarrierLemmas
 pub mod GroupsKept
 pub mod HeldLemmas
+pub mod WhyHeld
 pub mod EndLemmas
 pub mod EndsHeld
 pub mod Issues

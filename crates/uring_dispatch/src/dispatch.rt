@@ -1,5 +1,6 @@
 ghost use Rattle.std.specs.Prelude.{◌≡◌, ◌+◌, ◌-◌, ◌^◌, ◌<◌, ◌≤◌, ◌↔◌, IsTrue, true, false, OnOk, OnErr, IsOk, IsErrOf};
 ghost use Rattle.uring_entry.specs.Requests.{Requests, no_request, with_accepted, with_cut, next_of, least_of, operation_running, entry_outstanding, outstanding_in, running_in};
+ghost use Rattle.uring_entry.specs.Why.{why_of};
 ghost use Rattle.uring_dispatch.specs.IssueAndFinish.{issued, after_issue, finished, after_finish};
 
 use crate::answers::{Finished, Issued};
@@ -7,10 +8,10 @@ use crate::errors::ReserveError;
 use crate::groups::Groups;
 use crate::request::Request;
 use crate::window::Window;
-use crate::{events, standing};
+use crate::{events, standing, why};
 use std::alloc::Global;
 use std::marker::Model;
-use uring_entry::{Op, Outcome, Sqe, prepare};
+use uring_entry::{Op, Outcome, Sqe, Why, prepare};
 
 /// The requests that were accepted, numbered from 0 in the order of their acceptance, with what was made of them. Which of them wait, are doomed or may start is that of io_uring_enter(2), IOSQE_IO_DRAIN, IOSQE_IO_LINK, IOSQE_IO_HARDLINK and IORING_OP_ASYNC_CANCEL; the numbers, and that a request is issued by its number, are our own rule.
 ///
@@ -171,6 +172,14 @@ impl Dispatch {
         ensures { (r : Requests) → ShowsRequests self.now r → result ≡ least_of r }
     {
         self.window.least()
+    }
+
+    /// Why request `n`, any number, stands as it does: what dooms it, or the least request that it waits for, with the first reason in the order of `Doom` or `Since`. Our own rule.
+    pub fn why(&self, n: u64) -> Why
+        requires { IsTrue self.now.is_between_calls }
+        ensures { (r : Requests) → ShowsRequests self.now r → result ≡ why_of r n }
+    {
+        why::why(&self.window, &self.groups, n)
     }
 
     /// How many requests were accepted: at most `MAX_ACCEPTED`.

@@ -10,9 +10,10 @@ mod groups;
 pub mod laws;
 mod request;
 mod standing;
+mod why;
 mod window;
 
 pub use answers::{Finished, Issued};
 pub use dispatch::Dispatch;
 pub use errors::ReserveError;
-pub use uring_entry::{BadSetup, Cqe, Fault, Op, Outcome, Setup, Sqe, SqeFlags};
+pub use uring_entry::{BadSetup, Cqe, Doom, Fault, Op, Outcome, Setup, Since, Sqe, SqeFlags, Why};

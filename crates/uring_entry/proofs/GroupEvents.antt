@@ -1,15 +1,13 @@
 -- What each event makes of what is known of a group.
-use Rattle.std.proofs.Common.{◌≡◌, ◌≢◌, ℕ, zero, suc, ◌+◌, ◌-◌, ◌<◌, ◌≤◌, ℤ, List, [], ◌∷◌, ◌++◌, length, length-append, Bool, true, false, not, ◌&&◌, ◌||◌, ◌==◌, leb, ltb, Option, Some, None, refl, sym, ◌∙◌, ap, arith, inl, inr, add-one}
+use Rattle.std.proofs.Common.{◌≡◌, ◌≢◌, ℕ, suc, ◌+◌, ◌<◌, ◌≤◌, ℤ, List, [], ◌∷◌, length, length-append, Bool, true, false, not, ◌&&◌, ◌||◌, ◌==◌, leb, Option, Some, None, refl, sym, ◌∙◌, ap, arith, inl, inr, add-one}
 use Rattle.std.specs.Prelude.{if◌then◌else◌}
-use Rattle.std.specs.List.{list_any}
-use Rattle.std.proofs.lemmas.Bool.{cases_lt, cases_eq, cases_Bool, and_left, and_right, and_from, or_from, or_left, or_right, both_ways, le-leb, lt-leb, lt-ltb, le-ltb, eq-eqb, ne_eqb}
+use Rattle.std.proofs.lemmas.Bool.{cases_lt, cases_eq, cases_Bool, and_left, and_right, and_from, or_right, both_ways, le-leb, lt-leb, lt-ltb, le-ltb, eq-eqb, ne_eqb}
 use Rattle.uring_entry.specs.Layout.{Sqe}
-use Rattle.uring_entry.specs.Below.{some_below, least_below, found_or}
-use Rattle.uring_entry.specs.Requests.{Requests, entry_of, has_ended, has_failed, is_last, is_linked, is_soft, is_drain, with_accepted, with_cut, with_ended}
-use Rattle.uring_entry.specs.Preparation.{is_faulty}
+use Rattle.uring_entry.specs.Below.{least_below, found_or}
+use Rattle.uring_entry.specs.Requests.{Requests, entry_of, has_ended, has_failed, is_last, is_linked, is_soft, with_accepted, with_cut, with_ended}
 use Rattle.uring_entry.specs.Success.{is_success}
-use Rattle.uring_entry.specs.Groups.{IsGroup, first_member, is_before, first_fault, first_drain, first_broken, earlier_of}
-use Rattle.uring_entry.proofs.BelowLemmas.{least_below-none, least_below-some, least_below-same, least_below-out, least_below-tells, IsLeast}
+use Rattle.uring_entry.specs.Groups.{IsGroup, first_member, first_broken, earlier_of}
+use Rattle.uring_entry.proofs.BelowLemmas.{least_below-none, least_below-some, least_below-same, least_below-out, least_below-tells}
 use Rattle.uring_entry.proofs.RequestLemmas.{entry_of-accepted_at, entry_of-accepted_other, has_failed-accepted, has_failed-unended, has_failed-same, has_failed-other, added-other, added-same}
 use Rattle.uring_entry.proofs.EventLemmas.{is_last-accepted}
 

@@ -7,3 +7,4 @@ pub mod RequestLemmas
 pub mod EventLemmas
 pub mod GroupLemmas
 pub mod GroupEvents
+pub mod WhyLemmas

@@ -9,5 +9,6 @@ pub mod IndexWords
 pub mod Submission
 pub mod Requests
 pub mod Groups
+pub mod Why
 pub mod Completions
 pub mod Texts

@@ -14,6 +14,7 @@ mod preparation;
 mod setup;
 mod sqe;
 mod success;
+mod why;
 
 pub use bad_setup::BadSetup;
 pub use cqe::Cqe;
@@ -24,3 +25,4 @@ pub use preparation::prepare;
 pub use setup::Setup;
 pub use sqe::Sqe;
 pub use success::{posts_completion, succeeded};
+pub use why::{Doom, Since, Why};

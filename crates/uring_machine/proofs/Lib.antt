@@ -39,4 +39,5 @@ pub mod FileLaws
 pub mod PublishedItems
 pub mod Standing
 pub mod WholeCalls
+pub mod ReasonLaws
 mod WorkedHistory

@@ -12,3 +12,4 @@ pub mod Settling
 pub mod Finishes
 pub mod Published
 pub mod Standing
+pub mod Reasons

@@ -2,6 +2,7 @@ ghost use Rattle.std.specs.Prelude.{◌≡◌, ◌+◌, ◌<◌, ◌≤◌, ◌�
 ghost use Rattle.uring_entry.specs.Setup.{Setup, IsWithinLimits};
 ghost use Rattle.uring_entry.specs.Completions.{Completions, unreaped, with_end};
 ghost use Rattle.uring_entry.specs.Requests.{Requests, least_of, operation_running, next_of, with_call};
+ghost use Rattle.uring_entry.specs.Why.{why_of};
 ghost use Rattle.uring_rings.specs.Cq.{ShowsCompletions};
 ghost use Rattle.uring_dispatch.specs.Dispatch.{ShowsRequests};
 ghost use Rattle.uring_files.specs.Operations.{IsForFiles};
@@ -15,7 +16,7 @@ use crate::step::Step;
 use std::alloc::{AllocError, Global};
 use std::marker::Model;
 use uring_dispatch::{Dispatch, Finished, Issued, ReserveError};
-use uring_entry::{Cqe, Op, Outcome, Setup, Sqe, posts_completion};
+use uring_entry::{Cqe, Op, Outcome, Setup, Sqe, Why, posts_completion};
 use uring_rings::{Cq, EndAnswer, Sq, TakeAnswer};
 
 /// A pair of rings and its requests, moved one step at a time, without files: how a running request ends comes from outside.
@@ -131,6 +132,13 @@ impl Core {
         ensures { (h : History) → FitsApart self.now h → result ≡ least_of (world self.now.setup h).requests }
     {
         self.dispatch.least()
+    }
+
+    /// Why the request of this number, any number, stands as it does. It is no step, and so not part of a history.
+    pub fn why(&self, number: u64) -> Why
+        ensures { (h : History) → FitsApart self.now h → result ≡ why_of (world self.now.setup h).requests number }
+    {
+        self.dispatch.why(number)
     }
 
     /// The set-up of the rings.

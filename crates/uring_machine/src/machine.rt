@@ -2,6 +2,7 @@ ghost use Rattle.std.specs.Prelude.{◌≡◌, ◌≤◌, ◌∷◌, [], IfOk, I
 ghost use Rattle.uring_entry.specs.Setup.{IsWithinLimits};
 ghost use Rattle.uring_entry.specs.Completions.{unreaped};
 ghost use Rattle.uring_entry.specs.Requests.{operation_running, next_of, least_of};
+ghost use Rattle.uring_entry.specs.Why.{why_of};
 ghost use Rattle.uring_files.specs.Operations.{IsForFiles, state_of, byte_of};
 ghost use Rattle.uring_machine.specs.CalledFor.{CalledFor, files_of};
 ghost use Rattle.uring_machine.specs.Core.{IsCounts, IsShortOfMemory, HasNoLessMemory};
@@ -15,7 +16,7 @@ use crate::cores::{Core, Counts};
 use crate::step::Step;
 use std::alloc::{AllocError, Global};
 use std::marker::Model;
-use uring_entry::{Cqe, Op, Setup};
+use uring_entry::{Cqe, Op, Setup, Why};
 use uring_files::{FileState, Files};
 
 /// A pair of rings, its requests and files in memory, moved one step at a time.
@@ -106,6 +107,13 @@ impl Machine {
         ensures { (h : History) → Fits self.now h → result ≡ least_of (world self.now.core.setup h).requests }
     {
         self.core.least()
+    }
+
+    /// Why the request of this number, any number, stands as it does. It is no step, and so not part of a history.
+    pub fn why(&self, number: u64) -> Why
+        ensures { (h : History) → Fits self.now h → result ≡ why_of (world self.now.core.setup h).requests number }
+    {
+        self.core.why(number)
     }
 
     /// The set-up of the rings and files.

@@ -1,0 +1,78 @@
+-- What it says of a request why it stands as it does: laws of any requests.
+use Rattle.std.specs.Prelude.{◌≡◌, ◌↔◌, ℕ, ◌<◌, Bool, true, false, length, Some, ◌⊎◌}
+use Rattle.uring_entry.specs.Requests.{Requests, entry_of, is_outstanding, is_running, is_issuable, is_doomed, is_ready, is_in_faulty_group, is_behind_failure, is_cancelled, is_joined, is_draining, holds_back}
+use Rattle.uring_entry.specs.Preparation.{fault_of, is_faulty}
+use Rattle.uring_entry.specs.Why.{is_faulty_member, is_failure_before, why_of}
+use Rattle.uring_entry.specs.declared.why.Why.{Why}
+use Rattle.uring_entry.specs.declared.why.Why.TheVariants.{IsDoomed, Waits, MayStart}
+use Rattle.uring_entry.specs.declared.why.Doom.{Doom}
+use Rattle.uring_entry.specs.declared.why.Doom.TheVariants.{OwnFault, FaultOf, FailureOf, Cancel}
+use Rattle.uring_entry.specs.declared.why.Since.{Since}
+use Rattle.uring_entry.specs.declared.why.Since.TheVariants.{SameGroup, ItDrains, OwnDrains}
+
+-- whether a request of which this is told can be issued
+abbrev pub can_be_issued : Why → Bool
+can_be_issued (IsDoomed doom) = true
+can_be_issued MayStart = true
+can_be_issued _ = false
+
+-- What can be issued is told to be doomed, or to be free to start.
+abbrev pub IssuableIsSaid : Type 0
+IssuableIsSaid = (r : Requests) (n : ℕ) → is_issuable r n ≡ can_be_issued (why_of r n)
+
+-- Accepted, not started and not ended.
+pub record IsUnstarted (r : Requests) (n : ℕ) : Type 0 where
+  pub outstanding : is_outstanding r n ≡ true
+  pub still : is_running r n ≡ false
+
+-- Nothing keeps it from starting.
+pub record CanStart (r : Requests) (n : ℕ) : Type 0 where
+  pub unstarted : IsUnstarted r n
+  pub free : is_doomed r n ≡ false
+  pub ready : is_ready r n ≡ true
+
+-- It is told to be free to start exactly if it can start.
+abbrev pub MayStartIsSaid : Type 0
+MayStartIsSaid = (r : Requests) (n : ℕ) → (why_of r n ≡ MayStart) ↔ CanStart r n
+
+-- this is the first reason for which n waits for m
+abbrev pub IsSince : Requests → ℕ → ℕ → Since → Type 0
+IsSince r n m SameGroup = is_joined r m n ≡ true
+IsSince r n m ItDrains = (is_joined r m n ≡ false) × (is_draining r m ≡ true)
+IsSince r n m OwnDrains = (is_joined r m n ≡ false) × (is_draining r m ≡ false) × (is_draining r n ≡ true)
+
+-- n waits for m, the least request that keeps it from starting, for this reason.
+pub record IsWaiting (r : Requests) (n m : ℕ) (since : Since) : Type 0 where
+  pub unstarted : IsUnstarted r n
+  pub free : is_doomed r n ≡ false
+  pub before : m < n
+  pub holds : holds_back r n m ≡ true
+  pub least : (k : ℕ) → k < m → holds_back r n k ≡ false
+  pub reason : IsSince r n m since
+
+abbrev pub WaitsIsSaid : Type 0
+WaitsIsSaid = (r : Requests) (n m : ℕ) (since : Since) → why_of r n ≡ Waits m since → IsWaiting r n m since
+
+-- m is the least number below this bound of which p holds
+pub record IsLeastOf (p : ℕ → Bool) (bound m : ℕ) : Type 0 where
+  pub below : m < bound
+  pub holds : p m ≡ true
+  pub least : (k : ℕ) → k < m → p k ≡ false
+
+-- this dooms n, and nothing that is told before it does
+abbrev pub IsDoomOf : Requests → ℕ → Doom → Type 0
+IsDoomOf r n (OwnFault fault) = fault_of (entry_of r n) ≡ Some fault
+IsDoomOf r n (FaultOf m) = (is_faulty (entry_of r n) ≡ false) × IsLeastOf (is_faulty_member r n) (length r.accepted) m
+IsDoomOf r n (FailureOf m) = (is_in_faulty_group r n ≡ false) × IsLeastOf (is_failure_before r n) n m
+IsDoomOf r n Cancel = (is_in_faulty_group r n ≡ false) × (is_behind_failure r n ≡ false) × (is_cancelled r n ≡ true)
+
+abbrev pub DoomIsSaid : Type 0
+DoomIsSaid = (r : Requests) (n : ℕ) (doom : Doom) → why_of r n ≡ IsDoomed doom → IsUnstarted r n × (is_doomed r n ≡ true) × IsDoomOf r n doom
+
+-- it runs, or it can be issued
+abbrev pub GoesOn : Requests → ℕ → Type 0
+GoesOn r n = (is_running r n ≡ true) ⊎ (is_issuable r n ≡ true)
+
+-- Whoever waits, waits for one that runs or can be issued, or for one that waits for such a one.
+abbrev pub TwoSteps : Type 0
+TwoSteps = (r : Requests) (n m : ℕ) (since : Since) → why_of r n ≡ Waits m since → GoesOn r m ⊎ ((k : ℕ) × (other : Since) × (why_of r m ≡ Waits k other) × GoesOn r k)

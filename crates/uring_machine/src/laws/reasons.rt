@@ -1,0 +1,27 @@
+//! Why a request stands as it does, and what it says: laws of any requests.
+ghost use Rattle.uring_machine.specs.Reasons.{IssuableIsSaid, MayStartIsSaid, WaitsIsSaid, DoomIsSaid, TwoSteps};
+
+/// A request can be issued exactly if it is told to be doomed, or that it may start.
+pub fn issuable_is_said()
+    ensures { IssuableIsSaid }
+{}
+
+/// A request is told that it may start exactly if it is outstanding, wasn't started, isn't doomed, and waits for nobody.
+pub fn may_start_is_said()
+    ensures { MayStartIsSaid }
+{}
+
+/// The request that another is told to wait for holds it back, and no earlier one does; the reason is the first that holds.
+pub fn waits_is_said()
+    ensures { WaitsIsSaid }
+{}
+
+/// What is told to doom a request does so, and nothing that is told before it does.
+pub fn doom_is_said()
+    ensures { DoomIsSaid }
+{}
+
+/// Asking why of a request that waits, and then of the one that it is told to wait for, leads to a request that runs or can be issued, at the second question at the latest.
+pub fn two_steps_lead_on()
+    ensures { TwoSteps }
+{}
