@@ -2,8 +2,11 @@
 #![tactic(auto)]
 
 mod item;
+mod job;
+pub mod laws;
 
 pub use item::Item;
+pub use job::{Job, JobResult};
 pub use uring_files::FileState;
 pub use uring_machine::{
     Answer, Core, Counts, Cqe, Fault, Op, Outcome, Setup, Sqe, SqeFlags, Step,
