@@ -1,1 +1,3 @@
 pub mod Dealing
+mod Tallies
+mod Sent
