@@ -17,7 +17,7 @@ on_place workers files fd (Fsync own) on = ap (place_of_file workers files) (sym
 on_place workers files fd (Cancel target) on = absurd (let f : false ≡ true = on in cc)
 
 -- one of the workers
-file_within : (workers files : ℕ) (fd : ℤ) → 0 < workers → place_of_file workers files fd < workers
+pub file_within : (workers files : ℕ) (fd : ℤ) → 0 < workers → place_of_file workers files fd < workers
 file_within workers files (pos fd) some = either (nat_lt fd files) where
   either : (there : Bool) → cond there (fd % workers) 0 < workers
   either true = omega arith

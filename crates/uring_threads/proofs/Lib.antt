@@ -1,3 +1,5 @@
 pub mod Dealing
 mod Tallies
 mod Sent
+mod LeftAt
+pub mod Settling

@@ -1,7 +1,7 @@
 -- How many elements of a list pass a test, counted by the list's form: in two lists together, and with one more.
 use Rattle.std.proofs.Common.{◌≡◌, ℕ, ◌+◌, ◌≤◌, List, [], ◌∷◌, ◌++◌, Bool, true, false, cond, count_by, Option, Some, None, refl, sym, ◌∙◌, ap, arith, inl, inr}
 use Rattle.std.specs.List.{list_any}
-use Rattle.std.proofs.lemmas.Bool.{or_cases, or_left, or_right, cases_Bool}
+use Rattle.std.proofs.lemmas.Bool.{or_cases, or_left, or_right, or_parts, cases_Bool}
 use Rattle.std.proofs.lemmas.List.Sums.{sum_by-cons}
 use Rattle.uring_machine.specs.Direct.{with_told}
 
@@ -46,3 +46,11 @@ tally-any p (x ∷ xs) some =
 pub tally-told : {X : Type 0} (p : X → Bool) (xs : List X) (o : Option X) → tally p xs ≤ tally p (with_told xs o)
 tally-told p xs None = omega arith
 tally-told p xs (Some x) = omega (arith, tally-append p xs (x ∷ []))
+
+-- none passes
+pub none_passes : {X : Type 0} (p : X → Bool) (xs : List X) → list_any p xs ≡ false → tally p xs ≡ 0
+none_passes p [] e = refl
+none_passes p (x ∷ xs) e =
+    let parts = or_parts _ _ e in
+    let none = none_here p x parts.0 in
+    omega (arith, none_passes p xs parts.1)
