@@ -1,9 +1,8 @@
 -- What is left at a place: of the jobs sent to it, those behind the operations that were carried out are of the requests that run.
 -- By counting how often a number stands among what was sent, carried out and started.
-use Rattle.std.proofs.Common.{◌≡◌, ◌≢◌, ℕ, ◌+◌, ◌<◌, ◌≤◌, ◌==◌, List, [], ◌∷◌, ◌++◌, length, map, Bool, true, false, not, ◌&&◌, cond, refl, sym, subst, ◌∙◌, ap, arith, inl, inr, append-nil}
+use Rattle.std.proofs.Common.{◌≡◌, ◌≢◌, ℕ, ◌+◌, ◌≤◌, ◌==◌, List, [], ◌∷◌, ◌++◌, map, Bool, true, false, not, ◌&&◌, cond, refl, sym, ◌∙◌, ap, arith, inl, inr, append-nil}
 use Rattle.std.specs.Prelude.{slice_index_or}
-use Rattle.std.specs.List.{filter, list_any}
-use Rattle.std.proofs.lemmas.Bool.{both_ways, eqb-true, eq-eqb, cases_Bool, false_from_ne_true, and_parts, not-true, cond-true}
+use Rattle.std.proofs.lemmas.Bool.{both_ways, eqb-true, eq-eqb, cases_Bool, false_from_ne_true, and_parts, not-true}
 use Rattle.std.proofs.lemmas.List.Elements.{filter-append}
 use Rattle.uring_entry.specs.Setup.{Setup}
 use Rattle.uring_entry.specs.Layout.{Sqe, zero_entry}

@@ -1,15 +1,15 @@
 -- What a lawful history tells of jobs and of operations: a job was sent for each request that started, and an operation was carried out for each that started and ended.
 -- By `Moves` and induction over the history.
-use Rattle.std.proofs.Common.{◌≡◌, ℕ, ◌+◌, ◌<◌, ◌≤◌, ◌==◌, ℤ, List, [], ◌∷◌, ◌++◌, length, map, Bool, true, false, not, cond, Option, Some, None, if◌then◌else◌, refl, sym, subst, ◌∙◌, ap, arith, inl, inr}
+use Rattle.std.proofs.Common.{◌≡◌, ℕ, ◌<◌, ◌≤◌, ◌==◌, ℤ, List, [], ◌∷◌, ◌++◌, length, map, Bool, true, false, not, cond, None, if◌then◌else◌, refl, sym, subst, ◌∙◌, ap, arith, inl, inr}
 use Rattle.std.specs.Prelude.{slice_index_or}
 use Rattle.std.specs.List.{list_any}
 use Rattle.std.specs.Option.{option_map}
-use Rattle.std.proofs.lemmas.Bool.{and_parts, both_ways, eqb-true, eq-eqb, or_left, or_right, or_cases}
+use Rattle.std.proofs.lemmas.Bool.{and_parts, both_ways, eqb-true, eq-eqb, or_left, or_right}
 use Rattle.std.proofs.lemmas.List.{map-append, length-append}
 use Rattle.uring_entry.specs.Setup.{Setup}
 use Rattle.uring_entry.specs.Layout.{Sqe, zero_entry}
 use Rattle.uring_entry.specs.Preparation.{operation_of, is_cancel}
-use Rattle.uring_entry.specs.Requests.{Requests, Ending, entry_of, has_started, has_ended, is_outstanding, is_running, is_doomed, is_ready, doomed_result, cancel_result, no_bytes, with_call, with_started, with_ended, with_issued_end}
+use Rattle.uring_entry.specs.Requests.{Requests, Ending, entry_of, has_started, has_ended, is_outstanding, is_running, is_doomed, is_ready, doomed_result, cancel_result, no_bytes, with_call}
 use Rattle.uring_machine.specs.World.{World}
 use Rattle.uring_machine.specs.Direct.{with_told, started_by, end_told_by}
 use Rattle.uring_machine.specs.Finishes.{Done, done_by, done_in}
@@ -26,8 +26,8 @@ use Rattle.uring_machine.proofs.Running.{entry_stays}
 use Rattle.uring_machine.proofs.Sound.{sound_of}
 use Rattle.uring_machine.proofs.SoundRequests.{IsSoundRequests, outstanding_tells, idle_tells}
 use Rattle.uring_threads.specs.declared.job.Job.{Job}
-use Rattle.uring_threads.specs.Work.{job_in, job_by, jobs_in}
-use Rattle.uring_threads.proofs.Tallies.{tally, tally-append, tally-told, one_here, none_here}
+use Rattle.uring_threads.specs.Work.{job_in, jobs_in}
+use Rattle.uring_threads.proofs.Tallies.{tally, tally-append, tally-told}
 
 -- what an event makes of the requests of a lawful history
 moved : (g : Setup) (s : Step) (a : Answer) (h : History) → IsLawfulApart g ((s, a) ∷ h) → Move (world g h).requests s a (world g ((s, a) ∷ h)).requests
@@ -148,8 +148,12 @@ ended_then w q s a done (starts m outstanding idle spared ready no_cancel) all =
 ended_then w q s a done (ends_doomed m outstanding) all = λ n. omega (arith, all n, tally-append (λ (e : Ending). e.number == n) w.requests.ended (record { number = m; res = doomed_result w.requests m; bytes = no_bytes } ∷ []))
 ended_then w q s a done (ends_cancel m outstanding spared ready cancel) all = λ n. omega (arith, all n, tally-append (λ (e : Ending). e.number == n) w.requests.ended (record { number = m; res = cancel_result w.requests m; bytes = no_bytes } ∷ []))
 ended_then w q s a done (ends_run m res bytes running) all = λ n.
-    omega (arith, all n, tally-append (λ (e : Ending). e.number == n) w.requests.ended (record { number = m; res = res; bytes = bytes } ∷ []),
-    tally-append (λ (d : Done). d.number == n) done (record { number = m; op = operation_of (entry_of w.requests m); outcome = record { res = res; bytes = bytes } } ∷ []))
+    omega (
+      arith,
+      all n,
+      tally-append (λ (e : Ending). e.number == n) w.requests.ended (record { number = m; res = res; bytes = bytes } ∷ []),
+      tally-append (λ (d : Done). d.number == n) done (record { number = m; op = operation_of (entry_of w.requests m); outcome = record { res = res; bytes = bytes } } ∷ []),
+    )
 
 pub done_ended : (g : Setup) (h : History) → IsLawfulApart g h → FewerDone (world g h).requests (done_in g h)
 done_ended g [] lawful = λ n. omega arith

@@ -1,18 +1,15 @@
 -- The laws of settling: a result that waits can be taken in, and once none waits the history is settled.
 -- From what is left at a place (`LeftAt`), worker by worker.
-use Rattle.std.proofs.Common.{◌≡◌, ◌≢◌, ℕ, zero, suc, ◌+◌, ◌<◌, ◌≤◌, ◌==◌, ℤ, List, [], ◌∷◌, ◌++◌, length, map, drop, Bool, true, false, cond, refl, sym, subst, ◌∙◌, ap, arith, inl, inr, append_assoc, append-nil}
+use Rattle.std.proofs.Common.{◌≡◌, ◌≢◌, ℕ, zero, suc, ◌+◌, ◌<◌, ◌≤◌, ◌==◌, List, [], ◌∷◌, ◌++◌, map, drop, Bool, true, false, cond, refl, sym, subst, ◌∙◌, ap, arith, inl, inr, append_assoc, append-nil}
 use Rattle.std.specs.Prelude.{slice_index_or}
-use Rattle.std.specs.List.{filter, list_any}
-use Rattle.std.proofs.lemmas.Bool.{eqb-true, eq-eqb, cases_Bool}
+use Rattle.std.proofs.lemmas.Bool.{eqb-true, eq-eqb, cases_eq}
 use Rattle.std.proofs.lemmas.List.{map-append}
 use Rattle.uring_entry.specs.Setup.{Setup}
-use Rattle.uring_entry.specs.Layout.{Sqe, zero_entry}
+use Rattle.uring_entry.specs.Layout.{Sqe}
 use Rattle.uring_entry.specs.Preparation.{operation_of}
-use Rattle.uring_entry.specs.Requests.{Requests, entry_of, is_running}
+use Rattle.uring_entry.specs.Requests.{Requests, entry_of}
 use Rattle.uring_entry.specs.declared.operation.Op.{Op}
-use Rattle.uring_entry.specs.declared.operation.Outcome.{Outcome}
 use Rattle.uring_files.specs.Operations.{file_of}
-use Rattle.uring_machine.specs.CalledFor.{files_of}
 use Rattle.uring_machine.specs.Finishes.{Done, done_in, done_at, first_files, files_left, AreDone}
 use Rattle.uring_machine.specs.Histories.{History, world, IsLawfulApart, history_of}
 use Rattle.uring_machine.specs.StepAnswers.{FinishesApart}
@@ -20,10 +17,10 @@ use Rattle.uring_machine.specs.declared.answer.Answer.TheVariants as answer
 use Rattle.uring_machine.proofs.Following.{history_of-cons, history_of-append}
 use Rattle.uring_threads.specs.declared.job.Job.{Job}
 use Rattle.uring_threads.specs.declared.job.JobResult.{JobResult}
-use Rattle.uring_threads.specs.Work.{place_of_file, place_of, job_in, jobs_in, jobs_at, jobs_to, done_by_worker, jobs_of, results_of, result_of, job_of, IsDealtByFile}
-use Rattle.uring_threads.specs.Settled.{Work, IsWork, IsTakenIn, IsSettled, IsUntaken, ResultsRun, NoneWaits, Settles, finish_of, with_taken_in, waiting_of}
+use Rattle.uring_threads.specs.Work.{place_of_file, place_of, job_in, jobs_at, jobs_to, done_by_worker, jobs_of, results_of, result_of, job_of, IsDealtByFile}
+use Rattle.uring_threads.specs.Settled.{Work, IsWork, ResultsRun, NoneWaits, Settles, finish_of, with_taken_in, waiting_of}
 use Rattle.uring_threads.proofs.Dealing.{dealt_by_file, workers_join, files_by_worker, file_within}
-use Rattle.uring_threads.proofs.LeftAt.{op_at, left_own, left_runs, runs_left, jobs-tally, done-own, done-other}
+use Rattle.uring_threads.proofs.LeftAt.{op_at, left_own, left_runs, runs_left, done-own, done-other}
 use Rattle.uring_threads.proofs.Sent.{jobs_are_starts, AreOf, done_is_of}
 use Rattle.uring_threads.proofs.Tallies.{tally, tally-append, tally-some, tally-any}
 
@@ -124,18 +121,18 @@ results_run g workers h k done untaken r later lawful is =
       runs = left_runs g h lawful place k (jobs_of more.0 ++ untaken) left r.number some;
       own = own;
       later =
-        record {
-          jobs = is.jobs;
-          results =
-            ap (λ ds. results_of ds ++ later) (done-own place k (done_in g h) end own)
-            ∙ ap (λ rs. rs ++ later) (map-append result_of (done_by_worker g workers k h) (end ∷ []))
-            ∙ append_assoc (results_of (done_by_worker g workers k h)) (r ∷ []) later ∙ is.results;
-        };
+          record {
+            jobs = is.jobs;
+            results =
+                ap (λ ds. results_of ds ++ later) (done-own place k (done_in g h) end own)
+                ∙ ap (λ rs. rs ++ later) (map-append result_of (done_by_worker g workers k h) (end ∷ []))
+                ∙ append_assoc (results_of (done_by_worker g workers k h)) (r ∷ []) later ∙ is.results;
+          };
       others = λ j other unlike theirs.
-        record {
-          jobs = theirs.jobs;
-          results = ap (λ ds. results_of ds ++ other.waiting) (done-other place j (done_in g h) end (λ same. unlike (sym same ∙ own))) ∙ theirs.results;
-        };
+          record {
+            jobs = theirs.jobs;
+            results = ap (λ ds. results_of ds ++ other.waiting) (done-other place j (done_in g h) end (λ same. unlike (sym same ∙ own))) ∙ theirs.results;
+          };
     }
 
 -- None waits.
@@ -145,9 +142,10 @@ all_came : (g : Setup) (workers : ℕ) (h : History) (k : ℕ) (work : Work) →
 all_came g workers h k work lawful is none =
     let more = work_begins g workers h k lawful work is in
     let left = work_left g workers h k lawful work is in
-    let no_more : more.0 ≡ [] = none_of more.0 (more.2 ∙ none) in
-    (sym (more.1 ∙ ap (λ ds. done_by_worker g workers k h ++ ds) no_more ∙ append-nil (done_by_worker g workers k h)),
-    left ∙ ap (λ ds. jobs_of (done_by_worker g workers k h) ++ (jobs_of ds ++ work.untaken)) no_more) where
+    let no_more : more.0 ≡ [] = none_of more.0 (more.2 ∙ none) in (
+      sym (more.1 ∙ ap (λ ds. done_by_worker g workers k h ++ ds) no_more ∙ append-nil (done_by_worker g workers k h)),
+      left ∙ ap (λ ds. jobs_of (done_by_worker g workers k h) ++ (jobs_of ds ++ work.untaken)) no_more,
+    ) where
       none_of : (ds : List Done) → results_of ds ≡ [] → ds ≡ []
       none_of [] e = refl
       none_of (d ∷ ds) e = absurd cc
@@ -160,13 +158,70 @@ none_waits g workers h works some lawful are done none =
     record {
       lawful = workers_join g workers h some lawful (λ k lt. subst (AreDone (first_files g)) (sym (came k lt).0) (done k lt));
       files = λ fd.
-        let k : ℕ = place_of_file workers g.files fd in
-        files_by_worker g workers h fd lawful ∙ ap (λ ds. file_of (files_left (first_files g) ds) fd) (came k (file_within workers g.files fd some)).0;
+          let k : ℕ = place_of_file workers g.files fd in
+          files_by_worker g workers h fd lawful ∙ ap (λ ds. file_of (files_left (first_files g) ds) fd) (came k (file_within workers g.files fd some)).0;
       running = λ n. (
         (λ running.
-          let k : ℕ = place (operation_of (entry_of (world g h).requests n)) in
-          let lt = dealt.within (operation_of (entry_of (world g h).requests n)) in
-          (k, lt, tally-any (λ (j : Job). j.number == n) (works k).untaken (runs_left g h lawful place k (works k).untaken (came k lt).1 n refl running))),
+            let k : ℕ = place (operation_of (entry_of (world g h).requests n)) in
+            let lt = dealt.within (operation_of (entry_of (world g h).requests n)) in
+            (k, lt, tally-any (λ (j : Job). j.number == n) (works k).untaken (runs_left g h lawful place k (works k).untaken (came k lt).1 n refl running))),
         (λ there. left_runs g h lawful place there.0 (works there.0).untaken (came there.0 there.1).1 n (tally-some (λ (j : Job). j.number == n) (works there.0).untaken there.2)),
       );
     }
+
+-- All that wait.
+
+drained : Work → Work
+drained work = record work { waiting = [] }
+
+-- a history into which the results of one worker were taken
+record IsDrained (g : Setup) (workers : ℕ) (h later : History) (k : ℕ) (work : Work) : Type 0 where
+  lawful : IsLawfulApart g later
+  own : IsWork g workers later k (drained work)
+  others : (j : ℕ) (other : Work) → j ≢ k → IsWork g workers h j other → IsWork g workers later j other
+
+drain : (g : Setup) (workers : ℕ) (h : History) (k : ℕ) (done : List Done) (untaken : List Job) (waiting : List JobResult) → IsLawfulApart g h
+    → IsWork g workers h k (record { done = done; untaken = untaken; waiting = waiting }) → IsDrained g workers h (with_taken_in waiting h) k (record { done = done; untaken = untaken; waiting = waiting })
+unfolding drained
+drain g workers h k done untaken [] lawful is = record { lawful = lawful; own = is; others = λ j other unlike theirs. theirs }
+drain g workers h k done untaken (r ∷ later) lawful is =
+    let one = results_run g workers h k done untaken r later lawful is in
+    let next : IsLawfulApart g (finish_of r ∷ h) = (subst (λ b. FinishesApart b (answer.Ended r.outcome.res r.outcome.bytes)) (sym one.runs) tt, lawful) in
+    let rest = drain g workers (finish_of r ∷ h) k done untaken later next one.later in
+    subst (λ last. IsDrained g workers h last k (record { done = done; untaken = untaken; waiting = r ∷ later })) (sym (history_of-cons (finish_of r) (map finish_of later) h))
+    (record { lawful = rest.lawful; own = rest.own; others = λ j other unlike theirs. rest.others j other unlike (one.others j other unlike theirs) })
+
+-- a history into which the results of the first workers were taken
+record AreDrained (g : Setup) (workers : ℕ) (h : History) (works : ℕ → Work) (count : ℕ) : Type 0 where
+  lawful : IsLawfulApart g h
+  before : (k : ℕ) → k < count → IsWork g workers h k (drained (works k))
+  behind : (k : ℕ) → count ≤ k → k < workers → IsWork g workers h k (works k)
+
+taken_in-append : (earlier later : List JobResult) (h : History) → with_taken_in (earlier ++ later) h ≡ with_taken_in later (with_taken_in earlier h)
+taken_in-append earlier later h =
+    ap (λ events. history_of events ++ h) (map-append finish_of earlier later) ∙ history_of-append (map finish_of earlier) (map finish_of later) h
+
+drain_first : (g : Setup) (workers : ℕ) (h : History) (works : ℕ → Work) → IsLawfulApart g h → ((k : ℕ) → k < workers → IsWork g workers h k (works k)) → (count : ℕ) → count ≤ workers
+    → AreDrained g workers (with_taken_in (waiting_of works count) h) works count
+drain_first g workers h works lawful are zero le = record { lawful = lawful; before = λ k lt. absurd (omega arith); behind = λ k from lt. are k lt }
+drain_first g workers h works lawful are (suc count) le =
+    let so_far = drain_first g workers h works lawful are count (omega arith) in
+    let there : History = with_taken_in (waiting_of works count) h in
+    let work : Work = works count in
+    let one = drain g workers there count work.done work.untaken work.waiting so_far.lawful (so_far.behind count (omega arith) (omega arith)) in
+    subst (λ last. AreDrained g workers last works (suc count)) (sym (taken_in-append (waiting_of works count) work.waiting h))
+    (record {
+      lawful = one.lawful;
+      before = λ k lt. elim (cases_eq k count) [
+        | inl same ↦ subst (λ j. IsWork g workers (with_taken_in work.waiting there) j (drained (works j))) (sym same) one.own
+        | inr other ↦ one.others k (drained (works k)) other (so_far.before k (omega arith))
+      ];
+      behind = λ k from lt. one.others k (works k) (λ same. omega (arith, same)) (so_far.behind k (omega arith) lt);
+    })
+
+pub settles : (g : Setup) → Settles g
+unfolding drained
+settles g workers h works some lawful are done =
+    let all = drain_first g workers h works lawful are workers (omega arith) in
+    let settled = none_waits g workers (with_taken_in (waiting_of works workers) h) (λ k. drained (works k)) some all.lawful all.before done (λ k lt. refl) in
+    record { lawful = settled.lawful; files = settled.files; running = settled.running }
