@@ -1,5 +1,6 @@
 pub mod Dealing
-mod Tallies
+mod Times
 mod Sent
 mod LeftAt
 pub mod Settling
+mod Working

@@ -2,12 +2,18 @@
 #![tactic(auto)]
 
 mod item;
+
+// the workers' side
+mod gate;
 mod job;
 pub mod laws;
+mod worker;
 
+pub use gate::{Gate, Open};
 pub use item::Item;
 pub use job::{Job, JobResult};
 pub use uring_files::FileState;
 pub use uring_machine::{
     Answer, Core, Counts, Cqe, Fault, Op, Outcome, Setup, Sqe, SqeFlags, Step,
 };
+pub use worker::{Worked, Worker};
