@@ -3,6 +3,10 @@
 
 mod item;
 
+// the dispatcher's side
+mod kept;
+mod take_result;
+
 pub use item::Item;
 pub use uring_files::FileState;
 pub use uring_machine::{
