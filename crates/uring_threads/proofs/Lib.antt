@@ -1,0 +1,3 @@
+pub mod TraceSteps
+pub mod ItemSteps
+pub mod CallSteps

@@ -4,7 +4,9 @@
 mod item;
 
 // the dispatcher's side
+mod calls;
 mod kept;
+mod put_items;
 mod take_result;
 
 pub use item::Item;

@@ -11,7 +11,12 @@ use uring_machine::{Answer, Core, Outcome, Step};
 /// Ends the request of this number with this outcome, and records that behind the trace: answers as `Core::finish`.
 ///
 /// Any number and any outcome may come. A number that isn't running is answered `NotRunning`, which is recorded too, and nothing else changes. Room in the trace is asked for first: at `AllocError` nothing changes.
-pub fn take_result(core: &mut Core, trace: &mut Vec<(Step, Answer)>, number: u64, outcome: Outcome) -> Result<Answer, AllocError>
+pub fn take_result(
+    core: &mut Core,
+    trace: &mut Vec<(Step, Answer)>,
+    number: u64,
+    outcome: Outcome,
+) -> Result<Answer, AllocError>
     ensures setup { core.new.setup ≡ core.old.setup }
     ensures recorded { IfOk result (λ a. trace.new.items ≡ trace.old.items ++ (step.Finish number, a) ∷ []) }
     ensures fits { IfOk result (λ a. (h : History) → FitsApart core.old h → FitsApart core.new ((step.Finish number, a) ∷ h)) }
