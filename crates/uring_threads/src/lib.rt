@@ -2,8 +2,12 @@
 #![tactic(auto)]
 
 mod item;
+mod ports;
+mod pulled;
 
 pub use item::Item;
+pub use ports::{AppPort, KernelPort};
+pub use pulled::{Pulled, Rests};
 pub use uring_files::FileState;
 pub use uring_machine::{
     Answer, Core, Counts, Cqe, Fault, Op, Outcome, Setup, Sqe, SqeFlags, Step,
