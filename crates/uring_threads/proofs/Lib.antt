@@ -1,0 +1,2 @@
+mod MessageLemmas
+mod MessageSteps

@@ -2,6 +2,7 @@
 #![tactic(auto)]
 
 mod item;
+mod message;
 mod ports;
 mod pulled;
 
