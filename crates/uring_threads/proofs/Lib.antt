@@ -1,3 +1,5 @@
 pub mod TraceSteps
 pub mod ItemSteps
 pub mod CallSteps
+mod MessageLemmas
+mod MessageSteps

@@ -2,6 +2,9 @@
 #![tactic(auto)]
 
 mod item;
+mod message;
+mod ports;
+mod pulled;
 
 // the dispatcher's side
 mod calls;
@@ -10,6 +13,8 @@ mod put_items;
 mod take_result;
 
 pub use item::Item;
+pub use ports::{AppPort, KernelPort};
+pub use pulled::{Pulled, Rests};
 pub use uring_files::FileState;
 pub use uring_machine::{
     Answer, Core, Counts, Cqe, Fault, Op, Outcome, Setup, Sqe, SqeFlags, Step,
