@@ -3,3 +3,8 @@ pub mod ItemSteps
 pub mod CallSteps
 mod MessageLemmas
 mod MessageSteps
+pub mod Dealing
+mod Tallies
+mod Sent
+mod LeftAt
+pub mod Settling

@@ -2,6 +2,8 @@
 #![tactic(auto)]
 
 mod item;
+mod job;
+pub mod laws;
 mod message;
 mod ports;
 mod pulled;
@@ -15,6 +17,7 @@ mod take_result;
 pub use item::Item;
 pub use ports::{AppPort, KernelPort};
 pub use pulled::{Pulled, Rests};
+pub use job::{Job, JobResult};
 pub use uring_files::FileState;
 pub use uring_machine::{
     Answer, Core, Counts, Cqe, Fault, Op, Outcome, Setup, Sqe, SqeFlags, Step,
