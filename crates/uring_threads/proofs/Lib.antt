@@ -1,3 +1,8 @@
+pub mod TraceSteps
+pub mod ItemSteps
+pub mod CallSteps
+mod MessageLemmas
+mod MessageSteps
 pub mod Dealing
 mod Times
 mod Sent

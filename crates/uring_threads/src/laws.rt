@@ -3,6 +3,8 @@ ghost use Rattle.uring_entry.specs.Setup.{Setup};
 ghost use Rattle.uring_threads.specs.Settled.{ResultsRun, NoneWaits, Settles};
 ghost use Rattle.uring_threads.specs.Work.{DealtByFile, WorkersJoin, FilesByWorker};
 
+pub use crate::take_result::take_result;
+
 /// Each operation has one worker, by its file alone. If each worker carries out its own operations on files that it alone has, they make a lawful history together, and each file is that of its worker.
 pub fn workers_join()
     ensures dealt { DealtByFile }
