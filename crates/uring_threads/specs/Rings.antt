@@ -20,3 +20,7 @@ module _ {T A P : Type 0} where
 
   abbrev pub consumer_ring : Consumer T A P → List ℕ
   consumer_ring c = ring_at c.end.words c.end.slots c.end.names
+
+-- the lanes of a worker's jobs and results, by one end of each
+abbrev pub rings_of : {J R A B P Q : Type 0} → Producer J A P → Consumer R B Q → List (List ℕ)
+rings_of jobs results = producer_ring jobs ∷ consumer_ring results ∷ []

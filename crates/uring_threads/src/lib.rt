@@ -7,6 +7,8 @@ mod item;
 mod gate;
 mod job;
 pub mod laws;
+mod place;
+mod work_lanes;
 mod worker;
 
 // the ports

@@ -2,6 +2,7 @@
 ghost use Rattle.std.specs.Prelude.{◌≡◌, ◌+◌, ◌<◌, ◌≤◌, [], ◌∷◌, ◌++◌, length, IfOk};
 ghost use Rattle.rtrb.specs.Ring.{sent, known_free, received, known_items};
 ghost use Rattle.uring_files.specs.Operations.{state_of, byte_of, IsForFiles};
+ghost use Rattle.uring_threads.specs.Rings.{producer_ring, consumer_ring};
 ghost use Rattle.uring_threads.specs.Worker.{Turns, empty_files};
 
 use crate::gate::Gate;
@@ -73,6 +74,8 @@ impl<G: Gate> Worker<G> {
         requires files { files ≡ empty_files (length files) }
         requires jobs { received jobs ≡ [] }
         requires results { sent results ≡ [] }
+        ensures place { result.place ≡ place }
+        ensures rings { result.rings ≡ consumer_ring jobs ∷ producer_ring results ∷ [] }
         ensures done { result.done ≡ [] }
         ensures files { result.files ≡ files }
     {
