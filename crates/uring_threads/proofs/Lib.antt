@@ -1,0 +1,11 @@
+pub mod TraceSteps
+pub mod ItemSteps
+pub mod CallSteps
+mod MessageLemmas
+mod MessageSteps
+pub mod Dealing
+mod Times
+mod Sent
+mod LeftAt
+pub mod Settling
+mod Working

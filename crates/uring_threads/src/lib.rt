@@ -3,8 +3,32 @@
 
 mod item;
 
+// the workers' side
+mod gate;
+mod job;
+pub mod laws;
+mod place;
+mod work_lanes;
+mod worker;
+
+// the ports
+mod message;
+mod ports;
+mod pulled;
+
+// the dispatcher's side
+mod calls;
+mod kept;
+mod put_items;
+mod take_result;
+
+pub use gate::{Gate, Open};
 pub use item::Item;
+pub use job::{Job, JobResult};
+pub use ports::{AppPort, KernelPort};
+pub use pulled::{Pulled, Rests};
 pub use uring_files::FileState;
 pub use uring_machine::{
     Answer, Core, Counts, Cqe, Fault, Op, Outcome, Setup, Sqe, SqeFlags, Step,
 };
+pub use worker::{Worked, Worker};

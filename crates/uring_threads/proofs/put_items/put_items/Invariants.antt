@@ -1,0 +1,15 @@
+use Rattle.std.proofs.Common.{◌≡◌, ◌+◌, ◌*◌, ◌≤◌, length, take}
+use Rattle.uring_threads.specs.Items.{all_published_as}
+use Rattle.uring_threads.specs.Kept.{now}
+use Rattle.uring_threads.specs.Rows.{with_items_put}
+use Rattle.uring_threads.specs.Tallies.{Appends, items_counted}
+use Rattle.uring_threads.proofs.put_items.put_items.Given as goal
+
+-- the items so far are put, with at most two events each
+abbrev pub invariant-loop-item : goal.invariant-loop-item
+invariant-loop-item l = record {
+  slot : l.slot ≡ l.item-index;
+  length : length l.kept.trace ≤ length l.initial.kept.trace + 2 * l.item-index;
+  world : now l.kept ≡ with_items_put (now l.initial.kept) (all_published_as (take l.item-index l.items));
+  tally : Appends l.initial.kept l.kept (items_counted l.item-index);
+}

@@ -1,0 +1,27 @@
+-- The dispatcher's trace: the events that it recorded, in the order in which they happened, and what they have made.
+use Rattle.std.specs.Prelude.{◌≡◌, ℕ, ◌≤◌, List, [], ◌∷◌, ◌++◌}
+use Rattle.uring_entry.specs.Setup.{Setup}
+use Rattle.uring_machine.specs.World.{World}
+use Rattle.uring_machine.specs.Histories.{Event, world, history_of}
+
+-- A core with its trace: the events, the oldest first; for how many events the trace has memory; and the set-up.
+pub record Kept : Type 0 where
+  pub trace : List Event
+  pub room : ℕ
+  pub setup : Setup
+
+-- what the events of the trace have made
+abbrev pub now : Kept → World
+now k = world k.setup (history_of k.trace)
+
+-- The trace has this event more, behind all others.
+pub record Grows (old new : Kept) (event : Event) : Type 0 where
+  pub trace : new.trace ≡ old.trace ++ event ∷ []
+  pub room : old.room ≤ new.room
+  pub setup : new.setup ≡ old.setup
+
+-- Nothing happened: no event was recorded, though there may be more memory.
+pub record IsUnmoved (old new : Kept) : Type 0 where
+  pub trace : new.trace ≡ old.trace
+  pub room : old.room ≤ new.room
+  pub setup : new.setup ≡ old.setup

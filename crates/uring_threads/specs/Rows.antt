@@ -1,0 +1,30 @@
+-- What the dispatcher's rows of steps make of the world.
+use Rattle.std.specs.Prelude.{ℕ, List}
+use Rattle.uring_entry.specs.Submission.{Submission, with_published}
+use Rattle.uring_machine.specs.World.{World}
+use Rattle.uring_machine.specs.Published.{Published}
+use Rattle.uring_machine.specs.Standing.{with_item, with_items, after_call}
+use Rattle.uring_threads.specs.declared.calls.Begun.{Begun}
+use Rattle.uring_threads.specs.declared.calls.Begun.TheVariants as begun
+
+-- the world with another submission ring
+abbrev pub on_submission : World → Submission → World
+on_submission w l = record w { submission = l }
+
+-- an item is put into the ring, into this slot if it is an entry
+abbrev pub with_item_put : World → ℕ → Published → World
+with_item_put w slot item = on_submission w (with_item w.submission slot item)
+
+-- items are put, each for its own slot from 0 on
+abbrev pub with_items_put : World → List Published → World
+with_items_put w items = on_submission w (with_items w.submission 0 items)
+
+-- and published
+abbrev pub with_items_published : ℕ → World → List Published → World
+with_items_published size w items = on_submission w (with_published size (with_items w.submission 0 items))
+
+-- a call of all positions that wait was begun: it took them and closed, or nothing changed
+abbrev pub with_begun_as : World → ℕ → Begun → World
+with_begun_as w count begun.Taken = after_call w count
+with_begun_as w count begun.Again = w
+with_begun_as w count begun.Spent = w

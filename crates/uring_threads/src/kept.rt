@@ -1,0 +1,143 @@
+//! The dispatcher's core, and the trace of what was done with it.
+ghost use Rattle.std.specs.Prelude.{◌≡◌, ◌+◌, ◌^◌, ◌<◌, ◌≤◌, [], length, IfOk, IfSome, OnOk, OnErr, slice_get};
+ghost use Rattle.uring_entry.specs.Completions.{unreaped};
+ghost use Rattle.uring_entry.specs.Requests.{operation_running, next_of};
+ghost use Rattle.uring_entry.specs.Setup.{IsWithinLimits};
+ghost use Rattle.uring_files.specs.Operations.{IsForFiles};
+ghost use Rattle.uring_machine.specs.Core.{IsCounts, IsFinished, IsNoFinish};
+ghost use Rattle.uring_machine.specs.Histories.{IsLawfulApart, history_of};
+ghost use Rattle.uring_machine.specs.StepAnswers.{CalledForApart};
+ghost use Rattle.uring_machine.specs.declared.step.Step.TheVariants as step;
+
+use crate::take_result::take_result;
+use std::alloc::{AllocError, Global};
+use std::marker::Model;
+use uring_machine::{Answer, Core, Counts, Cqe, Op, Outcome, Setup, Step};
+
+/// A core with the trace of all its steps and their answers, the oldest first. The core always fits this trace: no step is left out, and none made up.
+#[derive(Drop)]
+pub struct Kept {
+    core: Core,
+    trace: Vec<(Step, Answer)>,
+}
+
+impl Model for Kept {
+    ghost use Rattle.uring_threads.specs.Kept.{Kept};
+
+    ghost Value = { Kept };
+
+    ghost use Rattle.std.specs.Prelude.{vec_capacity};
+    ghost use Rattle.uring_entry.specs.Setup.{IsWithinLimits};
+    ghost use Rattle.uring_machine.specs.Core.{FitsApart};
+    ghost use Rattle.uring_machine.specs.Histories.{history_of};
+
+    ghost view = { λ k. record { trace = k.trace.items; room = vec_capacity k.trace; setup = k.core.setup } };
+
+    ghost invariant = { λ k. IsWithinLimits k.core.setup × FitsApart k.core (history_of k.trace.items) };
+}
+
+impl Kept {
+    ghost use Rattle.uring_threads.specs.Kept.{Grows, IsUnmoved, now};
+
+    /// A new core of this set-up, with nothing recorded. `AllocError`: memory was refused.
+    pub fn new(alloc: Global, setup: &Setup) -> Result<Kept, AllocError>
+        ensures trace { IfOk result (λ kept. kept.trace ≡ []) }
+        ensures setup { IfOk result (λ kept. kept.setup ≡ setup.now) }
+    {
+        Ok(Kept {
+            core: Core::new(alloc, setup)?,
+            trace: Vec::new(alloc),
+        })
+    }
+
+    /// Asks for room for so many further events. `AllocError`: there isn't so much, and memory was refused.
+    pub fn reserve(&mut self, count: usize) -> Result<(), AllocError>
+        ensures unmoved { IsUnmoved self.old self.new }
+        ensures ok { OnOk result (length self.old.trace + count ≤ self.new.room) }
+        ensures err { OnErr result (self.old.room < length self.old.trace + count) }
+        ensures limit { self.new.room < 2 ^ 63 }
+    {
+        self.trace.reserve(count)
+    }
+
+    /// Makes one step on the core and records it. Conditions: room for it was asked for, and it is no `Finish`, which is a call of its own.
+    pub fn step_reserved(&mut self, step: Step) -> Answer
+        requires room { length self.old.trace < self.old.room }
+        requires step { IsNoFinish step }
+        ensures grows { Grows self.old self.new (step, result) }
+        ensures called { CalledForApart self.old.setup (now self.old) step result }
+    {
+        let made = step;
+        let answer = self.core.step(step);
+        let told = answer;
+        self.trace.push_reserved((made, told));
+        answer
+    }
+
+    /// Ends the request of this number with an outcome from outside, and records it. Condition: room for it was asked for. `NotRunning` is recorded too.
+    pub fn finish(&mut self, number: u64, outcome: Outcome) -> Answer
+        requires room { length self.old.trace < self.old.room }
+        ensures grows { Grows self.old self.new (step.Finish number, result) }
+        ensures outcome { IsFinished (now self.old) number outcome result }
+    {
+        let Ok(answer) = take_result(&mut self.core, &mut self.trace, number, outcome) else {
+            unreachable!()
+        };
+        answer
+    }
+
+    /// The least request that can be issued. Nothing is recorded.
+    pub fn next(&self) -> Option<u64>
+        ensures { result ≡ next_of (now self.now).requests }
+    {
+        self.core.next()
+    }
+
+    /// The operation of the request of this number: `Some` exactly if it is running.
+    pub fn running_op(&self, number: u64) -> Option<Op>
+        ensures value { result ≡ operation_running (now self.now).requests number }
+        ensures asks { IfSome result IsForFiles }
+    {
+        self.core.running_op(number)
+    }
+
+    /// How many requests were accepted, are outstanding and run, and how many completions were posted and reaped.
+    pub fn counts(&self) -> Counts
+        ensures { IsCounts (now self.now) result }
+    {
+        self.core.counts()
+    }
+
+    /// The completion at this place, from 0, among those posted and not reaped, the oldest first: `None` past the last.
+    pub fn rest(&self, place: u64) -> Option<Cqe>
+        ensures { result ≡ slice_get (unreaped (now self.now).completions) place }
+    {
+        self.core.rest(place)
+    }
+
+    /// The set-up of the rings.
+    pub fn setup(&self) -> Setup
+        ensures value { result ≡ self.now.setup }
+        ensures limits { IsWithinLimits self.now.setup }
+    {
+        self.core.setup()
+    }
+
+    /// A law, and no code: the trace is lawful apart from what operations gave.
+    pub fn is_lawful(&self)
+        ensures lawful { IsLawfulApart self.now.setup (history_of self.now.trace) }
+        ensures limits { IsWithinLimits self.now.setup }
+    {
+        // A body knows the invariant once it reads a field.
+        let _core = &self.core;
+    }
+
+    /// The trace alone.
+    pub fn into_trace(self) -> Vec<(Step, Answer)>
+        ensures trace { result.items ≡ self.trace }
+        ensures lawful { IsLawfulApart self.setup (history_of result.items) }
+        ensures limits { IsWithinLimits self.setup }
+    {
+        self.trace
+    }
+}

@@ -1,0 +1,36 @@
+//! The dispatcher's step on a result that came from a worker.
+ghost use Rattle.std.specs.Prelude.{◌≡◌, ◌++◌, ◌∷◌, [], ◌<◌, ◌≤◌, length, IfOk, IsOk, OnErr, vec_capacity};
+ghost use Rattle.uring_machine.specs.Core.{FitsApart, IsFinished};
+ghost use Rattle.uring_machine.specs.Histories.{History, world};
+ghost use Rattle.uring_machine.specs.declared.answer.Answer.TheVariants as answer;
+ghost use Rattle.uring_machine.specs.declared.step.Step.TheVariants as step;
+
+use std::alloc::AllocError;
+use uring_machine::{Answer, Core, Outcome, Step};
+
+/// Ends the request of this number with this outcome, and records that behind the trace: answers as `Core::finish`.
+///
+/// Any number and any outcome may come. A number that isn't running is answered `NotRunning`, which is recorded too, and nothing else changes. Room in the trace is asked for first: at `AllocError` nothing changes.
+pub fn take_result(
+    core: &mut Core,
+    trace: &mut Vec<(Step, Answer)>,
+    number: u64,
+    outcome: Outcome,
+) -> Result<Answer, AllocError>
+    ensures setup { core.new.setup ≡ core.old.setup }
+    ensures recorded { IfOk result (λ a. trace.new.items ≡ trace.old.items ++ (step.Finish number, a) ∷ []) }
+    ensures fits { IfOk result (λ a. (h : History) → FitsApart core.old h → FitsApart core.new ((step.Finish number, a) ∷ h)) }
+    ensures outcome { IfOk result (λ a. (h : History) → FitsApart core.old h → IsFinished (world core.old.setup h) number outcome a) }
+    ensures not_running { IfOk result (λ a. a ≡ answer.NotRunning → (h : History) → FitsApart core.old h → FitsApart core.new h) }
+
+    // It fails only if the trace had no room for one event more.
+    ensures room { vec_capacity trace.old ≤ vec_capacity trace.new }
+    ensures succeeds { length trace.old.items < vec_capacity trace.old → IsOk result }
+    ensures err { OnErr result ((core.new ≡ core.old) × (trace.new.items ≡ trace.old.items) × (vec_capacity trace.new ≡ vec_capacity trace.old)) }
+{
+    trace.reserve(1)?;
+    let answer = core.finish(number, outcome);
+    let told = answer;
+    trace.push_reserved((Step::Finish { number }, told));
+    Ok(answer)
+}
