@@ -10,14 +10,16 @@ mod pulled;
 
 // the dispatcher's side
 mod calls;
+mod deliveries;
+mod issues;
 mod kept;
 mod put_items;
 mod take_result;
 
 pub use item::Item;
+pub use job::{Job, JobResult};
 pub use ports::{AppPort, KernelPort};
 pub use pulled::{Pulled, Rests};
-pub use job::{Job, JobResult};
 pub use uring_files::FileState;
 pub use uring_machine::{
     Answer, Core, Counts, Cqe, Fault, Op, Outcome, Setup, Sqe, SqeFlags, Step,
