@@ -1,6 +1,7 @@
 pub mod TraceSteps
 pub mod ItemSteps
 pub mod CallSteps
+pub mod IssueSteps
 mod MessageLemmas
 mod MessageSteps
 pub mod Dealing

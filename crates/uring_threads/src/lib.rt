@@ -18,6 +18,8 @@ mod pulled;
 
 // the dispatcher's side
 mod calls;
+mod deliveries;
+mod issues;
 mod kept;
 mod put_items;
 mod take_result;
