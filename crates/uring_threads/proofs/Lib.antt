@@ -1,2 +1,3 @@
 mod MessageLemmas
 mod MessageSteps
+mod LaneLemmas

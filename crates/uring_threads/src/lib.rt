@@ -1,7 +1,9 @@
 //! Application, dispatcher and workers as ends that threads own: submissions, completions, jobs and results go from end to end, and the dispatcher records its steps as a trace.
 #![tactic(auto)]
 
+mod call_lane;
 mod item;
+mod lane_rests;
 mod message;
 mod ports;
 mod pulled;
