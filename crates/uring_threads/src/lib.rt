@@ -4,11 +4,13 @@
 mod call_lane;
 mod item;
 mod lane_rests;
+mod lanes;
 mod message;
 mod ports;
 mod pulled;
 
 pub use item::Item;
+pub use lanes::{AppLanes, KernelLanes, lane_ports};
 pub use ports::{AppPort, KernelPort};
 pub use pulled::{Pulled, Rests};
 pub use uring_files::FileState;
