@@ -10,3 +10,4 @@ mod Sent
 mod LeftAt
 pub mod Settling
 mod Working
+mod LaneLemmas

@@ -1,6 +1,7 @@
 //! Application, dispatcher and workers as ends that threads own: submissions, completions, jobs and results go from end to end, and the dispatcher records its steps as a trace.
 #![tactic(auto)]
 
+mod call_lane;
 mod item;
 
 // the workers' side
@@ -12,6 +13,8 @@ mod work_lanes;
 mod worker;
 
 // the ports
+mod lane_rests;
+mod lanes;
 mod message;
 mod ports;
 mod pulled;
@@ -27,6 +30,7 @@ mod take_result;
 pub use gate::{Gate, Open};
 pub use item::Item;
 pub use job::{Job, JobResult};
+pub use lanes::{AppLanes, KernelLanes, lane_ports};
 pub use ports::{AppPort, KernelPort};
 pub use pulled::{Pulled, Rests};
 pub use uring_files::FileState;
