@@ -1,3 +1,4 @@
 mod MessageLemmas
 mod MessageSteps
 mod LaneLemmas
+mod AppEndLemmas

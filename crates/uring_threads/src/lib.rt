@@ -1,6 +1,7 @@
 //! Application, dispatcher and workers as ends that threads own: submissions, completions, jobs and results go from end to end, and the dispatcher records its steps as a trace.
 #![tactic(auto)]
 
+mod app_end;
 mod call_lane;
 mod item;
 mod lane_rests;
@@ -8,11 +9,14 @@ mod lanes;
 mod message;
 mod ports;
 mod pulled;
+mod refusals;
 
+pub use app_end::AppEnd;
 pub use item::Item;
 pub use lanes::{AppLanes, KernelLanes, lane_ports};
 pub use ports::{AppPort, KernelPort};
 pub use pulled::{Pulled, Rests};
+pub use refusals::{CloseRefusal, SubmitRefusal};
 pub use uring_files::FileState;
 pub use uring_machine::{
     Answer, Core, Counts, Cqe, Fault, Op, Outcome, Setup, Sqe, SqeFlags, Step,
