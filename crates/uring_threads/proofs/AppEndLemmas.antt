@@ -1,15 +1,13 @@
 -- What items of a ring are, one by one and call by call.
-use Rattle.std.proofs.Common.{◌≡◌, false, ℕ, ◌+◌, ◌<◌, ◌≤◌, List, [], ◌∷◌, ◌++◌, length, map, get_or, take, sym, ◌∙◌, ap, subst, arith, append-nil}
-use Rattle.std.proofs.lemmas.List.{get_or-map, length-map, map-append, take_all}
-use Rattle.std.proofs.lemmas.List.Elements.{All-get_or, All-append}
-use Rattle.std.proofs.lemmas.Grind.{flat_map-append}
+use Rattle.std.proofs.Common.{◌≡◌, false, ℕ, ◌<◌, ◌≤◌, List, length, get_or, take, sym, subst, arith}
+use Rattle.std.proofs.lemmas.List.{get_or-map, length-map, take_all}
+use Rattle.std.proofs.lemmas.List.Elements.{All-get_or}
 use Rattle.uring_machine.specs.Published.{IsItem}
 use Rattle.uring_threads.specs.declared.item.Item.{Item}
 use Rattle.uring_threads.specs.declared.refusals.SubmitRefusal.{SubmitRefusal}
 use Rattle.uring_threads.specs.declared.refusals.SubmitRefusal.TheVariants as submit
 use Rattle.uring_threads.specs.AppEnd.{AppEnd, IsAmiss, RefusesCall}
 use Rattle.uring_threads.specs.Items.{AreItems, published_as, all_published_as}
-use Rattle.uring_threads.specs.Ports.{items_of_calls}
 
 -- each of them is one
 pub item_at : (size : ℕ) (items : List Item) (i : ℕ) (x : Item) → i < length items → x ≡ get_or items i x → AreItems size items → IsItem size (published_as x)

@@ -1,5 +1,5 @@
 -- The application's end, and when it refuses.
-use Rattle.std.specs.Prelude.{◌≡◌, ℕ, ◌+◌, ◌<◌, ◌≤◌, Bool, true, false, List, [], ◌∷◌, ◌++◌, length}
+use Rattle.std.specs.Prelude.{◌≡◌, ℕ, ◌+◌, ◌<◌, ◌≤◌, true, false, List, [], ◌∷◌, ◌++◌, length}
 use Rattle.uring_entry.specs.Layout.{Cqe}
 use Rattle.uring_threads.specs.declared.item.Item.{Item}
 use Rattle.uring_threads.specs.declared.refusals.SubmitRefusal.{SubmitRefusal}

@@ -97,6 +97,32 @@ impl<P: AppPort> AppEnd<P> {
         self.closed = true;
         Ok(())
     }
+
+    /// Ends this end and the dispatcher's port of the same pair, and hands out what the ports still held.
+    ///
+    /// `Err` says that the system is out of memory, which is asked for first: both come back unchanged.
+    pub fn settle<K: KernelPort<App = P>>(
+        self,
+        alloc: Global,
+        kernel: K,
+    ) -> Result<Rests, (AppEnd<P>, K)>
+        requires { K.pairing kernel ≡ self.pairing }
+        // What was pulled begins what was submitted, and what was reaped begins what was delivered.
+        ensures items { IfOk result (λ rests. LeavesItems self.submitted (K.pulled kernel) rests.unsent.items) }
+        ensures completions { IfOk result (λ rests. LeavesCompletions (K.delivered kernel) self.received rests.undelivered.items) }
+        // No bad word that was submitted is below the submission ring's size.
+        ensures submitted { OnOk result (AreItems self.sizes.sq (items_of_calls self.submitted.calls)) }
+        ensures unchanged { IfErr result (λ ends. (ends.0 ≡ self) × (ends.1 ≡ kernel)) }
+    {
+        let AppEnd { port, size, closed } = self;
+        match kernel.settle(alloc, port) {
+            Ok(rests) => Ok(rests),
+            Err((port, kernel)) => {
+                let app = AppEnd { port, size, closed };
+                Err((app, kernel))
+            }
+        }
+    }
 }
 
 // The refusals of an open end that hang on the call alone.

@@ -1,4 +1,4 @@
-use Rattle.std.proofs.Common.{sym, ◌∙◌, refl, arith}
+use Rattle.std.proofs.Common.{sym, ◌∙◌, refl}
 use Rattle.uring_threads.proofs.AppEndLemmas.{item_at, all_items}
 use Rattle.std.proofs.lemmas.Bool.{false≢true}
 use Rattle.uring_threads.proofs.app_end.are_items.Goals as goal

@@ -1,4 +1,4 @@
-use Rattle.std.proofs.Common.{◌≡◌, sym, ◌∙◌, refl}
+use Rattle.std.proofs.Common.{sym, ◌∙◌, refl}
 use Rattle.uring_threads.specs.AppEnd.{IsAmiss}
 use Rattle.uring_threads.proofs.AppEndLemmas.{amiss_refuses}
 use Rattle.uring_threads.proofs.app_end.AppEnd.submit.Goals as goal
