@@ -11,3 +11,4 @@ mod LeftAt
 pub mod Settling
 mod Working
 mod LaneLemmas
+mod AppEndLemmas

@@ -70,10 +70,7 @@ pub fn put_close(lane: &mut Producer<Message, Global, WholeCalls>) -> bool
 }
 
 // Takes one whole call, or the close mark, or nothing.
-pub fn pull(
-    lane: &mut Consumer<Message, Global, WholeCalls>,
-    items: &mut Vec<Item>,
-) -> Pulled
+pub fn pull(lane: &mut Consumer<Message, Global, WholeCalls>, items: &mut Vec<Item>) -> Pulled
     requires whole { AreWhole (received lane.old) }
     requires open { has_close_mark (received lane.old) ≡ false }
     requires room { consumer_capacity lane.old ≤ vec_capacity items.old }
@@ -102,11 +99,7 @@ pub fn pull(
 }
 
 // Takes the items that are still to come of a call, which are there.
-fn pull_rest(
-    lane: &mut Consumer<Message, Global, WholeCalls>,
-    items: &mut Vec<Item>,
-    left: usize,
-)
+fn pull_rest(lane: &mut Consumer<Message, Global, WholeCalls>, items: &mut Vec<Item>, left: usize)
     requires owed { owed (received lane.old) ≡ left }
     requires there { left ≤ length (known_items lane.old) }
     requires room { vec_len items.old + left ≤ vec_capacity items.old }

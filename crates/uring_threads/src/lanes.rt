@@ -61,16 +61,15 @@ impl Model for KernelLanes {
 }
 
 /// The two ports of a new pair, with the sizes of this set-up's rings. `AllocError`: out of memory.
-pub fn lane_ports(
-    alloc: Global,
-    setup: &Setup,
-) -> Result<(AppLanes, KernelLanes), AllocError>
+pub fn lane_ports(alloc: Global, setup: &Setup) -> Result<(AppLanes, KernelLanes), AllocError>
     ensures pair { IfOk result (λ ports. ports.1.pairing ≡ ports.0.pairing) }
     ensures app { IfOk result (λ ports. (ports.0.sizes ≡ sizes_of setup.now) × (ports.0.put ≡ nothing_put) × (ports.0.got ≡ [])) }
     ensures kernel { IfOk result (λ ports. (ports.1.sizes ≡ sizes_of setup.now) × (ports.1.pulled ≡ nothing_put) × (ports.1.delivered ≡ []) × (ports.1.free ≡ setup.now.cq)) }
 {
-    let (sender, receiver) =
-        RingBuffer::with_protocol::<Global, WholeCalls>(alloc, setup.sq() as usize)?;
+    let (sender, receiver) = RingBuffer::with_protocol::<Global, WholeCalls>(
+        alloc,
+        setup.sq() as usize,
+    )?;
     let (deliverer, getter) = RingBuffer::new(alloc, setup.cq() as usize)?;
     let app = AppLanes {
         calls: sender,

@@ -1,4 +1,4 @@
-use Rattle.std.proofs.Common.{◌≡◌, ◌+◌, [], ◌∷◌, ◌++◌, ◌<◌, ◌∙◌, ap, sym, arith, length}
+use Rattle.std.proofs.Common.{[], ◌∷◌, ◌++◌, ◌<◌, ◌∙◌, ap, arith, length}
 use Rattle.rtrb.specs.Ring.{received, known_items}
 use Rattle.uring_threads.specs.Messages.{put_of, owed, items_before}
 use Rattle.uring_threads.specs.Ports.{with_call, with_close}

@@ -12,8 +12,7 @@ loop-preserved c =
     let popped = c.pop_known.ensures.received in
     let m = c.pop_known.result in
     let more : left ≡ suc (c.args.left - (c.loop.counter + 1)) = omega arith in
-    let owes : owed (received c.loop.lane) ≡ left = omega (arith, inv.4) in
-    (
+    let owes : owed (received c.loop.lane) ≡ left = omega (arith, inv.4) in (
       ((ring.0.0 ∙ inv.0.0.0, ring.0.1 ∙ inv.0.0.1, ring.0.2 ∙ inv.0.0.2, ring.0.3 ∙ inv.0.0.3), ring.1 ∙ inv.0.1),
       c.push_reserved.ensures.capacity ∙ inv.1,
       omega arith,

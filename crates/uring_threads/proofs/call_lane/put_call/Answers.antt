@@ -1,4 +1,4 @@
-use Rattle.std.proofs.Common.{◌≡◌, ◌∙◌, ap, length, arith}
+use Rattle.std.proofs.Common.{ap, length, arith}
 use Rattle.rtrb.specs.Ring.{sent}
 use Rattle.uring_threads.specs.Messages.{put_of}
 use Rattle.uring_threads.proofs.MessageSteps.{sends_call, places}

@@ -1,7 +1,6 @@
-use Rattle.std.proofs.Common.{◌≡◌, [], ◌++◌, ◌∙◌, ap, sym}
+use Rattle.std.proofs.Common.{◌++◌, ◌∙◌, ap, sym}
 use Rattle.rtrb.specs.Ring.{sent, received, known_items}
-use Rattle.uring_threads.specs.Ports.{LeavesItems}
-use Rattle.uring_threads.specs.Messages.{items_of, put_of}
+use Rattle.uring_threads.specs.Messages.{items_of}
 use Rattle.uring_threads.proofs.MessageSteps.{leaves}
 use Rattle.uring_threads.proofs.lane_rests.take_unsent.Goals as goal
 

@@ -1,0 +1,13 @@
+//! The application's end over lanes, with the dispatcher's port beside it on one thread.
+
+mod refusals;
+mod rests;
+mod rounds;
+
+use uring_entry::Sqe;
+use uring_threads::Item;
+
+/// A no-op with this user data.
+fn nop(user_data: u64) -> Item {
+    Item::Entry(Sqe::nop(user_data, 0))
+}

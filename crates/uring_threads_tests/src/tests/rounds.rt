@@ -1,0 +1,79 @@
+//! Calls go through and completions come back, at every wrap of lanes of four.
+ghost use Rattle.std.specs.Prelude.{◌≡◌, ◌≤◌, vec_capacity};
+
+use super::nop;
+use std::alloc::Global;
+use std::test::Fail;
+use uring_entry::{Cqe, Setup};
+use uring_threads::{AppEnd, AppLanes, Item, KernelLanes, KernelPort, Pulled, lane_ports};
+
+/// Delivers so many completions, with user data from 0 on. Whether there was room, and none beyond the fourth.
+fn delivers(kernel: &mut KernelLanes, count: usize) -> bool
+    ensures { kernel.new.sizes ≡ kernel.old.sizes }
+{
+    for k in 0..count {
+        if kernel.room() == 0 {
+            return false;
+        }
+        kernel.deliver(Cqe::new(k as u64, 0, [0; 64]));
+    }
+    kernel.room() == 4 - count.min(4)
+}
+
+/// Whether so many completions can be reaped, with user data from 0 on, and no more.
+fn reaps(app: &mut AppEnd<AppLanes>, count: usize) -> bool {
+    for k in 0..count {
+        match app.reap() {
+            Some(completion) if completion.user_data() == k as u64 => {}
+            _ => return false,
+        }
+    }
+    app.reap().is_none()
+}
+
+/// Whether a call goes through whole and its completions come back.
+fn goes_through(
+    app: &mut AppEnd<AppLanes>,
+    kernel: &mut KernelLanes,
+    items: &mut Vec<Item>,
+    call: &[Item],
+) -> bool
+    requires { kernel.old.sizes.sq ≤ vec_capacity items.old }
+    ensures sizes { kernel.new.sizes ≡ kernel.old.sizes }
+    ensures room { vec_capacity items.old ≤ vec_capacity items.new }
+{
+    if app.submit(call).is_err() || kernel.pull(items) != Pulled::Call {
+        return false;
+    }
+    if items.as_slice() != call || kernel.pull(items) != Pulled::Nothing {
+        return false;
+    }
+    delivers(kernel, call.len()) && reaps(app, call.len())
+}
+
+/// The first of a thousand rounds that goes otherwise.
+fn first_wrong_round(alloc: Global) -> Result<Option<u64>, Fail> {
+    let setup = Setup::new(4, Some(4), 1, 0)?;
+    let mut items = Vec::with_capacity(alloc, setup.sq() as usize)?;
+    let (port, mut kernel) = lane_ports(alloc, &setup)?;
+    let mut app = AppEnd::new(port, setup.sq());
+    for round in 0..1000 {
+        let call = [
+            nop(round),
+            Item::Bad(4),
+            nop(round + 1),
+            Item::Bad(u32::MAX),
+        ];
+        let count = (round % 4 + 1) as usize;
+        if !goes_through(&mut app, &mut kernel, &mut items, &call[..count]) {
+            return Ok(Some(round));
+        }
+    }
+    Ok(None)
+}
+
+#[test]
+fn go_through_and_back(rt: HostRuntime) -> Result<(), Fail> {
+    assert_eq!(rt; first_wrong_round(rt.alloc())?, None);
+    Ok(())
+}
