@@ -9,3 +9,4 @@ mod Sent
 mod LeftAt
 pub mod Settling
 mod Working
+mod Collecting

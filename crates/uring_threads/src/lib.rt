@@ -4,6 +4,7 @@
 mod item;
 
 // the workers' side
+mod collect;
 mod gate;
 mod job;
 pub mod laws;
