@@ -1,10 +1,11 @@
 -- Taking in the results that came back from a worker. All of it is our own rule.
-use Rattle.std.specs.Prelude.{◌≡◌, ◌≢◌, ℕ, ◌+◌, ◌≤◌, Bool, true, false, List, [], ◌∷◌, ◌++◌}
+use Rattle.std.specs.Prelude.{◌≡◌, ◌≢◌, ℕ, ◌<◌, ◌≤◌, Bool, true, false, List, [], ◌∷◌, ◌++◌}
 use Rattle.uring_entry.specs.Preparation.{operation_of}
 use Rattle.uring_entry.specs.Requests.{entry_of, is_running}
 use Rattle.uring_machine.specs.Histories.{History, history_of}
 use Rattle.uring_threads.specs.declared.job.JobResult.{JobResult}
 use Rattle.uring_threads.specs.Kept.{Kept, now, Grows}
+use Rattle.uring_threads.specs.Tallies.{Appends, finishes_counted}
 use Rattle.uring_threads.specs.Work.{place_of, jobs_to, done_by_worker, results_of}
 use Rattle.uring_threads.specs.Settled.{finish_of}
 
@@ -35,3 +36,23 @@ NextStays kept workers place (r ∷ later) = CanBeTaken kept workers place r.num
 abbrev pub TakesNext : Kept → Kept → ℕ → ℕ → List JobResult → List JobResult → List JobResult → Bool → Type 0
 TakesNext old new workers place before after seen true = (r : JobResult) × (after ≡ before ++ r ∷ []) × CanBeTaken old workers place r.number × Grows old new (finish_of r)
 TakesNext old new workers place before after seen false = (new ≡ old) × (after ≡ before) × NextStays old workers place seen
+
+-- how many results of a worker a turn takes in at most
+abbrev pub most_results : ℕ
+most_results = 64
+
+-- so many results of a worker were taken in, and recorded as Finishes
+pub record Collects (old new : Kept) (workers place count : ℕ) : Type 0 where
+  pub tally : Appends old new (finishes_counted count)
+  pub others : OthersStay old new workers place
+
+-- one more result was taken in, or none, where none is seen or the next can't be taken in
+abbrev pub CollectsNext : Kept → Kept → ℕ → ℕ → List JobResult → Bool → Type 0
+CollectsNext old new workers place seen true = Collects old new workers place 1
+CollectsNext old new workers place seen false = Collects old new workers place 0 × NextStays new workers place seen
+
+-- results were taken in: at most 64, and fewer only if none is seen or the next can't be taken in
+pub record CollectsSeen (old new : Kept) (workers place count : ℕ) (seen : List JobResult) : Type 0 where
+  pub collected : Collects old new workers place count
+  pub most : count ≤ most_results
+  pub rest : count < most_results → NextStays new workers place seen

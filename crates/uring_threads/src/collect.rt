@@ -1,12 +1,57 @@
 //! Results that came back from workers.
-ghost use Rattle.std.specs.Prelude.{◌≡◌, ◌<◌, ◌↔◌, length, IsTrue};
+ghost use Rattle.std.specs.Prelude.{◌≡◌, ℕ, ◌<◌, ◌↔◌, length, IsTrue, IfOk, OnErr};
 ghost use Rattle.rtrb.specs.Ring.{received, known_items, SameConsumer};
-ghost use Rattle.uring_threads.specs.Collected.{AreTakenIn, CanBeTaken, OthersStay, TakesNext};
+ghost use Rattle.uring_threads.specs.Collected.{AreTakenIn, CanBeTaken, Collects, CollectsNext, CollectsSeen, OthersStay, TakesNext};
 
 use crate::job::JobResult;
 use crate::kept::Kept;
 use crate::place::place_of;
+use crate::work_lanes::LANE_LENGTH;
 use rtrb::Consumer;
+use std::alloc::AllocError;
+
+/// Takes in the results of a worker that are seen, at most 64 of them, and returns how many. `AllocError`: room for the next event was refused; what was taken in until then is recorded, and nothing more was taken.
+pub fn collect(
+    kept: &mut Kept,
+    results: &mut Consumer<JobResult>,
+    place: u32,
+    workers: u32,
+) -> Result<u64, AllocError>
+    requires workers { 0 < workers }
+    requires taken { AreTakenIn kept.old workers place (received results.old) }
+    ensures taken { AreTakenIn kept.new workers place (received results.new) }
+    ensures ok { IfOk result (λ count. CollectsSeen kept.old kept.new workers place count (known_items results.new)) }
+    ensures err { OnErr result ((count : ℕ) × Collects kept.old kept.new workers place count) }
+    ensures ring { SameConsumer results.old results.new }
+{
+    for count in 0..LANE_LENGTH {
+        if !collect_next(kept, results, place, workers)? {
+            return Ok(count as u64);
+        }
+    }
+    Ok(LANE_LENGTH as u64)
+}
+
+/// Takes in the next result of a worker, if one is seen, with room for it asked for first.
+fn collect_next(
+    kept: &mut Kept,
+    results: &mut Consumer<JobResult>,
+    place: u32,
+    workers: u32,
+) -> Result<bool, AllocError>
+    requires workers { 0 < workers }
+    requires taken { AreTakenIn kept.old workers place (received results.old) }
+    ensures taken { AreTakenIn kept.new workers place (received results.new) }
+    ensures ok { IfOk result (λ more. CollectsNext kept.old kept.new workers place (known_items results.new) more) }
+    ensures err { OnErr result (Collects kept.old kept.new workers place 0) }
+    ensures ring { SameConsumer results.old results.new }
+{
+    if results.is_empty() {
+        return Ok(false);
+    }
+    kept.reserve(1)?;
+    Ok(collect_one(kept, results, place, workers))
+}
 
 /// Takes in the next result of a worker, if one is seen: it ends its request, which is recorded. A result of a request that doesn't run, or of one that is another worker's, stays in the lane. Condition: there is room in the trace for one event.
 pub fn collect_one(
