@@ -10,18 +10,19 @@ use Rattle.uring_entry.specs.declared.operation.Op.{Op}
 use Rattle.uring_entry.specs.declared.operation.Outcome.{Outcome}
 use Rattle.uring_machine.specs.Core.{IsFinished}
 use Rattle.uring_machine.specs.Finishes.{Done, done_in}
-use Rattle.uring_machine.specs.Histories.{Event, History, history_of}
+use Rattle.uring_machine.specs.Histories.{Event, History, history_of, IsLawfulApart}
 use Rattle.uring_machine.specs.declared.step.Step.TheVariants as step
 use Rattle.uring_machine.specs.declared.answer.Answer.{Answer}
 use Rattle.uring_machine.specs.declared.answer.Answer.TheVariants as answer
 use Rattle.uring_machine.proofs.Following.{history_of-snoc}
 use Rattle.uring_threads.specs.declared.job.JobResult.{JobResult}
-use Rattle.uring_threads.specs.Collected.{history, CanBeTaken, OthersStay, AreTakenIn, Collects, CollectsNext, CollectsSeen, NextStays, TakesNext}
+use Rattle.uring_threads.specs.Collected.{history, CanBeTaken, OthersStay, AreTakenIn, Collects, CollectsNext, CollectsSeen, NextStays, TakesNext, Wait}
 use Rattle.uring_threads.specs.Kept.{Kept, now, Grows, IsUnmoved}
-use Rattle.uring_threads.specs.Settled.{finish_of}
+use Rattle.uring_threads.specs.Settled.{IsWork, IsTakenIn, finish_of}
 use Rattle.uring_threads.specs.Work.{place_of, jobs_to, done_by_worker, result_of, results_of}
 use Rattle.uring_threads.specs.Tallies.{finishes_counted}
 use Rattle.uring_threads.proofs.LeftAt.{done-own, done-other}
+use Rattle.uring_threads.proofs.Settling.{results_run}
 use Rattle.uring_threads.proofs.TraceSteps.{appends_none, appends_one, appends_then, unmoved_now}
 
 -- the history of a trace that is one event longer
@@ -110,3 +111,23 @@ collects_no_more a b c workers place n seen true e few p q = absurd (let f : tru
 pub on_err : {X E P : Type 0} (result : Result X E) → P → OnErr result P
 on_err (Ok x) p = tt
 on_err (Err e) p = p
+
+-- All that wait.
+
+-- the first result that waits can be taken in, and then the next one is the first
+pub first_waits : (a : Kept) (r : JobResult) (later : List JobResult) → IsLawfulApart a.setup (history a) → (w : Wait a (r ∷ later)) → IsTakenIn a.setup w.0 (history a) w.1 (record { done = w.2; untaken = w.3; waiting = later }) r
+first_waits a r later lawful (workers, k, done, untaken, work) = results_run a.setup workers (history a) k done untaken r later lawful work
+
+pub first_grows : (a b : Kept) (r : JobResult) (later : List JobResult) (x : Answer) → IsLawfulApart a.setup (history a) → Wait a (r ∷ later) → IsFinished (now a) r.number r.outcome x → Grows a b (step.Finish r.number, x) → Grows a b (finish_of r)
+first_grows a b r later x lawful w finished grows =
+    subst (λ y. Grows a b (step.Finish r.number, y)) (ends_running a r.number r.outcome x (first_waits a r later lawful w).runs finished) grows
+
+pub next_waits : (a b : Kept) (r : JobResult) (later : List JobResult) → IsLawfulApart a.setup (history a) → Wait a (r ∷ later) → Grows a b (finish_of r) → Wait b later
+next_waits a b r later lawful w grows = (
+  w.0,
+  w.1,
+  w.2,
+  w.3,
+  subst (λ h. IsWork b.setup w.0 h w.1 (record { done = w.2; untaken = w.3; waiting = later })) (sym (grown_history a b (finish_of r) grows))
+  (subst (λ g. IsWork g w.0 (finish_of r ∷ history a) w.1 (record { done = w.2; untaken = w.3; waiting = later })) (sym grows.setup) (first_waits a r later lawful w).later),
+)

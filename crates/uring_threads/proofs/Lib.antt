@@ -10,4 +10,4 @@ mod LeftAt
 pub mod Settling
 mod Working
 mod Collecting
-pub mod RingEnds
+mod Draining

@@ -1,13 +1,15 @@
 -- Taking in the results that came back from a worker. All of it is our own rule.
-use Rattle.std.specs.Prelude.{◌≡◌, ◌≢◌, ℕ, ◌<◌, ◌≤◌, Bool, true, false, List, [], ◌∷◌, ◌++◌}
+use Rattle.std.specs.Prelude.{◌≡◌, ◌≢◌, ℕ, ◌<◌, ◌≤◌, Bool, true, false, List, [], ◌∷◌, ◌++◌, map}
 use Rattle.uring_entry.specs.Preparation.{operation_of}
 use Rattle.uring_entry.specs.Requests.{entry_of, is_running}
 use Rattle.uring_machine.specs.Histories.{History, history_of}
+use Rattle.uring_machine.specs.Finishes.{Done}
+use Rattle.uring_threads.specs.declared.job.Job.{Job}
 use Rattle.uring_threads.specs.declared.job.JobResult.{JobResult}
 use Rattle.uring_threads.specs.Kept.{Kept, now, Grows}
 use Rattle.uring_threads.specs.Tallies.{Appends, finishes_counted}
 use Rattle.uring_threads.specs.Work.{place_of, jobs_to, done_by_worker, results_of}
-use Rattle.uring_threads.specs.Settled.{finish_of}
+use Rattle.uring_threads.specs.Settled.{IsWork, finish_of}
 
 -- the history of the trace
 abbrev pub history : Kept → History
@@ -56,3 +58,13 @@ pub record CollectsSeen (old new : Kept) (workers place count : ℕ) (seen : Lis
   pub collected : Collects old new workers place count
   pub most : count ≤ most_results
   pub rest : count < most_results → NextStays new workers place seen
+
+-- these results are all that wait at some worker
+abbrev pub Wait : Kept → List JobResult → Type 0
+Wait kept waiting = (workers : ℕ) × (k : ℕ) × (done : List Done) × (untaken : List Job) × IsWork kept.setup workers (history kept) k (record { done = done; untaken = untaken; waiting = waiting })
+
+-- these results were taken in, in order, each by a Finish
+pub record TakesAll (old new : Kept) (results : List JobResult) : Type 0 where
+  pub trace : new.trace ≡ old.trace ++ map finish_of results
+  pub setup : new.setup ≡ old.setup
+  pub room : old.room ≤ new.room

@@ -1,7 +1,10 @@
 //! Results that came back from workers.
-ghost use Rattle.std.specs.Prelude.{◌≡◌, ℕ, ◌<◌, ◌↔◌, length, IsTrue, IfOk, OnErr};
+ghost use Rattle.std.specs.Prelude.{◌≡◌, ℕ, ◌+◌, ◌<◌, ◌≤◌, ◌↔◌, [], ◌∷◌, ◌++◌, length, IsTrue, IfOk, OnErr};
 ghost use Rattle.rtrb.specs.Ring.{received, known_items, SameConsumer};
-ghost use Rattle.uring_threads.specs.Collected.{AreTakenIn, CanBeTaken, Collects, CollectsNext, CollectsSeen, OthersStay, TakesNext};
+ghost use Rattle.uring_threads.specs.Collected.{AreTakenIn, CanBeTaken, Collects, CollectsNext, CollectsSeen, OthersStay, TakesAll, TakesNext, Wait};
+ghost use Rattle.uring_threads.specs.Kept.{Grows};
+ghost use Rattle.uring_threads.specs.Settled.{finish_of};
+ghost use Rattle.uring_threads.specs.declared.job.JobResult.{JobResult};
 
 use crate::job::JobResult;
 use crate::kept::Kept;
@@ -89,4 +92,31 @@ fn is_at(kept: &Kept, number: u64, place: u32, workers: u32) -> bool
         Some(op) => place_of(&op, workers, kept.setup().files()) == place,
         None => false,
     }
+}
+
+/// Takes in all results of a worker that are seen. Conditions: these are all that wait there, and there is room in the trace for an event each.
+pub fn take_waiting(kept: &mut Kept, results: &mut Consumer<JobResult>)
+    requires room { length kept.old.trace + length (known_items results.old) ≤ kept.old.room }
+    requires work { Wait kept.old (known_items results.old) }
+    ensures trace { TakesAll kept.old kept.new (known_items results.old) }
+    ensures results { (received results.new ≡ received results.old ++ known_items results.old) × (known_items results.new ≡ []) }
+    ensures ring { SameConsumer results.old results.new }
+{
+    for _taken in 0..results.cached_slots() {
+        take_known(kept, results);
+    }
+}
+
+/// Takes in the next result of a worker, which is seen. Conditions: those seen are all that wait there, and there is room in the trace for one event.
+fn take_known(kept: &mut Kept, results: &mut Consumer<JobResult>)
+    requires room { length kept.old.trace < kept.old.room }
+    requires some { 0 < length (known_items results.old) }
+    requires work { Wait kept.old (known_items results.old) }
+    ensures next { (r : JobResult) × (known_items results.old ≡ r ∷ known_items results.new) × (received results.new ≡ received results.old ++ r ∷ []) × Grows kept.old kept.new (finish_of r) }
+    ensures work { Wait kept.new (known_items results.new) }
+    ensures ring { SameConsumer results.old results.new }
+{
+    kept.is_lawful();
+    let result = results.pop_known();
+    kept.finish(result.number, result.outcome);
 }
