@@ -11,3 +11,4 @@ pub mod Settling
 mod Working
 mod Collecting
 mod Draining
+pub mod Sending
