@@ -12,3 +12,6 @@ pub mod Settling
 mod Working
 mod LaneLemmas
 mod AppEndLemmas
+mod Collecting
+mod Draining
+pub mod Sending

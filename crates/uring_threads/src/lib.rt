@@ -6,6 +6,7 @@ mod call_lane;
 mod item;
 
 // the workers' side
+mod collect;
 mod gate;
 mod job;
 pub mod laws;

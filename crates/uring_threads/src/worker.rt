@@ -2,11 +2,13 @@
 ghost use Rattle.std.specs.Prelude.{◌≡◌, ◌+◌, ◌<◌, ◌≤◌, [], ◌∷◌, ◌++◌, length, IfOk};
 ghost use Rattle.rtrb.specs.Ring.{sent, known_free, received, known_items};
 ghost use Rattle.uring_files.specs.Operations.{state_of, byte_of, IsForFiles};
-ghost use Rattle.uring_threads.specs.Rings.{producer_ring, consumer_ring};
-ghost use Rattle.uring_threads.specs.Worker.{Turns, empty_files};
+ghost use Rattle.uring_threads.specs.Rings.{producer_ring, consumer_ring, rings_of};
+ghost use Rattle.uring_threads.specs.Work.{jobs_of, results_of};
+ghost use Rattle.uring_threads.specs.Worker.{Looks, Turns, empty_files};
 
 use crate::gate::Gate;
 use crate::job::{Job, JobResult};
+use crate::work_lanes::WorkLanes;
 use rtrb::{Consumer, Producer, Protocol};
 use std::alloc::{AllocError, Global};
 use std::marker::Model;
@@ -105,6 +107,19 @@ impl<G: Gate> Worker<G> {
             outcome,
         });
         Worked::Done(job.number)
+    }
+
+    /// Sees all jobs that were sent to this worker and that it hasn't taken, and shows the dispatcher's end all results that were sent. Condition: these are the dispatcher's ends of this worker's lanes.
+    pub(crate) fn see_all(&mut self, lanes: &mut WorkLanes)
+        requires { self.old.rings ≡ rings_of lanes.old.jobs lanes.old.results }
+        ensures worker { Looks self.old self.new }
+        ensures jobs { jobs_of self.new.done ++ self.new.seen ≡ sent lanes.new.jobs }
+        ensures results { received lanes.new.results ++ known_items lanes.new.results ≡ results_of self.new.done }
+        ensures dispatcher { (sent lanes.new.jobs ≡ sent lanes.old.jobs) × (received lanes.new.results ≡ received lanes.old.results) }
+        ensures rings { rings_of lanes.new.jobs lanes.new.results ≡ rings_of lanes.old.jobs lanes.old.results }
+    {
+        self.jobs.slots_beside(&mut lanes.jobs);
+        lanes.results.slots_beside(&mut self.results);
     }
 
     /// How this worker's file of a descriptor stands: `None` if there is none.

@@ -1,0 +1,20 @@
+use Rattle.std.proofs.Common.{rules, ◌≡◌, [], ◌∷◌, ◌++◌, refl, sym, subst}
+use Rattle.rtrb.specs.Ring.{received, known_items}
+use Rattle.uring_threads.specs.Collected.{Wait}
+use Rattle.uring_threads.specs.Kept.{Grows}
+use Rattle.uring_threads.specs.Settled.{finish_of}
+use Rattle.uring_threads.proofs.Collecting.{first_grows, next_waits}
+use Rattle.uring_threads.proofs.collect.take_known.Goals as goal
+
+grows : (c : goal.After-finish) → Grows c.args.kept.now c.finish.new.self (finish_of c.pop_known-result.result)
+grows c =
+    first_grows c.args.kept.now c.finish.new.self c.pop_known-result.result (known_items c.pop_known-result.new.self) c.finish.result c.is_lawful.ensures.lawful
+    (subst (Wait c.args.kept.now) c.pop_known-result.ensures.received.1 c.requires.work) c.finish.ensures.outcome c.finish.ensures.grows
+
+pub returns-clause-next : goal.returns-clause-next
+returns-clause-next c = (c.pop_known-result.result, c.pop_known-result.ensures.received.1, c.pop_known-result.ensures.received.0, grows c)
+
+pub returns-clause-work : goal.returns-clause-work
+returns-clause-work c =
+    next_waits c.args.kept.now c.finish.new.self c.pop_known-result.result (known_items c.pop_known-result.new.self) c.is_lawful.ensures.lawful
+    (subst (Wait c.args.kept.now) c.pop_known-result.ensures.received.1 c.requires.work) (grows c)
