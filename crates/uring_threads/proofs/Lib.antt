@@ -2,6 +2,7 @@ pub mod TraceSteps
 pub mod ItemSteps
 pub mod CallSteps
 pub mod IssueSteps
+pub mod Tying
 mod MessageLemmas
 mod MessageSteps
 pub mod Dealing

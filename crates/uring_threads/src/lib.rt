@@ -11,6 +11,7 @@ mod pulled;
 // the dispatcher's side
 mod calls;
 mod deliveries;
+mod intake;
 mod issues;
 mod kept;
 mod put_items;
