@@ -1,5 +1,5 @@
 -- What was pulled stays tied to the submission ring.
-use Rattle.std.proofs.Common.{◌≡◌, ℕ, ◌+◌, ◌≤◌, Bool, true, false, List, [], ◌∷◌, ◌++◌, length, map, refl, sym, subst, ap, ap₂, ◌∙◌, arith, append_assoc, append-nil}
+use Rattle.std.proofs.Common.{◌≡◌, ℕ, ◌+◌, ◌<◌, ◌≤◌, Bool, true, false, List, [], ◌∷◌, ◌++◌, length, map, refl, sym, subst, ap, ap₂, ◌∙◌, arith, append_assoc, append-nil}
 use Rattle.std.proofs.lemmas.List.{map-append}
 use Rattle.std.proofs.lemmas.List.Sums.{sum_by_push}
 use Rattle.uring_entry.specs.Submission.{Submission}
@@ -11,18 +11,21 @@ use Rattle.uring_threads.specs.Ports.{Put, items_of_calls}
 use Rattle.uring_threads.specs.Rows.{with_begun_as}
 use Rattle.uring_threads.specs.Taking.{Tied, intake_after}
 use Rattle.uring_threads.specs.Items.{published_as}
-use Rattle.uring_threads.specs.Kept.{Kept, IsUnmoved}
+use Rattle.uring_entry.specs.Setup.{Setup}
+use Rattle.uring_machine.specs.declared.step.Step.TheVariants as step
+use Rattle.uring_machine.specs.declared.answer.Answer.{Answer}
+use Rattle.uring_threads.specs.Kept.{Kept, IsUnmoved, Grows, now}
 use Rattle.uring_threads.specs.Ports.{with_call}
 use Rattle.uring_threads.specs.Rows.{with_items_published}
 use Rattle.uring_threads.specs.Taking.{TakesIn}
 use Rattle.uring_threads.specs.Tallies.{Appends, call_counted, whole_call_counted, close_counted}
 use Rattle.uring_threads.proofs.ItemSteps.{items_stand}
-use Rattle.uring_threads.proofs.TraceSteps.{appends_none, appends_then}
+use Rattle.uring_threads.proofs.TraceSteps.{unmoved_now, appends_none, appends_one, appends_then, appends_behind}
 use Rattle.uring_machine.specs.Published.{Published, with_entry, bad_word, IsItem}
 use Rattle.uring_machine.specs.Standing.{with_item, with_items}
 use Rattle.uring_machine.proofs.Standing.{items_published, tail_publishes}
 use Rattle.uring_threads.specs.declared.item.Item.{Item}
-use Rattle.std.specs.Prelude.{All}
+use Rattle.std.specs.Prelude.{All, Result, Ok, Err, OnErr}
 use Rattle.std.proofs.lemmas.List.{length-map, length-append, get_or_append_left}
 use Rattle.std.proofs.lemmas.List.Elements.{All-tail}
 use Rattle.uring_threads.specs.declared.calls.Begun.{Begun}
@@ -114,3 +117,27 @@ takes_then a b c n m k p q sums =
       appends = appends_then a b c _ _ _ p.appends q.appends (ap (λ i. record { items = i; issues = 0; finishes = 0; reaps = 0; calls = p.calls + q.calls; closes = p.closes + q.closes }) sums);
       idle = λ none. q.idle (omega (arith, none, sums)) ∙ p.idle (omega (arith, none, sums));
     }
+
+-- so it stands once room was asked for, a call pulled, and its items taken
+pub tied_taken : (a r b : Kept) (size n : ℕ) (put after : Put) (items taken : List Item) (i : Intake) (x : Begun) → IsUnmoved a r → Tied a.setup.sq (now a) put i → i ≡ intake.Ready → size ≡ a.setup.sq
+    → (0 < length items) × (length items ≤ size) × (put.closed ≡ false) × (after ≡ with_call put items) → taken ≡ items → n ≡ length items
+    → now b ≡ with_begun_as (with_items_published r.setup.sq (now r) (all_published_as taken)) (length taken) x → Tied a.setup.sq (now b) after (intake_after n x)
+tied_taken a r b size n put after items taken i x u t ready sizes pulled same many e =
+    subst (λ m. Tied a.setup.sq (now b) after (intake_after m x)) (sym many)
+    (tied_pulled a.setup.sq (now a) (now b) put after items x (subst (Tied a.setup.sq (now a) put) ready t) pulled.2 (omega (arith, pulled.1, sizes)) pulled.3
+    (e ∙ ap₂ (λ (w : World) (xs : List Item). with_begun_as (with_items_published r.setup.sq w (all_published_as xs)) (length xs) x) (unmoved_now a r u) same
+    ∙ ap (λ (g : Setup). with_begun_as (with_items_published g.sq (now a) (all_published_as items)) (length items) x) u.setup))
+
+-- what that appended
+pub takes_taken : (a r b : Kept) (n : ℕ) (items taken : List Item) → IsUnmoved a r → taken ≡ items → n ≡ length items → Appends r b (whole_call_counted (length taken)) → TakesIn a b n
+takes_taken a r b n items taken u same many p =
+    takes_call a b n (appends_behind a r b _ u (subst (λ m. Appends r b (whole_call_counted m)) (ap length same ∙ sym many) p))
+
+-- what a close appended
+pub takes_shut : (a r b : Kept) (x : Answer) → IsUnmoved a r → Grows r b (step.Close, x) → TakesIn a b 0
+takes_shut a r b x u g = takes_close a b (appends_behind a r b _ u (appends_one r b (step.Close, x) close_counted g refl))
+
+-- what holds in any case holds of an error
+pub on_err : {A E : Type 0} (r : Result A E) (P : Type 0) → P → OnErr r P
+on_err (Ok x) P p = tt
+on_err (Err e) P p = p

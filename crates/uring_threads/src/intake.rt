@@ -3,7 +3,7 @@ ghost use Rattle.std.specs.Prelude.{◌≡◌, ◌+◌, ◌≤◌, length, IfOk,
 ghost use Rattle.uring_threads.specs.Kept.{now};
 ghost use Rattle.uring_threads.specs.Taking.{TakesIn, Tied, intake_after};
 ghost use Rattle.uring_threads.specs.Ports.{Put};
-ghost use Rattle.uring_threads.specs.declared.intake.Intake.TheVariants as intake;
+ghost use Rattle.uring_threads.specs.declared.intake.Intake.TheVariants.{Ready};
 
 use crate::calls::{Begun, begin_call, take_call};
 use crate::item::Item;
@@ -61,7 +61,7 @@ fn pull_call<P: KernelPort>(kept: &mut Kept, port: &mut P, items: &mut Vec<Item>
     requires sizes { (P.sizes port.old).sq ≡ kept.old.setup.sq }
     requires items { kept.old.setup.sq ≤ vec_capacity items.old }
     requires tied { Tied kept.old.setup.sq (now kept.old) (P.pulled port.old) intake.old }
-    requires ready { intake.old ≡ intake.Ready }
+    requires ready { intake.old ≡ Ready }
     ensures tied { Tied kept.old.setup.sq (now kept.new) (P.pulled port.new) intake.new }
     ensures completions { (now kept.new).completions ≡ (now kept.old).completions }
     ensures taken { IfOk result (λ n. TakesIn kept.old kept.new n) }
