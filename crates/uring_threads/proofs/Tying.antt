@@ -1,12 +1,11 @@
 -- What was pulled stays tied to the submission ring.
-use Rattle.std.proofs.Common.{◌≡◌, ℕ, ◌+◌, ◌<◌, ◌≤◌, Bool, true, false, List, [], ◌∷◌, ◌++◌, length, map, refl, sym, subst, ap, ap₂, ◌∙◌, arith, append_assoc, append-nil}
+use Rattle.std.proofs.Common.{◌≡◌, ℕ, ◌+◌, ◌<◌, ◌≤◌, false, List, [], ◌∷◌, ◌++◌, length, refl, sym, subst, ap, ap₂, ◌∙◌, arith, append_assoc, append-nil}
 use Rattle.std.proofs.lemmas.List.{map-append}
 use Rattle.std.proofs.lemmas.List.Sums.{sum_by_push}
 use Rattle.uring_entry.specs.Submission.{Submission}
 use Rattle.uring_machine.specs.World.{World}
-use Rattle.uring_machine.specs.Published.{published_items}
-use Rattle.uring_machine.specs.Standing.{Stands, after_call}
-use Rattle.uring_threads.specs.Items.{all_published_as, AreItems}
+use Rattle.uring_machine.specs.Standing.{Stands}
+use Rattle.uring_threads.specs.Items.{all_published_as}
 use Rattle.uring_threads.specs.Ports.{Put, items_of_calls}
 use Rattle.uring_threads.specs.Rows.{with_begun_as}
 use Rattle.uring_threads.specs.Taking.{Tied, intake_after}
@@ -25,7 +24,7 @@ use Rattle.uring_machine.specs.Published.{Published, with_entry, bad_word, IsIte
 use Rattle.uring_machine.specs.Standing.{with_item, with_items}
 use Rattle.uring_machine.proofs.Standing.{items_published, tail_publishes}
 use Rattle.uring_threads.specs.declared.item.Item.{Item}
-use Rattle.std.specs.Prelude.{All, Result, Ok, Err, OnErr}
+use Rattle.std.specs.Prelude.{All, Result, Ok, Err, IfOk, OnErr}
 use Rattle.std.proofs.lemmas.List.{length-map, length-append, get_or_append_left}
 use Rattle.std.proofs.lemmas.List.Elements.{All-tail}
 use Rattle.uring_threads.specs.declared.calls.Begun.{Begun}
@@ -141,3 +140,12 @@ takes_shut a r b x u g = takes_close a b (appends_behind a r b _ u (appends_one 
 pub on_err : {A E : Type 0} (r : Result A E) (P : Type 0) → P → OnErr r P
 on_err (Ok x) P p = tt
 on_err (Err e) P p = p
+
+-- what a pull took in behind a retry
+pub ok_then : {E : Type 0} (r : Result ℕ E) (a b c : Kept) → TakesIn a b 0 → IfOk r (λ n. TakesIn b c n) → IfOk r (λ n. TakesIn a c n)
+ok_then (Ok n) a b c p q = takes_then a b c 0 n n p q (omega arith)
+ok_then (Err e) a b c p q = tt
+
+pub err_then : {E : Type 0} (r : Result ℕ E) (a b c : Kept) → TakesIn a b 0 → OnErr r (TakesIn b c 0) → OnErr r (TakesIn a c 0)
+err_then (Ok n) a b c p q = tt
+err_then (Err e) a b c p q = takes_then a b c 0 0 0 p q refl

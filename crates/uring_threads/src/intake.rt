@@ -57,7 +57,12 @@ fn retry(kept: &mut Kept, intake: &mut Intake) -> Result<(), AllocError>
 }
 
 /// Pulls one call, or the close mark, or nothing: publishes and begins the call, or closes the ring. Returns how many items it pulled. `AllocError`: the trace had no room, and nothing was done.
-fn pull_call<P: KernelPort>(kept: &mut Kept, port: &mut P, items: &mut Vec<Item>, intake: &mut Intake) -> Result<u64, AllocError>
+fn pull_call<P: KernelPort>(
+    kept: &mut Kept,
+    port: &mut P,
+    items: &mut Vec<Item>,
+    intake: &mut Intake,
+) -> Result<u64, AllocError>
     requires sizes { (P.sizes port.old).sq ≡ kept.old.setup.sq }
     requires items { kept.old.setup.sq ≤ vec_capacity items.old }
     requires tied { Tied kept.old.setup.sq (now kept.old) (P.pulled port.old) intake.old }
@@ -91,7 +96,12 @@ fn pull_call<P: KernelPort>(kept: &mut Kept, port: &mut P, items: &mut Vec<Item>
 /// Begins the call that waits once more, if one does, and pulls one call or the close mark, if none waits then. Returns how many items it pulled; they replace what `items` held.
 ///
 /// `AllocError`: the trace had no room, and nothing was done from there on.
-pub fn take_in<P: KernelPort>(kept: &mut Kept, port: &mut P, items: &mut Vec<Item>, intake: &mut Intake) -> Result<u64, AllocError>
+pub fn take_in<P: KernelPort>(
+    kept: &mut Kept,
+    port: &mut P,
+    items: &mut Vec<Item>,
+    intake: &mut Intake,
+) -> Result<u64, AllocError>
     requires sizes { (P.sizes port.old).sq ≡ kept.old.setup.sq }
     requires items { kept.old.setup.sq ≤ vec_capacity items.old }
     requires tied { Tied kept.old.setup.sq (now kept.old) (P.pulled port.old) intake.old }

@@ -1,5 +1,4 @@
 use Rattle.std.proofs.Common.{refl, arith}
-use Rattle.uring_threads.specs.Kept.{now}
 use Rattle.uring_threads.proofs.TraceSteps.{appends_behind}
 use Rattle.uring_threads.proofs.Tying.{takes_nothing, takes_again}
 use Rattle.uring_threads.proofs.intake.retry.Goals as goal
