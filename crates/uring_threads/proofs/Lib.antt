@@ -10,3 +10,5 @@ mod Tallies
 mod Sent
 mod LeftAt
 pub mod Settling
+mod LaneLemmas
+mod AppEndLemmas

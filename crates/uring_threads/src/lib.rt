@@ -1,12 +1,17 @@
 //! Application, dispatcher and workers as ends that threads own: submissions, completions, jobs and results go from end to end, and the dispatcher records its steps as a trace.
 #![tactic(auto)]
 
+mod app_end;
+mod call_lane;
 mod item;
 mod job;
 pub mod laws;
+mod lane_rests;
+mod lanes;
 mod message;
 mod ports;
 mod pulled;
+mod refusals;
 
 // the dispatcher's side
 mod calls;
@@ -17,10 +22,13 @@ mod kept;
 mod put_items;
 mod take_result;
 
+pub use app_end::AppEnd;
 pub use item::Item;
 pub use job::{Job, JobResult};
+pub use lanes::{AppLanes, KernelLanes, lane_ports};
 pub use ports::{AppPort, KernelPort};
 pub use pulled::{Pulled, Rests};
+pub use refusals::{CloseRefusal, SubmitRefusal};
 pub use uring_files::FileState;
 pub use uring_machine::{
     Answer, Core, Counts, Cqe, Fault, Op, Outcome, Setup, Sqe, SqeFlags, Step,
