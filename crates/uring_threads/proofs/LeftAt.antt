@@ -14,7 +14,7 @@ use Rattle.uring_machine.specs.Histories.{History, world, IsLawfulApart}
 use Rattle.uring_machine.proofs.Sound.{sound_of}
 use Rattle.uring_threads.specs.declared.job.Job.{Job}
 use Rattle.uring_threads.specs.Work.{job_in, jobs_in, jobs_at, jobs_of}
-use Rattle.uring_threads.proofs.Tallies.{tally, tally-append, tally-counts, tally-some, tally-any, none_passes}
+use Rattle.uring_threads.proofs.Times.{times, times-append, times-counts, times-some, times-any, none_passes}
 use Rattle.uring_threads.proofs.Sent.{jobs_are_starts, AreOf, done_is_of, carried_out, done_ended}
 
 -- the operation of a request, where these entries were accepted
@@ -24,11 +24,11 @@ op_at accepted n = operation_of (slice_index_or accepted n zero_entry)
 -- What was sent to a place, and what was carried out of it.
 
 -- a request's job is sent to its place as often as it starts
-sent_own : (place : Op → ℕ) (k n : ℕ) (r : Requests) (ns : List ℕ) → (place (operation_of (entry_of r n)) == k) ≡ true → tally (λ j. j.number == n) (jobs_at place k (map (job_in r) ns)) ≡ tally (λ m. m == n) ns
+sent_own : (place : Op → ℕ) (k n : ℕ) (r : Requests) (ns : List ℕ) → (place (operation_of (entry_of r n)) == k) ≡ true → times (λ j. j.number == n) (jobs_at place k (map (job_in r) ns)) ≡ times (λ m. m == n) ns
 sent_own place k n r [] own = refl
 sent_own place k n r (m ∷ ns) own = by_test (place (operation_of (entry_of r m)) == k) refl (sent_own place k n r ns own) where
-  by_test : (here : Bool) → (place (operation_of (entry_of r m)) == k) ≡ here → tally (λ j. j.number == n) (jobs_at place k (map (job_in r) ns)) ≡ tally (λ l. l == n) ns
-      → tally (λ j. j.number == n) (cond here (job_in r m ∷ jobs_at place k (map (job_in r) ns)) (jobs_at place k (map (job_in r) ns))) ≡ cond (m == n) 1 0 + tally (λ l. l == n) ns
+  by_test : (here : Bool) → (place (operation_of (entry_of r m)) == k) ≡ here → times (λ j. j.number == n) (jobs_at place k (map (job_in r) ns)) ≡ times (λ l. l == n) ns
+      → times (λ j. j.number == n) (cond here (job_in r m ∷ jobs_at place k (map (job_in r) ns)) (jobs_at place k (map (job_in r) ns))) ≡ cond (m == n) 1 0 + times (λ l. l == n) ns
   by_test true e rest = omega (arith, rest)
   by_test false e rest =
       let other : (m == n) ≡ false = false_from_ne_true _ (λ same. both_ways _ e (ap (λ l. place (operation_of (entry_of r l)) == k) (eqb-true _ _ same) ∙ own)) in
@@ -36,11 +36,11 @@ sent_own place k n r (m ∷ ns) own = by_test (place (operation_of (entry_of r m
       omega (arith, rest)
 
 -- and to no other
-sent_other : (place : Op → ℕ) (k n : ℕ) (r : Requests) (ns : List ℕ) → (place (operation_of (entry_of r n)) == k) ≡ false → tally (λ j. j.number == n) (jobs_at place k (map (job_in r) ns)) ≡ 0
+sent_other : (place : Op → ℕ) (k n : ℕ) (r : Requests) (ns : List ℕ) → (place (operation_of (entry_of r n)) == k) ≡ false → times (λ j. j.number == n) (jobs_at place k (map (job_in r) ns)) ≡ 0
 sent_other place k n r [] other = refl
 sent_other place k n r (m ∷ ns) other = by_test (place (operation_of (entry_of r m)) == k) refl (sent_other place k n r ns other) where
-  by_test : (here : Bool) → (place (operation_of (entry_of r m)) == k) ≡ here → tally (λ j. j.number == n) (jobs_at place k (map (job_in r) ns)) ≡ 0
-      → tally (λ j. j.number == n) (cond here (job_in r m ∷ jobs_at place k (map (job_in r) ns)) (jobs_at place k (map (job_in r) ns))) ≡ 0
+  by_test : (here : Bool) → (place (operation_of (entry_of r m)) == k) ≡ here → times (λ j. j.number == n) (jobs_at place k (map (job_in r) ns)) ≡ 0
+      → times (λ j. j.number == n) (cond here (job_in r m ∷ jobs_at place k (map (job_in r) ns)) (jobs_at place k (map (job_in r) ns))) ≡ 0
   by_test true e rest =
       let unlike : (m == n) ≡ false = false_from_ne_true _ (λ same. both_ways _ other (ap (λ l. place (operation_of (entry_of r l)) == k) (sym (eqb-true _ _ same)) ∙ e)) in
       let none : ◌≡◌ {A = ℕ} (cond (m == n) 1 0) 0 = ap (λ b. cond b 1 0) unlike in
@@ -48,11 +48,11 @@ sent_other place k n r (m ∷ ns) other = by_test (place (operation_of (entry_of
   by_test false e rest = rest
 
 -- what was carried out of a request was carried out at its place
-done_own : (place : Op → ℕ) (k n : ℕ) (accepted : List Sqe) (ds : List Done) → AreOf accepted ds → (place (op_at accepted n) == k) ≡ true → tally (λ d. d.number == n) (done_at place k ds) ≡ tally (λ d. d.number == n) ds
+done_own : (place : Op → ℕ) (k n : ℕ) (accepted : List Sqe) (ds : List Done) → AreOf accepted ds → (place (op_at accepted n) == k) ≡ true → times (λ d. d.number == n) (done_at place k ds) ≡ times (λ d. d.number == n) ds
 done_own place k n accepted [] all own = refl
 done_own place k n accepted (d ∷ ds) all own = by_test (place d.op == k) refl (done_own place k n accepted ds all.2 own) where
-  by_test : (here : Bool) → (place d.op == k) ≡ here → tally (λ x. x.number == n) (done_at place k ds) ≡ tally (λ x. x.number == n) ds
-      → tally (λ x. x.number == n) (cond here (d ∷ done_at place k ds) (done_at place k ds)) ≡ cond (d.number == n) 1 0 + tally (λ x. x.number == n) ds
+  by_test : (here : Bool) → (place d.op == k) ≡ here → times (λ x. x.number == n) (done_at place k ds) ≡ times (λ x. x.number == n) ds
+      → times (λ x. x.number == n) (cond here (d ∷ done_at place k ds) (done_at place k ds)) ≡ cond (d.number == n) 1 0 + times (λ x. x.number == n) ds
   by_test true e rest = omega (arith, rest)
   by_test false e rest =
       let other : (d.number == n) ≡ false = false_from_ne_true _ (λ same. both_ways _ e (ap (λ op. place op == k) (all.1 ∙ ap (op_at accepted) (eqb-true _ _ same)) ∙ own)) in
@@ -60,51 +60,51 @@ done_own place k n accepted (d ∷ ds) all own = by_test (place d.op == k) refl 
       omega (arith, rest)
 
 -- jobs have the numbers of their operations
-pub jobs-tally : (n : ℕ) (ds : List Done) → tally (λ j. j.number == n) (jobs_of ds) ≡ tally (λ d. d.number == n) ds
-jobs-tally n [] = refl
-jobs-tally n (d ∷ ds) = omega (arith, jobs-tally n ds)
+pub jobs-times : (n : ℕ) (ds : List Done) → times (λ j. j.number == n) (jobs_of ds) ≡ times (λ d. d.number == n) ds
+jobs-times n [] = refl
+jobs-times n (d ∷ ds) = omega (arith, jobs-times n ds)
 
 -- What is left.
 
 module _ (g : Setup) (h : History) (lawful : IsLawfulApart g h) (place : Op → ℕ) (k : ℕ) (later : List Job) (all : jobs_at place k (jobs_in g h) ≡ jobs_of (done_at place k (done_in g h)) ++ later) where
   -- all that was sent to the place, counted
-  sent_tally : (n : ℕ) → tally (λ j. j.number == n) (jobs_at place k (map (job_in (world g h).requests) (world g h).requests.started)) ≡ tally (λ d. d.number == n) (done_at place k (done_in g h)) + tally (λ j. j.number == n) later
-  sent_tally n =
-      ap (λ js. tally (λ j. j.number == n) (jobs_at place k js)) (sym (jobs_are_starts g h lawful)) ∙ ap (tally (λ j. j.number == n)) all
-      ∙ tally-append (λ (j : Job). j.number == n) (jobs_of (done_at place k (done_in g h))) later ∙ ap (λ m. m + tally (λ j. j.number == n) later) (jobs-tally n (done_at place k (done_in g h)))
+  sent_times : (n : ℕ) → times (λ j. j.number == n) (jobs_at place k (map (job_in (world g h).requests) (world g h).requests.started)) ≡ times (λ d. d.number == n) (done_at place k (done_in g h)) + times (λ j. j.number == n) later
+  sent_times n =
+      ap (λ js. times (λ j. j.number == n) (jobs_at place k js)) (sym (jobs_are_starts g h lawful)) ∙ ap (times (λ j. j.number == n)) all
+      ∙ times-append (λ (j : Job). j.number == n) (jobs_of (done_at place k (done_in g h))) later ∙ ap (λ m. m + times (λ j. j.number == n) later) (jobs-times n (done_at place k (done_in g h)))
 
   -- what is left is the place's own
-  pub left_own : (n : ℕ) → 1 ≤ tally (λ j. j.number == n) later → (place (operation_of (entry_of (world g h).requests n)) == k) ≡ true
+  pub left_own : (n : ℕ) → 1 ≤ times (λ j. j.number == n) later → (place (operation_of (entry_of (world g h).requests n)) == k) ≡ true
   left_own n some =
       elim (cases_Bool (place (operation_of (entry_of (world g h).requests n)) == k)) [
         | inl own ↦ own
-        | inr other ↦ absurd (omega (arith, sent_tally n, sent_other place k n (world g h).requests (world g h).requests.started other))
+        | inr other ↦ absurd (omega (arith, sent_times n, sent_other place k n (world g h).requests (world g h).requests.started other))
       ]
 
   -- what is left runs
-  pub left_runs : (n : ℕ) → 1 ≤ tally (λ j. j.number == n) later → is_running (world g h).requests n ≡ true
+  pub left_runs : (n : ℕ) → 1 ≤ times (λ j. j.number == n) later → is_running (world g h).requests n ≡ true
   left_runs n some =
       let r : Requests = (world g h).requests in
       let own = left_own n some in
       let sent = sent_own place k n r r.started own in
       let once = (sound_of g h lawful).requests.starts_once n in
-      let started : has_started r n ≡ true = tally-any (λ m. m == n) r.started (omega (arith, sent_tally n)) in
-      running r n started (λ ended. absurd (omega (arith, sent_tally n, tally-counts (λ m. m == n) r.started, carried_out g h lawful n started ended, done_own place k n r.accepted (done_in g h) (done_is_of g h lawful) own))) where
+      let started : has_started r n ≡ true = times-any (λ m. m == n) r.started (omega (arith, sent_times n)) in
+      running r n started (λ ended. absurd (omega (arith, sent_times n, times-counts (λ m. m == n) r.started, carried_out g h lawful n started ended, done_own place k n r.accepted (done_in g h) (done_is_of g h lawful) own))) where
         running : (r : Requests) (n : ℕ) → has_started r n ≡ true → (has_ended r n ≡ true → ⊥) → is_running r n ≡ true
         running r n started open_end = ap (λ b. b && not (has_ended r n)) started ∙ ap not (false_from_ne_true _ open_end)
 
   -- what runs and is the place's own is left
-  pub runs_left : (n : ℕ) → place (operation_of (entry_of (world g h).requests n)) ≡ k → is_running (world g h).requests n ≡ true → 1 ≤ tally (λ j. j.number == n) later
+  pub runs_left : (n : ℕ) → place (operation_of (entry_of (world g h).requests n)) ≡ k → is_running (world g h).requests n ≡ true → 1 ≤ times (λ j. j.number == n) later
   runs_left n own running =
       let r : Requests = (world g h).requests in
       let parts = and_parts _ _ running in
       let here = eq-eqb _ _ own in
-      let some = tally-some (λ m. m == n) r.started parts.0 in
+      let some = times-some (λ m. m == n) r.started parts.0 in
       let sent = sent_own place k n r r.started here in
       let fewer = done_ended g h lawful n in
       let none = none_ended r n (not-true _ parts.1) in
-      omega (arith, sent_tally n, done_own place k n r.accepted (done_in g h) (done_is_of g h lawful) here) where
-        none_ended : (r : Requests) (n : ℕ) → has_ended r n ≡ false → tally (λ e. e.number == n) r.ended ≡ 0
+      omega (arith, sent_times n, done_own place k n r.accepted (done_in g h) (done_is_of g h lawful) here) where
+        none_ended : (r : Requests) (n : ℕ) → has_ended r n ≡ false → times (λ e. e.number == n) r.ended ≡ 0
         none_ended r n open_end = none_passes (λ (e : Ending). e.number == n) r.ended open_end
 
 -- Operations of a place, with one more carried out.

@@ -6,9 +6,12 @@ pub mod Tying
 mod MessageLemmas
 mod MessageSteps
 pub mod Dealing
-mod Tallies
+mod Times
 mod Sent
 mod LeftAt
 pub mod Settling
 mod LaneLemmas
 mod AppEndLemmas
+mod Working
+mod Collecting
+pub mod RingEnds

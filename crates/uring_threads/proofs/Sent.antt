@@ -27,7 +27,7 @@ use Rattle.uring_machine.proofs.Sound.{sound_of}
 use Rattle.uring_machine.proofs.SoundRequests.{IsSoundRequests, outstanding_tells, idle_tells}
 use Rattle.uring_threads.specs.declared.job.Job.{Job}
 use Rattle.uring_threads.specs.Work.{job_in, jobs_in}
-use Rattle.uring_threads.proofs.Tallies.{tally, tally-append, tally-told}
+use Rattle.uring_threads.proofs.Times.{times, times-append, times-told}
 
 -- what an event makes of the requests of a lawful history
 moved : (g : Setup) (s : Step) (a : Answer) (h : History) → IsLawfulApart g ((s, a) ∷ h) → Move (world g h).requests s a (world g ((s, a) ∷ h)).requests
@@ -105,10 +105,10 @@ not_started w n res bytes called outstanding =
 
 -- what has started and ended was carried out
 abbrev Carried : Requests → List Done → Type 0
-Carried r done = (n : ℕ) → has_started r n ≡ true → has_ended r n ≡ true → 1 ≤ tally (λ d. d.number == n) done
+Carried r done = (n : ℕ) → has_started r n ≡ true → has_ended r n ≡ true → 1 ≤ times (λ d. d.number == n) done
 
 -- one more end, of a request that hadn't started
-end_carries : (r : Requests) (m : ℕ) (end : Ending) (done : List Done) → end.number ≡ m → has_started r m ≡ false → Carried r done → (n : ℕ) → has_started r n ≡ true → list_any (λ e. e.number == n) (r.ended ++ end ∷ []) ≡ true → 1 ≤ tally (λ d. d.number == n) done
+end_carries : (r : Requests) (m : ℕ) (end : Ending) (done : List Done) → end.number ≡ m → has_started r m ≡ false → Carried r done → (n : ℕ) → has_started r n ≡ true → list_any (λ e. e.number == n) (r.ended ++ end ∷ []) ≡ true → 1 ≤ times (λ d. d.number == n) done
 end_carries r m end done at fresh all n started ended =
     elim (any_new (λ e. e.number == n) r.ended end ended) [
       | inl old ↦ all n started old
@@ -116,7 +116,7 @@ end_carries r m end done at fresh all n started ended =
     ]
 
 carried_then : (g : Setup) (w : World) (q : Requests) (s : Step) (a : Answer) (done : List Done) → Move w.requests s a q → CalledForApart g w s a → Carried w.requests done → Carried q (with_told done (done_by w (s, a)))
-carried_then g w q s a done (stays _ _ no_start no_end) called all = λ n started ended. omega (arith, all n started ended, tally-told (λ (d : Done). d.number == n) done (done_by w (s, a)))
+carried_then g w q s a done (stays _ _ no_start no_end) called all = λ n started ended. omega (arith, all n started ended, times-told (λ (d : Done). d.number == n) done (done_by w (s, a)))
 carried_then g w q s a done (accepts accepted missed head entries) called all = all
 carried_then g w q s a done (starts m outstanding idle spared ready no_cancel) called all = λ n started ended.
     elim (any_new (λ k. k == n) w.requests.started m started) [
@@ -129,8 +129,8 @@ carried_then g w q s a done (ends_cancel m outstanding spared ready cancel) call
     end_carries w.requests m (record { number = m; res = cancel_result w.requests m; bytes = no_bytes }) done refl (not_started w m _ _ called outstanding) all
 carried_then g w q s a done (ends_run m res bytes running) called all = λ n started ended.
     elim (any_new (λ e. e.number == n) w.requests.ended (record { number = m; res = res; bytes = bytes }) ended) [
-      | inl old ↦ omega (arith, all n started old, tally-told (λ (d : Done). d.number == n) done (done_by w (s, a)))
-      | inr new ↦ let one : ◌≡◌ {A = ℕ} (cond (m == n) 1 0) 1 = ap (λ b. cond b 1 0) new in omega (arith, tally-append (λ (d : Done). d.number == n) done (record { number = m; op = operation_of (entry_of w.requests m); outcome = record { res = res; bytes = bytes } } ∷ []))
+      | inl old ↦ omega (arith, all n started old, times-told (λ (d : Done). d.number == n) done (done_by w (s, a)))
+      | inr new ↦ let one : ◌≡◌ {A = ℕ} (cond (m == n) 1 0) 1 = ap (λ b. cond b 1 0) new in omega (arith, times-append (λ (d : Done). d.number == n) done (record { number = m; op = operation_of (entry_of w.requests m); outcome = record { res = res; bytes = bytes } } ∷ []))
     ]
 
 pub carried_out : (g : Setup) (h : History) → IsLawfulApart g h → Carried (world g h).requests (done_in g h)
@@ -139,20 +139,20 @@ carried_out g ((s, a) ∷ h) lawful = carried_then g (world g h) _ s a (done_in 
 
 -- what was carried out has ended
 abbrev FewerDone : Requests → List Done → Type 0
-FewerDone r done = (n : ℕ) → tally (λ d. d.number == n) done ≤ tally (λ e. e.number == n) r.ended
+FewerDone r done = (n : ℕ) → times (λ d. d.number == n) done ≤ times (λ e. e.number == n) r.ended
 
 ended_then : (w : World) (q : Requests) (s : Step) (a : Answer) (done : List Done) → Move w.requests s a q → FewerDone w.requests done → FewerDone q (with_told done (done_by w (s, a)))
 ended_then w q s a done (stays _ _ no_start no_end) all = subst (λ o. FewerDone w.requests (with_told done o)) (sym (silent_none w s a no_end)) all
 ended_then w q s a done (accepts accepted missed head entries) all = all
 ended_then w q s a done (starts m outstanding idle spared ready no_cancel) all = all
-ended_then w q s a done (ends_doomed m outstanding) all = λ n. omega (arith, all n, tally-append (λ (e : Ending). e.number == n) w.requests.ended (record { number = m; res = doomed_result w.requests m; bytes = no_bytes } ∷ []))
-ended_then w q s a done (ends_cancel m outstanding spared ready cancel) all = λ n. omega (arith, all n, tally-append (λ (e : Ending). e.number == n) w.requests.ended (record { number = m; res = cancel_result w.requests m; bytes = no_bytes } ∷ []))
+ended_then w q s a done (ends_doomed m outstanding) all = λ n. omega (arith, all n, times-append (λ (e : Ending). e.number == n) w.requests.ended (record { number = m; res = doomed_result w.requests m; bytes = no_bytes } ∷ []))
+ended_then w q s a done (ends_cancel m outstanding spared ready cancel) all = λ n. omega (arith, all n, times-append (λ (e : Ending). e.number == n) w.requests.ended (record { number = m; res = cancel_result w.requests m; bytes = no_bytes } ∷ []))
 ended_then w q s a done (ends_run m res bytes running) all = λ n.
     omega (
       arith,
       all n,
-      tally-append (λ (e : Ending). e.number == n) w.requests.ended (record { number = m; res = res; bytes = bytes } ∷ []),
-      tally-append (λ (d : Done). d.number == n) done (record { number = m; op = operation_of (entry_of w.requests m); outcome = record { res = res; bytes = bytes } } ∷ []),
+      times-append (λ (e : Ending). e.number == n) w.requests.ended (record { number = m; res = res; bytes = bytes } ∷ []),
+      times-append (λ (d : Done). d.number == n) done (record { number = m; op = operation_of (entry_of w.requests m); outcome = record { res = res; bytes = bytes } } ∷ []),
     )
 
 pub done_ended : (g : Setup) (h : History) → IsLawfulApart g h → FewerDone (world g h).requests (done_in g h)

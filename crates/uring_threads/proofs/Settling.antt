@@ -22,7 +22,7 @@ use Rattle.uring_threads.specs.Settled.{Work, IsWork, ResultsRun, NoneWaits, Set
 use Rattle.uring_threads.proofs.Dealing.{dealt_by_file, workers_join, files_by_worker, file_within}
 use Rattle.uring_threads.proofs.LeftAt.{op_at, left_own, left_runs, runs_left, done-own, done-other}
 use Rattle.uring_threads.proofs.Sent.{jobs_are_starts, AreOf, done_is_of}
-use Rattle.uring_threads.proofs.Tallies.{tally, tally-append, tally-some, tally-any}
+use Rattle.uring_threads.proofs.Times.{times, times-append, times-some, times-any}
 
 -- The operations of a worker begin with those whose results were taken in.
 
@@ -93,19 +93,19 @@ module _ (g : Setup) (workers : ℕ) (h : History) (k : ℕ) (lawful : IsLawfulA
       ∙ append_assoc (jobs_of (done_by_worker g workers k h)) (jobs_of more.0) work.untaken
 
 -- results have the numbers of their operations
-results-tally : (n : ℕ) (ds : List Done) → tally (λ j. j.number == n) (jobs_of ds) ≡ tally (λ r. r.number == n) (results_of ds)
-results-tally n [] = refl
-results-tally n (d ∷ ds) = omega (arith, results-tally n ds)
+results-times : (n : ℕ) (ds : List Done) → times (λ j. j.number == n) (jobs_of ds) ≡ times (λ r. r.number == n) (results_of ds)
+results-times n [] = refl
+results-times n (d ∷ ds) = omega (arith, results-times n ds)
 
 -- One result.
 
 -- the first result that waits is of a request that is left
-first_is_left : (ds : List Done) (untaken : List Job) (r : JobResult) (later : List JobResult) → results_of ds ≡ r ∷ later → 1 ≤ tally (λ j. j.number == r.number) (jobs_of ds ++ untaken)
+first_is_left : (ds : List Done) (untaken : List Job) (r : JobResult) (later : List JobResult) → results_of ds ≡ r ∷ later → 1 ≤ times (λ j. j.number == r.number) (jobs_of ds ++ untaken)
 first_is_left ds untaken r later same =
     let n = r.number in
     let one : ◌≡◌ {A = ℕ} (cond (r.number == n) 1 0) 1 = ap (λ b. cond b 1 0) (eq-eqb n n refl) in
-    let there : tally (λ x. x.number == n) (results_of ds) ≡ cond (r.number == n) 1 0 + tally (λ x. x.number == n) later = ap (tally (λ x. x.number == n)) same in
-    omega (arith, tally-append (λ (j : Job). j.number == n) (jobs_of ds) untaken, results-tally n ds)
+    let there : times (λ x. x.number == n) (results_of ds) ≡ cond (r.number == n) 1 0 + times (λ x. x.number == n) later = ap (times (λ x. x.number == n)) same in
+    omega (arith, times-append (λ (j : Job). j.number == n) (jobs_of ds) untaken, results-times n ds)
 
 pub results_run : (g : Setup) → ResultsRun g
 results_run g workers h k done untaken r later lawful is =
@@ -164,8 +164,8 @@ none_waits g workers h works some lawful are done none =
         (λ running.
             let k : ℕ = place (operation_of (entry_of (world g h).requests n)) in
             let lt = dealt.within (operation_of (entry_of (world g h).requests n)) in
-            (k, lt, tally-any (λ (j : Job). j.number == n) (works k).untaken (runs_left g h lawful place k (works k).untaken (came k lt).1 n refl running))),
-        (λ there. left_runs g h lawful place there.0 (works there.0).untaken (came there.0 there.1).1 n (tally-some (λ (j : Job). j.number == n) (works there.0).untaken there.2)),
+            (k, lt, times-any (λ (j : Job). j.number == n) (works k).untaken (runs_left g h lawful place k (works k).untaken (came k lt).1 n refl running))),
+        (λ there. left_runs g h lawful place there.0 (works there.0).untaken (came there.0 there.1).1 n (times-some (λ (j : Job). j.number == n) (works there.0).untaken there.2)),
       );
     }
 

@@ -77,6 +77,9 @@ items_counted n = record { items = n; issues = 0; finishes = 0; reaps = 0; calls
 abbrev pub issues_counted : ℕ → Tally
 issues_counted n = record { items = 0; issues = n; finishes = 0; reaps = 0; calls = 0; closes = 0 }
 
+abbrev pub finishes_counted : ℕ → Tally
+finishes_counted n = record { items = 0; issues = 0; finishes = n; reaps = 0; calls = 0; closes = 0 }
+
 abbrev pub reaps_counted : ℕ → Tally
 reaps_counted n = record { items = 0; issues = 0; finishes = 0; reaps = n; calls = 0; closes = 0 }
 

@@ -1,17 +1,28 @@
 //! Application, dispatcher and workers as ends that threads own: submissions, completions, jobs and results go from end to end, and the dispatcher records its steps as a trace.
 #![tactic(auto)]
 
-mod app_end;
-mod call_lane;
 mod item;
-mod job;
 pub mod laws;
+
+// the ports
+mod call_lane;
 mod lane_rests;
 mod lanes;
 mod message;
 mod ports;
 mod pulled;
+
+// the application's side
+mod app_end;
 mod refusals;
+
+// the workers' side
+mod collect;
+mod gate;
+mod job;
+mod place;
+mod work_lanes;
+mod worker;
 
 // the dispatcher's side
 mod calls;
@@ -20,9 +31,11 @@ mod intake;
 mod issues;
 mod kept;
 mod put_items;
+mod sends;
 mod take_result;
 
 pub use app_end::AppEnd;
+pub use gate::{Gate, Open};
 pub use item::Item;
 pub use job::{Job, JobResult};
 pub use lanes::{AppLanes, KernelLanes, lane_ports};
@@ -33,3 +46,4 @@ pub use uring_files::FileState;
 pub use uring_machine::{
     Answer, Core, Counts, Cqe, Fault, Op, Outcome, Setup, Sqe, SqeFlags, Step,
 };
+pub use worker::{Worked, Worker};

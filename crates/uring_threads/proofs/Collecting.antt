@@ -1,0 +1,112 @@
+-- What is sent and taken in, as a result is taken in: the operation is the last of its worker's, and all else stays.
+use Rattle.std.proofs.Common.{◌≡◌, ◌≢◌, ℕ, ◌+◌, ◌<◌, ◌≤◌, arith, ◌==◌, Bool, true, false, List, [], ◌∷◌, ◌++◌, if◌then◌else◌, refl, sym, subst, ap, ap₂, ◌∙◌}
+use Rattle.std.specs.Prelude.{slice_index_or, Result, Ok, Err, OnErr}
+use mathlib.Core.List.{IsPrefix}
+use Rattle.std.proofs.lemmas.List.{map-append}
+use Rattle.uring_entry.specs.Setup.{Setup}
+use Rattle.uring_entry.specs.Preparation.{operation_of}
+use Rattle.uring_entry.specs.Requests.{entry_of, is_running}
+use Rattle.uring_entry.specs.declared.operation.Op.{Op}
+use Rattle.uring_entry.specs.declared.operation.Outcome.{Outcome}
+use Rattle.uring_machine.specs.Core.{IsFinished}
+use Rattle.uring_machine.specs.Finishes.{Done, done_in}
+use Rattle.uring_machine.specs.Histories.{Event, History, history_of}
+use Rattle.uring_machine.specs.declared.step.Step.TheVariants as step
+use Rattle.uring_machine.specs.declared.answer.Answer.{Answer}
+use Rattle.uring_machine.specs.declared.answer.Answer.TheVariants as answer
+use Rattle.uring_machine.proofs.Following.{history_of-snoc}
+use Rattle.uring_threads.specs.declared.job.JobResult.{JobResult}
+use Rattle.uring_threads.specs.Collected.{history, CanBeTaken, OthersStay, AreTakenIn, Collects, CollectsNext, CollectsSeen, NextStays, TakesNext}
+use Rattle.uring_threads.specs.Kept.{Kept, now, Grows, IsUnmoved}
+use Rattle.uring_threads.specs.Settled.{finish_of}
+use Rattle.uring_threads.specs.Work.{place_of, jobs_to, done_by_worker, result_of, results_of}
+use Rattle.uring_threads.specs.Tallies.{finishes_counted}
+use Rattle.uring_threads.proofs.LeftAt.{done-own, done-other}
+use Rattle.uring_threads.proofs.TraceSteps.{appends_none, appends_one, appends_then, unmoved_now}
+
+-- the history of a trace that is one event longer
+pub grown_history : (a b : Kept) (e : Event) → Grows a b e → history b ≡ e ∷ history a
+grown_history a b e grows = ap history_of grows.trace ∙ history_of-snoc a.trace e
+
+-- a request that runs is ended
+pub ends_running : (a : Kept) (n : ℕ) (outcome : Outcome) (x : Answer) → is_running (now a).requests n ≡ true → IsFinished (now a) n outcome x → x ≡ answer.Ended outcome.res outcome.bytes
+ends_running a n outcome x runs finished = finished ∙ ap (λ b. if b then answer.Ended outcome.res outcome.bytes else answer.NotRunning) runs
+
+-- so the trace has the Finish that takes the result in
+pub takes_in : (a b : Kept) (workers place : ℕ) (r : JobResult) (x : Answer) → CanBeTaken a workers place r.number → IsFinished (now a) r.number r.outcome x → Grows a b (step.Finish r.number, x) → Grows a b (finish_of r)
+takes_in a b workers place r x can finished grows = subst (λ y. Grows a b (step.Finish r.number, y)) (ends_running a r.number r.outcome x can.runs finished) grows
+
+module _ (a b : Kept) (workers place : ℕ) (r : JobResult) (can : CanBeTaken a workers place r.number) (grows : Grows a b (finish_of r)) where
+  -- the operation that the result is of
+  end : Done
+  end = record { number = r.number; op = operation_of (entry_of (now a).requests r.number); outcome = r.outcome }
+
+  pub result_taken : (results : List JobResult) → AreTakenIn a workers place results → AreTakenIn b workers place (results ++ r ∷ [])
+  unfolding end
+  result_taken results taken =
+      ap (λ rs. rs ++ r ∷ []) taken
+      ∙ sym (map-append result_of (done_by_worker a.setup workers place (history a)) (end ∷ []))
+      ∙ ap results_of (sym (ap₂ (λ g h. done_by_worker g workers place h) grows.setup (grown_history a b (finish_of r) grows) ∙ done-own (place_of workers a.setup.files) place (done_in a.setup (history a)) end can.own))
+
+  pub others_stay : OthersStay a b workers place
+  unfolding end
+  others_stay =
+      record {
+        jobs = λ k. ap₂ (λ g h. jobs_to g workers k h) grows.setup (grown_history a b (finish_of r) grows);
+        results = λ k other. ap₂ (λ g h. done_by_worker g workers k h) grows.setup (grown_history a b (finish_of r) grows)
+        ∙ done-other (place_of workers a.setup.files) k (done_in a.setup (history a)) end (λ same. other (sym same ∙ can.own));
+      }
+
+-- what was seen first is what is popped
+pub first_known : {known later : List JobResult} {seen popped : JobResult} → IsPrefix (seen ∷ []) known → known ≡ popped ∷ later → seen ≡ popped
+first_known {known} {later} {seen} {popped} first all = ap (λ rs. slice_index_or rs 0 seen) (first.1 ∙ all)
+
+-- Several results.
+
+pub same_others : (a b : Kept) (workers place : ℕ) → IsUnmoved a b → OthersStay a b workers place
+same_others a b workers place u =
+    record {
+      jobs = λ k. ap₂ (λ g es. jobs_to g workers k (history_of es)) u.setup u.trace;
+      results = λ k other. ap₂ (λ g es. done_by_worker g workers k (history_of es)) u.setup u.trace;
+    }
+
+pub then_others : (a b c : Kept) (workers place : ℕ) → OthersStay a b workers place → OthersStay b c workers place → OthersStay a c workers place
+then_others a b c workers place p q = record { jobs = λ k. q.jobs k ∙ p.jobs k; results = λ k other. q.results k other ∙ p.results k other }
+
+-- what was taken in was taken in also where nothing happened
+pub same_taken : (a b : Kept) (workers place : ℕ) (results : List JobResult) → IsUnmoved a b → AreTakenIn a workers place results → AreTakenIn b workers place results
+same_taken a b workers place results u taken = taken ∙ sym (ap₂ (λ g es. results_of (done_by_worker g workers place (history_of es))) u.setup u.trace)
+
+-- none, and one more
+pub collects_none : (a b : Kept) (workers place : ℕ) → IsUnmoved a b → Collects a b workers place 0
+collects_none a b workers place u = record { tally = appends_none a b u; others = same_others a b workers place u }
+
+pub collects_then : (a b c : Kept) (workers place n m sum : ℕ) → n + m ≡ sum → Collects a b workers place n → Collects b c workers place m → Collects a c workers place sum
+collects_then a b c workers place n m sum e p q =
+    record {
+      tally = appends_then a b c (finishes_counted n) (finishes_counted m) (finishes_counted sum) p.tally q.tally (ap finishes_counted e);
+      others = then_others a b c workers place p.others q.others;
+    }
+
+-- the next one, after more room was asked for
+pub collects_one : (a b c : Kept) (workers place : ℕ) (before after seen : List JobResult) (more : Bool) → IsUnmoved a b → OthersStay b c workers place → TakesNext b c workers place before after seen more → CollectsNext a c workers place seen more
+collects_one a b c workers place before after seen true u others (r, _, _, grows) =
+    collects_then a b c workers place 0 1 1 refl (collects_none a b workers place u) (record { tally = appends_one b c (finish_of r) (finishes_counted 1) grows refl; others = others })
+collects_one a b c workers place before after seen false u others (same, _, stays) = (
+  subst (λ k. Collects a k workers place 0) (sym same) (collects_none a b workers place u),
+  subst (λ k. NextStays k workers place seen) (sym same) stays,
+)
+
+-- a turn's results, and a round more of them
+pub collects_more : (a b c : Kept) (workers place n : ℕ) (seen : List JobResult) (more : Bool) → more ≡ true → Collects a b workers place n → CollectsNext b c workers place seen more → Collects a c workers place (n + 1)
+collects_more a b c workers place n seen true e p q = collects_then a b c workers place n 1 (n + 1) refl p q
+collects_more a b c workers place n seen false e p q = absurd (let f : false ≡ true = e in cc)
+
+pub collects_no_more : (a b c : Kept) (workers place n : ℕ) (seen : List JobResult) (more : Bool) → more ≡ false → n < 64 → Collects a b workers place n → CollectsNext b c workers place seen more → CollectsSeen a c workers place n seen
+collects_no_more a b c workers place n seen false e few p q = record { collected = collects_then a b c workers place n 0 n (omega arith) p q.0; most = omega (arith, few); rest = λ fewer. q.1 }
+collects_no_more a b c workers place n seen true e few p q = absurd (let f : true ≡ false = e in cc)
+
+-- what holds anyway holds of an error
+pub on_err : {X E P : Type 0} (result : Result X E) → P → OnErr result P
+on_err (Ok x) p = tt
+on_err (Err e) p = p

@@ -1,0 +1,90 @@
+-- A worker that carries out one job more goes on to work.
+use Rattle.std.proofs.Common.{◌≡◌, ℕ, ℤ, pos, negsuc, List, [], ◌∷◌, ◌++◌, length, Bool, true, false, cond, refl, sym, subst, ◌∙◌, ap}
+use Rattle.std.specs.Ordering.{int_eq}
+use Rattle.std.specs.Prelude.{take}
+use Rattle.std.proofs.lemmas.List.{map-append, length-set}
+use Rattle.uring_entry.specs.declared.operation.Op.{Op}
+use Rattle.uring_entry.specs.declared.operation.Op.TheVariants.{Nop, Read, Write, Fsync, Cancel}
+use Rattle.uring_entry.specs.declared.operation.Outcome.{Outcome}
+use Rattle.uring_files.specs.Contents.{FileContents, written, with_writes_synced}
+use Rattle.uring_files.specs.Operations.{after, with_changed, IsOutcome}
+use Rattle.uring_machine.specs.Finishes.{Done, files_left, AreDone}
+use Rattle.uring_threads.specs.declared.job.Job.{Job}
+use Rattle.uring_threads.specs.declared.job.JobResult.{JobResult}
+use Rattle.uring_threads.specs.Work.{job_of, result_of, jobs_of, results_of}
+use denote.RawPtr.{Ptr}
+use Rattle.rtrb.specs.Shared.{Names}
+use Rattle.uring_threads.specs.Rings.{ring_at}
+use Rattle.uring_threads.specs.Worker.{Worker, done_of, empty_files, IsWorking}
+
+-- one operation more
+left-snoc : (files : List FileContents) (done : List Done) (d : Done) → files_left files (done ++ d ∷ []) ≡ after (files_left files done) d.op d.outcome.res
+left-snoc files [] d = refl
+left-snoc files (first ∷ later) d = left-snoc (after files first.op first.outcome.res) later d
+
+right-snoc : (files : List FileContents) (done : List Done) (d : Done) → AreDone files done → IsOutcome (files_left files done) d.op d.outcome → AreDone files (done ++ d ∷ [])
+right-snoc files [] d all last = (last, tt)
+right-snoc files (first ∷ later) d all last = (all.0, right-snoc (after files first.op first.outcome.res) later d all.1 last)
+
+-- as many files as before
+many_changed : (chosen : Bool) (files : List FileContents) (fd : ℤ) (change : FileContents → FileContents) → length (cond chosen (with_changed files fd change) files) ≡ length files
+many_changed false files fd change = refl
+many_changed true files (pos fd) change = length-set files fd _
+many_changed true files (negsuc below) change = refl
+
+many_after : (files : List FileContents) (op : Op) (res : ℤ) → length (after files op res) ≡ length files
+many_after files Nop res = refl
+many_after files (Read fd off len) res = refl
+many_after files (Write fd off len bytes) res = many_changed (int_eq res (pos len)) files fd (written off (take len bytes))
+many_after files (Fsync fd) res = many_changed (int_eq res (pos 0)) files fd with_writes_synced
+many_after files (Cancel target) res = refl
+
+-- jobs and results of the same operations are theirs
+pub done_of-own : (done : List Done) → done_of (jobs_of done) (results_of done) ≡ done
+done_of-own [] = refl
+done_of-own (d ∷ ds) = ap (λ xs. d ∷ xs) (done_of-own ds)
+
+-- the operation of a job that ended so
+abbrev pub done_as : Job → Outcome → Done
+done_as j outcome = record { number = j.number; op = j.op; outcome = outcome }
+
+pub done_of-snoc : (jobs : List Job) (results : List JobResult) (files : List FileContents) → IsWorking jobs results files → (j : Job) (outcome : Outcome)
+    → done_of (jobs ++ j ∷ []) (results ++ record { number = j.number; outcome = outcome } ∷ []) ≡ done_of jobs results ++ done_as j outcome ∷ []
+done_of-snoc jobs results files w j outcome =
+    ap (λ js. done_of js (results ++ result_of (done_as j outcome) ∷ [])) (jobs_snoc jobs (done_of jobs results) j outcome w.jobs_done)
+    ∙ ap (λ rs. done_of (jobs_of (done_of jobs results ++ done_as j outcome ∷ [])) rs) (results_snoc results (done_of jobs results) j outcome w.results_done)
+    ∙ done_of-own (done_of jobs results ++ done_as j outcome ∷ []) where
+      jobs_snoc : (jobs : List Job) (done : List Done) (j : Job) (outcome : Outcome) → jobs ≡ jobs_of done → jobs ++ j ∷ [] ≡ jobs_of (done ++ done_as j outcome ∷ [])
+      jobs_snoc jobs done j outcome same = ap (λ js. js ++ j ∷ []) same ∙ sym (map-append job_of done (done_as j outcome ∷ []))
+
+      results_snoc : (results : List JobResult) (done : List Done) (j : Job) (outcome : Outcome) → results ≡ results_of done → results ++ result_of (done_as j outcome) ∷ [] ≡ results_of (done ++ done_as j outcome ∷ [])
+      results_snoc results done j outcome same = ap (λ rs. rs ++ result_of (done_as j outcome) ∷ []) same ∙ sym (map-append result_of done (done_as j outcome ∷ []))
+
+pub goes_on : (jobs : List Job) (results : List JobResult) (files : List FileContents) → IsWorking jobs results files → (j : Job) (outcome : Outcome) → IsOutcome files j.op outcome
+    → IsWorking (jobs ++ j ∷ []) (results ++ record { number = j.number; outcome = outcome } ∷ []) (after files j.op outcome.res)
+goes_on jobs results files w j outcome right =
+    let done : List Done = done_of jobs results in
+    let d : Done = done_as j outcome in
+    let more = done_of-snoc jobs results files w j outcome in
+    let first : List FileContents = empty_files (length files) in
+    let same : empty_files (length (after files j.op outcome.res)) ≡ first = ap empty_files (many_after files j.op outcome.res) in
+    let rights : AreDone first (done ++ d ∷ []) = right-snoc first done d w.right (subst (λ fs. IsOutcome fs j.op outcome) w.left right) in
+    record {
+      jobs_done = ap (λ js. js ++ j ∷ []) w.jobs_done ∙ sym (map-append job_of done (d ∷ [])) ∙ ap jobs_of (sym more);
+      results_done = ap (λ rs. rs ++ result_of d ∷ []) w.results_done ∙ sym (map-append result_of done (d ∷ [])) ∙ ap results_of (sym more);
+      right = subst (λ fs. AreDone fs (done_of (jobs ++ j ∷ []) (results ++ result_of d ∷ []))) (sym same) (subst (AreDone first) (sym more) rights);
+      left = ap (λ fs. after fs j.op outcome.res) w.left ∙ sym (left-snoc first done d) ∙ ap (files_left first) (sym more) ∙ ap (λ fs. files_left fs (done_of (jobs ++ j ∷ []) (results ++ result_of d ∷ []))) (sym same);
+    }
+
+-- workers whose parts are the same are the same
+pub same_ring : {words others slots pairs : Ptr} {names same : Names} → words ≡ others → slots ≡ pairs → names ≡ same → ring_at words slots names ≡ ring_at others pairs same
+same_ring {words} {others} {slots} {pairs} {names} {same} w s n = ap (λ x. ring_at x slots names) w ∙ ap (λ x. ring_at others x names) s ∙ ap (λ x. ring_at others pairs x) n
+
+pub same_worker : (place : ℕ) {jobs others results pairs : List ℕ} {done same : List Done} {files these : List FileContents} {seen : List Job} {room : ℕ}
+    → jobs ≡ others → results ≡ pairs → done ≡ same → files ≡ these
+    → ◌≡◌ {A = Worker} (record { place = place; rings = jobs ∷ results ∷ []; done = done; files = files; seen = seen; room = room }) (record { place = place; rings = others ∷ pairs ∷ []; done = same; files = these; seen = seen; room = room })
+same_worker place {jobs} {others} {results} {pairs} {done} {same} {files} {these} {seen} {room} j r d f =
+    ap (λ x. record { place = place; rings = x ∷ results ∷ []; done = done; files = files; seen = seen; room = room }) j
+    ∙ ap (λ x. record { place = place; rings = others ∷ x ∷ []; done = done; files = files; seen = seen; room = room }) r
+    ∙ ap (λ x. record { place = place; rings = others ∷ pairs ∷ []; done = x; files = files; seen = seen; room = room }) d
+    ∙ ap (λ x. record { place = place; rings = others ∷ pairs ∷ []; done = same; files = x; seen = seen; room = room }) f

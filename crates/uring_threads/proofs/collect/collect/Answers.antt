@@ -1,0 +1,22 @@
+use Rattle.std.proofs.Common.{rules, ◌≡◌, ℕ, ◌+◌, ◌<◌, refl, arith}
+use Rattle.rtrb.specs.Ring.{received, known_items}
+use Rattle.uring_threads.specs.Collected.{Collects}
+use Rattle.uring_threads.proofs.Collecting.{on_err, collects_then, collects_more, collects_no_more}
+use Rattle.uring_threads.proofs.collect.collect.Goals as goal
+
+pub returns-in_err-collect_next-clause-err : goal.returns-in_err-collect_next-clause-err
+returns-in_err-collect_next-clause-err c =
+    on_err c.from_residual.result (c.loop-count.count, collects_then c.args.kept.now c.loop-count.kept c.collect_next.new.kept c.args.workers c.args.place c.loop-count.count 0 c.loop-count.count (omega arith) c.loop-count.invariant.4 c.in_err-collect_next.ensures.err)
+
+pub returns-then-not-branch-clause-ok : goal.returns-then-not-branch-clause-ok
+returns-then-not-branch-clause-ok c =
+    collects_no_more c.args.kept.now c.loop-count.kept c.collect_next.new.kept c.args.workers c.args.place c.loop-count.count (known_items c.collect_next.new.results) c.in_ok-collect_next.field-0 (search rules) (search (rules, arith)) c.loop-count.invariant.4 c.in_ok-collect_next.ensures.ok
+
+pub loop-count-preserved : goal.loop-count-preserved
+loop-count-preserved c = (
+  refl,
+  refl,
+  search rules,
+  c.collect_next.ensures.taken,
+  collects_more c.args.kept.now c.loop-count.kept c.collect_next.new.kept c.args.workers c.args.place c.loop-count.count (known_items c.collect_next.new.results) c.in_ok-collect_next.field-0 (search rules) c.loop-count.invariant.4 c.in_ok-collect_next.ensures.ok,
+)

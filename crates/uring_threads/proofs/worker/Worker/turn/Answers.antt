@@ -1,0 +1,30 @@
+use Rattle.std.proofs.Common.{refl, ◌∙◌, arith}
+use Rattle.rtrb.specs.Ring.{sent, received}
+use Rattle.uring_threads.proofs.Working.{goes_on, done_of-snoc, done_as, same_ring, same_worker}
+use Rattle.uring_threads.proofs.worker.Worker.turn.Goals as goal
+
+pub invariant_of-self-2 : goal.invariant_of-self-2
+invariant_of-self-2 g c =
+    rw (c.in-Ok.ensures.ok.0, c.push_reserved.ensures.sent.0, c.is_full.ensures.looked.1, c.apply-outcome.ensures.files)
+    (goes_on (received c.self.inside.jobs) (sent c.self.inside.results) c.self.inside.files c.self.invariant c.in-Ok.job c.apply-outcome.result c.apply-outcome.ensures.outcome)
+
+pub returns : goal.returns
+returns g c =
+    let inside = c.self.inside in
+    let popped = c.in-Ok.ensures in
+    let full = c.is_full.ensures.looked in
+    let pushed = c.push_reserved.ensures in (
+      done_as c.in-Ok.job c.apply-outcome.result,
+      refl,
+      record {
+        outcome = rw (← c.self.view_is) c.apply-outcome.ensures.outcome;
+        done =
+            rw (← c.self.view_is)
+            (same_worker inside.place (same_ring popped.ring.0.0 popped.ring.0.1 popped.ring.0.2)
+            (same_ring (pushed.ring.0.0 ∙ full.0.0.0) (pushed.ring.0.1 ∙ full.0.0.1) (pushed.ring.0.2 ∙ full.0.0.2))
+            (rw (popped.ok.0, pushed.sent.0, full.1) (done_of-snoc (received inside.jobs) (sent inside.results) inside.files c.self.invariant c.in-Ok.job c.apply-outcome.result))
+            c.apply-outcome.ensures.files);
+        first = rw (← c.self.view_is) popped.ok.1;
+        room = rw (← c.self.view_is) (let before = full.2 in let after = pushed.sent.1 in omega arith);
+      },
+    )

@@ -1,0 +1,92 @@
+//! Results that came back from workers.
+ghost use Rattle.std.specs.Prelude.{◌≡◌, ℕ, ◌<◌, ◌↔◌, length, IsTrue, IfOk, OnErr};
+ghost use Rattle.rtrb.specs.Ring.{received, known_items, SameConsumer};
+ghost use Rattle.uring_threads.specs.Collected.{AreTakenIn, CanBeTaken, Collects, CollectsNext, CollectsSeen, OthersStay, TakesNext};
+
+use crate::job::JobResult;
+use crate::kept::Kept;
+use crate::place::place_of;
+use crate::work_lanes::LANE_LENGTH;
+use rtrb::Consumer;
+use std::alloc::AllocError;
+
+/// Takes in the results of a worker that are seen, at most 64 of them, and returns how many. `AllocError`: room for the next event was refused; what was taken in until then is recorded, and nothing more was taken.
+pub fn collect(
+    kept: &mut Kept,
+    results: &mut Consumer<JobResult>,
+    place: u32,
+    workers: u32,
+) -> Result<u64, AllocError>
+    requires workers { 0 < workers }
+    requires taken { AreTakenIn kept.old workers place (received results.old) }
+    ensures taken { AreTakenIn kept.new workers place (received results.new) }
+    ensures ok { IfOk result (λ count. CollectsSeen kept.old kept.new workers place count (known_items results.new)) }
+    ensures err { OnErr result ((count : ℕ) × Collects kept.old kept.new workers place count) }
+    ensures ring { SameConsumer results.old results.new }
+{
+    for count in 0..LANE_LENGTH {
+        if !collect_next(kept, results, place, workers)? {
+            return Ok(count as u64);
+        }
+    }
+    Ok(LANE_LENGTH as u64)
+}
+
+/// Takes in the next result of a worker, if one is seen, with room for it asked for first.
+fn collect_next(
+    kept: &mut Kept,
+    results: &mut Consumer<JobResult>,
+    place: u32,
+    workers: u32,
+) -> Result<bool, AllocError>
+    requires workers { 0 < workers }
+    requires taken { AreTakenIn kept.old workers place (received results.old) }
+    ensures taken { AreTakenIn kept.new workers place (received results.new) }
+    ensures ok { IfOk result (λ more. CollectsNext kept.old kept.new workers place (known_items results.new) more) }
+    ensures err { OnErr result (Collects kept.old kept.new workers place 0) }
+    ensures ring { SameConsumer results.old results.new }
+{
+    if results.is_empty() {
+        return Ok(false);
+    }
+    kept.reserve(1)?;
+    Ok(collect_one(kept, results, place, workers))
+}
+
+/// Takes in the next result of a worker, if one is seen: it ends its request, which is recorded. A result of a request that doesn't run, or of one that is another worker's, stays in the lane. Condition: there is room in the trace for one event.
+pub fn collect_one(
+    kept: &mut Kept,
+    results: &mut Consumer<JobResult>,
+    place: u32,
+    workers: u32,
+) -> bool
+    requires room { length kept.old.trace < kept.old.room }
+    requires workers { 0 < workers }
+    requires taken { AreTakenIn kept.old workers place (received results.old) }
+    ensures taken { AreTakenIn kept.new workers place (received results.new) }
+    ensures next { TakesNext kept.old kept.new workers place (received results.old) (received results.new) (known_items results.new) result }
+    ensures others { OthersStay kept.old kept.new workers place }
+    ensures ring { SameConsumer results.old results.new }
+{
+    if results.is_empty() {
+        return false;
+    }
+    let next = results.peek_known().number;
+    if !is_at(kept, next, place, workers) {
+        return false;
+    }
+    let result = results.pop_known();
+    kept.finish(result.number, result.outcome);
+    true
+}
+
+/// Whether the request of this number runs and is this worker's.
+fn is_at(kept: &Kept, number: u64, place: u32, workers: u32) -> bool
+    requires { 0 < workers }
+    ensures { IsTrue result ↔ CanBeTaken kept.now workers place number }
+{
+    match kept.running_op(number) {
+        Some(op) => place_of(&op, workers, kept.setup().files()) == place,
+        None => false,
+    }
+}

@@ -1,0 +1,41 @@
+//! The lanes between the dispatcher and a worker.
+ghost use Rattle.std.specs.Prelude.{◌≡◌, [], IfOk};
+ghost use Rattle.rtrb.specs.Ring.{sent, known_free, received, known_items, producer_capacity};
+ghost use Rattle.uring_threads.specs.Rings.{rings_of};
+ghost use Rattle.uring_threads.specs.Worker.{empty_files};
+
+use crate::gate::Gate;
+use crate::job::{Job, JobResult};
+use crate::worker::{ForFiles, Worker};
+use rtrb::{Consumer, Producer, RingBuffer};
+use std::alloc::{AllocError, Global};
+use uring_files::Files;
+
+/// How many jobs of a worker may be on their way at once, and how many results.
+pub const LANE_LENGTH: usize = 64;
+
+/// The dispatcher's ends of the lanes of one worker: jobs go out, results come in.
+#[derive(Drop)]
+pub struct WorkLanes {
+    pub jobs: Producer<Job, Global, ForFiles>,
+    pub results: Consumer<JobResult>,
+}
+
+/// A worker with so many empty files behind this gate, and the dispatcher's ends of its lanes.
+pub fn open_lanes<G: Gate>(
+    alloc: Global,
+    place: u32,
+    files: u32,
+    gate: G,
+) -> Result<(WorkLanes, Worker<G>), AllocError>
+    ensures jobs { IfOk result (λ r. (sent r.0.jobs ≡ []) × (known_free r.0.jobs ≡ 64)) }
+    ensures results { IfOk result (λ r. (received r.0.results ≡ []) × (known_items r.0.results ≡ [])) }
+    ensures rings { IfOk result (λ r. r.1.rings ≡ rings_of r.0.jobs r.0.results) }
+    ensures worker { IfOk result (λ r. (r.1.place ≡ place) × (r.1.done ≡ []) × (r.1.files ≡ empty_files files)) }
+{
+    let (jobs, to_do) = RingBuffer::with_protocol::<Global, ForFiles>(alloc, LANE_LENGTH)?;
+    let (done, results) = RingBuffer::new(alloc, LANE_LENGTH)?;
+    let files = Files::new(alloc, files)?;
+    let worker = Worker::new(place, gate, files, to_do, done);
+    Ok((WorkLanes { jobs, results }, worker))
+}
