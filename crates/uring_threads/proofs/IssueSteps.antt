@@ -1,20 +1,14 @@
 -- How the Issue of the next request is answered.
-use Rattle.std.proofs.Common.{◌≡◌, ℕ, Bool, true, false, List, Option, Some, None, length, ℤ, if◌then◌else◌, refl, sym, subst, ap, ◌∙◌, arith}
-use Rattle.std.proofs.lemmas.Bool.{and_parts, not-true}
-use Rattle.uring_entry.specs.Preparation.{operation_of}
-use Rattle.uring_entry.specs.Requests.{Requests, entry_of, has_ended, is_outstanding, is_issuable, is_running, next_of, operation_running, with_started}
-use Rattle.uring_entry.specs.declared.operation.Op.{Op}
+use Rattle.std.proofs.Common.{◌≡◌, ℕ, true, List, Some, length, ℤ, refl, sym, subst}
+use Rattle.uring_entry.specs.Requests.{Requests, is_issuable, next_of}
 use Rattle.uring_entry.proofs.BelowLemmas.{least_below-tells}
-use Rattle.uring_entry.proofs.RequestLemmas.{is_running-started_same}
-use Rattle.uring_machine.specs.World.{World, happens}
 use Rattle.uring_machine.specs.Laws.{IsIssued}
-use Rattle.uring_machine.specs.StepAnswers.{CalledForApart, issue_answer, IsEnded}
+use Rattle.uring_machine.specs.StepAnswers.{CalledForApart, IsEnded}
 use Rattle.uring_machine.proofs.RequestLaws.{issue_goes, issued_cases}
 use Rattle.uring_machine.specs.declared.step.Step.TheVariants as step
 use Rattle.uring_machine.specs.declared.answer.Answer.{Answer}
 use Rattle.uring_machine.specs.declared.answer.Answer.TheVariants as answer
-use Rattle.uring_threads.specs.Kept.{Kept, now, Grows}
-use Rattle.uring_threads.proofs.TraceSteps.{grown}
+use Rattle.uring_threads.specs.Kept.{Kept, now}
 
 -- the next can be issued
 next_issuable : (r : Requests) (n : ℕ) → next_of r ≡ Some n → is_issuable r n ≡ true

@@ -2,6 +2,7 @@ pub mod TraceSteps
 pub mod ItemSteps
 pub mod CallSteps
 pub mod IssueSteps
+pub mod Tying
 mod MessageLemmas
 mod MessageSteps
 pub mod Dealing
@@ -15,3 +16,8 @@ mod AppEndLemmas
 mod Collecting
 mod Draining
 pub mod Sending
+mod LaneLemmas
+mod AppEndLemmas
+mod Working
+mod Collecting
+pub mod RingEnds

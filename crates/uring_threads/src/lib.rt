@@ -1,15 +1,25 @@
 //! Application, dispatcher and workers as ends that threads own: submissions, completions, jobs and results go from end to end, and the dispatcher records its steps as a trace.
 #![tactic(auto)]
 
-mod app_end;
-mod call_lane;
 mod item;
+pub mod laws;
+
+// the ports
+mod call_lane;
+mod lane_rests;
+mod lanes;
+mod message;
+mod ports;
+mod pulled;
+
+// the application's side
+mod app_end;
+mod refusals;
 
 // the workers' side
 mod collect;
 mod gate;
 mod job;
-pub mod laws;
 mod place;
 mod work_lanes;
 mod worker;
@@ -25,11 +35,14 @@ mod refusals;
 // the dispatcher's side
 mod calls;
 mod deliveries;
+mod intake;
 mod issues;
 mod kept;
 mod put_items;
+mod sends;
 mod take_result;
 
+pub use app_end::AppEnd;
 pub use gate::{Gate, Open};
 pub use app_end::AppEnd;
 pub use item::Item;
