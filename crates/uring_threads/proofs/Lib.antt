@@ -5,19 +5,14 @@ pub mod IssueSteps
 pub mod Tying
 mod MessageLemmas
 mod MessageSteps
+mod LaneLemmas
+mod AppEndLemmas
 pub mod Dealing
 mod Times
 mod Sent
 mod LeftAt
 pub mod Settling
 mod Working
-mod LaneLemmas
-mod AppEndLemmas
 mod Collecting
 mod Draining
 pub mod Sending
-mod LaneLemmas
-mod AppEndLemmas
-mod Working
-mod Collecting
-pub mod RingEnds

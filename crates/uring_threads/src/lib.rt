@@ -24,14 +24,6 @@ mod place;
 mod work_lanes;
 mod worker;
 
-// the ports
-mod lane_rests;
-mod lanes;
-mod message;
-mod ports;
-mod pulled;
-mod refusals;
-
 // the dispatcher's side
 mod calls;
 mod deliveries;
@@ -44,7 +36,6 @@ mod take_result;
 
 pub use app_end::AppEnd;
 pub use gate::{Gate, Open};
-pub use app_end::AppEnd;
 pub use item::Item;
 pub use job::{Job, JobResult};
 pub use lanes::{AppLanes, KernelLanes, lane_ports};
