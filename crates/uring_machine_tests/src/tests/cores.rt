@@ -17,30 +17,52 @@ struct Told {
     counts: Counts,
 }
 
-/// Submits the request to a new core, runs it, and ends it with 7.
-fn asked(alloc: Global) -> Result<Told, Fail> {
-    let setup = Setup::new(4, Some(4), 2, 0)?;
-    let mut core = Core::new(alloc, &setup)?;
-    core.step(Step::Fill {
-        slot: 0,
-        entry: Sqe::nop(9, 0),
-    });
+impl Told {
+    /// Whether the request was numbered 0, ran, and ended with 7.
+    fn is_right(self) -> bool {
+        let end = Answer::Ended {
+            res: 7,
+            bytes: [0; 64],
+        };
+        let counts = Counts {
+            accepted: 1,
+            outstanding: 0,
+            running: 0,
+            posted: 1,
+            reaped: 0,
+        };
+        self.sq == 4
+            && self.least == Some(0)
+            && self.next == Some(0)
+            && self.running == Some(Op::Nop)
+            && self.end == end
+            && self.rest == Some(9)
+            && self.counts == counts
+    }
+}
+
+/// Submits a request in a call of its own.
+fn submit(core: &mut Core, entry: Sqe) {
+    core.step(Step::Fill { slot: 0, entry });
     core.step(Step::Index { word: 0 });
     core.step(Step::StoreTail);
     core.step(Step::Begin { count: 1 });
     core.step(Step::Take);
     core.step(Step::End);
+}
+
+/// Submits the request to a core, runs it, and ends it with 7: whether the core tells of it what it should.
+fn end_one(core: &mut Core) -> bool {
+    submit(core, Sqe::nop(9, 0));
     let (least, next) = (core.least(), core.next());
     core.step(Step::Issue { number: 0 });
     let running = core.running_op(0);
-    let end = core.finish(
-        0,
-        Outcome {
-            res: 7,
-            bytes: [0; 64],
-        },
-    );
-    Ok(Told {
+    let outcome = Outcome {
+        res: 7,
+        bytes: [0; 64],
+    };
+    let end = core.finish(0, outcome);
+    let told = Told {
         sq: core.setup().sq(),
         least,
         next,
@@ -48,28 +70,19 @@ fn asked(alloc: Global) -> Result<Told, Fail> {
         end,
         rest: core.rest(0).map(|completion| completion.user_data()),
         counts: core.counts(),
-    })
+    };
+    told.is_right()
+}
+
+/// The same on a new core.
+fn is_right_on_a_new_core(alloc: Global) -> Result<bool, Fail> {
+    let setup = Setup::new(4, Some(4), 2, 0)?;
+    let mut core = Core::new(alloc, &setup)?;
+    Ok(end_one(&mut core))
 }
 
 #[test]
 fn one_request(rt: HostRuntime) -> Result<(), Fail> {
-    let told = asked(rt.alloc())?;
-    assert_eq!(rt; told.sq, 4);
-    assert_eq!(rt; (told.least, told.next), (Some(0), Some(0)));
-    assert_eq!(rt; told.running, Some(Op::Nop));
-    let end = Answer::Ended {
-        res: 7,
-        bytes: [0; 64],
-    };
-    assert_eq!(rt; told.end, end);
-    assert_eq!(rt; told.rest, Some(9));
-    let counts = Counts {
-        accepted: 1,
-        outstanding: 0,
-        running: 0,
-        posted: 1,
-        reaped: 0,
-    };
-    assert_eq!(rt; told.counts, counts);
+    assert!(rt; is_right_on_a_new_core(rt.alloc())?);
     Ok(())
 }

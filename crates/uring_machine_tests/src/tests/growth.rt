@@ -119,23 +119,83 @@ struct Written {
     read: Option<i32>,
 }
 
+impl Written {
+    /// Whether memory was refused to the write itself.
+    fn is_short(self) -> bool {
+        self.end == ended(-12)
+    }
+
+    /// Whether memory was refused anywhere.
+    fn was_refused(self) -> bool {
+        self.is_refused || self.is_short() || self.opened[0].is_refused || self.opened[1].is_refused
+    }
+
+    /// Whether both calls opened, and both transfers ran.
+    fn has_run(self) -> bool {
+        self.opened[0].is_right(2)
+            && self.opened[1].is_right(1)
+            && self.ran == [Answer::Run, Answer::Run]
+    }
+
+    /// Whether the write wrote its bytes, and what hung on it went on.
+    fn is_whole(self) -> bool {
+        let state = FileState {
+            len: 4,
+            writes: 1,
+            synced: 0,
+        };
+        self.end == ended(2)
+            && self.behind == Answer::Run
+            && self.state == Some(state)
+            && self.read == Some(4)
+    }
+
+    /// Whether the write left its file as it was, and what hung on it was cancelled.
+    fn is_undone(self) -> bool {
+        let state = FileState {
+            len: 0,
+            writes: 0,
+            synced: 0,
+        };
+        self.is_short()
+            && self.behind == ended(-125)
+            && self.state == Some(state)
+            && self.read == Some(0)
+    }
+}
+
+/// Of a write and the requests behind it: whether memory was refused anywhere, whether all ran, and whether the write was whole or undone.
+#[derive(Clone, Copy)]
+struct Seen {
+    was_refused: bool,
+    has_run: bool,
+    is_right: bool,
+}
+
+/// An end without data.
+fn ended(res: i32) -> Answer {
+    Answer::Ended {
+        res,
+        bytes: [0; 64],
+    }
+}
+
 /// A write of 2 bytes at offset 2, and a read of 4 at 0.
-fn write_and_read(alloc: Global) -> Result<Written, Fail> {
-    let (mut machine, is_refused) = new_machine(alloc)?;
+fn write_and_read(machine: &mut Machine, is_refused: bool) -> Seen {
     let entries = [
         Sqe::write(1, SqeFlags::IO_LINK.bits(), 0, 2, b"ab"),
         Sqe::nop(2, 0),
     ];
-    let (first, _end) = submit(&mut machine, &entries);
+    let (first, _end) = submit(machine, &entries);
     let write = machine.step(Step::Issue { number: 0 });
     let end = machine.step(Step::Finish { number: 0 });
     let behind = machine.step(Step::Issue { number: 1 });
     let state = machine.state(0);
-    let (second, _end) = submit(&mut machine, &[Sqe::read(3, 0, 0, 0, 4)]);
+    let (second, _end) = submit(machine, &[Sqe::read(3, 0, 0, 0, 4)]);
     let read = machine.step(Step::Issue { number: 2 });
     machine.step(Step::Finish { number: 2 });
     let posted = machine.counts().posted;
-    Ok(Written {
+    let written = Written {
         is_refused,
         opened: [first, second],
         ran: [write, read],
@@ -145,60 +205,63 @@ fn write_and_read(alloc: Global) -> Result<Written, Fail> {
         read: machine
             .rest(posted.saturating_sub(1))
             .map(|completion| completion.res()),
-    })
+    };
+    Seen {
+        was_refused: written.was_refused(),
+        has_run: written.has_run(),
+        is_right: written.is_whole() || written.is_undone(),
+    }
+}
+
+/// Both on a new machine.
+fn on_a_new_machine(alloc: Global) -> Result<Seen, Fail> {
+    let (mut machine, is_refused) = new_machine(alloc)?;
+    Ok(write_and_read(&mut machine, is_refused))
 }
 
 #[test]
 fn a_refused_write_leaves_its_file(rt: HostRuntime) -> Result<(), Fail> {
-    let seen = write_and_read(rt.alloc())?;
-    let ended = |res| Answer::Ended {
-        res,
-        bytes: [0; 64],
-    };
-    let is_short = seen.end == ended(-12);
-    let (len, res, behind) = if is_short {
-        (0, 0, ended(-125))
-    } else {
-        (4, 4, Answer::Run)
-    };
-    assert!(rt; is_short || seen.end == ended(2));
-    assert!(rt; seen.opened[0].is_right(2) && seen.opened[1].is_right(1));
-    assert!(rt; seen.ran == [Answer::Run, Answer::Run]);
-    assert!(rt; seen.behind == behind);
-    let state = FileState {
-        len,
-        writes: u64::from(!is_short),
-        synced: 0,
-    };
-    assert_eq!(rt; seen.state, Some(state));
-    assert_eq!(rt; seen.read, Some(res));
-    if is_short || seen.is_refused || seen.opened[0].is_refused || seen.opened[1].is_refused {
+    let seen = on_a_new_machine(rt.alloc())?;
+    assert!(rt; seen.has_run);
+    assert!(rt; seen.is_right);
+    if seen.was_refused {
         println!(rt; "refused")?;
     }
     Ok(())
 }
 
 /// What a run of four steps gives, by a second try if memory for the first was refused.
-fn four_steps(alloc: Global) -> Result<(bool, [Option<Answer>; 5]), Fail> {
-    let (mut machine, mut is_refused) = new_machine(alloc)?;
+fn run_four(
+    alloc: Global,
+    machine: &mut Machine,
+) -> Result<(bool, [Option<Answer>; 5]), AllocError> {
     let steps = [
         Step::Index { word: 0 },
         Step::StoreTail,
         Step::LoadHead,
         Step::Next,
     ];
-    let answers = match run(alloc, &mut machine, &steps) {
-        Ok(answers) => answers,
-        Err(AllocError) => {
-            is_refused = true;
-            run(alloc, &mut machine, &steps)?
-        }
-    };
+    if let Ok(answers) = run(alloc, machine, &steps) {
+        return Ok((false, first_five(answers.as_slice())));
+    }
+    let answers = run(alloc, machine, &steps)?;
+    Ok((true, first_five(answers.as_slice())))
+}
+
+/// The first five answers, as many as there are.
+fn first_five(answers: &[Answer]) -> [Option<Answer>; 5] {
     let mut given = [None; 5];
     for (at, answer) in given.iter_mut().enumerate() {
         *answer = answers.get(at).copied();
     }
-    Ok((is_refused, given))
+    given
+}
+
+/// The same on a new machine.
+fn four_steps(alloc: Global) -> Result<(bool, [Option<Answer>; 5]), Fail> {
+    let (mut machine, was_refused) = new_machine(alloc)?;
+    let (is_refused, given) = run_four(alloc, &mut machine)?;
+    Ok((was_refused || is_refused, given))
 }
 
 #[test]

@@ -66,23 +66,33 @@ fn faulty_group_settles(rt: HostRuntime) -> Result<(), Fail> {
     Ok(())
 }
 
-/// The user data of the completions that rest, by their places, once two calls were submitted and each request was finished. The ring holds two of them.
-fn resting(alloc: Global) -> Result<[Option<u64>; 4], Fail> {
-    let setup = Setup::new(2, Some(2), 2, 0)?;
-    let mut machine = Machine::new(alloc, &setup)?;
-    submit(&mut machine, &[Sqe::nop(1, 0), Sqe::nop(2, 0)]);
-    submit(&mut machine, &[Sqe::nop(3, 0)]);
+/// Issues and finishes the first three requests.
+fn end_three(machine: &mut Machine) {
     for number in 0..3 {
         machine.step(Step::Issue { number });
         machine.step(Step::Finish { number });
     }
+}
+
+/// The user data of the completions that rest, by their places.
+fn user_data_of_rest(machine: &Machine) -> [Option<u64>; 4] {
     let mut rest = [None; 4];
     for (place, user_data) in rest.iter_mut().enumerate() {
         *user_data = machine
             .rest(place as u64)
             .map(|completion| completion.user_data());
     }
-    Ok(rest)
+    rest
+}
+
+/// Those once two calls were submitted and each request was finished. The ring holds two of them.
+fn resting(alloc: Global) -> Result<[Option<u64>; 4], Fail> {
+    let setup = Setup::new(2, Some(2), 2, 0)?;
+    let mut machine = Machine::new(alloc, &setup)?;
+    submit(&mut machine, &[Sqe::nop(1, 0), Sqe::nop(2, 0)]);
+    submit(&mut machine, &[Sqe::nop(3, 0)]);
+    end_three(&mut machine);
+    Ok(user_data_of_rest(&machine))
 }
 
 #[test]
@@ -101,24 +111,35 @@ struct Told {
     running: [Option<Op>; 2],
 }
 
-/// What a machine tells of a write and a sync of another file, and of the files once it is idle: their states, the last of a file that isn't there, and bytes of the first.
-fn written(alloc: Global) -> Result<(Told, [Option<FileState>; 3], [Option<u8>; 5]), Fail> {
-    let entries = [Sqe::write(1, 0, 0, 2, b"ab"), Sqe::fsync(2, 0, 1)];
-    let mut machine = submitted(alloc, &entries)?;
+/// What a machine tells as it runs a sync, which is the second of its requests.
+fn told_of(machine: &mut Machine) -> Told {
     let (least, next) = (machine.least(), machine.next());
     machine.step(Step::Issue { number: 0 });
-    let told = Told {
+    Told {
         sq: machine.setup().sq(),
         least: [least, machine.least()],
         next: [next, machine.next()],
         running: [machine.running_op(1), machine.running_op(0)],
-    };
-    machine.settle_idle();
+    }
+}
+
+/// The states of the two files and of one that isn't there, and bytes of the first.
+fn files_of(machine: &Machine) -> ([Option<FileState>; 3], [Option<u8>; 5]) {
     let states = [machine.state(0), machine.state(1), machine.state(2)];
     let mut bytes = [None; 5];
     for (at, byte) in bytes.iter_mut().enumerate() {
         *byte = machine.byte(0, at as u64);
     }
+    (states, bytes)
+}
+
+/// What a machine tells of a write and a sync of another file, and of the files once it is idle.
+fn written(alloc: Global) -> Result<(Told, [Option<FileState>; 3], [Option<u8>; 5]), Fail> {
+    let entries = [Sqe::write(1, 0, 0, 2, b"ab"), Sqe::fsync(2, 0, 1)];
+    let mut machine = submitted(alloc, &entries)?;
+    let told = told_of(&mut machine);
+    machine.settle_idle();
+    let (states, bytes) = files_of(&machine);
     Ok((told, states, bytes))
 }
 

@@ -1,7 +1,7 @@
 //! Calls at size, with ample memory: so that none is refused that had no need to be.
 
 use crate::tests::take_call;
-use std::alloc::Global;
+use std::alloc::{AllocError, Global};
 use std::test::Fail;
 use uring_entry::{Cqe, Setup, Sqe};
 use uring_machine::{Answer, Counts, Machine, Step, run};
@@ -43,12 +43,30 @@ fn a_whole_ring_is_submitted_beside_others(rt: HostRuntime) -> Result<(), Fail> 
     Ok(())
 }
 
-/// How many answers a run of so many steps gives, and the last of them.
+/// How many answers a run of so many steps gives on a new machine, and the last of them.
 fn long_run(alloc: Global, count: usize) -> Result<(usize, Option<Answer>), Fail> {
     let setup = Setup::new(1, None, 1, 0)?;
     let mut machine = Machine::new(alloc, &setup)?;
+    Ok(run_many(alloc, &mut machine, count)?)
+}
+
+/// The same on this machine.
+fn run_many(
+    alloc: Global,
+    machine: &mut Machine,
+    count: usize,
+) -> Result<(usize, Option<Answer>), AllocError> {
     let steps = vec![in alloc; Step::LoadHead; count]?;
-    let answers = run(alloc, &mut machine, steps.as_slice())?;
+    last_of_run(alloc, machine, steps.as_slice())
+}
+
+/// The same of these steps.
+fn last_of_run(
+    alloc: Global,
+    machine: &mut Machine,
+    steps: &[Step],
+) -> Result<(usize, Option<Answer>), AllocError> {
+    let answers = run(alloc, machine, steps)?;
     Ok((answers.len(), answers.last().copied()))
 }
 
@@ -60,12 +78,18 @@ fn many_steps_run(rt: HostRuntime) -> Result<(), Fail> {
     Ok(())
 }
 
-/// The counts after so many calls of one request that does nothing, each of which ends and is reaped before the next.
+/// The counts after so many rounds on a new machine.
 fn rounds(alloc: Global, count: u64) -> Result<Counts, Fail> {
     let setup = Setup::new(1, Some(1), 1, 0)?;
     let mut machine = Machine::new(alloc, &setup)?;
+    make_rounds(&mut machine, count);
+    Ok(machine.counts())
+}
+
+/// Makes so many calls of one request that does nothing, each of which ends and is reaped before the next.
+fn make_rounds(machine: &mut Machine, count: u64) {
     for number in 0..count {
-        submit(&mut machine, 1);
+        submit(machine, 1);
         machine.step(Step::Issue { number });
         machine.step(Step::Finish { number });
         machine.step(Step::LoadCqTail);
@@ -73,7 +97,6 @@ fn rounds(alloc: Global, count: u64) -> Result<Counts, Fail> {
         machine.step(Step::StoreCqHead);
         machine.step(Step::Flush);
     }
-    Ok(machine.counts())
 }
 
 #[test]
