@@ -31,7 +31,9 @@ pub words_behind : (a b : ℕ) (rest more : List ℕ) → a < 2 ^ 64 → b < 2 ^
 words_behind a b rest more first second same range = (first, (second, subst AreWords (sym (append-nil rest ∙ same)) range))
 
 -- the user data, the result and the bytes, as words, are those of a completion
-pub words_made : (c : Cqe) (second : ℕ) (rest : List ℕ) → c.user_data < 2 ^ 64 → second < 2 ^ 64 → second ≡ cast_unsigned w32 c.res → length rest ≡ 8 → AreWords rest → bytes_of rest ≡ c.payload → HasWords c (c.user_data ∷ second ∷ rest)
+pub words_made : (c : Cqe) (second : ℕ) (rest : List ℕ) → c.user_data < 2 ^ 64 → second < 2 ^ 64
+    → second ≡ cast_unsigned w32 c.res → length rest ≡ 8 → AreWords rest → bytes_of rest ≡ c.payload
+    → HasWords c (c.user_data ∷ second ∷ rest)
 words_made c second rest user_data word is size range payload = record {
   size = omega arith;
   range = (user_data, (word, range));
@@ -43,7 +45,8 @@ words_made c second rest user_data word is size range payload = record {
 low_half : (b : ℕ) → cast_unsigned w32 (cast_signed w32 (b % 2 ^ 32)) ≡ b % 2 ^ 32
 low_half b = of_z-to_z w32 (b % 2 ^ 32) (omega arith)
 
-kept_words : (a b : ℕ) (rest again : List ℕ) → AreWords rest → HasWords (completion_of (a ∷ b ∷ rest)) again → again ≡ without_flags (a ∷ b ∷ rest)
+kept_words : (a b : ℕ) (rest again : List ℕ) → AreWords rest → HasWords (completion_of (a ∷ b ∷ rest)) again
+    → again ≡ without_flags (a ∷ b ∷ rest)
 kept_words a b rest [] range h = absurd (omega (arith, h.size))
 kept_words a b rest (x ∷ []) range h = absurd (omega (arith, h.size))
 kept_words a b rest (x ∷ y ∷ more) range h =
@@ -51,12 +54,14 @@ kept_words a b rest (x ∷ y ∷ more) range h =
     let tail = same_words more rest h.range.1.1 range h.payload in
     cc
 
-words_kept : (a b : ℕ) (rest : List ℕ) → a < 2 ^ 64 → length rest ≡ 8 → AreWords rest → HasWords (completion_of (a ∷ b ∷ rest)) (without_flags (a ∷ b ∷ rest))
+words_kept : (a b : ℕ) (rest : List ℕ) → a < 2 ^ 64 → length rest ≡ 8 → AreWords rest
+    → HasWords (completion_of (a ∷ b ∷ rest)) (without_flags (a ∷ b ∷ rest))
 words_kept a b rest word size range =
     words_made (completion_of (a ∷ b ∷ rest)) (b % 2 ^ 32) rest word (omega arith) (sym (low_half b)) size range refl
 
 -- ten words are those of the completion that they hold, but for the flags
-pub words_are_kept : (words again : List ℕ) → length words ≡ 10 → AreWords words → HasWords (completion_of words) again ↔ (again ≡ without_flags words)
+pub words_are_kept : (words again : List ℕ) → length words ≡ 10 → AreWords words
+    → HasWords (completion_of words) again ↔ (again ≡ without_flags words)
 words_are_kept [] again size range = absurd (omega arith)
 words_are_kept (a ∷ []) again size range = absurd (omega arith)
 words_are_kept (a ∷ b ∷ rest) again size range = (

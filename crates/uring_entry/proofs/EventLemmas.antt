@@ -18,7 +18,8 @@ is_joined-broken r m n e =
     let parts = and_parts _ _ found.2 in
     (found.0, leb-true m found.0 parts.0, found.1, parts.1)
 
-pub some_member-tells : (r : Requests) (p : Sqe → Bool) (n : ℕ) → some_member r p n ≡ true → (m : ℕ) × (m < length r.accepted) × (is_in_group r m n ≡ true) × (p (entry_of r m) ≡ true)
+pub some_member-tells : (r : Requests) (p : Sqe → Bool) (n : ℕ) → some_member r p n ≡ true
+    → (m : ℕ) × (m < length r.accepted) × (is_in_group r m n ≡ true) × (p (entry_of r m) ≡ true)
 unfolding some_member
 some_member-tells r p n e =
     let found = some_below-in (λ m. is_in_group r m n && p (entry_of r m)) (length r.accepted) e in
@@ -46,7 +47,8 @@ is_behind_failure-tells r n e =
     let link = and_parts _ _ parts.0 in
     (found.0, record { before = found.1; joined = link.0; soft = link.1; failed = parts.1 })
 
-pub is_doomed-tells : (r : Requests) (n : ℕ) → is_doomed r n ≡ true → (is_in_faulty_group r n ≡ true) ⊎ ((is_behind_failure r n ≡ true) ⊎ (is_cancelled r n ≡ true))
+pub is_doomed-tells : (r : Requests) (n : ℕ) → is_doomed r n ≡ true
+    → (is_in_faulty_group r n ≡ true) ⊎ ((is_behind_failure r n ≡ true) ⊎ (is_cancelled r n ≡ true))
 unfolding is_doomed
 is_doomed-tells r n e =
     elim (or_cases _ _ e) [
@@ -64,7 +66,8 @@ pub is_joined-started : (r : Requests) (n j k : ℕ) → is_joined (with_started
 unfolding is_joined
 is_joined-started r n j k = refl
 
-pub is_joined-ended : (r : Requests) (n : ℕ) (res : ℤ) (bytes : List ℕ) (j k : ℕ) → is_joined (with_ended r n res bytes) j k ≡ is_joined r j k
+pub is_joined-ended : (r : Requests) (n : ℕ) (res : ℤ) (bytes : List ℕ) (j k : ℕ)
+    → is_joined (with_ended r n res bytes) j k ≡ is_joined r j k
 unfolding is_joined
 is_joined-ended r n res bytes j k = refl
 
@@ -72,7 +75,8 @@ pub is_draining-started : (r : Requests) (n k : ℕ) → is_draining (with_start
 unfolding some_member is_joined
 is_draining-started r n k = refl
 
-pub is_draining-ended : (r : Requests) (n : ℕ) (res : ℤ) (bytes : List ℕ) (k : ℕ) → is_draining (with_ended r n res bytes) k ≡ is_draining r k
+pub is_draining-ended : (r : Requests) (n : ℕ) (res : ℤ) (bytes : List ℕ) (k : ℕ)
+    → is_draining (with_ended r n res bytes) k ≡ is_draining r k
 unfolding some_member is_joined
 is_draining-ended r n res bytes k = refl
 
@@ -80,12 +84,14 @@ pub is_doomed-started : (r : Requests) (n k : ℕ) → is_doomed (with_started r
 unfolding is_doomed is_behind_failure some_member is_joined
 is_doomed-started r n k = refl
 
-pub is_in_faulty_group-ended : (r : Requests) (n : ℕ) (res : ℤ) (bytes : List ℕ) (k : ℕ) → is_in_faulty_group (with_ended r n res bytes) k ≡ is_in_faulty_group r k
+pub is_in_faulty_group-ended : (r : Requests) (n : ℕ) (res : ℤ) (bytes : List ℕ) (k : ℕ)
+    → is_in_faulty_group (with_ended r n res bytes) k ≡ is_in_faulty_group r k
 unfolding some_member is_joined
 is_in_faulty_group-ended r n res bytes k = refl
 
 -- who is behind a failure stays so when another request ends
-pub is_behind_failure-stays : (r : Requests) (n : ℕ) (res : ℤ) (bytes : List ℕ) (k : ℕ) → has_ended r n ≡ false → is_behind_failure r k ≡ true → is_behind_failure (with_ended r n res bytes) k ≡ true
+pub is_behind_failure-stays : (r : Requests) (n : ℕ) (res : ℤ) (bytes : List ℕ) (k : ℕ) → has_ended r n ≡ false
+    → is_behind_failure r k ≡ true → is_behind_failure (with_ended r n res bytes) k ≡ true
 is_behind_failure-stays r n res bytes k open_yet e =
     let was = is_behind_failure-tells r k e in
     let f = was.1 in
@@ -98,7 +104,9 @@ is_behind_failure-stays r n res bytes k open_yet e =
     })
 
 -- the end of n puts behind a failure those that were, and those behind n where it is soft and failed
-pub is_behind_failure-new : (r : Requests) (n : ℕ) (res : ℤ) (bytes : List ℕ) (k : ℕ) → has_ended r n ≡ false → is_behind_failure (with_ended r n res bytes) k ≡ true → (is_behind_failure r k ≡ true) ⊎ ((n < k) × (is_joined r n k ≡ true) × (is_soft (entry_of r n) ≡ true) × (is_success (entry_of r n) res ≡ false))
+pub is_behind_failure-new : (r : Requests) (n : ℕ) (res : ℤ) (bytes : List ℕ) (k : ℕ) → has_ended r n ≡ false
+    → is_behind_failure (with_ended r n res bytes) k ≡ true
+    → (is_behind_failure r k ≡ true) ⊎ ((n < k) × (is_joined r n k ≡ true) × (is_soft (entry_of r n) ≡ true) × (is_success (entry_of r n) res ≡ false))
 is_behind_failure-new r n res bytes k open_yet e =
     let is = is_behind_failure-tells (with_ended r n res bytes) k e in
     let m = is.0 in
@@ -121,7 +129,8 @@ is_behind_failure-new r n res bytes k open_yet e =
     ]
 
 -- who is doomed stays so when another request ends
-pub is_doomed-stays : (r : Requests) (n : ℕ) (res : ℤ) (bytes : List ℕ) (k : ℕ) → has_ended r n ≡ false → is_doomed r k ≡ true → is_doomed (with_ended r n res bytes) k ≡ true
+pub is_doomed-stays : (r : Requests) (n : ℕ) (res : ℤ) (bytes : List ℕ) (k : ℕ) → has_ended r n ≡ false → is_doomed r k ≡ true
+    → is_doomed (with_ended r n res bytes) k ≡ true
 is_doomed-stays r n res bytes k open_yet e =
     elim (is_doomed-tells r k e) [
       | inl faulty ↦ is_doomed-faulty (with_ended r n res bytes) k (is_in_faulty_group-ended r n res bytes k ∙ faulty)
@@ -138,7 +147,8 @@ pub is_last-accepted : (r : Requests) (entry : Sqe) (k : ℕ) → k < length r.a
 is_last-accepted r entry k lt =
     ap (λ e. not (is_linked e) || list_any (λ cut. cut == k + 1) r.cuts) (entry_of-accepted_other r entry k (λ e. absurd (omega arith)))
 
-pub is_joined-accepted : (r : Requests) (entry : Sqe) (m n : ℕ) → n ≤ length r.accepted → is_joined (with_accepted r entry) m n ≡ is_joined r m n
+pub is_joined-accepted : (r : Requests) (entry : Sqe) (m n : ℕ) → n ≤ length r.accepted
+    → is_joined (with_accepted r entry) m n ≡ is_joined r m n
 unfolding is_joined
 is_joined-accepted r entry m n le =
     ap not (some_below-same _ _ n (λ k lt. ap (λ b. leb m k && b) (is_last-accepted r entry k (omega arith))))

@@ -35,7 +35,8 @@ joined-past : (r : Requests) (from end n m : ℕ) → IsGroup r from end → n <
 joined-past r from zero n m g lt past within = absurd (omega arith)
 joined-past r from (suc k) n m g lt past within = is_joined-no r n m k (omega arith) (omega arith) (g.ends k refl (omega arith))
 
-in_group-behind : (r : Requests) (from end n m : ℕ) → IsGroup r from end → from ≤ n → n < end → m < length r.accepted → n < m → is_in_group r m n ≡ (leb from m && ltb m end)
+in_group-behind : (r : Requests) (from end n m : ℕ) → IsGroup r from end → from ≤ n → n < end → m < length r.accepted → n < m
+    → is_in_group r m n ≡ (leb from m && ltb m end)
 in_group-behind r from end n m g high lt within behind =
     let low : min m n ≡ n = omega arith in
     let top : max m n ≡ m = omega arith in
@@ -47,7 +48,8 @@ in_group-behind r from end n m g high lt within behind =
       | inr past ↦ joined-past r from end n m g lt past within ∙ sym (and_right _ _ (le-ltb m end past))
     ]
 
-pub in_group-member : (r : Requests) (from end n m : ℕ) → IsGroup r from end → from ≤ n → n < end → m < length r.accepted → is_in_group r m n ≡ (leb from m && ltb m end)
+pub in_group-member : (r : Requests) (from end n m : ℕ) → IsGroup r from end → from ≤ n → n < end → m < length r.accepted
+    → is_in_group r m n ≡ (leb from m && ltb m end)
 in_group-member r from end n m g high lt within =
     elim (cases_lt n m) [
       | inl behind ↦ in_group-behind r from end n m g high lt within behind
@@ -60,7 +62,8 @@ in_group-member r from end n m g high lt within =
 
 -- Whether some member has a property.
 
-pub some_member-is : (r : Requests) (p : Sqe → Bool) (from end n : ℕ) → IsGroup r from end → from ≤ n → n < end → some_member r p n ≡ is_some (first_member (λ m. p (entry_of r m)) from end)
+pub some_member-is : (r : Requests) (p : Sqe → Bool) (from end n : ℕ) → IsGroup r from end → from ≤ n → n < end
+    → some_member r p n ≡ is_some (first_member (λ m. p (entry_of r m)) from end)
 unfolding some_member first_member
 some_member-is r p from end n g high lt =
     some_below-between (λ m. is_in_group r m n && p (entry_of r m)) end (length r.accepted) g.accepted
@@ -72,10 +75,12 @@ some_member-is r p from end n g high lt =
     (in_group-member r from end n m g high lt (omega arith) ∙ ap (λ b. leb from m && b) (lt-ltb m end inside) ∙ and-true (leb from m)))
     ∙ sym (is_some-least_below (λ m. leb from m && p (entry_of r m)) end)
 
-pub draining-is : (r : Requests) (from end n : ℕ) → IsGroup r from end → from ≤ n → n < end → is_draining r n ≡ is_some (first_drain r from end)
+pub draining-is : (r : Requests) (from end n : ℕ) → IsGroup r from end → from ≤ n → n < end
+    → is_draining r n ≡ is_some (first_drain r from end)
 draining-is r from end n g high lt = some_member-is r is_drain from end n g high lt
 
-pub faulty-is : (r : Requests) (from end n : ℕ) → IsGroup r from end → from ≤ n → n < end → is_in_faulty_group r n ≡ is_some (first_fault r from end)
+pub faulty-is : (r : Requests) (from end n : ℕ) → IsGroup r from end → from ≤ n → n < end
+    → is_in_faulty_group r n ≡ is_some (first_fault r from end)
 faulty-is r from end n g high lt = some_member-is r is_faulty from end n g high lt
 
 -- a search below a smaller bound, from the least below a larger one
@@ -91,7 +96,8 @@ some_below-least p end n le = go (least_below p end) refl
           | inr high ↦ some_below-none p n (λ j lt. least.before j (omega arith)) ∙ sym (le-ltb k n high)
         ]
 
-pub behind-is : (r : Requests) (from end n : ℕ) → IsGroup r from end → from ≤ n → n < end → is_behind_failure r n ≡ is_before (first_broken r from end) n
+pub behind-is : (r : Requests) (from end n : ℕ) → IsGroup r from end → from ≤ n → n < end
+    → is_behind_failure r n ≡ is_before (first_broken r from end) n
 unfolding is_behind_failure first_member
 behind-is r from end n g high lt =
     some_below-same _ (λ m. leb from m && (is_soft (entry_of r m) && has_failed r m)) n
@@ -101,7 +107,8 @@ behind-is r from end n g high lt =
     ∙ some_below-least (λ m. leb from m && (is_soft (entry_of r m) && has_failed r m)) end n (omega arith)
 
 -- Whether a request is doomed depends on its group and its own cancellation.
-pub doomed-is : (r : Requests) (from end n : ℕ) → IsGroup r from end → from ≤ n → n < end → is_doomed r n ≡ ((is_some (first_fault r from end) || is_before (first_broken r from end) n) || is_cancelled r n)
+pub doomed-is : (r : Requests) (from end n : ℕ) → IsGroup r from end → from ≤ n → n < end
+    → is_doomed r n ≡ ((is_some (first_fault r from end) || is_before (first_broken r from end) n) || is_cancelled r n)
 unfolding is_doomed
 doomed-is r from end n g high lt =
     ap (λ b. (b || is_behind_failure r n) || is_cancelled r n) (faulty-is r from end n g high lt)
@@ -109,10 +116,13 @@ doomed-is r from end n g high lt =
 
 -- Whether a request is ready depends on requests that haven't ended.
 
-waits-not : (r : Requests) (n m : ℕ) → is_joined r m n ≡ false → is_draining r m ≡ false → is_draining r n ≡ false → holds_back r n m ≡ false
+waits-not : (r : Requests) (n m : ℕ) → is_joined r m n ≡ false → is_draining r m ≡ false → is_draining r n ≡ false
+    → holds_back r n m ≡ false
 waits-not r n m a b c = and_right _ _ (or_from _ _ (or_from _ _ a b) c)
 
-pub ready-yes : (r : Requests) (from end n : ℕ) → IsGroup r from end → from ≤ n → n < end → ((m : ℕ) → from ≤ m → m < n → has_ended r m ≡ true) → ((m : ℕ) → m < from → has_ended r m ≡ false → is_draining r m ≡ false) → (is_draining r n ≡ true → (m : ℕ) → m < from → has_ended r m ≡ true) → is_ready r n ≡ true
+pub ready-yes : (r : Requests) (from end n : ℕ) → IsGroup r from end → from ≤ n → n < end
+    → ((m : ℕ) → from ≤ m → m < n → has_ended r m ≡ true) → ((m : ℕ) → m < from → has_ended r m ≡ false → is_draining r m ≡ false)
+    → (is_draining r n ≡ true → (m : ℕ) → m < from → has_ended r m ≡ true) → is_ready r n ≡ true
 ready-yes r from end n g high lt members drains alone =
     is_ready-yes r n
     (λ m low.
@@ -130,7 +140,8 @@ ready-yes r from end n g high lt members drains alone =
           ]
     ])
 
-pub ready-not_member : (r : Requests) (from end n m : ℕ) → IsGroup r from end → n < end → from ≤ m → m < n → has_ended r m ≡ false → is_ready r n ≡ false
+pub ready-not_member : (r : Requests) (from end n m : ℕ) → IsGroup r from end → n < end → from ≤ m → m < n → has_ended r m ≡ false
+    → is_ready r n ≡ false
 ready-not_member r from end n m g lt inside low going =
     is_ready-no r n m low
     (and_from _ _ (ap not going) (or_left _ _ (or_left _ _ (joined-member r from end m n g (omega arith) lt (omega arith) ∙ le-leb from m inside))))
@@ -142,7 +153,8 @@ pub ready-not_behind : (r : Requests) (n m : ℕ) → m < n → has_ended r m �
 ready-not_behind r n m low going drains = is_ready-no r n m low (and_from _ _ (ap not going) (or_left _ _ (or_right _ _ drains)))
 
 -- Two groups of which one begins before the other ends are one: a member of an earlier group lies before the later group.
-pub groups-apart : (r : Requests) (from end first last m : ℕ) → IsGroup r from end → IsGroup r first last → from ≤ m → m < end → m < first → first < end → ⊥
+pub groups-apart : (r : Requests) (from end first last m : ℕ) → IsGroup r from end → IsGroup r first last → from ≤ m → m < end
+    → m < first → first < end → ⊥
 groups-apart r from end zero last m g h high lt low inside = omega arith
 groups-apart r from end (suc k) last m g h high lt low inside = both_ways _ (g.joined k (omega arith) (omega arith)) (h.begins k refl)
 

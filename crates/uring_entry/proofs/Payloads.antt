@@ -6,7 +6,8 @@ use Rattle.std.specs.Int.{w64, to_le_bytes}
 use Rattle.uring_entry.specs.Layout.{bytes_of, AreWords}
 
 -- eight words and 64 bytes are all of both
-pub all_taken : (i : ℕ) (bytes words : List ℕ) → i ≡ 8 → length bytes ≡ 64 → length words ≡ 8 → take (8 * i) bytes ≡ bytes_of (take i words) → bytes ≡ bytes_of words
+pub all_taken : (i : ℕ) (bytes words : List ℕ) → i ≡ 8 → length bytes ≡ 64 → length words ≡ 8
+    → take (8 * i) bytes ≡ bytes_of (take i words) → bytes ≡ bytes_of words
 all_taken i bytes words i_is bytes_length words_length same =
     let e : take 64 bytes ≡ bytes_of (take 8 words) = subst (λ j. take (8 * j) bytes ≡ bytes_of (take j words)) i_is same in
     let a : take 64 bytes ≡ bytes = grind (arith, common_steps) in
@@ -21,7 +22,8 @@ take_add : (a b : ℕ) (xs : List ℕ) → take a xs ++ take b (drop a xs) ≡ t
 take_add a b xs = ap (λ ys. take a xs ++ ys) (sym (drop-take a b xs)) ∙ ap (λ ys. ys ++ drop a (take (a + b) xs)) (take_within a b xs) ∙ take-append-drop a (take (a + b) xs)
 
 -- one word more
-pub word_more : (i : ℕ) (bytes words : List ℕ) (word : ℕ) → i < length words → bytes_of (take i words) ≡ take (8 * i) bytes → to_le_bytes w64 word ≡ take 8 (drop (8 * i) bytes)
+pub word_more : (i : ℕ) (bytes words : List ℕ) (word : ℕ) → i < length words → bytes_of (take i words) ≡ take (8 * i) bytes
+    → to_le_bytes w64 word ≡ take 8 (drop (8 * i) bytes)
     → bytes_of (take (i + 1) (set words i word)) ≡ take (8 * (i + 1)) bytes
 word_more i bytes words word within same last =
     ap bytes_of (take_more_set words i word within) ∙ flat_map-append (to_le_bytes w64) (take i words) (word ∷ [])

@@ -50,7 +50,8 @@ pub is_doomed-cancelled : (r : Requests) (n : ℕ) → is_cancelled r n ≡ true
 unfolding is_doomed
 is_doomed-cancelled r n e = or_right _ _ e
 
-pub is_doomed-else : (r : Requests) (n : ℕ) → is_cancelled r n ≡ false → is_behind_failure r n ≡ false → is_doomed r n ≡ is_in_faulty_group r n
+pub is_doomed-else : (r : Requests) (n : ℕ) → is_cancelled r n ≡ false → is_behind_failure r n ≡ false
+    → is_doomed r n ≡ is_in_faulty_group r n
 unfolding is_doomed
 is_doomed-else r n c b =
     ap (λ x. (is_in_faulty_group r n || is_behind_failure r n) || x) c
@@ -94,7 +95,8 @@ pub target_of-none : (r : Requests) (n : ℕ) → ((m : ℕ) → m < length r.ac
 unfolding target_of
 target_of-none r n h = least_below-none (is_candidate r n) (length r.accepted) h
 
-pub target_of-some : (r : Requests) (n m : ℕ) → m < length r.accepted → is_candidate r n m ≡ true → ((k : ℕ) → k < m → is_candidate r n k ≡ false) → target_of r n ≡ Some m
+pub target_of-some : (r : Requests) (n m : ℕ) → m < length r.accepted → is_candidate r n m ≡ true
+    → ((k : ℕ) → k < m → is_candidate r n k ≡ false) → target_of r n ≡ Some m
 unfolding target_of
 target_of-some r n m lt e before = least_below-some (is_candidate r n) (length r.accepted) m lt e before
 
@@ -133,13 +135,15 @@ added-other p xs x e = list_any-push p xs x ∙ ap (λ b. list_any p xs || b) e 
 pub has_ended-same : (r : Requests) (n : ℕ) (res : ℤ) (bytes : List ℕ) → has_ended (with_ended r n res bytes) n ≡ true
 has_ended-same r n res bytes = added-same (λ e. e.number == n) r.ended _ (eq-eqb n n refl)
 
-pub has_ended-other : (r : Requests) (n : ℕ) (res : ℤ) (bytes : List ℕ) (k : ℕ) → k ≢ n → has_ended (with_ended r n res bytes) k ≡ has_ended r k
+pub has_ended-other : (r : Requests) (n : ℕ) (res : ℤ) (bytes : List ℕ) (k : ℕ) → k ≢ n
+    → has_ended (with_ended r n res bytes) k ≡ has_ended r k
 has_ended-other r n res bytes k ne = added-other (λ e. e.number == k) r.ended _ (ne_eqb n k (λ e. ne (sym e)))
 
 pub is_running-ended_same : (r : Requests) (n : ℕ) (res : ℤ) (bytes : List ℕ) → is_running (with_ended r n res bytes) n ≡ false
 is_running-ended_same r n res bytes = and_right _ _ (ap not (has_ended-same r n res bytes))
 
-pub is_running-ended_other : (r : Requests) (n : ℕ) (res : ℤ) (bytes : List ℕ) (k : ℕ) → k ≢ n → is_running (with_ended r n res bytes) k ≡ is_running r k
+pub is_running-ended_other : (r : Requests) (n : ℕ) (res : ℤ) (bytes : List ℕ) (k : ℕ) → k ≢ n
+    → is_running (with_ended r n res bytes) k ≡ is_running r k
 is_running-ended_other r n res bytes k ne = ap (λ b. has_started r k && not b) (has_ended-other r n res bytes k ne)
 
 pub is_running-started_same : (r : Requests) (n : ℕ) → has_ended r n ≡ false → is_running (with_started r n) n ≡ true
@@ -158,13 +162,15 @@ list_any-both p q (x ∷ xs) e =
 pub has_failed-unended : (r : Requests) (k : ℕ) → has_ended r k ≡ false → has_failed r k ≡ false
 has_failed-unended r k e = list_any-both (λ x. x.number == k) (λ x. not (is_success (entry_of r k) x.res)) r.ended e
 
-pub has_failed-same : (r : Requests) (n : ℕ) (res : ℤ) (bytes : List ℕ) → has_ended r n ≡ false → has_failed (with_ended r n res bytes) n ≡ not (is_success (entry_of r n) res)
+pub has_failed-same : (r : Requests) (n : ℕ) (res : ℤ) (bytes : List ℕ) → has_ended r n ≡ false
+    → has_failed (with_ended r n res bytes) n ≡ not (is_success (entry_of r n) res)
 has_failed-same r n res bytes e =
     list_any-push (λ x. (x.number == n) && not (is_success (entry_of r n) x.res)) r.ended _
     ∙ ap (λ b. b || ((n == n) && not (is_success (entry_of r n) res))) (has_failed-unended r n e)
     ∙ ap (λ b. b && not (is_success (entry_of r n) res)) (eq-eqb n n refl)
 
-pub has_failed-other : (r : Requests) (n : ℕ) (res : ℤ) (bytes : List ℕ) (k : ℕ) → k ≢ n → has_failed (with_ended r n res bytes) k ≡ has_failed r k
+pub has_failed-other : (r : Requests) (n : ℕ) (res : ℤ) (bytes : List ℕ) (k : ℕ) → k ≢ n
+    → has_failed (with_ended r n res bytes) k ≡ has_failed r k
 has_failed-other r n res bytes k ne =
     added-other (λ x. (x.number == k) && not (is_success (entry_of r k) x.res)) r.ended _
     (and_left _ _ (ne_eqb n k (λ e. ne (sym e))))
@@ -181,10 +187,12 @@ get_or-push_other xs x k d ne =
 pub entry_of-accepted_at : (r : Requests) (entry : Sqe) → entry_of (with_accepted r entry) (length r.accepted) ≡ entry
 entry_of-accepted_at r entry = get_or-append_seam r.accepted entry [] zero_entry
 
-pub entry_of-accepted_other : (r : Requests) (entry : Sqe) (k : ℕ) → k ≢ length r.accepted → entry_of (with_accepted r entry) k ≡ entry_of r k
+pub entry_of-accepted_other : (r : Requests) (entry : Sqe) (k : ℕ) → k ≢ length r.accepted
+    → entry_of (with_accepted r entry) k ≡ entry_of r k
 entry_of-accepted_other r entry k ne = get_or-push_other r.accepted entry k zero_entry ne
 
-pub has_failed-accepted : (r : Requests) (entry : Sqe) (k : ℕ) → has_ended r (length r.accepted) ≡ false → has_failed (with_accepted r entry) k ≡ has_failed r k
+pub has_failed-accepted : (r : Requests) (entry : Sqe) (k : ℕ) → has_ended r (length r.accepted) ≡ false
+    → has_failed (with_accepted r entry) k ≡ has_failed r k
 has_failed-accepted r entry k none =
     elim (cases_eq k (length r.accepted)) [
       | inl same ↦

@@ -10,7 +10,8 @@ use Rattle.uring_entry.specs.declared.fault.Fault.TheVariants.{Flags, Opcode, Io
 use Rattle.uring_files.specs.Operations.{IsForFiles}
 
 -- what isn't found isn't the first
-not_first : (first : Bool) (fault : Fault) (later : Option Fault) → (if first then Some fault else later) ≡ None → (first ≡ false) × (later ≡ None)
+not_first : (first : Bool) (fault : Fault) (later : Option Fault) → (if first then Some fault else later) ≡ None
+    → (first ≡ false) × (later ≡ None)
 not_first true fault later none = cc
 not_first false fault later none = (refl, none)
 

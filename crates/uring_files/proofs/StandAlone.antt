@@ -14,7 +14,8 @@ use Rattle.uring_files.specs.Laws.{AgreeAt, OthersStay, FilesStandAlone, EndsSta
 
 -- what stands at a place after one was set
 
-set_same : {X : Type 0} (xs : List X) (i : ℕ) (d : X) (change : X → X) → slice_get (slice_set xs i (change (get_or xs i d))) i ≡ option_map change (slice_get xs i)
+set_same : {X : Type 0} (xs : List X) (i : ℕ) (d : X) (change : X → X)
+    → slice_get (slice_set xs i (change (get_or xs i d))) i ≡ option_map change (slice_get xs i)
 set_same [] i d change = refl
 set_same (x ∷ xs) zero d change = refl
 set_same (x ∷ xs) (suc i) d change = set_same xs i d change
@@ -28,11 +29,13 @@ set_other (y ∷ ys) (suc i) (suc j) x differ = set_other ys i j x (λ e. differ
 
 -- the file of a descriptor after that of one was changed
 
-changed_same : (files : List FileContents) (fd : ℤ) (change : FileContents → FileContents) → file_of (with_changed files fd change) fd ≡ option_map change (file_of files fd)
+changed_same : (files : List FileContents) (fd : ℤ) (change : FileContents → FileContents)
+    → file_of (with_changed files fd change) fd ≡ option_map change (file_of files fd)
 changed_same files (pos fd) change = set_same files fd empty_file change
 changed_same files (negsuc below) change = refl
 
-changed_other : (files : List FileContents) (own fd : ℤ) (change : FileContents → FileContents) → fd ≢ own → file_of (with_changed files own change) fd ≡ file_of files fd
+changed_other : (files : List FileContents) (own fd : ℤ) (change : FileContents → FileContents) → fd ≢ own
+    → file_of (with_changed files own change) fd ≡ file_of files fd
 changed_other files (pos k) (pos j) change differ = set_other files k j _ (λ e. differ (ap pos e))
 changed_other files (pos k) (negsuc below) change differ = refl
 changed_other files (negsuc below) fd change differ = refl
@@ -42,11 +45,13 @@ unlike x y e same = both_ways _ e ((Decides-int_eq x y).1 same)
 
 -- a change of one file, if some test is passed
 
-chosen_other : (chosen : Bool) (files : List FileContents) (own fd : ℤ) (change : FileContents → FileContents) → int_eq fd own ≡ false → file_of (cond chosen (with_changed files own change) files) fd ≡ file_of files fd
+chosen_other : (chosen : Bool) (files : List FileContents) (own fd : ℤ) (change : FileContents → FileContents)
+    → int_eq fd own ≡ false → file_of (cond chosen (with_changed files own change) files) fd ≡ file_of files fd
 chosen_other true files own fd change differ = changed_other files own fd change (unlike fd own differ)
 chosen_other false files own fd change differ = refl
 
-chosen_apart : (chosen : Bool) (files others : List FileContents) (own fd : ℤ) (change : FileContents → FileContents) → AgreeAt fd files others
+chosen_apart : (chosen : Bool) (files others : List FileContents) (own fd : ℤ) (change : FileContents → FileContents)
+    → AgreeAt fd files others
     → AgreeAt fd (cond chosen (with_changed files own change) files) (cond chosen (with_changed others own change) others)
 chosen_apart false files others own fd change same = same
 chosen_apart true files others own fd change same =
