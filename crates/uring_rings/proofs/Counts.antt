@@ -72,7 +72,11 @@ same_cell n s j k power fits ordered near same =
     omega arith
 
 -- A write to the cell of the next count leaves the cells of the counts before it, as many as the ring has.
-pub cells_after_write : {A : Type 0} (array : List A) (value_at : ℕ → A) (d x : A) (start size low tail cell : ℕ) → IsPowerOfTwo size → size ≤ 2 ^ 32 → length array ≡ size → low ≤ tail → tail < low + size → cell ≡ (start + tail) % 2 ^ 32 % size → x ≡ value_at tail → ((k : ℕ) → low ≤ k → k < tail → get_or array ((start + k) % 2 ^ 32 % size) d ≡ value_at k) → (k : ℕ) → low ≤ k → k < tail + 1 → get_or (set array cell x) ((start + k) % 2 ^ 32 % size) d ≡ value_at k
+pub cells_after_write : {A : Type 0} (array : List A) (value_at : ℕ → A) (d x : A) (start size low tail cell : ℕ)
+    → IsPowerOfTwo size → size ≤ 2 ^ 32 → length array ≡ size → low ≤ tail → tail < low + size
+    → cell ≡ (start + tail) % 2 ^ 32 % size → x ≡ value_at tail
+    → ((k : ℕ) → low ≤ k → k < tail → get_or array ((start + k) % 2 ^ 32 % size) d ≡ value_at k) → (k : ℕ) → low ≤ k
+    → k < tail + 1 → get_or (set array cell x) ((start + k) % 2 ^ 32 % size) d ≡ value_at k
 cells_after_write {A} array value_at d x start size low tail cell power fits len ordered near is_cell is_value held k from to =
     let some : 0 < size = omega arith in
     let within : cell < length array = rw (len, is_cell) (mod_below _ size some) in

@@ -19,7 +19,8 @@ slice_get-append_right (x ∷ xs) ys (suc k) past =
     slice_get-append_right xs ys k rest ∙ ap (λ (n : ℕ). slice_get ys n) less
 
 -- what is read from the cell of a word
-pub read_cell : (array : List ℕ) (cell word n size x : ℕ) → x ≡ get_or array cell x → cell ≡ word % n → cell < n → n ≡ size → length array ≡ size → get_or array (word % size) 0 ≡ x
+pub read_cell : (array : List ℕ) (cell word n size x : ℕ) → x ≡ get_or array cell x → cell ≡ word % n → cell < n → n ≡ size
+    → length array ≡ size → get_or array (word % size) 0 ≡ x
 read_cell array cell word n size x read is_cell below same cells =
     let within : cell < length array = omega arith in
     let at : word % size ≡ cell = ap (λ (m : ℕ). word % m) (sym same) ∙ sym is_cell in

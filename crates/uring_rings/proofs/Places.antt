@@ -21,7 +21,8 @@ entries_and_dropped (p ∷ places) =
     rw sum_by-cons (one_more p.entry (entries_of places) (dropped_in places) (length places) (entries_and_dropped places))
 
 -- the next place, at the end of those taken
-pub places_more : (places : List Place) (n t : ℕ) (p : Place) → slice_get places (n + t) ≡ Some p → take (t + 1) (drop n places) ≡ take t (drop n places) ++ p ∷ []
+pub places_more : (places : List Place) (n t : ℕ) (p : Place) → slice_get places (n + t) ≡ Some p
+    → take (t + 1) (drop n places) ≡ take t (drop n places) ++ p ∷ []
 places_more places n t p found =
     let within : n + t < length places = slice_get_within places (n + t) p found in
     let here : get_or (drop n places) t p ≡ p = get_or-drop n places t p ∙ get_or_from_slice_get places (n + t) p p found in
@@ -29,15 +30,18 @@ places_more places n t p found =
     take_more (drop n places) t p short ∙ ap (λ (q : Place). take t (drop n places) ++ q ∷ []) here
 
 -- one more place with an entry is one more entry
-pub entry_more : (places : List Place) (n t : ℕ) (p : Place) (e : Sqe) → slice_get places (n + t) ≡ Some p → p.entry ≡ Some e → length (entries_of (take (t + 1) (drop n places))) ≡ length (entries_of (take t (drop n places))) + 1
+pub entry_more : (places : List Place) (n t : ℕ) (p : Place) (e : Sqe) → slice_get places (n + t) ≡ Some p → p.entry ≡ Some e
+    → length (entries_of (take (t + 1) (drop n places))) ≡ length (entries_of (take t (drop n places))) + 1
 entry_more places n t p e found has =
     rw (places_more places n t p found, filter_map-append, has) (length_push _ _)
 
 -- one more place with no entry is no more entry
-pub dropped_more : (places : List Place) (n t : ℕ) (p : Place) → slice_get places (n + t) ≡ Some p → p.entry ≡ None → length (entries_of (take (t + 1) (drop n places))) ≡ length (entries_of (take t (drop n places)))
+pub dropped_more : (places : List Place) (n t : ℕ) (p : Place) → slice_get places (n + t) ≡ Some p → p.entry ≡ None
+    → length (entries_of (take (t + 1) (drop n places))) ≡ length (entries_of (take t (drop n places)))
 dropped_more places n t p found has =
     rw (places_more places n t p found, filter_map-append, has) (ap length (append-nil _))
 
 -- the words dropped among the first n + m places
-pub dropped_beyond : (places : List Place) (n m : ℕ) → dropped_in (take (n + m) places) ≡ dropped_in (take n places) + dropped_in (take m (drop n places))
+pub dropped_beyond : (places : List Place) (n m : ℕ)
+    → dropped_in (take (n + m) places) ≡ dropped_in (take n places) + dropped_in (take m (drop n places))
 dropped_beyond places n m = rw take-add (sum_by-append _ (take n places) (take m (drop n places)))

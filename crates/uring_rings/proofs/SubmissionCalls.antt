@@ -26,7 +26,8 @@ pub record IsOpen (l : Submission) (open_call : OpenCall) (o : Option Call) : Ty
   pub within : call.taken ≤ call.count
   pub ready : call.count ≤ pending l
 
-pub is_open : (l : Submission) (c : OpenCall) (o : Option Call) → Some c ≡ option_map (progress l) o → IfSome o (λ call. (call.taken ≤ call.count) × (call.count ≤ pending l)) → IsOpen l c o
+pub is_open : (l : Submission) (c : OpenCall) (o : Option Call) → Some c ≡ option_map (progress l) o
+    → IfSome o (λ call. (call.taken ≤ call.count) × (call.count ≤ pending l)) → IsOpen l c o
 is_open l c None is fits = cc
 is_open l c (Some call) is (within, ready) =
     record { call = call; is = refl; same = same_Some c (progress l call) is; within = within; ready = ready }
@@ -42,7 +43,8 @@ pub record TakesPlace (g : Setup) (l : Submission) (c : OpenCall) (word : ℕ) :
   pub found : slice_get l.published (taken l + call.taken) ≡ Some place
   pub of_word : place ≡ place_of g.sq l.content word
 
-pub takes_place : (g : Setup) (q : Sq) (l : Submission) (c : OpenCall) (word : ℕ) → ShowsSubmission g q l → q.call ≡ Some c → (c.taken ≡ c.count → ⊥) → get_or q.array ((q.head + c.taken) % 2 ^ 32 % q.size) 0 ≡ word → TakesPlace g l c word
+pub takes_place : (g : Setup) (q : Sq) (l : Submission) (c : OpenCall) (word : ℕ) → ShowsSubmission g q l → q.call ≡ Some c
+    → (c.taken ≡ c.count → ⊥) → get_or q.array ((q.head + c.taken) % 2 ^ 32 % q.size) 0 ≡ word → TakesPlace g l c word
 takes_place g q l c word s is_call more read =
     let o = is_open l c l.call (sym is_call ∙ s.call) s.call_fits in
     let at : c.taken ≡ o.call.taken = ap (λ (d : OpenCall). d.taken) o.same in
@@ -65,7 +67,8 @@ takes_place g q l c word s is_call more read =
     }
 
 -- what the call answers is what the word's place has
-take_answer_is : (g : Setup) (l : Submission) (c : OpenCall) (word : ℕ) → TakesPlace g l c word → take_answer l ≡ given (cond (ltb word g.sq) (Some (l.content word)) None)
+take_answer_is : (g : Setup) (l : Submission) (c : OpenCall) (word : ℕ) → TakesPlace g l c word
+    → take_answer l ≡ given (cond (ltb word g.sq) (Some (l.content word)) None)
 take_answer_is g l c word t =
     let apart : t.call.taken ≢ t.call.count = λ e. absurd (omega (arith, t.less)) in
     ap (take_in l) t.is
@@ -73,7 +76,8 @@ take_answer_is g l c word t =
     ∙ ap (λ (o : Option Place). given (option_and_then (λ (p : Place). p.entry) o)) t.found
     ∙ ap (λ (p : Place). given p.entry) t.of_word
 
-pub take_gives : (g : Setup) (l : Submission) (c : OpenCall) (word : ℕ) (entry : Sqe) → TakesPlace g l c word → word < g.sq → entry ≡ l.content word → Given entry ≡ take_answer l
+pub take_gives : (g : Setup) (l : Submission) (c : OpenCall) (word : ℕ) (entry : Sqe) → TakesPlace g l c word → word < g.sq
+    → entry ≡ l.content word → Given entry ≡ take_answer l
 take_gives g l c word entry t valid held =
     sym (take_answer_is g l c word t ∙ ap (λ (b : Bool). given (cond b (Some (l.content word)) None)) (lt-ltb word g.sq valid) ∙ ap (λ (e : Sqe). Given e) (sym held))
 
@@ -90,7 +94,9 @@ same_progress c d to at of =
     ap counted to ∙ ap moved at ∙ ap given_so_far of
 
 -- the call goes on by one position
-take_shows : (g : Setup) (q : Sq) (l : Submission) (c : OpenCall) (word n : ℕ) → ShowsSubmission g q l → (t : TakesPlace g l c word) → n ≡ length (entries_of (take (t.call.taken + 1) (drop (taken l) l.published))) → ShowsSubmission g (record q { call = Some (record { count = c.count; taken = c.taken + 1; accepted = n }) }) (taken_on l l.call)
+take_shows : (g : Setup) (q : Sq) (l : Submission) (c : OpenCall) (word n : ℕ) → ShowsSubmission g q l
+    → (t : TakesPlace g l c word) → n ≡ length (entries_of (take (t.call.taken + 1) (drop (taken l) l.published)))
+    → ShowsSubmission g (record q { call = Some (record { count = c.count; taken = c.taken + 1; accepted = n }) }) (taken_on l l.call)
 take_shows g q l c word n s t is_n =
     let at : c.taken ≡ t.call.taken = ap (λ (d : OpenCall). d.taken) t.same in
     let to : c.count ≡ t.call.count = ap (λ (d : OpenCall). d.count) t.same in
@@ -114,7 +120,9 @@ take_shows g q l c word n s t is_n =
       places = s.places;
     })
 
-pub take_gives_shows : (g : Setup) (q : Sq) (l : Submission) (c : OpenCall) (word : ℕ) → ShowsSubmission g q l → TakesPlace g l c word → word < g.sq → ShowsSubmission g (record q { call = Some (record { count = c.count; taken = c.taken + 1; accepted = c.accepted + 1 }) }) (taken_on l l.call)
+pub take_gives_shows : (g : Setup) (q : Sq) (l : Submission) (c : OpenCall) (word : ℕ) → ShowsSubmission g q l
+    → TakesPlace g l c word → word < g.sq
+    → ShowsSubmission g (record q { call = Some (record { count = c.count; taken = c.taken + 1; accepted = c.accepted + 1 }) }) (taken_on l l.call)
 take_gives_shows g q l c word s t valid =
     let has : t.place.entry ≡ Some (l.content word) =
     ap (λ (p : Place). p.entry) t.of_word ∙ ap (λ (b : Bool). cond b (Some (l.content word)) None) (lt-ltb word g.sq valid) in
@@ -122,7 +130,9 @@ take_gives_shows g q l c word s t valid =
     take_shows g q l c word (c.accepted + 1) s t
     (ap (λ (m : ℕ). m + 1) before ∙ sym (entry_more l.published (taken l) t.call.taken t.place (l.content word) t.found has))
 
-pub take_drops_shows : (g : Setup) (q : Sq) (l : Submission) (c : OpenCall) (word : ℕ) → ShowsSubmission g q l → TakesPlace g l c word → g.sq ≤ word → ShowsSubmission g (record q { call = Some (record { count = c.count; taken = c.taken + 1; accepted = c.accepted }) }) (taken_on l l.call)
+pub take_drops_shows : (g : Setup) (q : Sq) (l : Submission) (c : OpenCall) (word : ℕ) → ShowsSubmission g q l
+    → TakesPlace g l c word → g.sq ≤ word
+    → ShowsSubmission g (record q { call = Some (record { count = c.count; taken = c.taken + 1; accepted = c.accepted }) }) (taken_on l l.call)
 take_drops_shows g q l c word s t bad =
     let none : t.place.entry ≡ None =
     ap (λ (p : Place). p.entry) t.of_word ∙ ap (λ (b : Bool). cond b (Some (l.content word)) None) (le-ltb word g.sq bad) in
@@ -138,7 +148,8 @@ pub record IsDone (l : Submission) (c : OpenCall) : Type 0 where
   pub all : call.taken ≡ call.count
   pub ready : call.count ≤ pending l
 
-pub is_done : (g : Setup) (q : Sq) (l : Submission) (c : OpenCall) → ShowsSubmission g q l → q.call ≡ Some c → c.count ≤ c.taken → IsDone l c
+pub is_done : (g : Setup) (q : Sq) (l : Submission) (c : OpenCall) → ShowsSubmission g q l → q.call ≡ Some c → c.count ≤ c.taken
+    → IsDone l c
 is_done g q l c s is_call through =
     let o = is_open l c l.call (sym is_call ∙ s.call) s.call_fits in
     let at : c.taken ≡ o.call.taken = ap (λ (d : OpenCall). d.taken) o.same in
@@ -154,7 +165,8 @@ is_done g q l c s is_call through =
     }
 
 -- the words dropped once the call is closed
-dropped_closed : (g : Setup) (q : Sq) (l : Submission) (c : OpenCall) → ShowsSubmission g q l → (e : IsDone l c) → (q.dropped + (c.count - c.accepted)) % 2 ^ 32 ≡ dropped (with_closed l e.call)
+dropped_closed : (g : Setup) (q : Sq) (l : Submission) (c : OpenCall) → ShowsSubmission g q l → (e : IsDone l c)
+    → (q.dropped + (c.count - c.accepted)) % 2 ^ 32 ≡ dropped (with_closed l e.call)
 dropped_closed g q l c s e =
     let all : taken (with_closed l e.call) ≡ taken l + e.call.count = sum_by_push (λ (n : ℕ). n) l.calls e.call.count in
     let split = entries_and_dropped (take e.call.count (drop (taken l) l.published)) in
@@ -166,7 +178,8 @@ dropped_closed g q l c s e =
     omega (arith, s.dropped, e.count, e.accepted)
 
 -- the head once the call is closed
-head_closed : (g : Setup) (q : Sq) (l : Submission) (c : OpenCall) (head : ℕ) → ShowsSubmission g q l → (e : IsDone l c) → head ≡ (q.head + c.count) % 2 ^ 32 → head ≡ word_of g.start (taken (with_closed l e.call))
+head_closed : (g : Setup) (q : Sq) (l : Submission) (c : OpenCall) (head : ℕ) → ShowsSubmission g q l → (e : IsDone l c)
+    → head ≡ (q.head + c.count) % 2 ^ 32 → head ≡ word_of g.start (taken (with_closed l e.call))
 head_closed g q l c head s e is_head =
     let all : taken (with_closed l e.call) ≡ taken l + e.call.count = sum_by_push (λ (n : ℕ). n) l.calls e.call.count in
     is_head
@@ -175,14 +188,18 @@ head_closed g q l c head s e is_head =
     ∙ word_after g.start (taken l) e.call.count
     ∙ ap (word_of g.start) (sym all)
 
-pub end_answers : (g : Setup) (q : Sq) (l : Submission) (c : OpenCall) (head : ℕ) → ShowsSubmission g q l → IsDone l c → head ≡ (q.head + c.count) % 2 ^ 32 → Closed (record { accepted = c.accepted; dropped = (q.dropped + (c.count - c.accepted)) % 2 ^ 32; head = head }) ≡ end_answer g l
+pub end_answers : (g : Setup) (q : Sq) (l : Submission) (c : OpenCall) (head : ℕ) → ShowsSubmission g q l → IsDone l c
+    → head ≡ (q.head + c.count) % 2 ^ 32
+    → Closed (record { accepted = c.accepted; dropped = (q.dropped + (c.count - c.accepted)) % 2 ^ 32; head = head }) ≡ end_answer g l
 end_answers g q l c head s e is_head =
     let dropped_is = dropped_closed g q l c s e in
     let head_is = head_closed g q l c head s e is_head in
     let accepted_is = e.accepted in
     sym (ap (end_of g l) e.is ∙ ap (λ (b : Bool). cond b (Closed (record { accepted = length (entries_of (places_from l e.call.count)); dropped = dropped (with_closed l e.call); head = word_of g.start (taken (with_closed l e.call)) })) NotAll) (eq-eqb e.call.taken e.call.count e.all) ∙ cc)
 
-pub end_shows : (g : Setup) (q : Sq) (l : Submission) (c : OpenCall) (head : ℕ) → ShowsSubmission g q l → IsDone l c → head ≡ (q.head + c.count) % 2 ^ 32 → ShowsSubmission g (record q { head = head; dropped = (q.dropped + (c.count - c.accepted)) % 2 ^ 32; call = None }) (closed_on l l.call)
+pub end_shows : (g : Setup) (q : Sq) (l : Submission) (c : OpenCall) (head : ℕ) → ShowsSubmission g q l → IsDone l c
+    → head ≡ (q.head + c.count) % 2 ^ 32
+    → ShowsSubmission g (record q { head = head; dropped = (q.dropped + (c.count - c.accepted)) % 2 ^ 32; call = None }) (closed_on l l.call)
 end_shows g q l c head s e is_head =
     let all : taken (with_closed l e.call) ≡ taken l + e.call.count = sum_by_push (λ (n : ℕ). n) l.calls e.call.count in
     subst (λ (o : Option Call). ShowsSubmission g (record q { head = head; dropped = (q.dropped + (c.count - c.accepted)) % 2 ^ 32; call = None }) (closed_on l o)) (sym e.is)

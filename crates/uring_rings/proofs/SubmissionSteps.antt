@@ -21,7 +21,9 @@ pub size_power : (g : Setup) (q : Sq) (l : Submission) → IsSq q.size q.table q
 size_power g q l i s = subst IsPowerOfTwo s.size i.power
 
 -- a word is staged in the next cell
-pub index_shows : (g : Setup) (q : Sq) (l : Submission) (d tail cell word : ℕ) → IsSq q.size q.table q.array q.call → ShowsSubmission g q l → d < 2 ^ 32 → (q.seen_head + d) % 2 ^ 32 ≡ q.tail → (d ≡ q.size → ⊥) → tail ≡ (q.tail + 1) % 2 ^ 32 → cell ≡ q.tail % q.size → ShowsSubmission g (record q { tail = tail; array = set q.array cell word }) (with_staged l word)
+pub index_shows : (g : Setup) (q : Sq) (l : Submission) (d tail cell word : ℕ) → IsSq q.size q.table q.array q.call
+    → ShowsSubmission g q l → d < 2 ^ 32 → (q.seen_head + d) % 2 ^ 32 ≡ q.tail → (d ≡ q.size → ⊥) → tail ≡ (q.tail + 1) % 2 ^ 32
+    → cell ≡ q.tail % q.size → ShowsSubmission g (record q { tail = tail; array = set q.array cell word }) (with_staged l word)
 index_shows g q l d tail cell word i s small leads not_full is_tail is_cell =
     let limit : g.sq ≤ 4096 = size_limit g q l i s in
     let ordered : l.seen_head ≤ staged l = omega (arith, s.seen_first, s.taken_first) in
@@ -55,7 +57,9 @@ index_shows g q l d tail cell word i s small leads not_full is_tail is_cell =
     }
 
 -- a table's slots after one was written
-slot_after_fill : (table : List Sqe) (content : ℕ → Sqe) (slot n : ℕ) (entry : Sqe) → slot < length table → slice_get table n ≡ Some (content n) → n < length table → slice_get (set table slot entry) n ≡ Some (cond (eqb n slot) entry (content n))
+slot_after_fill : (table : List Sqe) (content : ℕ → Sqe) (slot n : ℕ) (entry : Sqe) → slot < length table
+    → slice_get table n ≡ Some (content n) → n < length table
+    → slice_get (set table slot entry) n ≡ Some (cond (eqb n slot) entry (content n))
 slot_after_fill table content slot n entry within old short =
     let kept : n < length (set table slot entry) = simp length-set short in
     slice_get-get_or (set table slot entry) n [] kept
@@ -65,11 +69,14 @@ slot_after_fill table content slot n entry within old short =
     (cases_eq n slot)
 
 -- the place of a word that doesn't name the slot written
-place_kept : (size : ℕ) (content : ℕ → Sqe) (slot : ℕ) (entry : Sqe) (word : ℕ) → word ≢ slot → place_of size content word ≡ place_of size (λ (n : ℕ). cond (eqb n slot) entry (content n)) word
+place_kept : (size : ℕ) (content : ℕ → Sqe) (slot : ℕ) (entry : Sqe) (word : ℕ) → word ≢ slot
+    → place_of size content word ≡ place_of size (λ (n : ℕ). cond (eqb n slot) entry (content n)) word
 place_kept size content slot entry word apart = rw (ne_eqb word slot apart) refl
 
 -- a slot that isn't busy is filled
-pub fill_shows : (g : Setup) (q : Sq) (l : Submission) (slot : ℕ) (entry : Sqe) → IsSq q.size q.table q.array q.call → ShowsSubmission g q l → slot < q.size → is_busy l slot ≡ false → ShowsSubmission g (record q { table = set q.table slot entry }) (with_filled l slot entry)
+pub fill_shows : (g : Setup) (q : Sq) (l : Submission) (slot : ℕ) (entry : Sqe) → IsSq q.size q.table q.array q.call
+    → ShowsSubmission g q l → slot < q.size → is_busy l slot ≡ false
+    → ShowsSubmission g (record q { table = set q.table slot entry }) (with_filled l slot entry)
 fill_shows g q l slot entry i s below free =
     let within : slot < length q.table = omega (arith, i.slots) in
     record {
@@ -90,7 +97,9 @@ fill_shows g q l slot entry i s below free =
     }
 
 -- publishing leaves what an open call took
-progress_kept : (size : ℕ) (l : Submission) (o : Option Call) → IfSome o (λ call. (call.taken ≤ call.count) × (call.count ≤ pending l)) → taken l ≤ length l.published → option_map (progress l) o ≡ option_map (progress (with_published size l)) o
+progress_kept : (size : ℕ) (l : Submission) (o : Option Call)
+    → IfSome o (λ call. (call.taken ≤ call.count) × (call.count ≤ pending l)) → taken l ≤ length l.published
+    → option_map (progress l) o ≡ option_map (progress (with_published size l)) o
 progress_kept size l None fits first = refl
 progress_kept size l (Some call) (within, ready) first =
     let xs : List Place = map (place_of size l.content) l.fresh in
@@ -101,14 +110,17 @@ progress_kept size l (Some call) (within, ready) first =
     ap (λ (ps : List Place). Some (record { count = call.count; taken = call.taken; accepted = length (entries_of ps) })) same
 
 -- publishing leaves an open call's positions published
-fits_kept : (size : ℕ) (l : Submission) (o : Option Call) → IfSome o (λ call. (call.taken ≤ call.count) × (call.count ≤ pending l)) → IfSome o (λ call. (call.taken ≤ call.count) × (call.count ≤ pending (with_published size l)))
+fits_kept : (size : ℕ) (l : Submission) (o : Option Call)
+    → IfSome o (λ call. (call.taken ≤ call.count) × (call.count ≤ pending l))
+    → IfSome o (λ call. (call.taken ≤ call.count) × (call.count ≤ pending (with_published size l)))
 fits_kept size l None fits = fits
 fits_kept size l (Some call) (within, ready) =
     let grown = length-append l.published (map (place_of size l.content) l.fresh) in
     (within, omega arith)
 
 -- a place made of a word is the word's
-placed_by : (size : ℕ) (content : ℕ → Sqe) (ws : List ℕ) (k : ℕ) (p : Place) → slice_get (map (place_of size content) ws) k ≡ Some p → p ≡ place_of size content p.word
+placed_by : (size : ℕ) (content : ℕ → Sqe) (ws : List ℕ) (k : ℕ) (p : Place)
+    → slice_get (map (place_of size content) ws) k ≡ Some p → p ≡ place_of size content p.word
 placed_by size content [] k p found = cc
 placed_by size content (w ∷ ws) zero p found =
     let is : place_of size content w ≡ p = same_Some (place_of size content w) p found in
@@ -116,7 +128,9 @@ placed_by size content (w ∷ ws) zero p found =
 placed_by size content (w ∷ ws) (suc k) p found = placed_by size content ws k p found
 
 -- what holds of the places of two lists holds of those of both together
-placed_both : (P : Place → Type 0) (xs ys : List Place) (low : ℕ) → ((k : ℕ) (p : Place) → low ≤ k → slice_get xs k ≡ Some p → P p) → ((k : ℕ) (p : Place) → slice_get ys k ≡ Some p → P p) → (k : ℕ) (p : Place) → low ≤ k → slice_get (xs ++ ys) k ≡ Some p → P p
+placed_both : (P : Place → Type 0) (xs ys : List Place) (low : ℕ)
+    → ((k : ℕ) (p : Place) → low ≤ k → slice_get xs k ≡ Some p → P p) → ((k : ℕ) (p : Place) → slice_get ys k ≡ Some p → P p)
+    → (k : ℕ) (p : Place) → low ≤ k → slice_get (xs ++ ys) k ≡ Some p → P p
 placed_both P xs ys low first second k p from found =
     ⊎_elim
     (λ (l : k < length xs). first k p from (sym (slice_get-append_left xs ys k l) ∙ found))
@@ -124,7 +138,8 @@ placed_both P xs ys low first second k p from found =
     (cases_lt k (length xs))
 
 -- everything staged is published
-pub store_shows : (g : Setup) (q : Sq) (l : Submission) → ShowsSubmission g q l → ShowsSubmission g (record q { published = q.tail }) (with_published g.sq l)
+pub store_shows : (g : Setup) (q : Sq) (l : Submission) → ShowsSubmission g q l
+    → ShowsSubmission g (record q { published = q.tail }) (with_published g.sq l)
 store_shows g q l s =
     let xs : List Place = map (place_of g.sq l.content) l.fresh in
     let grown : length (l.published ++ xs) ≡ staged l = simp (length-append, length-map) in

@@ -53,7 +53,8 @@ pub record ReadsPlace (g : Setup) (q : Sq) (l : Submission) (count word k : ℕ)
   pub found : slice_get l.published (count + k) ≡ Some place
   pub read : get_or q.array ((word + k) % 2 ^ 32 % q.size) 0 ≡ place.word
 
-pub reads_place : (g : Setup) (q : Sq) (l : Submission) (count word k : ℕ) → ShowsSubmission g q l → word ≡ word_of g.start count → l.seen_head ≤ count → count + k < length l.published → ReadsPlace g q l count word k
+pub reads_place : (g : Setup) (q : Sq) (l : Submission) (count word k : ℕ) → ShowsSubmission g q l → word ≡ word_of g.start count
+    → l.seen_head ≤ count → count + k < length l.published → ReadsPlace g q l count word k
 reads_place g q l count word k s is_word seen within =
     let (p, found) = place_at l (count + k) within in
     let from : l.seen_head ≤ count + k = omega arith in
@@ -69,14 +70,16 @@ reads_place g q l count word k s is_word seen within =
     }
 
 -- the distance of the published tail from the head last loaded
-pub published_above : (g : Setup) (q : Sq) (l : Submission) (d : ℕ) → ShowsSubmission g q l → g.sq ≤ 4096 → d < 2 ^ 32 → (q.seen_head + d) % 2 ^ 32 ≡ q.published → d ≡ length l.published - l.seen_head
+pub published_above : (g : Setup) (q : Sq) (l : Submission) (d : ℕ) → ShowsSubmission g q l → g.sq ≤ 4096 → d < 2 ^ 32
+    → (q.seen_head + d) % 2 ^ 32 ≡ q.published → d ≡ length l.published - l.seen_head
 published_above g q l d s limit small leads =
     let ordered : l.seen_head ≤ length l.published = omega (arith, s.seen_first, s.taken_first) in
     let near : length l.published < l.seen_head + 2 ^ 32 = omega (arith, s.few) in
     distance_of_words g.start (length l.published) l.seen_head d small ordered near (ap (λ (w : ℕ). (w + d) % 2 ^ 32) (sym s.seen_head) ∙ leads ∙ s.published)
 
 -- a slot that a cell above the head last loaded names is busy
-pub busy_at : (g : Setup) (q : Sq) (l : Submission) (k slot : ℕ) → ShowsSubmission g q l → l.seen_head + k < length l.published → get_or q.array ((q.seen_head + k) % 2 ^ 32 % q.size) 0 ≡ slot → is_busy l slot ≡ true
+pub busy_at : (g : Setup) (q : Sq) (l : Submission) (k slot : ℕ) → ShowsSubmission g q l → l.seen_head + k < length l.published
+    → get_or q.array ((q.seen_head + k) % 2 ^ 32 % q.size) 0 ≡ slot → is_busy l slot ≡ true
 busy_at g q l k slot s within named =
     let r = reads_place g q l l.seen_head q.seen_head k s s.seen_head (omega arith) within in
     let short : k < length (drop l.seen_head l.published) = simp length-drop (omega arith) in
@@ -86,7 +89,9 @@ busy_at g q l k slot s within named =
     list_any_at (λ (p : Place). eqb p.word slot) (drop l.seen_head l.published) k r.place short (ap (λ (p : Place). eqb p.word slot) here ∙ eq-eqb r.place.word slot same)
 
 -- a slot that no such cell names isn't
-pub not_busy : (g : Setup) (q : Sq) (l : Submission) (slot : ℕ) → ShowsSubmission g q l → ((k : ℕ) → l.seen_head + k < length l.published → get_or q.array ((q.seen_head + k) % 2 ^ 32 % q.size) 0 ≡ slot → ⊥) → is_busy l slot ≡ false
+pub not_busy : (g : Setup) (q : Sq) (l : Submission) (slot : ℕ) → ShowsSubmission g q l
+    → ((k : ℕ) → l.seen_head + k < length l.published → get_or q.array ((q.seen_head + k) % 2 ^ 32 % q.size) 0 ≡ slot → ⊥)
+    → is_busy l slot ≡ false
 not_busy g q l slot s unnamed =
     list_any_none (λ (p : Place). eqb p.word slot) (drop l.seen_head l.published)
     (λ k d short.
@@ -97,7 +102,8 @@ not_busy g q l slot s unnamed =
     ap (λ (p : Place). eqb p.word slot) here ∙ ne_eqb r.place.word slot (λ e. unnamed k within (r.read ∙ e)))
 
 -- a place above the head last loaded doesn't name a slot that isn't busy
-pub not_named : (l : Submission) (slot k : ℕ) (p : Place) → is_busy l slot ≡ false → l.seen_head ≤ k → slice_get l.published k ≡ Some p → p.word ≢ slot
+pub not_named : (l : Submission) (slot k : ℕ) (p : Place) → is_busy l slot ≡ false → l.seen_head ≤ k
+    → slice_get l.published k ≡ Some p → p.word ≢ slot
 not_named l slot k p free from found named =
     let within : k < length l.published = slice_get_within l.published k p found in
     let short : k - l.seen_head < length (drop l.seen_head l.published) = simp length-drop (omega arith) in
@@ -116,13 +122,17 @@ pub size_limit : (g : Setup) (q : Sq) (l : Submission) → IsSq q.size q.table q
 size_limit g q l i s = omega (arith, i.limit, s.size)
 
 -- the loop over the d positions above the head last loaded found one that names the slot
-pub loop_finds : (g : Setup) (q : Sq) (l : Submission) (d k slot : ℕ) → IsSq q.size q.table q.array q.call → ShowsSubmission g q l → d < 2 ^ 32 → (q.seen_head + d) % 2 ^ 32 ≡ q.published → k < d → get_or q.array ((q.seen_head + k) % 2 ^ 32 % q.size) 0 ≡ slot → is_busy l slot ≡ true
+pub loop_finds : (g : Setup) (q : Sq) (l : Submission) (d k slot : ℕ) → IsSq q.size q.table q.array q.call → ShowsSubmission g q l
+    → d < 2 ^ 32 → (q.seen_head + d) % 2 ^ 32 ≡ q.published → k < d
+    → get_or q.array ((q.seen_head + k) % 2 ^ 32 % q.size) 0 ≡ slot → is_busy l slot ≡ true
 loop_finds g q l d k slot i s small leads below named =
     let above = published_above g q l d s (size_limit g q l i s) small leads in
     busy_at g q l k slot s (omega arith) named
 
 -- it found none
-pub loop_passes : (g : Setup) (q : Sq) (l : Submission) (d k slot : ℕ) → IsSq q.size q.table q.array q.call → ShowsSubmission g q l → d < 2 ^ 32 → (q.seen_head + d) % 2 ^ 32 ≡ q.published → d ≤ k → ((j : ℕ) → j < k → get_or q.array ((q.seen_head + j) % 2 ^ 32 % q.size) 0 ≡ slot → ⊥) → is_busy l slot ≡ false
+pub loop_passes : (g : Setup) (q : Sq) (l : Submission) (d k slot : ℕ) → IsSq q.size q.table q.array q.call
+    → ShowsSubmission g q l → d < 2 ^ 32 → (q.seen_head + d) % 2 ^ 32 ≡ q.published → d ≤ k
+    → ((j : ℕ) → j < k → get_or q.array ((q.seen_head + j) % 2 ^ 32 % q.size) 0 ≡ slot → ⊥) → is_busy l slot ≡ false
 loop_passes g q l d k slot i s small leads all unnamed =
     let above = published_above g q l d s (size_limit g q l i s) small leads in
     not_busy g q l slot s (λ j within. unnamed j (omega arith))
