@@ -2,6 +2,7 @@
 
 ghost use Rattle.std.specs.Prelude.{◌≤◌, IsTrue};
 
+use std::alloc::Global;
 use std::process::Abort;
 use std::test::Fail;
 use uring_dispatch::{Dispatch, Finished, Issued, ReserveError};
@@ -135,24 +136,23 @@ fn each_call(rt: HostRuntime) -> Result<(), Fail> {
     Ok(())
 }
 
-#[test]
-fn refused_reserves(rt: HostRuntime) {
-    let mut dispatch = Dispatch::new(rt.alloc());
+/// What a new dispatcher answers to reserves of more than all numbers, of all of them, and of none, and how many it accepted.
+fn reserves(alloc: Global) -> ([Result<(), ReserveError>; 3], u64) {
+    let mut dispatch = Dispatch::new(alloc);
     let answers = [
         dispatch.reserve(Dispatch::MAX_ACCEPTED + 1),
         dispatch.reserve(Dispatch::MAX_ACCEPTED),
         dispatch.reserve(0),
     ];
-    let accepted = dispatch.accepted();
-    assert_eq!(rt;
-        answers,
-        [
-            Err(ReserveError::Spent),
-            Err(ReserveError::NoMemory),
-            Ok(())
-        ]
-    );
-    assert_eq!(rt; accepted, 0);
+    (answers, dispatch.accepted())
+}
+
+#[test]
+fn refused_reserves(rt: HostRuntime) {
+    let (answers, accepted) = reserves(rt.alloc());
+    assert!(rt; answers[0] == Err(ReserveError::Spent));
+    assert!(rt; answers[1] == Err(ReserveError::NoMemory));
+    assert!(rt; answers[2] == Ok(()) && accepted == 0);
 }
 
 /// Reserves memory for 5,000 requests at once, and accepts as many in one call.
@@ -168,20 +168,32 @@ fn accept_5_000(dispatch: &mut Dispatch) -> Result<(), ReserveError>
     Ok(())
 }
 
-/// With ample memory room is made for 5,000 requests at once, behind as many that were accepted.
-#[test]
-fn thousands_are_accepted(rt: HostRuntime) -> Result<(), Fail> {
-    let mut dispatch = Dispatch::new(rt.alloc());
-    accept_5_000(&mut dispatch)?;
-    accept_5_000(&mut dispatch)?;
+/// Accepts twice as many, and makes room for as many again. What is told then.
+fn accept_thousands(dispatch: &mut Dispatch) -> Result<([u64; 3], Option<Sqe>), ReserveError>
+    requires { IsTrue dispatch.old.is_between_calls }
+{
+    accept_5_000(dispatch)?;
+    accept_5_000(dispatch)?;
     dispatch.reserve(5_000)?;
     let counts = [
         dispatch.accepted(),
         dispatch.outstanding(),
         dispatch.running(),
     ];
-    let last = dispatch.entry(9_999);
+    Ok((counts, dispatch.entry(9_999)))
+}
+
+/// The same of a new dispatcher.
+fn thousands(alloc: Global) -> Result<([u64; 3], Option<Sqe>), ReserveError> {
+    let mut dispatch = Dispatch::new(alloc);
+    accept_thousands(&mut dispatch)
+}
+
+/// With ample memory room is made for 5,000 requests at once, behind as many that were accepted.
+#[test]
+fn thousands_are_accepted(rt: HostRuntime) -> Result<(), Fail> {
+    let (counts, last) = thousands(rt.alloc())?;
     assert_eq!(rt; counts, [10_000, 10_000, 0]);
-    assert_eq!(rt; last, Some(Sqe::nop(4_999, 0)));
+    assert!(rt; last == Some(Sqe::nop(4_999, 0)));
     Ok(())
 }

@@ -2,7 +2,7 @@
 
 ghost use Rattle.std.specs.Prelude.{◌≤◌, length};
 
-use std::process::Abort;
+use std::alloc::{AllocError, Global};
 use std::test::Fail;
 use uring_entry::{Op, Outcome};
 use uring_files::{FileState, Files};
@@ -68,23 +68,33 @@ fn in_turn(files: &mut Files) -> InTurn {
     }
 }
 
-fn check_in_turn(rt: &impl Abort, went: &InTurn) {
-    let mut found = [0; 64];
-    found[2] = 0x61;
-    found[3] = 0x62;
-    assert_eq!(rt; went.results, [2, -27, -9, 0, 0, 0]);
-    assert_eq!(rt; went.read.res, 4);
-    assert_eq!(rt; went.read.bytes, found);
-    assert_eq!(rt; went.bytes, [Some(0), Some(97), None]);
-    assert_eq!(rt; went.first, [standing(4, 1, 0), standing(0, 0, 0), None]);
-    assert_eq!(rt; went.last, [standing(4, 2, 0), standing(4, 2, 2)]);
+impl InTurn {
+    /// Whether the results are right, what was read, and how the files stood.
+    fn are_right(&self) -> [bool; 3] {
+        let mut found = [0; 64];
+        found[2] = 0x61;
+        found[3] = 0x62;
+        [
+            self.results == [2, -27, -9, 0, 0, 0],
+            self.read.res == 4
+                && self.read.bytes == found
+                && self.bytes == [Some(0), Some(97), None],
+            self.first == [standing(4, 1, 0), standing(0, 0, 0), None]
+                && self.last == [standing(4, 2, 0), standing(4, 2, 2)],
+        ]
+    }
+}
+
+/// The same of two new files.
+fn in_turn_on_new_files(alloc: Global) -> Result<[bool; 3], AllocError> {
+    let mut files = Files::new(alloc, 2)?;
+    Ok(in_turn(&mut files).are_right())
 }
 
 #[test]
 fn operations_in_turn(rt: HostRuntime) -> Result<(), Fail> {
-    let mut files = Files::new(rt.alloc(), 2)?;
-    let went = in_turn(&mut files);
-    check_in_turn(&rt, &went);
+    let right = in_turn_on_new_files(rt.alloc())?;
+    assert_eq!(rt; right, [true; 3]);
     Ok(())
 }
 
@@ -129,23 +139,33 @@ static EDGES: [Transfer; 13] = [
     (i32::MIN, 0, 1, -9),
 ];
 
-#[test]
-fn writes_at_the_edges(rt: HostRuntime) -> Result<(), Fail> {
-    let mut files = Files::new(rt.alloc(), 64)?;
-    let wrong = first_wrong_write(&mut files, &EDGES);
+/// Whether all the writes end as they should, how four files stand then, and what a file that isn't there tells.
+fn are_right_at_the_edges(files: &mut Files) -> [bool; 3] {
+    let wrong = first_wrong_write(files, &EDGES);
     let stands = [
         files.state(0),
         files.state(63),
         files.state(64),
         files.state(-1),
     ];
-    let absent = (files.byte(-1, 0), files.apply(&Op::Fsync { fd: 64 }).res);
-    assert_eq!(rt; wrong, None);
-    assert_eq!(rt;
-        stands,
-        [standing(65_536, 3, 0), standing(65_536, 1, 0), None, None]
-    );
-    assert_eq!(rt; absent, (None, -9));
+    let synced = files.apply(&Op::Fsync { fd: 64 }).res;
+    [
+        wrong == None,
+        stands == [standing(65_536, 3, 0), standing(65_536, 1, 0), None, None],
+        files.byte(-1, 0) == None && synced == -9,
+    ]
+}
+
+/// The same of 64 new files.
+fn edges(alloc: Global) -> Result<[bool; 3], AllocError> {
+    let mut files = Files::new(alloc, 64)?;
+    Ok(are_right_at_the_edges(&mut files))
+}
+
+#[test]
+fn writes_at_the_edges(rt: HostRuntime) -> Result<(), Fail> {
+    let right = edges(rt.alloc())?;
+    assert_eq!(rt; right, [true; 3]);
     Ok(())
 }
 
@@ -170,22 +190,33 @@ static READS_OF_A_FULL_FILE: [Transfer; 7] = [
     (-1, 0, 0, -9),
 ];
 
-#[test]
-fn reads_of_a_full_file(rt: HostRuntime) -> Result<(), Fail> {
-    let mut files = Files::new(rt.alloc(), 1)?;
-    let failures = failures_of_filling(&mut files);
-    let over = write(&mut files, 0, 65_536, &[7]);
-    let stands = files.state(0);
+/// Whether file 0 is filled, how it stands then, its last bytes, and whether all the reads end as they should.
+fn are_right_of_a_full_file(files: &mut Files) -> [bool; 4] {
+    let failures = failures_of_filling(files);
+    let over = write(files, 0, 65_536, &[7]);
     let bytes = [
         files.byte(0, 65_535),
         files.byte(0, 65_536),
         files.byte(0, u64::MAX),
     ];
-    let wrong = first_wrong_read(&mut files, &READS_OF_A_FULL_FILE);
-    assert_eq!(rt; (failures, over), (0, -27));
-    assert_eq!(rt; stands, standing(65_536, 1_024, 0));
-    assert_eq!(rt; bytes, [Some(7), None, None]);
-    assert_eq!(rt; wrong, None);
+    [
+        failures == 0 && over == -27,
+        files.state(0) == standing(65_536, 1_024, 0),
+        bytes == [Some(7), None, None],
+        first_wrong_read(files, &READS_OF_A_FULL_FILE) == None,
+    ]
+}
+
+/// The same of a new file.
+fn full_file(alloc: Global) -> Result<[bool; 4], AllocError> {
+    let mut files = Files::new(alloc, 1)?;
+    Ok(are_right_of_a_full_file(&mut files))
+}
+
+#[test]
+fn reads_of_a_full_file(rt: HostRuntime) -> Result<(), Fail> {
+    let right = full_file(rt.alloc())?;
+    assert_eq!(rt; right, [true; 4]);
     Ok(())
 }
 
@@ -215,25 +246,42 @@ fn failures_behind_gaps(files: &mut Files) -> usize {
     failures
 }
 
+/// Whether the writes to one file end as they should, and what it has and how it stands then.
+fn are_right_behind_gaps(file: &mut Files) -> [bool; 3] {
+    let wrong = first_wrong_write(file, &GAPS);
+    let bytes = [
+        file.byte(0, 3),
+        file.byte(0, 5),
+        file.byte(0, 65_471),
+        file.byte(0, 65_535),
+    ];
+    [
+        wrong == None,
+        bytes == [Some(7), Some(0), Some(0), Some(7)],
+        file.state(0) == standing(65_536, 9, 0),
+    ]
+}
+
+/// The same of a new file.
+fn gaps_in_one(alloc: Global) -> Result<[bool; 3], AllocError> {
+    let mut file = Files::new(alloc, 1)?;
+    Ok(are_right_behind_gaps(&mut file))
+}
+
+/// How many writes to 64 new files end otherwise, and how the last file stands then.
+fn gaps_in_many(alloc: Global) -> Result<(usize, Option<FileState>), AllocError> {
+    let mut files = Files::new(alloc, 64)?;
+    let failures = failures_behind_gaps(&mut files);
+    Ok((failures, files.state(63)))
+}
+
 /// With ample memory no write is out of memory, however many files there are and however far it lies behind a file's end.
 #[test]
 fn gaps_in_files_that_are_not_empty(rt: HostRuntime) -> Result<(), Fail> {
-    let mut one = Files::new(rt.alloc(), 1)?;
-    let wrong = first_wrong_write(&mut one, &GAPS);
-    let bytes = [
-        one.byte(0, 3),
-        one.byte(0, 5),
-        one.byte(0, 65_471),
-        one.byte(0, 65_535),
-    ];
-    let stands = one.state(0);
-    let mut many = Files::new(rt.alloc(), 64)?;
-    let failures = failures_behind_gaps(&mut many);
-    let last = many.state(63);
-    assert_eq!(rt; wrong, None);
-    assert_eq!(rt; bytes, [Some(7), Some(0), Some(0), Some(7)]);
-    assert_eq!(rt; stands, standing(65_536, 9, 0));
-    assert_eq!(rt; (failures, last), (0, standing(63_006, 2, 0)));
+    let right = gaps_in_one(rt.alloc())?;
+    let (failures, last) = gaps_in_many(rt.alloc())?;
+    assert_eq!(rt; right, [true; 3]);
+    assert!(rt; failures == 0 && last == standing(63_006, 2, 0));
     Ok(())
 }
 
@@ -261,31 +309,47 @@ fn grow_twice(files: &mut Files) -> Grown {
     }
 }
 
-fn check_grown(rt: &impl Abort, grown: &Grown) {
-    match grown.results {
-        (first, -12) => {
-            assert_eq!(rt; first, 2);
-            assert_eq!(rt; grown.stands, [standing(2, 1, 0), standing(2, 1, 0)]);
-            assert_eq!(rt; grown.bytes, [Some(97), Some(98), None, None]);
-        }
-        (-12, second) => {
-            assert_eq!(rt; second, 2);
-            assert_eq!(rt; grown.stands, [standing(0, 0, 0), standing(5_002, 1, 0)]);
-            assert_eq!(rt; grown.bytes, [Some(0), Some(0), Some(0), Some(100)]);
-        }
-        results => {
-            assert_eq!(rt; results, (2, 2));
-            assert_eq!(rt; grown.stands, [standing(2, 1, 0), standing(5_002, 2, 0)]);
-            assert_eq!(rt; grown.bytes, [Some(97), Some(98), Some(0), Some(100)]);
-        }
+impl Grown {
+    /// Whether these are its results, how it stood, and its bytes.
+    fn is(
+        &self,
+        results: (i32, i32),
+        stands: [Option<FileState>; 2],
+        bytes: [Option<u8>; 4],
+    ) -> bool {
+        self.results == results && self.stands == stands && self.bytes == bytes
     }
+
+    /// Whether the first write was out of memory and nothing else.
+    fn lacks_the_first(&self) -> bool {
+        let stands = [standing(0, 0, 0), standing(5_002, 1, 0)];
+        self.is((-12, 2), stands, [Some(0), Some(0), Some(0), Some(100)])
+    }
+
+    /// Whether the second write was out of memory and nothing else.
+    fn lacks_the_second(&self) -> bool {
+        let stands = [standing(2, 1, 0), standing(2, 1, 0)];
+        self.is((2, -12), stands, [Some(97), Some(98), None, None])
+    }
+
+    /// Whether both wrote.
+    fn is_whole(&self) -> bool {
+        let stands = [standing(2, 1, 0), standing(5_002, 2, 0)];
+        self.is((2, 2), stands, [Some(97), Some(98), Some(0), Some(100)])
+    }
+}
+
+/// Whether a new file grew by both writes, or by one of them where memory was refused to the other.
+fn grows_or_stays(alloc: Global) -> Result<bool, AllocError> {
+    let mut files = Files::new(alloc, 1)?;
+    let went = grow_twice(&mut files);
+    Ok(went.is_whole() || went.lacks_the_first() || went.lacks_the_second())
 }
 
 /// With ample memory the writes grow the file. Run with one allocation refused, one of them ends with -12 and leaves the file as before.
 #[test]
 fn a_file_grows_or_stays(rt: HostRuntime) -> Result<(), Fail> {
-    let mut files = Files::new(rt.alloc(), 1)?;
-    let went = grow_twice(&mut files);
-    check_grown(&rt, &went);
+    let is_right = grows_or_stays(rt.alloc())?;
+    assert!(rt; is_right);
     Ok(())
 }
