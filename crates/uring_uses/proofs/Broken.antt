@@ -16,7 +16,8 @@ use Rattle.uring_machine.specs.declared.answer.Answer.TheVariants as answer
 use Rattle.uring_uses.specs.Simulations.{IsNextInChain}
 
 -- who failed with a negative result dooms the next behind its soft link
-next_doomed : (r : Requests) (n below : ℕ) (bytes : List ℕ) → IsNextInChain r n → is_doomed (with_ended r n (negsuc below) bytes) (n + 1) ≡ true
+next_doomed : (r : Requests) (n below : ℕ) (bytes : List ℕ) → IsNextInChain r n
+    → is_doomed (with_ended r n (negsuc below) bytes) (n + 1) ≡ true
 next_doomed r n below bytes next =
     let after : Requests = with_ended r n (negsuc below) bytes in
     let unended : has_ended r n ≡ false = not-true _ (and_parts _ _ next.runs).1 in
@@ -30,7 +31,8 @@ next_doomed r n below bytes next =
       failed = has_failed-same r n (negsuc below) bytes unended;
     }))
 
-doomed_ends : (outstanding running doomed ready cancel : Bool) (as_doomed as_cancel : ℤ) → outstanding ≡ true → running ≡ false → doomed ≡ true
+doomed_ends : (outstanding running doomed ready cancel : Bool) (as_doomed as_cancel : ℤ) → outstanding ≡ true → running ≡ false
+    → doomed ≡ true
     → (if not outstanding then answer.Unknown else (if running then answer.Running else (if doomed then answer.Ended as_doomed no_bytes else (if not ready then answer.NotReady else (if cancel then answer.Ended as_cancel no_bytes else answer.Run))))) ≡ answer.Ended as_doomed no_bytes
 doomed_ends false running doomed ready cancel x y o r d = cc
 doomed_ends true true doomed ready cancel x y o r d = cc
@@ -38,7 +40,8 @@ doomed_ends true false false ready cancel x y o r d = cc
 doomed_ends true false true ready cancel x y o r d = refl
 
 -- so its issue ends it
-pub next_cancelled : (w : World) (after : World) (n below : ℕ) (bytes : List ℕ) → IsNextInChain w.requests n → after.requests ≡ with_ended w.requests n (negsuc below) bytes
+pub next_cancelled : (w : World) (after : World) (n below : ℕ) (bytes : List ℕ) → IsNextInChain w.requests n
+    → after.requests ≡ with_ended w.requests n (negsuc below) bytes
     → issue_answer after (n + 1) ≡ answer.Ended (doomed_result w.requests (n + 1)) no_bytes
 next_cancelled w after n below bytes next is =
     let r : Requests = w.requests in
@@ -51,7 +54,8 @@ next_cancelled w after n below bytes next is =
     (doomed_ends (is_outstanding e (n + 1)) (is_running e (n + 1)) (is_doomed e (n + 1)) (is_ready e (n + 1)) (is_cancel (entry_of e (n + 1))) (doomed_result e (n + 1)) (cancel_result e (n + 1)) outstanding running (next_doomed r n below bytes next))
 
 -- the failure is a finish, and the issue is the next step
-pub cancelled_after : (g : Setup) (h : History) (n below : ℕ) (bytes : List ℕ) (a b : Answer) → IsNextInChain (world g h).requests n → a ≡ answer.Ended (negsuc below) bytes
+pub cancelled_after : (g : Setup) (h : History) (n below : ℕ) (bytes : List ℕ) (a b : Answer)
+    → IsNextInChain (world g h).requests n → a ≡ answer.Ended (negsuc below) bytes
     → b ≡ issue_answer (world g ((step.Finish n, a) ∷ h)) (n + 1) → b ≡ answer.Ended (doomed_result (world g h).requests (n + 1)) no_bytes
 cancelled_after g h n below bytes a b next failed is =
     let told : b ≡ issue_answer (world g ((step.Finish n, answer.Ended (negsuc below) bytes) ∷ h)) (n + 1) = subst (λ d. b ≡ issue_answer (world g ((step.Finish n, d) ∷ h)) (n + 1)) failed is in

@@ -22,7 +22,8 @@ ended_or true waits back waiting = refl
 ended_or false waits back waiting = cc
 
 -- what a request that runs waits for has ended
-pub run_waits_for_none : (w : World) (n m : ℕ) → answer.Run ≡ issue_answer w n → m < n → waits_for w.requests n m ≡ true → has_ended w.requests m ≡ true
+pub run_waits_for_none : (w : World) (n m : ℕ) → answer.Run ≡ issue_answer w n → m < n → waits_for w.requests n m ≡ true
+    → has_ended w.requests m ≡ true
 run_waits_for_none w n m is lt waits =
     let r : Requests = w.requests in
     ended_or (has_ended r m) (waits_for r n m)
