@@ -1,4 +1,5 @@
 pub mod Counting
+pub mod BlockLemmas
 pub mod WindowLemmas
 pub mod WindowEvents
 pub mod WindowFront

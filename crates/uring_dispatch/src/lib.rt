@@ -1,6 +1,7 @@
 //! The dispatcher of an io_uring pair of rings: it numbers the requests that are accepted, and says of each whether it may start, waits, is cancelled or has ended.
 #![tactic(auto)]
 
+mod blocks;
 mod dispatch;
 mod events;
 mod finish_answer;
@@ -8,6 +9,7 @@ mod group;
 mod groups;
 mod issue_answer;
 pub mod laws;
+mod number_set;
 mod refusal;
 mod request;
 mod standing;
