@@ -1,5 +1,6 @@
 pub mod Counting
 pub mod BlockLemmas
+pub mod WaitingLemmas
 pub mod WindowLemmas
 pub mod WindowEvents
 pub mod WindowFront

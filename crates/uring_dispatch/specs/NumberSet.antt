@@ -69,3 +69,22 @@ pub record IsFilled (numbers filled : NumberSet) : Type 0 where
   pub places : (i : ℕ) → holds filled i ≡ not (block_at numbers i == 0)
   pub start : start_of filled ≤ numbers.first
   pub stop : numbers.first + length numbers.blocks ≤ stop_of filled
+
+-- The same set over the same numbers, with no less memory.
+pub record HasSame (old new : NumberSet) : Type 0 where
+  pub same : IsSameSet old new
+  pub start : new.first ≡ old.first
+  pub stop : stop_of new ≡ stop_of old
+
+-- The same set, which covers n too.
+pub record HasGrown (old new : NumberSet) (n : ℕ) : Type 0 where
+  pub same : IsSameSet old new
+  pub start : new.first ≡ old.first
+  pub longer : stop_of old ≤ stop_of new
+  pub covered : n < stop_of new
+
+-- The same set, which may cover fewer numbers, but no fewer of those from n on.
+pub record HasMoved (old new : NumberSet) (n : ℕ) : Type 0 where
+  pub same : IsSameSet old new
+  pub start : (m : ℕ) → start_of old ≤ m → n ≤ m → start_of new ≤ m
+  pub stop : stop_of new ≡ stop_of old

@@ -128,8 +128,7 @@ impl Blocks {
 
     /// Drops blocks that are zero, from the front on, and below the number `n`.
     pub(crate) fn drop_before(&mut self, n: u64)
-        requires { start_of self.old ≤ n }
-        ensures start { start_of self.new ≤ n }
+        ensures start { (m : ℕ) → start_of self.old ≤ m → n ≤ m → start_of self.new ≤ m }
         ensures up { self.old.first ≤ self.new.first }
         ensures stop { stop_of self.new ≡ stop_of self.old }
         ensures same { IsSameSet self.old self.new }
@@ -184,8 +183,7 @@ fn first_filled(blocks: &VecDeque<u64>) -> Option<usize>
 
 /// Drops blocks that are zero from the front on, up to this place.
 fn drop_zeros(first: &mut u64, blocks: &mut VecDeque<u64>, place: u64)
-    requires { first.old ≤ place }
-    ensures start { first.new ≤ place }
+    ensures start { (m : ℕ) → first.old ≤ m → place ≤ m → first.new ≤ m }
     ensures same { (i : ℕ) → block_of first.new blocks.new.items i ≡ block_of first.old blocks.old.items i }
     ensures stop { first.new + deque_len blocks.new ≡ first.old + deque_len blocks.old }
     ensures longer { first.old ≤ first.new }

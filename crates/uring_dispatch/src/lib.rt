@@ -13,6 +13,7 @@ mod number_set;
 mod refusal;
 mod request;
 mod standing;
+mod waiting;
 mod window;
 
 pub use dispatch::Dispatch;

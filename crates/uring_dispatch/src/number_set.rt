@@ -1,7 +1,7 @@
 //! A set of numbers that gives its least one at once.
 
 ghost use Rattle.std.specs.Prelude.{◌≡◌, ℕ, ◌+◌, ◌^◌, ◌<◌, ◌≤◌, true, false, OnOk, MatchOption};
-ghost use Rattle.uring_dispatch.specs.NumberSet.{holds, start_of, stop_of, Covers, Puts, IsSameSet, IsLeastIn};
+ghost use Rattle.uring_dispatch.specs.NumberSet.{holds, start_of, stop_of, Covers, Puts, IsLeastIn, HasSame, HasGrown, HasMoved};
 
 use crate::blocks::{Blocks, lowest};
 use std::alloc::{AllocError, Global};
@@ -47,9 +47,7 @@ impl NumberSet {
     pub(crate) fn reserve(&mut self, count: u64) -> Result<(), AllocError>
         requires { count < 2 ^ 63 }
         ensures ok { OnOk result (stop_of self.old + count ≤ self.new.limit) }
-        ensures same { IsSameSet self.old self.new }
-        ensures start { self.new.first ≡ self.old.first }
-        ensures stop { stop_of self.new ≡ stop_of self.old }
+        ensures same { HasSame self.old self.new }
     {
         self.filled.reserve(count / 64 + 2)?;
         self.numbers.reserve(count)
@@ -60,17 +58,14 @@ impl NumberSet {
         requires follows { n ≤ stop_of self.old }
         requires room { n < self.old.limit }
         requires fits { n < 2 ^ 63 }
-        ensures covered { n < stop_of self.new }
-        ensures longer { stop_of self.old ≤ stop_of self.new }
-        ensures same { IsSameSet self.old self.new }
-        ensures start { self.new.first ≡ self.old.first }
+        ensures { HasGrown self.old self.new n }
     {
         self.numbers.extend(n);
         self.filled.extend(n / 64);
     }
 
     /// Puts the number `n` into the set.
-    pub(crate) fn insert(&mut self, n: u64)
+    fn insert(&mut self, n: u64)
         requires { Covers self.old n }
         ensures { Puts self.old self.new n true }
     {
@@ -79,13 +74,25 @@ impl NumberSet {
     }
 
     /// Takes the number `n` out of the set.
-    pub(crate) fn remove(&mut self, n: u64)
+    fn remove(&mut self, n: u64)
         requires { Covers self.old n }
         ensures { Puts self.old self.new n false }
     {
         self.numbers.remove(n);
         if self.numbers.block(n / 64) == 0 {
             self.filled.remove(n / 64);
+        }
+    }
+
+    /// Puts the number `n` into the set if this holds, and takes it out otherwise.
+    pub(crate) fn put(&mut self, n: u64, is_in: bool)
+        requires { Covers self.old n }
+        ensures { Puts self.old self.new n is_in }
+    {
+        if is_in {
+            self.insert(n);
+        } else {
+            self.remove(n);
         }
     }
 
@@ -99,10 +106,7 @@ impl NumberSet {
 
     /// Lets go what is kept for numbers before `n`, as far as none of them is in the set.
     pub(crate) fn drop_before(&mut self, n: u64)
-        requires { start_of self.old ≤ n }
-        ensures start { start_of self.new ≤ n }
-        ensures stop { stop_of self.new ≡ stop_of self.old }
-        ensures same { IsSameSet self.old self.new }
+        ensures { HasMoved self.old self.new n }
     {
         self.numbers.drop_before(n);
         self.filled.drop_before(self.numbers.first());

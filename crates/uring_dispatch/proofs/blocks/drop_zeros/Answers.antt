@@ -14,7 +14,7 @@ loop-first-preserved c =
     let is = popped _ _ _ c.in-Some-eq0.field-0.now c.pop_front.ensures.items (λ d. c.pop_front.ensures.value d some) c.in-Some-eq0.ensures.lookup c.in-Some-eq0.field-0-test in
     let one : length (option_to_list c.pop_front.result) ≡ 1 = ap (λ o. length (option_to_list o)) (c.pop_front.ensures.value 0 some) in
     record {
-      start = omega arith;
+      start = λ m from to. omega arith;
       same = λ i. block_of-pop _ _ i ∙ ap (λ bs. block_of c.loop-first.first bs i) (sym is) ∙ c.loop-first.invariant.same i;
       stop = omega (arith, c.loop-first.invariant.stop);
       longer = omega (arith, c.loop-first.invariant.longer);

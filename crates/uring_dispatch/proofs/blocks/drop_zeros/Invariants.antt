@@ -6,7 +6,7 @@ use Rattle.uring_dispatch.proofs.blocks.drop_zeros.Given as goal
 abbrev pub invariant-loop-first : goal.invariant-loop-first
 invariant-loop-first l =
     record {
-      start : l.first ≤ l.place;
+      start : (m : ℕ) → l.initial.first ≤ m → l.place ≤ m → l.first ≤ m;
       same : (i : ℕ) → block_of l.first l.blocks.items i ≡ block_of l.initial.first l.initial.blocks.items i;
       stop : l.first + deque_len l.blocks ≡ l.initial.first + deque_len l.initial.blocks;
       longer : l.initial.first ≤ l.first;

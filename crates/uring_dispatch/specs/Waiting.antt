@@ -1,0 +1,68 @@
+-- Glue. Which of the outstanding requests wait at the head of their group, and which are doomed.
+use Rattle.std.specs.Prelude.{◌≡◌, ℕ, ◌<◌, ◌≤◌, Bool, true, false, not, ◌&&◌, ◌||◌, ◌==◌, Option, Some, None, is_some}
+use Rattle.uring_entry.specs.Groups.{is_before}
+use Rattle.uring_dispatch.specs.declared.request.Request.{Request}
+use Rattle.uring_dispatch.specs.declared.group.Group.{Group}
+use Rattle.uring_dispatch.specs.declared.waiting.Waiting.{Waiting}
+use Rattle.uring_dispatch.specs.NumberSet.{NumberSet, holds, start_of, stop_of, Covers}
+use Rattle.uring_dispatch.specs.Window.{Window, at, end_of}
+use Rattle.uring_dispatch.specs.Groups.{Groups, group_at}
+
+-- whether n is the least outstanding member of this group
+abbrev pub leads : Option Group → ℕ → Bool
+leads None n = false
+leads (Some p) n = p.least == n
+
+-- whether this group dooms its member n
+abbrev pub dooms : Option Group → ℕ → Bool
+dooms None n = false
+dooms (Some p) n = is_some p.fault || is_before p.broken n
+
+-- whether this request, of number n, waits at the head of its group
+abbrev pub is_head : Groups → Option Request → ℕ → Bool
+is_head g None n = false
+is_head g (Some q) n = not q.is_running && leads (group_at g q.group) n
+
+-- whether this request, of number n, waits and is doomed
+abbrev pub is_lost : Groups → Option Request → ℕ → Bool
+is_lost g None n = false
+is_lost g (Some q) n = not q.is_running && (dooms (group_at g q.group) n || q.is_cancelled)
+
+-- It is told of n whether it waits at the head of its group, and whether it is doomed.
+pub record IsListedAt (w : Window) (g : Groups) (s : Waiting) (n : ℕ) : Type 0 where
+  pub head : holds s.heads n ≡ is_head g (at w n) n
+  pub lost : holds s.doomed n ≡ is_lost g (at w n) n
+
+-- A set covers the outstanding requests, and may go on behind the last.
+pub record Reaches (w : Window) (s : NumberSet) : Type 0 where
+  pub start : start_of s ≤ end_of w
+  pub stop : end_of w ≤ stop_of s
+  pub low : (n : ℕ) → is_some (at w n) ≡ true → start_of s ≤ n
+
+-- It is told of each request.
+pub record IsListed (w : Window) (g : Groups) (s : Waiting) : Type 0 where
+  pub told : (n : ℕ) → IsListedAt w g s n
+  pub heads : Reaches w s.heads
+  pub doomed : Reaches w s.doomed
+
+-- the sets can tell of n
+pub record CanTell (s : Waiting) (n : ℕ) : Type 0 where
+  pub heads : Covers s.heads n
+  pub doomed : Covers s.doomed n
+
+-- the same numbers are covered, with the same memory
+pub record IsSameReach (old new : NumberSet) : Type 0 where
+  pub start : start_of new ≡ start_of old
+  pub stop : stop_of new ≡ stop_of old
+  pub limit : new.limit ≡ old.limit
+
+-- What is told of other numbers stays right, and what is covered stays.
+pub record Keeps (w : Window) (g : Groups) (old new : Waiting) : Type 0 where
+  pub told : (k : ℕ) → IsListedAt w g old k → IsListedAt w g new k
+  pub heads : IsSameReach old.heads new.heads
+  pub doomed : IsSameReach old.doomed new.doomed
+
+-- What is to be told of the request k is as it was.
+pub record StandsAsBefore (w v : Window) (g h : Groups) (k : ℕ) : Type 0 where
+  pub head : is_head h (at v k) k ≡ is_head g (at w k) k
+  pub lost : is_lost h (at v k) k ≡ is_lost g (at w k) k
