@@ -1,6 +1,7 @@
 -- Glue. Which of the outstanding requests wait at the head of their group, and which are doomed.
 use Rattle.std.specs.Prelude.{◌≡◌, ℕ, ◌<◌, ◌≤◌, Bool, true, false, not, ◌&&◌, ◌||◌, ◌==◌, Option, Some, None, is_some}
 use Rattle.uring_entry.specs.Groups.{is_before}
+use Rattle.uring_entry.specs.Requests.{Requests, is_issuable, is_outstanding, is_running, is_ready}
 use Rattle.uring_dispatch.specs.declared.request.Request.{Request}
 use Rattle.uring_dispatch.specs.declared.group.Group.{Group}
 use Rattle.uring_dispatch.specs.declared.waiting.Waiting.{Waiting}
@@ -66,3 +67,37 @@ pub record Keeps (w : Window) (g : Groups) (old new : Waiting) : Type 0 where
 pub record StandsAsBefore (w v : Window) (g h : Groups) (k : ℕ) : Type 0 where
   pub head : is_head h (at v k) k ≡ is_head g (at w k) k
   pub lost : is_lost h (at v k) k ≡ is_lost g (at w k) k
+
+-- There is no less memory.
+pub record HasMemory (old new : Waiting) : Type 0 where
+  pub heads : old.heads.limit ≤ new.heads.limit
+  pub doomed : old.doomed.limit ≤ new.doomed.limit
+
+-- The set can cover n, the number behind those that are covered, or covers it.
+pub record CanGrow (s : NumberSet) (n : ℕ) : Type 0 where
+  pub start : start_of s ≤ n
+  pub stop : n ≤ stop_of s
+  pub room : n < s.limit
+
+-- n is covered, and no more is missing than before
+pub record GrowsTo (old new : NumberSet) (n : ℕ) : Type 0 where
+  pub start : start_of new ≡ start_of old
+  pub longer : stop_of old ≤ stop_of new
+  pub covered : n < stop_of new
+  pub limit : old.limit ≤ new.limit
+
+-- what is covered begins with n or before it
+pub record Starts (s : Waiting) (n : ℕ) : Type 0 where
+  pub heads : start_of s.heads ≤ n
+  pub doomed : start_of s.doomed ≤ n
+
+-- From here on and up to n the members are told of anew: from the group's least one on, if n's fault is its first.
+pub record IsFirstTold (g : Groups) (n key from : ℕ) : Type 0 where
+  pub within : from ≤ n
+  pub all : (p : Group) → group_at g key ≡ Some p → p.fault ≡ Some n → from ≤ p.least
+  pub low : from < n → (p : Group) × (group_at g key ≡ Some p) × (p.least ≤ from)
+
+-- The first request that waits at the head of its group, if it is ready; else no request is that isn't doomed.
+pub record IsReadyHead (r : Requests) (found : Option ℕ) : Type 0 where
+  pub some : (n : ℕ) → found ≡ Some n → is_issuable r n ≡ true
+  pub all : (k : ℕ) → is_outstanding r k ≡ true → is_running r k ≡ false → is_ready r k ≡ true → (n : ℕ) × (found ≡ Some n) × (n ≤ k)

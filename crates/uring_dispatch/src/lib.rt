@@ -9,6 +9,7 @@ mod group;
 mod groups;
 mod issue_answer;
 pub mod laws;
+mod next;
 mod number_set;
 mod refusal;
 mod request;

@@ -3,7 +3,8 @@
 ghost use Rattle.std.specs.Prelude.{◌≡◌, ℕ, ◌+◌, ◌^◌, ◌<◌, ◌≤◌, false, Some, OnOk};
 ghost use Rattle.uring_dispatch.specs.NumberSet.{holds, start_of, stop_of, HasSame, HasGrown, HasMoved};
 ghost use Rattle.uring_dispatch.specs.Window.{at};
-ghost use Rattle.uring_dispatch.specs.Waiting.{is_head, is_lost, dooms, IsListedAt, CanTell, Keeps};
+ghost use Rattle.uring_dispatch.specs.Groups.{group_at};
+ghost use Rattle.uring_dispatch.specs.Waiting.{is_head, is_lost, dooms, IsListedAt, CanTell, Keeps, CanGrow, GrowsTo, Starts, IsFirstTold};
 
 use crate::group::{Group, is_before};
 use crate::groups::Groups;
@@ -53,18 +54,22 @@ impl Waiting {
         self.doomed.reserve(count)
     }
 
-    /// Covers the number `n`, the one behind the last request.
-    pub(crate) fn extend(&mut self, n: u64)
-        requires heads { n ≤ stop_of self.old.heads }
-        requires heads_room { n < self.old.heads.limit }
-        requires doomed { n ≤ stop_of self.old.doomed }
-        requires doomed_room { n < self.old.doomed.limit }
+    /// Tells of the new request `n` and, if its fault is the first of its group, which has this key, of all members anew.
+    pub(crate) fn accept(&mut self, window: &Window, groups: &Groups, n: u64, key: usize)
+        requires heads { CanGrow self.old.heads n }
+        requires doomed { CanGrow self.old.doomed n }
         requires fits { n < 2 ^ 63 }
-        ensures heads { HasGrown self.old.heads self.new.heads n }
-        ensures doomed { HasGrown self.old.doomed self.new.doomed n }
+        requires low { (p : Group) → group_at groups.now key ≡ Some p → Starts self.old p.least }
+        ensures own { IsListedAt window.now groups.now self.new n }
+        ensures members { (p : Group) → group_at groups.now key ≡ Some p → p.fault ≡ Some n → (k : ℕ) → p.least ≤ k → k < n → IsListedAt window.now groups.now self.new k }
+        ensures told { (k : ℕ) → IsListedAt window.now groups.now self.old k → IsListedAt window.now groups.now self.new k }
+        ensures heads_reach { GrowsTo self.old.heads self.new.heads n }
+        ensures doomed_reach { GrowsTo self.old.doomed self.new.doomed n }
     {
         self.heads.extend(n);
         self.doomed.extend(n);
+        let from = first_told(groups, n, key);
+        self.relist_range(window, groups, from, n + 1);
     }
 
     /// Tells anew of request `n` whether it waits at the head of its group, and whether it is doomed.
@@ -96,6 +101,19 @@ impl Waiting {
     {
         self.heads.drop_before(n);
         self.doomed.drop_before(n);
+    }
+}
+
+/// The first of the members that are doomed by the fault of the new member `n`, or else `n` itself.
+fn first_told(groups: &Groups, n: u64, key: usize) -> u64
+    ensures { IsFirstTold groups.now n key result }
+{
+    match groups.get(key) {
+        Some(group) => match group.fault {
+            Some(m) if m == n => group.least.min(n),
+            _ => n,
+        },
+        None => n,
     }
 }
 
