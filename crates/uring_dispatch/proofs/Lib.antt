@@ -1,6 +1,7 @@
 pub mod Counting
 pub mod BlockLemmas
 pub mod WaitingLemmas
+pub mod NextLemmas
 pub mod WindowLemmas
 pub mod WindowEvents
 pub mod WindowFront

@@ -260,3 +260,23 @@ end-listed w v g h s t u n head stop first l c end others keeps own at_head betw
                     ]
               ]
         ]
+
+-- A request was written, and it was told of anew.
+pub write-listed : (w v : Window) (g : Groups) (s t : Waiting) (n : ℕ) (q : Request) → IsListed w g s → is_some (at w n) ≡ true → Changes w v n (Some q) → end_of v ≡ end_of w → Keeps v g s t → IsListedAt v g t n → IsListed v g t
+write-listed w v g s t n q l there c end keeps own =
+    let as_many : (k : ℕ) → is_some (at v k) ≡ true → is_some (at w k) ≡ true =
+    λ k some.
+    elim (cases_eq k n) [
+      | inl same ↦ ap (λ j. is_some (at w j)) same ∙ there
+      | inr other ↦ ap is_some (sym (c.others k other)) ∙ some
+    ]
+    in
+    record {
+      told = λ k.
+          elim (cases_eq k n) [
+            | inl same ↦ let P : ℕ → Type 0 = λ j. IsListedAt v g t j in subst P (sym same) own
+            | inr other ↦ keeps.told k (told-before w v g g s k (l.told k) (stands-same w v g k (c.others k other)))
+          ];
+      heads = reaches-fewer w v s.heads t.heads l.heads end as_many keeps.heads;
+      doomed = reaches-fewer w v s.doomed t.doomed l.doomed end as_many keeps.doomed;
+    }
