@@ -14,4 +14,5 @@ pub mod Issues
 pub mod Changes
 pub mod Accepts
 pub mod AcceptsHeld
+pub mod AcceptsListed
 pub mod Views

@@ -80,7 +80,7 @@ before-earlier (Some m) true n k h =
     ]
 
 -- the request k of another group, or of none
-stands-apart : (w v : Window) (g h : Groups) (k : ℕ) → at v k ≡ at w k → ((x : Request) → at w k ≡ Some x → group_at h x.group ≡ group_at g x.group) → StandsAsBefore w v g h k
+pub stands-apart : (w v : Window) (g h : Groups) (k : ℕ) → at v k ≡ at w k → ((x : Request) → at w k ≡ Some x → group_at h x.group ≡ group_at g x.group) → StandsAsBefore w v g h k
 stands-apart w v g h k same others = go (at w k) refl
   where
     go : (o : Option Request) → at w k ≡ o → StandsAsBefore w v g h k
@@ -94,7 +94,7 @@ stands-apart w v g h k same others = go (at w k) refl
     }
 
 -- the request k of a group that leads and dooms it as before
-stands-in : (w v : Window) (g h : Groups) (k : ℕ) (x : Request) (p q : Group) → at v k ≡ at w k → at w k ≡ Some x → group_at g x.group ≡ Some q → group_at h x.group ≡ Some p → leads (Some p) k ≡ leads (Some q) k → dooms (Some p) k ≡ dooms (Some q) k → StandsAsBefore w v g h k
+pub stands-in : (w v : Window) (g h : Groups) (k : ℕ) (x : Request) (p q : Group) → at v k ≡ at w k → at w k ≡ Some x → group_at g x.group ≡ Some q → group_at h x.group ≡ Some p → leads (Some p) k ≡ leads (Some q) k → dooms (Some p) k ≡ dooms (Some q) k → StandsAsBefore w v g h k
 stands-in w v g h k x p q same e was now leads_on dooms_on = record {
   head =
       ap (λ o. is_head h o k) (same ∙ e) ∙ ap (λ o. not x.is_running && leads o k) now ∙ ap (λ b. not x.is_running && b) leads_on

@@ -150,13 +150,14 @@ ready-not_later r from end n k g high lt members going waits behind =
     let parts = and_parts (not (has_ended r m)) _ found.2 in
     let open_yet : has_ended r m ≡ false = not-true _ parts.0 in
     let low : m < n = found.1 in
-    elim (or_cases _ _ parts.1) [
+    let before : m < k = omega (arith, low, behind) in
+    let at_most : m ≤ n = omega (arith, low) in
+    elim (or_cases (is_joined r m n || is_draining r m) (is_draining r n) parts.1) [
       | inr draining ↦ ready-not_behind r k n behind going draining
       | inl rest ↦
-          elim (or_cases _ _ rest) [
-            | inr draining ↦ let before : m < k = omega (arith, low, behind) in ready-not_behind r k m before open_yet draining
+          elim (or_cases (is_joined r m n) (is_draining r m) rest) [
+            | inr draining ↦ ready-not_behind r k m before open_yet draining
             | inl joined ↦
-                let at_most : m ≤ n = omega (arith, low) in
                 let inside = leb-true from m (sym (joined-member r from end m n g high lt at_most) ∙ joined) in
                 absurd (both_ways _ open_yet (members m inside low))
           ]
