@@ -11,7 +11,7 @@ use Rattle.uring_dispatch.specs.declared.group.Group.{Group}
 use Rattle.uring_dispatch.specs.declared.waiting.Waiting.{Waiting}
 use Rattle.uring_dispatch.specs.NumberSet.{NumberSet, holds, start_of, stop_of, HasSame}
 use Rattle.uring_dispatch.specs.Window.{Window, at, end_of}
-use Rattle.uring_dispatch.specs.Groups.{Groups, group_at, last_group, with_member}
+use Rattle.uring_dispatch.specs.Groups.{Groups, group_at, with_member}
 use Rattle.uring_dispatch.specs.Held.{IsSound}
 use Rattle.uring_dispatch.specs.Waiting.{is_head, is_lost, IsListedAt, Reaches, IsListed, GrowsTo, Starts, CanGrow, StandsAsBefore}
 use Rattle.uring_dispatch.proofs.WindowFront.{at-room}

@@ -1,10 +1,9 @@
 -- The next request to be issued, from who waits.
-use Rattle.std.proofs.Common.{◌≡◌, ◌≢◌, ℕ, ◌<◌, ◌≤◌, ◌⊎◌, length, Bool, true, false, not, ◌&&◌, ◌||◌, Option, Some, None, is_some, refl, sym, ◌∙◌, ap, subst, arith, inl, inr}
+use Rattle.std.proofs.Common.{◌≡◌, ◌≢◌, ℕ, ◌<◌, ◌≤◌, ◌⊎◌, length, Bool, true, false, not, ◌&&◌, ◌||◌, Option, Some, None, refl, sym, ◌∙◌, ap, arith, inl, inr}
 use Rattle.std.specs.Prelude.{if◌then◌else◌, MatchOption}
 use Rattle.std.proofs.lemmas.Bool.{cases_lt, cases_eq, cases_Bool, and_parts, and_from, or_cases, or_left, or_right, both_ways, false≢true, not-true, lt-ltb, le-ltb, ltb-true, eq-eqb, eqb-true}
 use Rattle.uring_entry.specs.Below.{least_below}
-use Rattle.uring_entry.specs.Groups.{is_before}
-use Rattle.uring_entry.specs.Requests.{Requests, has_ended, is_outstanding, is_running, is_doomed, is_ready, is_issuable, next_of}
+use Rattle.uring_entry.specs.Requests.{Requests, is_outstanding, is_running, is_doomed, is_ready, is_issuable, next_of}
 use Rattle.uring_entry.proofs.BelowLemmas.{least_below-none, least_below-some}
 use Rattle.uring_entry.proofs.GroupLemmas.{ready-not_later}
 use Rattle.uring_dispatch.specs.declared.request.Request.{Request}
@@ -16,7 +15,7 @@ use Rattle.uring_dispatch.specs.Groups.{Groups, group_at}
 use Rattle.uring_dispatch.specs.Held.{IsSound, AreHeld}
 use Rattle.uring_dispatch.specs.Waiting.{leads, dooms, is_head, is_lost, IsListed, IsReadyHead}
 use Rattle.uring_dispatch.specs.Next.{lesser_of}
-use Rattle.uring_dispatch.proofs.HeldLemmas.{some_none, same_some, is_some_value, shown-within, open-request, doomed-held, not-least, outstanding-some, running-some, issuable-some, in-group}
+use Rattle.uring_dispatch.proofs.HeldLemmas.{some_none, same_some, shown-within, open-request, doomed-held, not-least, running-some, issuable-some, in-group}
 
 -- The lesser of two.
 

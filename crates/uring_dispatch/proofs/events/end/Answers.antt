@@ -1,4 +1,4 @@
-use Rattle.std.proofs.Common.{◌≡◌, ℕ, arith, sym, ◌∙◌, is_some, ap}
+use Rattle.std.proofs.Common.{arith}
 use Rattle.uring_dispatch.proofs.WaitingLemmas.{tell-outstanding, tell-behind, tell-kept, keeps-both, end-listed}
 use Rattle.uring_dispatch.proofs.events.end.Goals as goal
 

@@ -1,4 +1,4 @@
-use Rattle.std.proofs.Common.{sym, ◌∙◌, subst, Option, None, ℕ}
+use Rattle.std.proofs.Common.{sym, ◌∙◌, subst, Option, ℕ}
 use Rattle.uring_dispatch.specs.Waiting.{IsReadyHead}
 use Rattle.uring_dispatch.proofs.NextLemmas.{head-none, head-there, head-ready, head-waits}
 use Rattle.uring_dispatch.proofs.next.ready_head.Goals as goal

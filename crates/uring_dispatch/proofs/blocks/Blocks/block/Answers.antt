@@ -1,4 +1,4 @@
-use Rattle.std.proofs.Common.{◌≡◌, ◌+◌, ◌<◌, ◌≤◌, arith, ◌∙◌, length, inl, inr}
+use Rattle.std.proofs.Common.{◌+◌, arith, ◌∙◌, length, inl, inr}
 use Rattle.std.proofs.lemmas.Bool.{cases_lt}
 use Rattle.uring_dispatch.proofs.BlockLemmas.{block_of-past}
 use Rattle.uring_dispatch.proofs.blocks.Blocks.block.Goals as goal

@@ -1,6 +1,6 @@
-use Rattle.std.proofs.Common.{◌≡◌, ◌≢◌, ℕ, ◌-◌, ◌+◌, ◌∙◌, ap, arith, get_or, sym, ◌<◌, ◌≤◌, List, length, inl, inr}
+use Rattle.std.proofs.Common.{◌≡◌, ℕ, ◌-◌, ◌+◌, ◌∙◌, ap, arith, get_or, sym, ◌<◌, List, inl, inr}
 use Rattle.std.proofs.lemmas.Bool.{cases_lt}
-use Rattle.uring_dispatch.specs.NumberSet.{NumberSet, block_of, block_at, IsFirstFilled, IsFirstBlock}
+use Rattle.uring_dispatch.specs.NumberSet.{NumberSet, block_of, IsFirstFilled, IsFirstBlock}
 use Rattle.uring_dispatch.proofs.BlockLemmas.{block_of-low, block_of-high}
 use Rattle.uring_dispatch.proofs.blocks.Blocks.first_filled.Goals as goal
 

@@ -1,5 +1,4 @@
-use Rattle.std.proofs.Common.{refl, ap, arith, ◌*◌, ◌+◌}
-use Rattle.uring_dispatch.specs.NumberSet.{NumberSet, Covers}
+use Rattle.std.proofs.Common.{refl, ap, ◌*◌, ◌+◌}
 use Rattle.uring_dispatch.proofs.BlockLemmas.{insert-puts}
 use Rattle.uring_dispatch.proofs.blocks.Blocks.insert.Goals as goal
 

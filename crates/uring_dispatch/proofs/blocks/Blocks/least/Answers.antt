@@ -1,4 +1,4 @@
-use Rattle.std.proofs.Common.{◌≡◌, ℕ, Option, Some, None, MatchOption, false, ◌/◌, ◌∙◌, sym, arith}
+use Rattle.std.proofs.Common.{◌≡◌, ℕ, Option, Some, None, MatchOption, false, ◌/◌, ◌∙◌, sym}
 use Rattle.uring_dispatch.specs.NumberSet.{NumberSet, block_at, holds, IsLeastIn}
 use Rattle.uring_dispatch.proofs.BlockLemmas.{holds-zero, lowest-least, positive}
 use Rattle.uring_dispatch.proofs.blocks.Blocks.least.Goals as goal

@@ -1,4 +1,4 @@
-use Rattle.std.proofs.Common.{◌≡◌, ◌≢◌, ℕ, Option, Some, None, MatchOption, false, ◌/◌, ◌∙◌, sym, refl}
+use Rattle.std.proofs.Common.{◌≡◌, ℕ, Option, Some, None, MatchOption, false, ◌/◌, ◌∙◌, sym, refl}
 use Rattle.uring_dispatch.specs.NumberSet.{NumberSet, block_at, holds, IsFilled, IsLeastIn}
 use Rattle.uring_dispatch.proofs.BlockLemmas.{holds-zero, lowest-least, positive, filled-none, filled-some, limit-least}
 use Rattle.uring_dispatch.proofs.number_set.NumberSet.least.Goals as goal

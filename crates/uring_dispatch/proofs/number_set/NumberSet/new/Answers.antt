@@ -1,5 +1,4 @@
-use Rattle.std.proofs.Common.{◌≡◌, ◌/◌, ◌∙◌, sym, ap, not, eqb, arith, refl}
-use Rattle.std.proofs.lemmas.Bool.{eq-eqb}
+use Rattle.std.proofs.Common.{◌/◌, ◌∙◌, sym, ap, not, eqb, arith}
 use Rattle.uring_dispatch.proofs.BlockLemmas.{holds-zero}
 use Rattle.uring_dispatch.proofs.number_set.NumberSet.new.Goals as goal
 

@@ -1,5 +1,4 @@
-use Rattle.std.proofs.Common.{◌≡◌, ◌≢◌, ◌*◌, ◌/◌, min, ap, ◌∙◌, sym, inl, inr, arith}
-use Rattle.std.proofs.lemmas.Bool.{eqb-true, eqb-false}
+use Rattle.std.proofs.Common.{◌*◌, min, ap, ◌∙◌, sym}
 use Rattle.uring_dispatch.proofs.BlockLemmas.{remove-filled_zero, remove-filled_some, limit-puts}
 use Rattle.uring_dispatch.proofs.number_set.NumberSet.remove.Goals as goal
 

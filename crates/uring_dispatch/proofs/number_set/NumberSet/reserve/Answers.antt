@@ -1,4 +1,4 @@
-use Rattle.std.proofs.Common.{arith, refl}
+use Rattle.std.proofs.Common.{arith}
 use Rattle.uring_dispatch.proofs.BlockLemmas.{same-filled, same-set}
 use Rattle.uring_dispatch.proofs.number_set.NumberSet.reserve.Goals as goal
 

@@ -1,4 +1,4 @@
-use Rattle.std.proofs.Common.{arith, inl, inr, ℕ, ◌≡◌, subst, sym, ◌<◌, ◌≤◌}
+use Rattle.std.proofs.Common.{arith, inl, inr, ℕ, ◌≡◌, subst}
 use Rattle.std.proofs.lemmas.Bool.{cases_lt}
 use Rattle.uring_dispatch.specs.Waiting.{IsListedAt}
 use Rattle.uring_dispatch.proofs.WaitingLemmas.{keeps-none, keeps-both, tell-kept}
