@@ -13,7 +13,7 @@ use Rattle.uring_dispatch.specs.NumberSet.{NumberSet, holds, start_of, stop_of, 
 use Rattle.uring_dispatch.specs.Window.{Window, at, end_of}
 use Rattle.uring_dispatch.specs.Groups.{Groups, group_at, with_member}
 use Rattle.uring_dispatch.specs.Held.{IsSound}
-use Rattle.uring_dispatch.specs.Waiting.{is_head, is_lost, IsListedAt, Reaches, IsListed, GrowsTo, Starts, CanGrow, StandsAsBefore}
+use Rattle.uring_dispatch.specs.Waiting.{waits_at_head, waits_doomed, IsListedAt, Reaches, IsListed, GrowsTo, Starts, CanGrow, StandsAsBefore}
 use Rattle.uring_dispatch.proofs.WindowFront.{at-room}
 use Rattle.uring_dispatch.proofs.BlockLemmas.{holds-same}
 use Rattle.uring_dispatch.proofs.HeldLemmas.{some_none}
@@ -113,7 +113,7 @@ accept-listed w v g h entry request s t n sound l a is own members told heads do
 
 -- A call ends.
 pub cut-listed : (w : Window) (g : Groups) (s : Waiting) → IsListed w g s → IsListed w (record g { last = None }) s
-cut-listed w g s l = record { told = λ n. let t = l.told n in record { head = t.head; lost = t.lost }; heads = l.heads; doomed = l.doomed }
+cut-listed w g s l = record { told = λ n. let t = l.told n in record { head = t.head; doomed = t.doomed }; heads = l.heads; doomed = l.doomed }
 
 -- Memory is asked for.
 
@@ -125,8 +125,8 @@ room-listed w g s a b l = record {
   told = λ n.
       let t = l.told n in
       record {
-        head = t.head ∙ sym (ap (λ o. is_head g o n) (at-room w a n));
-        lost = t.lost ∙ sym (ap (λ o. is_lost g o n) (at-room w a n));
+        head = t.head ∙ sym (ap (λ o. waits_at_head g o n) (at-room w a n));
+        doomed = t.doomed ∙ sym (ap (λ o. waits_doomed g o n) (at-room w a n));
       };
   heads = reaches-room w a s.heads l.heads;
   doomed = reaches-room w a s.doomed l.doomed;
@@ -144,7 +144,7 @@ pub same-listed : (w : Window) (g : Groups) (s t : Waiting) → IsListed w g s �
 same-listed w g s t l x y = record {
   told = λ n.
       let t1 = l.told n in
-      record { head = holds-same s.heads t.heads x.same.same n ∙ t1.head; lost = holds-same s.doomed t.doomed y.same.same n ∙ t1.lost };
+      record { head = holds-same s.heads t.heads x.same.same n ∙ t1.head; doomed = holds-same s.doomed t.doomed y.same.same n ∙ t1.doomed };
   heads = reaches-same w s.heads t.heads l.heads x;
   doomed = reaches-same w s.doomed t.doomed l.doomed y;
 }
@@ -152,7 +152,7 @@ same-listed w g s t l x y = record {
 -- Nothing waits at first.
 pub empty-listed : (w : Window) (g : Groups) (s : Waiting) → ((n : ℕ) → at w n ≡ None) → end_of w ≡ 0 → ((n : ℕ) → holds s.heads n ≡ false) → ((n : ℕ) → holds s.doomed n ≡ false) → start_of s.heads ≡ 0 → stop_of s.heads ≡ 0 → start_of s.doomed ≡ 0 → stop_of s.doomed ≡ 0 → IsListed w g s
 empty-listed w g s none end heads doomed a b c d = record {
-  told = λ n. record { head = heads n ∙ sym (ap (λ o. is_head g o n) (none n)); lost = doomed n ∙ sym (ap (λ o. is_lost g o n) (none n)) };
+  told = λ n. record { head = heads n ∙ sym (ap (λ o. waits_at_head g o n) (none n)); doomed = doomed n ∙ sym (ap (λ o. waits_doomed g o n) (none n)) };
   heads = record { start = omega arith; stop = omega arith; low = λ n there. absurd (both_ways _ (ap is_some (none n)) there) };
   doomed = record { start = omega arith; stop = omega arith; low = λ n there. absurd (both_ways _ (ap is_some (none n)) there) };
 }

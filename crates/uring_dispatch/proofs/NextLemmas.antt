@@ -13,7 +13,7 @@ use Rattle.uring_dispatch.specs.NumberSet.{NumberSet, holds, IsLeastIn}
 use Rattle.uring_dispatch.specs.Window.{Window, at}
 use Rattle.uring_dispatch.specs.Groups.{Groups, group_at}
 use Rattle.uring_dispatch.specs.Held.{IsSound, AreHeld}
-use Rattle.uring_dispatch.specs.Waiting.{leads, dooms, is_head, is_lost, IsListed, IsReadyHead}
+use Rattle.uring_dispatch.specs.Waiting.{leads, dooms, waits_at_head, waits_doomed, IsListed, IsReadyHead}
 use Rattle.uring_dispatch.specs.Next.{lesser_of}
 use Rattle.uring_dispatch.proofs.HeldLemmas.{some_none, same_some, shown-within, open-request, doomed-held, not-least, running-some, issuable-some, in-group}
 
@@ -85,24 +85,24 @@ waiting-of w g r k s h out still =
     record { request = q.0; group = link.group; there = q.1; found = link.found; waits = sym (running-some w g r k q.0 h q.1) ∙ still }
 
 -- who is told to be doomed can be issued
-pub lost-issuable : (w : Window) (g : Groups) (r : Requests) (s : Waiting) (k : ℕ) → IsSound w g → AreHeld w g r → IsListed w g s → holds s.doomed k ≡ true → is_issuable r k ≡ true
-lost-issuable w g r s k sound h l told = go (at w k) refl
+pub doomed-issuable : (w : Window) (g : Groups) (r : Requests) (s : Waiting) (k : ℕ) → IsSound w g → AreHeld w g r → IsListed w g s → holds s.doomed k ≡ true → is_issuable r k ≡ true
+doomed-issuable w g r s k sound h l told = go (at w k) refl
   where
     go : (o : Option Request) → at w k ≡ o → is_issuable r k ≡ true
-    go None e = absurd (false≢true (sym (ap (λ o. is_lost g o k) e) ∙ sym (l.told k).lost ∙ told))
+    go None e = absurd (false≢true (sym (ap (λ o. waits_doomed g o k) e) ∙ sym (l.told k).doomed ∙ told))
     go (Some q) e =
         let link = sound.linked k q e in
         let lost : (not q.is_running && (dooms (Some link.group) k || q.is_cancelled)) ≡ true =
-        ap (λ o. not q.is_running && (dooms o k || q.is_cancelled)) (sym link.found) ∙ sym (ap (λ o. is_lost g o k) e) ∙ sym (l.told k).lost ∙ told
+        ap (λ o. not q.is_running && (dooms o k || q.is_cancelled)) (sym link.found) ∙ sym (ap (λ o. waits_doomed g o k) e) ∙ sym (l.told k).doomed ∙ told
         in
         let parts = and_parts (not q.is_running) _ lost in
         issuable-some w g r k q sound h e
         ∙ and_from _ _ parts.0 (or_left _ _ (doomed-held w g r k q link.group sound h e link.found ∙ parts.1))
 
 -- who waits and is doomed is told to be
-lost-told : (w : Window) (g : Groups) (r : Requests) (s : Waiting) (k : ℕ) → IsSound w g → AreHeld w g r → IsListed w g s → IsWaiting w g k → is_doomed r k ≡ true → holds s.doomed k ≡ true
-lost-told w g r s k sound h l i doomed =
-    (l.told k).lost ∙ ap (λ o. is_lost g o k) i.there
+doomed-told : (w : Window) (g : Groups) (r : Requests) (s : Waiting) (k : ℕ) → IsSound w g → AreHeld w g r → IsListed w g s → IsWaiting w g k → is_doomed r k ≡ true → holds s.doomed k ≡ true
+doomed-told w g r s k sound h l i doomed =
+    (l.told k).doomed ∙ ap (λ o. waits_doomed g o k) i.there
     ∙ ap (λ o. not i.request.is_running && (dooms o k || i.request.is_cancelled)) i.found
     ∙ and_from _ _ (ap not i.waits) (sym (doomed-held w g r k i.request i.group sound h i.there i.found) ∙ doomed)
 
@@ -115,14 +115,14 @@ head-told w g r s k sound h l i ready =
       | inr other ↦ absurd (both_ways _ (not-least w g r k i.request i.group sound h i.there i.found other) ready)
     ]
     in
-    (l.told k).head ∙ ap (λ o. is_head g o k) i.there ∙ ap (λ o. not i.request.is_running && leads o k) i.found
+    (l.told k).head ∙ ap (λ o. waits_at_head g o k) i.there ∙ ap (λ o. not i.request.is_running && leads o k) i.found
     ∙ and_from _ _ (ap not i.waits) (eq-eqb i.group.least k first)
 
 -- What the first head tells.
 
 -- it is outstanding
 pub head-there : (w : Window) (g : Groups) (s : Waiting) (k : ℕ) → IsListed w g s → holds s.heads k ≡ true → at w k ≢ None
-head-there w g s k l told e = false≢true (sym (ap (λ o. is_head g o k) e) ∙ sym (l.told k).head ∙ told)
+head-there w g s k l told e = false≢true (sym (ap (λ o. waits_at_head g o k) e) ∙ sym (l.told k).head ∙ told)
 
 -- there is no head
 pub head-none : (w : Window) (g : Groups) (r : Requests) (s : Waiting) → IsSound w g → AreHeld w g r → IsListed w g s → ((k : ℕ) → holds s.heads k ≡ false) → IsReadyHead r None
@@ -137,7 +137,7 @@ behind s n k least told = elim (cases_lt k n) [ inl low ↦ absurd (both_ways _ 
 -- it is ready
 pub head-ready : (w : Window) (g : Groups) (r : Requests) (s : Waiting) (n : ℕ) (q : Request) → IsSound w g → AreHeld w g r → IsListed w g s → IsLeastIn s.heads n → at w n ≡ Some q → is_ready r n ≡ true → IsReadyHead r (Some n)
 head-ready w g r s n q sound h l least there ready =
-    let waits = and_parts (not q.is_running) _ (sym (ap (λ o. is_head g o n) there) ∙ sym (l.told n).head ∙ least.here) in
+    let waits = and_parts (not q.is_running) _ (sym (ap (λ o. waits_at_head g o n) there) ∙ sym (l.told n).head ∙ least.here) in
     record {
       some = λ m e.
           let same : n ≡ m = same_some _ _ e in
@@ -152,7 +152,7 @@ head-waits w g r s n q sound h l least there waits =
     let i = in-group w g r n q link.group sound h there link.found in
     let kept = sound.kept q.group link.group link.found in
     let within = shown-within w g r n q sound h there in
-    let leading = and_parts (not q.is_running) _ (ap (λ o. not q.is_running && leads o n) (sym link.found) ∙ sym (ap (λ o. is_head g o n) there) ∙ sym (l.told n).head ∙ least.here) in
+    let leading = and_parts (not q.is_running) _ (ap (λ o. not q.is_running && leads o n) (sym link.found) ∙ sym (ap (λ o. waits_at_head g o n) there) ∙ sym (l.told n).head ∙ least.here) in
     let first : link.group.least ≡ n = eqb-true link.group.least n leading.1 in
     let later : (k : ℕ) → n < k → is_ready r k ≡ false =
     λ k lt.
@@ -178,13 +178,13 @@ issuable-within r k e = ltb-true k (length r.accepted) (and_parts _ _ (and_parts
 pub next-least : (w : Window) (g : Groups) (r : Requests) (s : Waiting) (a b : Option ℕ) → IsSound w g → AreHeld w g r → IsListed w g s → MatchOption a ((k : ℕ) → holds s.doomed k ≡ false) (IsLeastIn s.doomed) → IsReadyHead r b → lesser_of a b ≡ next_of r
 next-least w g r s a b sound h l doomed head =
     lesser-least (is_issuable r) (length r.accepted) a b
-    (λ m e. let is = lost-issuable w g r s m sound h l (found m a e doomed) in (issuable-within r m is, is))
+    (λ m e. let is = doomed-issuable w g r s m sound h l (found m a e doomed) in (issuable-within r m is, is))
     (λ m e. let is = head.some m e in (issuable-within r m is, is))
     (λ k lt is.
     let parts = and_parts _ _ is in
     let state = and_parts _ _ parts.0 in
     elim (or_cases (is_doomed r k) _ parts.1) [
-      | inl lost ↦ inl (before k a doomed (lost-told w g r s k sound h l (waiting-of w g r k sound h state.0 (not-true _ state.1)) lost))
+      | inl lost ↦ inl (before k a doomed (doomed-told w g r s k sound h l (waiting-of w g r k sound h state.0 (not-true _ state.1)) lost))
       | inr ready ↦ inr (head.all k state.0 (not-true _ state.1) ready)
     ])
   where

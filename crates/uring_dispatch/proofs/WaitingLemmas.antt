@@ -14,7 +14,7 @@ use Rattle.uring_dispatch.proofs.WindowFront.{at-past}
 use Rattle.uring_dispatch.proofs.BlockLemmas.{holds-same}
 use Rattle.uring_dispatch.proofs.HeldLemmas.{some_none, same_some}
 use Rattle.uring_dispatch.proofs.EndLemmas.{Ends}
-use Rattle.uring_dispatch.specs.Waiting.{leads, dooms, is_head, is_lost, IsListedAt, Reaches, IsListed, CanTell, IsSameReach, Keeps, StandsAsBefore}
+use Rattle.uring_dispatch.specs.Waiting.{leads, dooms, waits_at_head, waits_doomed, IsListedAt, Reaches, IsListed, CanTell, IsSameReach, Keeps, StandsAsBefore}
 
 -- Telling anew.
 
@@ -49,11 +49,11 @@ tell-kept w g s t n c k = record { heads = covers-kept s.heads t.heads n c.heads
 
 -- a request that is the same, in the same group
 pub stands-same : (w v : Window) (g : Groups) (k : ℕ) → at v k ≡ at w k → StandsAsBefore w v g g k
-stands-same w v g k e = record { head = ap (λ o. is_head g o k) e; lost = ap (λ o. is_lost g o k) e }
+stands-same w v g k e = record { head = ap (λ o. waits_at_head g o k) e; doomed = ap (λ o. waits_doomed g o k) e }
 
 -- what is told stays right where the request stands as it did
 pub told-before : (w v : Window) (g h : Groups) (s : Waiting) (k : ℕ) → IsListedAt w g s k → StandsAsBefore w v g h k → IsListedAt v h s k
-told-before w v g h s k t b = record { head = t.head ∙ sym b.head; lost = t.lost ∙ sym b.lost }
+told-before w v g h s k t b = record { head = t.head ∙ sym b.head; doomed = t.doomed ∙ sym b.doomed }
 
 before-none : (o : Option ℕ) (k : ℕ) → o ≡ None → is_before o k ≡ true → ⊥
 before-none None k e is = false≢true is
@@ -85,24 +85,24 @@ stands-apart w v g h k same others = go (at w k) refl
   where
     go : (o : Option Request) → at w k ≡ o → StandsAsBefore w v g h k
     go None e = record {
-      head = ap (λ o. is_head h o k) (same ∙ e) ∙ sym (ap (λ o. is_head g o k) e);
-      lost = ap (λ o. is_lost h o k) (same ∙ e) ∙ sym (ap (λ o. is_lost g o k) e);
+      head = ap (λ o. waits_at_head h o k) (same ∙ e) ∙ sym (ap (λ o. waits_at_head g o k) e);
+      doomed = ap (λ o. waits_doomed h o k) (same ∙ e) ∙ sym (ap (λ o. waits_doomed g o k) e);
     }
     go (Some x) e = record {
-      head = ap (λ o. is_head h o k) (same ∙ e) ∙ ap (λ p. not x.is_running && leads p k) (others x e) ∙ sym (ap (λ o. is_head g o k) e);
-      lost = ap (λ o. is_lost h o k) (same ∙ e) ∙ ap (λ p. not x.is_running && (dooms p k || x.is_cancelled)) (others x e) ∙ sym (ap (λ o. is_lost g o k) e);
+      head = ap (λ o. waits_at_head h o k) (same ∙ e) ∙ ap (λ p. not x.is_running && leads p k) (others x e) ∙ sym (ap (λ o. waits_at_head g o k) e);
+      doomed = ap (λ o. waits_doomed h o k) (same ∙ e) ∙ ap (λ p. not x.is_running && (dooms p k || x.is_cancelled)) (others x e) ∙ sym (ap (λ o. waits_doomed g o k) e);
     }
 
 -- the request k of a group that leads and dooms it as before
 pub stands-in : (w v : Window) (g h : Groups) (k : ℕ) (x : Request) (p q : Group) → at v k ≡ at w k → at w k ≡ Some x → group_at g x.group ≡ Some q → group_at h x.group ≡ Some p → leads (Some p) k ≡ leads (Some q) k → dooms (Some p) k ≡ dooms (Some q) k → StandsAsBefore w v g h k
 stands-in w v g h k x p q same e was now leads_on dooms_on = record {
   head =
-      ap (λ o. is_head h o k) (same ∙ e) ∙ ap (λ o. not x.is_running && leads o k) now ∙ ap (λ b. not x.is_running && b) leads_on
-      ∙ sym (ap (λ o. is_head g o k) e ∙ ap (λ o. not x.is_running && leads o k) was);
-  lost =
-      ap (λ o. is_lost h o k) (same ∙ e) ∙ ap (λ o. not x.is_running && (dooms o k || x.is_cancelled)) now
+      ap (λ o. waits_at_head h o k) (same ∙ e) ∙ ap (λ o. not x.is_running && leads o k) now ∙ ap (λ b. not x.is_running && b) leads_on
+      ∙ sym (ap (λ o. waits_at_head g o k) e ∙ ap (λ o. not x.is_running && leads o k) was);
+  doomed =
+      ap (λ o. waits_doomed h o k) (same ∙ e) ∙ ap (λ o. not x.is_running && (dooms o k || x.is_cancelled)) now
       ∙ ap (λ b. not x.is_running && (b || x.is_cancelled)) dooms_on
-      ∙ sym (ap (λ o. is_lost g o k) e ∙ ap (λ o. not x.is_running && (dooms o k || x.is_cancelled)) was);
+      ∙ sym (ap (λ o. waits_doomed g o k) e ∙ ap (λ o. not x.is_running && (dooms o k || x.is_cancelled)) was);
 }
 
 -- A request ends.
@@ -217,7 +217,7 @@ reaches-moved w s t first r m within before =
 pub told-moved : (w : Window) (g : Groups) (s t : Waiting) (k a b : ℕ) → IsListedAt w g s k → HasMoved s.heads t.heads a → HasMoved s.doomed t.doomed b → IsListedAt w g t k
 told-moved w g s t k a b l x y = record {
   head = holds-same s.heads t.heads x.same.same k ∙ l.head;
-  lost = holds-same s.doomed t.doomed y.same.same k ∙ l.lost;
+  doomed = holds-same s.doomed t.doomed y.same.same k ∙ l.doomed;
 }
 
 -- A request ended, and all whose standing may have changed were told of anew.

@@ -20,19 +20,19 @@ dooms None n = false
 dooms (Some p) n = is_some p.fault || is_before p.broken n
 
 -- whether this request, of number n, waits at the head of its group
-abbrev pub is_head : Groups → Option Request → ℕ → Bool
-is_head g None n = false
-is_head g (Some q) n = not q.is_running && leads (group_at g q.group) n
+abbrev pub waits_at_head : Groups → Option Request → ℕ → Bool
+waits_at_head g None n = false
+waits_at_head g (Some q) n = not q.is_running && leads (group_at g q.group) n
 
 -- whether this request, of number n, waits and is doomed
-abbrev pub is_lost : Groups → Option Request → ℕ → Bool
-is_lost g None n = false
-is_lost g (Some q) n = not q.is_running && (dooms (group_at g q.group) n || q.is_cancelled)
+abbrev pub waits_doomed : Groups → Option Request → ℕ → Bool
+waits_doomed g None n = false
+waits_doomed g (Some q) n = not q.is_running && (dooms (group_at g q.group) n || q.is_cancelled)
 
 -- It is told of n whether it waits at the head of its group, and whether it is doomed.
 pub record IsListedAt (w : Window) (g : Groups) (s : Waiting) (n : ℕ) : Type 0 where
-  pub head : holds s.heads n ≡ is_head g (at w n) n
-  pub lost : holds s.doomed n ≡ is_lost g (at w n) n
+  pub head : holds s.heads n ≡ waits_at_head g (at w n) n
+  pub doomed : holds s.doomed n ≡ waits_doomed g (at w n) n
 
 -- A set covers the outstanding requests, and may go on behind the last.
 pub record Reaches (w : Window) (s : NumberSet) : Type 0 where
@@ -65,8 +65,8 @@ pub record Keeps (w : Window) (g : Groups) (old new : Waiting) : Type 0 where
 
 -- What is to be told of the request k is as it was.
 pub record StandsAsBefore (w v : Window) (g h : Groups) (k : ℕ) : Type 0 where
-  pub head : is_head h (at v k) k ≡ is_head g (at w k) k
-  pub lost : is_lost h (at v k) k ≡ is_lost g (at w k) k
+  pub head : waits_at_head h (at v k) k ≡ waits_at_head g (at w k) k
+  pub doomed : waits_doomed h (at v k) k ≡ waits_doomed g (at w k) k
 
 -- There is no less memory.
 pub record HasMemory (old new : Waiting) : Type 0 where

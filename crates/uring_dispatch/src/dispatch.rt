@@ -109,7 +109,8 @@ impl Dispatch {
             is_cancelled: false,
             is_running: false,
         });
-        self.waiting.accept(&self.window, &self.groups, number, group);
+        self.waiting
+            .accept(&self.window, &self.groups, number, group);
         self.room -= 1;
         self.is_between_calls = false;
     }
@@ -143,7 +144,13 @@ impl Dispatch {
         ensures shows { (r : Requests) → ShowsRequests self.old r → ShowsRequests self.new (after_finish r n outcome result) }
         ensures counts { FinishCounts result self.old self.new }
     {
-        events::finish(&mut self.window, &mut self.groups, &mut self.waiting, n, outcome)
+        events::finish(
+            &mut self.window,
+            &mut self.groups,
+            &mut self.waiting,
+            n,
+            outcome,
+        )
     }
 
     /// The operation of request `n`: `Some` exactly if it is running.

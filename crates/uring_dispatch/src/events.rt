@@ -105,8 +105,7 @@ fn behind_failure(group: &Group, is_break: bool, n: u64) -> u64
     }
     match group.broken {
         Some(m) if m < group.end => m + 1,
-        Some(_) => group.end,
-        None => group.end,
+        _ => group.end,
     }
 }
 
@@ -131,7 +130,12 @@ fn breaks(request: &Request, is_success: bool) -> bool
 }
 
 /// Issues request `n`: it ends if it is doomed or a cancel that may be carried out, starts if it may, and is left as it is otherwise.
-pub(crate) fn issue(window: &mut Window, groups: &mut Groups, waiting: &mut Waiting, n: u64) -> Issued
+pub(crate) fn issue(
+    window: &mut Window,
+    groups: &mut Groups,
+    waiting: &mut Waiting,
+    n: u64,
+) -> Issued
     requires sound { IsSound window.old groups.old }
     requires closed { groups.old.last ≡ None }
     requires listed { IsListed window.old groups.old waiting.old }
@@ -156,7 +160,13 @@ pub(crate) fn issue(window: &mut Window, groups: &mut Groups, waiting: &mut Wait
 }
 
 /// Issues request `n`, which was not started.
-fn issue_waiting(window: &mut Window, groups: &mut Groups, waiting: &mut Waiting, n: u64, request: Request) -> Issued
+fn issue_waiting(
+    window: &mut Window,
+    groups: &mut Groups,
+    waiting: &mut Waiting,
+    n: u64,
+    request: Request,
+) -> Issued
     requires sound { IsSound window.old groups.old }
     requires closed { groups.old.last ≡ None }
     requires listed { IsListed window.old groups.old waiting.old }
@@ -192,7 +202,13 @@ fn issue_waiting(window: &mut Window, groups: &mut Groups, waiting: &mut Waiting
 }
 
 /// Carries out the cancel `n` of these user data, and gives its result: ENOENT if there is no request to choose, EALREADY if the one chosen is running, else 0. io_uring_enter(2), IORING_OP_ASYNC_CANCEL.
-fn cancel(window: &mut Window, groups: &mut Groups, waiting: &mut Waiting, n: u64, user_data: u64) -> i32
+fn cancel(
+    window: &mut Window,
+    groups: &mut Groups,
+    waiting: &mut Waiting,
+    n: u64,
+    user_data: u64,
+) -> i32
     requires sound { IsSound window.old groups.old }
     requires closed { groups.old.last ≡ None }
     requires listed { IsListed window.old groups.old waiting.old }
@@ -222,7 +238,13 @@ fn cancel(window: &mut Window, groups: &mut Groups, waiting: &mut Waiting, n: u6
 }
 
 /// Finishes request `n` with this outcome if it is running, and leaves it as it is otherwise.
-pub(crate) fn finish(window: &mut Window, groups: &mut Groups, waiting: &mut Waiting, n: u64, outcome: Outcome) -> Finished
+pub(crate) fn finish(
+    window: &mut Window,
+    groups: &mut Groups,
+    waiting: &mut Waiting,
+    n: u64,
+    outcome: Outcome,
+) -> Finished
     requires sound { IsSound window.old groups.old }
     requires closed { groups.old.last ≡ None }
     requires listed { IsListed window.old groups.old waiting.old }

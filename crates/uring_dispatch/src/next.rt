@@ -44,8 +44,7 @@ fn lesser_of(a: Option<u64>, b: Option<u64>) -> Option<u64>
     match a {
         Some(m) => match b {
             Some(n) if n < m => Some(n),
-            Some(_) => Some(m),
-            None => Some(m),
+            _ => Some(m),
         },
         None => b,
     }

@@ -4,7 +4,7 @@ ghost use Rattle.std.specs.Prelude.{◌≡◌, ℕ, ◌+◌, ◌^◌, ◌<◌, �
 ghost use Rattle.uring_dispatch.specs.NumberSet.{holds, start_of, stop_of, HasSame, HasGrown, HasMoved};
 ghost use Rattle.uring_dispatch.specs.Window.{at};
 ghost use Rattle.uring_dispatch.specs.Groups.{group_at};
-ghost use Rattle.uring_dispatch.specs.Waiting.{is_head, is_lost, dooms, IsListedAt, CanTell, Keeps, CanGrow, GrowsTo, Starts, IsFirstTold};
+ghost use Rattle.uring_dispatch.specs.Waiting.{waits_at_head, waits_doomed, dooms, IsListedAt, CanTell, Keeps, CanGrow, GrowsTo, Starts, IsFirstTold};
 
 use crate::group::{Group, is_before};
 use crate::groups::Groups;
@@ -119,8 +119,8 @@ fn first_told(groups: &Groups, n: u64, key: usize) -> u64
 
 /// How request `n` stands.
 fn standing_of(window: &Window, groups: &Groups, n: u64) -> Standing
-    ensures head { result.is_head ≡ is_head groups.now (at window.now n) n }
-    ensures lost { result.is_doomed ≡ is_lost groups.now (at window.now n) n }
+    ensures head { result.is_head ≡ waits_at_head groups.now (at window.now n) n }
+    ensures doomed { result.is_doomed ≡ waits_doomed groups.now (at window.now n) n }
 {
     let Some(request) = window.get(n) else {
         return Standing {
