@@ -1,4 +1,7 @@
 pub mod Counting
+pub mod BlockLemmas
+pub mod WaitingLemmas
+pub mod NextLemmas
 pub mod WindowLemmas
 pub mod WindowEvents
 pub mod WindowFront
@@ -12,4 +15,5 @@ pub mod Issues
 pub mod Changes
 pub mod Accepts
 pub mod AcceptsHeld
+pub mod AcceptsListed
 pub mod Views

@@ -6,14 +6,17 @@ use Rattle.uring_entry.specs.Requests.{Requests, no_request, entry_of, is_outsta
 use Rattle.uring_entry.proofs.BelowLemmas.{least_below-none, least_below-some}
 use Rattle.uring_dispatch.specs.declared.request.Request.{Request}
 use Rattle.uring_dispatch.specs.Window.{Window, at, end_of, IsFirst}
-use Rattle.uring_dispatch.specs.Groups.{Groups, group_at}
+use Rattle.uring_dispatch.specs.Groups.{Groups, group_at, IsBeyond}
 use Rattle.uring_dispatch.specs.Held.{IsSound, AreHeld}
 use Rattle.uring_dispatch.specs.Dispatch.{Dispatch, dispatch_of, ShowsRequests, StandsFor, IsDispatch, IssueCounts, FinishCounts}
 use Rattle.uring_dispatch.specs.declared.answers.Issued.{Issued}
 use Rattle.uring_dispatch.specs.declared.answers.Issued.TheVariants.{Run, Ended, NotReady, Running, Unknown}
 use Rattle.uring_dispatch.specs.declared.answers.Finished.{Finished}
 use Rattle.uring_dispatch.specs.declared.answers.Finished.TheVariants as finish
+use Rattle.uring_dispatch.specs.declared.waiting.Waiting.{Waiting}
+use Rattle.uring_dispatch.specs.NumberSet.{HasSame}
 use Rattle.uring_dispatch.proofs.WindowFront.{at-room}
+use Rattle.uring_dispatch.proofs.AcceptsListed.{room-listed, same-listed}
 use Rattle.uring_dispatch.proofs.HeldLemmas.{is_some_value, some_none, shown-within, outstanding-none, outstanding-some, running-some}
 
 -- the room isn't part of what is shown
@@ -93,6 +96,15 @@ empty-held w g none end outstanding running groups = record {
   untouched = λ n le. record { started = refl; ended = refl; cancelled = refl; cut = refl };
 }
 
+pub empty-sound : (w : Window) (g : Groups) → ((n : ℕ) → at w n ≡ None) → end_of w ≡ 0 → ((key : ℕ) → group_at g key ≡ None) → IsBeyond g.barriers 0 → IsSound w g
+empty-sound w g none end groups beyond = record {
+  linked = λ n q e. some_none q _ (none n) e;
+  members = λ key q n request found from to e. some_none request _ (none n) e;
+  kept = λ key q e. some_none q _ (groups key) e;
+  beyond = let P : ℕ → Type 0 = λ x. IsBeyond g.barriers x in subst P (sym end) beyond;
+  last = λ key q e found. some_none q _ (groups key) found;
+}
+
 -- an issue and a finish accept nothing
 pub unchanged-end-issue : (answer : Issued) (old new : Dispatch) → IssueCounts answer old new → new.accepted ≡ old.accepted
 unchanged-end-issue (Run op) old new c = c.accepted
@@ -141,16 +153,20 @@ sound-groups w g b s = record {
   last = s.last;
 }
 
-pub dispatcher-window : (w : Window) (g : Groups) (room : ℕ) (between : Bool) (count : ℕ) → IsDispatch w g room between → room ≤ count → end_of w + count < 2 ^ 63 → IsDispatch (record w { room = count }) g room between
-dispatcher-window w g room between count d le fits =
-    record { sound = sound-room w g count d.sound; window = le; groups = d.groups; closed = d.closed; fits = fits }
+pub dispatcher-window : (w : Window) (g : Groups) (s : Waiting) (room : ℕ) (between : Bool) (count : ℕ) → IsDispatch w g s room between → room ≤ count → end_of w + count < 2 ^ 63 → IsDispatch (record w { room = count }) g s room between
+dispatcher-window w g s room between count d le fits =
+    record { sound = sound-room w g count d.sound; listed = room-listed w g s count g.room d.listed; heads = d.heads; doomed = d.doomed; window = le; groups = d.groups; closed = d.closed; fits = fits }
 
-pub dispatcher-both : (w : Window) (g : Groups) (room : ℕ) (between : Bool) (count : ℕ) → IsDispatch w g room between → end_of w + count < 2 ^ 63 → IsDispatch (record w { room = count }) (record g { room = count }) count between
-dispatcher-both w g room between count d fits =
+-- room for who waits was asked for too, and may have been refused
+pub dispatcher-both : (w : Window) (g : Groups) (s t : Waiting) (room : ℕ) (between : Bool) (count more : ℕ) → IsDispatch w g s room between → more ≤ count → end_of w + count < 2 ^ 63 → HasSame s.heads t.heads → HasSame s.doomed t.doomed → end_of w + more ≤ t.heads.limit → end_of w + more ≤ t.doomed.limit → IsDispatch (record w { room = count }) (record g { room = count }) t more between
+dispatcher-both w g s t room between count more d le fits x y heads doomed =
     record {
       sound = sound-groups (record w { room = count }) g count (sound-room w g count d.sound);
-      window = omega arith;
-      groups = omega arith;
+      listed = same-listed (record w { room = count }) (record g { room = count }) s t (room-listed w g s count count d.listed) x y;
+      heads = heads;
+      doomed = doomed;
+      window = le;
+      groups = le;
       closed = d.closed;
       fits = fits;
     }

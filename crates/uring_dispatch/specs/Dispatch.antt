@@ -8,6 +8,8 @@ use Rattle.uring_dispatch.specs.declared.answers.Issued.{Issued}
 use Rattle.uring_dispatch.specs.declared.answers.Issued.TheVariants.{Run, Ended}
 use Rattle.uring_dispatch.specs.declared.answers.Finished.{Finished}
 use Rattle.uring_dispatch.specs.declared.answers.Finished.TheVariants as finish
+use Rattle.uring_dispatch.specs.declared.waiting.Waiting.{Waiting}
+use Rattle.uring_dispatch.specs.Waiting.{IsListed}
 
 -- what the dispatcher keeps of the requests. Only `ShowsRequests` says what it means
 pub record Held : Type 0 where
@@ -39,9 +41,12 @@ dispatch_of w g room between = record {
   held = record { window = record w { room = 0 }; groups = record g { room = 0 } };
 }
 
--- What is so whatever happened: the parts fit one another and have the room that is told, and nothing joins a group between calls.
-pub record IsDispatch (w : Window) (g : Groups) (room : ℕ) (between : Bool) : Type 0 where
+-- What is so whatever happened: the parts fit one another and have the room that is told, it is told who waits, and nothing joins a group between calls.
+pub record IsDispatch (w : Window) (g : Groups) (s : Waiting) (room : ℕ) (between : Bool) : Type 0 where
   pub sound : IsSound w g
+  pub listed : IsListed w g s
+  pub heads : end_of w + room ≤ s.heads.limit
+  pub doomed : end_of w + room ≤ s.doomed.limit
   pub window : room ≤ w.room
   pub groups : room ≤ g.room
   pub closed : between ≡ true → g.last ≡ None

@@ -7,8 +7,9 @@ use crate::answers::{Finished, Issued};
 use crate::errors::ReserveError;
 use crate::groups::Groups;
 use crate::request::Request;
+use crate::waiting::Waiting;
 use crate::window::Window;
-use crate::{events, standing, why};
+use crate::{events, next, why};
 use std::alloc::Global;
 use std::marker::Model;
 use uring_entry::{Op, Outcome, Sqe, Why, prepare};
@@ -20,6 +21,7 @@ use uring_entry::{Op, Outcome, Sqe, Why, prepare};
 pub struct Dispatch {
     window: Window,
     groups: Groups,
+    waiting: Waiting,
     // How many more requests can be accepted: the memory of all that they need was asked for.
     room: u64,
     // Whether no submission call is open.
@@ -33,7 +35,7 @@ impl Model for Dispatch {
 
     ghost view = { λ d. dispatch_of d.window d.groups d.room d.is_between_calls };
 
-    ghost invariant = { λ d. IsDispatch d.window d.groups d.room d.is_between_calls };
+    ghost invariant = { λ d. IsDispatch d.window d.groups d.waiting d.room d.is_between_calls };
 }
 
 impl Dispatch {
@@ -50,6 +52,7 @@ impl Dispatch {
         Dispatch {
             window: Window::new(alloc),
             groups: Groups::new(alloc),
+            waiting: Waiting::new(alloc),
             room: 0,
             is_between_calls: true,
         }
@@ -80,6 +83,9 @@ impl Dispatch {
         if self.groups.reserve(count).is_err() {
             return Err(ReserveError::NoMemory);
         }
+        if self.waiting.reserve(count).is_err() {
+            return Err(ReserveError::NoMemory);
+        }
         self.room = count;
         Ok(())
     }
@@ -94,7 +100,8 @@ impl Dispatch {
         ensures between { self.new.is_between_calls ≡ false }
     {
         let op = prepare(&entry).ok();
-        let group = self.groups.accept(self.window.end(), &entry, op.is_none());
+        let number = self.window.end();
+        let group = self.groups.accept(number, &entry, op.is_none());
         self.window.push(Request {
             entry,
             op,
@@ -102,6 +109,8 @@ impl Dispatch {
             is_cancelled: false,
             is_running: false,
         });
+        self.waiting
+            .accept(&self.window, &self.groups, number, group);
         self.room -= 1;
         self.is_between_calls = false;
     }
@@ -125,7 +134,7 @@ impl Dispatch {
         ensures shows { (r : Requests) → ShowsRequests self.old r → ShowsRequests self.new (after_issue r n result) }
         ensures counts { IssueCounts result self.old self.new }
     {
-        events::issue(&mut self.window, &mut self.groups, n)
+        events::issue(&mut self.window, &mut self.groups, &mut self.waiting, n)
     }
 
     /// Ends request `n` with this outcome. Refused with `NotRunning` if it isn't running, and then nothing changes. Our own rule.
@@ -135,7 +144,13 @@ impl Dispatch {
         ensures shows { (r : Requests) → ShowsRequests self.old r → ShowsRequests self.new (after_finish r n outcome result) }
         ensures counts { FinishCounts result self.old self.new }
     {
-        events::finish(&mut self.window, &mut self.groups, n, outcome)
+        events::finish(
+            &mut self.window,
+            &mut self.groups,
+            &mut self.waiting,
+            n,
+            outcome,
+        )
     }
 
     /// The operation of request `n`: `Some` exactly if it is running.
@@ -163,7 +178,7 @@ impl Dispatch {
         requires { IsTrue self.now.is_between_calls }
         ensures { (r : Requests) → ShowsRequests self.now r → result ≡ next_of r }
     {
-        standing::next(&self.window, &self.groups)
+        next::next(&self.window, &self.groups, &self.waiting)
     }
 
     /// The least outstanding request, if there is one.

@@ -1,28 +1,60 @@
 //! What happens to the outstanding requests: they are issued, chosen by a cancel, and finished.
 
-ghost use Rattle.std.specs.Prelude.{◌≡◌, ℕ, ℤ, ◌+◌, ◌<◌, ◌≤◌, List, true, false, Some, None, is_some, Bool, not, ◌&&◌};
+ghost use Rattle.std.specs.Prelude.{◌≡◌, ◌≢◌, ◌⊎◌, ℕ, ℤ, ◌+◌, ◌<◌, ◌≤◌, List, true, false, Some, None, is_some, Bool, not, ◌&&◌};
 ghost use Rattle.uring_entry.specs.Requests.{Requests, entry_of, with_ended, with_issued_end};
 ghost use Rattle.uring_entry.specs.Requests as spec;
-ghost use Rattle.uring_entry.specs.Groups.{earlier_of};
+ghost use Rattle.uring_entry.specs.Groups.{earlier_of, is_before};
 ghost use Rattle.uring_entry.specs.Preparation.{is_cancel};
 ghost use Rattle.uring_entry.specs.Success as success;
 ghost use Rattle.uring_entry.specs.Layout.{addr_of};
 ghost use Rattle.uring_dispatch.specs.IssueAndFinish.{issued, issued_waiting, after_issue, finished, after_finish};
 ghost use Rattle.uring_dispatch.specs.Dispatch.{dispatch_of, HasEnded, IssueCounts, FinishCounts};
-ghost use Rattle.uring_dispatch.specs.Window.{at, end_of, runs, one_if};
+ghost use Rattle.uring_dispatch.specs.Window.{at, end_of, runs, one_if, Changes};
 ghost use Rattle.uring_dispatch.specs.Groups.{group_at};
 ghost use Rattle.uring_dispatch.specs.Held.{AreHeld, IsSound, IsNext, HasLost};
+ghost use Rattle.uring_dispatch.specs.Waiting.{IsListed, HasMemory, StandsAsBefore};
 
 use crate::answers::{Finished, Issued};
 use crate::group::{Group, earlier_of};
 use crate::groups::Groups;
 use crate::request::Request;
 use crate::standing::{group_of, is_doomed, is_ready, target};
+use crate::waiting::Waiting;
 use crate::window::Window;
 use uring_entry::{Op, Outcome, errno, succeeded};
 
+/// Ends request `n`, lets go what was kept of it, and tells anew who waits.
+fn end(window: &mut Window, groups: &mut Groups, waiting: &mut Waiting, n: u64, is_success: bool)
+    requires sound { IsSound window.old groups.old }
+    requires closed { groups.old.last ≡ None }
+    requires listed { IsListed window.old groups.old waiting.old }
+    requires there { is_some (at window.old n) ≡ true }
+    ensures sound { IsSound window.new groups.new }
+    ensures closed { groups.new.last ≡ None }
+    ensures groups_room { groups.new.room ≡ groups.old.room }
+    ensures listed { IsListed window.new groups.new waiting.new }
+    ensures waiting_room { HasMemory waiting.old waiting.new }
+    ensures held { (r : Requests) (res : ℤ) (bytes : List ℕ) → AreHeld window.old groups.old r → is_success ≡ success.is_success (entry_of r n) res → AreHeld window.new groups.new (with_ended r n res bytes) }
+    ensures counts { HasLost window.old window.new (one_if (runs (at window.old n))) }
+{
+    let others = take_out(window, groups, n, is_success);
+    waiting.relist(window, groups, n);
+    waiting.relist(window, groups, others.head);
+    waiting.relist_range(window, groups, n, others.doomed_end);
+    waiting.drop_before(window.first());
+}
+
+/// Which others stand differently once a request has ended.
+#[derive(Clone, Copy)]
+struct Others {
+    // The member that may be the least of its group now, or else the request itself.
+    head: u64,
+    // The members from the request on and before this number may be doomed now.
+    doomed_end: u64,
+}
+
 /// Ends request `n`, and lets go what was kept of it; its group goes with its last member.
-fn end(window: &mut Window, groups: &mut Groups, n: u64, is_success: bool)
+fn take_out(window: &mut Window, groups: &mut Groups, n: u64, is_success: bool) -> Others
     requires sound { IsSound window.old groups.old }
     requires closed { groups.old.last ≡ None }
     requires there { is_some (at window.old n) ≡ true }
@@ -31,15 +63,23 @@ fn end(window: &mut Window, groups: &mut Groups, n: u64, is_success: bool)
     ensures groups_room { groups.new.room ≡ groups.old.room }
     ensures held { (r : Requests) (res : ℤ) (bytes : List ℕ) → AreHeld window.old groups.old r → is_success ≡ success.is_success (entry_of r n) res → AreHeld window.new groups.new (with_ended r n res bytes) }
     ensures counts { HasLost window.old window.new (one_if (runs (at window.old n))) }
+    ensures gone { Changes window.old window.new n None }
+    ensures head { is_some (at window.old result.head) ≡ true }
+    ensures doomed { result.doomed_end ≤ end_of window.old }
+    ensures others { (k : ℕ) → k ≢ n → k ≢ result.head → (k < n) ⊎ (result.doomed_end ≤ k) → StandsAsBefore window.old window.new groups.old groups.new k }
 {
     let request = window.end_one(n);
     let group = group_of(groups, &request);
     let least = next_outstanding(window, group.least, group.end);
     if least == group.end {
         groups.remove(request.group);
-        return;
+        return Others {
+            head: n,
+            doomed_end: n,
+        };
     }
     let is_break = breaks(&request, is_success);
+    let doomed_end = behind_failure(&group, is_break, n);
     let broken = earlier_of(group.broken, is_break, n);
     let group = Group {
         least,
@@ -47,6 +87,25 @@ fn end(window: &mut Window, groups: &mut Groups, n: u64, is_success: bool)
         ..group
     };
     groups.update(request.group, group);
+    Others {
+        head: least,
+        doomed_end,
+    }
+}
+
+/// The number behind the members that the failure of member `n` may doom anew, or `n` if it didn't fail.
+fn behind_failure(group: &Group, is_break: bool, n: u64) -> u64
+    requires { n < group.now.end }
+    ensures within { result ≤ group.now.end }
+    ensures doomed { is_break ≡ true → (k : ℕ) → result ≤ k → k < group.now.end → is_before group.now.broken k ≡ true }
+{
+    if !is_break {
+        return n;
+    }
+    match group.broken {
+        Some(m) if m < group.end => m + 1,
+        _ => group.end,
+    }
 }
 
 /// The least outstanding number from this one on and below the end, or else the end.
@@ -70,12 +129,20 @@ fn breaks(request: &Request, is_success: bool) -> bool
 }
 
 /// Issues request `n`: it ends if it is doomed or a cancel that may be carried out, starts if it may, and is left as it is otherwise.
-pub(crate) fn issue(window: &mut Window, groups: &mut Groups, n: u64) -> Issued
+pub(crate) fn issue(
+    window: &mut Window,
+    groups: &mut Groups,
+    waiting: &mut Waiting,
+    n: u64,
+) -> Issued
     requires sound { IsSound window.old groups.old }
     requires closed { groups.old.last ≡ None }
+    requires listed { IsListed window.old groups.old waiting.old }
     ensures sound { IsSound window.new groups.new }
     ensures closed { groups.new.last ≡ None }
     ensures groups_room { groups.new.room ≡ groups.old.room }
+    ensures listed { IsListed window.new groups.new waiting.new }
+    ensures waiting_room { HasMemory waiting.old waiting.new }
     ensures answer { (r : Requests) → AreHeld window.old groups.old r → result ≡ issued r n }
     ensures held { (r : Requests) → AreHeld window.old groups.old r → AreHeld window.new groups.new (after_issue r n result) }
     ensures counts { (room : ℕ) (between : Bool) → IssueCounts result (dispatch_of window.old groups.old room between) (dispatch_of window.new groups.new room between) }
@@ -88,74 +155,103 @@ pub(crate) fn issue(window: &mut Window, groups: &mut Groups, n: u64) -> Issued
         return Issued::Running;
     }
     let request = *request;
-    issue_waiting(window, groups, n, request)
+    issue_waiting(window, groups, waiting, n, request)
 }
 
 /// Issues request `n`, which was not started.
-fn issue_waiting(window: &mut Window, groups: &mut Groups, n: u64, request: Request) -> Issued
+fn issue_waiting(
+    window: &mut Window,
+    groups: &mut Groups,
+    waiting: &mut Waiting,
+    n: u64,
+    request: Request,
+) -> Issued
     requires sound { IsSound window.old groups.old }
     requires closed { groups.old.last ≡ None }
+    requires listed { IsListed window.old groups.old waiting.old }
     requires there { at window.old n ≡ Some request }
     requires waits { request.is_running ≡ false }
     ensures sound { IsSound window.new groups.new }
     ensures closed { groups.new.last ≡ None }
     ensures groups_room { groups.new.room ≡ groups.old.room }
+    ensures listed { IsListed window.new groups.new waiting.new }
+    ensures waiting_room { HasMemory waiting.old waiting.new }
     ensures answer { (r : Requests) → AreHeld window.old groups.old r → result ≡ issued_waiting r n }
     ensures held { (r : Requests) → AreHeld window.old groups.old r → AreHeld window.new groups.new (after_issue r n result) }
     ensures counts { (room : ℕ) (between : Bool) → IssueCounts result (dispatch_of window.old groups.old room between) (dispatch_of window.new groups.new room between) }
     ensures room { window.new.room ≡ window.old.room }
 {
     let Some(op) = request.op else {
-        end(window, groups, n, false);
+        end(window, groups, waiting, n, false);
         return Issued::Ended(-errno::EINVAL);
     };
     if is_doomed(window, groups, n, &request) {
-        end(window, groups, n, false);
+        end(window, groups, waiting, n, false);
         return Issued::Ended(-errno::ECANCELED);
     }
     if !is_ready(window, groups, n, &request) {
         return Issued::NotReady;
     }
     if let Op::Cancel { .. } = op {
-        return Issued::Ended(cancel(window, groups, n, request.entry.addr()));
+        return Issued::Ended(cancel(window, groups, waiting, n, request.entry.addr()));
     }
     window.start(n);
+    waiting.relist(window, groups, n);
     Issued::Run(op)
 }
 
 /// Carries out the cancel `n` of these user data, and gives its result: ENOENT if there is no request to choose, EALREADY if the one chosen is running, else 0. io_uring_enter(2), IORING_OP_ASYNC_CANCEL.
-fn cancel(window: &mut Window, groups: &mut Groups, n: u64, user_data: u64) -> i32
+fn cancel(
+    window: &mut Window,
+    groups: &mut Groups,
+    waiting: &mut Waiting,
+    n: u64,
+    user_data: u64,
+) -> i32
     requires sound { IsSound window.old groups.old }
     requires closed { groups.old.last ≡ None }
+    requires listed { IsListed window.old groups.old waiting.old }
     requires there { is_some (at window.old n) ≡ true }
     requires waits { runs (at window.old n) ≡ false }
     ensures sound { IsSound window.new groups.new }
     ensures closed { groups.new.last ≡ None }
     ensures groups_room { groups.new.room ≡ groups.old.room }
+    ensures listed { IsListed window.new groups.new waiting.new }
+    ensures waiting_room { HasMemory waiting.old waiting.new }
     ensures answer { (r : Requests) → AreHeld window.old groups.old r → user_data ≡ addr_of (entry_of r n) → result ≡ spec.cancel_result r n }
     ensures held { (r : Requests) → AreHeld window.old groups.old r → user_data ≡ addr_of (entry_of r n) → is_cancel (entry_of r n) ≡ true → AreHeld window.new groups.new (with_issued_end r n result) }
     ensures counts { HasLost window.old window.new 0 }
 {
     let Some(m) = target(window, groups, n, user_data) else {
-        end(window, groups, n, false);
+        end(window, groups, waiting, n, false);
         return -errno::ENOENT;
     };
     if window.is_running(m) {
-        end(window, groups, n, false);
+        end(window, groups, waiting, n, false);
         return -errno::EALREADY;
     }
     window.choose(m);
-    end(window, groups, n, true);
+    waiting.relist(window, groups, m);
+    end(window, groups, waiting, n, true);
     0
 }
 
 /// Finishes request `n` with this outcome if it is running, and leaves it as it is otherwise.
-pub(crate) fn finish(window: &mut Window, groups: &mut Groups, n: u64, outcome: Outcome) -> Finished
+pub(crate) fn finish(
+    window: &mut Window,
+    groups: &mut Groups,
+    waiting: &mut Waiting,
+    n: u64,
+    outcome: Outcome,
+) -> Finished
     requires sound { IsSound window.old groups.old }
     requires closed { groups.old.last ≡ None }
+    requires listed { IsListed window.old groups.old waiting.old }
     ensures sound { IsSound window.new groups.new }
     ensures closed { groups.new.last ≡ None }
     ensures groups_room { groups.new.room ≡ groups.old.room }
+    ensures listed { IsListed window.new groups.new waiting.new }
+    ensures waiting_room { HasMemory waiting.old waiting.new }
     ensures answer { (r : Requests) → AreHeld window.old groups.old r → result ≡ finished r n }
     ensures held { (r : Requests) → AreHeld window.old groups.old r → AreHeld window.new groups.new (after_finish r n outcome result) }
     ensures counts { (room : ℕ) (between : Bool) → FinishCounts result (dispatch_of window.old groups.old room between) (dispatch_of window.new groups.new room between) }
@@ -168,6 +264,6 @@ pub(crate) fn finish(window: &mut Window, groups: &mut Groups, n: u64, outcome: 
         return Finished::NotRunning;
     }
     let is_success = succeeded(&request.entry, outcome.res);
-    end(window, groups, n, is_success);
+    end(window, groups, waiting, n, is_success);
     Finished::Ended
 }

@@ -2,14 +2,18 @@
 #![tactic(auto)]
 
 mod answers;
+mod blocks;
 mod dispatch;
 mod errors;
 mod events;
 mod group;
 mod groups;
 pub mod laws;
+mod next;
+mod number_set;
 mod request;
 mod standing;
+mod waiting;
 mod why;
 mod window;
 

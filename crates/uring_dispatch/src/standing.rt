@@ -1,7 +1,7 @@
 //! How an outstanding request stands: whether it is doomed, and whether it may start. io_uring_enter(2), IOSQE_IO_LINK, IOSQE_IO_HARDLINK, IOSQE_IO_DRAIN and IORING_OP_ASYNC_CANCEL. That a failure reaches all later members, that a fault dooms those before it too, and that a doomed request waits for nothing, are our own rules.
 
 ghost use Rattle.std.specs.Prelude.{◌≡◌, ℕ, true, Some, is_some, IfSome};
-ghost use Rattle.uring_entry.specs.Requests.{Requests, entry_of, next_of};
+ghost use Rattle.uring_entry.specs.Requests.{Requests, entry_of};
 ghost use Rattle.uring_entry.specs.Layout.{addr_of};
 ghost use Rattle.uring_entry.specs.Requests as spec;
 ghost use Rattle.uring_dispatch.specs.Window.{at};
@@ -57,36 +57,6 @@ pub(crate) fn is_ready(window: &Window, groups: &Groups, n: u64, request: &Reque
         return true;
     }
     !window.has_before(group.from)
-}
-
-/// Whether something can be done with request `n`: it is to end as doomed, or may start.
-pub(crate) fn is_issuable(window: &Window, groups: &Groups, n: u64) -> bool
-    requires { IsSound window.now groups.now }
-    ensures { (r : Requests) → AreHeld window.now groups.now r → result ≡ spec.is_issuable r n }
-{
-    let Some(request) = window.get(n) else {
-        return false;
-    };
-    if request.is_running {
-        return false;
-    }
-    if is_doomed(window, groups, n, request) {
-        return true;
-    }
-    is_ready(window, groups, n, request)
-}
-
-/// The least request that can be issued, from the least outstanding one on.
-pub(crate) fn next(window: &Window, groups: &Groups) -> Option<u64>
-    requires { IsSound window.now groups.now }
-    ensures { (r : Requests) → AreHeld window.now groups.now r → result ≡ next_of r }
-{
-    for n in window.first()..window.end() {
-        if is_issuable(window, groups, n) {
-            return Some(n);
-        }
-    }
-    None
 }
 
 /// The request that the cancel `n` of these user data chooses: the least that is outstanding, another one, has the user data, and isn't doomed. Our own rule.

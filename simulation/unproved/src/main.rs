@@ -1,4 +1,4 @@
-//! The step machine without proofs, to compare with: `unproved trace [--sq N] [--cq N] [--files N] [--start N]`, and `unproved measure`.
+//! The step machine without proofs, to compare with: `unproved trace [--sq N] [--cq N] [--files N] [--start N]`, and `unproved measure [few | many]`.
 
 mod completion;
 mod entry;
@@ -22,6 +22,14 @@ fn main() -> ExitCode {
     let words: Vec<&str> = words.iter().map(String::as_str).collect();
     let ran = match words.as_slice() {
         ["measure"] => measure::measure(&mut io::stdout()),
+        ["measure", "few"] => {
+            measure::rounds_of_one(1000);
+            Ok(())
+        }
+        ["measure", "many"] => {
+            measure::rounds_of_one(10_000_000);
+            Ok(())
+        }
         ["trace", options @ ..] => match set_up(options) {
             Some(setup) => trace::trace(
                 BufReader::new(io::stdin()),
@@ -60,6 +68,6 @@ fn set_up(options: &[&str]) -> Option<Setup> {
 }
 
 fn usage() -> ExitCode {
-    eprintln!("unproved trace [--sq N] [--cq N] [--files N] [--start N], or unproved measure");
+    eprintln!("unproved trace [--sq N] [--cq N] [--files N] [--start N], or unproved measure [few | many]");
     ExitCode::from(2)
 }

@@ -1,5 +1,6 @@
 //! The measures of the proved program, made in the same way.
 
+use crate::entry::{opcode, Sqe};
 use crate::kinds::{round, PATH};
 use crate::machine::{run, Answer, Machine, Step};
 use crate::setup::Setup;
@@ -7,8 +8,29 @@ use std::io::{self, Write};
 use std::time::{Duration, Instant};
 
 const SIZES: [u32; 4] = [1, 8, 64, 4096];
-const ACCEPTED: [u32; 4] = [1024, 4096, 16_384, 65_536];
+const ACCEPTED: [u32; 5] = [1024, 4096, 16_384, 65_536, 1_000_000];
 const OUTSTANDING: [u32; 3] = [16, 256, 4096];
+const WAITING: [u32; 2] = [16, 4096];
+
+/// The flags of a request by its number and how many there are, and whether it is started: one chain whose first member runs, chains of 8 whose first members run, and a request that runs, one that drains, and others behind it.
+type Shape = (&'static str, fn(u32, u32) -> u8, fn(u32) -> bool);
+
+const SHAPES: [Shape; 3] = [
+    (
+        "chain",
+        |n, count| if n + 1 < count { 4 } else { 0 },
+        |n| n == 0,
+    ),
+    (
+        "chains",
+        |n, _| if n % 8 < 7 { 4 } else { 0 },
+        |n| n % 8 == 0,
+    ),
+    ("drain", |n, _| if n == 1 { 2 } else { 0 }, |n| n == 0),
+];
+
+/// How often the next request is asked for.
+const ASKS: usize = 1024;
 
 /// How many requests a machine accepts while the full path is measured.
 const PATH_REQUESTS: u32 = 4096;
@@ -85,7 +107,41 @@ pub fn measure(writer: &mut impl Write) -> io::Result<()> {
     accepted(writer)?;
     OUTSTANDING
         .iter()
-        .try_for_each(|count| outstanding(writer, *count))
+        .try_for_each(|count| outstanding(writer, *count))?;
+    for shape in &SHAPES {
+        for count in WAITING {
+            waiting(writer, shape, count)?;
+        }
+    }
+    Ok(())
+}
+
+/// The question for the next request where so many are outstanding in this shape.
+fn waiting(writer: &mut impl Write, shape: &Shape, count: u32) -> io::Result<()> {
+    let (name, flags, runs) = *shape;
+    let mut machine = machine(PATH_REQUESTS);
+    let mut steps: Vec<Step> = (0..count)
+        .map(|slot| Step::Fill {
+            slot,
+            entry: Sqe::new(opcode::NOP, slot.into(), flags(slot, count)),
+        })
+        .collect();
+    steps.extend(PATH[1..7].iter().flat_map(|(kind, _)| kind.steps(0, count)));
+    steps.extend(
+        (0..count)
+            .filter(|n| runs(*n))
+            .map(|n| Step::Issue { number: n.into() }),
+    );
+    run(&mut machine, &steps);
+    time_next(writer, &mut machine, name, count)
+}
+
+/// So many rounds of one no-op, on a new machine.
+pub fn rounds_of_one(count: u32) {
+    let mut machine = machine(1);
+    for _ in 0..count {
+        make_round(&mut machine, 1);
+    }
 }
 
 fn machine(size: u32) -> Machine {
@@ -151,7 +207,19 @@ fn measure_kinds(
     for ((_, part), measure) in PATH.iter().zip(&measures) {
         measure.print(writer, name, point, part)?;
     }
+    time_next(writer, machine, name, point)
+}
+
+/// Times the question for the next request. It is asked before too, so that the memory for the answers was touched.
+fn time_next(
+    writer: &mut impl Write,
+    machine: &mut Machine,
+    name: &str,
+    point: u32,
+) -> io::Result<()> {
+    let steps = [Step::Next; ASKS];
+    run(machine, &steps);
     let mut next = Measure::default();
-    next.time(machine, &[Step::Next; 16]);
+    next.time(machine, &steps);
     next.print(writer, name, point, "next")
 }

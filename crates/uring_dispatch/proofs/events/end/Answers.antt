@@ -1,55 +1,22 @@
-use Rattle.std.proofs.Common.{sym, ◌∙◌, ap, is_some, Some, None, arith, refl, not, ◌&&◌, subst}
-use Rattle.uring_entry.specs.Requests.{is_soft, entry_of}
-use Rattle.uring_entry.specs.Layout.{Sqe}
-use Rattle.uring_entry.specs.Groups.{earlier_of}
-use Rattle.uring_dispatch.specs.Window.{end_of, one_if}
-use Rattle.uring_dispatch.specs.Groups.{Groups, IsBeyond}
-use Rattle.uring_dispatch.specs.Held.{HasLost}
-use Rattle.uring_dispatch.proofs.EndLemmas.{Ends, end-sound_last, end-sound_more}
-use Rattle.uring_dispatch.proofs.EndsHeld.{end-held, shows-none, shows-more}
+use Rattle.std.proofs.Common.{arith}
+use Rattle.uring_dispatch.proofs.WaitingLemmas.{tell-outstanding, tell-behind, tell-kept, keeps-both, end-listed}
 use Rattle.uring_dispatch.proofs.events.end.Goals as goal
 
-pub group_of-group-requires : goal.group_of-group-requires
-group_of-group-requires c = let link = c.requires.sound.linked c.args.n _ c.end_one-request.ensures.request in ap is_some link.found
+pub relist-requires : goal.relist-requires
+relist-requires c = tell-outstanding _ _ _ c.args.n c.requires.listed c.requires.there
 
-pub next_outstanding-least-requires : goal.next_outstanding-least-requires
-next_outstanding-least-requires c = let kept = c.requires.sound.kept _ c.group_of-group.result c.group_of-group.ensures in omega (arith, kept.to)
+pub relist-requires-2 : goal.relist-requires-2
+relist-requires-2 c = tell-kept _ _ _ _ _ (tell-outstanding _ _ _ c.take_out-others.result.head c.requires.listed c.take_out-others.ensures.head) c.relist.ensures.keeps
 
-pub returns-then-least-group-clause-sound : goal.returns-then-least-group-clause-sound
-returns-then-least-group-clause-sound c =
-    let ends : Ends c.args.window.now c.end_one-request.new.self c.args.groups.now c.remove.new.self c.args.n c.end_one-request.result c.group_of-group.result None =
-    record { there = c.end_one-request.ensures.request; changes = c.end_one-request.ensures.changes; end = c.end_one-request.ensures.end; group = c.group_of-group.ensures; exchange = c.remove.ensures.changes }
-    in
-    end-sound_last _ _ _ _ c.args.n _ _ c.next_outstanding-least.result c.requires.sound ends c.next_outstanding-least.ensures (omega arith) (c.remove.ensures.beyond _ c.requires.sound.beyond) c.remove.ensures.last
+pub relist_range-requires : goal.relist_range-requires
+relist_range-requires c = λ k from to.
+    let doomed = c.take_out-others.ensures.doomed in
+    tell-kept _ _ _ _ _ (tell-kept _ _ _ _ _ (tell-behind _ _ _ c.args.n k c.requires.listed c.requires.there from (omega arith)) c.relist.ensures.keeps) c.relist-2.ensures.keeps
 
-pub returns-then-least-group-clause-held : goal.returns-then-least-group-clause-held
-returns-then-least-group-clause-held c = λ r res bytes h is.
-    let ends : Ends c.args.window.now c.end_one-request.new.self c.args.groups.now c.remove.new.self c.args.n c.end_one-request.result c.group_of-group.result None =
-    record { there = c.end_one-request.ensures.request; changes = c.end_one-request.ensures.changes; end = c.end_one-request.ensures.end; group = c.group_of-group.ensures; exchange = c.remove.ensures.changes }
-    in
-    let lost : HasLost c.args.window.now c.end_one-request.new.self (one_if c.end_one-request.result.is_running) =
-    record { end = c.end_one-request.ensures.end; outstanding = c.end_one-request.ensures.outstanding; runs = c.end_one-request.ensures.running; room = c.end_one-request.ensures.room }
-    in
-    end-held _ _ _ _ r c.args.n _ _ None res bytes c.requires.sound h ends lost c.requires.closed c.remove.ensures.last (shows-none r c.args.n res _)
-
-pub returns-clause-sound : goal.returns-clause-sound
-returns-clause-sound c =
-    let ends : Ends c.args.window.now c.end_one-request.new.self c.args.groups.now c.update.new.self c.args.n c.end_one-request.result c.group_of-group.result (Some _) =
-    record { there = c.end_one-request.ensures.request; changes = c.end_one-request.ensures.changes; end = c.end_one-request.ensures.end; group = c.group_of-group.ensures; exchange = c.update.ensures.changes }
-    in
-    let P : Groups → Type 0 = λ g. IsBeyond g.barriers (end_of c.args.window.now) in
-    end-sound_more _ _ _ _ c.args.n _ _ _ c.next_outstanding-least.result c.requires.sound ends c.next_outstanding-least.ensures (λ e. absurd (omega (arith, e))) refl refl refl
-    (subst P (sym c.update.ensures.same) c.requires.sound.beyond) (ap (λ (g : Groups). g.last) c.update.ensures.same ∙ c.requires.closed)
-
-pub returns-clause-held : goal.returns-clause-held
-returns-clause-held c = λ r res bytes h is.
-    let ends : Ends c.args.window.now c.end_one-request.new.self c.args.groups.now c.update.new.self c.args.n c.end_one-request.result c.group_of-group.result (Some _) =
-    record { there = c.end_one-request.ensures.request; changes = c.end_one-request.ensures.changes; end = c.end_one-request.ensures.end; group = c.group_of-group.ensures; exchange = c.update.ensures.changes }
-    in
-    let lost : HasLost c.args.window.now c.end_one-request.new.self (one_if c.end_one-request.result.is_running) =
-    record { end = c.end_one-request.ensures.end; outstanding = c.end_one-request.ensures.outstanding; runs = c.end_one-request.ensures.running; room = c.end_one-request.ensures.room }
-    in
-    let entry = (h.shown c.args.n _ c.end_one-request.ensures.request).entry in
-    let breaks = c.breaks-is_break.ensures ∙ ap (λ (e : Sqe). is_soft e && not c.args.is_success) entry ∙ ap (λ b. is_soft (entry_of r c.args.n) && not b) is in
-    end-held _ _ _ _ r c.args.n _ _ (Some _) res bytes c.requires.sound h ends lost c.requires.closed (ap (λ (g : Groups). g.last) c.update.ensures.same ∙ c.requires.closed)
-    (shows-more r c.args.n res c.group_of-group.result _ refl refl refl refl (c.earlier_of-broken.ensures ∙ ap (λ b. earlier_of c.group_of-group.result.broken b c.args.n) breaks))
+pub returns-clause-listed : goal.returns-clause-listed
+returns-clause-listed c =
+    let a = c.relist.ensures in
+    let b = c.relist-2.ensures in
+    let d = c.relist_range.ensures in
+    end-listed _ _ _ _ _ _ _ c.args.n c.take_out-others.result.head c.take_out-others.result.doomed_end c.first.result c.requires.listed c.take_out-others.ensures.gone c.take_out-others.ensures.counts.end c.take_out-others.ensures.others
+    (keeps-both _ _ _ _ _ (keeps-both _ _ _ _ _ a.keeps b.keeps) d.keeps) (d.keeps.told c.args.n (b.keeps.told c.args.n a.here)) (d.keeps.told c.take_out-others.result.head b.here) d.here c.drop_before.ensures.heads c.drop_before.ensures.doomed c.first.ensures.within c.first.ensures.before

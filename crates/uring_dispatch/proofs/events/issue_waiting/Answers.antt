@@ -1,10 +1,11 @@
-use Rattle.std.proofs.Common.{sym, ◌∙◌, ap, refl, negsuc, rules, arith}
+use Rattle.std.proofs.Common.{sym, ◌∙◌, ap, refl, is_some, negsuc, rules, arith}
 use Rattle.std.specs.Int.{w32}
 use Rattle.std.proofs.lemmas.Int.{to_z-of_z}
 use Rattle.uring_entry.specs.Layout.{addr_of}
 use Rattle.uring_entry.specs.Requests.{entry_of, no_bytes}
 use Rattle.uring_dispatch.specs.Window.{started}
 use Rattle.uring_dispatch.proofs.HeldLemmas.{shown-within}
+use Rattle.uring_dispatch.proofs.WaitingLemmas.{tell-outstanding, write-listed}
 use Rattle.uring_dispatch.proofs.Changes.{write-sound, start-held, ends-alone, none_chosen}
 use Rattle.uring_dispatch.proofs.Issues.{op-none, op-some, issued-faulty, issued-doomed, issued-cancel, issued-run, is_cancel-operation}
 use Rattle.uring_dispatch.proofs.events.issue_waiting.Goals as goal
@@ -44,6 +45,9 @@ returns-in-Cancel-clause-held c = λ r h.
     rw (to_z-of_z w32 c.cancel.result (search rules))
     (c.cancel.ensures.held r h (c.addr.ensures ∙ ap addr_of shown.entry) (is_cancel-operation (entry_of r c.args.n) c.in-Cancel.target (sym does.1 ∙ c.in-Cancel.is)))
 
+pub relist-requires : goal.relist-requires
+relist-requires c = tell-outstanding _ _ _ c.args.n c.requires.listed (ap is_some c.requires.there)
+
 pub returns : goal.returns
 returns c =
     let same = c.start.ensures.same in
@@ -51,6 +55,8 @@ returns c =
       sound = write-sound _ _ _ c.args.n c.args.request (started c.args.request) c.requires.sound c.requires.there (c.start.ensures.changes _ c.requires.there) refl same.end;
       closed = c.requires.closed;
       groups_room = refl;
+      listed = write-listed _ _ _ _ _ c.args.n (started c.args.request) c.requires.listed (ap is_some c.requires.there) (c.start.ensures.changes _ c.requires.there) same.end c.relist.ensures.keeps c.relist.ensures.here;
+      waiting_room = let keeps = c.relist.ensures.keeps in let heads = keeps.heads.limit in let doomed = keeps.doomed.limit in record { heads = omega arith; doomed = omega arith };
       answer = λ r h.
           let does = op-some (entry_of r c.args.n) c.in-Some.op (sym c.in-Some.is ∙ (h.shown c.args.n c.args.request c.requires.there).op) in
           issued-run r c.args.n c.in-Some.op (sym (c.is_doomed.ensures r h) ∙ c.if-is_doomed.false) (sym (c.is_ready.ensures r h) ∙ c.if-not-is_ready.false) does.1 c.in_default-op.not-Cancel;

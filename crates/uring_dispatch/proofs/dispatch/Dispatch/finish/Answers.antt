@@ -7,6 +7,9 @@ invariant_of-self c =
     let end = unchanged-end-finish _ _ _ (c.finish.ensures.counts 0 c.self.inside.is_between_calls) in
     record {
       sound = c.finish.ensures.sound;
+      listed = c.finish.ensures.listed;
+      heads = omega (arith, c.self.invariant.heads, c.finish.ensures.waiting_room.heads, end);
+      doomed = omega (arith, c.self.invariant.doomed, c.finish.ensures.waiting_room.doomed, end);
       window = omega (arith, c.self.invariant.window);
       groups = omega (arith, c.self.invariant.groups);
       closed = λ e. c.finish.ensures.closed;

@@ -7,6 +7,9 @@ invariant_of-self c =
     let end = unchanged-end-issue _ _ _ (c.issue.ensures.counts 0 c.self.inside.is_between_calls) in
     record {
       sound = c.issue.ensures.sound;
+      listed = c.issue.ensures.listed;
+      heads = omega (arith, c.self.invariant.heads, c.issue.ensures.waiting_room.heads, end);
+      doomed = omega (arith, c.self.invariant.doomed, c.issue.ensures.waiting_room.doomed, end);
       window = omega (arith, c.self.invariant.window);
       groups = omega (arith, c.self.invariant.groups);
       closed = λ e. c.issue.ensures.closed;

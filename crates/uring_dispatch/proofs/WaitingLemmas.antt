@@ -1,0 +1,282 @@
+-- What is told of who waits: how it is kept when other requests are told of anew.
+use Rattle.std.proofs.Common.{◌≡◌, ◌≢◌, ℕ, ◌<◌, ◌≤◌, Bool, true, false, not, ◌&&◌, ◌||◌, ◌⊎◌, Option, Some, None, is_some, refl, sym, ◌∙◌, ap, subst, arith, inl, inr}
+use Rattle.std.specs.Prelude.{if◌then◌else◌}
+use Rattle.std.proofs.lemmas.Bool.{cases_lt, cases_eq, both_ways, false≢true, lt-ltb, le-ltb, ltb-true, ne_eqb}
+use Rattle.uring_entry.specs.Groups.{is_before, earlier_of}
+use Rattle.uring_dispatch.specs.declared.request.Request.{Request}
+use Rattle.uring_dispatch.specs.declared.group.Group.{Group}
+use Rattle.uring_dispatch.specs.declared.waiting.Waiting.{Waiting}
+use Rattle.uring_dispatch.specs.NumberSet.{NumberSet, Covers, HasMoved}
+use Rattle.uring_dispatch.specs.Window.{Window, at, end_of, Changes}
+use Rattle.uring_dispatch.specs.Groups.{Groups, group_at}
+use Rattle.uring_dispatch.specs.Held.{IsSound, IsNext}
+use Rattle.uring_dispatch.proofs.WindowFront.{at-past}
+use Rattle.uring_dispatch.proofs.BlockLemmas.{holds-same}
+use Rattle.uring_dispatch.proofs.HeldLemmas.{some_none, same_some}
+use Rattle.uring_dispatch.proofs.EndLemmas.{Ends}
+use Rattle.uring_dispatch.specs.Waiting.{leads, dooms, waits_at_head, waits_doomed, IsListedAt, Reaches, IsListed, CanTell, IsSameReach, Keeps, StandsAsBefore}
+
+-- Telling anew.
+
+same-reach : (s : NumberSet) → IsSameReach s s
+same-reach s = record { start = refl; stop = refl; limit = refl }
+
+reach-both : (s t u : NumberSet) → IsSameReach s t → IsSameReach t u → IsSameReach s u
+reach-both s t u a b = record { start = b.start ∙ a.start; stop = b.stop ∙ a.stop; limit = b.limit ∙ a.limit }
+
+pub keeps-none : (w : Window) (g : Groups) (s : Waiting) → Keeps w g s s
+keeps-none w g s = record { told = λ k e. e; heads = same-reach s.heads; doomed = same-reach s.doomed }
+
+pub keeps-both : (w : Window) (g : Groups) (s t u : Waiting) → Keeps w g s t → Keeps w g t u → Keeps w g s u
+keeps-both w g s t u a b = record {
+  told = λ k e. b.told k (a.told k e);
+  heads = reach-both s.heads t.heads u.heads a.heads b.heads;
+  doomed = reach-both s.doomed t.doomed u.doomed a.doomed b.doomed;
+}
+
+covers-kept : (s t : NumberSet) (n : ℕ) → Covers s n → IsSameReach s t → Covers t n
+covers-kept s t n c k =
+    let a = c.from in
+    let b = c.to in
+    let x = k.start in
+    let y = k.stop in
+    record { from = omega arith; to = omega arith }
+
+pub tell-kept : (w : Window) (g : Groups) (s t : Waiting) (n : ℕ) → CanTell s n → Keeps w g s t → CanTell t n
+tell-kept w g s t n c k = record { heads = covers-kept s.heads t.heads n c.heads k.heads; doomed = covers-kept s.doomed t.doomed n c.doomed k.doomed }
+
+-- What an event leaves as it was.
+
+-- a request that is the same, in the same group
+pub stands-same : (w v : Window) (g : Groups) (k : ℕ) → at v k ≡ at w k → StandsAsBefore w v g g k
+stands-same w v g k e = record { head = ap (λ o. waits_at_head g o k) e; doomed = ap (λ o. waits_doomed g o k) e }
+
+-- what is told stays right where the request stands as it did
+pub told-before : (w v : Window) (g h : Groups) (s : Waiting) (k : ℕ) → IsListedAt w g s k → StandsAsBefore w v g h k → IsListedAt v h s k
+told-before w v g h s k t b = record { head = t.head ∙ sym b.head; doomed = t.doomed ∙ sym b.doomed }
+
+before-none : (o : Option ℕ) (k : ℕ) → o ≡ None → is_before o k ≡ true → ⊥
+before-none None k e is = false≢true is
+before-none (Some m) k e is = cc
+
+-- an end that fails changes who is behind a failure only among those behind it that weren't
+pub before-earlier : (o : Option ℕ) (b : Bool) (n k : ℕ) → (b ≡ true → (k < n) ⊎ (is_before o k ≡ true)) → is_before (earlier_of o b n) k ≡ is_before o k
+before-earlier None false n k h = refl
+before-earlier None true n k h =
+    elim (h refl) [
+      | inl low ↦ le-ltb n k (omega arith)
+      | inr was ↦ absurd (false≢true was)
+    ]
+before-earlier (Some m) false n k h = refl
+before-earlier (Some m) true n k h =
+    elim (cases_lt n m) [
+      | inl earlier ↦
+          ap (λ b. is_before (if b then Some n else Some m) k) (lt-ltb n m earlier)
+          ∙ elim (h refl) [
+            | inl low ↦ le-ltb n k (omega arith) ∙ sym (le-ltb m k (omega arith))
+            | inr was ↦ let lt = ltb-true m k was in lt-ltb n k (omega arith) ∙ sym was
+          ]
+      | inr later ↦ ap (λ b. is_before (if b then Some n else Some m) k) (le-ltb n m later)
+    ]
+
+-- the request k of another group, or of none
+pub stands-apart : (w v : Window) (g h : Groups) (k : ℕ) → at v k ≡ at w k → ((x : Request) → at w k ≡ Some x → group_at h x.group ≡ group_at g x.group) → StandsAsBefore w v g h k
+stands-apart w v g h k same others = go (at w k) refl
+  where
+    go : (o : Option Request) → at w k ≡ o → StandsAsBefore w v g h k
+    go None e = record {
+      head = ap (λ o. waits_at_head h o k) (same ∙ e) ∙ sym (ap (λ o. waits_at_head g o k) e);
+      doomed = ap (λ o. waits_doomed h o k) (same ∙ e) ∙ sym (ap (λ o. waits_doomed g o k) e);
+    }
+    go (Some x) e = record {
+      head = ap (λ o. waits_at_head h o k) (same ∙ e) ∙ ap (λ p. not x.is_running && leads p k) (others x e) ∙ sym (ap (λ o. waits_at_head g o k) e);
+      doomed = ap (λ o. waits_doomed h o k) (same ∙ e) ∙ ap (λ p. not x.is_running && (dooms p k || x.is_cancelled)) (others x e) ∙ sym (ap (λ o. waits_doomed g o k) e);
+    }
+
+-- the request k of a group that leads and dooms it as before
+pub stands-in : (w v : Window) (g h : Groups) (k : ℕ) (x : Request) (p q : Group) → at v k ≡ at w k → at w k ≡ Some x → group_at g x.group ≡ Some q → group_at h x.group ≡ Some p → leads (Some p) k ≡ leads (Some q) k → dooms (Some p) k ≡ dooms (Some q) k → StandsAsBefore w v g h k
+stands-in w v g h k x p q same e was now leads_on dooms_on = record {
+  head =
+      ap (λ o. waits_at_head h o k) (same ∙ e) ∙ ap (λ o. not x.is_running && leads o k) now ∙ ap (λ b. not x.is_running && b) leads_on
+      ∙ sym (ap (λ o. waits_at_head g o k) e ∙ ap (λ o. not x.is_running && leads o k) was);
+  doomed =
+      ap (λ o. waits_doomed h o k) (same ∙ e) ∙ ap (λ o. not x.is_running && (dooms o k || x.is_cancelled)) now
+      ∙ ap (λ b. not x.is_running && (b || x.is_cancelled)) dooms_on
+      ∙ sym (ap (λ o. waits_doomed g o k) e ∙ ap (λ o. not x.is_running && (dooms o k || x.is_cancelled)) was);
+}
+
+-- A request ends.
+
+-- the last member of its group
+pub stands-ended_last : (w v : Window) (g h : Groups) (n : ℕ) (request : Request) (q : Group) (least k : ℕ) → IsSound w g → Ends w v g h n request q None → IsNext v q.least q.end least → least ≡ q.end → k ≢ n → StandsAsBefore w v g h k
+stands-ended_last w v g h n request q least k s e next all ne =
+    let kept = s.kept request.group q e.group in
+    let same = e.changes.others k ne in
+    stands-apart w v g h k same
+    (λ x is.
+    e.exchange.others x.group
+    (λ here.
+    let link = s.linked k x is in
+    let one : link.group ≡ q = same_some _ _ (sym link.found ∙ ap (group_at g) here ∙ e.group) in
+    let from : q.from ≤ k = let P : Group → Type 0 = λ z. z.from ≤ k in subst P one link.from in
+    let to : k < q.end = let P : Group → Type 0 = λ z. k < z.end in subst P one link.to in
+    elim (cases_lt k q.least) [
+      | inl low ↦ some_none x _ (kept.over k from low) is
+      | inr high ↦ some_none x _ (next.over k high (omega arith)) (same ∙ is)
+    ]))
+
+-- another member of its group is outstanding
+pub stands-ended_more : (w v : Window) (g h : Groups) (n : ℕ) (request : Request) (q p : Group) (least k : ℕ) (breaks : Bool) → IsSound w g → Ends w v g h n request q (Some p) → IsNext v q.least q.end least → p.least ≡ least → p.fault ≡ q.fault → p.broken ≡ earlier_of q.broken breaks n → (breaks ≡ true → k < q.end → (k < n) ⊎ (is_before q.broken k ≡ true)) → k ≢ n → k ≢ least → StandsAsBefore w v g h k
+stands-ended_more w v g h n request q p least k breaks s e next is_least fault broken behind ne_n ne_least = go (at w k) refl
+  where
+    same : at v k ≡ at w k
+    same = e.changes.others k ne_n
+
+    go : (o : Option Request) → at w k ≡ o → StandsAsBefore w v g h k
+    go None is = stands-apart w v g h k same (λ x there. some_none x _ is there)
+    go (Some x) is =
+        elim (cases_eq x.group request.group) [
+          | inr apart ↦
+              stands-apart w v g h k same
+              (λ y there. let one : x ≡ y = same_some _ _ (sym is ∙ there) in
+              let P : Request → Type 0 = λ z. group_at h z.group ≡ group_at g z.group in subst P one (e.exchange.others x.group apart))
+          | inl here ↦
+              let was = ap (group_at g) here ∙ e.group in
+              let now = ap (group_at h) here ∙ e.exchange.here in
+              let link = s.linked k x is in
+              let one : link.group ≡ q = same_some _ _ (sym link.found ∙ was) in
+              let to : k < q.end = let P : Group → Type 0 = λ z. k < z.end in subst P one link.to in
+              let led : q.least ≢ k =
+              λ is_first.
+              elim (cases_lt k least) [
+                | inl low ↦ some_none x _ (next.over k (omega arith) low) (same ∙ is)
+                | inr high ↦ let up = next.from_on in absurd (ne_least (omega arith))
+              ]
+              in
+              stands-in w v g h k x p q same is was now
+              (ne_eqb p.least k (λ z. ne_least (sym z ∙ is_least)) ∙ sym (ne_eqb q.least k led))
+              (ap (λ f. is_some f || is_before p.broken k) fault
+              ∙ ap (λ b. is_some q.fault || is_before b k) broken
+              ∙ ap (λ b. is_some q.fault || b) (before-earlier q.broken breaks n k (λ t. behind t to)))
+        ]
+
+-- What is covered.
+
+pub within-end : (w : Window) (n : ℕ) → is_some (at w n) ≡ true → n < end_of w
+within-end w n there =
+    elim (cases_lt n (end_of w)) [
+      | inl low ↦ low
+      | inr past ↦ absurd (both_ways _ (ap is_some (at-past w n past)) there)
+    ]
+
+covers-outstanding : (w : Window) (s : NumberSet) (n : ℕ) → Reaches w s → is_some (at w n) ≡ true → Covers s n
+covers-outstanding w s n r there =
+    let low = r.low n there in
+    let within = within-end w n there in
+    let stop = r.stop in
+    record { from = low; to = omega arith }
+
+-- what can be told of an outstanding request
+pub tell-outstanding : (w : Window) (g : Groups) (s : Waiting) (n : ℕ) → IsListed w g s → is_some (at w n) ≡ true → CanTell s n
+tell-outstanding w g s n l there =
+    record { heads = covers-outstanding w s.heads n l.heads there; doomed = covers-outstanding w s.doomed n l.doomed there }
+
+covers-behind : (w : Window) (s : NumberSet) (n k : ℕ) → Reaches w s → is_some (at w n) ≡ true → n ≤ k → k < end_of w → Covers s k
+covers-behind w s n k r there from to =
+    let low = r.low n there in
+    let stop = r.stop in
+    record { from = omega arith; to = omega arith }
+
+-- and of one behind it
+pub tell-behind : (w : Window) (g : Groups) (s : Waiting) (n k : ℕ) → IsListed w g s → is_some (at w n) ≡ true → n ≤ k → k < end_of w → CanTell s k
+tell-behind w g s n k l there from to =
+    record { heads = covers-behind w s.heads n k l.heads there from to; doomed = covers-behind w s.doomed n k l.doomed there from to }
+
+-- fewer requests are outstanding
+pub reaches-fewer : (w v : Window) (s t : NumberSet) → Reaches w s → end_of v ≡ end_of w → ((k : ℕ) → is_some (at v k) ≡ true → is_some (at w k) ≡ true) → IsSameReach s t → Reaches v t
+reaches-fewer w v s t r end fewer same =
+    let start = r.start in
+    let stop = r.stop in
+    let a = same.start in
+    let b = same.stop in
+    record { start = omega arith; stop = omega arith; low = λ k there. let low = r.low k (fewer k there) in omega arith }
+
+-- what was let go at the front isn't needed
+pub reaches-moved : (w : Window) (s t : NumberSet) (first : ℕ) → Reaches w s → HasMoved s t first → first ≤ end_of w → ((k : ℕ) → k < first → at w k ≡ None) → Reaches w t
+reaches-moved w s t first r m within before =
+    let stop = r.stop in
+    let same = m.stop in
+    record {
+      start = m.start (end_of w) r.start within;
+      stop = omega arith;
+      low = λ k there.
+          m.start k (r.low k there)
+          (elim (cases_lt k first) [ inl low ↦ absurd (both_ways _ (ap is_some (before k low)) there) | inr high ↦ high ]);
+    }
+
+pub told-moved : (w : Window) (g : Groups) (s t : Waiting) (k a b : ℕ) → IsListedAt w g s k → HasMoved s.heads t.heads a → HasMoved s.doomed t.doomed b → IsListedAt w g t k
+told-moved w g s t k a b l x y = record {
+  head = holds-same s.heads t.heads x.same.same k ∙ l.head;
+  doomed = holds-same s.doomed t.doomed y.same.same k ∙ l.doomed;
+}
+
+-- A request ended, and all whose standing may have changed were told of anew.
+pub end-listed : (w v : Window) (g h : Groups) (s t u : Waiting) (n head stop first : ℕ) → IsListed w g s → Changes w v n None → end_of v ≡ end_of w → ((k : ℕ) → k ≢ n → k ≢ head → (k < n) ⊎ (stop ≤ k) → StandsAsBefore w v g h k) → Keeps v h s t → IsListedAt v h t n → IsListedAt v h t head → ((k : ℕ) → n ≤ k → k < stop → IsListedAt v h t k) → HasMoved t.heads u.heads first → HasMoved t.doomed u.doomed first → first ≤ end_of v → ((k : ℕ) → k < first → at v k ≡ None) → IsListed v h u
+end-listed w v g h s t u n head stop first l c end others keeps own at_head between x y within before =
+    let fewer : (k : ℕ) → is_some (at v k) ≡ true → is_some (at w k) ≡ true =
+    λ k there.
+    elim (cases_eq k n) [
+      | inl same ↦ absurd (both_ways _ (ap is_some (ap (at v) same ∙ c.here)) there)
+      | inr other ↦ ap is_some (sym (c.others k other)) ∙ there
+    ]
+    in
+    record {
+      told = λ k. told-moved v h t u k first first (one k) x y;
+      heads = reaches-moved v t.heads u.heads first (reaches-fewer w v s.heads t.heads l.heads end fewer keeps.heads) x within before;
+      doomed = reaches-moved v t.doomed u.doomed first (reaches-fewer w v s.doomed t.doomed l.doomed end fewer keeps.doomed) y within before;
+    }
+  where
+    P : ℕ → Type 0
+    P j = IsListedAt v h t j
+
+    stays : (k : ℕ) → k ≢ n → k ≢ head → (k < n) ⊎ (stop ≤ k) → IsListedAt v h t k
+    stays k a b z = keeps.told k (told-before w v g h s k (l.told k) (others k a b z))
+
+    one : (k : ℕ) → IsListedAt v h t k
+    one k =
+        elim (cases_eq k n) [
+          | inl same ↦ subst P (sym same) own
+          | inr apart ↦
+              elim (cases_eq k head) [
+                | inl same ↦ subst P (sym same) at_head
+                | inr other ↦
+                    elim (cases_lt k n) [
+                      | inl low ↦ stays k apart other (inl low)
+                      | inr high ↦
+                          elim (cases_lt k stop) [
+                            | inl inside ↦ between k high inside
+                            | inr past ↦ stays k apart other (inr past)
+                          ]
+                    ]
+              ]
+        ]
+
+-- A request was written, and it was told of anew.
+pub write-listed : (w v : Window) (g : Groups) (s t : Waiting) (n : ℕ) (q : Request) → IsListed w g s → is_some (at w n) ≡ true → Changes w v n (Some q) → end_of v ≡ end_of w → Keeps v g s t → IsListedAt v g t n → IsListed v g t
+write-listed w v g s t n q l there c end keeps own =
+    let as_many : (k : ℕ) → is_some (at v k) ≡ true → is_some (at w k) ≡ true =
+    λ k some.
+    elim (cases_eq k n) [
+      | inl same ↦ ap (λ j. is_some (at w j)) same ∙ there
+      | inr other ↦ ap is_some (sym (c.others k other)) ∙ some
+    ]
+    in
+    record {
+      told = λ k.
+          elim (cases_eq k n) [
+            | inl same ↦ let P : ℕ → Type 0 = λ j. IsListedAt v g t j in subst P (sym same) own
+            | inr other ↦ keeps.told k (told-before w v g g s k (l.told k) (stands-same w v g k (c.others k other)))
+          ];
+      heads = reaches-fewer w v s.heads t.heads l.heads end as_many keeps.heads;
+      doomed = reaches-fewer w v s.doomed t.doomed l.doomed end as_many keeps.doomed;
+    }

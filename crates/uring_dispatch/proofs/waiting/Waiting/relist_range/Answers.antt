@@ -1,0 +1,24 @@
+use Rattle.std.proofs.Common.{arith, inl, inr, ℕ, ◌≡◌, subst}
+use Rattle.std.proofs.lemmas.Bool.{cases_lt}
+use Rattle.uring_dispatch.specs.Waiting.{IsListedAt}
+use Rattle.uring_dispatch.proofs.WaitingLemmas.{keeps-none, keeps-both, tell-kept}
+use Rattle.uring_dispatch.proofs.waiting.Waiting.relist_range.Goals as goal
+
+pub loop-n-init : goal.loop-n-init
+loop-n-init c = record { here = λ k from to. absurd (omega arith); keeps = keeps-none _ _ _ }
+
+pub relist-requires : goal.relist-requires
+relist-requires c = tell-kept _ _ _ _ c.loop-n.n (c.requires c.loop-n.n (omega arith) (omega arith)) c.loop-n.invariant.keeps
+
+pub loop-n-preserved : goal.loop-n-preserved
+loop-n-preserved c = record {
+  here = λ k from to.
+      elim (cases_lt k c.loop-n.n) [
+        | inl low ↦ c.relist.ensures.keeps.told k (c.loop-n.invariant.here k from low)
+        | inr high ↦
+            let same : c.loop-n.n ≡ k = omega arith in
+            let P : ℕ → Type 0 = λ j. IsListedAt c.args.window.now c.args.groups.now c.relist.new.self j in
+            subst P same c.relist.ensures.here
+      ];
+  keeps = keeps-both _ _ _ _ _ c.loop-n.invariant.keeps c.relist.ensures.keeps;
+}

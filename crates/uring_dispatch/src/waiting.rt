@@ -1,0 +1,154 @@
+//! Which of the outstanding requests wait at the head of their group, and which are doomed: among these is the next to be issued.
+
+ghost use Rattle.std.specs.Prelude.{◌≡◌, ℕ, ◌+◌, ◌^◌, ◌<◌, ◌≤◌, false, Some, OnOk};
+ghost use Rattle.uring_dispatch.specs.NumberSet.{holds, start_of, stop_of, HasSame, HasGrown, HasMoved};
+ghost use Rattle.uring_dispatch.specs.Window.{at};
+ghost use Rattle.uring_dispatch.specs.Groups.{group_at};
+ghost use Rattle.uring_dispatch.specs.Waiting.{waits_at_head, waits_doomed, dooms, IsListedAt, CanTell, Keeps, CanGrow, GrowsTo, Starts, IsFirstTold};
+
+use crate::group::{Group, is_before};
+use crate::groups::Groups;
+use crate::number_set::NumberSet;
+use crate::window::Window;
+use std::alloc::{AllocError, Global};
+
+/// The requests that wait at the head of their group, and those that wait and are doomed, by their numbers.
+#[derive(Drop)]
+pub(crate) struct Waiting {
+    pub(crate) heads: NumberSet,
+    pub(crate) doomed: NumberSet,
+}
+
+/// How a request stands that was not started.
+#[derive(Clone, Copy)]
+struct Standing {
+    is_head: bool,
+    is_doomed: bool,
+}
+
+impl Waiting {
+    /// Nothing yet. It takes no memory.
+    pub(crate) fn new(alloc: Global) -> Waiting
+        ensures heads { (n : ℕ) → holds result.heads n ≡ false }
+        ensures heads_start { start_of result.heads ≡ 0 }
+        ensures heads_stop { stop_of result.heads ≡ 0 }
+        ensures doomed { (n : ℕ) → holds result.doomed n ≡ false }
+        ensures doomed_start { start_of result.doomed ≡ 0 }
+        ensures doomed_stop { stop_of result.doomed ≡ 0 }
+    {
+        Waiting {
+            heads: NumberSet::new(alloc),
+            doomed: NumberSet::new(alloc),
+        }
+    }
+
+    /// Asks for the memory of `count` numbers more.
+    pub(crate) fn reserve(&mut self, count: u64) -> Result<(), AllocError>
+        requires { count < 2 ^ 63 }
+        ensures heads { OnOk result (stop_of self.old.heads + count ≤ self.new.heads.limit) }
+        ensures doomed { OnOk result (stop_of self.old.doomed + count ≤ self.new.doomed.limit) }
+        ensures same_heads { HasSame self.old.heads self.new.heads }
+        ensures same_doomed { HasSame self.old.doomed self.new.doomed }
+    {
+        self.heads.reserve(count)?;
+        self.doomed.reserve(count)
+    }
+
+    /// Tells of the new request `n` and, if its fault is the first of its group, which has this key, of all members anew.
+    pub(crate) fn accept(&mut self, window: &Window, groups: &Groups, n: u64, key: usize)
+        requires heads { CanGrow self.old.heads n }
+        requires doomed { CanGrow self.old.doomed n }
+        requires fits { n < 2 ^ 63 }
+        requires low { (p : Group) → group_at groups.now key ≡ Some p → Starts self.old p.least }
+        ensures own { IsListedAt window.now groups.now self.new n }
+        ensures members { (p : Group) → group_at groups.now key ≡ Some p → p.fault ≡ Some n → (k : ℕ) → p.least ≤ k → k < n → IsListedAt window.now groups.now self.new k }
+        ensures told { (k : ℕ) → IsListedAt window.now groups.now self.old k → IsListedAt window.now groups.now self.new k }
+        ensures heads_reach { GrowsTo self.old.heads self.new.heads n }
+        ensures doomed_reach { GrowsTo self.old.doomed self.new.doomed n }
+    {
+        self.heads.extend(n);
+        self.doomed.extend(n);
+        let from = first_told(groups, n, key);
+        self.relist_range(window, groups, from, n + 1);
+    }
+
+    /// Tells anew of request `n` whether it waits at the head of its group, and whether it is doomed.
+    pub(crate) fn relist(&mut self, window: &Window, groups: &Groups, n: u64)
+        requires { CanTell self.old n }
+        ensures here { IsListedAt window.now groups.now self.new n }
+        ensures keeps { Keeps window.now groups.now self.old self.new }
+    {
+        let standing = standing_of(window, groups, n);
+        self.heads.put(n, standing.is_head);
+        self.doomed.put(n, standing.is_doomed);
+    }
+
+    /// Tells anew of the requests from one number on and below another.
+    pub(crate) fn relist_range(&mut self, window: &Window, groups: &Groups, from: u64, to: u64)
+        requires { (n : ℕ) → from ≤ n → n < to → CanTell self.old n }
+        ensures here { (n : ℕ) → from ≤ n → n < to → IsListedAt window.now groups.now self.new n }
+        ensures keeps { Keeps window.now groups.now self.old self.new }
+    {
+        for n in from..to {
+            self.relist(window, groups, n);
+        }
+    }
+
+    /// Lets go what is kept for numbers before `n`, as far as none of them waits.
+    pub(crate) fn drop_before(&mut self, n: u64)
+        ensures heads { HasMoved self.old.heads self.new.heads n }
+        ensures doomed { HasMoved self.old.doomed self.new.doomed n }
+    {
+        self.heads.drop_before(n);
+        self.doomed.drop_before(n);
+    }
+}
+
+/// The first of the members that are doomed by the fault of the new member `n`, or else `n` itself.
+fn first_told(groups: &Groups, n: u64, key: usize) -> u64
+    ensures { IsFirstTold groups.now n key result }
+{
+    match groups.get(key) {
+        Some(group) => match group.fault {
+            Some(m) if m == n => group.least.min(n),
+            _ => n,
+        },
+        None => n,
+    }
+}
+
+/// How request `n` stands.
+fn standing_of(window: &Window, groups: &Groups, n: u64) -> Standing
+    ensures head { result.is_head ≡ waits_at_head groups.now (at window.now n) n }
+    ensures doomed { result.is_doomed ≡ waits_doomed groups.now (at window.now n) n }
+{
+    let Some(request) = window.get(n) else {
+        return Standing {
+            is_head: false,
+            is_doomed: false,
+        };
+    };
+    if request.is_running {
+        return Standing {
+            is_head: false,
+            is_doomed: false,
+        };
+    }
+    let Some(group) = groups.get(request.group) else {
+        return Standing {
+            is_head: false,
+            is_doomed: request.is_cancelled,
+        };
+    };
+    Standing {
+        is_head: group.least == n,
+        is_doomed: dooms(group, n) || request.is_cancelled,
+    }
+}
+
+/// Whether a group dooms its member `n`.
+fn dooms(group: &Group, n: u64) -> bool
+    ensures { result ≡ dooms (Some group.now) n }
+{
+    group.fault.is_some() || is_before(group.broken, n)
+}
