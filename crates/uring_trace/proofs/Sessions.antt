@@ -14,7 +14,8 @@ use Rattle.uring_machine.specs.declared.step.Step.{Step}
 use Rattle.uring_trace.specs.Spelling.{IsStep, IsBad}
 use Rattle.uring_trace.specs.Lines.{IsUnbroken, Splits, with_last, joined, ended}
 use Rattle.uring_trace.specs.Exchanges.{Exchange, Answers, answer_text, lines_of, events_of}
-use Rattle.uring_trace.specs.Sessions.{Keeps300, AppendsAnswer, Holds, with_event}
+use Rattle.uring_trace.specs.KeptLines.{Keeps300}
+use Rattle.uring_trace.specs.Sessions.{AppendsAnswer, Holds, with_event}
 use Rattle.uring_trace.specs.Traces.{IsWhole, IsBeginning, IsEnded}
 
 -- a value's fact, whatever the value

@@ -3,6 +3,7 @@ pub mod Spelling
 pub mod Reading
 pub mod Text
 pub mod Lines
+pub mod KeptLines
 pub mod Exchanges
 pub mod Traces
 pub mod Sessions

@@ -6,6 +6,7 @@ mod entry_tokens;
 mod flag_tokens;
 mod hex_tokens;
 pub mod laws;
+mod line;
 mod number_tokens;
 mod session;
 mod step_lines;
