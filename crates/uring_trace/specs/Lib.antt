@@ -8,3 +8,7 @@ pub mod Exchanges
 pub mod Traces
 pub mod Sessions
 pub mod Streams
+pub mod Reasons
+pub mod Remarks
+pub mod Explanations
+pub mod Explaining

@@ -2,6 +2,7 @@
 
 ghost use Rattle.std.specs.Prelude.{◌≡◌, ◌≤◌, ℕ, List, [], ◌∷◌, ◌++◌, ◌==◌, false, length, IfOk, MatchOption, vec_len, vec_capacity};
 ghost use Rattle.uring_trace.specs.Spelling.{IsStep, IsBad};
+ghost use Rattle.uring_trace.specs.Remarks.{is_remark};
 ghost use Rattle.uring_trace.specs.KeptLines.{Keeps300};
 
 use crate::step_lines::{LONGEST_LINE, read_step};
@@ -36,6 +37,16 @@ impl Line {
         ensures { result ≡ (length self.now.kept.items == 0) }
     {
         self.kept.is_empty()
+    }
+
+    /// Whether it is a remark: empty, or with `#` as its first byte.
+    pub(crate) fn is_remark(&self) -> bool
+        ensures { (line : List ℕ) → Keeps300 line self.now.kept.items self.now.is_long → result ≡ is_remark line }
+    {
+        match self.kept.first() {
+            Some(byte) => *byte == b'#',
+            None => true,
+        }
     }
 
     /// Takes in its next byte.
