@@ -1,11 +1,11 @@
 -- What an explainer keeps, byte by byte and line by line.
-use Rattle.std.proofs.Common.{◌≡◌, ◌≢◌, ℕ, ◌+◌, ◌-◌, ◌^◌, ◌<◌, min, Bool, true, false, not, ◌&&◌, ◌||◌, List, [], ◌∷◌, ◌++◌, length, take, Option, Some, None, Result, Ok, Err, refl, sym, ap, subst, ◌∙◌, append_assoc, arith}
+use Rattle.std.proofs.Common.{◌≡◌, ◌≢◌, ℕ, ◌+◌, ◌-◌, ◌^◌, ◌<◌, min, Bool, true, false, not, ◌&&◌, ◌||◌, List, [], ◌∷◌, ◌++◌, length, take, Some, None, Result, Ok, Err, refl, sym, ap, subst, ◌∙◌, append_assoc, arith}
 use Rattle.std.specs.Prelude.{if◌then◌else◌, is_none, IfOk}
 use Rattle.std.specs.List.{list_any}
 use Rattle.std.proofs.lemmas.List.{append-nil, length-take, nil_from_length}
 use Rattle.uring_entry.specs.Setup.{Setup}
 use Rattle.uring_machine.specs.CalledFor.{IsLawful}
-use Rattle.uring_machine.specs.Histories.{Event, History, history_of, world}
+use Rattle.uring_machine.specs.Histories.{History, history_of, world}
 use Rattle.uring_machine.specs.Machine.{Machine, Fits}
 use Rattle.uring_machine.specs.declared.step.Step.{Step}
 use Rattle.uring_trace.specs.Spelling.{IsStep, IsBad}
@@ -15,7 +15,7 @@ use Rattle.uring_trace.specs.Remarks.{is_remark}
 use Rattle.uring_trace.specs.Exchanges.{Exchange, lines_of, events_of}
 use Rattle.uring_trace.specs.Sessions.{with_event}
 use Rattle.std.specs.Prelude.{codes}
-use Rattle.uring_trace.specs.Explanations.{Explains, ExplainsWhole, ExplainsEnded, ExplainsBeginning, told_of, noted_of, bad_note, explained, notes_of, line_number, is_bad}
+use Rattle.uring_trace.specs.Explanations.{Explains, ExplainsWhole, ExplainsEnded, ExplainsBeginning, told_of, noted_of, bad_note, line_number, is_bad}
 use Rattle.uring_trace.specs.Explaining.{AppendsLine, TellsStep, Explaining}
 use Rattle.uring_trace.proofs.Sessions.{split_more, split_end, split_whole, one_more, last_some}
 

@@ -1,5 +1,5 @@
 -- Glue. What a session keeps of the lines that it took in.
-use Rattle.std.specs.Prelude.{◌≡◌, ℕ, Bool, List, ◌∷◌, ◌++◌, length, take, nat_lt, Option, Some, None, Result, Ok, Err}
+use Rattle.std.specs.Prelude.{◌≡◌, ℕ, Bool, List, ◌∷◌, ◌++◌, Option, Some, None, Result, Ok, Err}
 use Rattle.uring_trace.specs.declared.session.Session.{Session}
 use Rattle.uring_trace.specs.declared.trace_fault.TraceFault.{TraceFault}
 use Rattle.uring_entry.specs.Setup.{Setup}

@@ -1,4 +1,4 @@
-use Rattle.std.proofs.Common.{◌≡◌, ◌+◌, ◌-◌, ◌^◌, min, rules}
+use Rattle.std.proofs.Common.{◌≡◌, ◌+◌, ◌-◌, ◌^◌, min}
 use Rattle.uring_trace.proofs.ExplainLines.{explain_line}
 use Rattle.uring_trace.proofs.explainer.Explainer.end_line.Goals as goal
 
