@@ -115,6 +115,14 @@ impl Core {
     }
 
     /// Why the request of this number, any number, stands as it does.
+    ///
+    /// ```
+    /// # use wulgach::{Core, Setup, Why};
+    /// # fn main() -> Result<(), wulgach::Error> {
+    /// assert_eq!(Core::new(&Setup::default())?.why(0), Why::NeverAccepted);
+    /// # Ok(())
+    /// # }
+    /// ```
     pub fn why(&self, number: u64) -> Why {
         let mut words = why::NO_WHY;
         // SAFETY: as in `counts`.

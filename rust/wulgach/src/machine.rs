@@ -95,6 +95,14 @@ impl Machine {
     }
 
     /// Why the request of this number, any number, stands as it does.
+    ///
+    /// ```
+    /// # use wulgach::{Machine, Setup, Why};
+    /// # fn main() -> Result<(), wulgach::Error> {
+    /// assert_eq!(Machine::new(&Setup::default())?.why(0), Why::NeverAccepted);
+    /// # Ok(())
+    /// # }
+    /// ```
     pub fn why(&self, number: u64) -> Why {
         let mut words = why::NO_WHY;
         // SAFETY: as in `counts`.
