@@ -148,11 +148,15 @@ pub explain_last : (setup : Setup) (m m' : Machine) (kept : List ℕ) (is_long :
 explain_last setup m m' kept is_long number was_bad bad bytes text before after notes noted noted' lt tells h =
     let a = tells h.line h.keeps in
     let size : length kept ≡ length (take 300 h.line) = ap length h.keeps.first in
-    let some : 0 < length h.line = omega (arith, length-take 300 h.line) in
-    (record { line = h.line; event = a.event } ∷ h.exchanges, lines_of h.exchanges, h.line,
-    explained_more setup m m' number was_bad bad h.exchanges h.line text before after notes noted noted' h.explains h.numbered h.same h.fits a,
-    h.splits, sym (last_some (lines_of h.exchanges) h.line some),
-    bad_more m m' number was_bad bad h.exchanges h.line before after noted noted' h.bad_lines a)
+    let some : 0 < length h.line = omega (arith, length-take 300 h.line) in (
+      record { line = h.line; event = a.event } ∷ h.exchanges,
+      lines_of h.exchanges,
+      h.line,
+      explained_more setup m m' number was_bad bad h.exchanges h.line text before after notes noted noted' h.explains h.numbered h.same h.fits a,
+      h.splits,
+      sym (last_some (lines_of h.exchanges) h.line some),
+      bad_more m m' number was_bad bad h.exchanges h.line before after noted noted' h.bad_lines a,
+    )
 
 -- no last line has begun
 pub explain_none : (setup : Setup) (m : Machine) (kept : List ℕ) (is_long : Bool) (number : ℕ) (bad : Bool) (bytes text notes : List ℕ) → length kept ≡ 0 → Explaining setup m kept is_long number bad bytes text notes → ExplainsWhole setup bad bytes text notes

@@ -83,9 +83,14 @@ bytes_told setup result w w' e e' s s' before told noted more none none' new new
 -- ---- the last line
 
 pub last_none : (setup : Setup) (answer : Answer) (w e : Known) (s : Explainer) (before told noted : List ℕ) → answer ≡ Err fault.Memory → HasTold setup s before told noted → WroteBoth w w e e told noted (WritesBoth setup answer before)
-last_none setup answer w e s before told noted is h =
-    ([], [], Appends-nil w, Appends-nil e, subst (λ (x : Answer). WritesBoth setup x before (told ++ []) (noted ++ [])) (sym is)
-    (subst (λ (l : List ℕ). ExplainsBeginning setup l (told ++ []) (noted ++ [])) (append-nil before) (beginning setup s before told noted [] h)))
+last_none setup answer w e s before told noted is h = (
+  [],
+  [],
+  Appends-nil w,
+  Appends-nil e,
+  subst (λ (x : Answer). WritesBoth setup x before (told ++ []) (noted ++ [])) (sym is)
+      (subst (λ (l : List ℕ). ExplainsBeginning setup l (told ++ []) (noted ++ [])) (append-nil before) (beginning setup s before told noted [] h)),
+)
 
 pub last_cut : (setup : Setup) (answer : Answer) (f : TraceFault) (w w' e e' : Known) (s : Explainer) (bad : Bool) (before told noted none none' new new' : List ℕ) → answer ≡ Err f → none ≡ [] → none' ≡ []
     → ((before told noted : List ℕ) → HasTold setup s before (told ++ none) (noted ++ none') → ExplainsWhole setup bad before (told ++ new) (noted ++ new'))
@@ -95,19 +100,28 @@ last_cut setup answer f w w' e e' s bad before told noted none none' new new' is
     let whole = finish before told noted (nothing_yet setup s before told noted none none' a b h) in
     let first = subst (λ (l : List ℕ). ExplainsWhole setup bad before l (noted ++ new')) (split_text told new p.0 t.1 t.4) whole in
     let both = subst (λ (l : List ℕ). ExplainsWhole setup bad before ((told ++ p.0) ++ t.1) l) (split_text noted new' p.1 t.2 t.5) first in
-    let less : ExplainsLess setup before (told ++ p.0) (noted ++ p.1) = (t.1, t.2, t.3, inr (bad, both)) in
-    (p.0, p.1, p.2, p.3, subst (λ (x : Answer). WritesBoth setup x before (told ++ p.0) (noted ++ p.1)) (sym is)
-    (subst (λ (x : TraceFault). WritesBoth setup (Err x) before (told ++ p.0) (noted ++ p.1)) (sym t.0) less))
+    let less : ExplainsLess setup before (told ++ p.0) (noted ++ p.1) = (t.1, t.2, t.3, inr (bad, both)) in (
+      p.0,
+      p.1,
+      p.2,
+      p.3,
+      subst (λ (x : Answer). WritesBoth setup x before (told ++ p.0) (noted ++ p.1)) (sym is)
+          (subst (λ (x : TraceFault). WritesBoth setup (Err x) before (told ++ p.0) (noted ++ p.1)) (sym t.0) less),
+    )
 
 pub last_told : (setup : Setup) (w w' e e' : Known) (s : Explainer) (bad found : Bool) (before told noted none none' new new' : List ℕ) → found ≡ bad → none ≡ [] → none' ≡ []
     → ((before told noted : List ℕ) → HasTold setup s before (told ++ none) (noted ++ none') → ExplainsWhole setup bad before (told ++ new) (noted ++ new'))
     → (written : List ℕ) × (written' : List ℕ) × Appends w w' written × Appends e e' written' × ((written ≡ new) × (written' ≡ new')) → HasTold setup s before told noted → WroteBoth w w' e e' told noted (WritesBoth setup (Ok found) before)
 last_told setup w w' e e' s bad found before told noted none none' new new' is a b finish p h =
-    let whole = finish before told noted (nothing_yet setup s before told noted none none' a b h) in
-    (p.0, p.1, p.2, p.3,
-    subst (λ (x : Bool). ExplainsWhole setup x before (told ++ p.0) (noted ++ p.1)) (sym is)
-    (subst (λ (l : List ℕ). ExplainsWhole setup bad before (told ++ p.0) (noted ++ l)) (sym p.4.1)
-    (subst (λ (l : List ℕ). ExplainsWhole setup bad before (told ++ l) (noted ++ new')) (sym p.4.0) whole)))
+    let whole = finish before told noted (nothing_yet setup s before told noted none none' a b h) in (
+      p.0,
+      p.1,
+      p.2,
+      p.3,
+      subst (λ (x : Bool). ExplainsWhole setup x before (told ++ p.0) (noted ++ p.1)) (sym is)
+          (subst (λ (l : List ℕ). ExplainsWhole setup bad before (told ++ p.0) (noted ++ l)) (sym p.4.1)
+          (subst (λ (l : List ℕ). ExplainsWhole setup bad before (told ++ l) (noted ++ new')) (sym p.4.0) whole)),
+    )
 
 -- ---- the whole run
 

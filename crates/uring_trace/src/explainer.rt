@@ -53,7 +53,12 @@ impl Explainer {
     }
 
     /// Takes in the next bytes, and appends what is told and noted of the lines that they complete.
-    pub(crate) fn feed(&mut self, bytes: &[u8], text: &mut String, notes: &mut String) -> Result<(), TraceFault>
+    pub(crate) fn feed(
+        &mut self,
+        bytes: &[u8],
+        text: &mut String,
+        notes: &mut String,
+    ) -> Result<(), TraceFault>
         ensures ok { OnOk result ((setup : Setup) (before told noted : List ℕ) → HasTold setup self.old before (told ++ string_bytes text.old) (noted ++ string_bytes notes.old) → HasTold setup self.new (before ++ bytes.now) (told ++ string_bytes text.new) (noted ++ string_bytes notes.new)) }
         ensures err { IfErr result (λ e. e ≡ TraceFault.Memory) }
     {

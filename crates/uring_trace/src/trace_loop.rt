@@ -103,7 +103,11 @@ fn answer_last<W: Write>(
 }
 
 /// Writes all these bytes.
-pub(crate) fn write_all<W: Write>(writer: &mut W, bytes: &[u8], writes: &mut Calls) -> Result<(), TraceFault>
+pub(crate) fn write_all<W: Write>(
+    writer: &mut W,
+    bytes: &[u8],
+    writes: &mut Calls,
+) -> Result<(), TraceFault>
     ensures text { (written : List ℕ) × Appends (W.contents writer.old) (W.contents writer.new) written × WritesText result bytes.now written }
     ensures write { IfErr result (λ _. AreOver writes.new) }
 {
