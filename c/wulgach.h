@@ -163,6 +163,50 @@ struct wulgach_operation {
     uint8_t bytes[64]; /* WRITE: the data */
 };
 
+/* Which case of why a request stands as it does: exactly one. */
+enum wulgach_why_kind {
+    WULGACH_NEVER_ACCEPTED = 1, /* no request of this number was accepted */
+    WULGACH_HAS_ENDED = 2,      /* it has ended */
+    WULGACH_RUNS = 3,           /* it was started, and hasn't ended */
+    WULGACH_DOOMED = 4,         /* it is to end without being started: reason is an enum wulgach_doom */
+    WULGACH_WAITS = 5,          /* it waits for request number, the least that keeps it from starting: reason is an enum wulgach_since */
+    WULGACH_MAY_START = 6       /* it may start */
+};
+
+/* What dooms a request: the first of these that does. */
+enum wulgach_doom {
+    WULGACH_OWN_FAULT = 1,  /* its own entry has a fault: fault is an enum wulgach_fault */
+    WULGACH_FAULT_OF = 2,   /* request number, the least member of its group with a fault */
+    WULGACH_FAILURE_OF = 3, /* request number, the least earlier member of its group that has a soft link and failed */
+    WULGACH_CANCELLED = 4   /* a cancel chose it */
+};
+
+/* Why a request waits for an earlier one: the first of these that holds. */
+enum wulgach_since {
+    WULGACH_SAME_GROUP = 1, /* both are members of one group */
+    WULGACH_IT_DRAINS = 2,  /* the earlier one's group drains */
+    WULGACH_OWN_DRAINS = 3  /* the later one's group drains */
+};
+
+/* The fault of an entry: the first of these that it has. */
+enum wulgach_fault {
+    WULGACH_FAULT_FLAGS = 1,    /* a flag that isn't served */
+    WULGACH_FAULT_OPCODE = 2,   /* an operation that isn't served */
+    WULGACH_FAULT_IOPRIO = 3,   /* a priority */
+    WULGACH_FAULT_OP_FLAGS = 4, /* operation flags */
+    WULGACH_FAULT_RESERVED = 5, /* a byte from 40 to 63 that isn't zero */
+    WULGACH_FAULT_LEN = 6,      /* a length above 64 */
+    WULGACH_FAULT_OFF = 7       /* the offset of the file position */
+};
+
+/* Why a request stands as it does. A field that has no meaning there is 0. */
+struct wulgach_why {
+    uint64_t number; /* WAITS, FAULT_OF, FAILURE_OF: the request that is named */
+    uint32_t kind;   /* enum wulgach_why_kind */
+    uint32_t reason; /* DOOMED, WAITS */
+    uint32_t fault;  /* OWN_FAULT */
+};
+
 /* How a file of a machine stands. */
 struct wulgach_file {
     uint64_t writes; /* how many writes succeeded, modulo 2^64 */
@@ -211,6 +255,9 @@ int32_t wulgach_core_running_op(struct wulgach_core *core, uint64_t number, stru
 /* Writes the least outstanding request, which is the next to go on if nothing else can. -2 if nothing is outstanding. */
 int32_t wulgach_core_least(struct wulgach_core *core, uint64_t *number);
 
+/* Writes why request number, any number, stands as it does. Whoever asks why of the request that another waits for, and again of the one that this one waits for, is told of one that runs or can be issued. */
+int32_t wulgach_core_why(struct wulgach_core *core, uint64_t number, struct wulgach_why *why);
+
 /* Frees the core, and leaves the place empty. */
 int32_t wulgach_core_free(struct wulgach_core *core);
 
@@ -221,6 +268,7 @@ int32_t wulgach_machine_counts(struct wulgach_machine *machine, struct wulgach_c
 int32_t wulgach_machine_rest(struct wulgach_machine *machine, uint64_t index, struct wulgach_completion *completion);
 int32_t wulgach_machine_running_op(struct wulgach_machine *machine, uint64_t number, struct wulgach_operation *operation);
 int32_t wulgach_machine_least(struct wulgach_machine *machine, uint64_t *number);
+int32_t wulgach_machine_why(struct wulgach_machine *machine, uint64_t number, struct wulgach_why *why);
 int32_t wulgach_machine_free(struct wulgach_machine *machine);
 
 /* Writes how the file of a descriptor stands. -2 if there is no such file. */

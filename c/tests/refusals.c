@@ -59,12 +59,15 @@ static void empty_places(void)
     check(wulgach_core_running_op(&core, 0, &operation) == -9, "running operation of an empty place");
     uint64_t number = 99;
     check(wulgach_core_least(&core, &number) == -9 && number == 99, "least of an empty place");
+    struct wulgach_why why = {.number = 99};
+    check(wulgach_core_why(&core, 0, &why) == -9 && why.number == 99, "why of an empty place");
     check(wulgach_core_free(&core) == -9, "free of an empty place");
     check(wulgach_machine_step(&machine, &step, &answer) == -9, "step of an empty machine");
     check(wulgach_machine_counts(&machine, &counts) == -9, "counts of an empty machine");
     check(wulgach_machine_rest(&machine, 0, &completion) == -9, "rest of an empty machine");
     check(wulgach_machine_running_op(&machine, 0, &operation) == -9, "running operation of an empty machine");
     check(wulgach_machine_least(&machine, &number) == -9 && number == 99, "least of an empty machine");
+    check(wulgach_machine_why(&machine, 0, &why) == -9 && why.number == 99, "why of an empty machine");
     check(wulgach_machine_state(&machine, 0, &file) == -9, "state of an empty machine");
     check(wulgach_machine_byte(&machine, 0, 0, &byte) == -9, "byte of an empty machine");
     check(wulgach_machine_free(&machine) == -9, "free of an empty machine");

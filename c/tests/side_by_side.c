@@ -485,6 +485,23 @@ static void check_file(struct wulgach_machine *machine, const struct model *m, c
     check(byte == (is_byte ? m->bytes[(uint64_t)fd * FILE_SIZE + at] : 77), "a byte");
 }
 
+/* Why a request stands as it does agrees with what became of it, and names an earlier request that hasn't ended if it waits. */
+static void check_why(const struct model *m, uint64_t number, int32_t result, const struct wulgach_why *why)
+{
+    check(result == 0, "why");
+    if (number >= m->accepted) {
+        check(why->kind == WULGACH_NEVER_ACCEPTED, "why of no request");
+    } else if (m->requests[number].state == ENDED) {
+        check(why->kind == WULGACH_HAS_ENDED, "why of an ended request");
+    } else if (m->requests[number].state == RUNS) {
+        check(why->kind == WULGACH_RUNS, "why of a running request");
+    } else if (why->kind == WULGACH_WAITS) {
+        check(why->number < number && m->requests[why->number].state != ENDED, "why of a waiting request");
+    } else {
+        check(why->kind == WULGACH_DOOMED || why->kind == WULGACH_MAY_START, "why of a request to be issued");
+    }
+}
+
 static void check_readers(struct wulgach_machine *machine, struct wulgach_core *core, const struct model *m, const struct wulgach_setup *setup)
 {
     struct wulgach_counts counts = {9, 9, 9, 9, 9};
@@ -500,6 +517,9 @@ static void check_readers(struct wulgach_machine *machine, struct wulgach_core *
     struct wulgach_operation op = {0};
     check_operation(r, wulgach_machine_running_op(machine, number, &op), &op);
     check_operation(r, wulgach_core_running_op(core, number, &op), &op);
+    struct wulgach_why why = {0};
+    check_why(m, number, wulgach_machine_why(machine, number, &why), &why);
+    check_why(m, number, wulgach_core_why(core, number, &why), &why);
     check_least(m, wulgach_machine_least(machine, &number), &number);
     check_least(m, wulgach_core_least(core, &number), &number);
     check_file(machine, m, setup);

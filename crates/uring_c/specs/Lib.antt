@@ -4,6 +4,7 @@ pub mod Places
 pub mod StepForm
 pub mod AnswerForm
 pub mod OperationForm
+pub mod WhyForm
 pub mod SetUps
 pub mod Stepping
 pub mod ReadingForms

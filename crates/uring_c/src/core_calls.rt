@@ -2,6 +2,7 @@
 ghost use Rattle.std.specs.Prelude.{◌≡◌, [], IsSome, IfOk, IsSomeAnd, slice_get};
 ghost use Rattle.uring_entry.specs.Completions.{unreaped};
 ghost use Rattle.uring_entry.specs.Requests.{least_of, operation_running};
+ghost use Rattle.uring_entry.specs.Why.{why_of};
 ghost use Rattle.uring_machine.specs.Core.{FitsApart, IsCounts, IsNoFinish};
 ghost use Rattle.uring_machine.specs.Histories.{History, world};
 ghost use Rattle.uring_c.specs.Places.{core_in};
@@ -9,7 +10,7 @@ ghost use Rattle.uring_c.specs.Stepping.{SteppedApart, FinishedApart};
 
 use crate::core_place::CorePlace;
 use std::alloc::{AllocError, Global};
-use uring_machine::{Answer, Core, Counts, Cqe, Op, Outcome, Setup, Step};
+use uring_machine::{Answer, Core, Counts, Cqe, Op, Outcome, Setup, Step, Why};
 
 /// A new core, in a box. `AllocError`: out of memory.
 pub(crate) fn new_core(alloc: Global, setup: &Setup) -> Result<Box<Core, Global>, AllocError>
@@ -100,5 +101,19 @@ impl CorePlace {
         let op = core.running_op(number);
         self.put(core);
         op
+    }
+
+    /// Why a request stands as it does.
+    pub(crate) fn why(&mut self, alloc: Global, number: u64) -> Why
+        requires { IsSome (core_in self.old) }
+        ensures kept { core_in self.new ≡ core_in self.old }
+        ensures why { IsSomeAnd (core_in self.old) (λ core. (h : History) → FitsApart core h → result ≡ why_of (world core.setup h).requests number) }
+    {
+        let Some(core) = self.take(alloc) else {
+            unreachable!()
+        };
+        let why = core.why(number);
+        self.put(core);
+        why
     }
 }

@@ -4,6 +4,7 @@
 ghost use Rattle.std.specs.Prelude.{◌≡◌, ◌↔◌, [], pos, neg_ℤ, None, IsSome, IfSome, IsSomeAnd, MatchOption, slice_get};
 ghost use Rattle.uring_entry.specs.Completions.{unreaped};
 ghost use Rattle.uring_entry.specs.Requests.{least_of, operation_running};
+ghost use Rattle.uring_entry.specs.Why.{why_of};
 ghost use Rattle.uring_entry.specs.declared.errno.TheConstants.{EBADF, EINVAL, ENOENT, ENOMEM};
 ghost use Rattle.uring_machine.specs.Core.{FitsApart, IsCounts};
 ghost use Rattle.uring_machine.specs.Histories.{History, world};
@@ -12,6 +13,7 @@ ghost use Rattle.uring_c.specs.Places.{core_in};
 ghost use Rattle.uring_c.specs.ReadingForms.{words_of_completion, counts_told};
 ghost use Rattle.uring_c.specs.SetUps.{IsAskedFor, IsRefused};
 ghost use Rattle.uring_c.specs.StepForm.{core_step_of};
+ghost use Rattle.uring_c.specs.WhyForm.{words_of_why};
 ghost use Rattle.uring_c.specs.Stepping.{TellsStepApart, TellsFinish};
 
 use crate::answer_words::{AnswerWords, answer_words};
@@ -22,6 +24,7 @@ use crate::count_words::{CountWords, count_words};
 use crate::operation_words::{OperationWords, operation_words};
 use crate::set_up_words::SetupWords;
 use crate::step_words::StepWords;
+use crate::why_words::{WhyWords, why_words};
 use std::alloc::Global;
 use uring_entry::errno;
 use uring_machine::Outcome;
@@ -168,6 +171,26 @@ pub extern "C" fn wulgach_core_running_op(
         return -errno::ENOENT;
     };
     *operation = operation_words(&found);
+    0
+}
+
+/// Writes why a request, of any number, stands as it does.
+#[unsafe(no_mangle)]
+pub extern "C" fn wulgach_core_why(
+    alloc: Global,
+    place: &mut CorePlace,
+    number: u64,
+    why: &mut WhyWords,
+) -> i32
+    ensures empty { (result ≡ neg_ℤ EBADF) ↔ (core_in place.old ≡ None) }
+    ensures kept { core_in place.new ≡ core_in place.old }
+    ensures refused { core_in place.old ≡ None → why.new ≡ why.old }
+    ensures why { IfSome (core_in place.old) (λ core. (result ≡ pos 0) × ((h : History) → FitsApart core h → why.new ≡ words_of_why (why_of (world core.setup h).requests number))) }
+{
+    if !place.is_full {
+        return -errno::EBADF;
+    }
+    *why = why_words(place.why(alloc, number));
     0
 }
 

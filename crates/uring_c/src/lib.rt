@@ -17,3 +17,4 @@ mod parts;
 mod set_up_words;
 mod state_words;
 mod step_words;
+mod why_words;

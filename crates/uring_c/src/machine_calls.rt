@@ -2,6 +2,7 @@
 ghost use Rattle.std.specs.Prelude.{◌≡◌, [], IsSome, IfOk, IsSomeAnd, slice_get};
 ghost use Rattle.uring_entry.specs.Completions.{unreaped};
 ghost use Rattle.uring_entry.specs.Requests.{least_of, operation_running};
+ghost use Rattle.uring_entry.specs.Why.{why_of};
 ghost use Rattle.uring_machine.specs.Core.{IsCounts};
 ghost use Rattle.uring_machine.specs.CalledFor.{files_of};
 ghost use Rattle.uring_machine.specs.Histories.{History, world};
@@ -12,7 +13,7 @@ ghost use Rattle.uring_c.specs.Stepping.{Stepped};
 
 use crate::machine_place::MachinePlace;
 use std::alloc::{AllocError, Global};
-use uring_machine::{Answer, Counts, Cqe, FileState, Machine, Op, Setup, Step};
+use uring_machine::{Answer, Counts, Cqe, FileState, Machine, Op, Setup, Step, Why};
 
 /// A new machine, in a box. `AllocError`: out of memory.
 pub(crate) fn new_machine(alloc: Global, setup: &Setup) -> Result<Box<Machine, Global>, AllocError>
@@ -89,6 +90,20 @@ impl MachinePlace {
         let op = machine.running_op(number);
         self.put(machine);
         op
+    }
+
+    /// Why a request stands as it does.
+    pub(crate) fn why(&mut self, alloc: Global, number: u64) -> Why
+        requires { IsSome (machine_in self.old) }
+        ensures kept { machine_in self.new ≡ machine_in self.old }
+        ensures why { IsSomeAnd (machine_in self.old) (λ machine. (h : History) → Fits machine h → result ≡ why_of (world machine.core.setup h).requests number) }
+    {
+        let Some(machine) = self.take(alloc) else {
+            unreachable!()
+        };
+        let why = machine.why(number);
+        self.put(machine);
+        why
     }
 
     /// How the file of a descriptor stands.

@@ -4,6 +4,7 @@
 ghost use Rattle.std.specs.Prelude.{◌≡◌, ◌↔◌, [], pos, neg_ℤ, None, IsSome, IfSome, IsSomeAnd, MatchOption, slice_get};
 ghost use Rattle.uring_entry.specs.Completions.{unreaped};
 ghost use Rattle.uring_entry.specs.Requests.{least_of, operation_running};
+ghost use Rattle.uring_entry.specs.Why.{why_of};
 ghost use Rattle.uring_entry.specs.declared.errno.TheConstants.{EBADF, EINVAL, ENOENT, ENOMEM};
 ghost use Rattle.uring_machine.specs.Core.{IsCounts};
 ghost use Rattle.uring_machine.specs.CalledFor.{files_of};
@@ -15,6 +16,7 @@ ghost use Rattle.uring_c.specs.Places.{machine_in};
 ghost use Rattle.uring_c.specs.ReadingForms.{words_of_completion, counts_told, words_of_state};
 ghost use Rattle.uring_c.specs.SetUps.{IsAskedFor, IsRefused};
 ghost use Rattle.uring_c.specs.StepForm.{step_of};
+ghost use Rattle.uring_c.specs.WhyForm.{words_of_why};
 ghost use Rattle.uring_c.specs.Stepping.{TellsStep};
 
 use crate::answer_words::{AnswerWords, answer_words};
@@ -26,6 +28,7 @@ use crate::operation_words::{OperationWords, operation_words};
 use crate::set_up_words::SetupWords;
 use crate::state_words::{StateWords, state_words};
 use crate::step_words::StepWords;
+use crate::why_words::{WhyWords, why_words};
 use std::alloc::Global;
 use uring_entry::errno;
 
@@ -199,6 +202,26 @@ pub extern "C" fn wulgach_machine_byte(
         return -errno::ENOENT;
     };
     *byte = found;
+    0
+}
+
+/// Writes why a request, of any number, stands as it does.
+#[unsafe(no_mangle)]
+pub extern "C" fn wulgach_machine_why(
+    alloc: Global,
+    place: &mut MachinePlace,
+    number: u64,
+    why: &mut WhyWords,
+) -> i32
+    ensures empty { (result ≡ neg_ℤ EBADF) ↔ (machine_in place.old ≡ None) }
+    ensures kept { machine_in place.new ≡ machine_in place.old }
+    ensures refused { machine_in place.old ≡ None → why.new ≡ why.old }
+    ensures why { IfSome (machine_in place.old) (λ machine. (result ≡ pos 0) × ((h : History) → Fits machine h → why.new ≡ words_of_why (why_of (world machine.core.setup h).requests number))) }
+{
+    if !place.is_full {
+        return -errno::EBADF;
+    }
+    *why = why_words(place.why(alloc, number));
     0
 }
 

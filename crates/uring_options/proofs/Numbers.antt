@@ -20,7 +20,7 @@ use Rattle.clap.specs.declared.builder.value_parser.ValueParser.{ValueParser}
 use Rattle.clap.specs.declared.builder.value_parser.ValueParser.TheVariants.{Signed}
 use Rattle.clap.proofs.OnLiterals.{clap_on_literals}
 use Rattle.clap.proofs.ValueTestLemmas.{accepts-Accepts}
-use Rattle.uring_options.specs.CommandLine.{uring, trace_app, trace_rows, Gives, IsWithin, Numbers, GivesNumbers}
+use Rattle.uring_options.specs.CommandLine.{uring, trace_app, explain_app, trace_rows, Gives, IsWithin, Numbers, GivesNumbers}
 use Rattle.uring_options.proofs.Walks.{Each, Among, each_among, found_among, IsRowOf, neither_fails, rows_of_rules, sets_or_helps}
 
 -- ---- texts
@@ -114,10 +114,13 @@ uring_is_free = refl
 abbrev trace_shape : Shape
 trace_shape = built_leaf (inherited (with_leaf_noted (marked_built uring.top)) trace_app.top)
 
+abbrev explain_shape : Shape
+explain_shape = built_leaf (inherited (with_leaf_noted (marked_built uring.top)) explain_app.top)
+
 abbrev help_leaf : Shape
 help_leaf = built_leaf help_shape
 
-subcommands : (built uring).subs ≡ trace_shape ∷ help_leaf ∷ []
+subcommands : (built uring).subs ≡ trace_shape ∷ explain_shape ∷ help_leaf ∷ []
 subcommands = refl
 
 trace_plain : Each (λ (a : Rule). sets_or_helps (action_of a) ≡ true) trace_shape.rules
@@ -148,10 +151,12 @@ HasNumbers rows = (n : Numbers) × GivesNumbers rows n
 abbrev pub no_numbers : HasNumbers []
 no_numbers = (record { sq = None; cq = None; files = None; start = None }, record { sq = refl; cq = refl; files = refl; start = refl; in_range = record { sq = tt; cq = tt; files = tt; start = tt } })
 
-trace_numbers : (words : List Text) → level_fault trace_shape [] nothing_held words false [] ≡ [] → HasNumbers (rows_after trace_shape.rules [] words)
-trace_numbers words passes =
-    let rows = rows_after trace_shape.rules [] words in
-    let each = rows_of_rules trace_shape.rules trace_plain trace_shape words refl refl trace_no_default passes in
+-- the rules of both commands are the same
+same_rules : explain_shape.rules ≡ trace_shape.rules
+same_rules = refl
+
+rows_numbers : (rows : List Row) → Each (IsRowOf trace_shape.rules) rows → HasNumbers rows
+rows_numbers rows each =
     let sq = option_given trace_shape.rules rows (codes "sq") 1 4096 sq_parser each in
     let cq = option_given trace_shape.rules rows (codes "cq") 1 8192 cq_parser each in
     let files = option_given trace_shape.rules rows (codes "files") 1 64 files_parser each in
@@ -166,13 +171,23 @@ trace_numbers words passes =
       },
     )
 
-met_numbers : (words : List Text) (s : Shape) → Among s (trace_shape ∷ help_leaf ∷ []) → level_fault s [] nothing_held words false [] ≡ [] → HasNumbers (trace_rows (Some (rows_at s words)))
+trace_numbers : (words : List Text) → level_fault trace_shape [] nothing_held words false [] ≡ [] → HasNumbers (rows_after trace_shape.rules [] words)
+trace_numbers words passes = rows_numbers (rows_after trace_shape.rules [] words) (rows_of_rules trace_shape.rules trace_plain trace_shape words refl refl trace_no_default passes)
+
+explain_numbers : (words : List Text) → level_fault explain_shape [] nothing_held words false [] ≡ [] → HasNumbers (rows_after explain_shape.rules [] words)
+explain_numbers words passes = rows_numbers (rows_after explain_shape.rules [] words) (rows_of_rules trace_shape.rules trace_plain explain_shape words refl refl trace_no_default passes)
+
+met_numbers : (words : List Text) (s : Shape) → Among s (trace_shape ∷ explain_shape ∷ help_leaf ∷ []) → level_fault s [] nothing_held words false [] ≡ [] → HasNumbers (trace_rows (Some (rows_at s words)))
 met_numbers words s (inl is) passes =
     let go : (t : Shape) → trace_shape ≡ t → level_fault t [] nothing_held words false [] ≡ [] → HasNumbers (trace_rows (Some (rows_at t words))) =
     λ t is passes. subst (λ (u : Shape). HasNumbers (trace_rows (Some (rows_at u words)))) is (trace_numbers words (subst (λ (u : Shape). level_fault u [] nothing_held words false [] ≡ []) (sym is) passes)) in
     go s is passes
-met_numbers words s (inr (inl is)) passes = subst (λ (u : Shape). HasNumbers (trace_rows (Some (rows_at u words)))) is no_numbers
-met_numbers words s (inr (inr none)) passes = absurd none
+met_numbers words s (inr (inl is)) passes =
+    let go : (t : Shape) → explain_shape ≡ t → level_fault t [] nothing_held words false [] ≡ [] → HasNumbers (trace_rows (Some (rows_at t words))) =
+    λ t is passes. subst (λ (u : Shape). HasNumbers (trace_rows (Some (rows_at u words)))) is (explain_numbers words (subst (λ (u : Shape). level_fault u [] nothing_held words false [] ≡ []) (sym is) passes)) in
+    go s is passes
+met_numbers words s (inr (inr (inl is))) passes = subst (λ (u : Shape). HasNumbers (trace_rows (Some (rows_at u words)))) is no_numbers
+met_numbers words s (inr (inr (inr none))) passes = absurd none
 
 stop_numbers : (stop : Option (Text × List Text)) → entered_fault (built uring) stop ≡ [] → HasNumbers (trace_rows (entered (built uring) stop))
 stop_numbers None passes = no_numbers

@@ -1,5 +1,5 @@
 -- When numbers are refused, and what else a command line can end with.
-use Rattle.std.proofs.Common.{◌≡◌, ◌∙◌, ◌*◌, ◌<◌, ◌≤◌, ◌^◌, ◌↔◌, ℕ, zero, suc, List, [], Option, Some, None, Result, Ok, Err, refl, sym, ap, subst, inl, inr, arith}
+use Rattle.std.proofs.Common.{◌≡◌, ◌∙◌, ◌*◌, ◌<◌, ◌≤◌, ◌^◌, ◌↔◌, ℕ, zero, suc, Bool, true, false, List, [], Option, Some, None, Result, Ok, Err, refl, sym, ap, subst, inl, inr, arith}
 use Rattle.std.specs.Prelude.{codes, unwrap_or, IfOk, IfErr, IsErrOf, IsErrAnd}
 use Rattle.std.specs.Int.{IsNextPowerOfTwo}
 use Rattle.std.specs.Str.Parse.{digits_value, without_leading_plus}
@@ -12,11 +12,12 @@ use Rattle.clap.specs.Values.{kind_of}
 use Rattle.clap.specs.Walk.{Row, Text}
 use Rattle.clap.specs.declared.error.Error.{Error}
 use Rattle.clap.specs.declared.error.kind.ErrorKind.TheVariants.{OutOfMemory}
-use Rattle.uring_entry.specs.Setup.{IsBadCq}
+use Rattle.uring_entry.specs.Setup.{Setup, IsBadCq}
 use Rattle.uring_entry.proofs.Powers.{rounded_once}
-use Rattle.uring_options.specs.CommandLine.{uring, trace_rows, Gives, Numbers, AreInRange, GivesNumbers, IsWithin, IsTraceOver, IsTooSmall, AskFor, AskForTooSmall, IsMemory}
+use Rattle.uring_options.specs.CommandLine.{uring, trace_rows, Gives, Numbers, AreInRange, GivesNumbers, IsWithin, IsSetupOver, Writes, IsTooSmall, AskFor, AskForTooSmall, IsMemory}
+use Rattle.uring_options.proofs.CommandLine.{Asks}
 use Rattle.uring_options.specs.declared.answers.Options.{Options}
-use Rattle.uring_options.specs.declared.answers.Options.TheVariants.{Trace}
+use Rattle.uring_options.specs.declared.answers.Options.TheVariants.{Trace, Explain}
 use Rattle.uring_options.specs.declared.answers.OptionsFault.{OptionsFault}
 use Rattle.uring_options.specs.declared.answers.OptionsFault.TheVariants.{Small, Words}
 
@@ -63,8 +64,8 @@ gives_once rows id (Some a) (Some b) x y =
     let text : x.0 ≡ y.0 = let e : Some x.0 ≡ Some y.0 = sym x.1 ∙ y.1 in cc in
     ap (λ (k : ℕ). Some k) (x.2.value ∙ ap (λ (t : Text). digits_value 10 (without_leading_plus t)) text ∙ sym y.2.value)
 
-not_both : (words : List Text) (o : Options) → AskFor words o → AskForTooSmall words → ⊥
-not_both words (Trace s) (n, writes, set_up) (m, small_writes, small) =
+not_over : (words : List Text) (n : Numbers) (s : Setup) → Writes words n → IsSetupOver n s → AskForTooSmall words → ⊥
+not_over words n s writes set_up (m, small_writes, small) =
     let sq : n.sq ≡ m.sq = gives_once (trace_rows (subcommand_of uring words)) (codes "sq") n.sq m.sq writes.numbers.sq small_writes.numbers.sq in
     let cq : n.cq ≡ m.cq = gives_once (trace_rows (subcommand_of uring words)) (codes "cq") n.cq m.cq writes.numbers.cq small_writes.numbers.cq in
     let given : n.cq ≡ Some small.cq = cq ∙ small.given in
@@ -76,6 +77,10 @@ not_both words (Trace s) (n, writes, set_up) (m, small_writes, small) =
     let holds : s.sq ≤ s.cq = set_up.limits.cq_holds_sq in
     let smaller : small.cq_size < small.sq_size = small.smaller in
     omega arith
+
+not_both : (words : List Text) (o : Options) → AskFor words o → AskForTooSmall words → ⊥
+not_both words (Trace s) (n, writes, over) small = not_over words n s writes over.1 small
+not_both words (Explain s) (n, writes, over) small = not_over words n s writes over.1 small
 
 -- words without a fault fail by memory alone
 memory_alone : (kinds : Kinds) (e : Error) → kinds ≡ [] → HasKind kinds e → kind_of e ≡ OutOfMemory
@@ -95,12 +100,30 @@ small_exactly words (Err (Words e)) asked refused = ((λ e. absurd cc), (λ h. a
 
 -- ---- what the rows of the options ask for
 
-pub asked : (words : List Text) (rows : List Row) (o : Options) → fault_of uring words ≡ [] → trace_rows (subcommand_of uring words) ≡ rows → ((n : Numbers) × GivesNumbers rows n × IsTraceOver n o) → AskFor words o
-asked words rows o no_fault is (n, gives, over) = (n, record { no_fault = no_fault; numbers = subst (λ (rs : List Row). GivesNumbers rs n) (sym is) gives }, over)
+abbrev SetsUp : List Row → Setup → Type 0
+SetsUp rows s = (n : Numbers) × GivesNumbers rows n × IsSetupOver n s
 
-pub refused : (words : List Text) (rows : List Row) (e : OptionsFault) → fault_of uring words ≡ [] → trace_rows (subcommand_of uring words) ≡ rows → (e ≡ Small) × ((n : Numbers) × GivesNumbers rows n × IsTooSmall n) → IsRefusal words e
-refused words rows e no_fault is (small, (n, gives, too)) =
-    subst (IsRefusal words) (sym small) (n, record { no_fault = no_fault; numbers = subst (λ (rs : List Row). GivesNumbers rs n) (sym is) gives }, too)
+written : (words : List Text) (rows : List Row) (n : Numbers) (is_explained : Bool) → fault_of uring words ≡ [] → Asks words rows is_explained → GivesNumbers rows n → Writes words n
+written words rows n is_explained no_fault asks gives = record { no_fault = no_fault; numbers = subst (λ (rs : List Row). GivesNumbers rs n) (sym asks.rows_are) gives }
+
+pub trace_is_asked : (words : List Text) (rows : List Row) (s : Setup) → fault_of uring words ≡ [] → Asks words rows false → SetsUp rows s → AskFor words (Trace s)
+trace_is_asked words rows s no_fault asks (n, gives, over) = (n, written words rows n false no_fault asks gives, (asks.explained, over))
+
+pub explain_is_asked : (words : List Text) (rows : List Row) (s : Setup) → fault_of uring words ≡ [] → Asks words rows true → SetsUp rows s → AskFor words (Explain s)
+explain_is_asked words rows s no_fault asks (n, gives, over) = (n, written words rows n true no_fault asks gives, (asks.explained, over))
+
+abbrev IsSmallBy : List Row → OptionsFault → Type 0
+IsSmallBy rows e = (e ≡ Small) × ((n : Numbers) × GivesNumbers rows n × IsTooSmall n)
+
+refused : (words : List Text) (rows : List Row) (e : OptionsFault) (is_explained : Bool) → fault_of uring words ≡ [] → Asks words rows is_explained → IsSmallBy rows e → IsRefusal words e
+refused words rows e is_explained no_fault asks (small, (n, gives, too)) = subst (IsRefusal words) (sym small) (n, written words rows n is_explained no_fault asks gives, too)
+
+-- a small ring alone refuses such words
+pub refused_small : (words : List Text) (rows : List Row) (r : Result Options OptionsFault) (e : OptionsFault) (is_explained : Bool) → r ≡ Err e → fault_of uring words ≡ [] → Asks words rows is_explained → IsSmallBy rows e
+    → IsErrOf r Small ↔ (AskForTooSmall words × ¬ IsErrAnd r IsMemory)
+refused_small words rows r e is_explained is no_fault asks small =
+    subst (λ (x : Result Options OptionsFault). IsErrOf x Small ↔ (AskForTooSmall words × ¬ IsErrAnd x IsMemory)) (sym is)
+    (small_exactly words (Err e) tt (refused words rows e is_explained no_fault asks small))
 
 pub refused_by_words : (words : List Text) (r : Result Options OptionsFault) (e : Error) → IsErrAnd r (λ f. f ≡ Words e) → HasKind (fault_of uring words) e → IsErrOf r Small ↔ (AskForTooSmall words × ¬ IsErrAnd r IsMemory)
 refused_by_words words (Ok o) e is kind = absurd is

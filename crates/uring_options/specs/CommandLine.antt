@@ -1,5 +1,5 @@
 -- The command line, and what it asks for. The options are our own rule.
-use Rattle.std.specs.Prelude.{◌≡◌, ℕ, ◌<◌, ◌≤◌, pos, List, [], Option, Some, None, codes, unwrap_or, if◌then◌else◌}
+use Rattle.std.specs.Prelude.{◌≡◌, ℕ, ◌<◌, ◌≤◌, pos, Bool, true, false, List, [], Option, Some, None, codes, unwrap_or, if◌then◌else◌}
 use Rattle.std.specs.Int.{IsNextPowerOfTwo}
 use Rattle.std.specs.Str.{bytes_eq}
 use Rattle.std.specs.Str.Parse.{IsNumeral, digits_value, without_leading_plus}
@@ -12,9 +12,9 @@ use Rattle.clap.specs.declared.builder.action.ArgAction.TheVariants.{Set}
 use Rattle.clap.specs.declared.builder.value_parser.ValueParser.{ValueParser}
 use Rattle.clap.specs.declared.builder.value_parser.ValueParser.TheVariants.{Signed}
 use Rattle.clap.specs.declared.error.kind.ErrorKind.TheVariants.{OutOfMemory}
-use Rattle.uring_entry.specs.Setup.{IsSetupFor}
+use Rattle.uring_entry.specs.Setup.{Setup, IsSetupFor}
 use Rattle.uring_options.specs.declared.answers.Options.{Options}
-use Rattle.uring_options.specs.declared.answers.Options.TheVariants.{Trace}
+use Rattle.uring_options.specs.declared.answers.Options.TheVariants.{Trace, Explain}
 use Rattle.uring_options.specs.declared.answers.OptionsFault.{OptionsFault}
 use Rattle.uring_options.specs.declared.answers.OptionsFault.TheVariants.{Small, Words}
 
@@ -22,23 +22,35 @@ use Rattle.uring_options.specs.declared.answers.OptionsFault.TheVariants.{Small,
 abbrev pub option_rule : Text → ValueParser → Rule
 option_rule id parser = record (new_rule id) { long = Some id; value_names = 1; action = Some Set; parser = Some parser }
 
--- `uring trace`: four options that take a number
-abbrev pub trace_app : App
-trace_app =
+-- a command with the four options of a set-up, each of which takes a number
+abbrev pub with_numbers_of : App → App
+with_numbers_of app =
     with_rule
     (with_rule
-    (with_rule (with_rule (new_app (codes "trace")) (option_rule (codes "sq") (Signed (pos 1) (pos 4096)))) (option_rule (codes "cq") (Signed (pos 1) (pos 8192))))
+    (with_rule (with_rule app (option_rule (codes "sq") (Signed (pos 1) (pos 4096)))) (option_rule (codes "cq") (Signed (pos 1) (pos 8192))))
     (option_rule (codes "files") (Signed (pos 1) (pos 64))))
     (option_rule (codes "start") (Signed (pos 0) (pos 4294967295)))
 
+-- `uring trace`, and `uring explain` with the same options
+abbrev pub trace_app : App
+trace_app = with_numbers_of (new_app (codes "trace"))
+
+abbrev pub explain_app : App
+explain_app = with_numbers_of (new_app (codes "explain"))
+
 -- the program's command line, as clap sees a command
 abbrev pub uring : App
-uring = with_subcommand (new_app (codes "uring")) trace_app.top
+uring = with_subcommand (with_subcommand (new_app (codes "uring")) trace_app.top) explain_app.top
 
--- what the words after `uring trace` give, nothing without that command
+-- whether the command is `explain`
+abbrev pub explains : Option (Text × List Row) → Bool
+explains None = false
+explains (Some named) = bytes_eq named.0 (codes "explain")
+
+-- what the words after `uring trace` or `uring explain` give, nothing without these commands
 abbrev pub trace_rows : Option (Text × List Row) → List Row
 trace_rows None = []
-trace_rows (Some named) = if bytes_eq named.0 (codes "trace") then named.1 else []
+trace_rows (Some named) = if bytes_eq named.0 (codes "explain") then named.1 else if bytes_eq named.0 (codes "trace") then named.1 else []
 
 -- n is the number that a text writes in decimal digits, which may follow a plus
 pub record IsNumber (text : Text) (n : ℕ) : Type 0 where
@@ -55,7 +67,7 @@ abbrev pub IsWithin : ℕ → ℕ → Option ℕ → Type 0
 IsWithin low high None = Unit {0}
 IsWithin low high (Some n) = (low ≤ n) × (n ≤ high)
 
--- the numbers of `uring trace`, each where it is given
+-- the numbers of `uring trace` or `uring explain`, each where it is given
 pub record Numbers : Type 0 where
   pub sq : Option ℕ
   pub cq : Option ℕ
@@ -82,9 +94,14 @@ pub record Writes (words : List Text) (n : Numbers) : Type 0 where
   pub no_fault : fault_of uring words ≡ []
   pub numbers : GivesNumbers (trace_rows (subcommand_of uring words)) n
 
--- a trace over the set-up of these numbers: 4 entries, a completion ring of twice as many, 2 files and the word 0 where none is given
-abbrev pub IsTraceOver : Numbers → Options → Type 0
-IsTraceOver n (Trace s) = IsSetupFor (unwrap_or n.sq 4) n.cq (unwrap_or n.files 2) (unwrap_or n.start 0) s
+-- the set-up of these numbers: 4 entries, a completion ring of twice as many, 2 files and the word 0 where none is given
+abbrev pub IsSetupOver : Numbers → Setup → Type 0
+IsSetupOver n s = IsSetupFor (unwrap_or n.sq 4) n.cq (unwrap_or n.files 2) (unwrap_or n.start 0) s
+
+-- a trace over the set-up of these numbers, explained if the command is `explain`
+abbrev pub IsRunOver : Bool → Numbers → Options → Type 0
+IsRunOver is_explained n (Trace s) = (is_explained ≡ false) × IsSetupOver n s
+IsRunOver is_explained n (Explain s) = (is_explained ≡ true) × IsSetupOver n s
 
 -- a completion ring is given, and is smaller after rounding than the submission ring
 pub record IsTooSmall (n : Numbers) : Type 0 where
@@ -96,9 +113,9 @@ pub record IsTooSmall (n : Numbers) : Type 0 where
   pub cq_rounded : IsNextPowerOfTwo cq cq_size
   pub smaller : cq_size < sq_size
 
--- the words write numbers, and ask for the trace over them
+-- the words write numbers, and ask for the trace over them or its explanation
 abbrev pub AskFor : List Text → Options → Type 0
-AskFor words o = (n : Numbers) × Writes words n × IsTraceOver n o
+AskFor words o = (n : Numbers) × Writes words n × IsRunOver (explains (subcommand_of uring words)) n o
 
 -- the words write numbers of which the completion ring's is too small
 abbrev pub AskForTooSmall : List Text → Type 0

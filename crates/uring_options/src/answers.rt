@@ -9,6 +9,9 @@ use uring_entry::Setup;
 pub enum Options {
     /// `uring trace`, or `uring` alone: a trace over this set-up.
     Trace(Setup),
+
+    /// `uring explain`: an explained trace over this set-up.
+    Explain(Setup),
 }
 
 /// Why a command line is refused.

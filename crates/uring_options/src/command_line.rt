@@ -4,7 +4,7 @@ ghost use Rattle.std.specs.Prelude.{◌≡◌, ◌↔◌, ℕ, Option, [], ◌�
 ghost use Rattle.clap.specs.Words.{FailsBy, HasMatchesOf, app_of, fault_of, found_of, kind_of, rows_of, rule_of, with_rule};
 ghost use Rattle.clap.specs.Walk.{texts};
 ghost use Rattle.clap.specs.declared.builder.command.Command.TheViews.{out-Command};
-ghost use Rattle.uring_options.specs.CommandLine.{option_rule, trace_app, uring, Gives, IsWithin, Numbers, AreInRange, GivesNumbers, IsTraceOver, IsTooSmall, AskFor, AskForTooSmall, IsWords, IsMemory, IsFaultOf};
+ghost use Rattle.uring_options.specs.CommandLine.{option_rule, with_numbers_of, trace_app, explain_app, uring, Gives, IsWithin, Numbers, AreInRange, GivesNumbers, IsSetupOver, IsTooSmall, AskFor, AskForTooSmall, IsWords, IsMemory, IsFaultOf};
 
 use crate::answers::{Options, OptionsFault};
 use clap::builder::ValueParser;
@@ -56,7 +56,23 @@ up to 2^32 - 1, CODE up to 255; FD has 32 bits and a sign. FLAGS is - or letters
 D drain, L link, H hard link, A async, S skip success. HEX is - or 1 to 64 bytes
 and RAW 128 bytes, in lower case hexadecimal.";
 
-/// Reads a command line, whose first word is the program's name: `uring`, or `uring trace` with options for the entries of the submission ring (`--sq`, 1 to 4,096, else 4) and of the completion ring (`--cq`, 1 to 8,192, else twice as many), for the files (`--files`, 1 to 64, else 2) and for the word at which both rings begin (`--start`, 32 bits, else 0). Our own rule.
+/// The reasons of `uring explain`, for its help.
+const REASONS: &str = "\
+Steps and answers are those of trace. Behind an answer to issue, and behind
+not running, stand two spaces, # and the reason:
+  never accepted, has ended, runs, waits for nobody
+  waits for M: a member of its group
+  waits for M: M's group drains
+  waits for M: its own group drains
+  doomed: a fault of its entry
+  doomed: M of its group has a fault
+  doomed: M failed before it
+  doomed: a cancel chose it
+A line that is empty or begins with # is passed over. Any other that is no step
+is answered bad line, and told on standard error with its number; the status at
+the end is then 4.";
+
+/// Reads a command line, whose first word is the program's name: `uring`, or `uring trace` or `uring explain` with options for the entries of the submission ring (`--sq`, 1 to 4,096, else 4) and of the completion ring (`--cq`, 1 to 8,192, else twice as many), for the files (`--files`, 1 to 64, else 2) and for the word at which both rings begin (`--start`, 32 bits, else 0). Our own rule.
 ///
 /// `Small` comes if the options give a completion ring that is smaller after rounding than the submission ring. `Words` comes for any other fault of the words, a number out of its range among them, for a call for help, and where memory is refused. Numbers may have a leading `+` or leading zeros.
 pub fn options<'a>(alloc: Global, args: &'a [&'a str]) -> Result<Options, OptionsFault>
@@ -71,9 +87,12 @@ pub fn options<'a>(alloc: Global, args: &'a [&'a str]) -> Result<Options, Option
     ensures words { IfErr result (IsFaultOf (texts args.now)) }
 {
     let matches = matches_of(alloc, args)?;
+    if let Some(matches) = matches.subcommand_matches("explain") {
+        return Ok(Options::Explain(setup_of(matches)?));
+    }
     match matches.subcommand_matches("trace") {
-        Some(matches) => trace_of(matches),
-        None => trace_over(None, None, None, None),
+        Some(matches) => Ok(Options::Trace(setup_of(matches)?)),
+        None => Ok(Options::Trace(setup_over(None, None, None, None)?)),
     }
 }
 
@@ -85,35 +104,35 @@ fn matches_of<'a>(alloc: Global, args: &'a [&'a str]) -> Result<ArgMatches<'a>, 
     uring_command(alloc)?.try_get_matches_from(args)
 }
 
-/// A trace over the set-up that the options of `uring trace` give.
-fn trace_of(matches: &ArgMatches<'_>) -> Result<Options, OptionsFault>
+/// The set-up that the options of `uring trace` or `uring explain` give.
+fn setup_of(matches: &ArgMatches<'_>) -> Result<Setup, OptionsFault>
     requires { (n : Numbers) × GivesNumbers (rows_of (found_of matches.now)) n }
-    ensures ok { IfOk result (λ o. (n : Numbers) × GivesNumbers (rows_of (found_of matches.now)) n × IsTraceOver n o) }
+    ensures ok { IfOk result (λ s. (n : Numbers) × GivesNumbers (rows_of (found_of matches.now)) n × IsSetupOver n s) }
     ensures err { IfErr result (λ e. (e ≡ OptionsFault.Small) × ((n : Numbers) × GivesNumbers (rows_of (found_of matches.now)) n × IsTooSmall n)) }
 {
     let sq = given_number(matches, "sq");
     let cq = given_number(matches, "cq");
     let files = given_number(matches, "files");
     let start = given_number(matches, "start");
-    trace_over(sq, cq, files, start)
+    setup_over(sq, cq, files, start)
 }
 
-/// A trace over the set-up of these numbers, and of the defaults for those that are absent. It is refused if the completion ring is too small.
-fn trace_over(
+/// The set-up of these numbers, and of the defaults for those that are absent. It is refused if the completion ring is too small.
+fn setup_over(
     sq: Option<u32>,
     cq: Option<u32>,
     files: Option<u32>,
     start: Option<u32>,
-) -> Result<Options, OptionsFault>
+) -> Result<Setup, OptionsFault>
     requires { AreInRange (record { sq = sq; cq = cq; files = files; start = start }) }
-    ensures ok { IfOk result (IsTraceOver (record { sq = sq; cq = cq; files = files; start = start })) }
+    ensures ok { IfOk result (IsSetupOver (record { sq = sq; cq = cq; files = files; start = start })) }
     ensures err { IfErr result (λ e. (e ≡ OptionsFault.Small) × IsTooSmall (record { sq = sq; cq = cq; files = files; start = start })) }
 {
     let sq = sq.unwrap_or(DEFAULT_SQ);
     let files = files.unwrap_or(DEFAULT_FILES);
     let start = start.unwrap_or(DEFAULT_START);
     match Setup::new(sq, cq, files, start) {
-        Ok(setup) => Ok(Options::Trace(setup)),
+        Ok(setup) => Ok(setup),
         Err(BadSetup::BadCq) => Err(OptionsFault::Small),
         Err(BadSetup::BadSq | BadSetup::BadFiles) => unreachable!(),
     }
@@ -135,7 +154,8 @@ fn uring_command<'a>(alloc: Global) -> Result<Command<'a>, AllocError>
         .long_about(
             "The rings of io_uring, step by step. Without a command it does `trace` with the defaults.",
         )
-        .subcommand(trace_command(alloc)?)
+        .subcommand(trace_command(alloc)?)?
+        .subcommand(explain_command(alloc)?)
 }
 
 /// The command line of `uring trace`.
@@ -146,6 +166,25 @@ fn trace_command<'a>(alloc: Global) -> Result<Command<'a>, AllocError>
     let command = Command::new(alloc, "trace")
         .about("Read steps from standard input, a line each, and write the answer to each")
         .after_help(STEPS);
+    with_numbers(alloc, command)
+}
+
+/// The command line of `uring explain`.
+fn explain_command<'a>(alloc: Global) -> Result<Command<'a>, AllocError>
+    ensures app { IfOk result (λ command. app_of command ≡ explain_app) }
+    ensures local { IfOk result (λ command. (out-Command command).has_globals ≡ false) }
+{
+    let command = Command::new(alloc, "explain")
+        .about("Do as trace does, and write behind an answer its reason")
+        .after_help(REASONS);
+    with_numbers(alloc, command)
+}
+
+/// The command with the options of a set-up.
+fn with_numbers<'a>(alloc: Global, command: Command<'a>) -> Result<Command<'a>, AllocError>
+    ensures app { IfOk result (λ more. app_of more ≡ with_numbers_of (app_of command.entry)) }
+    ensures local { IfOk result (λ more. (out-Command more).has_globals ≡ (out-Command command.entry).has_globals) }
+{
     let command = with_number(
         alloc,
         command,

@@ -6,6 +6,8 @@ pub mod Spellings
 pub mod NumberLaws
 pub mod FlagLaws
 pub mod Sessions
+pub mod ExplainLines
+pub mod ExplainStreams
 pub mod Traces
 pub mod HexLaws
 pub mod FormLaws

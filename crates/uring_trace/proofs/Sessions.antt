@@ -14,7 +14,8 @@ use Rattle.uring_machine.specs.declared.step.Step.{Step}
 use Rattle.uring_trace.specs.Spelling.{IsStep, IsBad}
 use Rattle.uring_trace.specs.Lines.{IsUnbroken, Splits, with_last, joined, ended}
 use Rattle.uring_trace.specs.Exchanges.{Exchange, Answers, answer_text, lines_of, events_of}
-use Rattle.uring_trace.specs.Sessions.{Keeps300, AppendsAnswer, Holds, with_event}
+use Rattle.uring_trace.specs.KeptLines.{Keeps300}
+use Rattle.uring_trace.specs.Sessions.{AppendsAnswer, Holds, with_event}
 use Rattle.uring_trace.specs.Traces.{IsWhole, IsBeginning, IsEnded}
 
 -- a value's fact, whatever the value
@@ -31,7 +32,7 @@ unbroken_more [] b ne h = (ne, tt)
 unbroken_more (c ∷ line) b ne h = (h.0, unbroken_more line b ne h.1)
 
 -- a byte more of the rest
-split_more : (bytes : List ℕ) (lines : List (List ℕ)) (rest : List ℕ) (b : ℕ) → b ≢ 10 → Splits bytes lines rest → Splits (bytes ++ b ∷ []) lines (rest ++ b ∷ [])
+pub split_more : (bytes : List ℕ) (lines : List (List ℕ)) (rest : List ℕ) (b : ℕ) → b ≢ 10 → Splits bytes lines rest → Splits (bytes ++ b ∷ []) lines (rest ++ b ∷ [])
 split_more bytes lines rest b ne h = record {
   whole = ap (λ (l : List ℕ). l ++ b ∷ []) h.whole ∙ append_assoc (joined lines) rest (b ∷ []);
   each = h.each;
@@ -39,7 +40,7 @@ split_more bytes lines rest b ne h = record {
 }
 
 -- the end of the rest
-split_end : (bytes : List ℕ) (lines : List (List ℕ)) (rest : List ℕ) → Splits bytes lines rest → Splits (bytes ++ 10 ∷ []) (rest ∷ lines) []
+pub split_end : (bytes : List ℕ) (lines : List (List ℕ)) (rest : List ℕ) → Splits bytes lines rest → Splits (bytes ++ 10 ∷ []) (rest ∷ lines) []
 split_end bytes lines rest h = record {
   whole = ap (λ (l : List ℕ). l ++ 10 ∷ []) h.whole ∙ simp (append_assoc, append-nil);
   each = (h.unbroken, h.each);
@@ -47,7 +48,7 @@ split_end bytes lines rest h = record {
 }
 
 -- lines with their ends
-split_whole : (lines : List (List ℕ)) → AllByRecursion IsUnbroken lines → Splits (joined lines) lines []
+pub split_whole : (lines : List (List ℕ)) → AllByRecursion IsUnbroken lines → Splits (joined lines) lines []
 split_whole lines each = record { whole = sym (append-nil (joined lines)); each = each; unbroken = tt }
 
 -- a byte of a line that has room
@@ -93,7 +94,7 @@ pub read_again : (line kept : List ℕ) (read : Option Step) → MatchOption rea
 read_again line kept read h k = subst (λ (l : List ℕ). MatchOption read (IsBad l) (IsStep l)) (line_is_kept line kept k) h
 
 -- the history of one exchange more
-one_more : (event : Option Event) (events : List Event) → with_event event (history_of events) ≡ history_of (events ++ option_to_list event)
+pub one_more : (event : Option Event) (events : List Event) → with_event event (history_of events) ≡ history_of (events ++ option_to_list event)
 one_more None events = ap (λ (es : List Event). history_of es) (sym (append-nil events))
 one_more (Some event) events = sym (history_of-snoc events event)
 
@@ -123,7 +124,7 @@ ended_line setup m m' kept is_long bytes text before after answer h =
       fits = subst (λ (k : History). Fits m' k) (one_more a.event (events_of h.exchanges)) (a.fits (history_of (events_of h.exchanges)) h.fits);
     }
 
-last_some : (lines : List (List ℕ)) (rest : List ℕ) → 0 < length rest → with_last lines rest ≡ rest ∷ lines
+pub last_some : (lines : List (List ℕ)) (rest : List ℕ) → 0 < length rest → with_last lines rest ≡ rest ∷ lines
 last_some lines [] lt = absurd (omega arith)
 last_some lines (b ∷ rest) lt = refl
 

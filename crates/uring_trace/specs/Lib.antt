@@ -3,7 +3,12 @@ pub mod Spelling
 pub mod Reading
 pub mod Text
 pub mod Lines
+pub mod KeptLines
 pub mod Exchanges
 pub mod Traces
 pub mod Sessions
 pub mod Streams
+pub mod Reasons
+pub mod Remarks
+pub mod Explanations
+pub mod Explaining

@@ -3,15 +3,20 @@
 
 mod answer_text;
 mod entry_tokens;
+mod explain_loop;
+mod explainer;
 mod flag_tokens;
 mod hex_tokens;
 pub mod laws;
+mod line;
 mod number_tokens;
+mod reason_text;
 mod session;
 mod step_lines;
 mod streams;
 mod trace_fault;
 mod trace_loop;
 
+pub use explain_loop::explain;
 pub use trace_fault::TraceFault;
 pub use trace_loop::trace;

@@ -15,7 +15,7 @@ use std::io::{Read, Write};
 use uring_machine::Setup;
 
 /// Most bytes that are read at once.
-const CHUNK: usize = 512;
+pub(crate) const CHUNK: usize = 512;
 
 /// Reads steps from `reader`, one a line, makes them on a new machine of this set-up, and writes the answers to `writer`, one a line, until the input ends. A line that is no step is answered `bad line`.
 ///
@@ -103,7 +103,11 @@ fn answer_last<W: Write>(
 }
 
 /// Writes all these bytes.
-fn write_all<W: Write>(writer: &mut W, bytes: &[u8], writes: &mut Calls) -> Result<(), TraceFault>
+pub(crate) fn write_all<W: Write>(
+    writer: &mut W,
+    bytes: &[u8],
+    writes: &mut Calls,
+) -> Result<(), TraceFault>
     ensures text { (written : List ℕ) × Appends (W.contents writer.old) (W.contents writer.new) written × WritesText result bytes.now written }
     ensures write { IfErr result (λ _. AreOver writes.new) }
 {

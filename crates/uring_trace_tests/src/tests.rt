@@ -1,3 +1,4 @@
+mod explained;
 mod growth;
 mod lines;
 mod streams;

@@ -4,6 +4,7 @@ use crate::ffi::{self, Place};
 use crate::reading::{self, Counts, Operation};
 use crate::setup::Setup;
 use crate::step::Step;
+use crate::why::{self, Why};
 use std::cell::UnsafeCell;
 
 /// A pair of rings and its requests, without files: how a running request ends comes from the caller.
@@ -111,6 +112,22 @@ impl Core {
         let result =
             unsafe { ffi::wulgach_core_running_op(self.place.get(), number, &mut operation) };
         (result == 0).then(|| reading::operation(&operation))
+    }
+
+    /// Why the request of this number, any number, stands as it does.
+    ///
+    /// ```
+    /// # use wulgach::{Core, Setup, Why};
+    /// # fn main() -> Result<(), wulgach::Error> {
+    /// assert_eq!(Core::new(&Setup::default())?.why(0), Why::NeverAccepted);
+    /// # Ok(())
+    /// # }
+    /// ```
+    pub fn why(&self, number: u64) -> Why {
+        let mut words = why::NO_WHY;
+        // SAFETY: as in `counts`.
+        unsafe { ffi::wulgach_core_why(self.place.get(), number, &mut words) };
+        why::why(&words)
     }
 }
 

@@ -93,6 +93,14 @@ pub struct Operation {
 }
 
 #[repr(C)]
+pub struct Why {
+    pub number: u64,
+    pub kind: u32,
+    pub reason: u32,
+    pub fault: u32,
+}
+
+#[repr(C)]
 pub struct File {
     pub writes: u64,
     pub synced: u64,
@@ -114,6 +122,7 @@ extern "C" {
     pub fn wulgach_core_running_op(core: *mut Place, number: u64, operation: *mut Operation)
         -> i32;
     pub fn wulgach_core_least(core: *mut Place, number: *mut u64) -> i32;
+    pub fn wulgach_core_why(core: *mut Place, number: u64, why: *mut Why) -> i32;
     pub fn wulgach_core_free(core: *mut Place) -> i32;
     pub fn wulgach_machine_new(machine: *mut Place, setup: *const Setup) -> i32;
     pub fn wulgach_machine_step(machine: *mut Place, step: *const Step, answer: *mut Answer)
@@ -132,5 +141,6 @@ extern "C" {
     pub fn wulgach_machine_state(machine: *mut Place, fd: i32, file: *mut File) -> i32;
     pub fn wulgach_machine_byte(machine: *mut Place, fd: i32, at: u64, byte: *mut u8) -> i32;
     pub fn wulgach_machine_least(machine: *mut Place, number: *mut u64) -> i32;
+    pub fn wulgach_machine_why(machine: *mut Place, number: u64, why: *mut Why) -> i32;
     pub fn wulgach_machine_free(machine: *mut Place) -> i32;
 }

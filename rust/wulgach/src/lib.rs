@@ -19,6 +19,7 @@ mod machine;
 mod reading;
 mod setup;
 mod step;
+mod why;
 
 pub use crate::answer::{Answer, Completion};
 pub use crate::core::Core;
@@ -28,3 +29,4 @@ pub use crate::machine::Machine;
 pub use crate::reading::{Counts, FileState, Operation};
 pub use crate::setup::Setup;
 pub use crate::step::Step;
+pub use crate::why::{Doom, Fault, Since, Why};

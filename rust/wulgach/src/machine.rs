@@ -4,6 +4,7 @@ use crate::ffi::{self, Place};
 use crate::reading::{self, Counts, FileState, Operation};
 use crate::setup::Setup;
 use crate::step::Step;
+use crate::why::{self, Why};
 use std::cell::UnsafeCell;
 
 /// A pair of rings, its requests and up to 64 files in memory, of at most 65,536 bytes each.
@@ -91,6 +92,22 @@ impl Machine {
         let result =
             unsafe { ffi::wulgach_machine_running_op(self.place.get(), number, &mut operation) };
         (result == 0).then(|| reading::operation(&operation))
+    }
+
+    /// Why the request of this number, any number, stands as it does.
+    ///
+    /// ```
+    /// # use wulgach::{Machine, Setup, Why};
+    /// # fn main() -> Result<(), wulgach::Error> {
+    /// assert_eq!(Machine::new(&Setup::default())?.why(0), Why::NeverAccepted);
+    /// # Ok(())
+    /// # }
+    /// ```
+    pub fn why(&self, number: u64) -> Why {
+        let mut words = why::NO_WHY;
+        // SAFETY: as in `counts`.
+        unsafe { ffi::wulgach_machine_why(self.place.get(), number, &mut words) };
+        why::why(&words)
     }
 
     /// How the file of a descriptor stands.

@@ -1,6 +1,6 @@
 use Rattle.std.proofs.Common.{refl, ap, Err}
 use Rattle.uring_options.proofs.Refusals.{too_small}
-use Rattle.uring_options.proofs.command_line.trace_over.Goals as goal
+use Rattle.uring_options.proofs.command_line.setup_over.Goals as goal
 
 pub returns-in-Err-BadCq-clause-err : goal.returns-in-Err-BadCq-clause-err
 returns-in-Err-BadCq-clause-err c =

@@ -1,0 +1,175 @@
+-- What an explainer keeps, byte by byte and line by line.
+use Rattle.std.proofs.Common.{◌≡◌, ◌≢◌, ℕ, ◌+◌, ◌-◌, ◌^◌, ◌<◌, min, Bool, true, false, not, ◌&&◌, ◌||◌, List, [], ◌∷◌, ◌++◌, length, take, Some, None, Result, Ok, Err, refl, sym, ap, subst, ◌∙◌, append_assoc, arith}
+use Rattle.std.specs.Prelude.{if◌then◌else◌, is_none, IfOk}
+use Rattle.std.specs.List.{list_any}
+use Rattle.std.proofs.lemmas.List.{append-nil, length-take, nil_from_length}
+use Rattle.uring_entry.specs.Setup.{Setup}
+use Rattle.uring_machine.specs.CalledFor.{IsLawful}
+use Rattle.uring_machine.specs.Histories.{History, history_of, world}
+use Rattle.uring_machine.specs.Machine.{Machine, Fits}
+use Rattle.uring_machine.specs.declared.step.Step.{Step}
+use Rattle.uring_trace.specs.Spelling.{IsStep, IsBad}
+use Rattle.uring_trace.specs.Lines.{with_last, joined, ended}
+use Rattle.uring_trace.specs.KeptLines.{Keeps300}
+use Rattle.uring_trace.specs.Remarks.{is_remark}
+use Rattle.uring_trace.specs.Exchanges.{Exchange, lines_of, events_of}
+use Rattle.uring_trace.specs.Sessions.{with_event}
+use Rattle.std.specs.Prelude.{codes}
+use Rattle.uring_trace.specs.Explanations.{Explains, ExplainsWhole, ExplainsEnded, ExplainsBeginning, told_of, noted_of, bad_note, line_number, is_bad}
+use Rattle.uring_trace.specs.Explaining.{AppendsLine, TellsStep, Explaining}
+use Rattle.uring_trace.proofs.Sessions.{split_more, split_end, split_whole, one_more, last_some}
+
+-- two facts of a value, whatever the value
+pub if_ok_both : {T E : Type 0} (r : Result T E) (P Q R : T → Type 0) → ((x : T) → P x → Q x → R x) → IfOk r P → IfOk r Q → IfOk r R
+if_ok_both (Ok x) P Q R f a b = f x a b
+if_ok_both (Err e) P Q R f a b = tt
+
+-- a remark is known by what is kept of it
+pub remark_kept : (line kept : List ℕ) (is_long : Bool) → Keeps300 line kept is_long → is_remark kept ≡ is_remark line
+remark_kept line kept is_long k = ap is_remark k.first ∙ first line
+  where
+    first : (l : List ℕ) → is_remark (take 300 l) ≡ is_remark l
+    first [] = refl
+    first (b ∷ l) = refl
+
+or_false : (b : Bool) → b ≡ (b || false)
+or_false true = refl
+or_false false = refl
+
+or_true : (b : Bool) → true ≡ (b || true)
+or_true true = refl
+or_true false = refl
+
+-- what becomes of a line: a step, a remark, or a bad one
+
+pub line_made : (old new : Machine) (number : ℕ) (bad : Bool) (line before after notes : List ℕ) (step : Step) → IsStep line step → TellsStep old new step before after → AppendsLine old new number bad bad line before after notes notes
+line_made old new number bad line before after notes step is t = record {
+  event = Some (step, t.answer);
+  read = is;
+  told = t.told;
+  noted = sym (append-nil notes);
+  bad_line = or_false bad;
+  same = t.same;
+  fits = t.fits;
+}
+
+pub line_passed : (m : Machine) (number : ℕ) (bad : Bool) (line before notes : List ℕ) → IsBad line → is_remark line ≡ true → AppendsLine m m number bad bad line before before notes notes
+line_passed m number bad line before notes is remark = record {
+  event = None;
+  read = is;
+  told = λ h f. sym (ap (λ b. before ++ (if b then [] else ended (codes "bad line"))) remark ∙ append-nil before);
+  noted = sym (ap (λ b. notes ++ (if b then [] else bad_note number)) remark ∙ append-nil notes);
+  bad_line = or_false bad ∙ ap (λ b. bad || not b) (sym remark);
+  same = refl;
+  fits = λ h f. f;
+}
+
+pub line_bad : (m : Machine) (number : ℕ) (was_bad : Bool) (line before after notes notes' : List ℕ) → IsBad line → is_remark line ≡ false → after ≡ before ++ ended (codes "bad line") → notes' ≡ notes ++ bad_note number
+    → AppendsLine m m number was_bad true line before after notes notes'
+line_bad m number was_bad line before after notes notes' is remark told noted = record {
+  event = None;
+  read = is;
+  told = λ h f. told ∙ ap (λ b. before ++ (if b then [] else ended (codes "bad line"))) (sym remark);
+  noted = noted ∙ ap (λ b. notes ++ (if b then [] else bad_note number)) (sym remark);
+  bad_line = or_true was_bad ∙ ap (λ b. was_bad || not b) (sym remark);
+  same = refl;
+  fits = λ h f. f;
+}
+
+-- one byte more of a line
+pub explain_byte : (setup : Setup) (m : Machine) (kept kept' : List ℕ) (is_long is_long' : Bool) (number : ℕ) (bad : Bool) (before text notes : List ℕ) (b : ℕ) → b ≢ 10 → ((line : List ℕ) → Keeps300 line kept is_long → Keeps300 (line ++ b ∷ []) kept' is_long')
+    → Explaining setup m kept is_long number bad before text notes → Explaining setup m kept' is_long' number bad (before ++ b ∷ []) text notes
+explain_byte setup m kept kept' is_long is_long' number bad before text notes b ne more h = record {
+  exchanges = h.exchanges;
+  line = h.line ++ b ∷ [];
+  explains = h.explains;
+  splits = split_more before (lines_of h.exchanges) h.line b ne h.splits;
+  keeps = more h.line h.keeps;
+  numbered = h.numbered;
+  bad_lines = h.bad_lines;
+  same = h.same;
+  fits = h.fits;
+}
+
+or_comes : (a b : Bool) → (a || b) ≡ (b || a)
+or_comes true true = refl
+or_comes true false = refl
+or_comes false true = refl
+or_comes false false = refl
+
+-- one exchange more
+explained_more : (setup : Setup) (m m' : Machine) (number : ℕ) (was_bad bad : Bool) (xs : List Exchange) (line text before after notes noted noted' : List ℕ) → Explains setup xs (text ++ before) (notes ++ noted) → number ≡ line_number (length xs) → m.core.setup ≡ setup → Fits m (history_of (events_of xs)) → (a : AppendsLine m m' number was_bad bad line before after noted noted')
+    → Explains setup (record { line = line; event = a.event } ∷ xs) (text ++ after) (notes ++ noted')
+explained_more setup m m' number was_bad bad xs line text before after notes noted noted' h numbered same fits a =
+    let past : History = history_of (events_of xs) in
+    let told : after ≡ before ++ told_of (world setup past) line a.event = subst (λ (g : Setup). after ≡ before ++ told_of (world g past) line a.event) same (a.told past fits) in
+    record {
+      lawful =
+          subst (λ (k : History). IsLawful setup k) (one_more a.event (events_of xs))
+          (subst (λ (g : Setup). IsLawful g (with_event a.event past)) (a.same ∙ same) (a.fits past fits).lawful);
+      each = (a.read, h.each);
+      told =
+          ap (λ (t : List ℕ). text ++ t) told ∙ sym (append_assoc text before (told_of (world setup past) line a.event))
+          ∙ ap (λ (t : List ℕ). t ++ told_of (world setup past) line a.event) h.told;
+      noted =
+          ap (λ (t : List ℕ). notes ++ t) (a.noted ∙ ap (λ n. noted ++ noted_of n line a.event) numbered)
+          ∙ sym (append_assoc notes noted (noted_of (line_number (length xs)) line a.event))
+          ∙ ap (λ (t : List ℕ). t ++ noted_of (line_number (length xs)) line a.event) h.noted;
+    }
+
+bad_more : (m m' : Machine) (number : ℕ) (was_bad bad : Bool) (xs : List Exchange) (line before after noted noted' : List ℕ) → was_bad ≡ list_any is_bad xs → (a : AppendsLine m m' number was_bad bad line before after noted noted')
+    → bad ≡ list_any is_bad (record { line = line; event = a.event } ∷ xs)
+bad_more m m' number was_bad bad xs line before after noted noted' was a =
+    a.bad_line ∙ ap (λ b. b || (is_none a.event && not (is_remark line))) was ∙ or_comes (list_any is_bad xs) (is_none a.event && not (is_remark line))
+
+-- a line that has its end
+pub explain_line : (setup : Setup) (m m' : Machine) (kept : List ℕ) (is_long : Bool) (number number' : ℕ) (was_bad bad : Bool) (bytes text before after notes noted noted' : List ℕ) → number' ≡ min (number + 1) (2 ^ 64 - 1)
+    → ((line : List ℕ) → Keeps300 line kept is_long → AppendsLine m m' number was_bad bad line before after noted noted')
+    → Explaining setup m kept is_long number was_bad bytes (text ++ before) (notes ++ noted) → Explaining setup m' [] false number' bad (bytes ++ 10 ∷ []) (text ++ after) (notes ++ noted')
+explain_line setup m m' kept is_long number number' was_bad bad bytes text before after notes noted noted' next tells h =
+    let a = tells h.line h.keeps in
+    let numbered = h.numbered in
+    record {
+      exchanges = record { line = h.line; event = a.event } ∷ h.exchanges;
+      line = [];
+      explains = explained_more setup m m' number was_bad bad h.exchanges h.line text before after notes noted noted' h.explains h.numbered h.same h.fits a;
+      splits = split_end bytes (lines_of h.exchanges) h.line h.splits;
+      keeps = record { first = refl; long = refl };
+      numbered = omega (arith, next, numbered);
+      bad_lines = bad_more m m' number was_bad bad h.exchanges h.line before after noted noted' h.bad_lines a;
+      same = a.same ∙ h.same;
+      fits = subst (λ (k : History). Fits m' k) (one_more a.event (events_of h.exchanges)) (a.fits (history_of (events_of h.exchanges)) h.fits);
+    }
+
+-- a last line that has begun
+pub explain_last : (setup : Setup) (m m' : Machine) (kept : List ℕ) (is_long : Bool) (number : ℕ) (was_bad bad : Bool) (bytes text before after notes noted noted' : List ℕ) → 0 < length kept
+    → ((line : List ℕ) → Keeps300 line kept is_long → AppendsLine m m' number was_bad bad line before after noted noted')
+    → Explaining setup m kept is_long number was_bad bytes (text ++ before) (notes ++ noted) → ExplainsWhole setup bad bytes (text ++ after) (notes ++ noted')
+explain_last setup m m' kept is_long number was_bad bad bytes text before after notes noted noted' lt tells h =
+    let a = tells h.line h.keeps in
+    let size : length kept ≡ length (take 300 h.line) = ap length h.keeps.first in
+    let some : 0 < length h.line = omega (arith, length-take 300 h.line) in (
+      record { line = h.line; event = a.event } ∷ h.exchanges,
+      lines_of h.exchanges,
+      h.line,
+      explained_more setup m m' number was_bad bad h.exchanges h.line text before after notes noted noted' h.explains h.numbered h.same h.fits a,
+      h.splits,
+      sym (last_some (lines_of h.exchanges) h.line some),
+      bad_more m m' number was_bad bad h.exchanges h.line before after noted noted' h.bad_lines a,
+    )
+
+-- no last line has begun
+pub explain_none : (setup : Setup) (m : Machine) (kept : List ℕ) (is_long : Bool) (number : ℕ) (bad : Bool) (bytes text notes : List ℕ) → length kept ≡ 0 → Explaining setup m kept is_long number bad bytes text notes → ExplainsWhole setup bad bytes text notes
+explain_none setup m kept is_long number bad bytes text notes none h =
+    let size : length kept ≡ length (take 300 h.line) = ap length h.keeps.first in
+    let empty : length h.line ≡ 0 = omega (arith, length-take 300 h.line) in
+    (h.exchanges, lines_of h.exchanges, h.line, h.explains, h.splits, sym (ap (with_last (lines_of h.exchanges)) (nil_from_length h.line empty)), h.bad_lines)
+
+-- what an explainer holds, for the outcomes that end early
+pub explain_ended : (setup : Setup) (m : Machine) (kept : List ℕ) (is_long : Bool) (number : ℕ) (bad : Bool) (bytes text notes : List ℕ) → Explaining setup m kept is_long number bad bytes text notes → ExplainsEnded setup bytes text notes
+explain_ended setup m kept is_long number bad bytes text notes h = (h.exchanges, h.line, h.explains, h.splits)
+
+pub explain_beginning : (setup : Setup) (m : Machine) (kept : List ℕ) (is_long : Bool) (number : ℕ) (bad : Bool) (bytes text notes more : List ℕ) → Explaining setup m kept is_long number bad bytes text notes → ExplainsBeginning setup (bytes ++ more) text notes
+explain_beginning setup m kept is_long number bad bytes text notes more h =
+    let lines = lines_of h.exchanges in
+    (joined lines, h.line ++ more, h.exchanges, h.explains, split_whole lines h.splits.each, ap (λ (l : List ℕ). l ++ more) h.splits.whole ∙ append_assoc (joined lines) h.line more)

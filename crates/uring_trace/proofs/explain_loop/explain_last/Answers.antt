@@ -1,0 +1,16 @@
+use Rattle.std.proofs.Common.{rules}
+use Rattle.uring_trace.proofs.ExplainStreams.{last_none, last_cut, last_told}
+use Rattle.uring_trace.proofs.explain_loop.explain_last.Goals as goal
+
+pub returns-in_err-finish : goal.returns-in_err-finish
+returns-in_err-finish g c = λ setup before told noted h. last_none setup _ _ _ c.args.explainer.now before told noted (search rules) h
+
+pub returns-in_err-write_both : goal.returns-in_err-write_both
+returns-in_err-write_both g c = λ setup before told noted h.
+    last_cut setup _ c.in_err-write_both.field-0.0 _ _ _ _ c.args.explainer.now _ before told noted _ _ _ _ (search rules) c.new-text.ensures.bytes c.new-notes.ensures.bytes (c.in_ok-finish.ensures.ok setup)
+    (rw (c.as_bytes.ensures.value, c.as_bytes-2.ensures.value) at c.in_err-write_both.ensures) h
+
+pub returns : goal.returns
+returns g c = λ setup before told noted h.
+    last_told setup _ _ _ _ c.args.explainer.now _ _ before told noted _ _ _ _ c.has_bad.ensures c.new-text.ensures.bytes c.new-notes.ensures.bytes (c.in_ok-finish.ensures.ok setup)
+    (rw (c.as_bytes.ensures.value, c.as_bytes-2.ensures.value) at c.in_ok-write_both.ensures) h

@@ -1,0 +1,72 @@
+-- Glue. What an explainer keeps of the lines that it took in.
+use Rattle.std.specs.Prelude.{◌≡◌, ℕ, ◌+◌, ◌<◌, Bool, List, ◌∷◌, ◌++◌, ◌||◌, not, ◌&&◌, is_none, length, Option, Result, Ok, Err}
+use Rattle.std.specs.List.{list_any}
+use Rattle.std.specs.Io.KnownBytes.{Appends}
+use Rattle.uring_trace.specs.declared.explainer.Explainer.{Explainer}
+use Rattle.uring_trace.specs.declared.trace_fault.TraceFault.{TraceFault}
+use Rattle.uring_trace.specs.declared.trace_fault.TraceFault.TheVariants as fault
+use Rattle.uring_entry.specs.Setup.{Setup}
+use Rattle.uring_machine.specs.Histories.{Event, History, world, history_of}
+use Rattle.uring_machine.specs.Machine.{Machine, Fits}
+use Rattle.uring_machine.specs.declared.step.Step.{Step}
+use Rattle.uring_machine.specs.declared.answer.Answer.{Answer}
+use Rattle.uring_trace.specs.Text.{text_of}
+use Rattle.uring_trace.specs.Reasons.{reason_of, reason_text}
+use Rattle.uring_trace.specs.Lines.{ended, Splits}
+use Rattle.uring_trace.specs.KeptLines.{Keeps300}
+use Rattle.uring_trace.specs.Exchanges.{Exchange, IsReadAs, lines_of, events_of}
+use Rattle.uring_trace.specs.Sessions.{with_event}
+use Rattle.uring_trace.specs.Explanations.{Explains, WritesBoth, told_of, noted_of, line_number, is_bad}
+use Rattle.uring_trace.specs.Remarks.{is_remark}
+
+-- What a line is told and noted as is appended, and a step is made where the line is one.
+pub record AppendsLine (old new : Machine) (number : ℕ) (was_bad bad : Bool) (line before after noted_before noted_after : List ℕ) : Type 0 where
+  pub event : Option Event
+  pub read : IsReadAs line event
+  pub told : (h : History) → Fits old h → after ≡ before ++ told_of (world old.core.setup h) line event
+  pub noted : noted_after ≡ noted_before ++ noted_of number line event
+  pub bad_line : bad ≡ (was_bad || (is_none event && not (is_remark line)))
+  pub same : new.core.setup ≡ old.core.setup
+  pub fits : (h : History) → Fits old h → Fits new (with_event event h)
+
+-- A step was made, and its answer with the reason is appended as a line.
+pub record TellsStep (old new : Machine) (step : Step) (before after : List ℕ) : Type 0 where
+  pub answer : Answer
+  pub told : (h : History) → Fits old h → after ≡ before ++ ended (text_of answer ++ reason_text (reason_of (world old.core.setup h) step answer))
+  pub same : new.core.setup ≡ old.core.setup
+  pub fits : (h : History) → Fits old h → Fits new ((step, answer) ∷ h)
+
+-- What a write of two texts did: at `Ok` it appended both, and else together less, each from its beginning on.
+abbrev pub WritesTexts : Result (Unit {0}) TraceFault → List ℕ → List ℕ → List ℕ → List ℕ → Type 0
+WritesTexts (Ok done) text notes written noted = (written ≡ text) × (noted ≡ notes)
+WritesTexts (Err e) text notes written noted =
+    (e ≡ fault.Write) × (more : List ℕ) × (more_notes : List ℕ) × (0 < length more + length more_notes) × (text ≡ written ++ more) × (notes ≡ noted ++ more_notes)
+
+-- what was written to the two streams, and that it is so much of these texts
+abbrev pub WritesPair : Option (List ℕ) → Option (List ℕ) → Option (List ℕ) → Option (List ℕ) → Result (Unit {0}) TraceFault → List ℕ → List ℕ → Type 0
+WritesPair w w' e e' result text notes = (written : List ℕ) × (noted : List ℕ) × Appends w w' written × Appends e e' noted × WritesTexts result text notes written noted
+
+-- The explainer's invariant, over its fields: these bytes have been taken in, text and notes are what was told and noted so far, and `kept` and `is_long` are what is kept of the unfinished line, which has this number.
+pub record Explaining (setup : Setup) (machine : Machine) (kept : List ℕ) (is_long : Bool) (number : ℕ) (bad : Bool) (bytes text notes : List ℕ) : Type 0 where
+  pub exchanges : List Exchange
+  pub line : List ℕ
+  pub explains : Explains setup exchanges text notes
+  pub splits : Splits bytes (lines_of exchanges) line
+  pub keeps : Keeps300 line kept is_long
+  pub numbered : number ≡ line_number (length exchanges)
+  pub bad_lines : bad ≡ list_any is_bad exchanges
+  pub same : machine.core.setup ≡ setup
+  pub fits : Fits machine (history_of (events_of exchanges))
+
+-- The explainer has taken in these bytes, and told and noted this so far.
+abbrev pub HasTold : Setup → Explainer → List ℕ → List ℕ → List ℕ → Type 0
+HasTold setup s bytes text notes = Explaining setup s.machine s.line.kept.items s.line.is_long s.number s.has_bad bytes text notes
+
+-- These bytes were to be taken in, and this is what has been written: all that was told and noted so far, or what a fault allows.
+abbrev pub TookBoth : Setup → Result (Unit {0}) TraceFault → Explainer → List ℕ → List ℕ → List ℕ → Type 0
+TookBoth setup (Ok done) s bytes text notes = HasTold setup s bytes text notes
+TookBoth setup (Err e) s bytes text notes = WritesBoth setup (Err e) bytes text notes
+
+-- what was written to the two streams for the bytes that were given, behind what was told and noted before
+abbrev pub WroteBoth : Option (List ℕ) → Option (List ℕ) → Option (List ℕ) → Option (List ℕ) → List ℕ → List ℕ → (List ℕ → List ℕ → Type 0) → Type 0
+WroteBoth w w' e e' told noted P = (written : List ℕ) × (more_notes : List ℕ) × Appends w w' written × Appends e e' more_notes × P (told ++ written) (noted ++ more_notes)

@@ -1,0 +1,113 @@
+//! The run of an explained trace over three streams.
+
+ghost use Rattle.std.specs.Prelude.{◌≡◌, ◌≢◌, ℕ, List, [], ◌++◌, Err, IfErr};
+ghost use Rattle.std.specs.Io.KnownBytes.{Appends};
+ghost use Rattle.uring_entry.specs.Setup.{Setup};
+ghost use Rattle.uring_trace.specs.Explaining.{HasTold, TookBoth, WritesPair, WroteBoth};
+ghost use Rattle.uring_trace.specs.Explanations.{IsExplained, WritesBoth};
+
+use crate::explainer::Explainer;
+use crate::streams::{Calls, read_once};
+use crate::trace_fault::TraceFault;
+use crate::trace_loop::{CHUNK, write_all};
+use std::alloc::Global;
+use std::io::{Read, Write};
+use uring_machine::Setup;
+
+/// Reads steps from `reader`, one a line, makes them on a new machine of this set-up, and writes to `writer` the answers, one a line, each with its reason if it has one, until the input ends. `Ok` tells whether a line was bad.
+///
+/// A line that is empty or begins with `#` is passed over. Any other that is no step is answered `bad line`, and noted with its number, from 1 on, on `errors`. Whatever has been read is answered before the next read, and an interrupted read or write is made again.
+///
+/// - `Read`: a read failed, or 2^64 - 1 reads were made. Every complete line read so far has been answered and noted.
+/// - `Write`: a write failed or took no byte, or 2^64 - 1 writes were made. Answers or notes are cut short.
+/// - `Memory`: memory was refused. The lines before some line have been answered and noted, and no later one.
+pub fn explain<R: Read, W: Write, E: Write>(
+    alloc: Global,
+    reader: &mut R,
+    writer: &mut W,
+    errors: &mut E,
+    setup: &Setup,
+) -> Result<bool, TraceFault>
+    ensures { IsExplained setup.now result (R.remaining reader.old) (R.remaining reader.new) (W.contents writer.old) (W.contents writer.new) (E.contents errors.old) (E.contents errors.new) }
+{
+    let mut explainer = Explainer::new(alloc, setup)?;
+    explain_all(alloc, &mut explainer, reader, writer, errors)
+}
+
+/// Answers line by line until the input ends.
+fn explain_all<R: Read, W: Write, E: Write>(
+    alloc: Global,
+    explainer: &mut Explainer,
+    reader: &mut R,
+    writer: &mut W,
+    errors: &mut E,
+) -> Result<bool, TraceFault>
+    ensures { (setup : Setup) → HasTold setup explainer.old [] [] [] → IsExplained setup result (R.remaining reader.old) (R.remaining reader.new) (W.contents writer.old) (W.contents writer.new) (E.contents errors.old) (E.contents errors.new) }
+{
+    let mut reads = Calls::new();
+    let mut writes = Calls::new();
+    let mut chunk = [0; CHUNK];
+    while !reads.are_over() {
+        match read_once(reader, &mut chunk, &mut reads) {
+            Ok(0) => return explain_last(alloc, explainer, writer, errors, &mut writes),
+            Ok(count) => explain_bytes(
+                alloc,
+                explainer,
+                &chunk[..count],
+                writer,
+                errors,
+                &mut writes,
+            )?,
+            Err(_) => {}
+        }
+    }
+    Err(TraceFault::Read)
+}
+
+/// Takes in these bytes, and writes what is told and noted of the lines that they complete.
+fn explain_bytes<W: Write, E: Write>(
+    alloc: Global,
+    explainer: &mut Explainer,
+    bytes: &[u8],
+    writer: &mut W,
+    errors: &mut E,
+    writes: &mut Calls,
+) -> Result<(), TraceFault>
+    ensures { (setup : Setup) (before told noted : List ℕ) → HasTold setup explainer.old before told noted → WroteBoth (W.contents writer.old) (W.contents writer.new) (E.contents errors.old) (E.contents errors.new) told noted (TookBoth setup result explainer.new (before ++ bytes.now)) }
+{
+    let mut text = String::new(alloc);
+    let mut notes = String::new(alloc);
+    explainer.feed(bytes, &mut text, &mut notes)?;
+    write_both(writer, text.as_bytes(), errors, notes.as_bytes(), writes)
+}
+
+/// Ends the input, and writes what is told and noted of a last line without an end. Returns whether a line was bad.
+fn explain_last<W: Write, E: Write>(
+    alloc: Global,
+    explainer: &mut Explainer,
+    writer: &mut W,
+    errors: &mut E,
+    writes: &mut Calls,
+) -> Result<bool, TraceFault>
+    ensures { (setup : Setup) (before told noted : List ℕ) → HasTold setup explainer.old before told noted → WroteBoth (W.contents writer.old) (W.contents writer.new) (E.contents errors.old) (E.contents errors.new) told noted (WritesBoth setup result before) }
+{
+    let mut text = String::new(alloc);
+    let mut notes = String::new(alloc);
+    explainer.finish(&mut text, &mut notes)?;
+    write_both(writer, text.as_bytes(), errors, notes.as_bytes(), writes)?;
+    Ok(explainer.has_bad())
+}
+
+/// Writes what was told, and then what was noted.
+fn write_both<W: Write, E: Write>(
+    writer: &mut W,
+    text: &[u8],
+    errors: &mut E,
+    notes: &[u8],
+    writes: &mut Calls,
+) -> Result<(), TraceFault>
+    ensures { WritesPair (W.contents writer.old) (W.contents writer.new) (E.contents errors.old) (E.contents errors.new) result text.now notes.now }
+{
+    write_all(writer, text, writes)?;
+    write_all(errors, notes, writes)
+}

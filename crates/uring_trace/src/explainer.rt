@@ -1,0 +1,163 @@
+//! Feeds bytes to a machine as a session of a trace does, and appends to each answer its reason.
+
+ghost use Rattle.std.specs.Prelude.{◌≡◌, ◌≢◌, ℕ, ◌+◌, ◌-◌, ◌^◌, min, List, [], ◌∷◌, ◌++◌, IfOk, IfErr, OnOk, string_bytes, codes};
+ghost use Rattle.uring_entry.specs.Setup.{Setup};
+ghost use Rattle.uring_trace.specs.KeptLines.{Keeps300};
+ghost use Rattle.uring_trace.specs.Lines.{ended};
+ghost use Rattle.uring_trace.specs.Explanations.{ExplainsWhole, bad_note};
+ghost use Rattle.uring_trace.specs.Explaining.{TellsStep};
+
+use crate::answer_text::push_answer;
+use crate::line::Line;
+use crate::reason_text::{ask, keep, push_reason};
+use crate::trace_fault::TraceFault;
+use std::alloc::{AllocError, Global};
+use std::fmt::Write;
+use uring_machine::{Machine, Setup, Step};
+
+/// A machine, what is kept of the unfinished line, and the number of that line.
+#[derive(Drop)]
+pub(crate) struct Explainer {
+    alloc: Global,
+    machine: Machine,
+    line: Line,
+    // The number of the unfinished line, from 1 on.
+    number: u64,
+    // Whether a line was bad.
+    has_bad: bool,
+}
+
+impl Explainer {
+    ghost use Rattle.uring_trace.specs.Explaining.{HasTold, AppendsLine};
+
+    /// A new machine, before the first line.
+    pub(crate) fn new(alloc: Global, setup: &Setup) -> Result<Explainer, TraceFault>
+        ensures ok { IfOk result (λ s. HasTold setup.now s [] [] []) }
+        ensures err { IfErr result (λ e. e ≡ TraceFault.Memory) }
+    {
+        let line = Line::new(alloc)?;
+        Ok(Explainer {
+            alloc,
+            machine: Machine::new(alloc, setup)?,
+            line,
+            number: 1,
+            has_bad: false,
+        })
+    }
+
+    /// Whether a line was bad so far.
+    pub(crate) fn has_bad(&self) -> bool
+        ensures { result ≡ self.now.has_bad }
+    {
+        self.has_bad
+    }
+
+    /// Takes in the next bytes, and appends what is told and noted of the lines that they complete.
+    pub(crate) fn feed(
+        &mut self,
+        bytes: &[u8],
+        text: &mut String,
+        notes: &mut String,
+    ) -> Result<(), TraceFault>
+        ensures ok { OnOk result ((setup : Setup) (before told noted : List ℕ) → HasTold setup self.old before (told ++ string_bytes text.old) (noted ++ string_bytes notes.old) → HasTold setup self.new (before ++ bytes.now) (told ++ string_bytes text.new) (noted ++ string_bytes notes.new)) }
+        ensures err { IfErr result (λ e. e ≡ TraceFault.Memory) }
+    {
+        for byte in bytes {
+            self.take(*byte, text, notes)?;
+        }
+        Ok(())
+    }
+
+    /// Ends the input. Appends what is told and noted of the last line, if that line has some byte but no end.
+    pub(crate) fn finish(&mut self, text: &mut String, notes: &mut String) -> Result<(), TraceFault>
+        ensures ok { OnOk result ((setup : Setup) (before told noted : List ℕ) → HasTold setup self.old before (told ++ string_bytes text.old) (noted ++ string_bytes notes.old) → ExplainsWhole setup self.new.has_bad before (told ++ string_bytes text.new) (noted ++ string_bytes notes.new)) }
+        ensures err { IfErr result (λ e. e ≡ TraceFault.Memory) }
+    {
+        if self.line.is_empty() {
+            return Ok(());
+        }
+        Ok(self.tell_line(text, notes)?)
+    }
+
+    /// Takes in one byte, and appends what is told and noted of the line if the byte completes it.
+    fn take(&mut self, byte: u8, text: &mut String, notes: &mut String) -> Result<(), TraceFault>
+        ensures ok { OnOk result ((setup : Setup) (before told noted : List ℕ) → HasTold setup self.old before (told ++ string_bytes text.old) (noted ++ string_bytes notes.old) → HasTold setup self.new (before ++ byte ∷ []) (told ++ string_bytes text.new) (noted ++ string_bytes notes.new)) }
+        ensures err { IfErr result (λ e. e ≡ TraceFault.Memory) }
+    {
+        if byte == b'\n' {
+            self.end_line(text, notes)?;
+        } else {
+            self.keep(byte);
+        }
+        Ok(())
+    }
+
+    /// Takes in one byte of a line, which isn't its end.
+    fn keep(&mut self, byte: u8)
+        requires { byte ≢ 10 }
+        ensures { (setup : Setup) (before told noted : List ℕ) → HasTold setup self.old before told noted → HasTold setup self.new (before ++ byte ∷ []) told noted }
+    {
+        self.line.push(byte);
+    }
+
+    /// Appends what is told and noted of the line, and begins the next line.
+    fn end_line(&mut self, text: &mut String, notes: &mut String) -> Result<(), AllocError>
+        ensures { OnOk result ((setup : Setup) (before told noted : List ℕ) → HasTold setup self.old before (told ++ string_bytes text.old) (noted ++ string_bytes notes.old) → HasTold setup self.new (before ++ 10 ∷ []) (told ++ string_bytes text.new) (noted ++ string_bytes notes.new)) }
+    {
+        self.tell_line(text, notes)?;
+        self.line.clear();
+        self.number = next_number(self.number);
+        Ok(())
+    }
+
+    /// Appends what is told and noted of the line, and makes the step that it is.
+    fn tell_line(&mut self, text: &mut String, notes: &mut String) -> Result<(), AllocError>
+        ensures told { OnOk result ((line : List ℕ) → Keeps300 line self.old.line.kept.items self.old.line.is_long → AppendsLine self.old.machine self.new.machine self.old.number self.old.has_bad self.new.has_bad line (string_bytes text.old) (string_bytes text.new) (string_bytes notes.old) (string_bytes notes.new)) }
+        ensures number { self.new.number ≡ self.old.number }
+    {
+        match self.line.step(self.alloc)? {
+            Some(step) => tell_step(self.alloc, &mut self.machine, &step, text),
+            None if self.line.is_remark() => Ok(()),
+            None => {
+                self.has_bad = true;
+                tell_bad(self.number, text, notes)
+            }
+        }
+    }
+}
+
+/// The number of the next line: 2^64 - 1 is that of every later one too.
+fn next_number(number: u64) -> u64
+    ensures { result ≡ min (number + 1) (2 ^ 64 - 1) }
+{
+    if number == u64::MAX {
+        number
+    } else {
+        number + 1
+    }
+}
+
+/// Makes a step, and appends its answer with the reason.
+fn tell_step(
+    alloc: Global,
+    machine: &mut Machine,
+    step: &Step,
+    text: &mut String,
+) -> Result<(), AllocError>
+    ensures { OnOk result (TellsStep machine.old machine.new step.now (string_bytes text.old) (string_bytes text.new)) }
+{
+    let why = ask(machine, step);
+    let answer = machine.step(*step);
+    push_answer(alloc, text, &answer)?;
+    push_reason(text, keep(&answer, why))?;
+    text.push_str("\n")
+}
+
+/// Appends that a line is bad, to what is told and with its number to the notes.
+fn tell_bad(number: u64, text: &mut String, notes: &mut String) -> Result<(), AllocError>
+    ensures told { OnOk result (string_bytes text.new ≡ string_bytes text.old ++ ended (codes "bad line")) }
+    ensures noted { OnOk result (string_bytes notes.new ≡ string_bytes notes.old ++ bad_note number) }
+{
+    text.push_str("bad line\n")?;
+    write!(notes, "uring: line {number}: bad line\n")
+}
