@@ -12,3 +12,4 @@ mod Working
 mod Collecting
 mod Draining
 pub mod Sending
+mod SettledWork

@@ -89,7 +89,7 @@ done_same g h (e ∷ events) none =
     ∙ ap (with_told (done_in g h)) (none_ends (world g h) e.0 e.1 parts.0)
 
 -- the history of a trace that goes on
-longer_history : (a b : Kept) (events : List Event) → b.trace ≡ a.trace ++ events → history b ≡ history_of events ++ history a
+pub longer_history : (a b : Kept) (events : List Event) → b.trace ≡ a.trace ++ events → history b ≡ history_of events ++ history a
 longer_history a b events same =
     ap history_of same ∙ sym (append-nil (history_of (a.trace ++ events))) ∙ history_of-append a.trace events [] ∙ ap (λ h. history_of events ++ h) (append-nil (history_of a.trace))
 

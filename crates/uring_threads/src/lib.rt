@@ -9,6 +9,7 @@ mod gate;
 mod job;
 pub mod laws;
 mod place;
+mod settle_work;
 mod work_lanes;
 mod worker;
 

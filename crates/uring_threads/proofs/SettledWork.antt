@@ -1,0 +1,41 @@
+-- A worker whose results were all taken in is settled, and nothing of the others' work has changed.
+use Rattle.std.proofs.Common.{◌≡◌, ◌≢◌, ℕ, List, [], ◌++◌, map, refl, sym, subst, ap, ap₂, ◌∙◌, append-nil}
+use Rattle.uring_entry.specs.Setup.{Setup}
+use Rattle.uring_machine.specs.Finishes.{Done}
+use Rattle.uring_machine.specs.Histories.{History, IsLawfulApart}
+use Rattle.uring_threads.specs.declared.job.Job.{Job}
+use Rattle.uring_threads.specs.declared.job.JobResult.{JobResult}
+use Rattle.uring_threads.specs.Collected.{history, IsTied, IsSettledAt, TakesAll}
+use Rattle.uring_threads.specs.Kept.{Kept}
+use Rattle.uring_threads.specs.Settled.{IsWork, finish_of, with_taken_in}
+use Rattle.uring_threads.specs.Work.{jobs_to, done_by_worker, jobs_of, results_of}
+use Rattle.uring_threads.proofs.Sending.{longer_history}
+use Rattle.uring_threads.proofs.Settling.{IsDrained, drain}
+
+module _ (a b : Kept) (workers k : ℕ) (done : List Done) (untaken : List Job) (waiting : List JobResult) (sent : List Job) (received : List JobResult)
+  (lawful : IsLawfulApart a.setup (history a)) (tied : IsTied a workers k sent received)
+  (jobs : jobs_of done ++ untaken ≡ sent) (results : received ++ waiting ≡ results_of done) (all : TakesAll a b waiting) where
+  work : IsWork a.setup workers (history a) k (record { done = done; untaken = untaken; waiting = waiting })
+  work = record { jobs = jobs ∙ tied.jobs; results = ap (λ rs. rs ++ waiting) (sym tied.results) ∙ results }
+
+  drained : IsDrained a.setup workers (history a) (with_taken_in waiting (history a)) k (record { done = done; untaken = untaken; waiting = waiting })
+  drained = drain a.setup workers (history a) k done untaken waiting lawful work
+
+  later : history b ≡ with_taken_in waiting (history a)
+  later = longer_history a b (map finish_of waiting) all.trace
+
+  jobs_stay : (j : ℕ) → jobs_to b.setup workers j (history b) ≡ jobs_to a.setup workers j (history a)
+  jobs_stay j = ap₂ (λ g h. jobs_to g workers j h) all.setup later ∙ drained.sent j
+
+  settled : IsWork b.setup workers (history b) k (record { done = done; untaken = untaken; waiting = [] })
+  settled =
+      subst (λ h. IsWork b.setup workers h k (record { done = done; untaken = untaken; waiting = [] })) (sym later)
+      (subst (λ g. IsWork g workers (with_taken_in waiting (history a)) k (record { done = done; untaken = untaken; waiting = [] })) (sym all.setup) drained.own)
+
+  pub settled_at : IsSettledAt a b workers k done untaken sent (received ++ waiting)
+  settled_at =
+      record {
+        work = settled;
+        tied = record { jobs = tied.jobs ∙ sym (jobs_stay k); results = results ∙ sym settled.results ∙ append-nil (results_of (done_by_worker b.setup workers k (history b))) };
+        others = record { jobs = jobs_stay; results = λ j other. ap₂ (λ g h. done_by_worker g workers j h) all.setup later ∙ drained.others j other };
+      }
