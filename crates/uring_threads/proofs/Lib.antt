@@ -1,6 +1,8 @@
 pub mod TraceSteps
 pub mod ItemSteps
 pub mod CallSteps
+pub mod IssueSteps
+pub mod Tying
 mod MessageLemmas
 mod MessageSteps
 pub mod Dealing
@@ -8,6 +10,8 @@ mod Times
 mod Sent
 mod LeftAt
 pub mod Settling
+mod LaneLemmas
+mod AppEndLemmas
 mod Working
 mod Collecting
 mod Draining

@@ -1,11 +1,9 @@
 -- What messages were sent for is what they are the messages of.
-use Rattle.std.proofs.Common.{◌≡◌, ℕ, zero, suc, ◌+◌, ◌-◌, ◌<◌, ◌≤◌, Bool, true, false, ◌||◌, List, [], ◌∷◌, ◌++◌, length, if◌then◌else◌, refl, sym, ◌∙◌, ap, arith, append_assoc, add-zero, zero-add, length-append, append-nil}
-use Rattle.std.specs.List.{flat_map}
-use Rattle.std.proofs.lemmas.Grind.{flat_map-append, common_steps}
+use Rattle.std.proofs.Common.{◌≡◌, ℕ, zero, suc, ◌+◌, Bool, true, false, List, [], ◌∷◌, ◌++◌, length, if◌then◌else◌, refl, sym, ◌∙◌, ap, arith, append_assoc, add-zero, zero-add, length-append, append-nil}
 use Rattle.uring_threads.specs.declared.item.Item.{Item}
 use Rattle.uring_threads.specs.declared.message.Message.{Message}
-use Rattle.uring_threads.specs.Ports.{Put, with_call, with_close, places_of, items_of_calls}
-use Rattle.uring_threads.specs.Messages.{close_mark, item_before, items_before, messages_of_calls, messages_of, with_first, with_item, calls_of, items_of, has_close_mark, put_of, AreWhole, owed_from, owed, Continues, MayFollow}
+use Rattle.uring_threads.specs.Ports.{Put, places_of, items_of_calls}
+use Rattle.uring_threads.specs.Messages.{close_mark, item_before, items_before, messages_of_calls, messages_of, with_first, with_item, calls_of, has_close_mark, put_of, AreWhole, owed_from, owed}
 
 -- no call is empty
 abbrev pub AreSome : List (List Item) → Type 0

@@ -1,13 +1,13 @@
 -- What a message more, a call more and a close mark do to what messages were sent for, and what is left of it.
-use Rattle.std.proofs.Common.{◌≡◌, ℕ, zero, suc, ◌+◌, ◌<◌, Bool, true, false, ◌||◌, List, [], ◌∷◌, ◌++◌, length, if◌then◌else◌, refl, sym, ◌∙◌, ap, arith, append_assoc, add-zero, length-append, append-nil}
+use Rattle.std.proofs.Common.{◌≡◌, ℕ, zero, suc, ◌<◌, Bool, true, false, ◌||◌, List, [], ◌∷◌, ◌++◌, length, if◌then◌else◌, refl, sym, ◌∙◌, ap, arith, append_assoc, append-nil}
 use Rattle.std.proofs.lemmas.Grind.{flat_map-append}
 use Rattle.std.proofs.lemmas.List.{append_cancel_left}
 use Rattle.std.proofs.lemmas.Bool.{false≢true}
 use Rattle.uring_threads.specs.declared.item.Item.{Item}
 use Rattle.uring_threads.specs.declared.message.Message.{Message}
-use Rattle.uring_threads.specs.Ports.{Put, with_call, with_close, items_of_calls, LeavesItems}
-use Rattle.uring_threads.specs.Messages.{close_mark, item_before, items_before, messages_of_calls, messages_of, with_first, with_item, calls_of, items_of, has_close_mark, put_of, AreWhole, owed_from, owed, Continues, MayFollow}
-use Rattle.uring_threads.proofs.MessageLemmas.{AreSome, some-calls_of, some-append, calls_of-calls, close_mark-calls, stands, whole, owed_from-append, owed_from-items, owed-calls}
+use Rattle.uring_threads.specs.Ports.{Put, with_call, with_close, items_of_calls, places_of, LeavesItems}
+use Rattle.uring_threads.specs.Messages.{close_mark, item_before, items_before, messages_of_calls, messages_of, with_item, calls_of, items_of, has_close_mark, put_of, AreWhole, owed, Continues, MayFollow}
+use Rattle.uring_threads.proofs.MessageLemmas.{AreSome, some-calls_of, some-append, calls_of-calls, stands, whole, length-messages_of, owed_from-append, owed_from-items, owed-calls}
 
 -- whole messages with no close mark are those of their calls
 pub open_calls : (ms : List Message) → AreWhole ms → has_close_mark ms ≡ false → ms ≡ messages_of_calls (calls_of ms)
@@ -20,6 +20,10 @@ closed_calls ms are_whole closed = sym are_whole ∙ ap (λ b. messages_of_calls
 -- nothing is owed behind whole messages with no close mark
 pub nothing_owed : (ms : List Message) → AreWhole ms → has_close_mark ms ≡ false → owed ms ≡ 0
 nothing_owed ms are_whole open' = ap owed (open_calls ms are_whole open') ∙ owed-calls (calls_of ms)
+
+-- whole messages take as many places as there are of them
+pub places : (ms : List Message) → AreWhole ms → places_of (put_of ms) ≡ length ms
+places ms are_whole = sym (length-messages_of (put_of ms)) ∙ ap length are_whole
 
 one_some : (items : List Item) → 0 < length items → AreSome (items ∷ [])
 one_some [] some = absurd (omega arith)

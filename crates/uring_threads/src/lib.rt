@@ -2,33 +2,47 @@
 #![tactic(auto)]
 
 mod item;
+pub mod laws;
+
+// the ports
+mod call_lane;
+mod lane_rests;
+mod lanes;
+mod message;
+mod ports;
+mod pulled;
+
+// the application's side
+mod app_end;
+mod refusals;
 
 // the workers' side
 mod collect;
 mod gate;
 mod job;
-pub mod laws;
 mod place;
 mod settle_work;
 mod work_lanes;
 mod worker;
 
-// the ports
-mod message;
-mod ports;
-mod pulled;
-
 // the dispatcher's side
 mod calls;
+mod deliveries;
+mod intake;
+mod issues;
 mod kept;
 mod put_items;
+mod sends;
 mod take_result;
 
+pub use app_end::AppEnd;
 pub use gate::{Gate, Open};
 pub use item::Item;
 pub use job::{Job, JobResult};
+pub use lanes::{AppLanes, KernelLanes, lane_ports};
 pub use ports::{AppPort, KernelPort};
 pub use pulled::{Pulled, Rests};
+pub use refusals::{CloseRefusal, SubmitRefusal};
 pub use uring_files::FileState;
 pub use uring_machine::{
     Answer, Core, Counts, Cqe, Fault, Op, Outcome, Setup, Sqe, SqeFlags, Step,

@@ -13,7 +13,7 @@ loop-preserved c =
     let at = c.requires.in_call.2 in
     let same = ap (λ (v : World). in_call v c.args.count c.loop.counter) at in
     record {
-      length = omega (arith, i.length, grown_length _ _ _ c.step_reserved.ensures.grows);
+      events = omega (arith, i.events, grown_length _ _ _ c.step_reserved.ensures.grows);
       world = took_now c.loop.kept c.step_reserved.new.self w c.args.count c.loop.counter c.step_reserved.result c.requires.in_call.1 (omega arith) (i.world ∙ same) c.step_reserved.ensures.grows c.step_reserved.ensures.called ∙ sym (ap (λ (v : World). in_call v c.args.count (c.loop.counter + 1)) at);
       tally = appends_then _ _ _ _ _ _ i.tally (appends_one _ _ _ none_counted c.step_reserved.ensures.grows refl) refl;
     }

@@ -7,7 +7,7 @@ use Rattle.uring_threads.proofs.calls.take_all.Given as goal
 -- so many positions of the call are taken, each with one event
 abbrev pub invariant-loop : goal.invariant-loop
 invariant-loop l = record {
-  length : length l.kept.trace ≤ length l.initial.kept.trace + l.counter;
+  events : length l.kept.trace ≤ length l.initial.kept.trace + l.counter;
   world : now l.kept ≡ in_call (now l.initial.kept) l.count l.counter;
   tally : Appends l.initial.kept l.kept none_counted;
 }

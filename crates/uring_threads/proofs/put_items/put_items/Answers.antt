@@ -23,7 +23,7 @@ loop-item-preserved c =
     let i = c.loop-item.invariant in
     record {
       slot = omega (arith, i.slot);
-      length = omega (arith, i.length, c.put_item.ensures.length);
+      events = omega (arith, i.events, c.put_item.ensures.length);
       world = c.put_item.ensures.world ∙ ap (λ w. with_item_put w c.loop-item.slot (published_as c.item-item.result)) i.world ∙ items_more (now c.args.kept.now) c.args.items.now c.loop-item.item-index c.loop-item.slot c.item-item.result i.slot (omega arith) c.item-item.is;
       tally = appends_then _ _ _ _ _ _ i.tally c.put_item.ensures.tally refl;
     }

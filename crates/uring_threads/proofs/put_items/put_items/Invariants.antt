@@ -9,7 +9,7 @@ use Rattle.uring_threads.proofs.put_items.put_items.Given as goal
 abbrev pub invariant-loop-item : goal.invariant-loop-item
 invariant-loop-item l = record {
   slot : l.slot ≡ l.item-index;
-  length : length l.kept.trace ≤ length l.initial.kept.trace + 2 * l.item-index;
+  events : length l.kept.trace ≤ length l.initial.kept.trace + 2 * l.item-index;
   world : now l.kept ≡ with_items_put (now l.initial.kept) (all_published_as (take l.item-index l.items));
   tally : Appends l.initial.kept l.kept (items_counted l.item-index);
 }

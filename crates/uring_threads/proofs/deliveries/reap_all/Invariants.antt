@@ -1,0 +1,18 @@
+use Rattle.std.proofs.Common.{◌≡◌, ◌+◌, ◌≤◌, length}
+use Rattle.uring_threads.specs.Delivered.{on_completions, with_reaped_all}
+use Rattle.uring_threads.specs.Kept.{now}
+use Rattle.uring_threads.specs.Tallies.{Appends, reaps_counted}
+use Rattle.uring_threads.proofs.deliveries.reap_all.Given as goal
+
+-- so many were reaped, and each was handed on
+abbrev pub invariant-loop : goal.invariant-loop
+invariant-loop g l = record {
+  events : length l.kept.trace ≤ length l.initial.kept.trace + l.counter;
+  free : g.P.KernelPort.free l.port + l.counter ≡ g.P.KernelPort.free l.initial.port;
+  world : now l.kept ≡ on_completions (now l.initial.kept) (with_reaped_all (now l.initial.kept).completions (g.P.KernelPort.delivered l.port));
+  delivered : length (g.P.KernelPort.delivered l.port) ≡ length (g.P.KernelPort.delivered l.initial.port) + l.counter;
+  tally : Appends l.initial.kept l.kept (reaps_counted l.counter);
+  pairing : g.P.KernelPort.pairing l.port ≡ g.P.KernelPort.pairing l.initial.port;
+  sizes : g.P.KernelPort.sizes l.port ≡ g.P.KernelPort.sizes l.initial.port;
+  pulled : g.P.KernelPort.pulled l.port ≡ g.P.KernelPort.pulled l.initial.port;
+}

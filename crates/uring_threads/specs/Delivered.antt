@@ -1,0 +1,25 @@
+-- What a delivery makes of the completion ring.
+use Rattle.std.specs.Prelude.{◌≡◌, List, length}
+use Rattle.uring_entry.specs.Layout.{Cqe}
+use Rattle.uring_entry.specs.Completions.{Completions}
+use Rattle.uring_machine.specs.World.{World}
+
+-- The dispatcher has delivered what was reaped, and the head tells how many that are.
+pub record IsDelivered (l : Completions) (delivered : List Cqe) : Type 0 where
+  pub reaped : l.reaped ≡ delivered
+  pub head : l.head ≡ length delivered
+
+-- the world with another completion ring
+abbrev pub on_completions : World → Completions → World
+on_completions w l = record w { completions = l }
+
+-- the completion ring after these in all were reaped
+abbrev pub with_reaped_all : Completions → List Cqe → Completions
+with_reaped_all l reaped = record l { reaped = reaped }
+
+-- Everything but the completion ring stays.
+pub record KeepsAllBut (w v : World) : Type 0 where
+  pub submission : v.submission ≡ w.submission
+  pub requests : v.requests ≡ w.requests
+  pub is_closed : v.is_closed ≡ w.is_closed
+  pub posted : v.completions.posted ≡ w.completions.posted

@@ -1,0 +1,37 @@
+-- What went through the lanes between the dispatcher and the workers. All of it is our own rule.
+use Rattle.std.specs.Prelude.{◌≡◌, ◌≢◌, ℕ, ◌<◌, List, [], ◌∷◌, ◌++◌, length, get_or}
+use Rattle.rtrb.specs.Ring.{sent, known_free, received, SameProducer}
+use Rattle.uring_threads.specs.Kept.{Kept}
+use Rattle.uring_threads.specs.Collected.{history, AreTakenIn}
+use Rattle.uring_threads.specs.Work.{jobs_to}
+use Rattle.uring_threads.specs.declared.job.Job.{Job}
+use Rattle.uring_threads.specs.declared.work_lanes.WorkLanes.{WorkLanes}
+
+-- A worker's lanes have carried what the trace has of this worker: the jobs of its requests that run, and the results that were taken in.
+pub record HasCarried (kept : Kept) (workers k : ℕ) (lanes : WorkLanes) : Type 0 where
+  pub jobs : sent lanes.jobs ≡ jobs_to kept.setup workers k (history kept)
+  pub results : AreTakenIn kept workers k (received lanes.results)
+
+-- and so have all, the lanes of worker 0 first
+abbrev pub HaveCarried : Kept → List WorkLanes → Type 0
+HaveCarried kept lanes = (k : ℕ) (d : WorkLanes) → k < length lanes → HasCarried kept (length lanes) k (get_or lanes k d)
+
+-- each worker's lane for jobs shows room
+abbrev pub ShowRoom : List WorkLanes → Type 0
+ShowRoom lanes = (k : ℕ) (d : WorkLanes) → k < length lanes → 0 < known_free (get_or lanes k d).jobs
+
+-- some worker's lane for jobs shows none
+abbrev pub SomeIsFull : List WorkLanes → Type 0
+SomeIsFull lanes = (k : ℕ) × (k < length lanes) × ((d : WorkLanes) → known_free (get_or lanes k d).jobs ≡ 0)
+
+-- the same lanes, and nothing was sent or received
+pub record IsLookedAt (old new : WorkLanes) : Type 0 where
+  pub jobs : sent new.jobs ≡ sent old.jobs
+  pub ring : SameProducer old.jobs new.jobs
+  pub results : new.results ≡ old.results
+
+-- the same lanes, and this job was sent
+pub record IsSent (job : Job) (old new : WorkLanes) : Type 0 where
+  pub jobs : sent new.jobs ≡ sent old.jobs ++ job ∷ []
+  pub ring : SameProducer old.jobs new.jobs
+  pub results : new.results ≡ old.results

@@ -1,0 +1,124 @@
+//! Calls that the dispatcher takes in from its port, and the close mark.
+ghost use Rattle.std.specs.Prelude.{◌≡◌, ◌+◌, ◌≤◌, length, IfOk, OnErr, vec_capacity};
+ghost use Rattle.uring_threads.specs.Kept.{now};
+ghost use Rattle.uring_threads.specs.Taking.{TakesIn, Tied, intake_after};
+ghost use Rattle.uring_threads.specs.Ports.{Put};
+ghost use Rattle.uring_threads.specs.declared.intake.Intake.TheVariants.{Ready};
+
+use crate::calls::{Begun, begin_call, take_call};
+use crate::item::Item;
+use crate::kept::Kept;
+use crate::ports::KernelPort;
+use crate::pulled::Pulled;
+use std::alloc::AllocError;
+use uring_machine::Step;
+
+/// How the dispatcher stands with what it pulls.
+#[derive(Clone, Copy, Debug, PartialEq, Eq)]
+pub enum Intake {
+    /// All that was pulled is taken: the next call may come.
+    Ready,
+
+    /// The last call, of so many positions, is published and was refused memory: it is to be begun again.
+    Waiting(u32),
+
+    /// The last call, of so many positions, is published and can't be begun, since the numbers of requests are spent: nothing more is pulled.
+    Spent(u32),
+
+    /// The close mark was pulled: nothing more comes.
+    Closed,
+}
+
+impl Intake {
+    /// How it stands after a call of so many positions was begun like this.
+    fn after(count: u32, begun: Begun) -> Intake
+        ensures { result ≡ intake_after count begun }
+    {
+        match begun {
+            Begun::Taken => Intake::Ready,
+            Begun::Again => Intake::Waiting(count),
+            Begun::Spent => Intake::Spent(count),
+        }
+    }
+}
+
+/// Begins the call that waits once more, if one does. `AllocError`: the trace had no room, and nothing was done.
+fn retry(kept: &mut Kept, intake: &mut Intake) -> Result<(), AllocError>
+    requires tied { (put : Put) × Tied kept.old.setup.sq (now kept.old) put intake.old }
+    ensures tied { (put : Put) → Tied kept.old.setup.sq (now kept.old) put intake.old → Tied kept.old.setup.sq (now kept.new) put intake.new }
+    ensures completions { (now kept.new).completions ≡ (now kept.old).completions }
+    ensures taken { TakesIn kept.old kept.new 0 }
+{
+    if let Intake::Waiting(count) = *intake {
+        kept.reserve(count as usize + 3)?;
+        *intake = Intake::after(count, begin_call(kept, count));
+    }
+    Ok(())
+}
+
+/// Pulls one call, or the close mark, or nothing: publishes and begins the call, or closes the ring. Returns how many items it pulled. `AllocError`: the trace had no room, and nothing was done.
+fn pull_call<P: KernelPort>(
+    kept: &mut Kept,
+    port: &mut P,
+    items: &mut Vec<Item>,
+    intake: &mut Intake,
+) -> Result<u64, AllocError>
+    requires sizes { (P.sizes port.old).sq ≡ kept.old.setup.sq }
+    requires items { kept.old.setup.sq ≤ vec_capacity items.old }
+    requires tied { Tied kept.old.setup.sq (now kept.old) (P.pulled port.old) intake.old }
+    requires ready { intake.old ≡ Ready }
+    ensures tied { Tied kept.old.setup.sq (now kept.new) (P.pulled port.new) intake.new }
+    ensures completions { (now kept.new).completions ≡ (now kept.old).completions }
+    ensures taken { IfOk result (λ n. TakesIn kept.old kept.new n) }
+    ensures err { OnErr result (TakesIn kept.old kept.new 0) }
+    ensures items { vec_capacity items.old ≤ vec_capacity items.new }
+    ensures pairing { P.pairing port.new ≡ P.pairing port.old }
+    ensures sizes { P.sizes port.new ≡ P.sizes port.old }
+    ensures delivered { P.delivered port.new ≡ P.delivered port.old }
+{
+    let size = kept.setup().sq();
+    kept.reserve(3 * size as usize + 4)?;
+    match port.pull(items) {
+        Pulled::Call => {
+            let begun = take_call(kept, items);
+            *intake = Intake::after(items.len() as u32, begun);
+            Ok(items.len() as u64)
+        }
+        Pulled::Close => {
+            kept.step_reserved(Step::Close);
+            *intake = Intake::Closed;
+            Ok(0)
+        }
+        Pulled::Nothing => Ok(0),
+    }
+}
+
+/// Begins the call that waits once more, if one does, and pulls one call or the close mark, if none waits then. Returns how many items it pulled; they replace what `items` held.
+///
+/// `AllocError`: the trace had no room, and nothing was done from there on.
+pub fn take_in<P: KernelPort>(
+    kept: &mut Kept,
+    port: &mut P,
+    items: &mut Vec<Item>,
+    intake: &mut Intake,
+) -> Result<u64, AllocError>
+    requires sizes { (P.sizes port.old).sq ≡ kept.old.setup.sq }
+    requires items { kept.old.setup.sq ≤ vec_capacity items.old }
+    requires tied { Tied kept.old.setup.sq (now kept.old) (P.pulled port.old) intake.old }
+    ensures tied { Tied kept.old.setup.sq (now kept.new) (P.pulled port.new) intake.new }
+    ensures completions { (now kept.new).completions ≡ (now kept.old).completions }
+    ensures taken { IfOk result (λ n. TakesIn kept.old kept.new n) }
+    ensures err { OnErr result (TakesIn kept.old kept.new 0) }
+    ensures items { vec_capacity items.old ≤ vec_capacity items.new }
+
+    // Nothing else of the port changes.
+    ensures pairing { P.pairing port.new ≡ P.pairing port.old }
+    ensures sizes { P.sizes port.new ≡ P.sizes port.old }
+    ensures delivered { P.delivered port.new ≡ P.delivered port.old }
+{
+    retry(kept, intake)?;
+    match *intake {
+        Intake::Ready => pull_call(kept, port, items, intake),
+        _ => Ok(0),
+    }
+}
