@@ -5,18 +5,22 @@ use Rattle.uring_machine.specs.Finishes.{Done}
 use Rattle.uring_machine.specs.Histories.{History, IsLawfulApart}
 use Rattle.uring_threads.specs.declared.job.Job.{Job}
 use Rattle.uring_threads.specs.declared.job.JobResult.{JobResult}
-use Rattle.uring_threads.specs.Collected.{history, IsTied, IsSettledAt, TakesAll}
+use Rattle.rtrb.specs.Ring.{sent, received}
+use Rattle.uring_threads.specs.declared.work_lanes.WorkLanes.{WorkLanes}
+use Rattle.uring_threads.specs.Collected.{history, TakesAll}
+use Rattle.uring_threads.specs.Dispatched.{HasCarried}
+use Rattle.uring_threads.specs.SettledWorker.{IsSettledAt}
 use Rattle.uring_threads.specs.Kept.{Kept}
 use Rattle.uring_threads.specs.Settled.{IsWork, finish_of, with_taken_in}
 use Rattle.uring_threads.specs.Work.{jobs_to, done_by_worker, jobs_of, results_of}
 use Rattle.uring_threads.proofs.Sending.{longer_history}
 use Rattle.uring_threads.proofs.Settling.{IsDrained, drain}
 
-module _ (a b : Kept) (workers k : ℕ) (done : List Done) (untaken : List Job) (waiting : List JobResult) (sent : List Job) (received : List JobResult)
-  (lawful : IsLawfulApart a.setup (history a)) (tied : IsTied a workers k sent received)
-  (jobs : jobs_of done ++ untaken ≡ sent) (results : received ++ waiting ≡ results_of done) (all : TakesAll a b waiting) where
+module _ (a b : Kept) (workers k : ℕ) (done : List Done) (untaken : List Job) (waiting : List JobResult) (lanes : WorkLanes)
+  (lawful : IsLawfulApart a.setup (history a)) (carried : HasCarried a workers k lanes)
+  (jobs : jobs_of done ++ untaken ≡ sent lanes.jobs) (results : received lanes.results ++ waiting ≡ results_of done) (all : TakesAll a b waiting) where
   work : IsWork a.setup workers (history a) k (record { done = done; untaken = untaken; waiting = waiting })
-  work = record { jobs = jobs ∙ tied.jobs; results = ap (λ rs. rs ++ waiting) (sym tied.results) ∙ results }
+  work = record { jobs = jobs ∙ carried.jobs; results = ap (λ rs. rs ++ waiting) (sym carried.results) ∙ results }
 
   drained : IsDrained a.setup workers (history a) (with_taken_in waiting (history a)) k (record { done = done; untaken = untaken; waiting = waiting })
   drained = drain a.setup workers (history a) k done untaken waiting lawful work
@@ -32,10 +36,10 @@ module _ (a b : Kept) (workers k : ℕ) (done : List Done) (untaken : List Job) 
       subst (λ h. IsWork b.setup workers h k (record { done = done; untaken = untaken; waiting = [] })) (sym later)
       (subst (λ g. IsWork g workers (with_taken_in waiting (history a)) k (record { done = done; untaken = untaken; waiting = [] })) (sym all.setup) drained.own)
 
-  pub settled_at : IsSettledAt a b workers k done untaken sent (received ++ waiting)
-  settled_at =
+  pub settled_at : (now : WorkLanes) → sent now.jobs ≡ sent lanes.jobs → received now.results ≡ received lanes.results ++ waiting → IsSettledAt a b workers k now done untaken
+  settled_at now same came =
       record {
         work = settled;
-        tied = record { jobs = tied.jobs ∙ sym (jobs_stay k); results = results ∙ sym settled.results ∙ append-nil (results_of (done_by_worker b.setup workers k (history b))) };
+        carried = record { jobs = same ∙ carried.jobs ∙ sym (jobs_stay k); results = came ∙ results ∙ sym settled.results ∙ append-nil (results_of (done_by_worker b.setup workers k (history b))) };
         others = record { jobs = jobs_stay; results = λ j other. ap₂ (λ g h. done_by_worker g workers j h) all.setup later ∙ drained.others j other };
       }

@@ -68,14 +68,3 @@ pub record TakesAll (old new : Kept) (results : List JobResult) : Type 0 where
   pub trace : new.trace ≡ old.trace ++ map finish_of results
   pub setup : new.setup ≡ old.setup
   pub room : old.room ≤ new.room
-
--- The dispatcher's ends of a worker's lanes are tied to the trace: the jobs sent are those that it sent to this worker, and the results received are those that it took in of it.
-pub record IsTied (kept : Kept) (workers k : ℕ) (sent : List Job) (received : List JobResult) : Type 0 where
-  pub jobs : sent ≡ jobs_to kept.setup workers k (history kept)
-  pub results : AreTakenIn kept workers k received
-
--- All results of a worker were taken in: of the jobs that were sent to it these are done, and these it hasn't taken.
-pub record IsSettledAt (old new : Kept) (workers k : ℕ) (done : List Done) (untaken : List Job) (sent : List Job) (received : List JobResult) : Type 0 where
-  pub work : IsWork new.setup workers (history new) k (record { done = done; untaken = untaken; waiting = [] })
-  pub tied : IsTied new workers k sent received
-  pub others : OthersStay old new workers k

@@ -1,9 +1,11 @@
 //! Settling: with both ends of a worker's lanes in hand, all its results are taken in.
 ghost use Rattle.std.specs.Prelude.{◌≡◌, ℕ, List, ◌+◌, ◌≤◌, ◌++◌, length};
-ghost use Rattle.rtrb.specs.Ring.{sent, received, known_items, consumer_capacity};
-ghost use Rattle.uring_threads.specs.Collected.{IsTied, IsSettledAt, TakesAll};
+ghost use Rattle.rtrb.specs.Ring.{received, consumer_capacity};
+ghost use Rattle.uring_threads.specs.Collected.{TakesAll};
+ghost use Rattle.uring_threads.specs.Dispatched.{HasCarried};
 ghost use Rattle.uring_threads.specs.Rings.{rings_of};
-ghost use Rattle.uring_threads.specs.Work.{jobs_of, results_of};
+ghost use Rattle.uring_threads.specs.SettledWorker.{IsSettledAt};
+ghost use Rattle.uring_threads.specs.Work.{results_of};
 ghost use Rattle.uring_threads.specs.Worker.{Looks};
 ghost use Rattle.uring_threads.specs.declared.job.JobResult.{JobResult};
 
@@ -13,16 +15,16 @@ use crate::kept::Kept;
 use crate::work_lanes::WorkLanes;
 use crate::worker::Worker;
 
-/// Takes in all results of a worker that wait. Conditions: these are the dispatcher's ends of its lanes, tied to the trace, and there is room in the trace for as many events as the lane of results holds.
+/// Takes in all results of a worker that wait. Conditions: these are the dispatcher's ends of its lanes, which have carried what the trace has, and there is room in the trace for as many events as the lane of results holds.
 pub fn settle_worker<G: Gate>(kept: &mut Kept, lanes: &mut WorkLanes, worker: &mut Worker<G>)
     requires rings { worker.old.rings ≡ rings_of lanes.old.jobs lanes.old.results }
     requires room { length kept.old.trace + consumer_capacity lanes.old.results ≤ kept.old.room }
-    requires tied { (workers : ℕ) × (k : ℕ) × IsTied kept.old workers k (sent lanes.old.jobs) (received lanes.old.results) }
+    requires carried { (workers : ℕ) × (k : ℕ) × HasCarried kept.old workers k lanes.old }
     // A Finish for each result that waited, and no more.
     ensures trace { (waiting : List JobResult) × (results_of worker.old.done ≡ received lanes.old.results ++ waiting) × TakesAll kept.old kept.new waiting }
     ensures few { length kept.new.trace ≤ length kept.old.trace + consumer_capacity lanes.old.results }
     // Whichever worker it is.
-    ensures settled { (workers k : ℕ) → IsTied kept.old workers k (sent lanes.old.jobs) (received lanes.old.results) → IsSettledAt kept.old kept.new workers k worker.old.done worker.new.seen (sent lanes.new.jobs) (received lanes.new.results) }
+    ensures settled { (workers k : ℕ) → HasCarried kept.old workers k lanes.old → IsSettledAt kept.old kept.new workers k lanes.new worker.old.done worker.new.seen }
     ensures worker { Looks worker.old worker.new }
     ensures rings { rings_of lanes.new.jobs lanes.new.results ≡ rings_of lanes.old.jobs lanes.old.results }
 {
