@@ -1,16 +1,14 @@
 -- What is sent and taken in, as a result is taken in: the operation is the last of its worker's, and all else stays.
-use Rattle.std.proofs.Common.{◌≡◌, ◌≢◌, ℕ, ◌+◌, ◌<◌, ◌≤◌, arith, ◌==◌, Bool, true, false, List, [], ◌∷◌, ◌++◌, if◌then◌else◌, refl, sym, subst, ap, ap₂, ◌∙◌}
+use Rattle.std.proofs.Common.{◌≡◌, ℕ, ◌+◌, ◌<◌, arith, Bool, true, false, List, [], ◌∷◌, ◌++◌, if◌then◌else◌, refl, sym, subst, ap, ap₂, ◌∙◌}
 use Rattle.std.specs.Prelude.{slice_index_or, Result, Ok, Err, OnErr}
 use mathlib.Core.List.{IsPrefix}
 use Rattle.std.proofs.lemmas.List.{map-append}
-use Rattle.uring_entry.specs.Setup.{Setup}
 use Rattle.uring_entry.specs.Preparation.{operation_of}
 use Rattle.uring_entry.specs.Requests.{entry_of, is_running}
-use Rattle.uring_entry.specs.declared.operation.Op.{Op}
 use Rattle.uring_entry.specs.declared.operation.Outcome.{Outcome}
 use Rattle.uring_machine.specs.Core.{IsFinished}
 use Rattle.uring_machine.specs.Finishes.{Done, done_in}
-use Rattle.uring_machine.specs.Histories.{Event, History, history_of, IsLawfulApart}
+use Rattle.uring_machine.specs.Histories.{Event, history_of, IsLawfulApart}
 use Rattle.uring_machine.specs.declared.step.Step.TheVariants as step
 use Rattle.uring_machine.specs.declared.answer.Answer.{Answer}
 use Rattle.uring_machine.specs.declared.answer.Answer.TheVariants as answer
@@ -23,7 +21,7 @@ use Rattle.uring_threads.specs.Work.{place_of, jobs_to, done_by_worker, result_o
 use Rattle.uring_threads.specs.Tallies.{finishes_counted}
 use Rattle.uring_threads.proofs.LeftAt.{done-own, done-other}
 use Rattle.uring_threads.proofs.Settling.{results_run}
-use Rattle.uring_threads.proofs.TraceSteps.{appends_none, appends_one, appends_then, unmoved_now}
+use Rattle.uring_threads.proofs.TraceSteps.{appends_none, appends_one, appends_then}
 
 -- the history of a trace that is one event longer
 pub grown_history : (a b : Kept) (e : Event) → Grows a b e → history b ≡ e ∷ history a
@@ -55,7 +53,7 @@ module _ (a b : Kept) (workers place : ℕ) (r : JobResult) (can : CanBeTaken a 
       record {
         jobs = λ k. ap₂ (λ g h. jobs_to g workers k h) grows.setup (grown_history a b (finish_of r) grows);
         results = λ k other. ap₂ (λ g h. done_by_worker g workers k h) grows.setup (grown_history a b (finish_of r) grows)
-        ∙ done-other (place_of workers a.setup.files) k (done_in a.setup (history a)) end (λ same. other (sym same ∙ can.own));
+            ∙ done-other (place_of workers a.setup.files) k (done_in a.setup (history a)) end (λ same. other (sym same ∙ can.own));
       }
 
 -- what was seen first is what is popped
@@ -129,5 +127,5 @@ next_waits a b r later lawful w grows = (
   w.2,
   w.3,
   subst (λ h. IsWork b.setup w.0 h w.1 (record { done = w.2; untaken = w.3; waiting = later })) (sym (grown_history a b (finish_of r) grows))
-  (subst (λ g. IsWork g w.0 (finish_of r ∷ history a) w.1 (record { done = w.2; untaken = w.3; waiting = later })) (sym grows.setup) (first_waits a r later lawful w).later),
+      (subst (λ g. IsWork g w.0 (finish_of r ∷ history a) w.1 (record { done = w.2; untaken = w.3; waiting = later })) (sym grows.setup) (first_waits a r later lawful w).later),
 )

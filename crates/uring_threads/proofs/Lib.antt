@@ -15,5 +15,5 @@ mod AppEndLemmas
 mod Working
 mod Collecting
 mod Draining
-pub mod Sending
 mod SettledWork
+mod SettledWorkers

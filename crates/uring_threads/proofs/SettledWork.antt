@@ -1,8 +1,7 @@
 -- A worker whose results were all taken in is settled, and nothing of the others' work has changed.
-use Rattle.std.proofs.Common.{◌≡◌, ◌≢◌, ℕ, List, [], ◌++◌, map, refl, sym, subst, ap, ap₂, ◌∙◌, append-nil}
-use Rattle.uring_entry.specs.Setup.{Setup}
+use Rattle.std.proofs.Common.{◌≡◌, ℕ, List, [], ◌++◌, map, sym, subst, ap, ap₂, ◌∙◌, append-nil}
 use Rattle.uring_machine.specs.Finishes.{Done}
-use Rattle.uring_machine.specs.Histories.{History, IsLawfulApart}
+use Rattle.uring_machine.specs.Histories.{Event, history_of, IsLawfulApart}
 use Rattle.uring_threads.specs.declared.job.Job.{Job}
 use Rattle.uring_threads.specs.declared.job.JobResult.{JobResult}
 use Rattle.rtrb.specs.Ring.{sent, received}
@@ -13,12 +12,17 @@ use Rattle.uring_threads.specs.SettledWorker.{IsSettledAt}
 use Rattle.uring_threads.specs.Kept.{Kept}
 use Rattle.uring_threads.specs.Settled.{IsWork, finish_of, with_taken_in}
 use Rattle.uring_threads.specs.Work.{jobs_to, done_by_worker, jobs_of, results_of}
-use Rattle.uring_threads.proofs.Sending.{longer_history}
+use Rattle.uring_machine.proofs.Following.{history_of-append}
 use Rattle.uring_threads.proofs.Settling.{IsDrained, drain}
 
+-- the history of a trace that goes on
+longer_history : (a b : Kept) (events : List Event) → b.trace ≡ a.trace ++ events → history b ≡ history_of events ++ history a
+longer_history a b events same =
+    ap history_of same ∙ sym (append-nil (history_of (a.trace ++ events))) ∙ history_of-append a.trace events [] ∙ ap (λ h. history_of events ++ h) (append-nil (history_of a.trace))
+
 module _ (a b : Kept) (workers k : ℕ) (done : List Done) (untaken : List Job) (waiting : List JobResult) (lanes : WorkLanes)
-  (lawful : IsLawfulApart a.setup (history a)) (carried : HasCarried a workers k lanes)
-  (jobs : jobs_of done ++ untaken ≡ sent lanes.jobs) (results : received lanes.results ++ waiting ≡ results_of done) (all : TakesAll a b waiting) where
+    (lawful : IsLawfulApart a.setup (history a)) (carried : HasCarried a workers k lanes)
+    (jobs : jobs_of done ++ untaken ≡ sent lanes.jobs) (results : received lanes.results ++ waiting ≡ results_of done) (all : TakesAll a b waiting) where
   work : IsWork a.setup workers (history a) k (record { done = done; untaken = untaken; waiting = waiting })
   work = record { jobs = jobs ∙ carried.jobs; results = ap (λ rs. rs ++ waiting) (sym carried.results) ∙ results }
 
