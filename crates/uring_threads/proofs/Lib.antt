@@ -15,3 +15,4 @@ mod AppEndLemmas
 mod Working
 mod Collecting
 pub mod RingEnds
+pub mod Carrying

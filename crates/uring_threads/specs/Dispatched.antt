@@ -35,3 +35,9 @@ pub record IsSent (job : Job) (old new : WorkLanes) : Type 0 where
   pub jobs : sent new.jobs ≡ sent old.jobs ++ job ∷ []
   pub ring : SameProducer old.jobs new.jobs
   pub results : new.results ≡ old.results
+
+-- The same lanes still, of each worker: nothing was received, though jobs may have been sent.
+pub record AreSameLanes (old new : List WorkLanes) : Type 0 where
+  pub many : length new ≡ length old
+  pub jobs : (k : ℕ) (d : WorkLanes) → k < length old → SameProducer (get_or old k d).jobs (get_or new k d).jobs
+  pub results : (k : ℕ) (d : WorkLanes) → k < length old → (get_or new k d).results ≡ (get_or old k d).results
