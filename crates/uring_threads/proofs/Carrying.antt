@@ -1,5 +1,5 @@
 -- What the lanes of the workers have carried, as the trace goes on.
-use Rattle.std.proofs.Common.{◌≡◌, ◌≢◌, ℕ, ◌+◌, ◌<◌, ◌==◌, Bool, true, false, cond, List, [], ◌∷◌, ◌++◌, length, get_or, count_by, Option, Some, None, ℤ, if◌then◌else◌, refl, sym, subst, ap, ap₂, ◌∙◌, inl, inr, arith, append-nil}
+use Rattle.std.proofs.Common.{◌≡◌, ◌≢◌, ℕ, ◌+◌, ◌<◌, ◌≤◌, ◌==◌, Bool, true, false, cond, List, [], ◌∷◌, ◌++◌, length, get_or, count_by, Option, Some, None, ℤ, if◌then◌else◌, refl, sym, subst, ap, ap₂, ◌∙◌, inl, inr, arith, append-nil}
 use Rattle.std.specs.List.{filter}
 use Rattle.std.proofs.lemmas.Bool.{eq-eqb, ne_eqb, cases_eq}
 use Rattle.std.proofs.lemmas.List.Elements.{filter-append}
@@ -20,15 +20,21 @@ use Rattle.uring_machine.specs.declared.answer.Answer.TheVariants as answer
 use Rattle.uring_machine.proofs.Following.{history_of-cons, history_of-append}
 use Rattle.uring_threads.specs.declared.job.Job.{Job}
 use Rattle.uring_threads.specs.declared.work_lanes.WorkLanes.{WorkLanes}
-use Rattle.uring_threads.specs.Collected.{history}
+use Rattle.uring_threads.specs.Collected.{history, AreTakenIn, Collects, CollectsSeen}
+use Rattle.uring_threads.specs.declared.job.JobResult.{JobResult}
+use Rattle.std.specs.Prelude.{Result, Ok, Err, IfOk, OnErr}
+use Rattle.std.proofs.Math.ListN.{set}
+use Rattle.std.proofs.lemmas.List.{length-set, get_or-set_same, get_or-set_other}
 use Rattle.uring_threads.specs.Dispatched.{HasCarried, HaveCarried, IsSent}
-use Rattle.uring_threads.specs.Issued.{IssuedAs, IssuesOnly}
+use Rattle.uring_threads.specs.Issued.{IssuedAs}
+use Rattle.uring_threads.specs.Delivered.{OnlyPosts}
+use Rattle.uring_threads.proofs.Posting.{end_posts}
 use Rattle.uring_threads.proofs.TraceSteps.{grown}
 use Rattle.uring_entry.specs.Layout.{Sqe}
 use Rattle.uring_entry.specs.Completions.{Completions, with_end, with_posted, completion_for}
 use Rattle.uring_entry.specs.Success.{posts_completion}
 use Rattle.uring_threads.specs.Kept.{Kept, now, Grows}
-use Rattle.uring_threads.specs.Tallies.{Tally, tally_of, Appends, issues_request, takes_result}
+use Rattle.uring_threads.specs.Tallies.{Tally, tally_of, Appends, finishes_counted, issues_request, takes_result}
 use Rattle.uring_threads.specs.Work.{place_of, job_by, jobs_in, jobs_at, jobs_to, done_by_worker, results_of}
 use Rattle.rtrb.specs.Ring.{sent, received}
 use Rattle.uring_threads.proofs.Collecting.{grown_history}
@@ -83,14 +89,7 @@ carried_stays a b lanes stays carried = λ k d low.
 
 -- A request was issued.
 
--- an end posts a completion, or none
-end_posts : (size : ℕ) (l : Completions) (entry : Sqe) (res : ℤ) (bytes : List ℕ) → ((with_end size l entry res bytes).reaped ≡ l.reaped) × ((with_end size l entry res bytes).head ≡ l.head)
-end_posts size l entry res bytes = by_posts (posts_completion entry res) where
-  by_posts : (posts : Bool) → ((if posts then with_posted size l (completion_for entry res bytes) else l).reaped ≡ l.reaped) × ((if posts then with_posted size l (completion_for entry res bytes) else l).head ≡ l.head)
-  by_posts true = (refl, refl)
-  by_posts false = (refl, refl)
-
-only_posts : (a : Kept) (n : ℕ) (res : ℤ) (bytes : List ℕ) → IssuesOnly (now a) (issuing a.setup (now a) n (answer.Ended res bytes))
+only_posts : (a : Kept) (n : ℕ) (res : ℤ) (bytes : List ℕ) → OnlyPosts (now a) (issuing a.setup (now a) n (answer.Ended res bytes))
 only_posts a n res bytes =
     let p = end_posts a.setup.cq (now a).completions (entry_of (now a).requests n) res no_bytes in
     record { submission = refl; is_closed = refl; reaped = p.0; head = p.1 }
@@ -105,10 +104,10 @@ ended_stays a b n issued = by_answer issued.0 issued.1 issued.2 where
       }
   by_answer _ g ended = absurd ended
 
-pub ended_only : (a b : Kept) (n : ℕ) → IssuedAs a b n None → IssuesOnly (now a) (now b)
+pub ended_only : (a b : Kept) (n : ℕ) → IssuedAs a b n None → OnlyPosts (now a) (now b)
 ended_only a b n issued = by_answer issued.0 issued.1 issued.2 where
-  by_answer : (x : Answer) → Grows a b (step.Issue n, x) → IsEnded x → IssuesOnly (now a) (now b)
-  by_answer (answer.Ended res bytes) g ended = subst (IssuesOnly (now a)) (sym (grown a b (step.Issue n) (answer.Ended res bytes) g)) (only_posts a n res bytes)
+  by_answer : (x : Answer) → Grows a b (step.Issue n, x) → IsEnded x → OnlyPosts (now a) (now b)
+  by_answer (answer.Ended res bytes) g ended = subst (OnlyPosts (now a)) (sym (grown a b (step.Issue n) (answer.Ended res bytes) g)) (only_posts a n res bytes)
   by_answer _ g ended = absurd ended
 
 -- it ended at once: nothing was sent
@@ -143,3 +142,39 @@ carried_run a b n place op old new issued carried at low many was_sent others = 
             results = ap (λ (l : WorkLanes). received l.results) same ∙ before.results ∙ ap results_of (sym done);
           }
     ]
+
+-- Results of a worker were taken in.
+pub carried_collected : (a b : Kept) (n place : ℕ) (old new : List WorkLanes) → HaveCarried a old → Collects a b (length old) place n → length new ≡ length old
+    → ((d : WorkLanes) → (sent (get_or new place d).jobs ≡ sent (get_or old place d).jobs) × AreTakenIn b (length old) place (received (get_or new place d).results))
+    → ((k : ℕ) (d : WorkLanes) → k < length old → k ≢ place → get_or new k d ≡ get_or old k d) → HaveCarried b new
+carried_collected a b n place old new carried p many here others = λ k d within.
+    let within' : k < length old = omega (arith, within, many) in
+    let before = carried k d within' in
+    let jobs : jobs_to b.setup (length new) k (history b) ≡ jobs_to a.setup (length old) k (history a) = ap (λ m. jobs_to b.setup m k (history b)) many ∙ p.others.jobs k in
+    elim (cases_eq k place) [
+      | inl same ↦
+          let h = subst (λ i. (sent (get_or new i d).jobs ≡ sent (get_or old i d).jobs) × AreTakenIn b (length old) i (received (get_or new i d).results)) (sym same) (here d) in
+          record { jobs = h.0 ∙ before.jobs ∙ sym jobs; results = subst (λ m. AreTakenIn b m k (received (get_or new k d).results)) (sym many) h.1 }
+      | inr other ↦
+          let stays : get_or new k d ≡ get_or old k d = others k d within' other in
+          let done : done_by_worker b.setup (length new) k (history b) ≡ done_by_worker a.setup (length old) k (history a) = ap (λ m. done_by_worker b.setup m k (history b)) many ∙ p.others.results k other in
+          record {
+            jobs = ap (λ (l : WorkLanes). sent l.jobs) stays ∙ before.jobs ∙ sym jobs;
+            results = ap (λ (l : WorkLanes). received l.results) stays ∙ before.results ∙ ap results_of (sym done);
+          }
+    ]
+
+-- so some were, also where memory was refused
+pub some_collected : {E : Type 0} (r : Result ℕ E) (a b : Kept) (workers place : ℕ) (seen : List JobResult) → IfOk r (λ n. CollectsSeen a b workers place n seen) → OnErr r ((n : ℕ) × Collects a b workers place n) → (n : ℕ) × Collects a b workers place n
+some_collected (Ok n) a b workers place seen ok err = (n, ok.collected)
+some_collected (Err e) a b workers place seen ok err = err
+
+-- with these lanes in their place
+pub carried_set : (a b : Kept) (n place : ℕ) (old : List WorkLanes) (y d : WorkLanes) → HaveCarried a old → place < length old → Collects a b (length old) place n → y.jobs ≡ (get_or old place d).jobs → AreTakenIn b (length old) place (received y.results)
+    → HaveCarried b (set old place y)
+carried_set a b n place old y d carried low p jobs taken =
+    carried_collected a b n place old (set old place y) carried p (length-set old place y)
+    (λ e.
+    subst (λ (l : WorkLanes). (sent l.jobs ≡ sent (get_or old place e).jobs) × AreTakenIn b (length old) place (received l.results)) (sym (get_or-set_same old place y e low))
+    (ap (λ q. sent q) jobs ∙ (carried place d low).jobs ∙ sym (carried place e low).jobs, taken))
+    (λ k e within other. get_or-set_other old place k y e other)

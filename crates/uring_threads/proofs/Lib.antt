@@ -16,3 +16,4 @@ mod Working
 mod Collecting
 pub mod RingEnds
 pub mod Carrying
+pub mod Posting

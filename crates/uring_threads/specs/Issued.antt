@@ -3,7 +3,6 @@ use Rattle.std.specs.Prelude.{◌≡◌, ℕ, Option, Some, None}
 use Rattle.uring_entry.specs.Preparation.{operation_of}
 use Rattle.uring_entry.specs.Requests.{entry_of}
 use Rattle.uring_entry.specs.declared.operation.Op.{Op}
-use Rattle.uring_machine.specs.World.{World}
 use Rattle.uring_machine.specs.StepAnswers.{IsEnded}
 use Rattle.uring_machine.specs.declared.answer.Answer.{Answer}
 use Rattle.uring_machine.specs.declared.answer.Answer.TheVariants as answer
@@ -14,10 +13,3 @@ use Rattle.uring_threads.specs.Kept.{Kept, Grows, now}
 abbrev pub IssuedAs : Kept → Kept → ℕ → Option Op → Type 0
 IssuedAs old new n (Some op) = Grows old new (step.Issue n, answer.Run) × (op ≡ operation_of (entry_of (now old).requests n))
 IssuedAs old new n None = (a : Answer) × Grows old new (step.Issue n, a) × IsEnded a
-
--- Requests were issued, and nothing else happened: the submission ring stays, and of the completions only more were posted.
-pub record IssuesOnly (w v : World) : Type 0 where
-  pub submission : v.submission ≡ w.submission
-  pub is_closed : v.is_closed ≡ w.is_closed
-  pub reaped : v.completions.reaped ≡ w.completions.reaped
-  pub head : v.completions.head ≡ w.completions.head

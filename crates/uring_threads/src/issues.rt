@@ -3,7 +3,8 @@ ghost use Rattle.std.specs.Prelude.{◌≡◌, ◌≤◌, ◌+◌, ◌<◌, ℕ,
 ghost use Rattle.uring_entry.specs.Requests.{next_of};
 ghost use Rattle.uring_files.specs.Operations.{IsForFiles};
 ghost use Rattle.uring_threads.specs.Dispatched.{HaveCarried, ShowRoom, SomeIsFull, AreSameLanes};
-ghost use Rattle.uring_threads.specs.Issued.{IssuedAs, IssuesOnly};
+ghost use Rattle.uring_threads.specs.Delivered.{OnlyPosts};
+ghost use Rattle.uring_threads.specs.Issued.{IssuedAs};
 ghost use Rattle.uring_threads.specs.Kept.{now};
 ghost use Rattle.uring_threads.specs.Tallies.{Appends, issues_counted};
 
@@ -46,7 +47,7 @@ fn issue_one(kept: &mut Kept, lanes: &mut [WorkLanes], number: u64)
     requires carried { HaveCarried kept.old lanes.old }
     ensures carried { HaveCarried kept.new lanes.new }
     ensures lanes { AreSameLanes lanes.old lanes.new }
-    ensures stays { IssuesOnly (now kept.old) (now kept.new) }
+    ensures stays { OnlyPosts (now kept.old) (now kept.new) }
     ensures tally { Appends kept.old kept.new (issues_counted 1) }
 {
     if let Some(op) = issue_next(kept, number) {
@@ -64,7 +65,7 @@ pub fn issue_all(kept: &mut Kept, lanes: &mut [WorkLanes]) -> Result<u64, AllocE
     requires carried { HaveCarried kept.old lanes.old }
     ensures carried { HaveCarried kept.new lanes.new }
     ensures lanes { AreSameLanes lanes.old lanes.new }
-    ensures stays { IssuesOnly (now kept.old) (now kept.new) }
+    ensures stays { OnlyPosts (now kept.old) (now kept.new) }
     ensures tally { IfOk result (λ count. Appends kept.old kept.new (issues_counted count)) }
     ensures none_left { IfOk result (λ count. (next_of (now kept.new).requests ≡ None) ⊎ SomeIsFull lanes.new) }
     ensures err { OnErr result ((count : ℕ) × Appends kept.old kept.new (issues_counted count)) }

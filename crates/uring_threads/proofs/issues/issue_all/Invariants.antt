@@ -1,6 +1,6 @@
 use Rattle.std.proofs.Common.{◌≡◌, ◌≤◌, ◌+◌, ◌^◌, length}
 use Rattle.uring_threads.specs.Dispatched.{HaveCarried, AreSameLanes}
-use Rattle.uring_threads.specs.Issued.{IssuesOnly}
+use Rattle.uring_threads.specs.Delivered.{OnlyPosts}
 use Rattle.uring_threads.specs.Kept.{now}
 use Rattle.uring_threads.specs.Tallies.{Appends, issues_counted}
 use Rattle.uring_threads.proofs.issues.issue_all.Given as goal
@@ -12,6 +12,6 @@ invariant-loop-count l = record {
   limit : l.count ≤ 2 ^ 63;
   carried : HaveCarried l.kept l.lanes;
   lanes : AreSameLanes l.initial.lanes l.lanes;
-  stays : IssuesOnly (now l.initial.kept) (now l.kept);
+  stays : OnlyPosts (now l.initial.kept) (now l.kept);
   tally : Appends l.initial.kept l.kept (issues_counted l.count);
 }
