@@ -87,20 +87,21 @@ posts_end a b r g =
 
 -- none, and one more
 pub collects_none : (a b : Kept) (workers place : ℕ) → IsUnmoved a b → Collects a b workers place 0
-collects_none a b workers place u = record { tally = appends_none a b u; posts = subst (OnlyPosts (now a)) (sym (unmoved_now a b u)) (posts_none (now a)); others = same_others a b workers place u }
+collects_none a b workers place u = record { tally = appends_none a b u; posts = subst (OnlyPosts (now a)) (sym (unmoved_now a b u)) (posts_none (now a)); idle = λ none. u.trace; others = same_others a b workers place u }
 
 pub collects_then : (a b c : Kept) (workers place n m sum : ℕ) → n + m ≡ sum → Collects a b workers place n → Collects b c workers place m → Collects a c workers place sum
 collects_then a b c workers place n m sum e p q =
     record {
       tally = appends_then a b c (finishes_counted n) (finishes_counted m) (finishes_counted sum) p.tally q.tally (ap finishes_counted e);
       posts = posts_then (now a) (now b) (now c) p.posts q.posts;
+      idle = λ none. q.idle (omega (arith, none, e)) ∙ p.idle (omega (arith, none, e));
       others = then_others a b c workers place p.others q.others;
     }
 
 -- the next one, after more room was asked for
 pub collects_one : (a b c : Kept) (workers place : ℕ) (before after seen : List JobResult) (more : Bool) → IsUnmoved a b → OthersStay b c workers place → TakesNext b c workers place before after seen more → CollectsNext a c workers place seen more
 collects_one a b c workers place before after seen true u others (r, _, _, grows) =
-    collects_then a b c workers place 0 1 1 refl (collects_none a b workers place u) (record { tally = appends_one b c (finish_of r) (finishes_counted 1) grows refl; posts = posts_end b c r grows; others = others })
+    collects_then a b c workers place 0 1 1 refl (collects_none a b workers place u) (record { tally = appends_one b c (finish_of r) (finishes_counted 1) grows refl; posts = posts_end b c r grows; idle = λ none. absurd (omega (arith, none)); others = others })
 collects_one a b c workers place before after seen false u others (same, _, stays) = (
   subst (λ k. Collects a k workers place 0) (sym same) (collects_none a b workers place u),
   subst (λ k. NextStays k workers place seen) (sym same) stays,

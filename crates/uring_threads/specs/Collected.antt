@@ -46,6 +46,7 @@ most_results = 64
 pub record Collects (old new : Kept) (workers place count : ℕ) : Type 0 where
   pub tally : Appends old new (finishes_counted count)
   pub posts : OnlyPosts (now old) (now new)
+  pub idle : count ≡ 0 → new.trace ≡ old.trace
   pub others : OthersStay old new workers place
 
 -- one more result was taken in, or none, where none is seen or the next can't be taken in

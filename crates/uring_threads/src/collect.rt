@@ -23,6 +23,7 @@ pub fn collect_all(kept: &mut Kept, lanes: &mut [WorkLanes]) -> Result<u64, Allo
     ensures lanes { AreSameLanes lanes.old lanes.new }
     ensures posts { OnlyPosts (now kept.old) (now kept.new) }
     ensures tally { IfOk result (λ count. Appends kept.old kept.new (finishes_counted count)) }
+    ensures idle { IfOk result (λ count. count ≡ 0 → kept.new.trace ≡ kept.old.trace) }
     ensures err { OnErr result ((count : ℕ) × Appends kept.old kept.new (finishes_counted count)) }
 {
     let mut count = 0;
@@ -42,6 +43,7 @@ fn collect_at(kept: &mut Kept, lanes: &mut [WorkLanes], place: u32) -> Result<u6
     ensures posts { OnlyPosts (now kept.old) (now kept.new) }
     ensures tally { IfOk result (λ count. Appends kept.old kept.new (finishes_counted count)) }
     ensures most { IfOk result (λ count. count ≤ 64) }
+    ensures idle { IfOk result (λ count. count ≡ 0 → kept.new.trace ≡ kept.old.trace) }
     ensures err { OnErr result ((count : ℕ) × Appends kept.old kept.new (finishes_counted count)) }
 {
     let workers = lanes.len() as u32;

@@ -13,4 +13,5 @@ invariant-loop-place l = record {
   lanes : AreSameLanes l.initial.lanes l.lanes;
   posts : OnlyPosts (now l.initial.kept) (now l.kept);
   tally : Appends l.initial.kept l.kept (finishes_counted l.count);
+  idle : l.count ≡ 0 → l.kept.trace ≡ l.initial.kept.trace;
 }

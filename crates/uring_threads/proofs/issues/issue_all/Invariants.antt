@@ -14,4 +14,5 @@ invariant-loop-count l = record {
   lanes : AreSameLanes l.initial.lanes l.lanes;
   stays : OnlyPosts (now l.initial.kept) (now l.kept);
   tally : Appends l.initial.kept l.kept (issues_counted l.count);
+  idle : l.count ≡ 0 → l.kept.trace ≡ l.initial.kept.trace;
 }
