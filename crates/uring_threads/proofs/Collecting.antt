@@ -15,13 +15,15 @@ use Rattle.uring_machine.specs.declared.answer.Answer.TheVariants as answer
 use Rattle.uring_machine.proofs.Following.{history_of-snoc}
 use Rattle.uring_threads.specs.declared.job.JobResult.{JobResult}
 use Rattle.uring_threads.specs.Collected.{history, CanBeTaken, OthersStay, AreTakenIn, Collects, CollectsNext, CollectsSeen, NextStays, TakesNext, Wait}
+use Rattle.uring_threads.specs.Delivered.{OnlyPosts}
 use Rattle.uring_threads.specs.Kept.{Kept, now, Grows, IsUnmoved}
 use Rattle.uring_threads.specs.Settled.{IsWork, IsTakenIn, finish_of}
 use Rattle.uring_threads.specs.Work.{place_of, jobs_to, done_by_worker, result_of, results_of}
 use Rattle.uring_threads.specs.Tallies.{finishes_counted}
 use Rattle.uring_threads.proofs.LeftAt.{done-own, done-other}
+use Rattle.uring_threads.proofs.Posting.{posts_none, posts_then, end_posts}
 use Rattle.uring_threads.proofs.Settling.{results_run}
-use Rattle.uring_threads.proofs.TraceSteps.{appends_none, appends_one, appends_then}
+use Rattle.uring_threads.proofs.TraceSteps.{grown, appends_none, appends_one, appends_then, unmoved_now}
 
 -- the history of a trace that is one event longer
 pub grown_history : (a b : Kept) (e : Event) → Grows a b e → history b ≡ e ∷ history a
@@ -76,21 +78,29 @@ then_others a b c workers place p q = record { jobs = λ k. q.jobs k ∙ p.jobs 
 pub same_taken : (a b : Kept) (workers place : ℕ) (results : List JobResult) → IsUnmoved a b → AreTakenIn a workers place results → AreTakenIn b workers place results
 same_taken a b workers place results u taken = taken ∙ sym (ap₂ (λ g es. results_of (done_by_worker g workers place (history_of es))) u.setup u.trace)
 
+-- the end of a request posts a completion, or none
+posts_end : (a b : Kept) (r : JobResult) → Grows a b (finish_of r) → OnlyPosts (now a) (now b)
+posts_end a b r g =
+    let p = end_posts a.setup.cq (now a).completions (entry_of (now a).requests r.number) r.outcome.res r.outcome.bytes in
+    subst (OnlyPosts (now a)) (sym (grown a b (step.Finish r.number) (answer.Ended r.outcome.res r.outcome.bytes) g)) (record { submission = refl; is_closed = refl; reaped = p.0; head = p.1 })
+
 -- none, and one more
 pub collects_none : (a b : Kept) (workers place : ℕ) → IsUnmoved a b → Collects a b workers place 0
-collects_none a b workers place u = record { tally = appends_none a b u; others = same_others a b workers place u }
+collects_none a b workers place u = record { tally = appends_none a b u; posts = subst (OnlyPosts (now a)) (sym (unmoved_now a b u)) (posts_none (now a)); idle = λ none. u.trace; others = same_others a b workers place u }
 
 pub collects_then : (a b c : Kept) (workers place n m sum : ℕ) → n + m ≡ sum → Collects a b workers place n → Collects b c workers place m → Collects a c workers place sum
 collects_then a b c workers place n m sum e p q =
     record {
       tally = appends_then a b c (finishes_counted n) (finishes_counted m) (finishes_counted sum) p.tally q.tally (ap finishes_counted e);
+      posts = posts_then (now a) (now b) (now c) p.posts q.posts;
+      idle = λ none. q.idle (omega (arith, none, e)) ∙ p.idle (omega (arith, none, e));
       others = then_others a b c workers place p.others q.others;
     }
 
 -- the next one, after more room was asked for
 pub collects_one : (a b c : Kept) (workers place : ℕ) (before after seen : List JobResult) (more : Bool) → IsUnmoved a b → OthersStay b c workers place → TakesNext b c workers place before after seen more → CollectsNext a c workers place seen more
 collects_one a b c workers place before after seen true u others (r, _, _, grows) =
-    collects_then a b c workers place 0 1 1 refl (collects_none a b workers place u) (record { tally = appends_one b c (finish_of r) (finishes_counted 1) grows refl; others = others })
+    collects_then a b c workers place 0 1 1 refl (collects_none a b workers place u) (record { tally = appends_one b c (finish_of r) (finishes_counted 1) grows refl; posts = posts_end b c r grows; idle = λ none. absurd (omega (arith, none)); others = others })
 collects_one a b c workers place before after seen false u others (same, _, stays) = (
   subst (λ k. Collects a k workers place 0) (sym same) (collects_none a b workers place u),
   subst (λ k. NextStays k workers place seen) (sym same) stays,

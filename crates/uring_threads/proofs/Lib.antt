@@ -17,3 +17,5 @@ mod Collecting
 mod Draining
 mod SettledWork
 mod SettledWorkers
+pub mod Carrying
+pub mod Posting
