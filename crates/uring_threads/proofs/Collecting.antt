@@ -1,29 +1,29 @@
 -- What is sent and taken in, as a result is taken in: the operation is the last of its worker's, and all else stays.
-use Rattle.std.proofs.Common.{◌≡◌, ◌≢◌, ℕ, ◌+◌, ◌<◌, ◌≤◌, arith, ◌==◌, Bool, true, false, List, [], ◌∷◌, ◌++◌, if◌then◌else◌, refl, sym, subst, ap, ap₂, ◌∙◌}
+use Rattle.std.proofs.Common.{◌≡◌, ℕ, ◌+◌, ◌<◌, arith, Bool, true, false, List, [], ◌∷◌, ◌++◌, if◌then◌else◌, refl, sym, subst, ap, ap₂, ◌∙◌}
 use Rattle.std.specs.Prelude.{slice_index_or, Result, Ok, Err, OnErr}
 use mathlib.Core.List.{IsPrefix}
 use Rattle.std.proofs.lemmas.List.{map-append}
-use Rattle.uring_entry.specs.Setup.{Setup}
 use Rattle.uring_entry.specs.Preparation.{operation_of}
 use Rattle.uring_entry.specs.Requests.{entry_of, is_running}
-use Rattle.uring_entry.specs.declared.operation.Op.{Op}
 use Rattle.uring_entry.specs.declared.operation.Outcome.{Outcome}
 use Rattle.uring_machine.specs.Core.{IsFinished}
 use Rattle.uring_machine.specs.Finishes.{Done, done_in}
-use Rattle.uring_machine.specs.Histories.{Event, History, history_of, IsLawfulApart}
+use Rattle.uring_machine.specs.Histories.{Event, history_of, IsLawfulApart}
 use Rattle.uring_machine.specs.declared.step.Step.TheVariants as step
 use Rattle.uring_machine.specs.declared.answer.Answer.{Answer}
 use Rattle.uring_machine.specs.declared.answer.Answer.TheVariants as answer
 use Rattle.uring_machine.proofs.Following.{history_of-snoc}
 use Rattle.uring_threads.specs.declared.job.JobResult.{JobResult}
 use Rattle.uring_threads.specs.Collected.{history, CanBeTaken, OthersStay, AreTakenIn, Collects, CollectsNext, CollectsSeen, NextStays, TakesNext, Wait}
+use Rattle.uring_threads.specs.Delivered.{OnlyPosts}
 use Rattle.uring_threads.specs.Kept.{Kept, now, Grows, IsUnmoved}
 use Rattle.uring_threads.specs.Settled.{IsWork, IsTakenIn, finish_of}
 use Rattle.uring_threads.specs.Work.{place_of, jobs_to, done_by_worker, result_of, results_of}
 use Rattle.uring_threads.specs.Tallies.{finishes_counted}
 use Rattle.uring_threads.proofs.LeftAt.{done-own, done-other}
+use Rattle.uring_threads.proofs.Posting.{posts_none, posts_then, end_posts}
 use Rattle.uring_threads.proofs.Settling.{results_run}
-use Rattle.uring_threads.proofs.TraceSteps.{appends_none, appends_one, appends_then, unmoved_now}
+use Rattle.uring_threads.proofs.TraceSteps.{grown, appends_none, appends_one, appends_then, unmoved_now}
 
 -- the history of a trace that is one event longer
 pub grown_history : (a b : Kept) (e : Event) → Grows a b e → history b ≡ e ∷ history a
@@ -55,7 +55,7 @@ module _ (a b : Kept) (workers place : ℕ) (r : JobResult) (can : CanBeTaken a 
       record {
         jobs = λ k. ap₂ (λ g h. jobs_to g workers k h) grows.setup (grown_history a b (finish_of r) grows);
         results = λ k other. ap₂ (λ g h. done_by_worker g workers k h) grows.setup (grown_history a b (finish_of r) grows)
-        ∙ done-other (place_of workers a.setup.files) k (done_in a.setup (history a)) end (λ same. other (sym same ∙ can.own));
+            ∙ done-other (place_of workers a.setup.files) k (done_in a.setup (history a)) end (λ same. other (sym same ∙ can.own));
       }
 
 -- what was seen first is what is popped
@@ -78,21 +78,29 @@ then_others a b c workers place p q = record { jobs = λ k. q.jobs k ∙ p.jobs 
 pub same_taken : (a b : Kept) (workers place : ℕ) (results : List JobResult) → IsUnmoved a b → AreTakenIn a workers place results → AreTakenIn b workers place results
 same_taken a b workers place results u taken = taken ∙ sym (ap₂ (λ g es. results_of (done_by_worker g workers place (history_of es))) u.setup u.trace)
 
+-- the end of a request posts a completion, or none
+posts_end : (a b : Kept) (r : JobResult) → Grows a b (finish_of r) → OnlyPosts (now a) (now b)
+posts_end a b r g =
+    let p = end_posts a.setup.cq (now a).completions (entry_of (now a).requests r.number) r.outcome.res r.outcome.bytes in
+    subst (OnlyPosts (now a)) (sym (grown a b (step.Finish r.number) (answer.Ended r.outcome.res r.outcome.bytes) g)) (record { submission = refl; is_closed = refl; reaped = p.0; head = p.1 })
+
 -- none, and one more
 pub collects_none : (a b : Kept) (workers place : ℕ) → IsUnmoved a b → Collects a b workers place 0
-collects_none a b workers place u = record { tally = appends_none a b u; others = same_others a b workers place u }
+collects_none a b workers place u = record { tally = appends_none a b u; posts = subst (OnlyPosts (now a)) (sym (unmoved_now a b u)) (posts_none (now a)); idle = λ none. u.trace; others = same_others a b workers place u }
 
 pub collects_then : (a b c : Kept) (workers place n m sum : ℕ) → n + m ≡ sum → Collects a b workers place n → Collects b c workers place m → Collects a c workers place sum
 collects_then a b c workers place n m sum e p q =
     record {
       tally = appends_then a b c (finishes_counted n) (finishes_counted m) (finishes_counted sum) p.tally q.tally (ap finishes_counted e);
+      posts = posts_then (now a) (now b) (now c) p.posts q.posts;
+      idle = λ none. q.idle (omega (arith, none, e)) ∙ p.idle (omega (arith, none, e));
       others = then_others a b c workers place p.others q.others;
     }
 
 -- the next one, after more room was asked for
 pub collects_one : (a b c : Kept) (workers place : ℕ) (before after seen : List JobResult) (more : Bool) → IsUnmoved a b → OthersStay b c workers place → TakesNext b c workers place before after seen more → CollectsNext a c workers place seen more
 collects_one a b c workers place before after seen true u others (r, _, _, grows) =
-    collects_then a b c workers place 0 1 1 refl (collects_none a b workers place u) (record { tally = appends_one b c (finish_of r) (finishes_counted 1) grows refl; others = others })
+    collects_then a b c workers place 0 1 1 refl (collects_none a b workers place u) (record { tally = appends_one b c (finish_of r) (finishes_counted 1) grows refl; posts = posts_end b c r grows; idle = λ none. absurd (omega (arith, none)); others = others })
 collects_one a b c workers place before after seen false u others (same, _, stays) = (
   subst (λ k. Collects a k workers place 0) (sym same) (collects_none a b workers place u),
   subst (λ k. NextStays k workers place seen) (sym same) stays,
@@ -129,5 +137,5 @@ next_waits a b r later lawful w grows = (
   w.2,
   w.3,
   subst (λ h. IsWork b.setup w.0 h w.1 (record { done = w.2; untaken = w.3; waiting = later })) (sym (grown_history a b (finish_of r) grows))
-  (subst (λ g. IsWork g w.0 (finish_of r ∷ history a) w.1 (record { done = w.2; untaken = w.3; waiting = later })) (sym grows.setup) (first_waits a r later lawful w).later),
+      (subst (λ g. IsWork g w.0 (finish_of r ∷ history a) w.1 (record { done = w.2; untaken = w.3; waiting = later })) (sym grows.setup) (first_waits a r later lawful w).later),
 )

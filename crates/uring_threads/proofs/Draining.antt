@@ -1,5 +1,5 @@
 -- The loop that takes in all results that wait at a worker: some were taken in, and the others wait.
-use Rattle.std.proofs.Common.{◌≡◌, ℕ, zero, suc, ◌+◌, ◌<◌, ◌≤◌, List, [], ◌∷◌, ◌++◌, length, map, refl, sym, subst, ap, ◌∙◌, arith, append_assoc, append-nil}
+use Rattle.std.proofs.Common.{◌≡◌, ℕ, ◌+◌, ◌<◌, ◌≤◌, List, [], ◌∷◌, ◌++◌, length, map, refl, sym, subst, ap, ◌∙◌, arith, append_assoc, append-nil}
 use Rattle.std.proofs.lemmas.List.{length-append, length-map, map-append}
 use Rattle.uring_threads.specs.declared.job.JobResult.{JobResult}
 use Rattle.uring_threads.specs.Collected.{TakesAll, Wait}
@@ -30,13 +30,13 @@ drains_one first a b seen known later before received now count d (r, next, came
       all = d.all ∙ ap (λ rs. d.taken ++ rs) next ∙ sym (append_assoc d.taken (r ∷ []) later);
       came = came ∙ ap (λ rs. rs ++ r ∷ []) d.came ∙ append_assoc before d.taken (r ∷ []);
       recorded =
-        record {
-          trace =
-            grows.trace ∙ ap (λ es. es ++ finish_of r ∷ []) d.recorded.trace ∙ append_assoc first.trace (map finish_of d.taken) (finish_of r ∷ [])
-            ∙ ap (λ es. first.trace ++ es) (sym (map-append finish_of d.taken (r ∷ [])));
-          setup = grows.setup ∙ d.recorded.setup;
-          room = omega (arith, d.recorded.room, grows.room);
-        };
+          record {
+            trace =
+                grows.trace ∙ ap (λ es. es ++ finish_of r ∷ []) d.recorded.trace ∙ append_assoc first.trace (map finish_of d.taken) (finish_of r ∷ [])
+                ∙ ap (λ es. first.trace ++ es) (sym (map-append finish_of d.taken (r ∷ [])));
+            setup = grows.setup ∙ d.recorded.setup;
+            room = omega (arith, d.recorded.room, grows.room);
+          };
       counted = omega (arith, d.counted, length-append d.taken (r ∷ []));
       left = left;
     }

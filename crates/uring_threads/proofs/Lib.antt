@@ -15,4 +15,7 @@ pub mod Settling
 mod Working
 mod Collecting
 mod Draining
-pub mod Sending
+mod SettledWork
+mod SettledWorkers
+pub mod Carrying
+pub mod Posting

@@ -128,11 +128,8 @@ results_run g workers h k done untaken r later lawful is =
                 ∙ ap (λ rs. rs ++ later) (map-append result_of (done_by_worker g workers k h) (end ∷ []))
                 ∙ append_assoc (results_of (done_by_worker g workers k h)) (r ∷ []) later ∙ is.results;
           };
-      others = λ j other unlike theirs.
-          record {
-            jobs = theirs.jobs;
-            results = ap (λ ds. results_of ds ++ other.waiting) (done-other place j (done_in g h) end (λ same. unlike (sym same ∙ own))) ∙ theirs.results;
-          };
+      sent = λ j. refl;
+      others = λ j unlike. done-other place j (done_in g h) end (λ same. unlike (sym same ∙ own));
     }
 
 -- None waits.
@@ -175,21 +172,25 @@ drained : Work → Work
 drained work = record work { waiting = [] }
 
 -- a history into which the results of one worker were taken
-record IsDrained (g : Setup) (workers : ℕ) (h later : History) (k : ℕ) (work : Work) : Type 0 where
-  lawful : IsLawfulApart g later
-  own : IsWork g workers later k (drained work)
-  others : (j : ℕ) (other : Work) → j ≢ k → IsWork g workers h j other → IsWork g workers later j other
+pub record IsDrained (g : Setup) (workers : ℕ) (h later : History) (k : ℕ) (work : Work) : Type 0 where
+  pub lawful : IsLawfulApart g later
+  pub own : IsWork g workers later k (record work { waiting = [] })
+  pub sent : (j : ℕ) → jobs_to g workers j later ≡ jobs_to g workers j h
+  pub others : (j : ℕ) → j ≢ k → done_by_worker g workers j later ≡ done_by_worker g workers j h
 
-drain : (g : Setup) (workers : ℕ) (h : History) (k : ℕ) (done : List Done) (untaken : List Job) (waiting : List JobResult) → IsLawfulApart g h
+pub drain : (g : Setup) (workers : ℕ) (h : History) (k : ℕ) (done : List Done) (untaken : List Job) (waiting : List JobResult) → IsLawfulApart g h
     → IsWork g workers h k (record { done = done; untaken = untaken; waiting = waiting }) → IsDrained g workers h (with_taken_in waiting h) k (record { done = done; untaken = untaken; waiting = waiting })
-unfolding drained
-drain g workers h k done untaken [] lawful is = record { lawful = lawful; own = is; others = λ j other unlike theirs. theirs }
+drain g workers h k done untaken [] lawful is = record { lawful = lawful; own = is; sent = λ j. refl; others = λ j unlike. refl }
 drain g workers h k done untaken (r ∷ later) lawful is =
     let one = results_run g workers h k done untaken r later lawful is in
     let next : IsLawfulApart g (finish_of r ∷ h) = (subst (λ b. FinishesApart b (answer.Ended r.outcome.res r.outcome.bytes)) (sym one.runs) tt, lawful) in
     let rest = drain g workers (finish_of r ∷ h) k done untaken later next one.later in
     subst (λ last. IsDrained g workers h last k (record { done = done; untaken = untaken; waiting = r ∷ later })) (sym (history_of-cons (finish_of r) (map finish_of later) h))
-    (record { lawful = rest.lawful; own = rest.own; others = λ j other unlike theirs. rest.others j other unlike (one.others j other unlike theirs) })
+    (record { lawful = rest.lawful; own = rest.own; sent = λ j. rest.sent j ∙ one.sent j; others = λ j unlike. rest.others j unlike ∙ one.others j unlike })
+
+-- the work of a worker of which nothing was taken in
+pub same_work : (g : Setup) (workers : ℕ) (h later : History) (k : ℕ) (work : Work) → jobs_to g workers k later ≡ jobs_to g workers k h → done_by_worker g workers k later ≡ done_by_worker g workers k h → IsWork g workers h k work → IsWork g workers later k work
+same_work g workers h later k work sent taken is = record { jobs = is.jobs ∙ sym sent; results = ap (λ ds. results_of ds ++ work.waiting) taken ∙ is.results }
 
 -- a history into which the results of the first workers were taken
 record AreDrained (g : Setup) (workers : ℕ) (h : History) (works : ℕ → Work) (count : ℕ) : Type 0 where
@@ -203,6 +204,7 @@ taken_in-append earlier later h =
 
 drain_first : (g : Setup) (workers : ℕ) (h : History) (works : ℕ → Work) → IsLawfulApart g h → ((k : ℕ) → k < workers → IsWork g workers h k (works k)) → (count : ℕ) → count ≤ workers
     → AreDrained g workers (with_taken_in (waiting_of works count) h) works count
+unfolding drained
 drain_first g workers h works lawful are zero le = record { lawful = lawful; before = λ k lt. absurd (omega arith); behind = λ k from lt. are k lt }
 drain_first g workers h works lawful are (suc count) le =
     let so_far = drain_first g workers h works lawful are count (omega arith) in
@@ -214,9 +216,9 @@ drain_first g workers h works lawful are (suc count) le =
       lawful = one.lawful;
       before = λ k lt. elim (cases_eq k count) [
         | inl same ↦ subst (λ j. IsWork g workers (with_taken_in work.waiting there) j (drained (works j))) (sym same) one.own
-        | inr other ↦ one.others k (drained (works k)) other (so_far.before k (omega arith))
+        | inr other ↦ same_work g workers there (with_taken_in work.waiting there) k (drained (works k)) (one.sent k) (one.others k other) (so_far.before k (omega arith))
       ];
-      behind = λ k from lt. one.others k (works k) (λ same. omega (arith, same)) (so_far.behind k (omega arith) lt);
+      behind = λ k from lt. same_work g workers there (with_taken_in work.waiting there) k (works k) (one.sent k) (one.others k (λ same. omega (arith, same))) (so_far.behind k (omega arith) lt);
     })
 
 pub settles : (g : Setup) → Settles g

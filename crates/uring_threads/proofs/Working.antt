@@ -12,9 +12,9 @@ use Rattle.uring_machine.specs.Finishes.{Done, files_left, AreDone}
 use Rattle.uring_threads.specs.declared.job.Job.{Job}
 use Rattle.uring_threads.specs.declared.job.JobResult.{JobResult}
 use Rattle.uring_threads.specs.Work.{job_of, result_of, jobs_of, results_of}
-use denote.RawPtr.{Ptr}
 use Rattle.rtrb.specs.Shared.{Names}
-use Rattle.uring_threads.specs.Rings.{ring_at}
+use Rattle.rtrb.specs.declared.end.End.{End}
+use Rattle.uring_threads.specs.Lanes.{numbers_of, numbers_of_pointer}
 use Rattle.uring_threads.specs.Worker.{Worker, done_of, empty_files, IsWorking}
 
 -- one operation more
@@ -77,8 +77,11 @@ goes_on jobs results files w j outcome right =
     }
 
 -- workers whose parts are the same are the same
-pub same_ring : {words others slots pairs : Ptr} {names same : Names} → words ≡ others → slots ≡ pairs → names ≡ same → ring_at words slots names ≡ ring_at others pairs same
-same_ring {words} {others} {slots} {pairs} {names} {same} w s n = ap (λ x. ring_at x slots names) w ∙ ap (λ x. ring_at others x names) s ∙ ap (λ x. ring_at others pairs x) n
+pub same_ring : {T A P : Type 0} (a b : End T A P) → a.words ≡ b.words → a.slots ≡ b.slots → a.names ≡ b.names → numbers_of a ≡ numbers_of b
+same_ring a b words slots names =
+    ap (λ p. numbers_of_pointer p ++ numbers_of_pointer a.slots ++ (a.names.0 ∷ a.names.1.0 ∷ a.names.1.1 ∷ [])) words
+    ∙ ap (λ p. numbers_of_pointer b.words ++ numbers_of_pointer p ++ (a.names.0 ∷ a.names.1.0 ∷ a.names.1.1 ∷ [])) slots
+    ∙ ap (λ (n : Names). numbers_of_pointer b.words ++ numbers_of_pointer b.slots ++ (n.0 ∷ n.1.0 ∷ n.1.1 ∷ [])) names
 
 pub same_worker : (place : ℕ) {jobs others results pairs : List ℕ} {done same : List Done} {files these : List FileContents} {seen : List Job} {room : ℕ}
     → jobs ≡ others → results ≡ pairs → done ≡ same → files ≡ these

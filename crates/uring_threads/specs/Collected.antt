@@ -7,6 +7,7 @@ use Rattle.uring_machine.specs.Finishes.{Done}
 use Rattle.uring_threads.specs.declared.job.Job.{Job}
 use Rattle.uring_threads.specs.declared.job.JobResult.{JobResult}
 use Rattle.uring_threads.specs.Kept.{Kept, now, Grows}
+use Rattle.uring_threads.specs.Delivered.{OnlyPosts}
 use Rattle.uring_threads.specs.Tallies.{Appends, finishes_counted}
 use Rattle.uring_threads.specs.Work.{place_of, jobs_to, done_by_worker, results_of}
 use Rattle.uring_threads.specs.Settled.{IsWork, finish_of}
@@ -46,6 +47,8 @@ most_results = 64
 -- so many results of a worker were taken in, and recorded as Finishes
 pub record Collects (old new : Kept) (workers place count : ℕ) : Type 0 where
   pub tally : Appends old new (finishes_counted count)
+  pub posts : OnlyPosts (now old) (now new)
+  pub idle : count ≡ 0 → new.trace ≡ old.trace
   pub others : OthersStay old new workers place
 
 -- one more result was taken in, or none, where none is seen or the next can't be taken in

@@ -1,6 +1,6 @@
 -- What went through the lanes between the dispatcher and the workers. All of it is our own rule.
 use Rattle.std.specs.Prelude.{◌≡◌, ◌≢◌, ℕ, ◌<◌, List, [], ◌∷◌, ◌++◌, length, get_or}
-use Rattle.rtrb.specs.Ring.{sent, known_free, received, SameProducer}
+use Rattle.rtrb.specs.Ring.{sent, known_free, received, SameProducer, SameConsumer}
 use Rattle.uring_threads.specs.Kept.{Kept}
 use Rattle.uring_threads.specs.Collected.{history, AreTakenIn}
 use Rattle.uring_threads.specs.Work.{jobs_to}
@@ -35,3 +35,9 @@ pub record IsSent (job : Job) (old new : WorkLanes) : Type 0 where
   pub jobs : sent new.jobs ≡ sent old.jobs ++ job ∷ []
   pub ring : SameProducer old.jobs new.jobs
   pub results : new.results ≡ old.results
+
+-- The same lanes still, of each worker.
+pub record AreSameLanes (old new : List WorkLanes) : Type 0 where
+  pub many : length new ≡ length old
+  pub jobs : (k : ℕ) (d : WorkLanes) → k < length old → SameProducer (get_or old k d).jobs (get_or new k d).jobs
+  pub results : (k : ℕ) (d : WorkLanes) → k < length old → SameConsumer (get_or old k d).results (get_or new k d).results

@@ -45,12 +45,13 @@ with_taken_in results h = history_of (map finish_of results) ++ h
 abbrev pub IsUntaken : (ℕ → Work) → ℕ → ℕ → Type 0
 IsUntaken works workers n = (k : ℕ) × (k < workers) × (list_any (λ job. job.number == n) (works k).untaken ≡ true)
 
--- A result that waits at a worker can be taken in: its request runs, and is that worker's. It leaves that worker those behind it, and every other worker all that it had.
+-- A result that waits at a worker can be taken in: its request runs, and is that worker's. Those behind it wait next; no job is sent by it, and of no other worker is anything taken in.
 pub record IsTakenIn (g : Setup) (workers : ℕ) (h : History) (k : ℕ) (work : Work) (r : JobResult) : Type 0 where
   pub runs : is_running (world g h).requests r.number ≡ true
   pub own : place_of workers g.files (operation_of (entry_of (world g h).requests r.number)) ≡ k
   pub later : IsWork g workers (finish_of r ∷ h) k work
-  pub others : (j : ℕ) (other : Work) → j ≢ k → IsWork g workers h j other → IsWork g workers (finish_of r ∷ h) j other
+  pub sent : (j : ℕ) → jobs_to g workers j (finish_of r ∷ h) ≡ jobs_to g workers j h
+  pub others : (j : ℕ) → j ≢ k → done_by_worker g workers j (finish_of r ∷ h) ≡ done_by_worker g workers j h
 
 -- A history into which all results were taken: it is lawful, each worker has the files of its own descriptors, and the requests that run are those whose jobs no worker took.
 pub record IsSettled (g : Setup) (workers : ℕ) (h : History) (works : ℕ → Work) : Type 0 where

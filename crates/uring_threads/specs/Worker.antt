@@ -41,6 +41,11 @@ pub record IsWorking (jobs : List Job) (results : List JobResult) (files : List 
   pub right : AreDone (empty_files (length files)) (done_of jobs results)
   pub left : files ≡ files_left (empty_files (length files)) (done_of jobs results)
 
+-- each operation that it carried out is right on its own files, which were empty at first, and they left its files as they are
+pub record IsRight (worker : Worker) : Type 0 where
+  pub done : AreDone (empty_files (length worker.files)) worker.done
+  pub files : worker.files ≡ files_left (empty_files (length worker.files)) worker.done
+
 -- it did nothing, but may have seen more jobs, and more room
 pub record Looks (old new : Worker) : Type 0 where
   pub same : new ≡ record old { seen = new.seen; room = new.room }

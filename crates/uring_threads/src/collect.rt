@@ -1,5 +1,9 @@
 //! Results that came back from workers.
 ghost use Rattle.std.specs.Prelude.{◌≡◌, ℕ, ◌+◌, ◌<◌, ◌≤◌, ◌↔◌, [], ◌∷◌, ◌++◌, length, IsTrue, IfOk, OnErr};
+ghost use Rattle.uring_threads.specs.Delivered.{OnlyPosts};
+ghost use Rattle.uring_threads.specs.Dispatched.{HaveCarried, AreSameLanes};
+ghost use Rattle.uring_threads.specs.Kept.{now};
+ghost use Rattle.uring_threads.specs.Tallies.{Appends, finishes_counted};
 ghost use Rattle.rtrb.specs.Ring.{received, known_items, SameConsumer};
 ghost use Rattle.uring_threads.specs.Collected.{AreTakenIn, CanBeTaken, Collects, CollectsNext, CollectsSeen, OthersStay, TakesAll, TakesNext, Wait};
 ghost use Rattle.uring_threads.specs.Kept.{Grows};
@@ -9,9 +13,45 @@ ghost use Rattle.uring_threads.specs.declared.job.JobResult.{JobResult};
 use crate::job::JobResult;
 use crate::kept::Kept;
 use crate::place::place_of;
-use crate::work_lanes::LANE_LENGTH;
+use crate::work_lanes::{LANE_LENGTH, WorkLanes};
 use rtrb::Consumer;
 use std::alloc::AllocError;
+
+/// Takes in results of all workers, worker 0's first, at most 64 of each, and returns how many. Conditions: there are 1 to 8 workers. `AllocError`: room for the next event was refused; what was taken in until then is recorded, and nothing more was taken.
+pub fn collect_all(kept: &mut Kept, lanes: &mut [WorkLanes]) -> Result<u64, AllocError>
+    requires some { 0 < length lanes.old }
+    requires few { length lanes.old ≤ 8 }
+    requires carried { HaveCarried kept.old lanes.old }
+    ensures carried { HaveCarried kept.new lanes.new }
+    ensures lanes { AreSameLanes lanes.old lanes.new }
+    ensures posts { OnlyPosts (now kept.old) (now kept.new) }
+    ensures tally { IfOk result (λ count. Appends kept.old kept.new (finishes_counted count)) }
+    ensures idle { IfOk result (λ count. count ≡ 0 → kept.new.trace ≡ kept.old.trace) }
+    ensures err { OnErr result ((count : ℕ) × Appends kept.old kept.new (finishes_counted count)) }
+{
+    let mut count = 0;
+    for place in 0..lanes.len() {
+        count += collect_at(kept, lanes, place as u32)?;
+    }
+    Ok(count)
+}
+
+/// Takes in results of the worker at this place, at most 64, and returns how many. Conditions: there is such a worker, and there are at most 8.
+fn collect_at(kept: &mut Kept, lanes: &mut [WorkLanes], place: u32) -> Result<u64, AllocError>
+    requires place { place < length lanes.old }
+    requires few { length lanes.old ≤ 8 }
+    requires carried { HaveCarried kept.old lanes.old }
+    ensures carried { HaveCarried kept.new lanes.new }
+    ensures lanes { AreSameLanes lanes.old lanes.new }
+    ensures posts { OnlyPosts (now kept.old) (now kept.new) }
+    ensures tally { IfOk result (λ count. Appends kept.old kept.new (finishes_counted count)) }
+    ensures most { IfOk result (λ count. count ≤ 64) }
+    ensures idle { IfOk result (λ count. count ≡ 0 → kept.new.trace ≡ kept.old.trace) }
+    ensures err { OnErr result ((count : ℕ) × Appends kept.old kept.new (finishes_counted count)) }
+{
+    let workers = lanes.len() as u32;
+    collect(kept, &mut lanes[place as usize].results, place, workers)
+}
 
 /// Takes in the results of a worker that are seen, at most 64 of them, and returns how many. `AllocError`: room for the next event was refused; what was taken in until then is recorded, and nothing more was taken.
 pub fn collect(

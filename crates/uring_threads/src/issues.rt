@@ -1,12 +1,19 @@
 //! Requests that the dispatcher issues.
-ghost use Rattle.std.specs.Prelude.{◌≡◌, ◌<◌, length, Some, IfSome};
+ghost use Rattle.std.specs.Prelude.{◌≡◌, ◌≤◌, ◌+◌, ◌<◌, ℕ, ◌⊎◌, length, get_or, None, Some, IfSome, IfOk, OnErr};
 ghost use Rattle.uring_entry.specs.Requests.{next_of};
 ghost use Rattle.uring_files.specs.Operations.{IsForFiles};
+ghost use Rattle.uring_threads.specs.Dispatched.{HaveCarried, ShowRoom, SomeIsFull, AreSameLanes};
+ghost use Rattle.uring_threads.specs.Delivered.{OnlyPosts};
 ghost use Rattle.uring_threads.specs.Issued.{IssuedAs};
 ghost use Rattle.uring_threads.specs.Kept.{now};
 ghost use Rattle.uring_threads.specs.Tallies.{Appends, issues_counted};
 
+use crate::job::Job;
 use crate::kept::Kept;
+use crate::place::place_of;
+use crate::sends::{all_show_room, send};
+use crate::work_lanes::WorkLanes;
+use std::alloc::AllocError;
 use uring_entry::Op;
 use uring_machine::{Answer, Step};
 
@@ -28,4 +35,51 @@ pub fn issue_next(kept: &mut Kept, number: u64) -> Option<Op>
         Answer::Ended { .. } => None,
         _ => unreachable!(),
     }
+}
+
+/// Issues the request of this number, and if it runs, sends its job to its worker. Conditions: it is the next that can be issued, each worker's lane shows room, and the trace has room for an event.
+fn issue_one(kept: &mut Kept, lanes: &mut [WorkLanes], number: u64)
+    requires some { 0 < length lanes.old }
+    requires few { length lanes.old ≤ 8 }
+    requires room { length kept.old.trace < kept.old.room }
+    requires next { next_of (now kept.old).requests ≡ Some number }
+    requires lanes { ShowRoom lanes.old }
+    requires carried { HaveCarried kept.old lanes.old }
+    ensures carried { HaveCarried kept.new lanes.new }
+    ensures lanes { AreSameLanes lanes.old lanes.new }
+    ensures stays { OnlyPosts (now kept.old) (now kept.new) }
+    ensures tally { Appends kept.old kept.new (issues_counted 1) }
+{
+    if let Some(op) = issue_next(kept, number) {
+        let place = place_of(&op, lanes.len() as u32, kept.setup().files());
+        send(lanes, place, Job { number, op });
+    }
+}
+
+/// Issues requests, each the next that can be issued, until there is none or some worker's lane shows no room. Returns how many. Conditions: there are 1 to 8 workers.
+///
+/// `AllocError`: the trace had no room for the next; those before it are issued and recorded.
+pub fn issue_all(kept: &mut Kept, lanes: &mut [WorkLanes]) -> Result<u64, AllocError>
+    requires some { 0 < length lanes.old }
+    requires few { length lanes.old ≤ 8 }
+    requires carried { HaveCarried kept.old lanes.old }
+    ensures carried { HaveCarried kept.new lanes.new }
+    ensures lanes { AreSameLanes lanes.old lanes.new }
+    ensures stays { OnlyPosts (now kept.old) (now kept.new) }
+    ensures tally { IfOk result (λ count. Appends kept.old kept.new (issues_counted count)) }
+    ensures none_left { IfOk result (λ count. (next_of (now kept.new).requests ≡ None) ⊎ SomeIsFull lanes.new) }
+    ensures idle { IfOk result (λ count. count ≡ 0 → kept.new.trace ≡ kept.old.trace) }
+    ensures err { OnErr result ((count : ℕ) × Appends kept.old kept.new (issues_counted count)) }
+{
+    for count in 0..u64::MAX {
+        if !all_show_room(lanes) {
+            return Ok(count);
+        }
+        kept.reserve(1)?;
+        let Some(number) = kept.next() else {
+            return Ok(count);
+        };
+        issue_one(kept, lanes, number);
+    }
+    unreachable!()
 }

@@ -21,6 +21,7 @@ mod collect;
 mod gate;
 mod job;
 mod place;
+mod settle_work;
 mod work_lanes;
 mod worker;
 

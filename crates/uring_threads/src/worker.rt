@@ -4,7 +4,7 @@ ghost use Rattle.rtrb.specs.Ring.{sent, known_free, received, known_items};
 ghost use Rattle.uring_files.specs.Operations.{state_of, byte_of, IsForFiles};
 ghost use Rattle.uring_threads.specs.Rings.{producer_ring, consumer_ring, rings_of};
 ghost use Rattle.uring_threads.specs.Work.{jobs_of, results_of};
-ghost use Rattle.uring_threads.specs.Worker.{Looks, Turns, empty_files};
+ghost use Rattle.uring_threads.specs.Worker.{IsRight, Looks, Turns, empty_files};
 
 use crate::gate::Gate;
 use crate::job::{Job, JobResult};
@@ -134,6 +134,14 @@ impl<G: Gate> Worker<G> {
         ensures { result ≡ byte_of self.now.files fd at }
     {
         self.files.byte(fd, at)
+    }
+
+    /// A law, and no code: each operation that this worker carried out ended as its own files call for, which were empty at first, and its files are those that they left.
+    pub fn is_right(&self)
+        ensures { IsRight self.now }
+    {
+        // A body knows the invariant once it reads a field.
+        let _files = &self.files;
     }
 
     /// Which of the workers this is, from 0.

@@ -1,6 +1,5 @@
-use Rattle.std.proofs.Common.{rules, ◌≡◌, ℕ, ◌+◌, ◌<◌, refl, arith}
-use Rattle.rtrb.specs.Ring.{received, known_items}
-use Rattle.uring_threads.specs.Collected.{Collects}
+use Rattle.std.proofs.Common.{rules, refl, arith}
+use Rattle.rtrb.specs.Ring.{known_items}
 use Rattle.uring_threads.proofs.Collecting.{on_err, collects_then, collects_more, collects_no_more}
 use Rattle.uring_threads.proofs.collect.collect.Goals as goal
 

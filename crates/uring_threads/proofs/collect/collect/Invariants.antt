@@ -1,4 +1,4 @@
-use Rattle.std.specs.Prelude.{◌≡◌, ◌+◌}
+use Rattle.std.specs.Prelude.{◌≡◌}
 use Rattle.rtrb.specs.Ring.{received, SameConsumer}
 use Rattle.uring_threads.specs.Collected.{AreTakenIn, Collects}
 use Rattle.uring_threads.proofs.collect.collect.Given as goal

@@ -1,7 +1,7 @@
-use Rattle.std.proofs.Common.{rules, ◌≡◌, [], ◌∷◌, ◌++◌, refl, ap, ◌∙◌, sym, subst}
-use Rattle.rtrb.specs.Ring.{received, known_items}
-use Rattle.uring_threads.specs.Collected.{AreTakenIn, CanBeTaken, OthersStay, TakesNext}
-use Rattle.uring_threads.proofs.Collecting.{first_known, takes_in, result_taken, others_stay}
+use Rattle.std.proofs.Common.{refl, subst}
+use Rattle.rtrb.specs.Ring.{received}
+use Rattle.uring_threads.specs.Collected.{CanBeTaken}
+use Rattle.uring_threads.proofs.Collecting.{first_known, takes_in, result_taken}
 use Rattle.uring_threads.proofs.collect.collect_one.Goals as goal
 
 -- the result that was looked at can be taken in, and it is the one that was popped

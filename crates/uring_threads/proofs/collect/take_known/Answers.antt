@@ -1,5 +1,5 @@
-use Rattle.std.proofs.Common.{rules, ◌≡◌, [], ◌∷◌, ◌++◌, refl, sym, subst}
-use Rattle.rtrb.specs.Ring.{received, known_items}
+use Rattle.std.proofs.Common.{subst}
+use Rattle.rtrb.specs.Ring.{known_items}
 use Rattle.uring_threads.specs.Collected.{Wait}
 use Rattle.uring_threads.specs.Kept.{Grows}
 use Rattle.uring_threads.specs.Settled.{finish_of}

@@ -1,4 +1,4 @@
-use Rattle.std.proofs.Common.{rules, ◌≡◌, ◌+◌, ◌<◌, ◌≤◌, [], ◌++◌, length, refl, arith}
+use Rattle.std.proofs.Common.{rules, ◌≡◌, [], ◌++◌, arith}
 use Rattle.rtrb.specs.Ring.{received, known_items}
 use Rattle.uring_threads.specs.Collected.{TakesAll}
 use Rattle.uring_threads.proofs.Draining.{drains_none, drains_one, room_left, drained}
@@ -22,7 +22,7 @@ pub loop-taken-preserved : goal.loop-taken-preserved
 loop-taken-preserved c = (
   search rules,
   drains_one c.args.kept.now c.loop-taken.kept c.take_known.new.kept (known_items c.args.results.now) (known_items c.loop-taken.results) (known_items c.take_known.new.results) (received c.args.results.now) (received c.loop-taken.results) (received c.take_known.new.results) c.loop-taken._taken
-  c.loop-taken.invariant.1 c.take_known.ensures.next c.take_known.ensures.work,
+      c.loop-taken.invariant.1 c.take_known.ensures.next c.take_known.ensures.work,
 )
 
 all_taken : (c : goal.After-loop-taken) → TakesAll c.args.kept.now c.loop-taken.kept (known_items c.args.results.now) × (received c.loop-taken.results ≡ received c.args.results.now ++ known_items c.args.results.now) × (known_items c.loop-taken.results ≡ [])

@@ -1,0 +1,180 @@
+-- What the lanes of the workers have carried, as the trace goes on.
+use Rattle.std.proofs.Common.{◌≡◌, ◌≢◌, ℕ, ◌+◌, ◌<◌, ◌≤◌, ◌==◌, Bool, true, false, cond, List, [], ◌∷◌, ◌++◌, length, get_or, count_by, Option, Some, None, ℤ, if◌then◌else◌, refl, sym, subst, ap, ap₂, ◌∙◌, inl, inr, arith, append-nil}
+use Rattle.std.specs.List.{filter}
+use Rattle.std.proofs.lemmas.Bool.{eq-eqb, ne_eqb, cases_eq}
+use Rattle.std.proofs.lemmas.List.Elements.{filter-append}
+use Rattle.std.proofs.lemmas.List.Sums.{sum_by-append}
+use Rattle.uring_entry.specs.Setup.{Setup}
+use Rattle.uring_entry.specs.Preparation.{operation_of}
+use Rattle.uring_entry.specs.Requests.{entry_of, no_bytes}
+use Rattle.uring_entry.specs.declared.operation.Op.{Op}
+use Rattle.uring_machine.specs.Finishes.{done_in, done_by}
+use Rattle.uring_machine.specs.Histories.{Event, History, world, history_of}
+use Rattle.uring_machine.specs.StepAnswers.{IsEnded}
+use Rattle.uring_machine.specs.World.{World, issuing}
+use Rattle.uring_machine.specs.Direct.{with_told}
+use Rattle.uring_machine.specs.declared.step.Step.{Step}
+use Rattle.uring_machine.specs.declared.step.Step.TheVariants as step
+use Rattle.uring_machine.specs.declared.answer.Answer.{Answer}
+use Rattle.uring_machine.specs.declared.answer.Answer.TheVariants as answer
+use Rattle.uring_machine.proofs.Following.{history_of-cons, history_of-append}
+use Rattle.uring_threads.specs.declared.job.Job.{Job}
+use Rattle.uring_threads.specs.declared.work_lanes.WorkLanes.{WorkLanes}
+use Rattle.uring_threads.specs.Collected.{history, AreTakenIn, Collects, CollectsSeen}
+use Rattle.uring_threads.specs.declared.job.JobResult.{JobResult}
+use Rattle.std.specs.Prelude.{Result, Ok, Err, IfOk, OnErr}
+use Rattle.std.proofs.Math.ListN.{set}
+use Rattle.std.proofs.lemmas.List.{length-set, get_or-set_same, get_or-set_other}
+use Rattle.uring_threads.specs.Dispatched.{HasCarried, HaveCarried, IsSent}
+use Rattle.uring_threads.specs.Issued.{IssuedAs}
+use Rattle.uring_threads.specs.Delivered.{OnlyPosts}
+use Rattle.uring_threads.proofs.Posting.{end_posts}
+use Rattle.uring_threads.proofs.TraceSteps.{grown}
+use Rattle.uring_entry.specs.Layout.{Sqe}
+use Rattle.uring_entry.specs.Completions.{Completions, with_end, with_posted, completion_for}
+use Rattle.uring_entry.specs.Success.{posts_completion}
+use Rattle.uring_threads.specs.Kept.{Kept, now, Grows}
+use Rattle.uring_threads.specs.Tallies.{Tally, tally_of, Appends, finishes_counted, issues_request, takes_result}
+use Rattle.uring_threads.specs.Work.{place_of, job_by, jobs_in, jobs_at, jobs_to, done_by_worker, results_of}
+use Rattle.rtrb.specs.Ring.{sent, received}
+use Rattle.uring_threads.proofs.Collecting.{grown_history}
+
+-- A job that was sent is the last of its worker's, and of no other.
+
+jobs-own : (place : Op → ℕ) (k : ℕ) (jobs : List Job) (j : Job) → place j.op ≡ k → jobs_at place k (jobs ++ j ∷ []) ≡ jobs_at place k jobs ++ j ∷ []
+jobs-own place k jobs j own = filter-append (λ i. place i.op == k) jobs (j ∷ []) ∙ ap (λ (b : Bool). jobs_at place k jobs ++ cond b (j ∷ []) []) (eq-eqb (place j.op) k own)
+
+jobs-other : (place : Op → ℕ) (k : ℕ) (jobs : List Job) (j : Job) → place j.op ≢ k → jobs_at place k (jobs ++ j ∷ []) ≡ jobs_at place k jobs
+jobs-other place k jobs j other = filter-append (λ i. place i.op == k) jobs (j ∷ []) ∙ ap (λ (b : Bool). jobs_at place k jobs ++ cond b (j ∷ []) []) (ne_eqb (place j.op) k other) ∙ append-nil (jobs_at place k jobs)
+
+-- Nothing is sent or taken in by an event that starts no request and takes in no result.
+
+quiet_event : (w : World) (e : Event) → count_by issues_request (e ∷ []) ≡ 0 → count_by takes_result (e ∷ []) ≡ 0 → (job_by w e ≡ None) × (done_by w e ≡ None)
+quiet_event w (step.Issue n, answer.Run) none idle = absurd (omega (arith, none))
+quiet_event w (step.Finish n, a) none idle = absurd (omega (arith, idle))
+quiet_event w (s, a) none idle = (refl, refl)
+
+-- nor by several
+quiet_events : (g : Setup) (events : List Event) (h : History) → count_by issues_request events ≡ 0 → count_by takes_result events ≡ 0
+    → (jobs_in g (history_of events ++ h) ≡ jobs_in g h) × (done_in g (history_of events ++ h) ≡ done_in g h)
+quiet_events g [] h none idle = (refl, refl)
+quiet_events g (e ∷ later) h none idle =
+    let issues = sum_by-append (λ x. cond (issues_request x) 1 0) (e ∷ []) later in
+    let results = sum_by-append (λ x. cond (takes_result x) 1 0) (e ∷ []) later in
+    let here = quiet_event (world g h) e (omega (arith, none, issues)) (omega (arith, idle, results)) in
+    let next = quiet_events g later (e ∷ h) (omega (arith, none, issues)) (omega (arith, idle, results)) in (
+      ap (jobs_in g) (history_of-cons e later h) ∙ next.0 ∙ ap (with_told (jobs_in g h)) here.0,
+      ap (done_in g) (history_of-cons e later h) ∙ next.1 ∙ ap (with_told (done_in g h)) here.1,
+    )
+
+-- the jobs sent and the operations done stay
+pub record WorkStays (old new : Kept) : Type 0 where
+  pub jobs : (workers k : ℕ) → jobs_to new.setup workers k (history new) ≡ jobs_to old.setup workers k (history old)
+  pub done : (workers k : ℕ) → done_by_worker new.setup workers k (history new) ≡ done_by_worker old.setup workers k (history old)
+
+pub quiet_stays : (a b : Kept) (t : Tally) → Appends a b t → t.issues ≡ 0 → t.finishes ≡ 0 → WorkStays a b
+quiet_stays a b t p none idle =
+    let g : Setup = a.setup in
+    let told_so : history b ≡ history_of p.events ++ history a = ap history_of p.trace ∙ sym (append-nil (history_of (a.trace ++ p.events))) ∙ history_of-append a.trace p.events [] ∙ ap (λ h. history_of p.events ++ h) (append-nil (history a)) in
+    let quiet = quiet_events g p.events (history a) (ap (λ (u : Tally). u.issues) p.tally ∙ none) (ap (λ (u : Tally). u.finishes) p.tally ∙ idle) in
+    record {
+      jobs = λ workers k. ap₂ (λ (s : Setup) h. jobs_to s workers k h) p.setup told_so ∙ ap (jobs_at (place_of workers g.files) k) quiet.0;
+      done = λ workers k. ap₂ (λ (s : Setup) h. done_by_worker s workers k h) p.setup told_so ∙ ap (filter (λ d. place_of workers g.files d.op == k)) quiet.1;
+    }
+
+pub carried_stays : (a b : Kept) (lanes : List WorkLanes) → WorkStays a b → HaveCarried a lanes → HaveCarried b lanes
+carried_stays a b lanes stays carried = λ k d low.
+    let c = carried k d low in
+    record { jobs = c.jobs ∙ sym (stays.jobs (length lanes) k); results = c.results ∙ ap results_of (sym (stays.done (length lanes) k)) }
+
+-- A request was issued.
+
+only_posts : (a : Kept) (n : ℕ) (res : ℤ) (bytes : List ℕ) → OnlyPosts (now a) (issuing a.setup (now a) n (answer.Ended res bytes))
+only_posts a n res bytes =
+    let p = end_posts a.setup.cq (now a).completions (entry_of (now a).requests n) res no_bytes in
+    record { submission = refl; is_closed = refl; reaped = p.0; head = p.1 }
+
+ended_stays : (a b : Kept) (n : ℕ) → IssuedAs a b n None → WorkStays a b
+ended_stays a b n issued = by_answer issued.0 issued.1 issued.2 where
+  by_answer : (x : Answer) → Grows a b (step.Issue n, x) → IsEnded x → WorkStays a b
+  by_answer (answer.Ended res bytes) g ended =
+      record {
+        jobs = λ workers k. ap₂ (λ (s : Setup) h. jobs_to s workers k h) g.setup (grown_history a b (step.Issue n, answer.Ended res bytes) g);
+        done = λ workers k. ap₂ (λ (s : Setup) h. done_by_worker s workers k h) g.setup (grown_history a b (step.Issue n, answer.Ended res bytes) g);
+      }
+  by_answer _ g ended = absurd ended
+
+pub ended_only : (a b : Kept) (n : ℕ) → IssuedAs a b n None → OnlyPosts (now a) (now b)
+ended_only a b n issued = by_answer issued.0 issued.1 issued.2 where
+  by_answer : (x : Answer) → Grows a b (step.Issue n, x) → IsEnded x → OnlyPosts (now a) (now b)
+  by_answer (answer.Ended res bytes) g ended = subst (OnlyPosts (now a)) (sym (grown a b (step.Issue n) (answer.Ended res bytes) g)) (only_posts a n res bytes)
+  by_answer _ g ended = absurd ended
+
+-- it ended at once: nothing was sent
+pub carried_ended : (a b : Kept) (n : ℕ) (lanes : List WorkLanes) → IssuedAs a b n None → HaveCarried a lanes → HaveCarried b lanes
+carried_ended a b n lanes issued carried = carried_stays a b lanes (ended_stays a b n issued) carried
+
+-- it runs: its job was sent to its worker
+pub carried_run : (a b : Kept) (n place : ℕ) (op : Op) (old new : List WorkLanes) → IssuedAs a b n (Some op) → HaveCarried a old → place ≡ place_of (length old) a.setup.files op → place < length old → length new ≡ length old
+    → ((d : WorkLanes) → IsSent (record { number = n; op = op }) (get_or old place d) (get_or new place d))
+    → ((k : ℕ) (d : WorkLanes) → k < length old → k ≢ place → get_or new k d ≡ get_or old k d) → HaveCarried b new
+carried_run a b n place op old new issued carried at low many was_sent others = λ k d within.
+    let j : Job = record { number = n; op = op } in
+    let g : Setup = a.setup in
+    let within' : k < length old = omega (arith, within, many) in
+    let before = carried k d within' in
+    let told_so : history b ≡ (step.Issue n, answer.Run) ∷ history a = grown_history a b (step.Issue n, answer.Run) issued.0 in
+    let told : jobs_in g ((step.Issue n, answer.Run) ∷ history a) ≡ jobs_in g (history a) ++ j ∷ [] = ap (λ o. jobs_in g (history a) ++ record { number = n; op = o } ∷ []) (sym issued.1) in
+    let jobs : jobs_to b.setup (length new) k (history b) ≡ jobs_at (place_of (length old) g.files) k (jobs_in g (history a) ++ j ∷ []) =
+    ap₂ (λ (s : Setup) m. jobs_to s m k (history b)) (issued.0).setup many ∙ ap (jobs_to g (length old) k) told_so ∙ ap (jobs_at (place_of (length old) g.files) k) told in
+    let done : done_by_worker b.setup (length new) k (history b) ≡ done_by_worker g (length old) k (history a) = ap₂ (λ (s : Setup) m. done_by_worker s m k (history b)) (issued.0).setup many ∙ ap (done_by_worker g (length old) k) told_so in
+    elim (cases_eq k place) [
+      | inl here ↦
+          let s : IsSent j (get_or old k d) (get_or new k d) = subst (λ i. IsSent j (get_or old i d) (get_or new i d)) (sym here) (was_sent d) in
+          record {
+            jobs = s.jobs ∙ ap (λ js. js ++ j ∷ []) before.jobs ∙ sym (jobs-own (place_of (length old) g.files) k (jobs_in g (history a)) j (sym at ∙ sym here)) ∙ sym jobs;
+            results = ap (λ r. received r) s.results ∙ before.results ∙ ap results_of (sym done);
+          }
+      | inr other ↦
+          let same : get_or new k d ≡ get_or old k d = others k d within' other in
+          record {
+            jobs = ap (λ (l : WorkLanes). sent l.jobs) same ∙ before.jobs ∙ sym (jobs-other (place_of (length old) g.files) k (jobs_in g (history a)) j (λ e. other (sym e ∙ sym at))) ∙ sym jobs;
+            results = ap (λ (l : WorkLanes). received l.results) same ∙ before.results ∙ ap results_of (sym done);
+          }
+    ]
+
+-- Results of a worker were taken in.
+pub carried_collected : (a b : Kept) (n place : ℕ) (old new : List WorkLanes) → HaveCarried a old → Collects a b (length old) place n → length new ≡ length old
+    → ((d : WorkLanes) → (sent (get_or new place d).jobs ≡ sent (get_or old place d).jobs) × AreTakenIn b (length old) place (received (get_or new place d).results))
+    → ((k : ℕ) (d : WorkLanes) → k < length old → k ≢ place → get_or new k d ≡ get_or old k d) → HaveCarried b new
+carried_collected a b n place old new carried p many here others = λ k d within.
+    let within' : k < length old = omega (arith, within, many) in
+    let before = carried k d within' in
+    let jobs : jobs_to b.setup (length new) k (history b) ≡ jobs_to a.setup (length old) k (history a) = ap (λ m. jobs_to b.setup m k (history b)) many ∙ p.others.jobs k in
+    elim (cases_eq k place) [
+      | inl same ↦
+          let h = subst (λ i. (sent (get_or new i d).jobs ≡ sent (get_or old i d).jobs) × AreTakenIn b (length old) i (received (get_or new i d).results)) (sym same) (here d) in
+          record { jobs = h.0 ∙ before.jobs ∙ sym jobs; results = subst (λ m. AreTakenIn b m k (received (get_or new k d).results)) (sym many) h.1 }
+      | inr other ↦
+          let stays : get_or new k d ≡ get_or old k d = others k d within' other in
+          let done : done_by_worker b.setup (length new) k (history b) ≡ done_by_worker a.setup (length old) k (history a) = ap (λ m. done_by_worker b.setup m k (history b)) many ∙ p.others.results k other in
+          record {
+            jobs = ap (λ (l : WorkLanes). sent l.jobs) stays ∙ before.jobs ∙ sym jobs;
+            results = ap (λ (l : WorkLanes). received l.results) stays ∙ before.results ∙ ap results_of (sym done);
+          }
+    ]
+
+-- so some were, also where memory was refused
+pub some_collected : {E : Type 0} (r : Result ℕ E) (a b : Kept) (workers place : ℕ) (seen : List JobResult) → IfOk r (λ n. CollectsSeen a b workers place n seen) → OnErr r ((n : ℕ) × Collects a b workers place n) → (n : ℕ) × Collects a b workers place n
+some_collected (Ok n) a b workers place seen ok err = (n, ok.collected)
+some_collected (Err e) a b workers place seen ok err = err
+
+-- with these lanes in their place
+pub carried_set : (a b : Kept) (n place : ℕ) (old : List WorkLanes) (y d : WorkLanes) → HaveCarried a old → place < length old → Collects a b (length old) place n → y.jobs ≡ (get_or old place d).jobs → AreTakenIn b (length old) place (received y.results)
+    → HaveCarried b (set old place y)
+carried_set a b n place old y d carried low p jobs taken =
+    carried_collected a b n place old (set old place y) carried p (length-set old place y)
+    (λ e.
+    subst (λ (l : WorkLanes). (sent l.jobs ≡ sent (get_or old place e).jobs) × AreTakenIn b (length old) place (received l.results)) (sym (get_or-set_same old place y e low))
+    (ap (λ q. sent q) jobs ∙ (carried place d low).jobs ∙ sym (carried place e low).jobs, taken))
+    (λ k e within other. get_or-set_other old place k y e other)

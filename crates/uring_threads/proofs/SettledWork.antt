@@ -1,0 +1,49 @@
+-- A worker whose results were all taken in is settled, and nothing of the others' work has changed.
+use Rattle.std.proofs.Common.{◌≡◌, ℕ, List, [], ◌++◌, map, sym, subst, ap, ap₂, ◌∙◌, append-nil}
+use Rattle.uring_machine.specs.Finishes.{Done}
+use Rattle.uring_machine.specs.Histories.{Event, history_of, IsLawfulApart}
+use Rattle.uring_threads.specs.declared.job.Job.{Job}
+use Rattle.uring_threads.specs.declared.job.JobResult.{JobResult}
+use Rattle.rtrb.specs.Ring.{sent, received}
+use Rattle.uring_threads.specs.declared.work_lanes.WorkLanes.{WorkLanes}
+use Rattle.uring_threads.specs.Collected.{history, TakesAll}
+use Rattle.uring_threads.specs.Dispatched.{HasCarried}
+use Rattle.uring_threads.specs.SettledWorker.{IsSettledAt}
+use Rattle.uring_threads.specs.Kept.{Kept}
+use Rattle.uring_threads.specs.Settled.{IsWork, finish_of, with_taken_in}
+use Rattle.uring_threads.specs.Work.{jobs_to, done_by_worker, jobs_of, results_of}
+use Rattle.uring_machine.proofs.Following.{history_of-append}
+use Rattle.uring_threads.proofs.Settling.{IsDrained, drain}
+
+-- the history of a trace that goes on
+longer_history : (a b : Kept) (events : List Event) → b.trace ≡ a.trace ++ events → history b ≡ history_of events ++ history a
+longer_history a b events same =
+    ap history_of same ∙ sym (append-nil (history_of (a.trace ++ events))) ∙ history_of-append a.trace events [] ∙ ap (λ h. history_of events ++ h) (append-nil (history_of a.trace))
+
+module _ (a b : Kept) (workers k : ℕ) (done : List Done) (untaken : List Job) (waiting : List JobResult) (lanes : WorkLanes)
+    (lawful : IsLawfulApart a.setup (history a)) (carried : HasCarried a workers k lanes)
+    (jobs : jobs_of done ++ untaken ≡ sent lanes.jobs) (results : received lanes.results ++ waiting ≡ results_of done) (all : TakesAll a b waiting) where
+  work : IsWork a.setup workers (history a) k (record { done = done; untaken = untaken; waiting = waiting })
+  work = record { jobs = jobs ∙ carried.jobs; results = ap (λ rs. rs ++ waiting) (sym carried.results) ∙ results }
+
+  drained : IsDrained a.setup workers (history a) (with_taken_in waiting (history a)) k (record { done = done; untaken = untaken; waiting = waiting })
+  drained = drain a.setup workers (history a) k done untaken waiting lawful work
+
+  later : history b ≡ with_taken_in waiting (history a)
+  later = longer_history a b (map finish_of waiting) all.trace
+
+  jobs_stay : (j : ℕ) → jobs_to b.setup workers j (history b) ≡ jobs_to a.setup workers j (history a)
+  jobs_stay j = ap₂ (λ g h. jobs_to g workers j h) all.setup later ∙ drained.sent j
+
+  settled : IsWork b.setup workers (history b) k (record { done = done; untaken = untaken; waiting = [] })
+  settled =
+      subst (λ h. IsWork b.setup workers h k (record { done = done; untaken = untaken; waiting = [] })) (sym later)
+      (subst (λ g. IsWork g workers (with_taken_in waiting (history a)) k (record { done = done; untaken = untaken; waiting = [] })) (sym all.setup) drained.own)
+
+  pub settled_at : (now : WorkLanes) → sent now.jobs ≡ sent lanes.jobs → received now.results ≡ received lanes.results ++ waiting → IsSettledAt a b workers k now done untaken
+  settled_at now same came =
+      record {
+        work = settled;
+        carried = record { jobs = same ∙ carried.jobs ∙ sym (jobs_stay k); results = came ∙ results ∙ sym settled.results ∙ append-nil (results_of (done_by_worker b.setup workers k (history b))) };
+        others = record { jobs = jobs_stay; results = λ j other. ap₂ (λ g h. done_by_worker g workers j h) all.setup later ∙ drained.others j other };
+      }

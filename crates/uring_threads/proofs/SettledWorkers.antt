@@ -1,0 +1,181 @@
+-- Settling all workers, one after the other: the results of the first are taken in, and the others' wait.
+use Rattle.std.proofs.Common.{◌≡◌, ◌≢◌, ℕ, zero, suc, ◌+◌, ◌*◌, ◌<◌, ◌≤◌, List, [], ◌∷◌, ◌++◌, length, map, take, drop, get_or, refl, sym, subst, ap, ap₂, ◌∙◌, arith, inl, inr, append_assoc, append-nil}
+use Rattle.std.specs.Prelude.{slice_set}
+use Rattle.std.proofs.lemmas.Bool.{cases_eq}
+use Rattle.std.proofs.lemmas.List.{map-append, length-set, get_or-set_same, get_or-set_other, take_more, length-take-le}
+use Rattle.rtrb.specs.Ring.{received, consumer_capacity}
+use Rattle.uring_machine.specs.Finishes.{AreDone}
+use Rattle.uring_machine.specs.Histories.{IsLawfulApart}
+use Rattle.uring_threads.specs.declared.job.JobResult.{JobResult}
+use Rattle.uring_threads.specs.declared.work_lanes.WorkLanes.{WorkLanes}
+use Rattle.uring_threads.specs.Collected.{history, OthersStay, TakesAll}
+use Rattle.uring_threads.specs.Dispatched.{HasCarried, HaveCarried}
+use Rattle.uring_threads.specs.Kept.{Kept}
+use Rattle.uring_threads.specs.Settled.{Work, IsWork, IsSettled, finish_of}
+use Rattle.uring_threads.specs.SettledWorker.{AreLanesOf, IsSettledAt, waiting_at, all_waiting, settled_work, works_of}
+use Rattle.uring_threads.specs.Work.{results_of}
+use Rattle.uring_threads.specs.Worker.{Worker, IsRight, Looks, empty_files}
+use Rattle.uring_threads.proofs.Settling.{none_waits}
+
+-- Results taken in one after the other.
+
+takes_none : (a : Kept) → TakesAll a a []
+takes_none a = record { trace = sym (append-nil a.trace); setup = refl; room = omega arith }
+
+takes_then : (a b c : Kept) (first second : List JobResult) → TakesAll a b first → TakesAll b c second → TakesAll a c (first ++ second)
+takes_then a b c first second p q =
+    record {
+      trace = q.trace ∙ ap (λ es. es ++ map finish_of second) p.trace ∙ append_assoc a.trace (map finish_of first) (map finish_of second) ∙ ap (λ es. a.trace ++ es) (sym (map-append finish_of first second));
+      setup = q.setup ∙ p.setup;
+      room = omega (arith, p.room, q.room);
+    }
+
+-- what wasn't received waits
+waits_behind : (before waiting all : List JobResult) → all ≡ before ++ waiting → drop (length before) all ≡ waiting
+waits_behind before waiting all same = ap (drop (length before)) same ∙ behind before waiting where
+  behind : (xs ys : List JobResult) → drop (length xs) (xs ++ ys) ≡ ys
+  behind [] ys = refl
+  behind (x ∷ xs) ys = behind xs ys
+
+waiting-append : (ls ms : List WorkLanes) (ws vs : List Worker) → length ls ≡ length ws → all_waiting (ls ++ ms) (ws ++ vs) ≡ all_waiting ls ws ++ all_waiting ms vs
+waiting-append [] ms [] vs same = refl
+waiting-append [] ms (w ∷ ws) vs same = absurd (omega (arith, same))
+waiting-append (l ∷ ls) ms [] vs same = absurd (omega (arith, same))
+waiting-append (l ∷ ls) ms (w ∷ ws) vs same = ap (λ rs. waiting_at l w ++ rs) (waiting-append ls ms ws vs (omega (arith, same))) ∙ sym (append_assoc (waiting_at l w) (all_waiting ls ws) (all_waiting ms vs))
+
+-- one worker more
+waiting_more : (ls : List WorkLanes) (ws : List Worker) (d : WorkLanes) (e : Worker) (k : ℕ) → length ws ≡ length ls → k < length ls
+    → all_waiting (take (k + 1) ls) (take (k + 1) ws) ≡ all_waiting (take k ls) (take k ws) ++ waiting_at (get_or ls k d) (get_or ws k e)
+waiting_more ls ws d e k many lt =
+    rw (take_more ls k d lt, take_more ws k e (omega (arith, many, lt)))
+    (waiting-append (take k ls) (get_or ls k d ∷ []) (take k ws) (get_or ws k e ∷ []) (length-take-le k ls (omega arith) ∙ sym (length-take-le k ws (omega (arith, many, lt))))
+    ∙ ap (λ rs. all_waiting (take k ls) (take k ws) ++ rs) (append-nil (waiting_at (get_or ls k d) (get_or ws k e))))
+
+-- nothing was done
+same_looks : (w : Worker) → Looks w w
+same_looks w = record { same = refl; seen = ([], append-nil w.seen); room = omega arith }
+
+-- Others' work stays.
+
+work_stays : (b c : Kept) (workers k j : ℕ) (work : Work) → OthersStay b c workers k → j ≢ k → IsWork b.setup workers (history b) j work → IsWork c.setup workers (history c) j work
+work_stays b c workers k j work others unlike is = record { jobs = is.jobs ∙ sym (others.jobs j); results = ap (λ ds. results_of ds ++ work.waiting) (others.results j unlike) ∙ is.results }
+
+carried_stays : (b c : Kept) (workers k j : ℕ) (lanes : WorkLanes) → OthersStay b c workers k → j ≢ k → HasCarried b workers j lanes → HasCarried c workers j lanes
+carried_stays b c workers k j lanes others unlike has = record { jobs = has.jobs ∙ sym (others.jobs j); results = has.results ∙ ap results_of (sym (others.results j unlike)) }
+
+-- The loop: the first workers are settled.
+
+pub record SoFar (a b : Kept) (ls ms : List WorkLanes) (ws vs : List Worker) (count : ℕ) : Type 0 where
+  pub many : length ms ≡ length ls
+  pub many_workers : length vs ≡ length ws
+  pub lanes_stay : (k : ℕ) (d : WorkLanes) → count ≤ k → get_or ms k d ≡ get_or ls k d
+  pub workers_stay : (k : ℕ) (e : Worker) → count ≤ k → get_or vs k e ≡ get_or ws k e
+  pub looked : (k : ℕ) (e : Worker) → Looks (get_or ws k e) (get_or vs k e)
+  pub carried : (k : ℕ) (d : WorkLanes) → k < length ls → HasCarried b (length ls) k (get_or ms k d)
+  pub settled : (k : ℕ) (e : Worker) → k < count → IsWork b.setup (length ls) (history b) k (settled_work (get_or vs k e))
+  pub right : (k : ℕ) (e : Worker) → k < count → IsRight (get_or vs k e)
+  pub recorded : TakesAll a b (all_waiting (take count ls) (take count ws))
+  pub few : length b.trace ≤ length a.trace + 64 * count
+
+pub none_so_far : (a : Kept) (ls : List WorkLanes) (ws : List Worker) → HaveCarried a ls → SoFar a a ls ls ws ws 0
+none_so_far a ls ws carried =
+    record {
+      many = refl;
+      many_workers = refl;
+      lanes_stay = λ k d from. refl;
+      workers_stay = λ k e from. refl;
+      looked = λ k e. same_looks (get_or ws k e);
+      carried = carried;
+      settled = λ k e lt. absurd (omega arith);
+      right = λ k e lt. absurd (omega arith);
+      recorded = takes_none a;
+      few = omega arith;
+    }
+
+-- what settling one worker ensures
+pub record SettlesOne (b c : Kept) (m now : WorkLanes) (v after : Worker) : Type 0 where
+  pub trace : (waiting : List JobResult) × (results_of v.done ≡ received m.results ++ waiting) × TakesAll b c waiting
+  pub few : length c.trace ≤ length b.trace + consumer_capacity m.results
+  pub settled : (workers k : ℕ) → HasCarried b workers k m → IsSettledAt b c workers k now v.done after.seen
+  pub looks : Looks v after
+  pub right : IsRight after
+
+module _ (a b c : Kept) (ls ms : List WorkLanes) (ws vs : List Worker) (count files : ℕ) (d : WorkLanes) (e : Worker) (now : WorkLanes) (after : Worker)
+    (s : SoFar a b ls ms ws vs count) (lt : count < length ls) (of : AreLanesOf files ls ws) (one : SettlesOne b c (get_or ms count d) now (get_or vs count e) after) where
+  at_count : IsSettledAt b c (length ls) count now (get_or vs count e).done after.seen
+  at_count = one.settled (length ls) count (s.carried count d lt)
+
+  lanes_at : (k : ℕ) (f : WorkLanes) → k ≢ count → get_or (slice_set ms count now) k f ≡ get_or ms k f
+  lanes_at k f other = get_or-set_other ms count k now f other
+
+  lanes_here : (f : WorkLanes) → get_or (slice_set ms count now) count f ≡ now
+  lanes_here f = get_or-set_same ms count now f (omega (arith, s.many, lt))
+
+  workers_at : (k : ℕ) (f : Worker) → k ≢ count → get_or (slice_set vs count after) k f ≡ get_or vs k f
+  workers_at k f other = get_or-set_other vs count k after f other
+
+  workers_here : (f : Worker) → get_or (slice_set vs count after) count f ≡ after
+  workers_here f = get_or-set_same vs count after f (omega (arith, s.many_workers, of.many, lt))
+
+  looks_here : (f : Worker) → Looks (get_or ws count f) after
+  looks_here f =
+      let v : get_or vs count e ≡ get_or ws count f = s.workers_stay count e (omega arith) ∙ any_default ws count e f (omega (arith, of.many, lt)) in
+      subst (λ w. Looks w after) v one.looks where
+        any_default : (xs : List Worker) (k : ℕ) (x y : Worker) → k < length xs → get_or xs k x ≡ get_or xs k y
+        any_default [] k x y within = absurd (omega (arith, within))
+        any_default (z ∷ xs) zero x y within = refl
+        any_default (z ∷ xs) (suc k) x y within = any_default xs k x y (omega (arith, within))
+
+  work_here : IsWork c.setup (length ls) (history c) count (settled_work after)
+  work_here = subst (λ ds. IsWork c.setup (length ls) (history c) count (record { done = ds; untaken = after.seen; waiting = [] })) (sym (ap (λ w. w.done) one.looks.same)) at_count.work
+
+  took : TakesAll a c (all_waiting (take (count + 1) ls) (take (count + 1) ws))
+  took =
+      let waits : waiting_at (get_or ls count d) (get_or ws count e) ≡ one.trace.0 =
+      ap₂ waiting_at (sym (s.lanes_stay count d (omega arith))) (sym (s.workers_stay count e (omega arith))) ∙ waits_behind (received (get_or ms count d).results) one.trace.0 (results_of (get_or vs count e).done) one.trace.1 in
+      subst (TakesAll a c) (ap (λ rs. all_waiting (take count ls) (take count ws) ++ rs) (sym waits) ∙ sym (waiting_more ls ws d e count of.many lt))
+      (takes_then a b c (all_waiting (take count ls) (take count ws)) one.trace.0 s.recorded one.trace.2)
+
+  short : consumer_capacity (get_or ms count d).results ≤ 64
+  short = subst (λ l. consumer_capacity l.results ≤ 64) (sym (s.lanes_stay count d (omega arith))) (of.short count d lt)
+
+  pub one_more : SoFar a c ls (slice_set ms count now) ws (slice_set vs count after) (count + 1)
+  one_more =
+      record {
+        many = length-set ms count now ∙ s.many;
+        many_workers = length-set vs count after ∙ s.many_workers;
+        lanes_stay = λ k f from. lanes_at k f (λ same. omega (arith, same, from)) ∙ s.lanes_stay k f (omega (arith, from));
+        workers_stay = λ k f from. workers_at k f (λ same. omega (arith, same, from)) ∙ s.workers_stay k f (omega (arith, from));
+        looked = λ k f. elim (cases_eq k count) [
+          | inl same ↦ subst (λ j. Looks (get_or ws j f) (get_or (slice_set vs count after) j f)) (sym same) (subst (Looks (get_or ws count f)) (sym (workers_here f)) (looks_here f))
+          | inr other ↦ subst (Looks (get_or ws k f)) (sym (workers_at k f other)) (s.looked k f)
+        ];
+        carried = λ k f within. elim (cases_eq k count) [
+          | inl same ↦ subst (λ j. HasCarried c (length ls) j (get_or (slice_set ms count now) j f)) (sym same) (subst (HasCarried c (length ls) count) (sym (lanes_here f)) at_count.carried)
+          | inr other ↦ subst (HasCarried c (length ls) k) (sym (lanes_at k f other)) (carried_stays b c (length ls) count k (get_or ms k f) at_count.others other (s.carried k f within))
+        ];
+        settled = λ k f below. elim (cases_eq k count) [
+          | inl same ↦ subst (λ j. IsWork c.setup (length ls) (history c) j (settled_work (get_or (slice_set vs count after) j f))) (sym same) (subst (λ w. IsWork c.setup (length ls) (history c) count (settled_work w)) (sym (workers_here f)) work_here)
+          | inr other ↦ subst (λ w. IsWork c.setup (length ls) (history c) k (settled_work w)) (sym (workers_at k f other)) (work_stays b c (length ls) count k (settled_work (get_or vs k f)) at_count.others other (s.settled k f (omega (arith, other, below))))
+        ];
+        right = λ k f below. elim (cases_eq k count) [
+          | inl same ↦ subst (λ j. IsRight (get_or (slice_set vs count after) j f)) (sym same) (subst IsRight (sym (workers_here f)) one.right)
+          | inr other ↦ subst IsRight (sym (workers_at k f other)) (s.right k f (omega (arith, other, below)))
+        ];
+        recorded = took;
+        few = omega (arith, s.few, one.few, short);
+      }
+
+-- All are settled.
+
+pub all_settled : (a b : Kept) (ls ms : List WorkLanes) (ws vs : List Worker) (e : Worker) → SoFar a b ls ms ws vs (length ls) → 0 < length ls → AreLanesOf a.setup.files ls ws → IsLawfulApart b.setup (history b) → IsSettled b.setup (length vs) (history b) (works_of vs e)
+all_settled a b ls ms ws vs e s some of lawful =
+    subst (λ n. IsSettled b.setup n (history b) (works_of vs e)) (sym (s.many_workers ∙ of.many))
+    (none_waits b.setup (length ls) (history b) (works_of vs e) some lawful
+    (λ k lt. s.settled k e lt)
+    (λ k lt.
+    let right = s.right k e lt in
+    let same : length (get_or vs k e).files ≡ length (get_or ws k e).files = ap (λ w. length w.files) (s.looked k e).same in
+    let many : length (get_or vs k e).files ≡ b.setup.files = same ∙ of.have k e lt ∙ ap (λ g. g.files) (sym s.recorded.setup) in
+    subst (λ n. AreDone (empty_files n) (get_or vs k e).done) many right.done)
+    (λ k lt. refl))

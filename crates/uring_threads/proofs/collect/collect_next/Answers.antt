@@ -1,0 +1,7 @@
+use Rattle.rtrb.specs.Ring.{received, known_items}
+use Rattle.uring_threads.proofs.Collecting.{collects_one}
+use Rattle.uring_threads.proofs.collect.collect_next.Goals as goal
+
+pub returns-clause-ok : goal.returns-clause-ok
+returns-clause-ok c =
+    collects_one c.args.kept.now c.reserve.new.self c.collect_one.new.kept c.args.workers c.args.place _ _ (known_items c.collect_one.new.results) c.collect_one.result c.reserve.ensures.unmoved c.collect_one.ensures.others c.collect_one.ensures.next

@@ -1,0 +1,17 @@
+use Rattle.std.proofs.Common.{◌≡◌, ◌++◌, sym, ap, ◌∙◌}
+use Rattle.rtrb.specs.Ring.{known_items}
+use Rattle.uring_threads.specs.Work.{jobs_of, results_of}
+use Rattle.uring_threads.proofs.SettledWork.{settled_at}
+use Rattle.uring_threads.proofs.settle_work.settle_worker.Goals as goal
+
+pub returns-clause-settled : goal.returns-clause-settled
+returns-clause-settled g c = λ workers k carried.
+    let seen = c.see_all.ensures in
+    let same : c.see_all.new.self.done ≡ c.args.worker.now.done = ap (λ w. w.done) seen.worker.same in
+    settled_at c.args.kept.now c.take_waiting.new.kept workers k c.args.worker.now.done c.see_all.new.self.seen (known_items c.see_all.new.lanes.results) c.args.lanes.now c.is_lawful.ensures.lawful carried
+    (ap (λ ds. jobs_of ds ++ c.see_all.new.self.seen) (sym same) ∙ seen.jobs ∙ seen.dispatcher.0)
+    (ap (λ rs. rs ++ known_items c.see_all.new.lanes.results) (sym seen.dispatcher.1) ∙ seen.results ∙ ap results_of same)
+    c.take_waiting.ensures.trace
+    (record c.see_all.new.lanes { results = c.take_waiting.new.results })
+    seen.dispatcher.0
+    (c.take_waiting.ensures.results.0 ∙ ap (λ rs. rs ++ known_items c.see_all.new.lanes.results) seen.dispatcher.1)

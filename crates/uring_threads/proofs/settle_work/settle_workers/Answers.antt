@@ -1,0 +1,21 @@
+use Rattle.std.proofs.Common.{rules, ◌≡◌, length, get_or, subst, arith}
+use Rattle.uring_threads.proofs.SettledWorkers.{SoFar, SettlesOne, one_more, all_settled}
+use Rattle.uring_threads.proofs.settle_work.settle_workers.Goals as goal
+
+pub loop-k-preserved : goal.loop-k-preserved
+loop-k-preserved g c =
+    let m = c.index-lanes-k.result in
+    let v = c.index-workers-k.result in
+    let one : SettlesOne c.loop-k.kept c.settle_worker.new.kept (get_or c.loop-k.lanes c.loop-k.k m) c.settle_worker.new.lanes (get_or c.loop-k.workers c.loop-k.k v) c.settle_worker.new.worker =
+    record { trace = c.settle_worker.ensures.trace; few = c.settle_worker.ensures.few; settled = c.settle_worker.ensures.settled; looks = c.settle_worker.ensures.worker; right = c.settle_worker.ensures.right } in
+    one_more c.args.kept.now c.loop-k.kept c.settle_worker.new.kept c.args.lanes.now c.loop-k.lanes c.args.workers.now c.loop-k.workers c.loop-k.k c.args.kept.now.setup.files m v c.settle_worker.new.lanes c.settle_worker.new.worker
+    c.loop-k.invariant c.loop-k-test.true c.requires.lanes one
+
+pub returns-clause-settled : goal.returns-clause-settled
+returns-clause-settled g c = λ e.
+    let end : c.loop-k.k ≡ length c.args.lanes.now = search (rules, arith) in
+    all_settled c.args.kept.now c.loop-k.kept c.args.lanes.now c.loop-k.lanes c.args.workers.now c.loop-k.workers e
+    (subst (SoFar c.args.kept.now c.loop-k.kept c.args.lanes.now c.loop-k.lanes c.args.workers.now c.loop-k.workers) end c.loop-k.invariant) c.requires.some c.requires.lanes c.is_lawful.ensures.lawful
+
+pub returns-clause-workers : goal.returns-clause-workers
+returns-clause-workers g c = record { many = c.loop-k.invariant.many_workers; looked = λ k e lt. c.loop-k.invariant.looked k e }
