@@ -35,7 +35,7 @@ some-append ((x ∷ call) ∷ xs) ys p q = some-append xs ys p q
 
 pub calls_of-call : (x : Item) (xs : List Item) (rest : List Message) → calls_of (items_before 0 (x ∷ xs) ++ rest) ≡ (x ∷ xs) ∷ calls_of rest
 calls_of-call x [] rest = refl
-calls_of-call x (y ∷ ys) rest = rw (add-zero, calls_of-call y ys rest) refl
+calls_of-call x (y ∷ ys) rest = rw (add-zero (length (y ∷ ys)), calls_of-call y ys rest) refl
 
 pub calls_of-calls : (calls : List (List Item)) (rest : List Message) → AreSome calls → calls_of (messages_of_calls calls ++ rest) ≡ calls ++ calls_of rest
 calls_of-calls [] rest some = refl
@@ -68,7 +68,7 @@ length-items_before left (x ∷ xs) = ap suc (length-items_before left xs)
 
 pub length-messages_of_calls : (calls : List (List Item)) → length (messages_of_calls calls) ≡ length (items_of_calls calls)
 length-messages_of_calls [] = refl
-length-messages_of_calls (call ∷ calls) = rw (length-append, length-append) (rw (length-items_before 0 call, length-messages_of_calls calls) refl)
+length-messages_of_calls (call ∷ calls) = rw (length-append (items_before 0 call) (messages_of_calls calls), length-append call (items_of_calls calls)) (rw (length-items_before 0 call, length-messages_of_calls calls) refl)
 
 length_closing : (closed : Bool) → length {A = Message} (if closed then close_mark ∷ [] else []) ≡ (if closed then 1 else 0)
 length_closing true = refl

@@ -3,7 +3,6 @@ use Rattle.std.specs.Prelude.{ℕ, List, [], ◌∷◌, ◌++◌}
 use denote.RawPtr.{Ptr, block_ptr, null_ptr}
 use Rattle.rtrb.specs.declared.end.End.{End}
 use Rattle.uring_entry.specs.Layout.{Cqe}
-use Rattle.uring_entry.specs.Setup.{Setup}
 use Rattle.uring_threads.specs.Ports.{Sizes, Put}
 
 -- the application's port: the numbers of its pair, the sizes, all that was put, and every completion that was got
@@ -29,7 +28,3 @@ numbers_of_pointer null_ptr = 0 ∷ 0 ∷ 0 ∷ []
 -- the nine numbers that the two ends of a lane have in common, and no others
 abbrev pub numbers_of : {T A P : Type 0} → End T A P → List ℕ
 numbers_of e = numbers_of_pointer e.words ++ numbers_of_pointer e.slots ++ (e.names.0 ∷ e.names.1.0 ∷ e.names.1.1 ∷ [])
-
--- the sizes of the rings of a set-up
-abbrev pub sizes_of : Setup → Sizes
-sizes_of s = record { sq = s.sq; cq = s.cq }

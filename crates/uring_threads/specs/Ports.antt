@@ -2,6 +2,7 @@
 use Rattle.std.specs.Prelude.{◌≡◌, ℕ, ◌+◌, ◌<◌, ◌≤◌, Bool, true, false, List, [], ◌∷◌, ◌++◌, length, if◌then◌else◌}
 use Rattle.std.specs.List.{flat_map}
 use Rattle.uring_entry.specs.Layout.{Cqe}
+use Rattle.uring_entry.specs.Setup.{Setup}
 use Rattle.uring_threads.specs.declared.item.Item.{Item}
 use Rattle.uring_threads.specs.declared.pulled.Pulled.{Pulled}
 use Rattle.uring_threads.specs.declared.pulled.Pulled.TheVariants as pulled
@@ -10,6 +11,10 @@ use Rattle.uring_threads.specs.declared.pulled.Pulled.TheVariants as pulled
 pub record Sizes : Type 0 where
   pub sq : ℕ
   pub cq : ℕ
+
+-- those of a set-up
+abbrev pub sizes_of : Setup → Sizes
+sizes_of s = record { sq = s.sq; cq = s.cq }
 
 -- all that went one way: the items call by call, and whether the close mark went behind them
 pub record Put : Type 0 where
