@@ -1,0 +1,75 @@
+/* What liburing calls in the place of the C library's syscall(): the layer answers the three calls of io_uring, and
+ * hands on all others.
+ */
+#define _GNU_SOURCE
+#include "enter.h"
+
+#include <errno.h>
+#include <stdarg.h>
+#include <sys/syscall.h>
+#include <unistd.h>
+
+__attribute__((visibility("default"))) long wulgach_syscall(long call, ...);
+
+/* The way in which syscall() returns. */
+static long returned(long result)
+{
+    if (result >= 0)
+        return result;
+    errno = (int)-result;
+    return -1;
+}
+
+static long call_setup(va_list arguments)
+{
+    uint32_t entries = va_arg(arguments, uint32_t);
+    return setup(entries, va_arg(arguments, struct io_uring_params *));
+}
+
+static long call_enter(va_list arguments)
+{
+    int fd = va_arg(arguments, int);
+    uint32_t to_submit = va_arg(arguments, uint32_t);
+    uint32_t min_complete = va_arg(arguments, uint32_t);
+    uint32_t flags = va_arg(arguments, uint32_t);
+    const void *argument = va_arg(arguments, const void *);
+    return enter(fd, to_submit, min_complete, flags, argument, va_arg(arguments, size_t));
+}
+
+static long call_register(va_list arguments)
+{
+    int fd = va_arg(arguments, int);
+    uint32_t code = va_arg(arguments, uint32_t);
+    void *argument = va_arg(arguments, void *);
+    return register_at(fd, code, argument, va_arg(arguments, uint32_t));
+}
+
+static long hand_on(long call, va_list arguments)
+{
+    long words[6];
+    for (int i = 0; i < 6; i++)
+        words[i] = va_arg(arguments, long);
+    return syscall(call, words[0], words[1], words[2], words[3], words[4], words[5]);
+}
+
+long wulgach_syscall(long call, ...)
+{
+    va_list arguments;
+    va_start(arguments, call);
+    long result;
+    switch (call) {
+    case SYS_io_uring_setup:
+        result = returned(call_setup(arguments));
+        break;
+    case SYS_io_uring_enter:
+        result = returned(call_enter(arguments));
+        break;
+    case SYS_io_uring_register:
+        result = returned(call_register(arguments));
+        break;
+    default:
+        result = hand_on(call, arguments);
+    }
+    va_end(arguments);
+    return result;
+}

@@ -1,0 +1,115 @@
+/* The completion side of the mirror. The layer is the application's hand on the core's ring: it reaps there what the
+ * application has reaped in ring memory, and shows in ring memory exactly what the core's tail shows. Which
+ * completions there are, in which order, and which overflow, is the core's decision; the layer only puts the real
+ * result in the place of the token's.
+ */
+#include "completions.h"
+#include "fault.h"
+#include "ring.h"
+#include "steps.h"
+
+#include <stdlib.h>
+#include <string.h>
+
+bool reserve_completions(struct completions *completions, size_t more)
+{
+    if (completions->first > 0 && completions->first >= completions->count) {
+        memcpy(completions->queue, completions->queue + completions->first, completions->count * sizeof *completions->queue);
+        completions->first = 0;
+    }
+    size_t need = completions->first + completions->count + more;
+    if (need <= completions->room)
+        return true;
+    struct posted *queue = realloc(completions->queue, 2 * need * sizeof *queue);
+    if (!queue)
+        return false;
+    completions->queue = queue;
+    completions->room = 2 * need;
+    return true;
+}
+
+static struct posted *posted_at(struct completions *completions, size_t index)
+{
+    return &completions->queue[completions->first + index];
+}
+
+void note_end(struct ring *ring, uint64_t user_data, int32_t res, int32_t told)
+{
+    struct completions *completions = &ring->completions;
+    struct wulgach_counts counts;
+    demand(wulgach_core_counts(&ring->core, &counts) == 0, "the core has no counts");
+    if (counts.posted == completions->posted)
+        return;
+    completions->posted++;
+    *posted_at(completions, completions->count++) = (struct posted){user_data, res, told};
+    struct wulgach_completion last;
+    bool is_there = counts.posted == completions->posted && wulgach_core_rest(&ring->core, completions->count - 1, &last) == 0;
+    demand(is_there && last.user_data == user_data && last.res == told, "the core posted something else");
+}
+
+void show(struct ring *ring)
+{
+    struct completions *completions = &ring->completions;
+    struct memory *memory = &ring->memory;
+    if (completions->shown < completions->count) {
+        uint32_t tail = load_cq_tail(ring);
+        demand(tail - completions->head <= completions->count, "the core shows more than it posted");
+        while (completions->shown < tail - completions->head) {
+            uint32_t at = completions->head + (uint32_t)completions->shown;
+            const struct posted *posted = posted_at(completions, completions->shown++);
+            struct io_uring_cqe *cell = &memory->completions[at & (memory->cq_entries - 1)];
+            cell->user_data = posted->user_data;
+            cell->res = posted->res;
+            cell->flags = 0;
+        }
+        store_word(&memory->cq->tail, tail);
+    }
+    uint32_t flags = 0;
+    if (completions->shown < completions->count)
+        flags |= IORING_SQ_CQ_OVERFLOW;
+    /* Makes a peek that finds nothing call, and so lets requests go on. */
+    if (ring->requests.count > 0)
+        flags |= IORING_SQ_TASKRUN;
+    store_word(&memory->sq->flags, flags);
+}
+
+/* The core's application reaps what the real one has reaped. */
+static void reap(struct ring *ring, uint32_t count)
+{
+    struct completions *completions = &ring->completions;
+    demand(count <= completions->shown, "the application stored a completion head past the tail");
+    for (uint32_t i = 0; i < count; i++) {
+        const struct posted *posted = posted_at(completions, 0);
+        struct wulgach_answer answer = reap_one(ring);
+        demand(answer.number == posted->user_data && answer.res == posted->told, "the core's completion isn't the one that was shown");
+        completions->first++;
+        completions->count--;
+        completions->shown--;
+    }
+    completions->head += count;
+    demand(store_cq_head(ring) == completions->head, "the core's completion head isn't the application's");
+}
+
+void hear(struct ring *ring, bool is_flushing)
+{
+    struct completions *completions = &ring->completions;
+    uint32_t count = load_word(&ring->memory.cq->head) - completions->head;
+    if (count > 0)
+        reap(ring, count);
+    bool has_overflowed = completions->shown < completions->count, has_room = completions->shown < ring->memory.cq_entries;
+    if (has_overflowed ? is_flushing && has_room : count > 0) {
+        flush(ring);
+        show(ring);
+    }
+}
+
+uint32_t count_ready(const struct ring *ring)
+{
+    return load_word(&ring->memory.cq->tail) - load_word(&ring->memory.cq->head);
+}
+
+void free_completions(struct completions *completions)
+{
+    free(completions->queue);
+    *completions = (struct completions){0};
+}

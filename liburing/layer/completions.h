@@ -1,0 +1,45 @@
+/* Completions that are posted and not reaped, in their order: what the application is shown, beside what the core
+ * holds for it.
+ */
+#ifndef COMPLETIONS_H
+#define COMPLETIONS_H
+
+#include <stdbool.h>
+#include <stddef.h>
+#include <stdint.h>
+
+struct posted {
+    uint64_t user_data;
+    int32_t res;            /* the real result, for the application */
+    int32_t told;           /* the core's: 0 or an error number */
+};
+
+struct completions {
+    struct posted *queue;   /* the oldest first, from `first` on */
+    size_t first, count, room;
+    size_t shown;           /* how many of them stand in ring memory; the others have overflowed */
+    uint64_t posted;        /* how many were posted so far */
+    uint32_t head;          /* the completion ring's head as the core knows it */
+};
+
+struct ring;
+
+/* Makes sure that this many more can be posted; false if memory was refused. */
+bool reserve_completions(struct completions *completions, size_t more);
+
+/* A request ended: queues its completion if the core posted one. */
+void note_end(struct ring *ring, uint64_t user_data, int32_t res, int32_t told);
+
+/* Shows the application what the core's tail says. */
+void show(struct ring *ring);
+
+/* Tells the core what the application has reaped. With `is_flushing`, or if none has overflowed, the dispatcher loads
+ * the head, so that completions that overflowed come into the ring. */
+void hear(struct ring *ring, bool is_flushing);
+
+/* How many completions the application can reap. */
+uint32_t count_ready(const struct ring *ring);
+
+void free_completions(struct completions *completions);
+
+#endif

@@ -1,0 +1,140 @@
+/* One call of io_uring_enter(2): what the application has reaped is heard, what it has published is submitted, and
+ * requests go on, as far as the policy and what the application waits for say.
+ */
+#define _GNU_SOURCE
+#include "enter.h"
+#include "policy.h"
+#include "progress.h"
+#include "ring.h"
+#include "submit.h"
+#include "trace.h"
+
+#include <errno.h>
+#include <linux/io_uring.h>
+#include <signal.h>
+#include <stdio.h>
+#include <string.h>
+
+/* What the application waits for. */
+struct waiting {
+    uint32_t min_complete;
+    int64_t limit;          /* in nanoseconds, or negative */
+    sigset_t signals;       /* the mask while the call sleeps */
+};
+
+/* Reads the last two arguments of the call, beside the mask that the thread has. */
+static int read_waiting(struct waiting *waiting, uint32_t flags, const void *argument, size_t size)
+{
+    const void *signals = argument;
+    size_t signals_size = size;
+    waiting->limit = -1;
+    if (flags & IORING_ENTER_EXT_ARG) {
+        const struct io_uring_getevents_arg *extended = argument;
+        if (!extended || size != sizeof *extended)
+            return -EINVAL;
+        signals = (const void *)(uintptr_t)extended->sigmask;
+        signals_size = extended->sigmask_sz;
+        const struct __kernel_timespec *time = (const void *)(uintptr_t)extended->ts;
+        if (time)
+            waiting->limit = time->tv_sec * 1000000000 + time->tv_nsec;
+    }
+    if (!signals)
+        return 0;
+    /* The kernel's set of signals is the first 64 bits of the C library's. */
+    if (signals_size != _NSIG / 8)
+        return -EINVAL;
+    sigemptyset(&waiting->signals);
+    memcpy(&waiting->signals, signals, signals_size);
+    return 0;
+}
+
+/* Goes on behind a submission that nobody waits for. */
+static void go_on_alone(struct ring *ring)
+{
+    if (policy() == LAZY)
+        return;
+    while (go_on(ring, true) == WENT_ON)
+        ;
+}
+
+/* Goes on for an application that looks whether there is anything: by one thing at least, if there is nothing yet. */
+static void go_on_for_peek(struct ring *ring)
+{
+    enum progress progress = count_ready(ring) == 0 ? go_on(ring, false) : MAY_RETURN;
+    if (policy() == LAZY)
+        while (progress == WENT_ON && count_ready(ring) == 0)
+            progress = go_on(ring, false);
+    else
+        while (progress == WENT_ON)
+            progress = go_on(ring, true);
+    if (progress == STUCK && count_ready(ring) == 0)
+        pass_time(ring);
+}
+
+static void say_stuck(const struct ring *ring, uint32_t min_complete)
+{
+    fprintf(stderr, "wulgach: ring %u waits for %u completions, %u are there, and nothing can go on\n", (unsigned)ring->index, (unsigned)min_complete, (unsigned)count_ready(ring));
+}
+
+/* Goes on until enough completions are shown. */
+static int go_on_until(struct ring *ring, const struct waiting *waiting)
+{
+    uint32_t enough = waiting->min_complete;
+    if (enough > ring->memory.cq_entries)
+        enough = ring->memory.cq_entries;
+    for (;;) {
+        bool is_enough = count_ready(ring) >= enough;
+        if (is_enough && policy() == LAZY)
+            return 0;
+        enum progress progress = go_on(ring, is_enough);
+        if (progress == MAY_RETURN || (progress == STUCK && is_enough))
+            return 0;
+        int result = progress == STUCK ? wait_for_any(ring, waiting->limit, &waiting->signals) : 0;
+        if (result == -EDEADLK)
+            say_stuck(ring, enough);
+        if (result < 0)
+            return result;
+        hear(ring, true);
+    }
+}
+
+static int enter_ring(struct ring *ring, uint32_t to_submit, uint32_t flags, const struct waiting *waiting)
+{
+    bool is_getting = flags & IORING_ENTER_GETEVENTS;
+    hear(ring, is_getting);
+    int submitted = submit(ring, to_submit);
+    int result = 0;
+    /* The kernel doesn't wait if it couldn't submit all. */
+    if (submitted < 0 || !is_getting || (uint32_t)submitted != to_submit)
+        go_on_alone(ring);
+    else if (waiting->min_complete == 0)
+        go_on_for_peek(ring);
+    else
+        result = go_on_until(ring, waiting);
+    show(ring);
+    push_trace(ring);
+    return submitted != 0 ? submitted : result;
+}
+
+enum { SERVED_FLAGS = IORING_ENTER_GETEVENTS | IORING_ENTER_SQ_WAKEUP | IORING_ENTER_SQ_WAIT | IORING_ENTER_EXT_ARG };
+
+int enter(int fd, uint32_t to_submit, uint32_t min_complete, uint32_t flags, const void *argument, size_t size)
+{
+    if (flags & ~(uint32_t)SERVED_FLAGS)
+        return -EINVAL;
+    struct ring *ring = lock_ring(fd);
+    if (!ring)
+        return -EOPNOTSUPP;
+    struct waiting waiting = {.min_complete = min_complete};
+    sigset_t all;
+    sigfillset(&all);
+    /* Operations are carried out here, where the kernel's would be out of a signal's reach. */
+    pthread_sigmask(SIG_BLOCK, &all, &waiting.signals);
+    sigset_t own = waiting.signals;
+    int result = read_waiting(&waiting, flags, argument, size);
+    if (result == 0)
+        result = enter_ring(ring, to_submit, flags, &waiting);
+    unlock_ring(ring);
+    pthread_sigmask(SIG_SETMASK, &own, NULL);
+    return result;
+}

@@ -1,0 +1,47 @@
+/* Operations: which entries are served, what is copied of them, and how each is carried out. */
+#ifndef OPERATIONS_H
+#define OPERATIONS_H
+
+#include "injection.h"
+#include "requests.h"
+
+#include <poll.h>
+#include <stdio.h>
+
+/* The result of an operation that would have to wait. */
+enum { WOULD_WAIT = -512 };
+
+/* Whether an operation is served at all, as a probe asks. */
+bool is_served_code(uint8_t code);
+
+/* What the core is to be told of an entry. */
+enum mapping mapping_of(const struct io_uring_sqe *entry);
+
+/* Copies what the entry points to. Returns 0 or the negative of an error number. */
+int copy_behind(struct request *request);
+
+/* Whether it is a transfer on a pipe, a socket or a terminal. */
+bool is_stream(const struct request *request);
+
+/* Whether a transfer on a stream wouldn't have to wait now. */
+bool is_ready(const struct request *request);
+
+/* The descriptor to poll and the events to poll it for. */
+struct pollfd poll_of(const struct request *request);
+
+/* Whether the operation can have this fault. */
+bool can_have(const struct request *request, enum injection fault);
+
+/* Carries the operation out, and returns its result, or WOULD_WAIT. */
+int32_t carry_out(struct request *request, enum injection fault);
+
+/* Whether a result is a success, as links see it. */
+bool is_success(const struct request *request, int32_t res);
+
+/* The name of an operation that is served, else "operation". */
+const char *operation_name(uint8_t code);
+
+/* Says what is asked for, in words. */
+void print_operation(FILE *out, const struct request *request);
+
+#endif

@@ -1,0 +1,39 @@
+/* What goes on next, where the core allows more than one thing: the policy that WULGACH_POLICY names, and the record of
+ * what was chosen. Choices are counted from 0 over all rings of the process.
+ */
+#ifndef POLICY_H
+#define POLICY_H
+
+#include <stdbool.h>
+#include <stdint.h>
+
+enum policy {
+    IN_ORDER,   /* order: the least request that can go on, until none can */
+    LAZY,       /* lazy: the same, but nothing goes on before the application waits or peeks */
+    SEEDED,     /* seed:N: rolled */
+    LISTED      /* list:ITEMS: given, and 0 where the list says nothing */
+};
+
+/* Reads the environment, once. */
+void read_policy(void);
+
+enum policy policy(void);
+
+/* Whether issuing and finishing are two choices (WULGACH_CHOOSE=events, the default), or one (ends). */
+bool is_choosing_events(void);
+
+struct ring;
+
+/* Counts a choice, and returns its number. Only policies that choose make any. */
+uint64_t count_choice(void);
+
+/* Which of `count` ways, from 0, choice `at` is. Asked again, a seed may say another one. */
+uint32_t choose(uint64_t at, uint32_t count);
+
+/* The core doesn't allow what was chosen: it is to be chosen again. A list then says 0. */
+void refuse_choice(struct ring *ring, uint64_t at);
+
+/* Records a choice that was made: which of how many ways, and in words. */
+void record_choice(uint64_t at, uint32_t count, uint32_t chosen, const char *what);
+
+#endif

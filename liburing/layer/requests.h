@@ -1,0 +1,57 @@
+/* The side table: what the application really asked for. The core knows a request by its number and as a token. */
+#ifndef REQUESTS_H
+#define REQUESTS_H
+
+#include <linux/io_uring.h>
+#include <stdbool.h>
+#include <stddef.h>
+#include <stdint.h>
+#include <sys/uio.h>
+
+enum mapping { TOKEN, CANCEL, REFUSED };
+
+enum state { WAITS, RUNS };
+
+struct request {
+    uint64_t number;                /* in the order of acceptance, from 0 */
+    struct io_uring_sqe entry;      /* as the application wrote it */
+    enum mapping mapping;           /* what the core was told of it */
+    enum state state;
+    bool is_refused;                /* not ready when it was last asked for, and nothing has ended since */
+    bool is_stream;                 /* a transfer on a pipe, a socket or a terminal: it may have to wait */
+    bool is_cancelled;              /* a cancel found it running */
+    uint64_t expiry;                /* a timeout's, in virtual time */
+    /* What the entry points to, copied when it is submitted: the application may reuse it at once. */
+    struct iovec *vectors;
+    uint64_t length;                /* the bytes of a transfer's vectors */
+    char *path, *second_path;
+    struct open_how *how;
+    struct __kernel_timespec *time;
+};
+
+/* Requests by rising number. */
+struct requests {
+    struct request **rows;
+    size_t count, room;
+};
+
+/* Makes sure that this many more can be added; false if memory was refused. */
+bool reserve_requests(struct requests *requests, size_t more);
+
+/* Adds a request behind all others. Room was reserved. */
+void add_request(struct requests *requests, struct request *request);
+
+/* The request of a number. There is one. */
+struct request *request_of(const struct requests *requests, uint64_t number);
+
+/* Takes the first ones out, and frees nothing. */
+void drop_requests(struct requests *requests, size_t count);
+
+/* Takes a request out, and frees it. */
+void end_request(struct requests *requests, struct request *request);
+
+/* Frees a request, or nothing. */
+void free_request(struct request *request);
+void free_requests(struct requests *requests);
+
+#endif

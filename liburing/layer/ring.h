@@ -1,0 +1,48 @@
+/* A ring: the memory that the application sees, the core that it mirrors, and what the layer keeps beside them. Shared
+ * by all files of the layer.
+ */
+#ifndef RING_H
+#define RING_H
+
+#include "completions.h"
+#include "memory.h"
+#include "requests.h"
+#include "wulgach.h"
+
+#include <linux/io_uring.h>
+#include <pthread.h>
+#include <stdbool.h>
+#include <stdio.h>
+#include <sys/types.h>
+
+struct ring {
+    struct ring *next;                  /* the rings of this process, the newest first */
+    dev_t device;                       /* the memfd's device and inode: how a descriptor is known as this ring's */
+    ino_t inode;
+    pid_t process;                      /* who made it: a forked child has the memory, and not the core */
+    int fd;                             /* the first descriptor: it may be closed, or another file's by now */
+    uint32_t index;                     /* its number among the process's rings, from 0 */
+    uint32_t flags;                     /* IORING_SETUP_.. */
+    pthread_mutex_t lock;               /* held during each call, but not while it sleeps */
+    pthread_cond_t called;              /* a call has come to its end: for a thread that waits for another's */
+    struct memory memory;
+    struct wulgach_core core;
+    struct requests requests;           /* accepted and not ended */
+    struct requests staged;             /* staged and not accepted; a word that names no slot has an empty place */
+    struct request **ways;              /* room for the ways of a choice: as many as there are requests */
+    size_t ways_room;
+    uint64_t accepted;                  /* how many requests were accepted so far */
+    struct completions completions;     /* posted and not reaped */
+    uint64_t now;                       /* virtual time in nanoseconds: moved on by timeouts only */
+    bool has_trace;                     /* whether it is known where steps and answers go: */
+    FILE *trace;                        /* there, or NULL */
+};
+
+/* The ring of a descriptor, with its lock held; NULL if it is none of this process's. */
+struct ring *lock_ring(int fd);
+void unlock_ring(struct ring *ring);
+
+/* Whether a descriptor is a ring's. */
+bool is_ring(int fd);
+
+#endif

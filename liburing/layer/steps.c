@@ -1,0 +1,141 @@
+/* Makes steps on a ring's core, and traces them. */
+#include "steps.h"
+#include "fault.h"
+#include "trace.h"
+
+#include <string.h>
+
+static struct wulgach_answer make(struct ring *ring, const struct wulgach_step *step)
+{
+    struct wulgach_answer answer;
+    demand(wulgach_core_step(&ring->core, step, &answer) == 0, "the core refuses a step");
+    trace_step(ring, step, &answer);
+    return answer;
+}
+
+static struct wulgach_answer make_plain(struct ring *ring, uint32_t kind, uint32_t word)
+{
+    struct wulgach_step step = {.kind = kind, .word = word};
+    return make(ring, &step);
+}
+
+static uint32_t make_word(struct ring *ring, uint32_t kind, uint32_t expected)
+{
+    struct wulgach_answer answer = make_plain(ring, kind, 0);
+    demand(answer.kind == expected, "the core answers a step in another way");
+    return answer.word;
+}
+
+/* The flags that the core serves. A refused entry keeps these, so that it is a member of its chain. */
+enum { CORE_FLAGS = WULGACH_IO_DRAIN | WULGACH_IO_LINK | WULGACH_IO_HARDLINK | WULGACH_ASYNC | WULGACH_CQE_SKIP_SUCCESS };
+
+/* No operation has this code: its request ends as faulty. */
+enum { REFUSED_CODE = 255 };
+
+static void write_token(uint64_t entry[16], const struct request *request)
+{
+    const struct io_uring_sqe *real = &request->entry;
+    uint8_t flags = real->flags & CORE_FLAGS;
+    switch (request->mapping) {
+    case TOKEN:
+        wulgach_nop(entry, real->user_data, flags);
+        break;
+    case CANCEL:
+        wulgach_cancel(entry, real->user_data, flags, real->addr);
+        break;
+    case REFUSED:
+        wulgach_entry(entry, REFUSED_CODE, real->user_data, flags, 0);
+        break;
+    }
+}
+
+void fill_slot(struct ring *ring, uint32_t slot, const struct request *request)
+{
+    struct wulgach_step step = {.kind = WULGACH_FILL, .word = slot};
+    write_token(step.entry, request);
+    demand(make(ring, &step).kind == WULGACH_FILLED, "the core doesn't fill a slot");
+}
+
+void index_word(struct ring *ring, uint32_t word)
+{
+    demand(make_plain(ring, WULGACH_INDEX, word).kind == WULGACH_STAGED, "the core doesn't stage a word");
+}
+
+uint32_t store_tail(struct ring *ring)
+{
+    return make_word(ring, WULGACH_STORE_TAIL, WULGACH_TAIL);
+}
+
+uint32_t load_head(struct ring *ring)
+{
+    return make_word(ring, WULGACH_LOAD_HEAD, WULGACH_HEAD);
+}
+
+uint32_t load_cq_tail(struct ring *ring)
+{
+    return make_word(ring, WULGACH_LOAD_CQ_TAIL, WULGACH_TAIL);
+}
+
+struct wulgach_answer reap_one(struct ring *ring)
+{
+    struct wulgach_answer answer = make_plain(ring, WULGACH_REAP, 0);
+    demand(answer.kind == WULGACH_REAPED, "the core has no completion to reap");
+    return answer;
+}
+
+uint32_t store_cq_head(struct ring *ring)
+{
+    return make_word(ring, WULGACH_STORE_CQ_HEAD, WULGACH_HEAD);
+}
+
+bool begin_call(struct ring *ring, uint32_t count)
+{
+    struct wulgach_answer answer = make_plain(ring, WULGACH_BEGIN, count);
+    if (answer.kind == WULGACH_AGAIN)
+        return false;
+    demand(answer.kind == WULGACH_CALL && answer.word == count, "the core doesn't open a call of what is staged");
+    return true;
+}
+
+bool take_position(struct ring *ring)
+{
+    struct wulgach_answer answer = make_plain(ring, WULGACH_TAKE, 0);
+    demand(answer.kind == WULGACH_ENTRY || answer.kind == WULGACH_DROPPED, "the core doesn't take a position");
+    return answer.kind == WULGACH_ENTRY;
+}
+
+struct wulgach_answer end_call(struct ring *ring)
+{
+    struct wulgach_answer answer = make_plain(ring, WULGACH_END, 0);
+    demand(answer.kind == WULGACH_TAKEN, "the core doesn't end a call");
+    return answer;
+}
+
+void flush(struct ring *ring)
+{
+    demand(make_plain(ring, WULGACH_FLUSH, 0).kind == WULGACH_MOVED, "the core doesn't flush");
+}
+
+bool find_next(struct ring *ring, uint64_t *number)
+{
+    struct wulgach_answer answer = make_plain(ring, WULGACH_NEXT, 0);
+    demand(answer.kind == WULGACH_NEXT_IS || answer.kind == WULGACH_NOTHING, "the core doesn't say what is next");
+    *number = answer.number;
+    return answer.kind == WULGACH_NEXT_IS;
+}
+
+struct wulgach_answer issue(struct ring *ring, uint64_t number)
+{
+    struct wulgach_step step = {.kind = WULGACH_ISSUE, .number = number};
+    return make(ring, &step);
+}
+
+void finish(struct ring *ring, uint64_t number, int32_t told)
+{
+    static const struct wulgach_bytes none = {{0}};
+    struct wulgach_step step = {.kind = WULGACH_FINISH, .number = number};
+    struct wulgach_answer answer;
+    demand(wulgach_core_finish(&ring->core, number, told, &none, &answer) == 0, "the core refuses a finish");
+    trace_step(ring, &step, &answer);
+    demand(answer.kind == WULGACH_ENDED && answer.res == told, "the core doesn't end a running request");
+}

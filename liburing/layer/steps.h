@@ -1,0 +1,29 @@
+/* The steps that the layer makes on a core, each by a function of its own, which demands an answer that the layer can
+ * go on from. This is the one file through which the core is moved, so that each step stands in the trace.
+ */
+#ifndef STEPS_H
+#define STEPS_H
+
+#include "requests.h"
+#include "ring.h"
+#include "wulgach.h"
+
+/* The application's side. */
+void fill_slot(struct ring *ring, uint32_t slot, const struct request *request);
+void index_word(struct ring *ring, uint32_t word);
+uint32_t store_tail(struct ring *ring);
+uint32_t load_head(struct ring *ring);
+uint32_t load_cq_tail(struct ring *ring);
+struct wulgach_answer reap_one(struct ring *ring);
+uint32_t store_cq_head(struct ring *ring);
+
+/* The dispatcher's side. */
+bool begin_call(struct ring *ring, uint32_t count);     /* false: memory was refused */
+bool take_position(struct ring *ring);                  /* false: the word names no slot */
+struct wulgach_answer end_call(struct ring *ring);
+void flush(struct ring *ring);
+bool find_next(struct ring *ring, uint64_t *number);    /* false: nothing can be issued */
+struct wulgach_answer issue(struct ring *ring, uint64_t number);
+void finish(struct ring *ring, uint64_t number, int32_t told);
+
+#endif

@@ -1,0 +1,131 @@
+/* Stages what the application has published, at the moment when the kernel would read it, and has the core take it in
+ * one call. If memory is refused, what is staged stays so, and the next call goes on with it.
+ */
+#include "submit.h"
+#include "fault.h"
+#include "operations.h"
+#include "steps.h"
+#include "trace.h"
+
+#include <errno.h>
+#include <stdlib.h>
+
+/* Reads the entry of a slot. NULL if memory was refused. */
+static struct request *read_entry(const struct ring *ring, uint32_t slot)
+{
+    struct request *request = calloc(1, sizeof *request);
+    if (!request)
+        return NULL;
+    request->entry = ring->memory.entries[slot];
+    request->mapping = mapping_of(&request->entry);
+    if (copy_behind(request) == 0)
+        return request;
+    free_request(request);
+    return NULL;
+}
+
+/* Without IORING_SETUP_SUBMIT_ALL the kernel ends a call behind a faulty entry, unless that is linked to the next. */
+static bool ends_call(const struct ring *ring, const struct request *request)
+{
+    if (!request)
+        return true;
+    return request->mapping == REFUSED && !(ring->flags & IORING_SETUP_SUBMIT_ALL) && !(request->entry.flags & (IOSQE_IO_LINK | IOSQE_IO_HARDLINK));
+}
+
+/* Stages the position of an index word. A word that names no slot gives an empty row. */
+static bool stage(struct ring *ring, uint32_t word, struct request **row)
+{
+    *row = NULL;
+    if (word < ring->memory.sq_entries) {
+        *row = read_entry(ring, word);
+        if (!*row)
+            return false;
+        fill_slot(ring, word, *row);
+    }
+    index_word(ring, word);
+    add_request(&ring->staged, *row);
+    return true;
+}
+
+/* Stages the positions behind those that are staged, up to `count` in all. False if memory was refused. */
+static bool stage_up_to(struct ring *ring, uint32_t count)
+{
+    struct memory *memory = &ring->memory;
+    uint32_t head = load_head(ring);
+    for (uint32_t i = (uint32_t)ring->staged.count; i < count; i++) {
+        uint32_t word = load_word(&memory->array[(head + i) & (memory->sq_entries - 1)]);
+        struct request *row;
+        if (!stage(ring, word, &row))
+            return false;
+        if (ends_call(ring, row))
+            break;
+    }
+    return true;
+}
+
+/* Takes one position, and gives its request a number. */
+static void accept_one(struct ring *ring, struct request *request)
+{
+    bool is_entry = take_position(ring);
+    demand(is_entry == (request != NULL), "the core drops another word");
+    if (!request)
+        return;
+    request->number = ring->accepted++;
+    request->is_stream = request->mapping == TOKEN && is_stream(request);
+    add_request(&ring->requests, request);
+}
+
+/* Has the core take what is staged. */
+static int take_staged(struct ring *ring)
+{
+    uint32_t count = (uint32_t)ring->staged.count;
+    uint64_t accepted = ring->accepted;
+    if (!begin_call(ring, count))
+        return -EAGAIN;
+    for (uint32_t i = 0; i < count; i++)
+        accept_one(ring, ring->staged.rows[i]);
+    drop_requests(&ring->staged, count);
+    struct wulgach_answer answer = end_call(ring);
+    demand(answer.word == ring->accepted - accepted, "the core accepts another number of requests");
+    store_word(&ring->memory.sq->dropped, answer.dropped);
+    store_word(&ring->memory.sq->head, answer.head);
+    for (size_t i = ring->requests.count - answer.word; i < ring->requests.count; i++)
+        trace_request(ring, ring->requests.rows[i]);
+    return (int)answer.word;
+}
+
+/* Makes room for this many more requests in all that grows with them, so that nothing behind the call has to fail. */
+static bool reserve_all(struct ring *ring, uint32_t count)
+{
+    if (!reserve_requests(&ring->staged, count) || !reserve_requests(&ring->requests, count) || !reserve_completions(&ring->completions, ring->requests.count + count))
+        return false;
+    if (ring->ways_room < ring->requests.room) {
+        struct request **ways = realloc(ring->ways, ring->requests.room * sizeof *ways);
+        if (!ways)
+            return false;
+        ring->ways = ways;
+        ring->ways_room = ring->requests.room;
+    }
+    return true;
+}
+
+int submit(struct ring *ring, uint32_t count)
+{
+    struct sq_words *sq = ring->memory.sq;
+    uint32_t published = load_word(&sq->tail) - sq->head;
+    if (published > ring->memory.sq_entries)
+        published = ring->memory.sq_entries;
+    if (count > published)
+        count = published;
+    if (count < ring->staged.count)
+        count = (uint32_t)ring->staged.count;
+    if (count == 0)
+        return 0;
+    if (!reserve_all(ring, count))
+        return -EAGAIN;
+    bool is_all = stage_up_to(ring, count);
+    if (!is_all && ring->staged.count == 0)
+        return -EAGAIN;
+    store_tail(ring);
+    return take_staged(ring);
+}

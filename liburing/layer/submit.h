@@ -1,0 +1,10 @@
+/* Submitting: from the entries that stand in ring memory to requests that the core has accepted. */
+#ifndef SUBMIT_H
+#define SUBMIT_H
+
+#include "ring.h"
+
+/* Submits at most this many positions. Returns how many requests were accepted, or -EAGAIN if memory was refused. */
+int submit(struct ring *ring, uint32_t count);
+
+#endif

@@ -1,0 +1,606 @@
+/* Tests of the layer by direct calls of setup, enter and register: they need no sources of liburing. All hold under
+ * every policy, which the environment says. Memory is refused by the wrapped malloc, calloc and realloc of this program.
+ *
+ *   direct [injection]       with the word: only the test of faults, for which WULGACH_FAULTS is 0=ENOSPC,2=SHORT,5=EIO
+ */
+#define _GNU_SOURCE
+#include <errno.h>
+#include <fcntl.h>
+#include <linux/io_uring.h>
+#include <pthread.h>
+#include <stdbool.h>
+#include <stdint.h>
+#include <stdio.h>
+#include <stdlib.h>
+#include <string.h>
+#include <sys/mman.h>
+#include <sys/syscall.h>
+#include <sys/uio.h>
+#include <sys/wait.h>
+#include <unistd.h>
+
+long wulgach_syscall(long call, ...);
+
+/* A ring as a program maps it. */
+struct ring {
+    int fd;
+    struct io_uring_params params;
+    char *sq, *cq;
+    struct io_uring_sqe *entries;
+    size_t sq_size, cq_size;
+};
+
+struct completion {
+    uint64_t user_data;
+    int32_t res;
+};
+
+static const char *test = "";
+
+static void check_at(bool is_so, const char *what, int line)
+{
+    if (is_so)
+        return;
+    printf("direct: %s: line %d: %s\n", test, line, what);
+    exit(1);
+}
+
+#define check(is_so) check_at(is_so, #is_so, __LINE__)
+
+/* ---- calls ---- */
+
+static long set_up(unsigned entries, struct io_uring_params *params)
+{
+    long result = wulgach_syscall(SYS_io_uring_setup, entries, params);
+    return result < 0 ? -errno : result;
+}
+
+static long enter(const struct ring *ring, unsigned to_submit, unsigned min_complete, unsigned flags)
+{
+    long result = wulgach_syscall(SYS_io_uring_enter, ring->fd, to_submit, min_complete, flags, NULL, (size_t)0);
+    return result < 0 ? -errno : result;
+}
+
+static long enter_for(const struct ring *ring, unsigned min_complete, long long nanoseconds)
+{
+    struct __kernel_timespec time = {nanoseconds / 1000000000, nanoseconds % 1000000000};
+    struct io_uring_getevents_arg argument = {.ts = (uintptr_t)&time};
+    long result = wulgach_syscall(SYS_io_uring_enter, ring->fd, 0u, min_complete, IORING_ENTER_GETEVENTS | IORING_ENTER_EXT_ARG, &argument, sizeof argument);
+    return result < 0 ? -errno : result;
+}
+
+static long register_at(int fd, unsigned code, void *argument, unsigned count)
+{
+    long result = wulgach_syscall(SYS_io_uring_register, fd, code, argument, count);
+    return result < 0 ? -errno : result;
+}
+
+/* ---- ring memory ---- */
+
+static unsigned *sq_word(const struct ring *ring, unsigned offset)
+{
+    return (unsigned *)(void *)(ring->sq + offset);
+}
+
+static unsigned *cq_word(const struct ring *ring, unsigned offset)
+{
+    return (unsigned *)(void *)(ring->cq + offset);
+}
+
+static void *map(const struct ring *ring, size_t size, unsigned long long offset)
+{
+    void *at = mmap(NULL, size, PROT_READ | PROT_WRITE, MAP_SHARED | MAP_POPULATE, ring->fd, (off_t)offset);
+    check(at != MAP_FAILED);
+    return at;
+}
+
+static void make_ring(struct ring *ring, unsigned entries, unsigned completions, unsigned flags)
+{
+    memset(ring, 0, sizeof *ring);
+    ring->params.flags = flags | (completions ? IORING_SETUP_CQSIZE : 0);
+    ring->params.cq_entries = completions;
+    ring->fd = (int)set_up(entries, &ring->params);
+    check(ring->fd >= 0);
+    ring->sq_size = ring->params.sq_off.array + ring->params.sq_entries * sizeof(unsigned);
+    ring->cq_size = ring->params.cq_off.cqes + ring->params.cq_entries * sizeof(struct io_uring_cqe);
+    check(!(ring->params.features & IORING_FEAT_SINGLE_MMAP));
+    ring->sq = map(ring, ring->sq_size, IORING_OFF_SQ_RING);
+    ring->cq = map(ring, ring->cq_size, IORING_OFF_CQ_RING);
+    ring->entries = map(ring, ring->params.sq_entries * sizeof *ring->entries, IORING_OFF_SQES);
+}
+
+static void close_ring(struct ring *ring)
+{
+    munmap(ring->sq, ring->sq_size);
+    munmap(ring->cq, ring->cq_size);
+    munmap(ring->entries, ring->params.sq_entries * sizeof *ring->entries);
+    close(ring->fd);
+}
+
+/* Publishes an index word, and returns the entry of its slot. */
+static struct io_uring_sqe *publish(struct ring *ring, unsigned word)
+{
+    unsigned *tail = sq_word(ring, ring->params.sq_off.tail), mask = ring->params.sq_entries - 1;
+    sq_word(ring, ring->params.sq_off.array)[*tail & mask] = word;
+    __atomic_store_n(tail, *tail + 1, __ATOMIC_RELEASE);
+    return &ring->entries[word & mask];
+}
+
+static struct io_uring_sqe *put(struct ring *ring, uint8_t code, uint64_t user_data, uint8_t flags)
+{
+    unsigned tail = *sq_word(ring, ring->params.sq_off.tail);
+    struct io_uring_sqe *entry = publish(ring, tail & (ring->params.sq_entries - 1));
+    memset(entry, 0, sizeof *entry);
+    entry->opcode = code;
+    entry->flags = flags;
+    entry->user_data = user_data;
+    return entry;
+}
+
+static struct io_uring_sqe *put_transfer(struct ring *ring, uint8_t code, uint64_t user_data, uint8_t flags, int fd, void *bytes, unsigned length, uint64_t offset)
+{
+    struct io_uring_sqe *entry = put(ring, code, user_data, flags);
+    entry->fd = fd;
+    entry->addr = (uintptr_t)bytes;
+    entry->len = length;
+    entry->off = offset;
+    return entry;
+}
+
+static unsigned flags_of(const struct ring *ring)
+{
+    return *sq_word(ring, ring->params.sq_off.flags);
+}
+
+static unsigned count_ready(const struct ring *ring)
+{
+    return __atomic_load_n(cq_word(ring, ring->params.cq_off.tail), __ATOMIC_ACQUIRE) - *cq_word(ring, ring->params.cq_off.head);
+}
+
+static struct completion reap(struct ring *ring)
+{
+    check(count_ready(ring) > 0);
+    unsigned *head = cq_word(ring, ring->params.cq_off.head);
+    const struct io_uring_cqe *cells = (const void *)(ring->cq + ring->params.cq_off.cqes);
+    const struct io_uring_cqe *cell = &cells[*head & (ring->params.cq_entries - 1)];
+    struct completion found = {cell->user_data, cell->res};
+    check(cell->flags == 0);
+    __atomic_store_n(head, *head + 1, __ATOMIC_RELEASE);
+    return found;
+}
+
+/* Waits for this many completions, and puts the result of user data n into place n. */
+static void reap_all(struct ring *ring, unsigned count, int32_t *results)
+{
+    check(enter(ring, 0, count, IORING_ENTER_GETEVENTS) == 0);
+    check(count_ready(ring) == count);
+    for (unsigned i = 0; i < count; i++) {
+        struct completion found = reap(ring);
+        results[found.user_data] = found.res;
+    }
+}
+
+static int make_file(void)
+{
+    int fd = memfd_create("file", MFD_CLOEXEC);
+    check(fd >= 0);
+    return fd;
+}
+
+/* ---- tests ---- */
+
+static void test_setup(void)
+{
+    struct io_uring_params none = {0}, sqpoll = {.flags = IORING_SETUP_SQPOLL}, small = {.flags = IORING_SETUP_CQSIZE, .cq_entries = 4}, reserved = {.resv = {0, 1}};
+    check(set_up(0, &none) == -EINVAL);
+    check(set_up(4097, &none) == -EINVAL);
+    check(set_up(8, &sqpoll) == -EINVAL);
+    check(set_up(8, &small) == -EINVAL);
+    check(set_up(8, &reserved) == -EINVAL);
+    check(set_up(8, NULL) == -EFAULT);
+    struct ring ring;
+    make_ring(&ring, 5, 0, 0);
+    check(ring.params.sq_entries == 8 && ring.params.cq_entries == 16);
+    close_ring(&ring);
+    make_ring(&ring, 10000, 0, IORING_SETUP_CLAMP);
+    check(ring.params.sq_entries == 4096 && ring.params.cq_entries == 8192);
+    close_ring(&ring);
+    make_ring(&ring, 3, 9, 0);
+    check(ring.params.sq_entries == 4 && ring.params.cq_entries == 16);
+    check(*sq_word(&ring, ring.params.sq_off.ring_mask) == 3 && *cq_word(&ring, ring.params.cq_off.ring_mask) == 15);
+    close_ring(&ring);
+}
+
+static void test_calls(void)
+{
+    struct ring ring;
+    make_ring(&ring, 4, 0, 0);
+    check(enter(&ring, 0, 0, 1u << 20) == -EINVAL);
+    check(enter(&ring, 1, 0, 0) == 0);
+    check(enter(&ring, 0, 0, IORING_ENTER_GETEVENTS) == 0);
+    check(enter(&ring, 0, 1, IORING_ENTER_GETEVENTS) == -EDEADLK);
+    check(enter_for(&ring, 1, 1000) == -ETIME);
+    struct ring other = {.fd = make_file()};
+    check(enter(&other, 0, 0, 0) == -EOPNOTSUPP);
+    check(register_at(other.fd, IORING_REGISTER_PROBE, NULL, 0) == -EOPNOTSUPP);
+    close(other.fd);
+    check(register_at(other.fd, IORING_REGISTER_PROBE, NULL, 0) == -EBADF);
+    check(register_at(ring.fd, IORING_REGISTER_BUFFERS, NULL, 0) == -EINVAL);
+    struct io_uring_probe *probe = calloc(1, sizeof *probe + 256 * sizeof *probe->ops);
+    check(register_at(ring.fd, IORING_REGISTER_PROBE, probe, 256) == 0);
+    check(probe->ops[IORING_OP_READ].flags == IO_URING_OP_SUPPORTED && probe->ops[IORING_OP_SENDMSG].flags == 0);
+    check(register_at(ring.fd, IORING_REGISTER_PROBE, probe, 256) == -EINVAL);
+    free(probe);
+    check(wulgach_syscall(SYS_getpid) == getpid());
+    close_ring(&ring);
+    check(enter(&ring, 0, 0, 0) == -EOPNOTSUPP);
+}
+
+/* A chain whose second member fails, a drain and a loose request. */
+static void test_chain(void)
+{
+    struct ring ring;
+    int32_t results[8];
+    make_ring(&ring, 8, 0, 0);
+    put(&ring, IORING_OP_NOP, 0, IOSQE_IO_LINK);
+    put(&ring, IORING_OP_FSYNC, 1, IOSQE_IO_LINK)->fd = -1;
+    put(&ring, IORING_OP_NOP, 2, 0);
+    put(&ring, IORING_OP_NOP, 3, IOSQE_IO_DRAIN);
+    put(&ring, IORING_OP_NOP, 4, 0);
+    check(enter(&ring, 5, 0, 0) == 5);
+    check(*sq_word(&ring, ring.params.sq_off.head) == 5);
+    check(enter(&ring, 0, 5, IORING_ENTER_GETEVENTS) == 0);
+    uint64_t order[5];
+    for (int i = 0; i < 5; i++) {
+        struct completion found = reap(&ring);
+        order[i] = found.user_data;
+        results[found.user_data] = found.res;
+    }
+    check(order[0] == 0 && order[1] == 1 && order[2] == 2 && order[3] == 3 && order[4] == 4);
+    check(results[0] == 0 && results[1] == -EBADF && results[2] == -ECANCELED && results[3] == 0 && results[4] == 0);
+    check(flags_of(&ring) == 0);
+    close_ring(&ring);
+}
+
+static void test_skipped_success(void)
+{
+    struct ring ring;
+    int32_t results[4];
+    make_ring(&ring, 4, 0, 0);
+    put(&ring, IORING_OP_NOP, 0, IOSQE_IO_LINK | IOSQE_CQE_SKIP_SUCCESS);
+    put(&ring, IORING_OP_NOP, 1, 0);
+    put(&ring, IORING_OP_FSYNC, 2, IOSQE_CQE_SKIP_SUCCESS)->fd = -1;
+    check(enter(&ring, 3, 0, 0) == 3);
+    reap_all(&ring, 2, results);
+    check(results[1] == 0 && results[2] == -EBADF);
+    close_ring(&ring);
+}
+
+static void test_faulty(void)
+{
+    struct ring ring;
+    int32_t results[4];
+    make_ring(&ring, 4, 0, 0);
+    put(&ring, IORING_OP_NOP, 0, 0);
+    put(&ring, IORING_OP_SENDMSG, 1, 0);
+    put(&ring, IORING_OP_NOP, 2, 0);
+    check(enter(&ring, 3, 0, 0) == 2);
+    check(enter(&ring, 1, 0, 0) == 1);
+    reap_all(&ring, 3, results);
+    check(results[0] == 0 && results[1] == -EINVAL && results[2] == 0);
+    close_ring(&ring);
+    make_ring(&ring, 4, 0, IORING_SETUP_SUBMIT_ALL);
+    put(&ring, IORING_OP_NOP, 0, IOSQE_IO_LINK);
+    put(&ring, IORING_OP_NOP, 1, IOSQE_FIXED_FILE);
+    put(&ring, IORING_OP_NOP, 2, 0);
+    check(enter(&ring, 3, 0, 0) == 3);
+    reap_all(&ring, 3, results);
+    check(results[0] == -ECANCELED && results[1] == -EINVAL && results[2] == 0);
+    close_ring(&ring);
+}
+
+/* A word that names no slot is dropped, and ends the call. */
+static void test_dropped_word(void)
+{
+    struct ring ring;
+    int32_t results[4];
+    make_ring(&ring, 4, 0, 0);
+    put(&ring, IORING_OP_NOP, 0, 0);
+    publish(&ring, 77);
+    put(&ring, IORING_OP_NOP, 2, 0);
+    check(enter(&ring, 3, 0, 0) == 1);
+    check(*sq_word(&ring, ring.params.sq_off.dropped) == 1 && *sq_word(&ring, ring.params.sq_off.head) == 2);
+    check(enter(&ring, 1, 0, 0) == 1);
+    reap_all(&ring, 2, results);
+    check(results[0] == 0 && results[2] == 0);
+    close_ring(&ring);
+}
+
+/* More completions than the ring has room for: none is lost, and they come in order. */
+static void test_overflow(void)
+{
+    struct ring ring;
+    make_ring(&ring, 4, 4, 0);
+    for (unsigned round = 0; round < 3; round++) {
+        for (unsigned i = 0; i < 4; i++)
+            put(&ring, IORING_OP_NOP, round * 4 + i, i < 3 ? IOSQE_IO_LINK : 0);
+        check(enter(&ring, 4, 0, 0) == 4);
+        while (flags_of(&ring) & IORING_SQ_TASKRUN && !(flags_of(&ring) & IORING_SQ_CQ_OVERFLOW) && count_ready(&ring) < 4)
+            enter(&ring, 0, 4, IORING_ENTER_GETEVENTS);
+    }
+    unsigned reaped = 0, seen[12] = {0};
+    while (reaped < 12) {
+        check(enter(&ring, 0, 1, IORING_ENTER_GETEVENTS) == 0);
+        while (count_ready(&ring) > 0) {
+            struct completion found = reap(&ring);
+            check(found.res == 0 && found.user_data < 12 && !seen[found.user_data]++);
+            check(found.user_data % 4 == 0 || seen[found.user_data - 1]);
+            reaped++;
+        }
+    }
+    check(enter(&ring, 0, 0, IORING_ENTER_GETEVENTS) == 0);
+    check(flags_of(&ring) == 0);
+    close_ring(&ring);
+}
+
+static void test_files(void)
+{
+    struct ring ring;
+    int32_t results[8];
+    char text[32] = "";
+    int file = make_file();
+    struct iovec vectors[2] = {{(void *)(uintptr_t)"good ", 5}, {(void *)(uintptr_t)"morning", 7}};
+    make_ring(&ring, 8, 0, 0);
+    put_transfer(&ring, IORING_OP_WRITEV, 0, IOSQE_IO_LINK, file, vectors, 2, 0);
+    put_transfer(&ring, IORING_OP_WRITE, 1, IOSQE_IO_LINK, file, (void *)(uintptr_t)"evening", 7, 5);
+    put(&ring, IORING_OP_FSYNC, 2, IOSQE_IO_LINK)->fd = file;
+    /* Short: its chain ends here. */
+    put_transfer(&ring, IORING_OP_READ, 3, IOSQE_IO_LINK, file, text, 20, 0);
+    put(&ring, IORING_OP_NOP, 4, 0);
+    put_transfer(&ring, IORING_OP_READ, 5, 0, -1, text, 1, 0);
+    check(enter(&ring, 6, 0, 0) == 6);
+    /* They were copied. */
+    memset(vectors, 0, sizeof vectors);
+    reap_all(&ring, 6, results);
+    check(results[0] == 12 && results[1] == 7 && results[2] == 0 && results[3] == 12 && results[4] == -ECANCELED && results[5] == -EBADF);
+    check(strcmp(text, "good evening") == 0);
+    put(&ring, IORING_OP_CLOSE, 6, 0)->fd = ring.fd;
+    put(&ring, IORING_OP_CLOSE, 7, 0)->fd = file;
+    check(enter(&ring, 2, 0, 0) == 2);
+    reap_all(&ring, 2, results);
+    check(results[6] == -EBADF && results[7] == 0 && fcntl(file, F_GETFD) < 0);
+    close_ring(&ring);
+}
+
+static void test_waiting(void)
+{
+    struct ring ring;
+    int32_t results[4];
+    char text[8] = "";
+    int ends[2];
+    check(pipe(ends) == 0);
+    make_ring(&ring, 4, 0, 0);
+    put_transfer(&ring, IORING_OP_READ, 0, 0, ends[0], text, 4, 0);
+    check(enter(&ring, 1, 0, 0) == 1);
+    check(enter_for(&ring, 1, 1000) == -ETIME);
+    check(flags_of(&ring) & IORING_SQ_TASKRUN);
+    check(write(ends[1], "four", 4) == 4);
+    reap_all(&ring, 1, results);
+    check(results[0] == 4 && memcmp(text, "four", 4) == 0);
+    /* A cancel that finds it running ends it. */
+    put_transfer(&ring, IORING_OP_READ, 0, 0, ends[0], text, 4, 0);
+    check(enter(&ring, 1, 0, 0) == 1);
+    check(enter_for(&ring, 1, 1000) == -ETIME);
+    put(&ring, IORING_OP_ASYNC_CANCEL, 1, 0);
+    put(&ring, IORING_OP_ASYNC_CANCEL, 2, IOSQE_IO_DRAIN)->addr = 99;
+    check(enter(&ring, 2, 0, 0) == 2);
+    reap_all(&ring, 3, results);
+    check(results[0] == -ECANCELED && results[1] == -EALREADY && results[2] == -ENOENT);
+    close(ends[0]);
+    close(ends[1]);
+    close_ring(&ring);
+}
+
+static void test_timeouts(void)
+{
+    struct ring ring;
+    struct __kernel_timespec hour = {3600, 0}, day = {86400, 0};
+    make_ring(&ring, 4, 0, 0);
+    struct io_uring_sqe *entry = put(&ring, IORING_OP_TIMEOUT, 0, 0);
+    entry->addr = (uintptr_t)&day;
+    entry->len = 1;
+    entry = put(&ring, IORING_OP_TIMEOUT, 1, 0);
+    entry->addr = (uintptr_t)&hour;
+    entry->len = 1;
+    check(enter(&ring, 2, 0, 0) == 2);
+    check(enter_for(&ring, 2, 7200 * 1000000000ll) == -ETIME);
+    struct completion found = reap(&ring);
+    check(found.user_data == 1 && found.res == -ETIME);
+    check(enter(&ring, 0, 1, IORING_ENTER_GETEVENTS) == 0);
+    found = reap(&ring);
+    check(found.user_data == 0 && found.res == -ETIME);
+    close_ring(&ring);
+}
+
+/* Two rings, one of them under another descriptor, and a child, which has neither. */
+static void test_two_rings(void)
+{
+    struct ring one, two;
+    int32_t results[4];
+    make_ring(&one, 4, 0, 0);
+    make_ring(&two, 4, 0, 0);
+    put(&one, IORING_OP_NOP, 1, 0);
+    put(&two, IORING_OP_NOP, 2, 0);
+    int other = dup(one.fd);
+    close(one.fd);
+    one.fd = other;
+    check(enter(&one, 1, 0, 0) == 1 && enter(&two, 1, 0, 0) == 1);
+    pid_t child = fork();
+    if (child == 0)
+        _exit(enter(&one, 0, 0, 0) == -EOPNOTSUPP ? 0 : 1);
+    int status;
+    check(waitpid(child, &status, 0) == child && status == 0);
+    reap_all(&one, 1, results);
+    reap_all(&two, 1, results);
+    check(results[1] == 0 && results[2] == 0);
+    close_ring(&one);
+    close_ring(&two);
+}
+
+/* A thread with a ring of its own: chains of three, one after the other. */
+static void *work_in_thread(void *none)
+{
+    struct ring ring;
+    int32_t results[3];
+    (void)none;
+    make_ring(&ring, 4, 0, 0);
+    for (int i = 0; i < 200; i++) {
+        put(&ring, IORING_OP_NOP, 0, IOSQE_IO_LINK);
+        put(&ring, IORING_OP_NOP, 1, IOSQE_IO_HARDLINK);
+        put(&ring, IORING_OP_NOP, 2, 0);
+        check(enter(&ring, 3, 3, IORING_ENTER_GETEVENTS) == 3);
+        reap_all(&ring, 3, results);
+        check(results[0] == 0 && results[1] == 0 && results[2] == 0);
+    }
+    close_ring(&ring);
+    return NULL;
+}
+
+static void test_threads(void)
+{
+    pthread_t threads[3];
+    for (int i = 0; i < 3; i++)
+        check(pthread_create(&threads[i], NULL, work_in_thread, NULL) == 0);
+    for (int i = 0; i < 3; i++)
+        check(pthread_join(threads[i], NULL) == 0);
+}
+
+/* A thread that waits on a ring for what another thread submits. */
+static void *wait_in_thread(void *ring)
+{
+    check(enter(ring, 0, 2, IORING_ENTER_GETEVENTS) == 0);
+    return NULL;
+}
+
+static void test_shared_ring(void)
+{
+    struct ring ring;
+    int32_t results[2];
+    pthread_t waiter;
+    make_ring(&ring, 4, 0, 0);
+    check(pthread_create(&waiter, NULL, wait_in_thread, &ring) == 0);
+    usleep(10000);
+    put(&ring, IORING_OP_NOP, 0, 0);
+    check(enter(&ring, 1, 0, 0) == 1);
+    check(enter_for(&ring, 2, 1000000) == -ETIME);
+    put(&ring, IORING_OP_NOP, 1, 0);
+    check(enter(&ring, 1, 0, 0) == 1);
+    check(pthread_join(waiter, NULL) == 0);
+    reap_all(&ring, 2, results);
+    check(results[0] == 0 && results[1] == 0);
+    close_ring(&ring);
+}
+
+/* Faults of ring 0, as WULGACH_FAULTS says. */
+static void test_injection(void)
+{
+    struct ring ring;
+    int32_t results[8];
+    char bytes[8] = "12345678";
+    int file = make_file();
+    make_ring(&ring, 8, 0, 0);
+    put_transfer(&ring, IORING_OP_WRITE, 0, IOSQE_IO_LINK, file, bytes, 8, 0);
+    put(&ring, IORING_OP_FSYNC, 1, 0)->fd = file;
+    put_transfer(&ring, IORING_OP_WRITE, 2, IOSQE_IO_LINK, file, bytes, 8, 0);
+    put(&ring, IORING_OP_FSYNC, 3, 0)->fd = file;
+    put_transfer(&ring, IORING_OP_WRITE, 4, 0, file, bytes, 8, 0);
+    put(&ring, IORING_OP_FSYNC, 5, 0)->fd = file;
+    check(enter(&ring, 6, 0, 0) == 6);
+    reap_all(&ring, 6, results);
+    check(results[0] == -ENOSPC && results[1] == -ECANCELED);
+    check(results[2] == 4 && results[3] == -ECANCELED);
+    check(results[4] == 8 && results[5] == -EIO);
+    close(file);
+    close_ring(&ring);
+}
+
+/* ---- memory that is refused ---- */
+
+static long allocations_left = -1;
+
+static bool is_allowed(void)
+{
+    return allocations_left < 0 || allocations_left-- > 0;
+}
+
+void *__real_malloc(size_t size);
+void *__real_calloc(size_t count, size_t size);
+void *__real_realloc(void *at, size_t size);
+void *__wrap_malloc(size_t size);
+void *__wrap_calloc(size_t count, size_t size);
+void *__wrap_realloc(void *at, size_t size);
+
+void *__wrap_malloc(size_t size)
+{
+    return is_allowed() ? __real_malloc(size) : NULL;
+}
+
+void *__wrap_calloc(size_t count, size_t size)
+{
+    return is_allowed() ? __real_calloc(count, size) : NULL;
+}
+
+void *__wrap_realloc(void *at, size_t size)
+{
+    return is_allowed() ? __real_realloc(at, size) : NULL;
+}
+
+/* Each allocation of a submission is refused in turn: the call ends with -EAGAIN or takes less, and a later one takes
+ * the rest, once. */
+static void test_refused_memory(void)
+{
+    for (long allowed = 0; allowed < 40; allowed++) {
+        struct ring ring;
+        int32_t results[4];
+        make_ring(&ring, 4, 0, 0);
+        struct iovec vector = {(void *)(uintptr_t)"x", 1};
+        int file = make_file();
+        for (unsigned i = 0; i < 4; i++)
+            put_transfer(&ring, IORING_OP_WRITEV, i, i < 3 ? IOSQE_IO_LINK : 0, file, &vector, 1, i);
+        allocations_left = allowed;
+        long result = enter(&ring, 4, 0, 0);
+        allocations_left = -1;
+        check(result == -EAGAIN || (result > 0 && result <= 4));
+        long taken = result > 0 ? result : 0;
+        while (taken < 4) {
+            result = enter(&ring, (unsigned)(4 - taken), 0, 0);
+            check(result > 0);
+            taken += result;
+        }
+        reap_all(&ring, 4, results);
+        for (unsigned i = 0; i < 4; i++)
+            check(results[i] == 1);
+        check(lseek(file, 0, SEEK_END) == 4);
+        close(file);
+        close_ring(&ring);
+    }
+}
+
+int main(int argc, char **argv)
+{
+    static const struct {
+        const char *name;
+        void (*run)(void);
+    } tests[] = {{"setup", test_setup}, {"calls", test_calls}, {"chain", test_chain}, {"skipped success", test_skipped_success}, {"faulty", test_faulty}, {"dropped word", test_dropped_word}, {"overflow", test_overflow}, {"files", test_files}, {"waiting", test_waiting}, {"timeouts", test_timeouts}, {"two rings", test_two_rings}, {"threads", test_threads}, {"shared ring", test_shared_ring}, {"refused memory", test_refused_memory}};
+    (void)argv;
+    if (argc > 1) {
+        test = "injection";
+        test_injection();
+        return 0;
+    }
+    for (size_t i = 0; i < sizeof tests / sizeof *tests; i++) {
+        test = tests[i].name;
+        tests[i].run();
+    }
+    return 0;
+}
