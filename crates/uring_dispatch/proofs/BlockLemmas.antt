@@ -252,12 +252,10 @@ limit-holds s a n = refl
 pub positive : (n : ℕ) → n ≢ 0 → 0 < n
 positive n ne = elim (cases_lt 0 n) [ inl lt ↦ lt | inr le ↦ absurd (ne (omega arith)) ]
 
--- a block that is zero stays zero if a number is taken out
-pub remove-zero : (first : ℕ) (old new : List ℕ) (n block : ℕ) → 64 * first ≤ n → n < 64 * (first + length old) → block ≡ block_of first old (n / 64) → new ≡ set old (n / 64 - first) (bit_and block (bit_not w64 (1 * 2 ^ (n % 64) % 2 ^ 64))) → block_of first old (n / 64) ≡ 0 → block_of first new (n / 64) ≡ 0
-remove-zero first old new n block from to was wrote zero =
-    ap (λ bs. block_of first bs (n / 64)) wrote
-    ∙ block_of-set_here first old (n / 64) _ (omega arith) (omega arith)
-    ∙ ap (λ b. bit_and b (bit_not w64 (1 * 2 ^ (n % 64) % 2 ^ 64))) (was ∙ zero)
+-- a number whose block is zero needn't be taken out
+pub zero-puts : (s : NumberSet) (n : ℕ) → block_at s (n / 64) ≡ 0 → Puts s s n false
+zero-puts s n zero =
+    record { here = holds-zero s n zero; others = λ k ne. refl; blocks = λ i ne. refl; start = refl; stop = refl; limit = refl }
 
 pub same-set : (s : NumberSet) → IsSameSet s s
 same-set s = record { same = λ i. refl; limit = omega arith }

@@ -101,8 +101,7 @@ impl Blocks {
     /// Takes the number `n` out of the set.
     pub(crate) fn remove(&mut self, n: u64)
         requires { Covers self.old n }
-        ensures puts { Puts self.old self.new n false }
-        ensures zero { block_at self.old (n / 64) ≡ 0 → block_at self.new (n / 64) ≡ 0 }
+        ensures { Puts self.old self.new n false }
     {
         let block = block_of(self.first, &self.blocks, n / 64) & !(1u64 << (n % 64));
         write(&mut self.blocks, (n / 64 - self.first) as usize, block);

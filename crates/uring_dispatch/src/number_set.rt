@@ -78,6 +78,9 @@ impl NumberSet {
         requires { Covers self.old n }
         ensures { Puts self.old self.new n false }
     {
+        if self.numbers.block(n / 64) == 0 {
+            return;
+        }
         self.numbers.remove(n);
         if self.numbers.block(n / 64) == 0 {
             self.filled.remove(n / 64);
