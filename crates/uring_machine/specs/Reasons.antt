@@ -3,8 +3,12 @@ use Rattle.std.specs.Prelude.{◌≡◌, ◌↔◌, ℕ, ◌<◌, Bool, true, fa
 use Rattle.uring_entry.specs.Requests.{Requests, entry_of, is_outstanding, is_running, is_issuable, is_doomed, is_ready, is_in_faulty_group, is_behind_failure, is_cancelled, is_joined, is_draining, holds_back}
 use Rattle.uring_entry.specs.Preparation.{fault_of, is_faulty}
 use Rattle.uring_entry.specs.Why.{is_faulty_member, is_failure_before, why_of}
+use Rattle.uring_machine.specs.World.{World}
+use Rattle.uring_machine.specs.StepAnswers.{IsEnded, issue_answer}
+use Rattle.uring_machine.specs.declared.answer.Answer.{Answer}
+use Rattle.uring_machine.specs.declared.answer.Answer.TheVariants as answer
 use Rattle.uring_entry.specs.declared.why.Why.{Why}
-use Rattle.uring_entry.specs.declared.why.Why.TheVariants.{IsDoomed, Waits, MayStart}
+use Rattle.uring_entry.specs.declared.why.Why.TheVariants.{NeverAccepted, HasEnded, Runs, IsDoomed, Waits, MayStart}
 use Rattle.uring_entry.specs.declared.why.Doom.{Doom}
 use Rattle.uring_entry.specs.declared.why.Doom.TheVariants.{OwnFault, FaultOf, FailureOf, Cancel}
 use Rattle.uring_entry.specs.declared.why.Since.{Since}
@@ -76,3 +80,16 @@ GoesOn r n = (is_running r n ≡ true) ⊎ (is_issuable r n ≡ true)
 -- Whoever waits, waits for one that runs or can be issued, or for one that waits for such a one.
 abbrev pub TwoSteps : Type 0
 TwoSteps = (r : Requests) (n m : ℕ) (since : Since) → why_of r n ≡ Waits m since → GoesOn r m ⊎ ((k : ℕ) × (other : Since) × (why_of r m ≡ Waits k other) × GoesOn r k)
+
+-- an Issue so answered agrees with what is told of its request
+abbrev pub AgreesWith : Answer → Why → Type 0
+AgreesWith a NeverAccepted = a ≡ answer.Unknown
+AgreesWith a HasEnded = a ≡ answer.Unknown
+AgreesWith a Runs = a ≡ answer.Running
+AgreesWith a (IsDoomed doom) = IsEnded a
+AgreesWith a (Waits m since) = a ≡ answer.NotReady
+AgreesWith a MayStart = (a ≡ answer.Run) ⊎ IsEnded a
+
+-- The answer called for by an Issue agrees with what is told just before.
+abbrev pub AnswerAgrees : Type 0
+AnswerAgrees = (w : World) (n : ℕ) → AgreesWith (issue_answer w n) (why_of w.requests n)

@@ -1,5 +1,5 @@
 //! Why a request stands as it does, and what it says: laws of any requests.
-ghost use Rattle.uring_machine.specs.Reasons.{IssuableIsSaid, MayStartIsSaid, WaitsIsSaid, DoomIsSaid, TwoSteps};
+ghost use Rattle.uring_machine.specs.Reasons.{IssuableIsSaid, MayStartIsSaid, WaitsIsSaid, DoomIsSaid, TwoSteps, AnswerAgrees};
 
 /// A request can be issued exactly if it is told to be doomed, or that it may start.
 pub fn issuable_is_said()
@@ -24,4 +24,9 @@ pub fn doom_is_said()
 /// Asking why of a request that waits, and then of the one that it is told to wait for, leads to a request that runs or can be issued, at the second question at the latest.
 pub fn two_steps_lead_on()
     ensures { TwoSteps }
+{}
+
+/// What is told of a request just before its `Issue` agrees with the answer called for: `Unknown` of one that was never accepted or has ended, `Running` of one that runs, an end of a doomed one, `NotReady` of one that waits, and a start or the end of a cancel of one that may start.
+pub fn answer_agrees()
+    ensures { AnswerAgrees }
 {}
