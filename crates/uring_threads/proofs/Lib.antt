@@ -19,3 +19,4 @@ mod SettledWork
 mod SettledWorkers
 pub mod Carrying
 pub mod Posting
+mod WorkerFiles

@@ -85,9 +85,9 @@ same_ring a b words slots names =
 
 pub same_worker : (place : ℕ) {jobs others results pairs : List ℕ} {done same : List Done} {files these : List FileContents} {seen : List Job} {room : ℕ}
     → jobs ≡ others → results ≡ pairs → done ≡ same → files ≡ these
-    → ◌≡◌ {A = Worker} (record { place = place; rings = jobs ∷ results ∷ []; done = done; files = files; seen = seen; room = room }) (record { place = place; rings = others ∷ pairs ∷ []; done = same; files = these; seen = seen; room = room })
+    → ◌≡◌ {A = Worker} (record { place = place; pairing = jobs ∷ results ∷ []; done = done; files = files; seen = seen; room = room }) (record { place = place; pairing = others ∷ pairs ∷ []; done = same; files = these; seen = seen; room = room })
 same_worker place {jobs} {others} {results} {pairs} {done} {same} {files} {these} {seen} {room} j r d f =
-    ap (λ x. record { place = place; rings = x ∷ results ∷ []; done = done; files = files; seen = seen; room = room }) j
-    ∙ ap (λ x. record { place = place; rings = others ∷ x ∷ []; done = done; files = files; seen = seen; room = room }) r
-    ∙ ap (λ x. record { place = place; rings = others ∷ pairs ∷ []; done = x; files = files; seen = seen; room = room }) d
-    ∙ ap (λ x. record { place = place; rings = others ∷ pairs ∷ []; done = same; files = x; seen = seen; room = room }) f
+    ap (λ x. record { place = place; pairing = x ∷ results ∷ []; done = done; files = files; seen = seen; room = room }) j
+    ∙ ap (λ x. record { place = place; pairing = others ∷ x ∷ []; done = done; files = files; seen = seen; room = room }) r
+    ∙ ap (λ x. record { place = place; pairing = others ∷ pairs ∷ []; done = x; files = files; seen = seen; room = room }) d
+    ∙ ap (λ x. record { place = place; pairing = others ∷ pairs ∷ []; done = same; files = x; seen = seen; room = room }) f

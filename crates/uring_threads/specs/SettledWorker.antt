@@ -1,14 +1,17 @@
 -- Settling a worker: all its results are taken in. Our own rule.
-use Rattle.std.specs.Prelude.{◌≡◌, ℕ, ◌<◌, ◌≤◌, List, [], ◌∷◌, ◌++◌, length, drop, get_or}
+use Rattle.std.specs.Prelude.{◌≡◌, ℕ, ℤ, Option, ◌<◌, ◌≤◌, List, [], ◌∷◌, ◌++◌, length, drop, get_or}
 use Rattle.rtrb.specs.Ring.{received, consumer_capacity}
 use Rattle.uring_machine.specs.Finishes.{Done}
 use Rattle.uring_threads.specs.declared.job.Job.{Job}
 use Rattle.uring_threads.specs.declared.work_lanes.WorkLanes.{WorkLanes}
 use Rattle.uring_threads.specs.Collected.{history, OthersStay}
 use Rattle.uring_threads.specs.Dispatched.{HasCarried}
-use Rattle.uring_threads.specs.Kept.{Kept}
+use Rattle.uring_files.specs.Operations.{state_of, byte_of}
+use Rattle.uring_files.specs.declared.file.FileState.{FileState}
+use Rattle.uring_machine.specs.CalledFor.{files_of}
+use Rattle.uring_threads.specs.Kept.{Kept, now}
 use Rattle.uring_threads.specs.Settled.{Work, IsWork, IsSettled}
-use Rattle.uring_threads.specs.Rings.{rings_of}
+use Rattle.uring_threads.specs.Pairings.{pairing_of}
 use Rattle.uring_threads.specs.Work.{results_of}
 use Rattle.uring_threads.specs.Worker.{Worker, Looks}
 use Rattle.uring_threads.specs.declared.job.JobResult.{JobResult}
@@ -24,7 +27,7 @@ pub record IsSettledAt (old new : Kept) (workers k : ℕ) (lanes : WorkLanes) (d
 -- the dispatcher's ends of the lanes of these workers, worker 0's first: each holds at most 64 results
 pub record AreLanesOf (files : ℕ) (lanes : List WorkLanes) (workers : List Worker) : Type 0 where
   pub many : length workers ≡ length lanes
-  pub rings : (k : ℕ) (d : WorkLanes) (e : Worker) → k < length lanes → (get_or workers k e).rings ≡ rings_of (get_or lanes k d).jobs (get_or lanes k d).results
+  pub pairing : (k : ℕ) (d : WorkLanes) (e : Worker) → k < length lanes → (get_or workers k e).pairing ≡ pairing_of (get_or lanes k d).jobs (get_or lanes k d).results
   pub short : (k : ℕ) (d : WorkLanes) → k < length lanes → consumer_capacity (get_or lanes k d).results ≤ 64
   pub have : (k : ℕ) (e : Worker) → k < length lanes → length (get_or workers k e).files ≡ files
 
@@ -51,3 +54,15 @@ AreSettled kept workers = (e : Worker) → IsSettled kept.setup (length workers)
 pub record HaveLooked (old new : List Worker) : Type 0 where
   pub many : length new ≡ length old
   pub looked : (k : ℕ) (e : Worker) → k < length old → Looks (get_or old k e) (get_or new k e)
+
+-- there is a worker, and each has as many files as there are
+pub record HaveFiles (files : ℕ) (workers : List Worker) : Type 0 where
+  pub some : 0 < length workers
+  pub each : (k : ℕ) (e : Worker) → k < length workers → length (get_or workers k e).files ≡ files
+
+-- what is told of the file of a descriptor, of any history that these workers have settled
+abbrev pub TellsState : ℕ → List Worker → ℤ → Option FileState → Type 0
+TellsState files workers fd told = (kept : Kept) → kept.setup.files ≡ files → AreSettled kept workers → told ≡ state_of (files_of kept.setup (now kept)) fd
+
+abbrev pub TellsByte : ℕ → List Worker → ℤ → ℕ → Option ℕ → Type 0
+TellsByte files workers fd at told = (kept : Kept) → kept.setup.files ≡ files → AreSettled kept workers → told ≡ byte_of (files_of kept.setup (now kept)) fd at

@@ -15,7 +15,7 @@ pub record Worker : Type 0 where
   -- which of the workers it is, from 0
   pub place : ℕ
   -- the lanes of its jobs and of its results, as numbers that the dispatcher's ends of them have too
-  pub rings : List (List ℕ)
+  pub pairing : List (List ℕ)
   -- the operations that it carried out, in order: the jobs that it took are theirs, and so are the results that it sent
   pub done : List Done
   -- its files

@@ -24,6 +24,7 @@ mod place;
 mod settle_work;
 mod work_lanes;
 mod worker;
+mod worker_files;
 
 // the dispatcher's side
 mod calls;

@@ -18,9 +18,10 @@ pub(crate) fn place_of(op: &Op, workers: u32, files: u32) -> u32
 }
 
 /// The worker that has the file of a descriptor.
-fn place_of_file(fd: i32, workers: u32, files: u32) -> u32
+pub(crate) fn place_of_file(fd: i32, workers: u32, files: u32) -> u32
     requires { 0 < workers }
-    ensures { result ≡ work.place_of_file workers files fd }
+    ensures place { result ≡ work.place_of_file workers files fd }
+    ensures within { result < workers }
 {
     match u32::try_from(fd) {
         Ok(file) if file < files => file % workers,

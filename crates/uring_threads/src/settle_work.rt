@@ -3,7 +3,7 @@ ghost use Rattle.std.specs.Prelude.{◌≡◌, ℕ, List, ◌+◌, ◌*◌, ◌<
 ghost use Rattle.rtrb.specs.Ring.{received, consumer_capacity};
 ghost use Rattle.uring_threads.specs.Collected.{TakesAll};
 ghost use Rattle.uring_threads.specs.Dispatched.{HasCarried, HaveCarried};
-ghost use Rattle.uring_threads.specs.Rings.{rings_of};
+ghost use Rattle.uring_threads.specs.Pairings.{pairing_of};
 ghost use Rattle.uring_threads.specs.SettledWorker.{AreLanesOf, AreSettled, HaveLooked, IsSettledAt, all_waiting};
 ghost use Rattle.uring_threads.specs.Work.{results_of};
 ghost use Rattle.uring_threads.specs.Worker.{IsRight, Looks};
@@ -35,7 +35,7 @@ pub fn settle_workers<G: Gate>(kept: &mut Kept, lanes: &mut [WorkLanes], workers
 
 /// Takes in all results of a worker that wait. Conditions: these are the dispatcher's ends of its lanes, which have carried what the trace has, and there is room in the trace for as many events as the lane of results holds.
 pub fn settle_worker<G: Gate>(kept: &mut Kept, lanes: &mut WorkLanes, worker: &mut Worker<G>)
-    requires rings { worker.old.rings ≡ rings_of lanes.old.jobs lanes.old.results }
+    requires pairing { worker.old.pairing ≡ pairing_of lanes.old.jobs lanes.old.results }
     requires room { length kept.old.trace + consumer_capacity lanes.old.results ≤ kept.old.room }
     requires carried { (workers : ℕ) × (k : ℕ) × HasCarried kept.old workers k lanes.old }
     // A Finish for each result that waited, and no more.
@@ -45,7 +45,7 @@ pub fn settle_worker<G: Gate>(kept: &mut Kept, lanes: &mut WorkLanes, worker: &m
     ensures settled { (workers k : ℕ) → HasCarried kept.old workers k lanes.old → IsSettledAt kept.old kept.new workers k lanes.new worker.old.done worker.new.seen }
     ensures worker { Looks worker.old worker.new }
     ensures right { IsRight worker.new }
-    ensures rings { rings_of lanes.new.jobs lanes.new.results ≡ rings_of lanes.old.jobs lanes.old.results }
+    ensures pairing { pairing_of lanes.new.jobs lanes.new.results ≡ pairing_of lanes.old.jobs lanes.old.results }
 {
     worker.see_all(lanes);
     worker.is_right();

@@ -1,7 +1,7 @@
 //! The lanes between the dispatcher and a worker.
 ghost use Rattle.std.specs.Prelude.{◌≡◌, [], IfOk};
 ghost use Rattle.rtrb.specs.Ring.{sent, known_free, received, known_items, consumer_capacity};
-ghost use Rattle.uring_threads.specs.Rings.{rings_of};
+ghost use Rattle.uring_threads.specs.Pairings.{pairing_of};
 ghost use Rattle.uring_threads.specs.Worker.{empty_files};
 
 use crate::gate::Gate;
@@ -30,7 +30,7 @@ pub fn open_lanes<G: Gate>(
 ) -> Result<(WorkLanes, Worker<G>), AllocError>
     ensures jobs { IfOk result (λ r. (sent r.0.jobs ≡ []) × (known_free r.0.jobs ≡ 64)) }
     ensures results { IfOk result (λ r. (received r.0.results ≡ []) × (known_items r.0.results ≡ []) × (consumer_capacity r.0.results ≡ 64)) }
-    ensures rings { IfOk result (λ r. r.1.rings ≡ rings_of r.0.jobs r.0.results) }
+    ensures pairing { IfOk result (λ r. r.1.pairing ≡ pairing_of r.0.jobs r.0.results) }
     ensures worker { IfOk result (λ r. (r.1.place ≡ place) × (r.1.done ≡ []) × (r.1.files ≡ empty_files files)) }
 {
     let (jobs, to_do) = RingBuffer::with_protocol::<Global, ForFiles>(alloc, LANE_LENGTH)?;

@@ -2,7 +2,7 @@
 ghost use Rattle.std.specs.Prelude.{◌≡◌, ◌+◌, ◌<◌, ◌≤◌, [], ◌∷◌, ◌++◌, length, IfOk};
 ghost use Rattle.rtrb.specs.Ring.{sent, known_free, received, known_items};
 ghost use Rattle.uring_files.specs.Operations.{state_of, byte_of, IsForFiles};
-ghost use Rattle.uring_threads.specs.Rings.{producer_ring, consumer_ring, rings_of};
+ghost use Rattle.uring_threads.specs.Pairings.{producer_numbers, consumer_numbers, pairing_of};
 ghost use Rattle.uring_threads.specs.Work.{jobs_of, results_of};
 ghost use Rattle.uring_threads.specs.Worker.{IsRight, Looks, Turns, empty_files};
 
@@ -56,10 +56,10 @@ impl<G: Gate> Model for Worker<G> {
 
     ghost use Rattle.std.specs.Prelude.{[], ◌∷◌};
     ghost use Rattle.rtrb.specs.Ring.{sent, known_free, received, known_items};
-    ghost use Rattle.uring_threads.specs.Rings.{producer_ring, consumer_ring};
+    ghost use Rattle.uring_threads.specs.Pairings.{producer_numbers, consumer_numbers};
     ghost use Rattle.uring_threads.specs.Worker.{done_of, IsWorking};
 
-    ghost view = { λ w. record { place = w.place; rings = consumer_ring w.jobs ∷ producer_ring w.results ∷ []; done = done_of (received w.jobs) (sent w.results); files = w.files; seen = known_items w.jobs; room = known_free w.results } };
+    ghost view = { λ w. record { place = w.place; pairing = consumer_numbers w.jobs ∷ producer_numbers w.results ∷ []; done = done_of (received w.jobs) (sent w.results); files = w.files; seen = known_items w.jobs; room = known_free w.results } };
 
     ghost invariant = { λ w. IsWorking (received w.jobs) (sent w.results) w.files };
 }
@@ -77,7 +77,7 @@ impl<G: Gate> Worker<G> {
         requires jobs { received jobs ≡ [] }
         requires results { sent results ≡ [] }
         ensures place { result.place ≡ place }
-        ensures rings { result.rings ≡ consumer_ring jobs ∷ producer_ring results ∷ [] }
+        ensures pairing { result.pairing ≡ consumer_numbers jobs ∷ producer_numbers results ∷ [] }
         ensures done { result.done ≡ [] }
         ensures files { result.files ≡ files }
     {
@@ -111,12 +111,12 @@ impl<G: Gate> Worker<G> {
 
     /// Sees all jobs that were sent to this worker and that it hasn't taken, and shows the dispatcher's end all results that were sent. Condition: these are the dispatcher's ends of this worker's lanes.
     pub(crate) fn see_all(&mut self, lanes: &mut WorkLanes)
-        requires { self.old.rings ≡ rings_of lanes.old.jobs lanes.old.results }
+        requires { self.old.pairing ≡ pairing_of lanes.old.jobs lanes.old.results }
         ensures worker { Looks self.old self.new }
         ensures jobs { jobs_of self.new.done ++ self.new.seen ≡ sent lanes.new.jobs }
         ensures results { received lanes.new.results ++ known_items lanes.new.results ≡ results_of self.new.done }
         ensures dispatcher { (sent lanes.new.jobs ≡ sent lanes.old.jobs) × (received lanes.new.results ≡ received lanes.old.results) }
-        ensures rings { rings_of lanes.new.jobs lanes.new.results ≡ rings_of lanes.old.jobs lanes.old.results }
+        ensures pairing { pairing_of lanes.new.jobs lanes.new.results ≡ pairing_of lanes.old.jobs lanes.old.results }
     {
         self.jobs.slots_beside(&mut lanes.jobs);
         lanes.results.slots_beside(&mut self.results);

@@ -5,12 +5,12 @@ use Rattle.rtrb.specs.declared.consumer.Consumer.{Consumer}
 use Rattle.uring_threads.specs.Lanes.{numbers_of}
 
 module _ {T A P : Type 0} where
-  abbrev pub producer_ring : Producer T A P → List ℕ
-  producer_ring p = numbers_of p.end
+  abbrev pub producer_numbers : Producer T A P → List ℕ
+  producer_numbers p = numbers_of p.end
 
-  abbrev pub consumer_ring : Consumer T A P → List ℕ
-  consumer_ring c = numbers_of c.end
+  abbrev pub consumer_numbers : Consumer T A P → List ℕ
+  consumer_numbers c = numbers_of c.end
 
 -- the lanes of a worker's jobs and results, by one end of each
-abbrev pub rings_of : {J R A B P Q : Type 0} → Producer J A P → Consumer R B Q → List (List ℕ)
-rings_of jobs results = producer_ring jobs ∷ consumer_ring results ∷ []
+abbrev pub pairing_of : {J R A B P Q : Type 0} → Producer J A P → Consumer R B Q → List (List ℕ)
+pairing_of jobs results = producer_numbers jobs ∷ consumer_numbers results ∷ []
