@@ -1,6 +1,5 @@
 //! The application's end: it submits calls, reaps completions and closes.
 ghost use Rattle.std.specs.Prelude.{◌≡◌, ◌<◌, ◌≤◌, ◌↔◌, false, [], IsTrue, length, OnOk, IfOk, IfErr, MatchOption};
-ghost use Rattle.uring_entry.specs.Layout.{Cqe};
 ghost use Rattle.uring_machine.specs.Published.{IsItem};
 ghost use Rattle.uring_threads.specs.Items.{AreItems, published_as};
 ghost use Rattle.uring_threads.specs.Ports.{nothing_put, items_of_calls, LeavesItems, LeavesCompletions};
@@ -54,7 +53,7 @@ impl<P: AppPort> AppEnd<P> {
 
     /// Submits the items as one call, all of them, or none.
     ///
-    /// It refuses with `Closed`, `Empty`, `TooLong`, `NotBad`, `Full`, in this order, each exactly if it stands as its own page says. io_uring_enter(2), for a call; that a call has an item and fits the ring is our own rule.
+    /// It refuses with `Closed`, `Empty`, `TooLong`, `NotBad`, `Full`, in this order, each exactly if what `SubmitRefusal` says of it stands. io_uring_enter(2), for a call; that a call has an item and fits the ring is our own rule.
     pub fn submit(&mut self, items: &[Item]) -> Result<(), SubmitRefusal>
         // Ok: each item is submitted.
         ensures ok { OnOk result (IsSound self.old items.now × (self.new ≡ submits self.old items.now)) }

@@ -1,5 +1,5 @@
 //! The lane for submissions: calls go in whole and come out whole.
-ghost use Rattle.std.specs.Prelude.{◌≡◌, ℕ, suc, ◌+◌, ◌-◌, ◌<◌, ◌≤◌, false, List, ◌++◌, length, vec_capacity, vec_len, IsTrue, MatchBool};
+ghost use Rattle.std.specs.Prelude.{◌≡◌, ◌+◌, ◌<◌, ◌≤◌, false, List, ◌++◌, length, vec_capacity, vec_len, MatchBool};
 ghost use Rattle.rtrb.specs.Ring.{sent, known_free, producer_capacity, received, known_items, consumer_capacity, SameProducer, SameConsumer, ProducerLooked};
 ghost use Rattle.uring_threads.specs.Ports.{Pulls, with_call, with_close, places_of};
 ghost use Rattle.uring_threads.specs.Messages.{items_before, has_close_mark, put_of, owed, AreWhole};
