@@ -56,7 +56,7 @@ module _ (a b : Kept) (workers place : ℕ) (r : JobResult) (can : CanBeTaken a 
       record {
         jobs = λ k. ap₂ (λ g h. jobs_to g workers k h) grows.setup (grown_history a b (finish_of r) grows);
         results = λ k other. ap₂ (λ g h. done_by_worker g workers k h) grows.setup (grown_history a b (finish_of r) grows)
-        ∙ done-other (place_of workers a.setup.files) k (done_in a.setup (history a)) end (λ same. other (sym same ∙ can.own));
+            ∙ done-other (place_of workers a.setup.files) k (done_in a.setup (history a)) end (λ same. other (sym same ∙ can.own));
       }
 
 -- what was seen first is what is popped

@@ -17,3 +17,4 @@ mod Collecting
 pub mod RingEnds
 pub mod Carrying
 pub mod Posting
+pub mod Turning
