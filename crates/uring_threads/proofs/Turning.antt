@@ -1,9 +1,8 @@
 -- The dispatcher's ties stay through the parts of a turn, and their tallies add up.
-use Rattle.std.proofs.Common.{◌≡◌, ℕ, ◌+◌, ◌<◌, List, [], ◌++◌, sum, length, refl, sym, subst, ap, ap₂, ◌∙◌, arith}
+use Rattle.std.proofs.Common.{◌≡◌, ℕ, List, [], ◌++◌, sum, refl, sym, subst, ap, ap₂, ◌∙◌, arith}
 use Rattle.uring_entry.specs.Setup.{Setup}
 use Rattle.uring_entry.specs.Layout.{Cqe}
 use Rattle.uring_entry.specs.Submission.{Submission}
-use Rattle.uring_machine.specs.World.{World}
 use Rattle.uring_machine.specs.Published.{published_items}
 use Rattle.uring_machine.specs.Standing.{Stands}
 use Rattle.uring_threads.specs.Delivered.{IsDelivered, KeepsAllBut, OnlyPosts}
@@ -14,7 +13,6 @@ use Rattle.uring_threads.specs.Taking.{Tied, TakesIn, waiting_in}
 use Rattle.uring_threads.specs.Tallies.{Tally, Appends, both, none_counted, issues_counted, finishes_counted, reaps_counted}
 use Rattle.uring_threads.specs.Turns.{AreTies, Counts}
 use Rattle.uring_threads.specs.declared.intake.Intake.{Intake}
-use Rattle.uring_threads.specs.declared.turns.Turn.{Turn}
 use Rattle.uring_threads.specs.declared.work_lanes.WorkLanes.{WorkLanes}
 use Rattle.uring_threads.proofs.Carrying.{quiet_stays, carried_stays}
 use Rattle.uring_threads.proofs.TraceSteps.{appends_none, appends_then}

@@ -1,6 +1,4 @@
-use Rattle.std.proofs.Common.{◌≡◌, subst, sym, refl}
-use Rattle.std.specs.Prelude.{OnErr}
-use Rattle.uring_threads.specs.Kept.{now}
+use Rattle.std.proofs.Common.{subst, sym, refl}
 use Rattle.uring_threads.specs.Tallies.{finishes_counted, issues_counted, reaps_counted}
 use Rattle.uring_threads.specs.Turns.{AreTies}
 use Rattle.uring_threads.proofs.Collecting.{on_err}
