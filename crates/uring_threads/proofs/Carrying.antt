@@ -1,11 +1,10 @@
 -- What the lanes of the workers have carried, as the trace goes on.
-use Rattle.std.proofs.Common.{◌≡◌, ◌≢◌, ℕ, ◌+◌, ◌<◌, ◌≤◌, ◌==◌, Bool, true, false, cond, List, [], ◌∷◌, ◌++◌, length, get_or, count_by, Option, Some, None, ℤ, if◌then◌else◌, refl, sym, subst, ap, ap₂, ◌∙◌, inl, inr, arith, append-nil}
+use Rattle.std.proofs.Common.{◌≡◌, ◌≢◌, ℕ, ◌<◌, ◌==◌, Bool, cond, List, [], ◌∷◌, ◌++◌, length, get_or, count_by, Some, None, ℤ, refl, sym, subst, ap, ap₂, ◌∙◌, inl, inr, arith, append-nil}
 use Rattle.std.specs.List.{filter}
 use Rattle.std.proofs.lemmas.Bool.{eq-eqb, ne_eqb, cases_eq}
 use Rattle.std.proofs.lemmas.List.Elements.{filter-append}
 use Rattle.std.proofs.lemmas.List.Sums.{sum_by-append}
 use Rattle.uring_entry.specs.Setup.{Setup}
-use Rattle.uring_entry.specs.Preparation.{operation_of}
 use Rattle.uring_entry.specs.Requests.{entry_of, no_bytes}
 use Rattle.uring_entry.specs.declared.operation.Op.{Op}
 use Rattle.uring_machine.specs.Finishes.{done_in, done_by}
@@ -13,7 +12,6 @@ use Rattle.uring_machine.specs.Histories.{Event, History, world, history_of}
 use Rattle.uring_machine.specs.StepAnswers.{IsEnded}
 use Rattle.uring_machine.specs.World.{World, issuing}
 use Rattle.uring_machine.specs.Direct.{with_told}
-use Rattle.uring_machine.specs.declared.step.Step.{Step}
 use Rattle.uring_machine.specs.declared.step.Step.TheVariants as step
 use Rattle.uring_machine.specs.declared.answer.Answer.{Answer}
 use Rattle.uring_machine.specs.declared.answer.Answer.TheVariants as answer
@@ -25,16 +23,13 @@ use Rattle.uring_threads.specs.declared.job.JobResult.{JobResult}
 use Rattle.std.specs.Prelude.{Result, Ok, Err, IfOk, OnErr}
 use Rattle.std.proofs.Math.ListN.{set}
 use Rattle.std.proofs.lemmas.List.{length-set, get_or-set_same, get_or-set_other}
-use Rattle.uring_threads.specs.Dispatched.{HasCarried, HaveCarried, IsSent}
+use Rattle.uring_threads.specs.Dispatched.{HaveCarried, IsSent}
 use Rattle.uring_threads.specs.Issued.{IssuedAs}
 use Rattle.uring_threads.specs.Delivered.{OnlyPosts}
 use Rattle.uring_threads.proofs.Posting.{end_posts}
 use Rattle.uring_threads.proofs.TraceSteps.{grown}
-use Rattle.uring_entry.specs.Layout.{Sqe}
-use Rattle.uring_entry.specs.Completions.{Completions, with_end, with_posted, completion_for}
-use Rattle.uring_entry.specs.Success.{posts_completion}
 use Rattle.uring_threads.specs.Kept.{Kept, now, Grows}
-use Rattle.uring_threads.specs.Tallies.{Tally, tally_of, Appends, finishes_counted, issues_request, takes_result}
+use Rattle.uring_threads.specs.Tallies.{Tally, Appends, issues_request, takes_result}
 use Rattle.uring_threads.specs.Work.{place_of, job_by, jobs_in, jobs_at, jobs_to, done_by_worker, results_of}
 use Rattle.rtrb.specs.Ring.{sent, received}
 use Rattle.uring_threads.proofs.Collecting.{grown_history}

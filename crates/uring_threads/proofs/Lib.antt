@@ -20,3 +20,4 @@ mod SettledWorkers
 pub mod Carrying
 pub mod Posting
 mod WorkerFiles
+pub mod Turning

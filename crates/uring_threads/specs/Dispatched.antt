@@ -1,5 +1,5 @@
 -- What went through the lanes between the dispatcher and the workers. All of it is our own rule.
-use Rattle.std.specs.Prelude.{◌≡◌, ◌≢◌, ℕ, ◌<◌, List, [], ◌∷◌, ◌++◌, length, get_or}
+use Rattle.std.specs.Prelude.{◌≡◌, ℕ, ◌<◌, List, [], ◌∷◌, ◌++◌, length, get_or}
 use Rattle.rtrb.specs.Ring.{sent, known_free, received, SameProducer, SameConsumer}
 use Rattle.uring_threads.specs.Kept.{Kept}
 use Rattle.uring_threads.specs.Collected.{history, AreTakenIn}

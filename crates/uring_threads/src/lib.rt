@@ -35,6 +35,7 @@ mod kept;
 mod put_items;
 mod sends;
 mod take_result;
+mod turns;
 
 pub use app_end::AppEnd;
 pub use gate::{Gate, Open};
@@ -44,6 +45,7 @@ pub use lanes::{AppLanes, KernelLanes, lane_ports};
 pub use ports::{AppPort, KernelPort};
 pub use pulled::{Pulled, Rests};
 pub use refusals::{CloseRefusal, SubmitRefusal};
+pub use turns::Turn;
 pub use uring_files::FileState;
 pub use uring_machine::{
     Answer, Core, Counts, Cqe, Fault, Op, Outcome, Setup, Sqe, SqeFlags, Step,

@@ -1,4 +1,4 @@
-use Rattle.rtrb.specs.Ring.{received, known_items}
+use Rattle.rtrb.specs.Ring.{known_items}
 use Rattle.uring_threads.proofs.Collecting.{collects_one}
 use Rattle.uring_threads.proofs.collect.collect_next.Goals as goal
 

@@ -1,0 +1,111 @@
+-- The dispatcher's ties stay through the parts of a turn, and their tallies add up.
+use Rattle.std.proofs.Common.{◌≡◌, ℕ, List, [], ◌++◌, sum, refl, sym, subst, ap, ap₂, ◌∙◌, arith}
+use Rattle.uring_entry.specs.Setup.{Setup}
+use Rattle.uring_entry.specs.Layout.{Cqe}
+use Rattle.uring_entry.specs.Submission.{Submission}
+use Rattle.uring_machine.specs.Published.{published_items}
+use Rattle.uring_machine.specs.Standing.{Stands}
+use Rattle.uring_threads.specs.Delivered.{IsDelivered, KeepsAllBut, OnlyPosts}
+use Rattle.uring_threads.specs.Dispatched.{HaveCarried, AreSameLanes}
+use Rattle.uring_threads.specs.Kept.{Kept, now, IsUnmoved}
+use Rattle.uring_threads.specs.Ports.{Put}
+use Rattle.uring_threads.specs.Taking.{Tied, TakesIn, waiting_in}
+use Rattle.uring_threads.specs.Tallies.{Tally, Appends, both, none_counted, issues_counted, finishes_counted, reaps_counted}
+use Rattle.uring_threads.specs.Turns.{AreTies, Counts}
+use Rattle.uring_threads.specs.declared.intake.Intake.{Intake}
+use Rattle.uring_threads.specs.declared.work_lanes.WorkLanes.{WorkLanes}
+use Rattle.uring_threads.proofs.Carrying.{quiet_stays, carried_stays}
+use Rattle.uring_threads.proofs.TraceSteps.{appends_none, appends_then}
+
+-- a call or the close mark was taken in
+pub ties_taken : (a b : Kept) (pulled later : Put) (delivered : List Cqe) (i j : Intake) (lanes : List WorkLanes) (n : ℕ) → AreTies a pulled delivered i lanes → TakesIn a b n → Tied a.setup.sq (now b) later j → (now b).completions ≡ (now a).completions
+    → AreTies b later delivered j lanes
+ties_taken a b pulled later delivered i j lanes n t p tied same =
+    record {
+      tied = subst (λ (g : Setup). Tied g.sq (now b) later j) (sym p.appends.setup) tied;
+      delivered = subst (λ l. IsDelivered l delivered) (sym same) t.delivered;
+      carried = carried_stays a b lanes (quiet_stays a b _ p.appends refl refl) t.carried;
+    }
+
+-- requests were issued or ended
+pub ties_posted : (a b : Kept) (pulled : Put) (delivered : List Cqe) (i : Intake) (lanes later : List WorkLanes) (t : Tally) → AreTies a pulled delivered i lanes → Appends a b t → OnlyPosts (now a) (now b) → HaveCarried b later → AreTies b pulled delivered i later
+ties_posted a b pulled delivered i lanes later t s p posts carried =
+    record {
+      tied = subst (λ (g : Setup). Tied g.sq (now b) pulled i) (sym p.setup)
+          (record {
+            published = λ good. ap (λ l. published_items l) posts.submission ∙ s.tied.published good;
+            calls = ap (λ (l : Submission). l.calls ++ waiting_in i) posts.submission ∙ s.tied.calls;
+            stands = subst (λ l. Stands l [] (sum (waiting_in i))) (sym posts.submission) s.tied.stands;
+            closed = posts.is_closed ∙ s.tied.closed;
+            shut = s.tied.shut;
+          });
+      delivered = record { reaped = posts.reaped ∙ s.delivered.reaped; head = posts.head ∙ s.delivered.head };
+      carried = carried;
+    }
+
+-- completions were delivered
+pub ties_delivered : (a b : Kept) (pulled : Put) (before delivered : List Cqe) (i : Intake) (lanes : List WorkLanes) (t : Tally) → AreTies a pulled before i lanes → Appends a b t → t.issues ≡ 0 → t.finishes ≡ 0 → KeepsAllBut (now a) (now b)
+    → IsDelivered (now b).completions delivered → AreTies b pulled delivered i lanes
+ties_delivered a b pulled before delivered i lanes t s p issues finishes keeps now_delivered =
+    record {
+      tied = subst (λ (g : Setup). Tied g.sq (now b) pulled i) (sym p.setup)
+          (record {
+            published = λ good. ap (λ l. published_items l) keeps.submission ∙ s.tied.published good;
+            calls = ap (λ (l : Submission). l.calls ++ waiting_in i) keeps.submission ∙ s.tied.calls;
+            stands = subst (λ l. Stands l [] (sum (waiting_in i))) (sym keeps.submission) s.tied.stands;
+            closed = keeps.is_closed ∙ s.tied.closed;
+            shut = s.tied.shut;
+          });
+      delivered = now_delivered;
+      carried = carried_stays a b lanes (quiet_stays a b t p issues finishes) s.carried;
+    }
+
+tally_is : (i n f r c x i' n' f' r' c' x' : ℕ) → i' ≡ i → n' ≡ n → f' ≡ f → r' ≡ r → c' ≡ c → x' ≡ x
+    → ◌≡◌ {A = Tally} (record { items = i'; issues = n'; finishes = f'; reaps = r'; calls = c'; closes = x' }) (record { items = i; issues = n; finishes = f; reaps = r; calls = c; closes = x })
+tally_is i n f r c x i' n' f' r' c' x' a b d e g h = rw (a, b, d, e, g, h) refl
+
+-- the four parts of a turn add up
+pub counts_all : (a b c d e : Kept) (popped finished issued delivered : ℕ) → TakesIn a b popped → Appends b c (finishes_counted finished) → (finished ≡ 0 → c.trace ≡ b.trace) → Appends c d (issues_counted issued) → (issued ≡ 0 → d.trace ≡ c.trace)
+    → Appends d e (reaps_counted delivered) → (delivered ≡ 0 → IsUnmoved d e) → Counts a e (record { popped = popped; issued = issued; finished = finished; delivered = delivered })
+counts_all a b c d e popped finished issued delivered p q q_idle r r_idle s s_idle =
+    let qr : Appends b d (record { items = 0; issues = issued; finishes = finished; reaps = 0; calls = 0; closes = 0 }) =
+    appends_then b c d (finishes_counted finished) (issues_counted issued) _ q r (ap₂ (λ n m. record { items = 0; issues = n; finishes = m; reaps = 0; calls = 0; closes = 0 }) (omega arith) (omega arith)) in
+    let rest : Appends b e (record { items = 0; issues = issued; finishes = finished; reaps = delivered; calls = 0; closes = 0 }) =
+    appends_then b d e _ (reaps_counted delivered) _ qr s (tally_is 0 issued finished delivered 0 0 _ _ _ _ _ _ refl (omega arith) (omega arith) (omega arith) refl refl) in
+    record {
+      calls = p.calls;
+      closes = p.closes;
+      appends = appends_then a b e _ _ _ p.appends rest (tally_is popped issued finished delivered p.calls p.closes _ _ _ _ _ _ (omega arith) (omega arith) (omega arith) (omega arith) (omega arith) (omega arith));
+      idle = λ none.
+          (s_idle (omega (arith, none))).trace ∙ r_idle (omega (arith, none)) ∙ q_idle (omega (arith, none)) ∙ p.idle (omega (arith, none));
+    }
+
+-- the ties before a delivery: a call was taken in, results were, and requests were issued
+pub ties_worked : (a b c d : Kept) (pulled later : Put) (before delivered : List Cqe) (i j : Intake) (lanes collected issued : List WorkLanes) (n : ℕ) (t u : Tally) → AreTies a pulled before i lanes → TakesIn a b n → Tied a.setup.sq (now b) later j → (now b).completions ≡ (now a).completions → delivered ≡ before
+    → Appends b c t → OnlyPosts (now b) (now c) → HaveCarried c collected → Appends c d u → OnlyPosts (now c) (now d) → HaveCarried d issued → AreTies d later delivered j issued
+ties_worked a b c d pulled later before delivered i j lanes collected issued n t u s p tied same reaped q q_posts q_carried r r_posts r_carried =
+    subst (λ l. AreTies d later l j issued) (sym reaped)
+    (ties_posted c d later before j collected issued u (ties_posted b c later before j lanes collected t (ties_taken a b pulled later before i j lanes n s p tied same) q q_posts q_carried) r r_posts r_carried)
+
+-- where nothing was delivered
+pub ties_unmoved : (a b : Kept) (pulled : Put) (before delivered : List Cqe) (i : Intake) (lanes : List WorkLanes) → AreTies a pulled before i lanes → IsUnmoved a b → KeepsAllBut (now a) (now b) → IsDelivered (now b).completions delivered → AreTies b pulled delivered i lanes
+ties_unmoved a b pulled before delivered i lanes s u keeps reaped = ties_delivered a b pulled before delivered i lanes none_counted s (appends_none a b u) refl refl keeps reaped
+
+-- some events, and then some
+pub some_then : (a b c : Kept) (t u : Tally) → Appends a b t → Appends b c u → (x : Tally) × Appends a c x
+some_then a b c t u p q = (both t u, appends_then a b c t u (both t u) p q refl)
+
+-- the same lanes twice
+pub lanes_then : (a b c : List WorkLanes) → AreSameLanes a b → AreSameLanes b c → AreSameLanes a c
+lanes_then a b c p q =
+    record {
+      many = q.many ∙ p.many;
+      jobs = λ k d low.
+          let x = p.jobs k d low in
+          let y = q.jobs k d (omega (arith, low, p.many)) in
+          ((y.0.0 ∙ x.0.0, y.0.1 ∙ x.0.1, y.0.2 ∙ x.0.2, y.0.3 ∙ x.0.3), y.1 ∙ x.1);
+      results = λ k d low.
+          let x = p.results k d low in
+          let y = q.results k d (omega (arith, low, p.many)) in
+          ((y.0.0 ∙ x.0.0, y.0.1 ∙ x.0.1, y.0.2 ∙ x.0.2, y.0.3 ∙ x.0.3), y.1 ∙ x.1);
+    }

@@ -1,0 +1,63 @@
+use Rattle.std.proofs.Common.{subst, sym, refl}
+use Rattle.uring_threads.specs.Tallies.{finishes_counted, issues_counted, reaps_counted}
+use Rattle.uring_threads.specs.Turns.{AreTies}
+use Rattle.uring_threads.proofs.Collecting.{on_err}
+use Rattle.uring_threads.proofs.TraceSteps.{appends_none}
+use Rattle.uring_threads.proofs.Turning.{ties_taken, ties_worked, ties_unmoved, ties_delivered, counts_all, some_then, lanes_then}
+use Rattle.uring_threads.proofs.turns.make_turn.Goals as goal
+
+pub returns-in_err-popped-clause-ties : goal.returns-in_err-popped-clause-ties
+returns-in_err-popped-clause-ties g c =
+    subst (λ d. AreTies c.take_in.new.kept (g.P.KernelPort.pulled c.take_in.new.port) d c.take_in.new.intake c.args.lanes.now) (sym c.take_in.ensures.delivered)
+    (ties_taken c.args.kept.now c.take_in.new.kept (g.P.KernelPort.pulled c.args.port.now) (g.P.KernelPort.pulled c.take_in.new.port) (g.P.KernelPort.delivered c.args.port.now) c.args.intake.now c.take_in.new.intake c.args.lanes.now 0
+    c.requires.ties c.in_err-popped.ensures.err c.take_in.ensures.tied c.take_in.ensures.completions)
+
+pub collect_all-requires-clause-carried : goal.collect_all-requires-clause-carried
+collect_all-requires-clause-carried g c =
+    (ties_taken c.args.kept.now c.take_in.new.kept (g.P.KernelPort.pulled c.args.port.now) (g.P.KernelPort.pulled c.take_in.new.port) (g.P.KernelPort.delivered c.args.port.now) c.args.intake.now c.take_in.new.intake c.args.lanes.now c.in_ok-popped.popped
+    c.requires.ties c.in_ok-popped.ensures.taken c.take_in.ensures.tied c.take_in.ensures.completions).carried
+
+pub returns-in_err-finished-clause-err : goal.returns-in_err-finished-clause-err
+returns-in_err-finished-clause-err g c =
+    on_err c.from_residual-in_err-finished.result (some_then c.args.kept.now c.take_in.new.kept c.collect_all.new.kept _ _ c.in_ok-popped.ensures.taken.appends c.in_err-finished.ensures.err.1)
+
+pub returns-in_err-issued-clause-err : goal.returns-in_err-issued-clause-err
+returns-in_err-issued-clause-err g c =
+    let first = some_then c.args.kept.now c.take_in.new.kept c.collect_all.new.kept _ _ c.in_ok-popped.ensures.taken.appends c.in_ok-finished.ensures.tally in
+    on_err c.from_residual-in_err-issued.result (some_then c.args.kept.now c.collect_all.new.kept c.issue_all.new.kept _ _ first.1 c.in_err-issued.ensures.err.1)
+
+pub returns-in_err-issued-clause-lanes : goal.returns-in_err-issued-clause-lanes
+returns-in_err-issued-clause-lanes g c = lanes_then c.args.lanes.now c.collect_all.new.lanes c.issue_all.new.lanes c.collect_all.ensures.lanes c.issue_all.ensures.lanes
+
+pub returns-in_err-delivered-clause-ties : goal.returns-in_err-delivered-clause-ties
+returns-in_err-delivered-clause-ties g c =
+    let t = ties_worked c.args.kept.now c.take_in.new.kept c.collect_all.new.kept c.issue_all.new.kept (g.P.KernelPort.pulled c.args.port.now) (g.P.KernelPort.pulled c.take_in.new.port) (g.P.KernelPort.delivered c.args.port.now) (g.P.KernelPort.delivered c.take_in.new.port) c.args.intake.now c.take_in.new.intake c.args.lanes.now c.collect_all.new.lanes c.issue_all.new.lanes
+    c.in_ok-popped.popped (finishes_counted c.in_ok-finished.finished) (issues_counted c.in_ok-issued.issued) c.requires.ties c.in_ok-popped.ensures.taken c.take_in.ensures.tied c.take_in.ensures.completions c.take_in.ensures.delivered
+    c.in_ok-finished.ensures.tally c.collect_all.ensures.posts c.collect_all.ensures.carried c.in_ok-issued.ensures.tally c.issue_all.ensures.stays c.issue_all.ensures.carried in
+    subst (λ p. AreTies c.deliver.new.kept p (g.P.KernelPort.delivered c.deliver.new.port) c.take_in.new.intake c.issue_all.new.lanes) (sym c.deliver.ensures.pulled)
+    (ties_unmoved c.issue_all.new.kept c.deliver.new.kept (g.P.KernelPort.pulled c.take_in.new.port) (g.P.KernelPort.delivered c.take_in.new.port) (g.P.KernelPort.delivered c.deliver.new.port) c.take_in.new.intake c.issue_all.new.lanes t c.in_err-delivered.ensures.err c.deliver.ensures.keeps c.deliver.ensures.delivered)
+
+pub returns-in_err-delivered-clause-err : goal.returns-in_err-delivered-clause-err
+returns-in_err-delivered-clause-err g c =
+    let first = some_then c.args.kept.now c.take_in.new.kept c.collect_all.new.kept _ _ c.in_ok-popped.ensures.taken.appends c.in_ok-finished.ensures.tally in
+    let second = some_then c.args.kept.now c.collect_all.new.kept c.issue_all.new.kept _ _ first.1 c.in_ok-issued.ensures.tally in
+    on_err c.from_residual-in_err-delivered.result (some_then c.args.kept.now c.issue_all.new.kept c.deliver.new.kept _ _ second.1 (appends_none c.issue_all.new.kept c.deliver.new.kept c.in_err-delivered.ensures.err))
+
+pub returns-in_err-delivered-clause-lanes : goal.returns-in_err-delivered-clause-lanes
+returns-in_err-delivered-clause-lanes g c = lanes_then c.args.lanes.now c.collect_all.new.lanes c.issue_all.new.lanes c.collect_all.ensures.lanes c.issue_all.ensures.lanes
+
+pub returns-clause-ties : goal.returns-clause-ties
+returns-clause-ties g c =
+    let t = ties_worked c.args.kept.now c.take_in.new.kept c.collect_all.new.kept c.issue_all.new.kept (g.P.KernelPort.pulled c.args.port.now) (g.P.KernelPort.pulled c.take_in.new.port) (g.P.KernelPort.delivered c.args.port.now) (g.P.KernelPort.delivered c.take_in.new.port) c.args.intake.now c.take_in.new.intake c.args.lanes.now c.collect_all.new.lanes c.issue_all.new.lanes
+    c.in_ok-popped.popped (finishes_counted c.in_ok-finished.finished) (issues_counted c.in_ok-issued.issued) c.requires.ties c.in_ok-popped.ensures.taken c.take_in.ensures.tied c.take_in.ensures.completions c.take_in.ensures.delivered
+    c.in_ok-finished.ensures.tally c.collect_all.ensures.posts c.collect_all.ensures.carried c.in_ok-issued.ensures.tally c.issue_all.ensures.stays c.issue_all.ensures.carried in
+    subst (λ p. AreTies c.deliver.new.kept p (g.P.KernelPort.delivered c.deliver.new.port) c.take_in.new.intake c.issue_all.new.lanes) (sym c.deliver.ensures.pulled)
+    (ties_delivered c.issue_all.new.kept c.deliver.new.kept (g.P.KernelPort.pulled c.take_in.new.port) (g.P.KernelPort.delivered c.take_in.new.port) (g.P.KernelPort.delivered c.deliver.new.port) c.take_in.new.intake c.issue_all.new.lanes (reaps_counted c.in_ok-delivered.delivered) t c.in_ok-delivered.ensures.tally refl refl c.deliver.ensures.keeps c.deliver.ensures.delivered)
+
+pub returns-clause-counts : goal.returns-clause-counts
+returns-clause-counts g c =
+    counts_all c.args.kept.now c.take_in.new.kept c.collect_all.new.kept c.issue_all.new.kept c.deliver.new.kept c.in_ok-popped.popped c.in_ok-finished.finished c.in_ok-issued.issued c.in_ok-delivered.delivered
+    c.in_ok-popped.ensures.taken c.in_ok-finished.ensures.tally c.in_ok-finished.ensures.idle c.in_ok-issued.ensures.tally c.in_ok-issued.ensures.idle c.in_ok-delivered.ensures.tally c.in_ok-delivered.ensures.idle
+
+pub returns-clause-lanes : goal.returns-clause-lanes
+returns-clause-lanes g c = lanes_then c.args.lanes.now c.collect_all.new.lanes c.issue_all.new.lanes c.collect_all.ensures.lanes c.issue_all.ensures.lanes

@@ -1,0 +1,77 @@
+//! A turn of the dispatcher.
+ghost use Rattle.std.specs.Prelude.{◌≡◌, ◌+◌, ◌<◌, ◌≤◌, ◌⊎◌, length, None, IfOk, OnErr, vec_capacity};
+ghost use Rattle.uring_entry.specs.Requests.{next_of};
+ghost use Rattle.uring_threads.specs.Dispatched.{AreSameLanes, SomeIsFull};
+ghost use Rattle.uring_threads.specs.Kept.{now};
+ghost use Rattle.uring_threads.specs.Tallies.{Tally, Appends};
+ghost use Rattle.uring_threads.specs.Turns.{AreTies, Counts};
+
+use crate::collect::collect_all;
+use crate::deliveries::deliver;
+use crate::intake::{Intake, take_in};
+use crate::issues::issue_all;
+use crate::item::Item;
+use crate::kept::Kept;
+use crate::ports::KernelPort;
+use crate::work_lanes::WorkLanes;
+use std::alloc::AllocError;
+
+/// What the dispatcher did in a turn.
+#[derive(Clone, Copy, Debug, PartialEq, Eq)]
+pub struct Turn {
+    /// How many items it pulled.
+    pub popped: u64,
+
+    /// How many requests it issued: they run, or ended at once.
+    pub issued: u64,
+
+    /// How many results of workers it took in.
+    pub finished: u64,
+
+    /// How many completions it delivered.
+    pub delivered: u64,
+}
+
+/// One turn: takes in a call that waits and one that is pulled, or the close mark; then results of workers; issues what can be issued; and delivers what is posted.
+///
+/// `AllocError`: the system is out of memory. All events made until then are recorded, and nothing that was pulled or received is lost.
+pub fn make_turn<P: KernelPort>(
+    kept: &mut Kept,
+    port: &mut P,
+    items: &mut Vec<Item>,
+    intake: &mut Intake,
+    lanes: &mut [WorkLanes],
+) -> Result<Turn, AllocError>
+    requires sq { (P.sizes port.old).sq ≡ kept.old.setup.sq }
+    requires cq { (P.sizes port.old).cq ≡ kept.old.setup.cq }
+    requires items { kept.old.setup.sq ≤ vec_capacity items.old }
+    requires some { 0 < length lanes.old }
+    requires few { length lanes.old ≤ 8 }
+    requires ties { AreTies kept.old (P.pulled port.old) (P.delivered port.old) intake.old lanes.old }
+    ensures ties { AreTies kept.new (P.pulled port.new) (P.delivered port.new) intake.new lanes.new }
+    ensures counts { IfOk result (λ turn. Counts kept.old kept.new turn) }
+
+    // No request is left that can be issued, but where some worker's lane shows no room.
+    ensures none_left { IfOk result (λ turn. (next_of (now kept.new).requests ≡ None) ⊎ SomeIsFull lanes.new) }
+
+    // As long as no more was posted than the completion ring holds, all of it is reaped.
+    ensures all { IfOk result (λ turn. length (now kept.new).completions.posted ≤ kept.old.setup.cq → length (P.delivered port.new) ≡ length (now kept.new).completions.posted) }
+    ensures err { OnErr result ((t : Tally) × Appends kept.old kept.new t) }
+
+    // Nothing else changes.
+    ensures lanes { AreSameLanes lanes.old lanes.new }
+    ensures items { vec_capacity items.old ≤ vec_capacity items.new }
+    ensures pairing { P.pairing port.new ≡ P.pairing port.old }
+    ensures sizes { P.sizes port.new ≡ P.sizes port.old }
+{
+    let popped = take_in(kept, port, items, intake)?;
+    let finished = collect_all(kept, lanes)?;
+    let issued = issue_all(kept, lanes)?;
+    let delivered = deliver(kept, port)?;
+    Ok(Turn {
+        popped,
+        issued,
+        finished,
+        delivered,
+    })
+}
