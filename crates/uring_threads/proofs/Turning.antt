@@ -1,12 +1,14 @@
 -- The dispatcher's ties stay through the parts of a turn, and their tallies add up.
 use Rattle.std.proofs.Common.{◌≡◌, ℕ, List, [], ◌++◌, sum, refl, sym, subst, ap, ap₂, ◌∙◌, arith}
+use Rattle.std.specs.Prelude.{◌⊎◌, None, Result, IfOk}
+use Rattle.uring_entry.specs.Requests.{next_of}
 use Rattle.uring_entry.specs.Setup.{Setup}
 use Rattle.uring_entry.specs.Layout.{Cqe}
 use Rattle.uring_entry.specs.Submission.{Submission}
 use Rattle.uring_machine.specs.Published.{published_items}
 use Rattle.uring_machine.specs.Standing.{Stands}
 use Rattle.uring_threads.specs.Delivered.{IsDelivered, KeepsAllBut, OnlyPosts}
-use Rattle.uring_threads.specs.Dispatched.{HaveCarried, AreSameLanes}
+use Rattle.uring_threads.specs.Dispatched.{HaveCarried, AreSameLanes, SomeIsFull}
 use Rattle.uring_threads.specs.Kept.{Kept, now, IsUnmoved}
 use Rattle.uring_threads.specs.Ports.{Put}
 use Rattle.uring_threads.specs.Taking.{Tied, TakesIn, waiting_in}
@@ -109,3 +111,7 @@ lanes_then a b c p q =
           let y = q.results k d (omega (arith, low, p.many)) in
           ((y.0.0 ∙ x.0.0, y.0.1 ∙ x.0.1, y.0.2 ∙ x.0.2, y.0.3 ∙ x.0.3), y.1 ∙ x.1);
     }
+
+-- what a turn leaves to issue, of the same lanes
+pub left_same : {X E : Type 0} (r : Result X E) (k : Kept) (lanes same : List WorkLanes) → IfOk r (λ turn. (next_of (now k).requests ≡ None) ⊎ SomeIsFull lanes) → same ≡ lanes → IfOk r (λ turn. (next_of (now k).requests ≡ None) ⊎ SomeIsFull same)
+left_same r k lanes same left e = subst (λ ls. IfOk r (λ turn. (next_of (now k).requests ≡ None) ⊎ SomeIsFull ls)) (sym e) left

@@ -1,0 +1,34 @@
+-- The dispatcher's end: its trace, and what went through its hands.
+use Rattle.std.specs.Prelude.{◌≡◌, ℕ, ◌<◌, ◌≤◌, true, List, length}
+use Rattle.uring_entry.specs.Layout.{Cqe}
+use Rattle.uring_entry.specs.Requests.{outstanding_in}
+use Rattle.uring_machine.specs.World.{World}
+use Rattle.uring_threads.specs.Kept.{Kept}
+use Rattle.uring_threads.specs.Ports.{Put, Sizes}
+use Rattle.uring_threads.specs.Turns.{AreTies}
+use Rattle.uring_threads.specs.declared.intake.Intake.{Intake}
+use Rattle.uring_threads.specs.declared.work_lanes.WorkLanes.{WorkLanes}
+
+-- The trace; how the intake stands; the lanes of the workers; and of the port its pairing and sizes, all that it pulled, and all that it delivered.
+pub record Kernel : Type 0 where
+  pub kept : Kept
+  pub intake : Intake
+  pub lanes : List WorkLanes
+  pub pairing : List ℕ
+  pub sizes : Sizes
+  pub pulled : Put
+  pub reaped : List Cqe
+
+-- The port has the sizes of the rings, there are 1 to 8 workers, and the trace has all that went through the dispatcher's hands.
+pub record IsKernel (k : Kernel) : Type 0 where
+  pub sq : k.sizes.sq ≡ k.kept.setup.sq
+  pub cq : k.sizes.cq ≡ k.kept.setup.cq
+  pub some : 0 < length k.lanes
+  pub few : length k.lanes ≤ 8
+  pub ties : AreTies k.kept k.pulled k.reaped k.intake k.lanes
+
+-- The ring is closed, nothing is outstanding, and all that was posted is reaped.
+pub record IsIdle (w : World) : Type 0 where
+  pub closed : w.is_closed ≡ true
+  pub none_outstanding : outstanding_in w.requests ≡ 0
+  pub all_reaped : length w.completions.posted ≡ length w.completions.reaped

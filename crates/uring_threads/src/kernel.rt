@@ -1,0 +1,80 @@
+//! The dispatcher's end.
+ghost use Rattle.std.specs.Prelude.{◌≡◌, ◌↔◌, ◌≤◌, ◌⊎◌, length, None, IsTrue, IfOk, OnErr};
+ghost use Rattle.uring_entry.specs.Requests.{next_of};
+ghost use Rattle.uring_threads.specs.Dispatched.{AreSameLanes, SomeIsFull};
+ghost use Rattle.uring_threads.specs.Kept.{now};
+ghost use Rattle.uring_threads.specs.Tallies.{Tally, Appends};
+ghost use Rattle.uring_threads.specs.Turns.{Counts};
+
+use crate::intake::Intake;
+use crate::item::Item;
+use crate::kept::Kept;
+use crate::ports::KernelPort;
+use crate::turns::{Turn, make_turn};
+use crate::work_lanes::WorkLanes;
+use std::alloc::AllocError;
+use std::marker::Model;
+
+/// The dispatcher's end over a port: it takes in what the application submits, sends jobs to workers and takes in their results, delivers completions, and records each step of this as its trace. It may run in a thread of its own.
+#[derive(Drop)]
+pub struct Kernel<P: KernelPort> {
+    kept: Kept,
+    port: P,
+    intake: Intake,
+    // The lanes of worker 0 first.
+    lanes: Vec<WorkLanes>,
+    // The items of the call that was pulled last. There is room for those of a whole ring.
+    items: Vec<Item>,
+}
+
+impl<P: KernelPort> Model for Kernel<P> {
+    ghost use Rattle.uring_threads.specs.Kernel.{Kernel};
+
+    ghost Value = { Kernel };
+
+    ghost use Rattle.std.specs.Prelude.{◌≤◌, vec_capacity};
+    ghost use Rattle.uring_threads.specs.Kernel.{IsKernel};
+
+    ghost view = { λ k. record { kept = k.kept; intake = k.intake; lanes = k.lanes.items; pairing = P.pairing k.port; sizes = P.sizes k.port; pulled = P.pulled k.port; reaped = P.delivered k.port } };
+
+    ghost invariant = { λ k. (k.kept.setup.sq ≤ vec_capacity k.items) × IsKernel (record { kept = k.kept; intake = k.intake; lanes = k.lanes.items; pairing = P.pairing k.port; sizes = P.sizes k.port; pulled = P.pulled k.port; reaped = P.delivered k.port }) };
+}
+
+impl<P: KernelPort> Kernel<P> {
+    ghost use Rattle.uring_threads.specs.Kernel.{IsIdle};
+
+    /// One turn: begins the call that waits once more, if one does, and pulls one call or the close mark; takes in at most 64 results of each worker; issues what can be issued while each worker's lane shows room; and delivers what is posted while the port shows room. Without such work it records nothing.
+    ///
+    /// `AllocError`: the system is out of memory. All events made until then are recorded, nothing that was pulled or received is lost, and a later turn goes on.
+    pub fn turn(&mut self) -> Result<Turn, AllocError>
+        ensures counts { IfOk result (λ turn. Counts self.old.kept self.new.kept turn) }
+
+        // No request is left that can be issued, but where some worker's lane shows no room.
+        ensures none_left { IfOk result (λ turn. (next_of (now self.new.kept).requests ≡ None) ⊎ SomeIsFull self.new.lanes) }
+
+        // As long as no more was posted than the completion ring holds, all of it is reaped.
+        ensures all { IfOk result (λ turn. length (now self.new.kept).completions.posted ≤ self.old.kept.setup.cq → length self.new.reaped ≡ length (now self.new.kept).completions.posted) }
+        ensures err { OnErr result ((t : Tally) × Appends self.old.kept self.new.kept t) }
+
+        // Nothing else changes.
+        ensures lanes { AreSameLanes self.old.lanes self.new.lanes }
+        ensures pairing { self.new.pairing ≡ self.old.pairing }
+        ensures sizes { self.new.sizes ≡ self.old.sizes }
+    {
+        make_turn(
+            &mut self.kept,
+            &mut self.port,
+            &mut self.items,
+            &mut self.intake,
+            &mut self.lanes,
+        )
+    }
+
+    /// Whether nothing is left to do: the ring is closed, nothing is outstanding, and all that was posted is delivered.
+    pub fn idle(&self) -> bool
+        ensures { IsTrue result ↔ IsIdle (now self.now.kept) }
+    {
+        let counts = self.kept.counts();
+        self.intake == Intake::Closed && counts.outstanding == 0 && counts.posted == counts.reaped
+    }
+}
