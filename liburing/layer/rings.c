@@ -1,5 +1,6 @@
 /* Making rings, and finding the ring of a descriptor. The layer isn't told when a descriptor is closed: it keeps each
- * ring until the process ends or until a set-up finds that nobody can reach it any more.
+ * ring until a set-up finds that nobody can reach it any more. What is left when the process ends isn't freed: threads
+ * may use it to the last.
  */
 #define _GNU_SOURCE
 #include "enter.h"
@@ -111,17 +112,14 @@ static bool is_open(const struct ring *ring)
     return is_found;
 }
 
-/* Frees the rings that nobody can reach any more, or all. The lock of the list is held. A ring in use is left. */
-static void free_rings(bool is_all)
+/* Frees the rings that nobody can reach any more. The lock of the list is held. A ring in use is left. */
+static void free_closed_rings(void)
 {
     for (struct ring **at = &rings; *at;) {
         struct ring *ring = *at;
-        bool is_free = ring->process == getpid() && pthread_mutex_trylock(&ring->lock) == 0;
+        bool is_free = ring->process == getpid() && !is_open(ring) && pthread_mutex_trylock(&ring->lock) == 0;
         if (is_free) {
             pthread_mutex_unlock(&ring->lock);
-            is_free = is_all || !is_open(ring);
-        }
-        if (is_free) {
             *at = ring->next;
             free_ring(ring);
         } else {
@@ -130,19 +128,11 @@ static void free_rings(bool is_all)
     }
 }
 
-__attribute__((destructor)) static void free_all_rings(void)
-{
-    if (pthread_mutex_trylock(&rings_lock) == 0) {
-        free_rings(true);
-        pthread_mutex_unlock(&rings_lock);
-    }
-}
-
 /* Puts a ring that is made into the list. */
 static void add_ring(struct ring *ring)
 {
     pthread_mutex_lock(&rings_lock);
-    free_rings(false);
+    free_closed_rings();
     ring->index = ring_count++;
     ring->next = rings;
     rings = ring;
