@@ -5,5 +5,6 @@ pub mod Text
 pub mod Lines
 pub mod Exchanges
 pub mod Traces
+pub mod KeptLine
 pub mod Sessions
 pub mod Streams

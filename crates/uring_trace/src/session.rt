@@ -1,12 +1,14 @@
 //! Feeds bytes to a machine: gathers them into lines, makes the step that a line is, and appends the answer.
 
-ghost use Rattle.std.specs.Prelude.{◌≡◌, ◌≢◌, ◌≤◌, ℕ, List, [], ◌∷◌, ◌++◌, IfOk, IfErr, OnOk, MatchOption, vec_len, vec_capacity, string_bytes};
+ghost use Rattle.std.specs.Prelude.{◌≡◌, ◌≢◌, ℕ, List, [], ◌∷◌, ◌++◌, IfOk, IfErr, OnOk, MatchOption, string_bytes};
 ghost use Rattle.uring_entry.specs.Setup.{Setup};
+ghost use Rattle.uring_trace.specs.KeptLine.{kept_of};
 ghost use Rattle.uring_trace.specs.Spelling.{IsStep, IsBad};
 ghost use Rattle.uring_trace.specs.Traces.{IsWhole};
 
 use crate::answer_text::push_answer;
-use crate::step_lines::{LONGEST_LINE, read_step};
+use crate::kept_line::KeptLine;
+use crate::step_lines::read_step;
 use crate::trace_fault::TraceFault;
 use std::alloc::{AllocError, Global};
 use uring_machine::{Machine, Setup, Step};
@@ -16,28 +18,23 @@ use uring_machine::{Machine, Setup, Step};
 pub(crate) struct Session {
     alloc: Global,
     machine: Machine,
-    // The first bytes of the unfinished line, at most as many as the line of a step has.
-    kept: Vec<u8>,
-    // Whether the line has more bytes than are kept.
-    is_long: bool,
-    ghost room: { 300 ≤ vec_capacity kept },
-    ghost few: { vec_len kept ≤ 300 },
+    // The unfinished line.
+    line: KeptLine,
 }
 
 impl Session {
-    ghost use Rattle.uring_trace.specs.Sessions.{Has, Keeps300, AppendsAnswer};
+    ghost use Rattle.uring_trace.specs.Sessions.{Has, AppendsAnswer};
 
     /// A new machine, before the first line.
     pub(crate) fn new(alloc: Global, setup: &Setup) -> Result<Session, TraceFault>
         ensures ok { IfOk result (λ s. Has setup.now s [] []) }
         ensures err { IfErr result (λ e. e ≡ TraceFault.Memory) }
     {
-        let kept = Vec::with_capacity(alloc, LONGEST_LINE)?;
+        let line = KeptLine::new(alloc)?;
         Ok(Session {
             alloc,
             machine: Machine::new(alloc, setup)?,
-            kept,
-            is_long: false,
+            line,
         })
     }
 
@@ -57,7 +54,7 @@ impl Session {
         ensures ok { OnOk result ((setup : Setup) (before told : List ℕ) → Has setup self.old before (told ++ string_bytes text.old) → IsWhole setup before (told ++ string_bytes text.new)) }
         ensures err { IfErr result (λ e. e ≡ TraceFault.Memory) }
     {
-        if self.kept.is_empty() {
+        if self.line.is_empty() {
             return Ok(());
         }
         self.answer_line(text)?;
@@ -82,13 +79,7 @@ impl Session {
         requires { byte ≢ 10 }
         ensures { (setup : Setup) (before told : List ℕ) → Has setup self.old before told → Has setup self.new (before ++ byte ∷ []) told }
     {
-        if self.kept.len() < LONGEST_LINE {
-            let Ok(()) = self.kept.push(byte) else {
-                unreachable!()
-            };
-        } else {
-            self.is_long = true;
-        }
+        self.line.push(byte);
     }
 
     /// Appends the answer to the line, and begins the next line.
@@ -96,14 +87,13 @@ impl Session {
         ensures { OnOk result ((setup : Setup) (before told : List ℕ) → Has setup self.old before (told ++ string_bytes text.old) → Has setup self.new (before ++ 10 ∷ []) (told ++ string_bytes text.new)) }
     {
         self.answer_line(text)?;
-        self.kept.clear();
-        self.is_long = false;
+        self.line.clear();
         text.push_str("\n")
     }
 
     /// Makes the step that the line is, and appends its answer without a line end. A line that is no step is answered `bad line`.
     fn answer_line(&mut self, text: &mut String) -> Result<(), AllocError>
-        ensures { OnOk result ((line : List ℕ) → Keeps300 line self.old.kept.items self.old.is_long → AppendsAnswer self.old.machine self.new.machine line (string_bytes text.old) (string_bytes text.new)) }
+        ensures { OnOk result ((line : List ℕ) → self.old.line ≡ kept_of line → AppendsAnswer self.old.machine self.new.machine line (string_bytes text.old) (string_bytes text.new)) }
     {
         match self.line_step()? {
             Some(step) => {
@@ -116,11 +106,11 @@ impl Session {
 
     /// The step that the line is, if it is one.
     fn line_step(&self) -> Result<Option<Step>, AllocError>
-        ensures { IfOk result (λ read. (line : List ℕ) → Keeps300 line self.now.kept.items self.now.is_long → MatchOption read (IsBad line) (IsStep line)) }
+        ensures { IfOk result (λ read. (line : List ℕ) → self.now.line ≡ kept_of line → MatchOption read (IsBad line) (IsStep line)) }
     {
-        if self.is_long {
-            return Ok(None);
+        match self.line.whole() {
+            Some(line) => read_step(self.alloc, line),
+            None => Ok(None),
         }
-        read_step(self.alloc, self.kept.as_slice())
     }
 }

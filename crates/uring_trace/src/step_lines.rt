@@ -10,20 +10,17 @@ use crate::number_tokens::{number, small_number};
 use std::alloc::{AllocError, Global};
 use uring_machine::Step;
 
-/// Most bytes of a line that is a step: our own rule.
-pub(crate) const LONGEST_LINE: usize = 300;
-
 /// The step that a line of at most 300 bytes spells, if it spells one.
 pub(crate) fn read_step(alloc: Global, line: &[u8]) -> Result<Option<Step>, AllocError>
     requires { length line.now ≤ 300 }
     ensures { IfOk result (λ read. MatchOption read (IsBad line.now) (IsStep line.now)) }
 {
-    let tokens = split(alloc, line)?;
+    let tokens = split_tokens(alloc, line)?;
     Ok(read_words(tokens.as_slice()))
 }
 
 /// The tokens of a line: what stands between its spaces.
-fn split(alloc: Global, line: &[u8]) -> Result<Vec<&[u8]>, AllocError>
+pub fn split_tokens(alloc: Global, line: &[u8]) -> Result<Vec<&[u8]>, AllocError>
     ensures { IfOk result (λ tokens. map (λ token. token.now) tokens.items ≡ tokens_of line.now) }
 {
     line.split(|byte| *byte == b' ').collect(alloc)

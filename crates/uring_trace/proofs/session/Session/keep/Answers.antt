@@ -1,14 +1,5 @@
-use Rattle.std.proofs.Common.{◌≡◌, ◌<◌, ◌≤◌, ◌++◌, ◌∷◌, [], length, rules}
-use Rattle.uring_trace.proofs.Sessions.{kept_more, kept_full, took_byte}
+use Rattle.uring_trace.proofs.Sessions.{took_byte}
 use Rattle.uring_trace.proofs.session.Session.keep.Goals as goal
 
-pub returns-in-Ok : goal.returns-in-Ok
-returns-in-Ok c =
-    let pushed : c.push.new.self.items ≡ c.args.self.now.kept.items ++ c.args.byte ∷ [] = search rules in
-    let room : length c.args.self.now.kept.items < 300 = search rules in
-    rw pushed (λ setup before told h. took_byte setup _ _ _ _ _ before told c.args.byte c.requires (λ line k. kept_more line _ _ c.args.byte k room) h)
-
-pub returns-else-len-lt-LONGEST_LINE : goal.returns-else-len-lt-LONGEST_LINE
-returns-else-len-lt-LONGEST_LINE c =
-    let full : 300 ≤ length c.args.self.now.kept.items = search rules in
-    λ setup before told h. took_byte setup _ _ _ _ _ before told c.args.byte c.requires (λ line k. kept_full line _ _ c.args.byte k full) h
+pub returns : goal.returns
+returns c = λ setup before told h. took_byte setup _ _ _ before told c.args.byte c.requires c.push.ensures h
