@@ -1,0 +1,5 @@
+pub mod ItemLines
+pub mod Calls
+pub mod Faults
+pub mod Inputs
+pub mod LineReads
