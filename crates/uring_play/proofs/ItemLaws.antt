@@ -1,6 +1,7 @@
 -- What the tokens of an item's line spell.
-use Rattle.std.proofs.Common.{◌≡◌, ℕ, ◌<◌, ◌≤◌, ◌^◌, List, [], ◌∷◌, length, Option, Some, None, refl, sym, ap, subst, ◌∙◌, arith}
+use Rattle.std.proofs.Common.{◌≡◌, ℕ, ◌<◌, ◌≤◌, ◌^◌, false, List, [], ◌∷◌, length, Option, Some, None, refl, sym, ap, subst, ◌∙◌, arith}
 use Rattle.std.specs.Prelude.{codes, MatchOption}
+use Rattle.std.proofs.lemmas.Bool.{ne_eqb}
 use Rattle.uring_trace.specs.Tokens.{tokens_of}
 use Rattle.uring_trace.specs.Spelling.{Form, spelled, SpellsEntry, SpellsNumber}
 use Rattle.uring_trace.specs.Spelling as form
@@ -9,6 +10,7 @@ use Rattle.uring_entry.specs.Layout.{Sqe}
 use Rattle.uring_threads.specs.declared.item.Item.{Item}
 use Rattle.uring_threads.specs.declared.item.Item.TheVariants as item
 use Rattle.uring_play.specs.ItemLines.{SpellsItem, IsItemLine}
+use Rattle.uring_play.specs.Calls.{is_blank}
 use Rattle.uring_play.specs.LineReads.{IsBadWord, IsNoBadWord, IsNoItem}
 
 -- the first byte of the first token
@@ -66,3 +68,21 @@ line_once size line i j h k = item_once size _ i j h.spells k.spells
 -- what a line is, whose tokens spell an item or none
 pub item_line : (size : ℕ) (text line : List ℕ) (tokens : List (List ℕ)) (i : Item) → line ≡ text → length text ≤ 300 → tokens ≡ tokens_of line → SpellsItem size tokens i → IsItemLine size text i
 item_line size text line tokens i same short are h = record { short = short; spells = subst (λ (l : List (List ℕ)). SpellsItem size l i) (are ∙ ap tokens_of same) h }
+
+-- an empty line is no item
+named : (f : Form) (flags rest : List ℕ) → [] ∷ [] ≡ spelled f flags → ⊥
+named (form.Nop user_data fl) flags rest e = absurd cc
+named (form.Fsync user_data fl fd) flags rest e = absurd cc
+named (form.Read user_data fl fd off len) flags rest e = absurd cc
+named (form.Write user_data fl fd off bytes) flags rest e = absurd cc
+named (form.Cancel user_data fl target) flags rest e = absurd cc
+named (form.Op code user_data fl) flags rest e = absurd cc
+named (form.Raw bytes) flags rest e = absurd cc
+
+empty_spells : (size : ℕ) (i : Item) → SpellsItem size ([] ∷ []) i → ⊥
+empty_spells size (item.Entry entry) h = named h.form h.spells.0 [] h.spells.2
+empty_spells size (item.Bad word) h = absurd (let no : [] ∷ [] ≡ codes "bad" ∷ h.0 ∷ [] = h.1 in cc)
+
+pub item_not_blank : (size : ℕ) (line : List ℕ) (i : Item) → IsItemLine size line i → is_blank line ≡ false
+item_not_blank size [] i h = absurd (empty_spells size i h.spells)
+item_not_blank size (b ∷ line) i h = ne_eqb (length (b ∷ line)) 0 (λ e. omega arith)

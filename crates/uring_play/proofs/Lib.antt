@@ -1,1 +1,3 @@
 pub mod ItemLaws
+pub mod CallLaws
+pub mod ScriptLaws

@@ -3,3 +3,4 @@ pub mod Calls
 pub mod Faults
 pub mod Inputs
 pub mod LineReads
+pub mod Scripts

@@ -3,6 +3,7 @@
 
 mod line_read;
 mod play_fault;
+mod script;
 
 
 
