@@ -1,3 +1,5 @@
 pub mod ItemLaws
 pub mod CallLaws
 pub mod ScriptLaws
+pub mod Readings
+pub mod Outputs

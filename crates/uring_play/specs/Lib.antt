@@ -4,3 +4,5 @@ pub mod Faults
 pub mod Inputs
 pub mod LineReads
 pub mod Scripts
+pub mod Readings
+pub mod Outputs

@@ -3,10 +3,15 @@
 
 mod line_read;
 mod play_fault;
+mod reading;
 mod script;
+mod writing;
 
 
 
 pub use play_fault::PlayFault;
+pub use reading::read_calls;
+pub use writing::write_out;
 
+pub use uring_machine::Cqe;
 pub use uring_threads::{Item, Setup};

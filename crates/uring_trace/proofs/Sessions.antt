@@ -32,7 +32,7 @@ unbroken_more [] b ne h = (ne, tt)
 unbroken_more (c ∷ line) b ne h = (h.0, unbroken_more line b ne h.1)
 
 -- a byte more of the rest
-split_more : (bytes : List ℕ) (lines : List (List ℕ)) (rest : List ℕ) (b : ℕ) → b ≢ 10 → Splits bytes lines rest → Splits (bytes ++ b ∷ []) lines (rest ++ b ∷ [])
+pub split_more : (bytes : List ℕ) (lines : List (List ℕ)) (rest : List ℕ) (b : ℕ) → b ≢ 10 → Splits bytes lines rest → Splits (bytes ++ b ∷ []) lines (rest ++ b ∷ [])
 split_more bytes lines rest b ne h = record {
   whole = ap (λ (l : List ℕ). l ++ b ∷ []) h.whole ∙ append_assoc (joined lines) rest (b ∷ []);
   each = h.each;
@@ -40,7 +40,7 @@ split_more bytes lines rest b ne h = record {
 }
 
 -- the end of the rest
-split_end : (bytes : List ℕ) (lines : List (List ℕ)) (rest : List ℕ) → Splits bytes lines rest → Splits (bytes ++ 10 ∷ []) (rest ∷ lines) []
+pub split_end : (bytes : List ℕ) (lines : List (List ℕ)) (rest : List ℕ) → Splits bytes lines rest → Splits (bytes ++ 10 ∷ []) (rest ∷ lines) []
 split_end bytes lines rest h = record {
   whole = ap (λ (l : List ℕ). l ++ 10 ∷ []) h.whole ∙ simp (append_assoc, append-nil);
   each = (h.unbroken, h.each);
@@ -95,7 +95,7 @@ ended_line setup m m' kept bytes text before after answer h =
       fits = subst (λ (k : History). Fits m' k) (one_more a.event (events_of h.exchanges)) (a.fits (history_of (events_of h.exchanges)) h.fits);
     }
 
-last_some : (lines : List (List ℕ)) (rest : List ℕ) → rest ≢ [] → with_last lines rest ≡ rest ∷ lines
+pub last_some : (lines : List (List ℕ)) (rest : List ℕ) → rest ≢ [] → with_last lines rest ≡ rest ∷ lines
 last_some lines [] some = absurd (some refl)
 last_some lines (b ∷ rest) some = refl
 
