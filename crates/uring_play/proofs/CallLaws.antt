@@ -1,12 +1,11 @@
 -- Blocks and calls, line by line.
-use Rattle.std.proofs.Common.{◌≡◌, ℕ, suc, ◌+◌, ◌<◌, ◌≤◌, Bool, true, false, cond, List, [], ◌∷◌, ◌++◌, length, refl, sym, ap, subst, ◌∙◌, arith, length-append}
+use Rattle.std.proofs.Common.{◌≡◌, ℕ, suc, ◌<◌, Bool, true, false, cond, List, [], ◌∷◌, ◌++◌, length, refl, sym, ap, subst, ◌∙◌, arith}
 use Rattle.std.specs.List.{slice_split, onto_first}
 use Rattle.std.proofs.lemmas.List.Splits.{slice_split-cons_yes, slice_split-cons_no, length-slice_split}
-use Rattle.std.proofs.lemmas.List.{append-nil}
 use Rattle.uring_threads.specs.declared.item.Item.{Item}
 use Rattle.uring_play.specs.ItemLines.{IsItemLine}
-use Rattle.uring_play.specs.Calls.{is_blank, blocks_of, AreItemLines, IsCall, AreCalls, SpellsCalls}
-use Rattle.uring_play.specs.Faults.{last_block, open_block}
+use Rattle.uring_play.specs.Calls.{AreItemLines, IsCall, AreCalls}
+use Rattle.uring_play.specs.Faults.{last_block}
 use Rattle.uring_play.specs.Scripts.{one_call}
 
 -- an element put behind the last part

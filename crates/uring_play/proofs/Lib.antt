@@ -3,3 +3,4 @@ pub mod CallLaws
 pub mod ScriptLaws
 pub mod Readings
 pub mod Outputs
+pub mod TotalLaws

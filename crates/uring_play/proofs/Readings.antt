@@ -1,5 +1,5 @@
 -- What a reading takes in, byte by byte.
-use Rattle.std.proofs.Common.{◌≡◌, ◌≢◌, ℕ, Bool, true, false, List, [], ◌∷◌, ◌++◌, take, Option, Some, None, Result, Ok, Err, refl, sym, ap, subst, ◌∙◌, reverse}
+use Rattle.std.proofs.Common.{◌≡◌, ◌≢◌, ℕ, List, [], ◌∷◌, ◌++◌, Option, Some, None, Result, Ok, Err, refl, sym, ap, subst, reverse}
 use Rattle.std.specs.Prelude.{◌<◌, ◌≤◌, length, MatchOption, IfSome}
 use Rattle.std.specs.Borrow.{Bor}
 use Rattle.std.specs.Io.KnownBytes.{Consumes, IsAtEnd, Keeps}
@@ -8,7 +8,7 @@ use Rattle.std.proofs.lemmas.List.{append-nil, reverse-append}
 use Rattle.std.specs.declared.vec.Vec.{Vec}
 use Rattle.std.specs.declared.alloc.Global.{Global}
 use Rattle.uring_entry.specs.Setup.{Setup}
-use Rattle.uring_trace.specs.Lines.{Splits, with_last}
+use Rattle.uring_trace.specs.Lines.{with_last}
 use Rattle.uring_trace.specs.KeptLine.{KeptLine, kept_of}
 use Rattle.uring_trace.proofs.Sessions.{split_more, split_end, last_some}
 use Rattle.uring_threads.specs.declared.item.Item.{Item}
@@ -17,7 +17,7 @@ use Rattle.uring_play.specs.declared.play_fault.PlayFault.TheVariants as fault
 use Rattle.uring_play.specs.declared.script.Script.{Script}
 use Rattle.uring_play.specs.declared.reading.Reading.{Reading}
 use Rattle.uring_play.specs.LineReads.{IsGiven}
-use Rattle.uring_play.specs.Inputs.{HasLines, Tells, IsReturned, ReadsAll, ReadsCalls, lists_of}
+use Rattle.uring_play.specs.Inputs.{HasLines, IsReturned, ReadsAll, ReadsCalls}
 use Rattle.uring_play.specs.Scripts.{Gathers, IsEarly, Returns}
 use Rattle.uring_play.specs.Readings.{Holds, Has, TakesIn, ReadsIn}
 

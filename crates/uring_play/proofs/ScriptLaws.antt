@@ -1,12 +1,11 @@
 -- What a script gathers, line by line.
-use Rattle.std.proofs.Common.{◌≡◌, ℕ, ◌+◌, ◌<◌, ◌≤◌, true, false, List, [], ◌∷◌, ◌++◌, length, Option, Some, None, Result, Ok, Err, refl, sym, ap, subst, ◌∙◌, append_assoc, arith, length-append, inl, inr}
+use Rattle.std.proofs.Common.{◌≡◌, ℕ, ◌+◌, ◌<◌, ◌≤◌, List, [], ◌∷◌, ◌++◌, length, Option, Some, None, Result, Ok, Err, refl, sym, ap, subst, ◌∙◌, append_assoc, arith, length-append, inl, inr}
 use Rattle.std.specs.Prelude.{OnOk, IsSome}
-use Rattle.std.proofs.lemmas.List.{append-nil}
 use Rattle.uring_threads.specs.declared.item.Item.{Item}
 use Rattle.uring_play.specs.declared.play_fault.PlayFault.{PlayFault}
 use Rattle.uring_play.specs.declared.play_fault.PlayFault.TheVariants as fault
 use Rattle.uring_play.specs.ItemLines.{IsItemLine, IsBadLine}
-use Rattle.uring_play.specs.Calls.{is_blank, blocks_of, AreCalls, IsCall, SpellsCalls}
+use Rattle.uring_play.specs.Calls.{is_blank, AreCalls, SpellsCalls}
 use Rattle.uring_play.specs.Faults.{Reaches, IsBadFirst, IsLongFirst, open_block, last_block}
 use Rattle.uring_play.specs.Inputs.{Tells, lists_of}
 use Rattle.uring_play.specs.declared.script.Script.{Script}

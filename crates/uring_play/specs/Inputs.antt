@@ -1,5 +1,5 @@
 -- What bytes that were read spell, and what is returned of them. The play language is our own rule.
-use Rattle.std.specs.Prelude.{◌≡◌, ℕ, List, [], map, reverse, Option, Result, Ok, Err}
+use Rattle.std.specs.Prelude.{◌≡◌, ℕ, List, map, reverse, Option, Result, Ok, Err}
 use Rattle.std.specs.Io.KnownBytes.{Consumes, IsAtEnd}
 use Rattle.std.specs.declared.vec.Vec.{Vec}
 use Rattle.std.specs.declared.alloc.Global.{Global}

@@ -6,3 +6,4 @@ pub mod LineReads
 pub mod Scripts
 pub mod Readings
 pub mod Outputs
+pub mod Totals

@@ -1,5 +1,5 @@
 -- Glue. What a reading has taken in.
-use Rattle.std.specs.Prelude.{◌≡◌, ℕ, List, [], reverse, Option, Result, Ok, Err}
+use Rattle.std.specs.Prelude.{◌≡◌, ℕ, List, reverse, Option, Result, Ok, Err}
 use Rattle.std.specs.Io.KnownBytes.{Consumes, IsAtEnd}
 use Rattle.uring_trace.specs.Lines.{Splits}
 use Rattle.uring_trace.specs.KeptLine.{KeptLine, kept_of}

@@ -5,13 +5,12 @@ mod line_read;
 mod play_fault;
 mod reading;
 mod script;
+mod totals;
 mod writing;
-
-
 
 pub use play_fault::PlayFault;
 pub use reading::read_calls;
-pub use writing::write_out;
-
+pub use totals::{accepted_in, dropped_last};
 pub use uring_machine::Cqe;
 pub use uring_threads::{Item, Setup};
+pub use writing::write_out;

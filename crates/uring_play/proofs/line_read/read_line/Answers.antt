@@ -1,4 +1,3 @@
-use Rattle.std.proofs.Common.{◌∙◌}
 use Rattle.uring_play.proofs.ItemLaws.{item_line}
 use Rattle.uring_play.proofs.line_read.read_line.Goals as goal
 

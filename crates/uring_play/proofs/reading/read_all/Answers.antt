@@ -1,6 +1,6 @@
 use Rattle.std.proofs.Common.{◌≡◌, [], ℕ, take, subst, rules}
 use Rattle.std.specs.Io.KnownBytes.{Consumes}
-use Rattle.uring_play.proofs.Readings.{at_start, all_read, goes_on, not_taken, tried_again, read_failed}
+use Rattle.uring_play.proofs.Readings.{all_read, goes_on, not_taken, tried_again, read_failed}
 use Rattle.uring_play.proofs.reading.read_all.Goals as goal
 
 pub returns-in-Ok-eq0-clause-bytes : goal.returns-in-Ok-eq0-clause-bytes

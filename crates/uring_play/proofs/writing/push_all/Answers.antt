@@ -1,4 +1,4 @@
-use Rattle.std.proofs.Common.{◌≡◌, ◌<◌, ◌++◌, ◌∷◌, [], length, rules}
+use Rattle.std.proofs.Common.{◌≡◌, ◌++◌, ◌∷◌, [], rules}
 use Rattle.std.specs.Prelude.{string_bytes}
 use Rattle.uring_play.proofs.Outputs.{line_more}
 use Rattle.uring_play.proofs.writing.push_all.Goals as goal

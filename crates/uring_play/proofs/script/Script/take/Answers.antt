@@ -1,5 +1,3 @@
-use Rattle.std.proofs.Common.{◌≡◌, ℕ, List, ◌++◌, ◌∷◌, []}
-use Rattle.uring_play.specs.Scripts.{Gathers}
 use Rattle.uring_play.proofs.ScriptLaws.{on_ok_map, took_blank, took_item, took_bad}
 use Rattle.uring_play.proofs.script.Script.take.Goals as goal
 

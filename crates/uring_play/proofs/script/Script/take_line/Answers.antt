@@ -1,4 +1,4 @@
-use Rattle.std.proofs.Common.{◌≡◌, true, rules}
+use Rattle.std.proofs.Common.{rules}
 use Rattle.std.specs.Prelude.{IsSome}
 use Rattle.uring_play.proofs.ScriptLaws.{stays}
 use Rattle.uring_play.proofs.script.Script.take_line.Goals as goal
