@@ -4,3 +4,5 @@ pub mod ScriptLaws
 pub mod Readings
 pub mod Outputs
 pub mod TotalLaws
+pub mod OnceLaws
+pub mod AlwaysLaws

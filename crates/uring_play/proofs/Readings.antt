@@ -42,7 +42,7 @@ took_byte size kept kept' script before b ne more h = record {
 abbrev pub Takes : Option (Bor (List ℕ)) → Script → Script → Type 0
 Takes given old new = (size : ℕ) (lines : List (List ℕ)) (text : List ℕ) → IsGiven text given → Gathers size lines old → Gathers size (lines ++ text ∷ []) new
 
-reverse_more : (line : List ℕ) (lines : List (List ℕ)) → reverse (line ∷ lines) ≡ reverse lines ++ line ∷ []
+pub reverse_more : (line : List ℕ) (lines : List (List ℕ)) → reverse (line ∷ lines) ≡ reverse lines ++ line ∷ []
 reverse_more line lines = reverse-append (line ∷ []) lines
 
 -- the end of a line

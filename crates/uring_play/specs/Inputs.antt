@@ -18,8 +18,12 @@ pub record HasLines (bytes : List ℕ) (lines : List (List ℕ)) : Type 0 where
   pub splits : Splits bytes ended rest
   pub all : lines ≡ reverse (with_last ended rest)
 
+-- calls, or a fault
+abbrev pub Told : Type 0
+Told = Result (List (List Item)) PlayFault
+
 -- What lines tell: calls, or the first faulty line.
-abbrev pub Tells : ℕ → List (List ℕ) → Result (List (List Item)) PlayFault → Type 0
+abbrev pub Tells : ℕ → List (List ℕ) → Told → Type 0
 Tells size lines (Ok calls) = SpellsCalls size lines calls
 Tells size lines (Err (fault.Line k)) = IsBadFirst size lines k
 Tells size lines (Err (fault.Long k)) = IsLongFirst size lines k
@@ -28,7 +32,7 @@ Tells size lines (Err fault.Write) = ⊥
 Tells size lines (Err fault.Memory) = ⊥
 
 -- What bytes tell.
-abbrev pub IsTold : ℕ → List ℕ → Result (List (List Item)) PlayFault → Type 0
+abbrev pub IsTold : ℕ → List ℕ → Told → Type 0
 IsTold size bytes told = (lines : List (List ℕ)) × HasLines bytes lines × Tells size lines told
 
 -- the lists of items that vectors hold

@@ -1,6 +1,7 @@
 //! The play language: whole submissions as lines of text, and the text of their completions. What is read here is run in threads elsewhere.
 #![tactic(auto)]
 
+pub mod laws;
 mod line_read;
 mod play_fault;
 mod reading;
