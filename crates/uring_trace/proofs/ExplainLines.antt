@@ -1,8 +1,8 @@
 -- What an explainer keeps, byte by byte and line by line.
-use Rattle.std.proofs.Common.{◌≡◌, ◌≢◌, ℕ, ◌+◌, ◌-◌, ◌^◌, ◌<◌, min, Bool, true, false, not, ◌&&◌, ◌||◌, List, [], ◌∷◌, ◌++◌, length, take, Some, None, Result, Ok, Err, refl, sym, ap, subst, ◌∙◌, append_assoc, arith}
+use Rattle.std.proofs.Common.{◌≡◌, ◌≢◌, ℕ, ◌+◌, ◌-◌, ◌^◌, min, Bool, true, false, not, ◌&&◌, ◌||◌, List, [], ◌∷◌, ◌++◌, length, Some, None, Result, Ok, Err, refl, sym, ap, subst, ◌∙◌, append_assoc, arith}
 use Rattle.std.specs.Prelude.{if◌then◌else◌, is_none, IfOk}
 use Rattle.std.specs.List.{list_any}
-use Rattle.std.proofs.lemmas.List.{append-nil, length-take, nil_from_length}
+use Rattle.std.proofs.lemmas.List.{append-nil}
 use Rattle.uring_entry.specs.Setup.{Setup}
 use Rattle.uring_machine.specs.CalledFor.{IsLawful}
 use Rattle.uring_machine.specs.Histories.{History, history_of, world}
@@ -10,7 +10,7 @@ use Rattle.uring_machine.specs.Machine.{Machine, Fits}
 use Rattle.uring_machine.specs.declared.step.Step.{Step}
 use Rattle.uring_trace.specs.Spelling.{IsStep, IsBad}
 use Rattle.uring_trace.specs.Lines.{with_last, joined, ended}
-use Rattle.uring_trace.specs.KeptLines.{Keeps300}
+use Rattle.uring_trace.specs.KeptLine.{KeptLine, kept_of}
 use Rattle.uring_trace.specs.Remarks.{is_remark}
 use Rattle.uring_trace.specs.Exchanges.{Exchange, lines_of, events_of}
 use Rattle.uring_trace.specs.Sessions.{with_event}
@@ -23,14 +23,6 @@ use Rattle.uring_trace.proofs.Sessions.{split_more, split_end, split_whole, one_
 pub if_ok_both : {T E : Type 0} (r : Result T E) (P Q R : T → Type 0) → ((x : T) → P x → Q x → R x) → IfOk r P → IfOk r Q → IfOk r R
 if_ok_both (Ok x) P Q R f a b = f x a b
 if_ok_both (Err e) P Q R f a b = tt
-
--- a remark is known by what is kept of it
-pub remark_kept : (line kept : List ℕ) (is_long : Bool) → Keeps300 line kept is_long → is_remark kept ≡ is_remark line
-remark_kept line kept is_long k = ap is_remark k.first ∙ first line
-  where
-    first : (l : List ℕ) → is_remark (take 300 l) ≡ is_remark l
-    first [] = refl
-    first (b ∷ l) = refl
 
 or_false : (b : Bool) → b ≡ (b || false)
 or_false true = refl
@@ -77,9 +69,9 @@ line_bad m number was_bad line before after notes notes' is remark told noted = 
 }
 
 -- one byte more of a line
-pub explain_byte : (setup : Setup) (m : Machine) (kept kept' : List ℕ) (is_long is_long' : Bool) (number : ℕ) (bad : Bool) (before text notes : List ℕ) (b : ℕ) → b ≢ 10 → ((line : List ℕ) → Keeps300 line kept is_long → Keeps300 (line ++ b ∷ []) kept' is_long')
-    → Explaining setup m kept is_long number bad before text notes → Explaining setup m kept' is_long' number bad (before ++ b ∷ []) text notes
-explain_byte setup m kept kept' is_long is_long' number bad before text notes b ne more h = record {
+pub explain_byte : (setup : Setup) (m : Machine) (kept kept' : KeptLine) (number : ℕ) (bad : Bool) (before text notes : List ℕ) (b : ℕ) → b ≢ 10 → ((line : List ℕ) → kept ≡ kept_of line → kept' ≡ kept_of (line ++ b ∷ []))
+    → Explaining setup m kept number bad before text notes → Explaining setup m kept' number bad (before ++ b ∷ []) text notes
+explain_byte setup m kept kept' number bad before text notes b ne more h = record {
   exchanges = h.exchanges;
   line = h.line ++ b ∷ [];
   explains = h.explains;
@@ -123,10 +115,10 @@ bad_more m m' number was_bad bad xs line before after noted noted' was a =
     a.bad_line ∙ ap (λ b. b || (is_none a.event && not (is_remark line))) was ∙ or_comes (list_any is_bad xs) (is_none a.event && not (is_remark line))
 
 -- a line that has its end
-pub explain_line : (setup : Setup) (m m' : Machine) (kept : List ℕ) (is_long : Bool) (number number' : ℕ) (was_bad bad : Bool) (bytes text before after notes noted noted' : List ℕ) → number' ≡ min (number + 1) (2 ^ 64 - 1)
-    → ((line : List ℕ) → Keeps300 line kept is_long → AppendsLine m m' number was_bad bad line before after noted noted')
-    → Explaining setup m kept is_long number was_bad bytes (text ++ before) (notes ++ noted) → Explaining setup m' [] false number' bad (bytes ++ 10 ∷ []) (text ++ after) (notes ++ noted')
-explain_line setup m m' kept is_long number number' was_bad bad bytes text before after notes noted noted' next tells h =
+pub explain_line : (setup : Setup) (m m' : Machine) (kept : KeptLine) (number number' : ℕ) (was_bad bad : Bool) (bytes text before after notes noted noted' : List ℕ) → number' ≡ min (number + 1) (2 ^ 64 - 1)
+    → ((line : List ℕ) → kept ≡ kept_of line → AppendsLine m m' number was_bad bad line before after noted noted')
+    → Explaining setup m kept number was_bad bytes (text ++ before) (notes ++ noted) → Explaining setup m' (kept_of []) number' bad (bytes ++ 10 ∷ []) (text ++ after) (notes ++ noted')
+explain_line setup m m' kept number number' was_bad bad bytes text before after notes noted noted' next tells h =
     let a = tells h.line h.keeps in
     let numbered = h.numbered in
     record {
@@ -134,7 +126,7 @@ explain_line setup m m' kept is_long number number' was_bad bad bytes text befor
       line = [];
       explains = explained_more setup m m' number was_bad bad h.exchanges h.line text before after notes noted noted' h.explains h.numbered h.same h.fits a;
       splits = split_end bytes (lines_of h.exchanges) h.line h.splits;
-      keeps = record { first = refl; long = refl };
+      keeps = refl;
       numbered = omega (arith, next, numbered);
       bad_lines = bad_more m m' number was_bad bad h.exchanges h.line before after noted noted' h.bad_lines a;
       same = a.same ∙ h.same;
@@ -142,34 +134,30 @@ explain_line setup m m' kept is_long number number' was_bad bad bytes text befor
     }
 
 -- a last line that has begun
-pub explain_last : (setup : Setup) (m m' : Machine) (kept : List ℕ) (is_long : Bool) (number : ℕ) (was_bad bad : Bool) (bytes text before after notes noted noted' : List ℕ) → 0 < length kept
-    → ((line : List ℕ) → Keeps300 line kept is_long → AppendsLine m m' number was_bad bad line before after noted noted')
-    → Explaining setup m kept is_long number was_bad bytes (text ++ before) (notes ++ noted) → ExplainsWhole setup bad bytes (text ++ after) (notes ++ noted')
-explain_last setup m m' kept is_long number was_bad bad bytes text before after notes noted noted' lt tells h =
-    let a = tells h.line h.keeps in
-    let size : length kept ≡ length (take 300 h.line) = ap length h.keeps.first in
-    let some : 0 < length h.line = omega (arith, length-take 300 h.line) in (
+pub explain_last : (setup : Setup) (m m' : Machine) (kept : KeptLine) (number : ℕ) (was_bad bad : Bool) (bytes text before after notes noted noted' : List ℕ) → ((line : List ℕ) → kept ≡ kept_of line → line ≡ [] → ⊥)
+    → ((line : List ℕ) → kept ≡ kept_of line → AppendsLine m m' number was_bad bad line before after noted noted')
+    → Explaining setup m kept number was_bad bytes (text ++ before) (notes ++ noted) → ExplainsWhole setup bad bytes (text ++ after) (notes ++ noted')
+explain_last setup m m' kept number was_bad bad bytes text before after notes noted noted' some tells h =
+    let a = tells h.line h.keeps in (
       record { line = h.line; event = a.event } ∷ h.exchanges,
       lines_of h.exchanges,
       h.line,
       explained_more setup m m' number was_bad bad h.exchanges h.line text before after notes noted noted' h.explains h.numbered h.same h.fits a,
       h.splits,
-      sym (last_some (lines_of h.exchanges) h.line some),
+      sym (last_some (lines_of h.exchanges) h.line (some h.line h.keeps)),
       bad_more m m' number was_bad bad h.exchanges h.line before after noted noted' h.bad_lines a,
     )
 
 -- no last line has begun
-pub explain_none : (setup : Setup) (m : Machine) (kept : List ℕ) (is_long : Bool) (number : ℕ) (bad : Bool) (bytes text notes : List ℕ) → length kept ≡ 0 → Explaining setup m kept is_long number bad bytes text notes → ExplainsWhole setup bad bytes text notes
-explain_none setup m kept is_long number bad bytes text notes none h =
-    let size : length kept ≡ length (take 300 h.line) = ap length h.keeps.first in
-    let empty : length h.line ≡ 0 = omega (arith, length-take 300 h.line) in
-    (h.exchanges, lines_of h.exchanges, h.line, h.explains, h.splits, sym (ap (with_last (lines_of h.exchanges)) (nil_from_length h.line empty)), h.bad_lines)
+pub explain_none : (setup : Setup) (m : Machine) (kept : KeptLine) (number : ℕ) (bad : Bool) (bytes text notes : List ℕ) → ((line : List ℕ) → kept ≡ kept_of line → line ≡ []) → Explaining setup m kept number bad bytes text notes → ExplainsWhole setup bad bytes text notes
+explain_none setup m kept number bad bytes text notes none h =
+    (h.exchanges, lines_of h.exchanges, h.line, h.explains, h.splits, sym (ap (with_last (lines_of h.exchanges)) (none h.line h.keeps)), h.bad_lines)
 
 -- what an explainer holds, for the outcomes that end early
-pub explain_ended : (setup : Setup) (m : Machine) (kept : List ℕ) (is_long : Bool) (number : ℕ) (bad : Bool) (bytes text notes : List ℕ) → Explaining setup m kept is_long number bad bytes text notes → ExplainsEnded setup bytes text notes
-explain_ended setup m kept is_long number bad bytes text notes h = (h.exchanges, h.line, h.explains, h.splits)
+pub explain_ended : (setup : Setup) (m : Machine) (kept : KeptLine) (number : ℕ) (bad : Bool) (bytes text notes : List ℕ) → Explaining setup m kept number bad bytes text notes → ExplainsEnded setup bytes text notes
+explain_ended setup m kept number bad bytes text notes h = (h.exchanges, h.line, h.explains, h.splits)
 
-pub explain_beginning : (setup : Setup) (m : Machine) (kept : List ℕ) (is_long : Bool) (number : ℕ) (bad : Bool) (bytes text notes more : List ℕ) → Explaining setup m kept is_long number bad bytes text notes → ExplainsBeginning setup (bytes ++ more) text notes
-explain_beginning setup m kept is_long number bad bytes text notes more h =
+pub explain_beginning : (setup : Setup) (m : Machine) (kept : KeptLine) (number : ℕ) (bad : Bool) (bytes text notes more : List ℕ) → Explaining setup m kept number bad bytes text notes → ExplainsBeginning setup (bytes ++ more) text notes
+explain_beginning setup m kept number bad bytes text notes more h =
     let lines = lines_of h.exchanges in
     (joined lines, h.line ++ more, h.exchanges, h.explains, split_whole lines h.splits.each, ap (λ (l : List ℕ). l ++ more) h.splits.whole ∙ append_assoc (joined lines) h.line more)

@@ -48,13 +48,13 @@ beginning : (setup : Setup) (s : Explainer) (bytes told noted more : List ℕ) �
 beginning setup s bytes told noted more h =
     subst (λ (l : List ℕ). ExplainsBeginning setup (bytes ++ more) (told ++ []) l) (sym (append-nil noted))
     (subst (λ (l : List ℕ). ExplainsBeginning setup (bytes ++ more) l noted) (sym (append-nil told))
-    (explain_beginning setup s.machine s.line.kept.items s.line.is_long s.number s.has_bad bytes told noted more h))
+    (explain_beginning setup s.machine s.line s.number s.has_bad bytes told noted more h))
 
 -- the same bytes, with nothing behind them
 beginning_here : (setup : Setup) (s : Explainer) (bytes told noted : List ℕ) → HasTold setup s bytes told noted → ExplainsBeginning setup bytes told noted
 beginning_here setup s bytes told noted h =
     subst (λ (l : List ℕ). ExplainsBeginning setup l told noted) (append-nil bytes)
-    (explain_beginning setup s.machine s.line.kept.items s.line.is_long s.number s.has_bad bytes told noted [] h)
+    (explain_beginning setup s.machine s.line s.number s.has_bad bytes told noted [] h)
 
 -- memory was refused
 pub none_told : (setup : Setup) (result : Done) (w e : Known) (s s' : Explainer) (before told noted more : List ℕ) → result ≡ Err fault.Memory → HasTold setup s before told noted → WroteBoth w w e e told noted (TookBoth setup result s' (before ++ more))
@@ -202,6 +202,6 @@ far_failed setup answer a r d w x e s is so = record {
   consumed = so.3;
   appended = so.4;
   noted = so.5;
-  written = subst (λ (k : Answer). WritesBoth setup k so.0 so.1 so.2) (sym is) (explain_ended setup s.machine s.line.kept.items s.line.is_long s.number s.has_bad so.0 so.1 so.2 so.6);
+  written = subst (λ (k : Answer). WritesBoth setup k so.0 so.1 so.2) (sym is) (explain_ended setup s.machine s.line s.number s.has_bad so.0 so.1 so.2 so.6);
   whole = subst (λ (k : Answer). ReadsWhole k r) (sym is) tt;
 }

@@ -5,6 +5,7 @@ pub mod Trimming
 pub mod Spellings
 pub mod NumberLaws
 pub mod FlagLaws
+pub mod KeptLines
 pub mod Sessions
 pub mod ExplainLines
 pub mod ExplainStreams

@@ -1,20 +1,17 @@
 -- What a session keeps, byte by byte and line by line.
-use Rattle.std.proofs.Common.{◌≡◌, ◌≢◌, ℕ, ◌<◌, ◌≤◌, Bool, true, false, List, [], ◌∷◌, ◌++◌, length, take, Option, Some, None, Result, Ok, Err, refl, sym, ap, subst, ◌∙◌, append_assoc, arith}
-use Rattle.std.specs.Prelude.{IfOk, OnOk, MatchOption, is_ok}
+use Rattle.std.proofs.Common.{◌≡◌, ◌≢◌, ℕ, true, List, [], ◌∷◌, ◌++◌, Option, Some, None, Result, Ok, Err, refl, sym, ap, subst, ◌∙◌, append_assoc}
+use Rattle.std.specs.Prelude.{IfOk, OnOk, is_ok}
 use Rattle.std.specs.List.{AllByRecursion}
 use Rattle.std.specs.Option.{option_to_list}
-use Rattle.std.proofs.lemmas.Bool.{lt-ltb, le-ltb, ltb-false}
-use Rattle.std.proofs.lemmas.List.{append-nil, take_all, take-append-le, length-append, length-take, nil_from_length}
+use Rattle.std.proofs.lemmas.List.{append-nil}
 use Rattle.uring_entry.specs.Setup.{Setup}
 use Rattle.uring_machine.specs.CalledFor.{IsLawful}
 use Rattle.uring_machine.specs.Histories.{Event, History, history_of}
 use Rattle.uring_machine.proofs.Following.{history_of-snoc}
 use Rattle.uring_machine.specs.Machine.{Machine, Fits}
-use Rattle.uring_machine.specs.declared.step.Step.{Step}
-use Rattle.uring_trace.specs.Spelling.{IsStep, IsBad}
 use Rattle.uring_trace.specs.Lines.{IsUnbroken, Splits, with_last, joined, ended}
 use Rattle.uring_trace.specs.Exchanges.{Exchange, Answers, answer_text, lines_of, events_of}
-use Rattle.uring_trace.specs.KeptLines.{Keeps300}
+use Rattle.uring_trace.specs.KeptLine.{KeptLine, kept_of}
 use Rattle.uring_trace.specs.Sessions.{AppendsAnswer, Holds, with_event}
 use Rattle.uring_trace.specs.Traces.{IsWhole, IsBeginning, IsEnded}
 
@@ -51,32 +48,10 @@ split_end bytes lines rest h = record {
 pub split_whole : (lines : List (List ℕ)) → AllByRecursion IsUnbroken lines → Splits (joined lines) lines []
 split_whole lines each = record { whole = sym (append-nil (joined lines)); each = each; unbroken = tt }
 
--- a byte of a line that has room
-pub kept_more : (line kept : List ℕ) (is_long : Bool) (b : ℕ) → Keeps300 line kept is_long → length kept < 300 → Keeps300 (line ++ b ∷ []) (kept ++ b ∷ []) is_long
-kept_more line kept is_long b h lt =
-    let size : length kept ≡ length (take 300 line) = ap length h.first in
-    let short : length line < 300 = omega (arith, length-take 300 line) in
-    let whole : take 300 line ≡ line = take_all 300 line (omega arith) in
-    let longer : length (line ++ b ∷ []) ≤ 300 = omega (arith, length-append line (b ∷ [])) in
-    record {
-      first = ap (λ (l : List ℕ). l ++ b ∷ []) (h.first ∙ whole) ∙ sym (take_all 300 (line ++ b ∷ []) longer);
-      long = h.long ∙ le-ltb 300 (length line) (omega arith) ∙ sym (le-ltb 300 (length (line ++ b ∷ [])) longer);
-    }
-
--- a byte past the room
-pub kept_full : (line kept : List ℕ) (is_long : Bool) (b : ℕ) → Keeps300 line kept is_long → 300 ≤ length kept → Keeps300 (line ++ b ∷ []) kept true
-kept_full line kept is_long b h le =
-    let size : length kept ≡ length (take 300 line) = ap length h.first in
-    let full : 300 ≤ length line = omega (arith, length-take 300 line) in
-    record {
-      first = h.first ∙ sym (take-append-le 300 line (b ∷ []) full);
-      long = sym (lt-ltb 300 (length (line ++ b ∷ [])) (omega (arith, length-append line (b ∷ []))));
-    }
-
 -- one byte more of a line
-pub took_byte : (setup : Setup) (m : Machine) (kept kept' : List ℕ) (is_long is_long' : Bool) (before text : List ℕ) (b : ℕ) → b ≢ 10 → ((line : List ℕ) → Keeps300 line kept is_long → Keeps300 (line ++ b ∷ []) kept' is_long')
-    → Holds setup m kept is_long before text → Holds setup m kept' is_long' (before ++ b ∷ []) text
-took_byte setup m kept kept' is_long is_long' before text b ne more h = record {
+pub took_byte : (setup : Setup) (m : Machine) (kept kept' : KeptLine) (before text : List ℕ) (b : ℕ) → b ≢ 10 → ((line : List ℕ) → kept ≡ kept_of line → kept' ≡ kept_of (line ++ b ∷ []))
+    → Holds setup m kept before text → Holds setup m kept' (before ++ b ∷ []) text
+took_byte setup m kept kept' before text b ne more h = record {
   exchanges = h.exchanges;
   line = h.line ++ b ∷ [];
   answers = h.answers;
@@ -85,13 +60,6 @@ took_byte setup m kept kept' is_long is_long' before text b ne more h = record {
   same = h.same;
   fits = h.fits;
 }
-
--- a line that is kept whole
-pub line_is_kept : (line kept : List ℕ) → Keeps300 line kept false → kept ≡ line
-line_is_kept line kept h = h.first ∙ take_all 300 line (ltb-false 300 (length line) (sym h.long))
-
-pub read_again : (line kept : List ℕ) (read : Option Step) → MatchOption read (IsBad kept) (IsStep kept) → Keeps300 line kept false → MatchOption read (IsBad line) (IsStep line)
-read_again line kept read h k = subst (λ (l : List ℕ). MatchOption read (IsBad l) (IsStep l)) (line_is_kept line kept k) h
 
 -- the history of one exchange more
 pub one_more : (event : Option Event) (events : List Event) → with_event event (history_of events) ≡ history_of (events ++ option_to_list event)
@@ -110,45 +78,41 @@ answered setup m m' xs line text before after h same fits a = record {
 }
 
 -- the answer to a line that has its end
-pub ended_line : (setup : Setup) (m m' : Machine) (kept : List ℕ) (is_long : Bool) (bytes text before after : List ℕ) → ((line : List ℕ) → Keeps300 line kept is_long → AppendsAnswer m m' line before after)
-    → Holds setup m kept is_long bytes (text ++ before) → Holds setup m' [] false (bytes ++ 10 ∷ []) (text ++ (after ++ 10 ∷ []))
-ended_line setup m m' kept is_long bytes text before after answer h =
+pub ended_line : (setup : Setup) (m m' : Machine) (kept : KeptLine) (bytes text before after : List ℕ) → ((line : List ℕ) → kept ≡ kept_of line → AppendsAnswer m m' line before after)
+    → Holds setup m kept bytes (text ++ before) → Holds setup m' (kept_of []) (bytes ++ 10 ∷ []) (text ++ (after ++ 10 ∷ []))
+ended_line setup m m' kept bytes text before after answer h =
     let a = answer h.line h.keeps in
     record {
       exchanges = record { line = h.line; event = a.event } ∷ h.exchanges;
       line = [];
       answers = answered setup m m' h.exchanges h.line text before after h.answers h.same h.fits a;
       splits = split_end bytes (lines_of h.exchanges) h.line h.splits;
-      keeps = record { first = refl; long = refl };
+      keeps = refl;
       same = a.same ∙ h.same;
       fits = subst (λ (k : History). Fits m' k) (one_more a.event (events_of h.exchanges)) (a.fits (history_of (events_of h.exchanges)) h.fits);
     }
 
-pub last_some : (lines : List (List ℕ)) (rest : List ℕ) → 0 < length rest → with_last lines rest ≡ rest ∷ lines
-last_some lines [] lt = absurd (omega arith)
-last_some lines (b ∷ rest) lt = refl
+pub last_some : (lines : List (List ℕ)) (rest : List ℕ) → rest ≢ [] → with_last lines rest ≡ rest ∷ lines
+last_some lines [] some = absurd (some refl)
+last_some lines (b ∷ rest) some = refl
 
 -- the answer to a last line that has begun
-pub ended_last : (setup : Setup) (m m' : Machine) (kept : List ℕ) (is_long : Bool) (bytes text before after : List ℕ) → 0 < length kept → ((line : List ℕ) → Keeps300 line kept is_long → AppendsAnswer m m' line before after)
-    → Holds setup m kept is_long bytes (text ++ before) → IsWhole setup bytes (text ++ (after ++ 10 ∷ []))
-ended_last setup m m' kept is_long bytes text before after lt answer h =
+pub ended_last : (setup : Setup) (m m' : Machine) (kept : KeptLine) (bytes text before after : List ℕ) → ((line : List ℕ) → kept ≡ kept_of line → line ≡ [] → ⊥) → ((line : List ℕ) → kept ≡ kept_of line → AppendsAnswer m m' line before after)
+    → Holds setup m kept bytes (text ++ before) → IsWhole setup bytes (text ++ (after ++ 10 ∷ []))
+ended_last setup m m' kept bytes text before after some answer h =
     let a = answer h.line h.keeps in
-    let size : length kept ≡ length (take 300 h.line) = ap length h.keeps.first in
-    let some : 0 < length h.line = omega (arith, length-take 300 h.line) in
-    (record { line = h.line; event = a.event } ∷ h.exchanges, lines_of h.exchanges, h.line, answered setup m m' h.exchanges h.line text before after h.answers h.same h.fits a, h.splits, sym (last_some (lines_of h.exchanges) h.line some))
+    (record { line = h.line; event = a.event } ∷ h.exchanges, lines_of h.exchanges, h.line, answered setup m m' h.exchanges h.line text before after h.answers h.same h.fits a, h.splits, sym (last_some (lines_of h.exchanges) h.line (some h.line h.keeps)))
 
 -- no last line has begun
-pub ended_none : (setup : Setup) (m : Machine) (kept : List ℕ) (is_long : Bool) (bytes text : List ℕ) → length kept ≡ 0 → Holds setup m kept is_long bytes text → IsWhole setup bytes text
-ended_none setup m kept is_long bytes text none h =
-    let size : length kept ≡ length (take 300 h.line) = ap length h.keeps.first in
-    let empty : length h.line ≡ 0 = omega (arith, length-take 300 h.line) in
-    (h.exchanges, lines_of h.exchanges, h.line, h.answers, h.splits, sym (ap (with_last (lines_of h.exchanges)) (nil_from_length h.line empty)))
+pub ended_none : (setup : Setup) (m : Machine) (kept : KeptLine) (bytes text : List ℕ) → ((line : List ℕ) → kept ≡ kept_of line → line ≡ []) → Holds setup m kept bytes text → IsWhole setup bytes text
+ended_none setup m kept bytes text none h =
+    (h.exchanges, lines_of h.exchanges, h.line, h.answers, h.splits, sym (ap (with_last (lines_of h.exchanges)) (none h.line h.keeps)))
 
 -- what a session holds, for the outcomes that end a trace early
-pub held_ended : (setup : Setup) (m : Machine) (kept : List ℕ) (is_long : Bool) (bytes text : List ℕ) → Holds setup m kept is_long bytes text → IsEnded setup bytes text
-held_ended setup m kept is_long bytes text h = (h.exchanges, h.line, h.answers, h.splits)
+pub held_ended : (setup : Setup) (m : Machine) (kept : KeptLine) (bytes text : List ℕ) → Holds setup m kept bytes text → IsEnded setup bytes text
+held_ended setup m kept bytes text h = (h.exchanges, h.line, h.answers, h.splits)
 
-pub held_beginning : (setup : Setup) (m : Machine) (kept : List ℕ) (is_long : Bool) (bytes text more : List ℕ) → Holds setup m kept is_long bytes text → IsBeginning setup (bytes ++ more) text
-held_beginning setup m kept is_long bytes text more h =
+pub held_beginning : (setup : Setup) (m : Machine) (kept : KeptLine) (bytes text more : List ℕ) → Holds setup m kept bytes text → IsBeginning setup (bytes ++ more) text
+held_beginning setup m kept bytes text more h =
     let lines = lines_of h.exchanges in
     (joined lines, h.line ++ more, h.exchanges, h.answers, split_whole lines h.splits.each, ap (λ (l : List ℕ). l ++ more) h.splits.whole ∙ append_assoc (joined lines) h.line more)

@@ -43,7 +43,7 @@ no_text_yet setup s bytes text none e h = subst (λ (l : List ℕ). Has setup s 
 
 -- a beginning, as what is written when memory is refused
 beginning : (setup : Setup) (s : Session) (bytes told more : List ℕ) → Has setup s bytes told → Writes setup (Err fault.Memory) (bytes ++ more) (told ++ [])
-beginning setup s bytes told more h = subst (λ (l : List ℕ). Writes setup (Err fault.Memory) (bytes ++ more) l) (sym (append-nil told)) (held_beginning setup s.machine s.line.kept.items s.line.is_long bytes told more h)
+beginning setup s bytes told more h = subst (λ (l : List ℕ). Writes setup (Err fault.Memory) (bytes ++ more) l) (sym (append-nil told)) (held_beginning setup s.machine s.line bytes told more h)
 
 -- ---- the answers to some bytes
 
@@ -57,7 +57,7 @@ cut_short setup bytes told new written more h lt e = (more, lt, inl (subst (λ (
 took_in : (setup : Setup) (answer : Answer) (s : Session) (bytes told new written : List ℕ) → Has setup s bytes (told ++ new) → WritesText answer new written → TookIn setup answer s bytes (told ++ written)
 took_in setup (Ok done) s bytes told new written h e = subst (λ (l : List ℕ). Has setup s bytes (told ++ l)) (sym e) h
 took_in setup (Err e) s bytes told new written h w =
-    let held = held_beginning setup s.machine s.line.kept.items s.line.is_long bytes (told ++ new) [] h in
+    let held = held_beginning setup s.machine s.line bytes (told ++ new) [] h in
     let whole : IsBeginning setup bytes (told ++ new) = subst (λ (l : List ℕ). IsBeginning setup l (told ++ new)) (append-nil bytes) held in
     subst (λ (x : TraceFault). Writes setup (Err x) bytes (told ++ written)) (sym w.0) (cut_short setup bytes told new written w.1 whole w.2 w.3)
 
@@ -151,6 +151,6 @@ read_failed setup answer a r d w s is so = record {
   text = so.1;
   consumed = so.2;
   appended = so.3;
-  written = subst (λ (x : Answer). Writes setup x so.0 so.1) (sym is) (held_ended setup s.machine s.line.kept.items s.line.is_long so.0 so.1 so.4);
+  written = subst (λ (x : Answer). Writes setup x so.0 so.1) (sym is) (held_ended setup s.machine s.line so.0 so.1 so.4);
   whole = subst (λ (x : Answer). ReadsAll x r) (sym is) tt;
 }

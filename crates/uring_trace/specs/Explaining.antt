@@ -13,7 +13,7 @@ use Rattle.uring_machine.specs.declared.answer.Answer.{Answer}
 use Rattle.uring_trace.specs.Text.{text_of}
 use Rattle.uring_trace.specs.Reasons.{reason_of, reason_text}
 use Rattle.uring_trace.specs.Lines.{ended, Splits}
-use Rattle.uring_trace.specs.KeptLines.{Keeps300}
+use Rattle.uring_trace.specs.KeptLine.{KeptLine, kept_of}
 use Rattle.uring_trace.specs.Exchanges.{Exchange, IsReadAs, lines_of, events_of}
 use Rattle.uring_trace.specs.Sessions.{with_event}
 use Rattle.uring_trace.specs.Explanations.{Explains, WritesBoth, told_of, noted_of, line_number, is_bad}
@@ -46,13 +46,13 @@ WritesTexts (Err e) text notes written noted =
 abbrev pub WritesPair : Option (List ℕ) → Option (List ℕ) → Option (List ℕ) → Option (List ℕ) → Result (Unit {0}) TraceFault → List ℕ → List ℕ → Type 0
 WritesPair w w' e e' result text notes = (written : List ℕ) × (noted : List ℕ) × Appends w w' written × Appends e e' noted × WritesTexts result text notes written noted
 
--- The explainer's invariant, over its fields: these bytes have been taken in, text and notes are what was told and noted so far, and `kept` and `is_long` are what is kept of the unfinished line, which has this number.
-pub record Explaining (setup : Setup) (machine : Machine) (kept : List ℕ) (is_long : Bool) (number : ℕ) (bad : Bool) (bytes text notes : List ℕ) : Type 0 where
+-- The explainer's invariant, over its fields: these bytes have been taken in, text and notes are what was told and noted so far, and `kept` is what is kept of the unfinished line, which has this number.
+pub record Explaining (setup : Setup) (machine : Machine) (kept : KeptLine) (number : ℕ) (bad : Bool) (bytes text notes : List ℕ) : Type 0 where
   pub exchanges : List Exchange
   pub line : List ℕ
   pub explains : Explains setup exchanges text notes
   pub splits : Splits bytes (lines_of exchanges) line
-  pub keeps : Keeps300 line kept is_long
+  pub keeps : kept ≡ kept_of line
   pub numbered : number ≡ line_number (length exchanges)
   pub bad_lines : bad ≡ list_any is_bad exchanges
   pub same : machine.core.setup ≡ setup
@@ -60,7 +60,7 @@ pub record Explaining (setup : Setup) (machine : Machine) (kept : List ℕ) (is_
 
 -- The explainer has taken in these bytes, and told and noted this so far.
 abbrev pub HasTold : Setup → Explainer → List ℕ → List ℕ → List ℕ → Type 0
-HasTold setup s bytes text notes = Explaining setup s.machine s.line.kept.items s.line.is_long s.number s.has_bad bytes text notes
+HasTold setup s bytes text notes = Explaining setup s.machine s.line s.number s.has_bad bytes text notes
 
 -- These bytes were to be taken in, and this is what has been written: all that was told and noted so far, or what a fault allows.
 abbrev pub TookBoth : Setup → Result (Unit {0}) TraceFault → Explainer → List ℕ → List ℕ → List ℕ → Type 0

@@ -3,9 +3,9 @@ pub mod Spelling
 pub mod Reading
 pub mod Text
 pub mod Lines
-pub mod KeptLines
 pub mod Exchanges
 pub mod Traces
+pub mod KeptLine
 pub mod Sessions
 pub mod Streams
 pub mod Reasons

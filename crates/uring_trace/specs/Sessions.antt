@@ -1,13 +1,13 @@
 -- Glue. What a session keeps of the lines that it took in.
-use Rattle.std.specs.Prelude.{◌≡◌, ℕ, Bool, List, ◌∷◌, ◌++◌, Option, Some, None, Result, Ok, Err}
+use Rattle.std.specs.Prelude.{◌≡◌, ℕ, List, ◌∷◌, ◌++◌, Option, Some, None, Result, Ok, Err}
 use Rattle.uring_trace.specs.declared.session.Session.{Session}
 use Rattle.uring_trace.specs.declared.trace_fault.TraceFault.{TraceFault}
 use Rattle.uring_entry.specs.Setup.{Setup}
 use Rattle.uring_machine.specs.Histories.{Event, History, history_of}
 use Rattle.uring_machine.specs.Machine.{Machine, Fits}
 use Rattle.uring_trace.specs.Lines.{Splits}
-use Rattle.uring_trace.specs.KeptLines.{Keeps300}
 use Rattle.uring_trace.specs.Exchanges.{Exchange, Answers, IsReadAs, answer_text, lines_of, events_of}
+use Rattle.uring_trace.specs.KeptLine.{KeptLine, kept_of}
 use Rattle.uring_trace.specs.Traces.{Writes}
 
 -- a history with one event more, if there is one
@@ -23,19 +23,19 @@ pub record AppendsAnswer (old new : Machine) (line before after : List ℕ) : Ty
   pub same : new.core.setup ≡ old.core.setup
   pub fits : (h : History) → Fits old h → Fits new (with_event event h)
 
--- The session's invariant, over its fields: these bytes have been taken in, the text is the answers so far, and `kept` and `is_long` are what is kept of the unfinished line.
-pub record Holds (setup : Setup) (machine : Machine) (kept : List ℕ) (is_long : Bool) (bytes text : List ℕ) : Type 0 where
+-- The session's invariant, over its fields: these bytes have been taken in, the text is the answers so far, and this is what is kept of the unfinished line.
+pub record Holds (setup : Setup) (machine : Machine) (kept : KeptLine) (bytes text : List ℕ) : Type 0 where
   pub exchanges : List Exchange
   pub line : List ℕ
   pub answers : Answers setup exchanges text
   pub splits : Splits bytes (lines_of exchanges) line
-  pub keeps : Keeps300 line kept is_long
+  pub keeps : kept ≡ kept_of line
   pub same : machine.core.setup ≡ setup
   pub fits : Fits machine (history_of (events_of exchanges))
 
 -- The session has taken in these bytes, and its answers so far are this text.
 abbrev pub Has : Setup → Session → List ℕ → List ℕ → Type 0
-Has setup s bytes text = Holds setup s.machine s.line.kept.items s.line.is_long bytes text
+Has setup s bytes text = Holds setup s.machine s.line bytes text
 
 -- These bytes were to be taken in, and this text is what has been written: all answers so far, or what a fault allows.
 abbrev pub TookIn : Setup → Result (Unit {0}) TraceFault → Session → List ℕ → List ℕ → Type 0

@@ -76,6 +76,18 @@ pub record SpellsEntry (tokens : List (List ℕ)) (entry : Sqe) : Type 0 where
   pub spells : SpellsForm tokens form
   pub is_entry : IsEntryOf form entry
 
+-- the tokens spell no entry
+abbrev pub IsNoEntry : List (List ℕ) → Type 0
+IsNoEntry tokens = (entry : Sqe) → SpellsEntry tokens entry → ⊥
+
+-- the token is the number, which lies below the limit
+abbrev pub SpellsNumber : ℕ → List ℕ → ℕ → Type 0
+SpellsNumber limit token n = (token ≡ decimal n) × (n < limit)
+
+-- the token is no number below the limit
+abbrev pub IsNoNumber : ℕ → List ℕ → Type 0
+IsNoNumber limit token = (n : ℕ) → SpellsNumber limit token n → ⊥
+
 -- The tokens spell the step.
 abbrev pub Spells : List (List ℕ) → Step → Type 0
 Spells tokens (step.Fill slot entry) = (rest : List (List ℕ)) × (tokens ≡ codes "fill" ∷ decimal slot ∷ rest) × (slot < 2 ^ 32) × SpellsEntry rest entry

@@ -67,8 +67,8 @@ fn push_taken(text: &mut String, accepted: u32, dropped: u32, head: u32) -> Resu
     write!(text, "taken {accepted} dropped {dropped} head {head}")
 }
 
-/// Appends a completion: its user data, its result and its data.
-fn push_completion(alloc: Global, text: &mut String, completion: &Cqe) -> Result<(), AllocError>
+/// Appends a completion: its user data, its result and its data, without the end of the line.
+pub fn push_completion(alloc: Global, text: &mut String, completion: &Cqe) -> Result<(), AllocError>
     ensures { OnOk result (string_bytes text.new ≡ string_bytes text.old ++ completion_text completion.now) }
 {
     let user_data = completion.user_data();

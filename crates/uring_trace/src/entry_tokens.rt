@@ -1,9 +1,10 @@
 //! The tokens of a line that spell an entry.
 
-ghost use Rattle.std.specs.Prelude.{◌≡◌, map};
+ghost use Rattle.std.specs.Prelude.{◌≡◌, map, MatchOption};
 ghost use Rattle.std.specs.Option.{option_map};
 ghost use Rattle.std.specs.Str.{bytes_eq};
 ghost use Rattle.uring_trace.specs.Spelling as form;
+ghost use Rattle.uring_trace.specs.Spelling.{SpellsEntry, IsNoEntry};
 ghost use Rattle.uring_trace.specs.Reading.{ReadsEntry, form_of, nop_of, fsync_of, read_of, write_of, cancel_of, op_of, raw_of, data_of};
 
 use crate::flag_tokens::flag_bits;
@@ -14,7 +15,14 @@ use uring_machine::Sqe;
 /// Most bytes of data in an entry.
 const DATA: usize = 64;
 
-/// The entry that these tokens spell, if they spell one.
+/// The entry that these tokens spell, if they spell one: a name, as `nop` or `write`, and what follows it in a line behind `fill SLOT`.
+pub fn spelled_entry(tokens: &[&[u8]]) -> Option<Sqe>
+    ensures { MatchOption result (IsNoEntry (map (λ token. token.now) tokens.now)) (λ entry. SpellsEntry (map (λ token. token.now) tokens.now) entry) }
+{
+    read_entry(tokens)
+}
+
+/// The entry that these tokens spell, read from the left.
 #[tactic(auto, unfolding(crate::specs::Reading::form_of))]
 pub(crate) fn read_entry(tokens: &[&[u8]]) -> Option<Sqe>
     ensures { ReadsEntry result (form_of (map (λ token. token.now) tokens.now)) }

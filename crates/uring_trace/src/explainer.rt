@@ -2,14 +2,15 @@
 
 ghost use Rattle.std.specs.Prelude.{◌≡◌, ◌≢◌, ℕ, ◌+◌, ◌-◌, ◌^◌, min, List, [], ◌∷◌, ◌++◌, IfOk, IfErr, OnOk, string_bytes, codes};
 ghost use Rattle.uring_entry.specs.Setup.{Setup};
-ghost use Rattle.uring_trace.specs.KeptLines.{Keeps300};
+ghost use Rattle.uring_trace.specs.KeptLine.{kept_of};
 ghost use Rattle.uring_trace.specs.Lines.{ended};
 ghost use Rattle.uring_trace.specs.Explanations.{ExplainsWhole, bad_note};
 ghost use Rattle.uring_trace.specs.Explaining.{TellsStep};
 
 use crate::answer_text::push_answer;
-use crate::line::Line;
+use crate::kept_line::KeptLine;
 use crate::reason_text::{ask, keep, push_reason};
+use crate::step_lines::read_line;
 use crate::trace_fault::TraceFault;
 use std::alloc::{AllocError, Global};
 use std::fmt::Write;
@@ -20,7 +21,7 @@ use uring_machine::{Machine, Setup, Step};
 pub(crate) struct Explainer {
     alloc: Global,
     machine: Machine,
-    line: Line,
+    line: KeptLine,
     // The number of the unfinished line, from 1 on.
     number: u64,
     // Whether a line was bad.
@@ -35,7 +36,7 @@ impl Explainer {
         ensures ok { IfOk result (λ s. HasTold setup.now s [] [] []) }
         ensures err { IfErr result (λ e. e ≡ TraceFault.Memory) }
     {
-        let line = Line::new(alloc)?;
+        let line = KeptLine::new(alloc)?;
         Ok(Explainer {
             alloc,
             machine: Machine::new(alloc, setup)?,
@@ -112,10 +113,10 @@ impl Explainer {
 
     /// Appends what is told and noted of the line, and makes the step that it is.
     fn tell_line(&mut self, text: &mut String, notes: &mut String) -> Result<(), AllocError>
-        ensures told { OnOk result ((line : List ℕ) → Keeps300 line self.old.line.kept.items self.old.line.is_long → AppendsLine self.old.machine self.new.machine self.old.number self.old.has_bad self.new.has_bad line (string_bytes text.old) (string_bytes text.new) (string_bytes notes.old) (string_bytes notes.new)) }
+        ensures told { OnOk result ((line : List ℕ) → self.old.line ≡ kept_of line → AppendsLine self.old.machine self.new.machine self.old.number self.old.has_bad self.new.has_bad line (string_bytes text.old) (string_bytes text.new) (string_bytes notes.old) (string_bytes notes.new)) }
         ensures number { self.new.number ≡ self.old.number }
     {
-        match self.line.step(self.alloc)? {
+        match read_line(self.alloc, &self.line)? {
             Some(step) => tell_step(self.alloc, &mut self.machine, &step, text),
             None if self.line.is_remark() => Ok(()),
             None => {

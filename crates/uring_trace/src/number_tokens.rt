@@ -1,8 +1,9 @@
 //! Tokens that are numbers.
 
-ghost use Rattle.std.specs.Prelude.{◌≡◌, ◌^◌, ◌<◌, ℤ, pos, option_map, IfSome};
+ghost use Rattle.std.specs.Prelude.{◌≡◌, ◌^◌, ◌<◌, ℤ, pos, option_map, IfSome, MatchOption};
 ghost use Rattle.std.specs.Char.{is_ascii_digit};
 ghost use Rattle.std.specs.List.{list_all};
+ghost use Rattle.uring_trace.specs.Spelling.{SpellsNumber, IsNoNumber};
 ghost use Rattle.uring_trace.specs.Reading.{is_numeral, number_of, negative_of, file_of};
 
 use std::str;
@@ -19,6 +20,13 @@ pub(crate) fn number(token: &[u8]) -> Option<u64>
         Ok(digits) => digits.parse().ok(),
         Err(_) => None,
     }
+}
+
+/// The number up to 2^32 - 1 that a token is, if it is one: `0`, or decimal digits of which the first isn't `0`.
+pub fn spelled_number(token: &[u8]) -> Option<u32>
+    ensures { MatchOption result (IsNoNumber (2 ^ 32) token.now) (λ n. SpellsNumber (2 ^ 32) token.now n) }
+{
+    small_number(token)
 }
 
 /// A number up to 2^32 - 1.

@@ -2,10 +2,12 @@
 
 ghost use Rattle.std.specs.Prelude.{◌≡◌, ◌≢◌, ℕ, List, [], ◌∷◌, ◌++◌, IfOk, IfErr, OnOk, string_bytes};
 ghost use Rattle.uring_entry.specs.Setup.{Setup};
+ghost use Rattle.uring_trace.specs.KeptLine.{kept_of};
 ghost use Rattle.uring_trace.specs.Traces.{IsWhole};
 
 use crate::answer_text::push_answer;
-use crate::line::Line;
+use crate::kept_line::KeptLine;
+use crate::step_lines::read_line;
 use crate::trace_fault::TraceFault;
 use std::alloc::{AllocError, Global};
 use uring_machine::{Machine, Setup};
@@ -15,11 +17,11 @@ use uring_machine::{Machine, Setup};
 pub(crate) struct Session {
     alloc: Global,
     machine: Machine,
-    line: Line,
+    // The unfinished line.
+    line: KeptLine,
 }
 
 impl Session {
-    ghost use Rattle.uring_trace.specs.KeptLines.{Keeps300};
     ghost use Rattle.uring_trace.specs.Sessions.{Has, AppendsAnswer};
 
     /// A new machine, before the first line.
@@ -27,7 +29,7 @@ impl Session {
         ensures ok { IfOk result (λ s. Has setup.now s [] []) }
         ensures err { IfErr result (λ e. e ≡ TraceFault.Memory) }
     {
-        let line = Line::new(alloc)?;
+        let line = KeptLine::new(alloc)?;
         Ok(Session {
             alloc,
             machine: Machine::new(alloc, setup)?,
@@ -90,9 +92,9 @@ impl Session {
 
     /// Makes the step that the line is, and appends its answer without a line end. A line that is no step is answered `bad line`.
     fn answer_line(&mut self, text: &mut String) -> Result<(), AllocError>
-        ensures { OnOk result ((line : List ℕ) → Keeps300 line self.old.line.kept.items self.old.line.is_long → AppendsAnswer self.old.machine self.new.machine line (string_bytes text.old) (string_bytes text.new)) }
+        ensures { OnOk result ((line : List ℕ) → self.old.line ≡ kept_of line → AppendsAnswer self.old.machine self.new.machine line (string_bytes text.old) (string_bytes text.new)) }
     {
-        match self.line.step(self.alloc)? {
+        match read_line(self.alloc, &self.line)? {
             Some(step) => {
                 let answer = self.machine.step(step);
                 push_answer(self.alloc, text, &answer)

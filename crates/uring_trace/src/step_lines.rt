@@ -1,29 +1,38 @@
 //! The lines that are steps.
 
-ghost use Rattle.std.specs.Prelude.{◌≡◌, ◌≤◌, ◌^◌, IfOk, MatchOption, length, map};
+ghost use Rattle.std.specs.Prelude.{◌≡◌, ◌≤◌, ◌^◌, ℕ, List, IfOk, MatchOption, length, map};
+ghost use Rattle.uring_trace.specs.KeptLine.{kept_of};
 ghost use Rattle.uring_trace.specs.Tokens.{tokens_of};
 ghost use Rattle.uring_trace.specs.Spelling.{IsStep, IsBad};
 ghost use Rattle.uring_trace.specs.Reading.{ReadsStep, ReadsFill, form_of, number_of, step_of_one, step_of_two};
 
 use crate::entry_tokens::{is, read_entry};
+use crate::kept_line::KeptLine;
 use crate::number_tokens::{number, small_number};
 use std::alloc::{AllocError, Global};
 use uring_machine::Step;
 
-/// Most bytes of a line that is a step: our own rule.
-pub(crate) const LONGEST_LINE: usize = 300;
+/// The step that a line is, if it is one. A line of more than 300 bytes is none.
+pub(crate) fn read_line(alloc: Global, line: &KeptLine) -> Result<Option<Step>, AllocError>
+    ensures { IfOk result (λ read. (bytes : List ℕ) → line.now ≡ kept_of bytes → MatchOption read (IsBad bytes) (IsStep bytes)) }
+{
+    match line.whole() {
+        Some(bytes) => read_step(alloc, bytes),
+        None => Ok(None),
+    }
+}
 
 /// The step that a line of at most 300 bytes spells, if it spells one.
 pub(crate) fn read_step(alloc: Global, line: &[u8]) -> Result<Option<Step>, AllocError>
     requires { length line.now ≤ 300 }
     ensures { IfOk result (λ read. MatchOption read (IsBad line.now) (IsStep line.now)) }
 {
-    let tokens = split(alloc, line)?;
+    let tokens = split_tokens(alloc, line)?;
     Ok(read_words(tokens.as_slice()))
 }
 
 /// The tokens of a line: what stands between its spaces.
-fn split(alloc: Global, line: &[u8]) -> Result<Vec<&[u8]>, AllocError>
+pub fn split_tokens(alloc: Global, line: &[u8]) -> Result<Vec<&[u8]>, AllocError>
     ensures { IfOk result (λ tokens. map (λ token. token.now) tokens.items ≡ tokens_of line.now) }
 {
     line.split(|byte| *byte == b' ').collect(alloc)

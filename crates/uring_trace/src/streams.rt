@@ -1,6 +1,6 @@
 //! Calls on a reader and a writer, and a record of how they went.
 
-ghost use Rattle.std.specs.Prelude.{◌≡◌, ◌+◌, ◌-◌, ◌^◌, ◌<◌, ◌≤◌, ◌↔◌, ◌≢◌, IsTrue, length};
+ghost use Rattle.std.specs.Prelude.{◌≡◌, ◌+◌, ◌-◌, ◌^◌, ◌<◌, ◌≤◌, ◌↔◌, ◌≢◌, false, IsTrue, length};
 ghost use Rattle.std.specs.Bool.{OnFalse};
 ghost use Rattle.std.specs.Io.{ReadsAtMost, WritesAtMost};
 ghost use Rattle.std.specs.Io.KnownBytes.{ReadConsumes, WriteAppends};
@@ -12,18 +12,20 @@ use std::io::{ErrorKind, Read, Write};
 
 /// The calls that were made on a stream.
 #[derive(Clone, Copy, Drop)]
-pub(crate) struct Calls {
-    // How many, at most 2^64 - 1.
-    count: u64,
-    // Whether the last one failed. An interrupted call didn't: it is to be made again.
-    has_failed: bool,
+pub struct Calls {
+    /// How many, at most 2^64 - 1.
+    pub count: u64,
+    /// Whether the last one failed. An interrupted call didn't: it is to be made again.
+    pub has_failed: bool,
 }
 
 impl Calls {
     ghost use Rattle.uring_trace.specs.Streams.{AreOver};
 
     /// No calls yet.
-    pub(crate) fn new() -> Calls {
+    pub fn new() -> Calls
+        ensures { result ≡ record { count = 0; has_failed = false } }
+    {
         Calls {
             count: 0,
             has_failed: false,
@@ -31,7 +33,7 @@ impl Calls {
     }
 
     /// Whether a stream has given up: its last call failed, or 2^64 - 1 calls were made.
-    pub(crate) fn are_over(&self) -> bool
+    pub fn are_over(&self) -> bool
         ensures over { IsTrue result ↔ AreOver self.now }
         ensures more { OnFalse result (self.now.count < 2 ^ 64 - 1) }
     {
@@ -39,12 +41,8 @@ impl Calls {
     }
 }
 
-/// Reads once.
-pub(crate) fn read_once<R: Read>(
-    reader: &mut R,
-    buf: &mut [u8],
-    reads: &mut Calls,
-) -> io::Result<usize>
+/// Reads once, and counts the read.
+pub fn read_once<R: Read>(reader: &mut R, buf: &mut [u8], reads: &mut Calls) -> io::Result<usize>
     requires { reads.old.count < 2 ^ 64 - 1 }
     ensures bound { ReadsAtMost result buf.new }
     ensures bytes { ReadConsumes (R.remaining reader.old) (R.remaining reader.new) result buf.new }

@@ -102,8 +102,8 @@ fn answer_last<W: Write>(
     write_all(writer, text.as_bytes(), writes)
 }
 
-/// Writes all these bytes.
-pub(crate) fn write_all<W: Write>(
+/// Writes all these bytes. An interrupted write is made again. `Write`: a write failed or took no byte, or 2^64 - 1 writes were made.
+pub fn write_all<W: Write>(
     writer: &mut W,
     bytes: &[u8],
     writes: &mut Calls,

@@ -5,5 +5,5 @@ use Rattle.uring_trace.proofs.explainer.Explainer.end_line.Goals as goal
 pub returns : goal.returns
 returns c =
     let next : c.next_number-self.result ≡ min (c.args.self.now.number + 1) (2 ^ 64 - 1) = rw c.in_ok-tell_line.ensures.number at c.next_number-self.ensures in
-    rw (c.clear.ensures.kept, c.clear.ensures.long)
-    (λ setup before told noted h. explain_line setup _ _ _ _ _ _ _ _ before told _ _ noted _ _ next c.in_ok-tell_line.ensures.told h)
+    rw c.clear.ensures
+    (λ setup before told noted h. explain_line setup _ _ _ _ _ _ _ before told _ _ noted _ _ next c.in_ok-tell_line.ensures.told h)
