@@ -1,5 +1,5 @@
 -- All bytes tell something.
-use Rattle.std.proofs.Common.{◌≡◌, ℕ, zero, suc, ◌+◌, ◌*◌, ◌-◌, ◌<◌, ◌≤◌, ◌^◌, Bool, true, false, ltb, eqb, List, [], ◌∷◌, ◌++◌, length, take, drop, get_or, Option, Some, None, Ok, Err, refl, sym, ap, subst, ◌∙◌, append_assoc, arith, length-append, length-drop, reverse, ◌⊎◌, inl, inr}
+use Rattle.std.proofs.Common.{◌≡◌, ℕ, zero, suc, ◌+◌, ◌*◌, ◌-◌, ◌<◌, ◌≤◌, ◌^◌, ltb, eqb, List, [], ◌∷◌, ◌++◌, length, take, drop, get_or, Option, Some, None, Ok, Err, refl, sym, ap, subst, ◌∙◌, append_assoc, arith, length-append, length-drop, reverse, ◌⊎◌, inl, inr}
 use Rattle.std.specs.Prelude.{codes, replicate, pos, MatchOption}
 use Rattle.std.specs.List.{AllByRecursion}
 use Rattle.std.specs.Str.{bytes_eq}
@@ -8,7 +8,7 @@ use Rattle.std.proofs.lemmas.Nat.{le_bytes_8}
 use Rattle.std.proofs.lemmas.Bool.{ltb-true, ltb-false, eqb-true, eqb-false, cases_Bool, true≢false}
 use Rattle.std.proofs.lemmas.Slice.Eq.{bytes_eq-Decides}
 use Rattle.std.proofs.lemmas.List.{append-nil, nil_from_length, take-append-drop, length-take}
-use Rattle.uring_entry.specs.Layout.{Sqe, header, without_data, padded, bytes_of, AreWords, HasData}
+use Rattle.uring_entry.specs.Layout.{Sqe, header, without_data, padded, bytes_of, AreWords}
 use Rattle.uring_entry.specs.declared.opcode.TheConstants.{NOP, FSYNC, ASYNC_CANCEL, READ, WRITE}
 use Rattle.uring_trace.specs.Lines.{Splits, with_last}
 use Rattle.uring_trace.specs.Tokens.{tokens_of}
@@ -23,7 +23,7 @@ use Rattle.uring_threads.specs.declared.item.Item.TheVariants as item
 use Rattle.uring_play.specs.declared.play_fault.PlayFault.{PlayFault}
 use Rattle.uring_play.specs.ItemLines.{SpellsItem, IsItemLine, IsBadLine}
 use Rattle.uring_play.specs.LineReads.{IsBadWord, IsNoBadWord, IsNoItem}
-use Rattle.uring_play.specs.Inputs.{Told, Tells, HasLines, IsTold}
+use Rattle.uring_play.specs.Inputs.{Told, Tells, IsTold}
 use Rattle.uring_play.specs.Scripts.{Goes, one_call}
 use Rattle.uring_play.specs.declared.play_fault.PlayFault.TheVariants as fault
 use Rattle.uring_play.proofs.ItemLaws.{bad_is_none, below}

@@ -11,7 +11,7 @@ use Rattle.uring_threads.specs.declared.item.Item.{Item}
 use Rattle.uring_threads.specs.declared.item.Item.TheVariants as item
 use Rattle.uring_play.specs.ItemLines.{SpellsItem, IsItemLine}
 use Rattle.uring_play.specs.Calls.{is_blank}
-use Rattle.uring_play.specs.LineReads.{IsBadWord, IsNoBadWord, IsNoItem}
+use Rattle.uring_play.specs.LineReads.{IsNoBadWord, IsNoItem}
 
 -- the first byte of the first token
 first_byte : (a b : ℕ) (us vs : List ℕ) (xs ys : List (List ℕ)) → (a ∷ us) ∷ xs ≡ (b ∷ vs) ∷ ys → a ≡ b
@@ -42,9 +42,6 @@ bad_is_none size token tokens is none (item.Entry entry) h = no_entry (token ∷
 bad_is_none size token tokens is none (item.Bad word) h =
     let same : h.0 ≡ token = second_same h.0 token (codes "bad") (sym h.1 ∙ is) in
     none word (subst (λ (t : List ℕ). SpellsNumber (2 ^ 32) t word) same h.2, h.3)
-
-pub bad_is : (size : ℕ) (token : List ℕ) (tokens : List (List ℕ)) (word : ℕ) → tokens ≡ codes "bad" ∷ token ∷ [] → IsBadWord size token word → SpellsItem size tokens (item.Bad word)
-bad_is size token tokens word is h = (token, is, h.0, h.1)
 
 -- a number below the size
 pub below : (size : ℕ) (token : List ℕ) (word : ℕ) → SpellsNumber (2 ^ 32) token word → word < size → IsNoBadWord size token

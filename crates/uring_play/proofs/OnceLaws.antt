@@ -1,10 +1,9 @@
 -- Lines tell one thing at most.
-use Rattle.std.proofs.Common.{◌≡◌, ℕ, suc, ◌+◌, ◌<◌, ◌≤◌, Bool, true, false, cond, List, [], ◌∷◌, ◌++◌, length, Result, Ok, Err, refl, sym, ap, subst, ◌∙◌, append_assoc, arith, length-append, reverse, ◌⊎◌, inl, inr}
+use Rattle.std.proofs.Common.{◌≡◌, ℕ, ◌+◌, ◌<◌, ◌≤◌, Bool, true, false, cond, List, [], ◌∷◌, ◌++◌, length, Ok, Err, refl, sym, ap, subst, ◌∙◌, arith, reverse, ◌⊎◌, inl, inr}
 use Rattle.std.specs.List.{slice_split, onto_first}
 use Rattle.std.proofs.lemmas.List.Splits.{slice_split-cons_no, length-slice_split}
-use Rattle.std.proofs.lemmas.List.{nil_from_length}
 use Rattle.std.proofs.lemmas.Bool.{ne_eqb}
-use Rattle.uring_trace.specs.Lines.{Splits, with_last}
+use Rattle.uring_trace.specs.Lines.{with_last}
 use Rattle.uring_trace.proofs.LineLaws.{split_once}
 use Rattle.uring_threads.specs.declared.item.Item.{Item}
 use Rattle.uring_play.specs.declared.play_fault.PlayFault.{PlayFault}
@@ -14,7 +13,6 @@ use Rattle.uring_play.specs.Calls.{is_blank, blocks_of, AreItemLines, IsCall, Ar
 use Rattle.uring_play.specs.Faults.{last_block, open_block, Reaches, IsBadFirst, IsLongFirst}
 use Rattle.uring_play.specs.Inputs.{Told, Tells, HasLines, IsTold}
 use Rattle.uring_play.proofs.ItemLaws.{line_once, item_not_blank}
-use Rattle.uring_play.proofs.CallLaws.{as_many}
 
 abbrev Line : Type 0
 Line = List ℕ

@@ -10,7 +10,7 @@ use Rattle.std.specs.declared.alloc.Global.{Global}
 use Rattle.uring_entry.specs.Setup.{Setup}
 use Rattle.uring_trace.specs.Lines.{with_last}
 use Rattle.uring_trace.specs.KeptLine.{KeptLine, kept_of}
-use Rattle.uring_trace.proofs.Sessions.{split_more, split_end, last_some}
+use Rattle.uring_trace.proofs.Sessions.{split_end, last_some}
 use Rattle.uring_threads.specs.declared.item.Item.{Item}
 use Rattle.uring_play.specs.declared.play_fault.PlayFault.{PlayFault}
 use Rattle.uring_play.specs.declared.play_fault.PlayFault.TheVariants as fault
@@ -27,16 +27,6 @@ given_of kept None is short line e = is line e
 given_of kept (Some bytes) is short line e =
     let same : bytes.now ≡ line = is line e in
     (same, subst (λ (l : List ℕ). length l ≤ 300) same short)
-
--- one byte more of a line
-pub took_byte : (size : ℕ) (kept kept' : KeptLine) (script : Script) (before : List ℕ) (b : ℕ) → b ≢ 10 → ((line : List ℕ) → kept ≡ kept_of line → kept' ≡ kept_of (line ++ b ∷ [])) → Holds size kept script before → Holds size kept' script (before ++ b ∷ [])
-took_byte size kept kept' script before b ne more h = record {
-  ended = h.ended;
-  line = h.line ++ b ∷ [];
-  splits = split_more before h.ended h.line b ne h.splits;
-  keeps = more h.line h.keeps;
-  gathers = h.gathers;
-}
 
 -- what a script makes of one line more
 abbrev pub Takes : Option (Bor (List ℕ)) → Script → Script → Type 0
