@@ -1,9 +1,8 @@
 -- What is kept of a line, byte by byte.
 use Rattle.std.proofs.Common.{◌≡◌, ℕ, ◌<◌, ◌≤◌, Bool, true, false, ltb, List, [], ◌∷◌, ◌++◌, length, take, refl, sym, ap, ◌∙◌, arith}
-use Rattle.std.proofs.lemmas.Bool.{lt-ltb, le-ltb, ltb-true, ltb-false}
-use Rattle.std.proofs.lemmas.List.{take_all, take-append-le, length-append, length-take, nil_from_length}
+use Rattle.std.proofs.lemmas.Bool.{lt-ltb, le-ltb, ltb-false}
+use Rattle.std.proofs.lemmas.List.{take_all, take-append-le, length-append, length-take}
 use Rattle.uring_trace.specs.KeptLine.{KeptLine, kept_of}
-use Rattle.uring_trace.specs.Remarks.{is_remark}
 
 -- the kept lines that fields make
 abbrev made : List ℕ → Bool → KeptLine
@@ -36,23 +35,6 @@ kept_full line first is_long b le e =
     alike _ _ _ _ (first_is first line is_long e ∙ sym (take-append-le 300 line (b ∷ []) full))
     (sym (lt-ltb 300 (length (line ++ b ∷ [])) (omega (arith, length-append line (b ∷ [])))))
 
--- a line is empty where nothing is kept of it
-pub none_kept : (line first : List ℕ) (is_long : Bool) → length first ≡ 0 → made first is_long ≡ kept_of line → line ≡ []
-none_kept line first is_long none e =
-    let size : length first ≡ length (take 300 line) = ap length (first_is first line is_long e) in
-    nil_from_length line (omega (arith, length-take 300 line))
-
-pub of_none : (line first : List ℕ) (is_long : Bool) → line ≡ [] → made first is_long ≡ kept_of line → length first ≡ 0
-of_none line first is_long none e = ap length (first_is first line is_long e) ∙ ap (λ (l : List ℕ). length (take 300 l)) none
-
 -- a line that is kept whole
 pub whole_kept : (line first : List ℕ) → made first false ≡ kept_of line → first ≡ line
 whole_kept line first e = first_is first line false e ∙ take_all 300 line (ltb-false 300 (length line) (sym (long_is first line false e)))
-
--- a remark is known by what is kept of it
-pub remark_kept : (line first : List ℕ) (is_long : Bool) → made first is_long ≡ kept_of line → is_remark first ≡ is_remark line
-remark_kept line first is_long e = ap is_remark (first_is first line is_long e) ∙ cut line
-  where
-    cut : (l : List ℕ) → is_remark (take 300 l) ≡ is_remark l
-    cut [] = refl
-    cut (b ∷ l) = refl
