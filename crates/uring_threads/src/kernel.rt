@@ -1,10 +1,12 @@
 //! The dispatcher's end.
-ghost use Rattle.std.specs.Prelude.{◌≡◌, ◌↔◌, ◌≤◌, ◌⊎◌, length, None, IsTrue, IfOk, OnErr};
+ghost use Rattle.std.specs.Prelude.{◌≡◌, ◌↔◌, ◌<◌, ◌≤◌, ◌⊎◌, [], length, None, IsTrue, IfOk, OnErr, vec_capacity};
 ghost use Rattle.uring_entry.specs.Requests.{next_of};
-ghost use Rattle.uring_threads.specs.Dispatched.{AreSameLanes, SomeIsFull};
+ghost use Rattle.uring_threads.specs.Dispatched.{AreSameLanes, HaveCarriedNone, HoldJobs, SomeIsFull};
 ghost use Rattle.uring_threads.specs.Kept.{now};
+ghost use Rattle.uring_threads.specs.Ports.{nothing_put, sizes_of};
 ghost use Rattle.uring_threads.specs.Tallies.{Tally, Appends};
 ghost use Rattle.uring_threads.specs.Turns.{Counts};
+ghost use Rattle.uring_threads.specs.declared.intake.Intake.TheVariants.{Ready};
 
 use crate::intake::Intake;
 use crate::item::Item;
@@ -42,6 +44,28 @@ impl<P: KernelPort> Model for Kernel<P> {
 
 impl<P: KernelPort> Kernel<P> {
     ghost use Rattle.uring_threads.specs.Kernel.{IsIdle};
+
+    /// The dispatcher's end over a fresh port and fresh lanes of 1 to 8 workers, worker 0's first, with an empty trace and room for the items of a whole ring.
+    pub(crate) fn new(kept: Kept, port: P, items: Vec<Item>, lanes: Vec<WorkLanes>) -> Kernel<P>
+        requires trace { kept.trace ≡ [] }
+        requires sizes { P.sizes port ≡ sizes_of kept.setup }
+        requires pulled { P.pulled port ≡ nothing_put }
+        requires delivered { P.delivered port ≡ [] }
+        requires items { kept.setup.sq ≤ vec_capacity items }
+        requires some { 0 < length lanes.items }
+        requires few { length lanes.items ≤ 8 }
+        requires hold { HoldJobs lanes.items }
+        requires carried { HaveCarriedNone lanes.items }
+        ensures { result ≡ record { kept = kept; intake = Ready; lanes = lanes.items; pairing = P.pairing port; sizes = sizes_of kept.setup; pulled = nothing_put; reaped = [] } }
+    {
+        Kernel {
+            kept,
+            port,
+            intake: Intake::Ready,
+            lanes,
+            items,
+        }
+    }
 
     /// One turn: begins the call that waits once more, if one does, and pulls one call or the close mark; takes in at most 64 results of each worker; issues what can be issued while each worker's lane shows room; and delivers what is posted while the port shows room. Without such work it records nothing.
     ///
