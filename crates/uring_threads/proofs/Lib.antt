@@ -21,3 +21,4 @@ pub mod Carrying
 pub mod Posting
 mod WorkerFiles
 pub mod Turning
+mod FreshWorkers
