@@ -22,3 +22,4 @@ pub mod Posting
 mod WorkerFiles
 pub mod Turning
 mod FreshWorkers
+mod FullLanes

@@ -1,10 +1,10 @@
 //! The dispatcher's end.
-ghost use Rattle.std.specs.Prelude.{◌≡◌, ◌↔◌, ◌<◌, ◌≤◌, ◌⊎◌, [], length, None, IsTrue, IfOk, OnErr, vec_capacity};
+ghost use Rattle.std.specs.Prelude.{◌≡◌, ◌↔◌, ◌<◌, ◌≤◌, ◌⊎◌, [], length, count_by, None, IsTrue, IfOk, OnErr, vec_capacity};
 ghost use Rattle.uring_entry.specs.Requests.{next_of};
 ghost use Rattle.uring_threads.specs.Dispatched.{AreSameLanes, HaveCarriedNone, HoldJobs, SomeIsFull};
 ghost use Rattle.uring_threads.specs.Kept.{now};
 ghost use Rattle.uring_threads.specs.Ports.{nothing_put, sizes_of};
-ghost use Rattle.uring_threads.specs.Tallies.{Tally, Appends};
+ghost use Rattle.uring_threads.specs.Tallies.{Tally, Appends, starts_request};
 ghost use Rattle.uring_threads.specs.Turns.{Counts};
 ghost use Rattle.uring_threads.specs.declared.intake.Intake.TheVariants.{Ready};
 
@@ -76,11 +76,15 @@ impl<P: KernelPort> Kernel<P> {
         // No request is left that can be issued, but where some worker's lane shows no room.
         ensures none_left { IfOk result (λ turn. (next_of (now self.new.kept).requests ≡ None) ⊎ SomeIsFull self.new.lanes) }
 
+        // As long as fewer than 64 requests were started, none is left that can be issued.
+        ensures next { IfOk result (λ turn. count_by starts_request self.new.kept.trace < 64 → next_of (now self.new.kept).requests ≡ None) }
+
         // As long as no more was posted than the completion ring holds, all of it is reaped.
         ensures all { IfOk result (λ turn. length (now self.new.kept).completions.posted ≤ self.old.kept.setup.cq → length self.new.reaped ≡ length (now self.new.kept).completions.posted) }
         ensures err { OnErr result ((t : Tally) × Appends self.old.kept self.new.kept t) }
 
         // Nothing else changes.
+        ensures setup { self.new.kept.setup ≡ self.old.kept.setup }
         ensures lanes { AreSameLanes self.old.lanes self.new.lanes }
         ensures pairing { self.new.pairing ≡ self.old.pairing }
         ensures sizes { self.new.sizes ≡ self.old.sizes }
