@@ -21,3 +21,5 @@ pub mod Carrying
 pub mod Posting
 mod WorkerFiles
 pub mod Turning
+mod FreshWorkers
+mod FullLanes

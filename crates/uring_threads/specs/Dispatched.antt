@@ -1,6 +1,6 @@
 -- What went through the lanes between the dispatcher and the workers. All of it is our own rule.
 use Rattle.std.specs.Prelude.{◌≡◌, ℕ, ◌<◌, List, [], ◌∷◌, ◌++◌, length, get_or}
-use Rattle.rtrb.specs.Ring.{sent, known_free, received, SameProducer, SameConsumer}
+use Rattle.rtrb.specs.Ring.{sent, known_free, producer_capacity, received, SameProducer, SameConsumer}
 use Rattle.uring_threads.specs.Kept.{Kept}
 use Rattle.uring_threads.specs.Collected.{history, AreTakenIn}
 use Rattle.uring_threads.specs.Work.{jobs_to}
@@ -15,6 +15,14 @@ pub record HasCarried (kept : Kept) (workers k : ℕ) (lanes : WorkLanes) : Type
 -- and so have all, the lanes of worker 0 first
 abbrev pub HaveCarried : Kept → List WorkLanes → Type 0
 HaveCarried kept lanes = (k : ℕ) (d : WorkLanes) → k < length lanes → HasCarried kept (length lanes) k (get_or lanes k d)
+
+-- nothing went through any of these lanes
+abbrev pub HaveCarriedNone : List WorkLanes → Type 0
+HaveCarriedNone lanes = (k : ℕ) (d : WorkLanes) → k < length lanes → (sent (get_or lanes k d).jobs ≡ []) × (received (get_or lanes k d).results ≡ [])
+
+-- each worker's lane for jobs holds 64
+abbrev pub HoldJobs : List WorkLanes → Type 0
+HoldJobs lanes = (k : ℕ) (d : WorkLanes) → k < length lanes → producer_capacity (get_or lanes k d).jobs ≡ 64
 
 -- each worker's lane for jobs shows room
 abbrev pub ShowRoom : List WorkLanes → Type 0

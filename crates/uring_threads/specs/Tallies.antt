@@ -16,6 +16,11 @@ issues_request (step.Issue n, answer.Run) = true
 issues_request (step.Issue n, answer.Ended res bytes) = true
 issues_request _ = false
 
+-- a request was started: it runs
+abbrev pub starts_request : Event → Bool
+starts_request (step.Issue n, answer.Run) = true
+starts_request _ = false
+
 -- a result was taken in, however it was answered
 abbrev pub takes_result : Event → Bool
 takes_result (step.Finish n, a) = true

@@ -1,10 +1,12 @@
 //! The dispatcher's end.
-ghost use Rattle.std.specs.Prelude.{◌≡◌, ◌↔◌, ◌≤◌, ◌⊎◌, length, None, IsTrue, IfOk, OnErr};
+ghost use Rattle.std.specs.Prelude.{◌≡◌, ◌↔◌, ◌<◌, ◌≤◌, ◌⊎◌, [], length, count_by, None, IsTrue, IfOk, OnErr, vec_capacity};
 ghost use Rattle.uring_entry.specs.Requests.{next_of};
-ghost use Rattle.uring_threads.specs.Dispatched.{AreSameLanes, SomeIsFull};
+ghost use Rattle.uring_threads.specs.Dispatched.{AreSameLanes, HaveCarriedNone, HoldJobs, SomeIsFull};
 ghost use Rattle.uring_threads.specs.Kept.{now};
-ghost use Rattle.uring_threads.specs.Tallies.{Tally, Appends};
+ghost use Rattle.uring_threads.specs.Ports.{nothing_put, sizes_of};
+ghost use Rattle.uring_threads.specs.Tallies.{Tally, Appends, starts_request};
 ghost use Rattle.uring_threads.specs.Turns.{Counts};
+ghost use Rattle.uring_threads.specs.declared.intake.Intake.TheVariants.{Ready};
 
 use crate::intake::Intake;
 use crate::item::Item;
@@ -43,6 +45,28 @@ impl<P: KernelPort> Model for Kernel<P> {
 impl<P: KernelPort> Kernel<P> {
     ghost use Rattle.uring_threads.specs.Kernel.{IsIdle};
 
+    /// The dispatcher's end over a fresh port and fresh lanes of 1 to 8 workers, worker 0's first, with an empty trace and room for the items of a whole ring.
+    pub(crate) fn new(kept: Kept, port: P, items: Vec<Item>, lanes: Vec<WorkLanes>) -> Kernel<P>
+        requires trace { kept.trace ≡ [] }
+        requires sizes { P.sizes port ≡ sizes_of kept.setup }
+        requires pulled { P.pulled port ≡ nothing_put }
+        requires delivered { P.delivered port ≡ [] }
+        requires items { kept.setup.sq ≤ vec_capacity items }
+        requires some { 0 < length lanes.items }
+        requires few { length lanes.items ≤ 8 }
+        requires hold { HoldJobs lanes.items }
+        requires carried { HaveCarriedNone lanes.items }
+        ensures { result ≡ record { kept = kept; intake = Ready; lanes = lanes.items; pairing = P.pairing port; sizes = sizes_of kept.setup; pulled = nothing_put; reaped = [] } }
+    {
+        Kernel {
+            kept,
+            port,
+            intake: Intake::Ready,
+            lanes,
+            items,
+        }
+    }
+
     /// One turn: begins the call that waits once more, if one does, and pulls one call or the close mark; takes in at most 64 results of each worker; issues what can be issued while each worker's lane shows room; and delivers what is posted while the port shows room. Without such work it records nothing.
     ///
     /// `AllocError`: the system is out of memory. All events made until then are recorded, nothing that was pulled or received is lost, and a later turn goes on.
@@ -52,11 +76,15 @@ impl<P: KernelPort> Kernel<P> {
         // No request is left that can be issued, but where some worker's lane shows no room.
         ensures none_left { IfOk result (λ turn. (next_of (now self.new.kept).requests ≡ None) ⊎ SomeIsFull self.new.lanes) }
 
+        // As long as fewer than 64 requests were started, none is left that can be issued.
+        ensures next { IfOk result (λ turn. count_by starts_request self.new.kept.trace < 64 → next_of (now self.new.kept).requests ≡ None) }
+
         // As long as no more was posted than the completion ring holds, all of it is reaped.
         ensures all { IfOk result (λ turn. length (now self.new.kept).completions.posted ≤ self.old.kept.setup.cq → length self.new.reaped ≡ length (now self.new.kept).completions.posted) }
         ensures err { OnErr result ((t : Tally) × Appends self.old.kept self.new.kept t) }
 
         // Nothing else changes.
+        ensures setup { self.new.kept.setup ≡ self.old.kept.setup }
         ensures lanes { AreSameLanes self.old.lanes self.new.lanes }
         ensures pairing { self.new.pairing ≡ self.old.pairing }
         ensures sizes { self.new.sizes ≡ self.old.sizes }

@@ -7,8 +7,8 @@ pub mod laws;
 // the ports
 mod call_lane;
 mod lane_rests;
-mod lanes;
 mod message;
+mod port_lanes;
 mod ports;
 mod pulled;
 
@@ -25,6 +25,9 @@ mod settle_work;
 mod work_lanes;
 mod worker;
 mod worker_files;
+
+// all sides
+mod opening;
 
 // the dispatcher's side
 mod calls;
@@ -43,7 +46,8 @@ pub use gate::{Gate, Open};
 pub use item::Item;
 pub use job::{Job, JobResult};
 pub use kernel::Kernel;
-pub use lanes::{AppLanes, KernelLanes, lane_ports};
+pub use opening::{LanesFault, ends, lanes};
+pub use port_lanes::{AppLanes, KernelLanes, lane_ports};
 pub use ports::{AppPort, KernelPort};
 pub use pulled::{Pulled, Rests};
 pub use refusals::{CloseRefusal, SubmitRefusal};

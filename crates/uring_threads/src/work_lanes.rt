@@ -1,6 +1,7 @@
 //! The lanes between the dispatcher and a worker.
-ghost use Rattle.std.specs.Prelude.{◌≡◌, [], IfOk};
-ghost use Rattle.rtrb.specs.Ring.{sent, known_free, received, known_items, consumer_capacity};
+ghost use Rattle.std.specs.Prelude.{◌≡◌, ◌+◌, ◌<◌, ◌≤◌, [], length, IfOk, OnOk};
+ghost use Rattle.rtrb.specs.Ring.{sent, known_free, producer_capacity, received, known_items, consumer_capacity};
+ghost use Rattle.uring_threads.specs.Opening.{AreOpened};
 ghost use Rattle.uring_threads.specs.Pairings.{pairing_of};
 ghost use Rattle.uring_threads.specs.Worker.{empty_files};
 
@@ -28,7 +29,7 @@ pub fn open_lanes<G: Gate>(
     files: u32,
     gate: G,
 ) -> Result<(WorkLanes, Worker<G>), AllocError>
-    ensures jobs { IfOk result (λ r. (sent r.0.jobs ≡ []) × (known_free r.0.jobs ≡ 64)) }
+    ensures jobs { IfOk result (λ r. (sent r.0.jobs ≡ []) × (known_free r.0.jobs ≡ 64) × (producer_capacity r.0.jobs ≡ 64)) }
     ensures results { IfOk result (λ r. (received r.0.results ≡ []) × (known_items r.0.results ≡ []) × (consumer_capacity r.0.results ≡ 64)) }
     ensures pairing { IfOk result (λ r. r.1.pairing ≡ pairing_of r.0.jobs r.0.results) }
     ensures worker { IfOk result (λ r. (r.1.place ≡ place) × (r.1.done ≡ []) × (r.1.files ≡ empty_files files)) }
@@ -38,4 +39,41 @@ pub fn open_lanes<G: Gate>(
     let files = Files::new(alloc, files)?;
     let worker = Worker::new(place, gate, files, to_do, done);
     Ok((WorkLanes { jobs, results }, worker))
+}
+
+/// Workers behind these gates, in their order, each with so many empty files, and the dispatcher's ends of their lanes. Condition: there are at most 8.
+pub fn open_all<G: Gate>(
+    alloc: Global,
+    files: u32,
+    gates: Vec<G>,
+) -> Result<(Vec<WorkLanes>, Vec<Worker<G>>), AllocError>
+    requires few { length gates.items ≤ 8 }
+    ensures many { IfOk result (λ r. length r.0.items ≡ length gates.items) }
+    ensures opened { IfOk result (λ r. AreOpened files r.0.items r.1.items) }
+{
+    let mut lanes = Vec::new(alloc);
+    let mut workers = Vec::new(alloc);
+    for gate in gates {
+        open_next(alloc, files, gate, &mut lanes, &mut workers)?;
+    }
+    Ok((lanes, workers))
+}
+
+// One worker more, behind those that are there.
+fn open_next<G: Gate>(
+    alloc: Global,
+    files: u32,
+    gate: G,
+    lanes: &mut Vec<WorkLanes>,
+    workers: &mut Vec<Worker<G>>,
+) -> Result<(), AllocError>
+    requires few { length lanes.old.items < 8 }
+    requires opened { AreOpened files lanes.old.items workers.old.items }
+    ensures many { OnOk result (length lanes.new.items ≡ length lanes.old.items + 1) }
+    ensures opened { OnOk result (AreOpened files lanes.new.items workers.new.items) }
+{
+    let (new_lanes, worker) = open_lanes(alloc, lanes.len() as u32, files, gate)?;
+    lanes.push(new_lanes)?;
+    workers.push(worker)?;
+    Ok(())
 }

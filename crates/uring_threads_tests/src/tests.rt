@@ -1,5 +1,6 @@
-//! The application's end over lanes, with the dispatcher's port beside it on one thread.
+//! The ends over lanes, on one thread.
 
+mod all_ends;
 mod refusals;
 mod rests;
 mod rounds;

@@ -1,0 +1,99 @@
+//! All the ends of a set-up.
+ghost use Rattle.std.specs.Prelude.{◌≡◌, ℕ, List, ◌↔◌, ◌<◌, ◌≤◌, [], length, IfOk, IsErrOf, OnOk};
+ghost use Rattle.uring_threads.specs.Opening.{AreBadWorkers, AreEnds};
+ghost use Rattle.uring_threads.specs.Ports.{nothing_put, sizes_of};
+
+use crate::app_end::AppEnd;
+use crate::gate::Gate;
+use crate::kept::Kept;
+use crate::kernel::Kernel;
+use crate::port_lanes::{AppLanes, KernelLanes, lane_ports};
+use crate::ports::{AppPort, KernelPort};
+use crate::work_lanes::open_all;
+use crate::worker::Worker;
+use std::alloc::{AllocError, Global};
+use uring_entry::Setup;
+
+/// Why there are no ends.
+#[derive(Clone, Copy, Debug, PartialEq, Eq)]
+pub enum LanesFault {
+    /// There aren't 1 to 8 gates, one for each worker: our own rule.
+    BadWorkers,
+
+    /// Out of memory.
+    NoMemory,
+}
+
+/// The ends of this set-up over two fresh ports of one pair: the application's, the dispatcher's, and those of the workers, one behind each gate, in the gates' order. A worker is known by its place, from 0.
+///
+/// `BadWorkers` comes exactly if there aren't 1 to 8 gates, and is tested first; else `NoMemory` if memory was refused.
+pub fn ends<K: KernelPort, G: Gate>(
+    alloc: Global,
+    setup: &Setup,
+    gates: Vec<G>,
+    app: K::App,
+    kernel: K,
+) -> Result<(AppEnd<K::App>, Kernel<K>, Vec<Worker<G>>), LanesFault>
+    requires pairing { K.pairing kernel ≡ K.App.pairing app }
+    requires app { (K.App.sizes app ≡ sizes_of setup.now) × (K.App.put app ≡ nothing_put) × (K.App.got app ≡ []) }
+    requires kernel { (K.sizes kernel ≡ sizes_of setup.now) × (K.pulled kernel ≡ nothing_put) × (K.delivered kernel ≡ []) }
+    ensures ok { IfOk result (λ ends. AreEnds setup.now (length gates.items) (K.pairing kernel) ends.0 ends.1 ends.2.items) }
+    ensures bad_workers { IsErrOf result LanesFault.BadWorkers ↔ AreBadWorkers (length gates.items) }
+{
+    check_workers(gates.len())?;
+    match make_ends(alloc, setup, gates, app, kernel) {
+        Ok(ends) => Ok(ends),
+        Err(AllocError) => Err(LanesFault::NoMemory),
+    }
+}
+
+/// The ends of this set-up over lanes: the application's, the dispatcher's, and those of the workers, one behind each gate, in the gates' order. A worker is known by its place, from 0.
+///
+/// `BadWorkers` comes exactly if there aren't 1 to 8 gates, and is tested first; else `NoMemory` if memory was refused.
+pub fn lanes<G: Gate>(
+    alloc: Global,
+    setup: &Setup,
+    gates: Vec<G>,
+) -> Result<(AppEnd<AppLanes>, Kernel<KernelLanes>, Vec<Worker<G>>), LanesFault>
+    ensures ok { IfOk result (λ ends. (numbers : List ℕ) × AreEnds setup.now (length gates.items) numbers ends.0 ends.1 ends.2.items) }
+    ensures bad_workers { IsErrOf result LanesFault.BadWorkers ↔ AreBadWorkers (length gates.items) }
+{
+    check_workers(gates.len())?;
+    let Ok((app, kernel)) = lane_ports(alloc, setup) else {
+        return Err(LanesFault::NoMemory);
+    };
+    ends(alloc, setup, gates, app, kernel)
+}
+
+fn check_workers(count: usize) -> Result<(), LanesFault>
+    ensures ok { OnOk result ((0 < count) × (count ≤ 8)) }
+    ensures bad_workers { IsErrOf result LanesFault.BadWorkers ↔ AreBadWorkers count }
+    ensures no_memory { IsErrOf result LanesFault.NoMemory → ⊥ }
+{
+    if count == 0 || count > 8 {
+        return Err(LanesFault::BadWorkers);
+    }
+    Ok(())
+}
+
+// The same where there are 1 to 8 gates.
+fn make_ends<K: KernelPort, G: Gate>(
+    alloc: Global,
+    setup: &Setup,
+    gates: Vec<G>,
+    app: K::App,
+    kernel: K,
+) -> Result<(AppEnd<K::App>, Kernel<K>, Vec<Worker<G>>), AllocError>
+    requires some { 0 < length gates.items }
+    requires few { length gates.items ≤ 8 }
+    requires pairing { K.pairing kernel ≡ K.App.pairing app }
+    requires app { (K.App.sizes app ≡ sizes_of setup.now) × (K.App.put app ≡ nothing_put) × (K.App.got app ≡ []) }
+    requires kernel { (K.sizes kernel ≡ sizes_of setup.now) × (K.pulled kernel ≡ nothing_put) × (K.delivered kernel ≡ []) }
+    ensures ok { IfOk result (λ ends. AreEnds setup.now (length gates.items) (K.pairing kernel) ends.0 ends.1 ends.2.items) }
+{
+    let kept = Kept::new(alloc, setup)?;
+    let items = Vec::with_capacity(alloc, setup.sq() as usize)?;
+    let (lanes, workers) = open_all(alloc, setup.files(), gates)?;
+    let app = AppEnd::new(app, setup.sq());
+    Ok((app, Kernel::new(kept, kernel, items, lanes), workers))
+}
