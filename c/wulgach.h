@@ -55,6 +55,7 @@ struct wulgach_setup {
     uint32_t files; /* files: 1 to 64 */
     uint32_t start; /* the index word at which both rings begin: any 32 bits */
     bool has_cq;    /* whether cq is asked for; else the completion ring is twice the submission ring */
+    bool stops;     /* whether a submission call ends behind an entry with a fault, also one with a link flag, and leaves the rest to later calls; else it goes on */
 };
 
 /* The kinds of steps, and which fields of struct wulgach_step each uses. */
@@ -160,6 +161,7 @@ struct wulgach_operation {
     uint64_t off;      /* READ, WRITE: the offset in bytes, below 2^64 - 1 */
     uint64_t target;   /* CANCEL: the user data (a cancel never runs: it ends as it is issued) */
     uint32_t len;      /* READ, WRITE: how many bytes, 0 to 64 */
+    uint32_t all;      /* CANCEL: 1 if it is one of all, else 0 */
     uint8_t bytes[64]; /* WRITE: the data */
 };
 
@@ -193,7 +195,7 @@ enum wulgach_fault {
     WULGACH_FAULT_FLAGS = 1,    /* a flag that isn't served */
     WULGACH_FAULT_OPCODE = 2,   /* an operation that isn't served */
     WULGACH_FAULT_IOPRIO = 3,   /* a priority */
-    WULGACH_FAULT_OP_FLAGS = 4, /* operation flags */
+    WULGACH_FAULT_OP_FLAGS = 4, /* operation flags that aren't served */
     WULGACH_FAULT_RESERVED = 5, /* a byte from 40 to 63 that isn't zero */
     WULGACH_FAULT_LEN = 6,      /* a length above 64 */
     WULGACH_FAULT_OFF = 7       /* the offset of the file position */
@@ -223,6 +225,11 @@ enum wulgach_code {
     WULGACH_OP_WRITE = 23
 };
 
+/* The one operation flag that is served: a cancel of all. */
+enum wulgach_operation_flag {
+    WULGACH_CANCEL_ALL = 1
+};
+
 enum wulgach_flag {
     WULGACH_IO_DRAIN = 2,
     WULGACH_IO_LINK = 4,
@@ -239,7 +246,7 @@ int32_t wulgach_core_new(struct wulgach_core *core, const struct wulgach_setup *
 int32_t wulgach_core_step(struct wulgach_core *core, const struct wulgach_step *step, struct wulgach_answer *answer);
 
 /* Ends running request number with any result and any bytes, and writes the answer: ENDED with that very outcome
- * exactly if it was running, else NOT_RUNNING. A request succeeded if a read or a write moved all its bytes, or
+ * exactly if it was running, else NOT_RUNNING. A running request succeeded if a read or a write moved all its bytes, or
  * anything else gave 0; any other result is a failure, which breaks a link. */
 int32_t wulgach_core_finish(struct wulgach_core *core, uint64_t number, int32_t res, const struct wulgach_bytes *bytes, struct wulgach_answer *answer);
 
@@ -320,6 +327,13 @@ static inline void wulgach_cancel(uint64_t entry[16], uint64_t user_data, uint8_
 {
     wulgach_entry(entry, WULGACH_OP_CANCEL, user_data, flags, 0);
     entry[2] = target;
+}
+
+/* Cancels all requests of user data target that don't run, and ends with their number: at most 2^31 - 1. */
+static inline void wulgach_cancel_all(uint64_t entry[16], uint64_t user_data, uint8_t flags, uint64_t target)
+{
+    wulgach_cancel(entry, user_data, flags, target);
+    entry[3] = (uint64_t)WULGACH_CANCEL_ALL << 32;
 }
 
 #ifdef __cplusplus

@@ -5,6 +5,21 @@ ODD_FLAGS = ["LL", "X", "", "l", "-L", "L-"]
 ODD_NUMBERS = ["00", "01", "-1", "+1", "1a", "", "4294967295", "4294967296", "18446744073709551615", "18446744073709551616"]
 
 
+def is_faulty(entry):
+    """Whether an entry's text is that of a faulty one: a guess, on which nothing but the mix of the lines rests."""
+    kind, *words = entry.split(" ")
+    if kind == "op":
+        return words[0] not in ("0", "3", "14", "22", "23")
+    if kind == "read":
+        return words[3] == str(2**64 - 1) or int(words[4]) > 64
+    if kind == "write":
+        return words[3] == str(2**64 - 1)
+    if kind == "raw":
+        raw = bytes.fromhex(words[0])
+        return raw[0] not in (0, 3, 14, 22, 23) or bool(raw[1] & 0xA1) or raw[24] > 64 or any(raw[40:64])
+    return False
+
+
 class Trace:
     """Makes lines that mostly go on from what the earlier ones did."""
 
@@ -12,7 +27,9 @@ class Trace:
         self.rng = rng
         self.size = rng.choice([1, 1, 2, 4, 4, 8])
         self.lines = []
-        # The words staged, published and in the open call, in order, and how many entries were accepted.
+        # Whether a call stops behind a faulty entry, and which slots were last filled with one.
+        self.stops, self.faulty = rng.random() < 0.4, set()
+        # The words staged, the positions published and those of the open call, in order, and how many entries were accepted. A position is its word, and whether its entry is faulty.
         self.staged, self.published, self.call, self.accepted = [], [], None, 0
         # The requests below this one have ended.
         self.over = 0
@@ -26,6 +43,8 @@ class Trace:
             words += ["--files", str(rng.choice([1, 2, 3, 64]))]
         if rng.random() < 0.5:
             words += ["--start", str(rng.choice([1, 2**31 - 2, 2**32 - 1, 2**32 - 3, rng.randrange(2**32)]))]
+        if self.stops:
+            words.insert(2 * rng.randint(0, len(words) // 2), "--stop")
         return words
 
     def user_data(self):
@@ -51,6 +70,7 @@ class Trace:
         entry[0] = rng.choice([0, 3, 14, 22, 23, 1, 99, 255])
         entry[1] = rng.choice([0, 0, 0, 2, 4, 8, 12, 16, 64, 1, 32, 128, 255])
         entry[24] = rng.choice([0, 1, 4, 64, 65])
+        entry[28] = rng.choice([0, 0, 0, 1, 2])
         entry[32] = rng.randrange(8)
         entry[64:72] = b"wulgach!"
         for _ in range(rng.choice([0, 0, 1, 2])):
@@ -59,7 +79,7 @@ class Trace:
 
     def entry(self):
         rng, user_data, flags = self.rng, self.user_data(), self.flags()
-        kind = rng.choices(["nop", "read", "write", "fsync", "cancel", "op", "raw"], [8, 3, 3, 1, 4, 0.5, 0.5])[0]
+        kind = rng.choices(["nop", "read", "write", "fsync", "cancel", "cancelall", "op", "raw"], [8, 3, 3, 1, 4, 3, 0.5, 0.5])[0]
         if kind == "nop":
             return f"nop {user_data} {flags}"
         if kind == "read":
@@ -68,14 +88,17 @@ class Trace:
             return f"write {user_data} {flags} {self.file()} {self.offset()} {self.data()}"
         if kind == "fsync":
             return f"fsync {user_data} {flags} {self.file()}"
-        if kind == "cancel":
-            return f"cancel {user_data} {flags} {self.user_data()}"
+        if kind in ("cancel", "cancelall"):
+            return f"{kind} {user_data} {flags} {self.user_data()}"
         if kind == "op":
             return f"op {rng.choice([0, 3, 14, 22, 23, 1, 99, 255])} {user_data} {flags}"
         return f"raw {self.raw()}"
 
     def fill(self):
-        self.lines.append(f"fill {self.rng.randrange(self.size + (self.rng.random() < 0.1))} {self.entry()}")
+        slot, entry = self.rng.randrange(self.size + (self.rng.random() < 0.1)), self.entry()
+        self.lines.append(f"fill {slot} {entry}")
+        if all(word != slot for word, _ in self.published):
+            (self.faulty.add if is_faulty(entry) else self.faulty.discard)(slot)
 
     def index(self):
         word = self.rng.randrange(self.size) if self.rng.random() < 0.9 else self.rng.choice([self.size, 2**32 - 1])
@@ -85,7 +108,7 @@ class Trace:
 
     def tail(self):
         self.lines.append("tail")
-        self.published += self.staged
+        self.published += [(word, word in self.faulty) for word in self.staged]
         self.staged = []
 
     def begin(self):
@@ -101,8 +124,9 @@ class Trace:
         self.lines += ["take"] * self.rng.choice([0, 1, len(self.call or [])])
         self.lines.append("end")
         if self.call is not None:
-            self.accepted += sum(word < self.size for word in self.call)
-            self.published = self.published[len(self.call) :]
+            count = next((at + 1 for at, (_, faulty) in enumerate(self.call) if faulty and self.stops), len(self.call))
+            self.accepted += sum(word < self.size for word, _ in self.call[:count])
+            self.published = self.published[count:]
             self.call = None
 
     def submit(self):

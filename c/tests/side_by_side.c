@@ -175,8 +175,9 @@ static void fill(FILE *lines, struct wulgach_step *step, uint32_t sq, uint32_t f
     }
     case 6: {
         uint64_t target = below(8);
-        wulgach_cancel(step->entry, user_data, flags, target);
-        fprintf(lines, "cancel %" PRIu64 " ", user_data);
+        int is_of_all = is_one_in(2);
+        (is_of_all ? wulgach_cancel_all : wulgach_cancel)(step->entry, user_data, flags, target);
+        fprintf(lines, "%s %" PRIu64 " ", is_of_all ? "cancelall" : "cancel", user_data);
         print_flags(lines, flags);
         fprintf(lines, " %" PRIu64, target);
         break;
@@ -363,6 +364,13 @@ static uint32_t len_of(const uint64_t entry[16])
     return (uint32_t)entry[3];
 }
 
+static bool is_success(const uint64_t entry[16], int32_t res)
+{
+    if (code_of(entry) == WULGACH_OP_CANCEL && entry[3] >> 32 == WULGACH_CANCEL_ALL)
+        return res >= 0;
+    return res >= 0 && (uint32_t)res == (is_transfer(entry) ? len_of(entry) : 0);
+}
+
 static void end_request(struct model *m, uint64_t number, const struct wulgach_answer *a)
 {
     check(number < m->accepted, "the end of a request that there isn't");
@@ -384,8 +392,7 @@ static void end_request(struct model *m, uint64_t number, const struct wulgach_a
     }
     r->state = ENDED;
     m->ended++;
-    bool is_success = a->res >= 0 && (uint32_t)a->res == (is_transfer(r->entry) ? len_of(r->entry) : 0);
-    if (is_success && (r->entry[0] >> 8 & WULGACH_CQE_SKIP_SUCCESS))
+    if (is_success(r->entry, a->res) && (r->entry[0] >> 8 & WULGACH_CQE_SKIP_SUCCESS))
         return;
     struct wulgach_completion *c = &m->posted[m->posted_count++];
     c->user_data = r->entry[4];
@@ -440,7 +447,7 @@ static void check_operation(const struct request *r, int32_t result, const struc
     if (right.code == WULGACH_OP_WRITE)
         for (int i = 0; i < 64; i++)
             right.bytes[i] = (uint8_t)(r->entry[8 + i / 8] >> i % 8 * 8);
-    check(op->code == right.code && op->fd == right.fd && op->off == right.off && op->target == right.target && op->len == right.len && memcmp(op->bytes, right.bytes, sizeof op->bytes) == 0, "what a request asks for");
+    check(op->code == right.code && op->fd == right.fd && op->off == right.off && op->target == right.target && op->len == right.len && op->all == right.all && memcmp(op->bytes, right.bytes, sizeof op->bytes) == 0, "what a request asks for");
 }
 
 static void check_counts(const struct model *m, int32_t result, const struct wulgach_counts *c)
@@ -539,7 +546,7 @@ static int32_t core_step(struct wulgach_core *core, const struct wulgach_step *s
 
 static struct wulgach_setup random_setup(void)
 {
-    struct wulgach_setup setup = {.sq = 1u << below(4), .files = 1 + below(3), .has_cq = is_one_in(2)};
+    struct wulgach_setup setup = {.sq = 1u << below(4), .files = 1 + below(3), .has_cq = is_one_in(2), .stops = is_one_in(3)};
     setup.cq = setup.has_cq ? setup.sq << below(3) : (uint32_t)roll();
     setup.start = is_one_in(2) ? below(5) : UINT32_MAX - below(20);
     return setup;
@@ -551,7 +558,10 @@ static void print_options(char *out, size_t size, const struct wulgach_setup *se
     char cq[32] = "";
     if (setup->has_cq)
         snprintf(cq, sizeof cq, "--cq%c%" PRIu32 "%c", between, setup->cq, between);
-    snprintf(out, size, "--sq%c%" PRIu32 "%c%s--files%c%" PRIu32 "%c--start%c%" PRIu32, between, setup->sq, between, cq, between, setup->files, between, between, setup->start);
+    char stop[32] = "";
+    if (setup->stops)
+        snprintf(stop, sizeof stop, "--stop%c", between);
+    snprintf(out, size, "--sq%c%" PRIu32 "%c%s%s--files%c%" PRIu32 "%c--start%c%" PRIu32, between, setup->sq, between, cq, stop, between, setup->files, between, between, setup->start);
 }
 
 /* The answers of the program to these lines are this text. */

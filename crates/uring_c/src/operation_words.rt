@@ -24,6 +24,9 @@ pub struct OperationWords {
     /// How many bytes to move: 0 to 64.
     pub len: u32,
 
+    /// 1 for a cancel of all, else 0.
+    pub all: u32,
+
     /// The data of a write.
     pub bytes: [u8; 64],
 }
@@ -56,8 +59,9 @@ pub(crate) fn operation_words(op: &Op) -> OperationWords
             fd,
             ..bare(opcode::FSYNC)
         },
-        Op::Cancel { target } => OperationWords {
+        Op::Cancel { target, all } => OperationWords {
             target,
+            all: u32::from(all),
             ..bare(opcode::ASYNC_CANCEL)
         },
     }
@@ -73,6 +77,7 @@ fn bare(code: u8) -> OperationWords
         off: 0,
         target: 0,
         len: 0,
+        all: 0,
         bytes: [0; 64],
     }
 }

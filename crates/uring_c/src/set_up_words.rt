@@ -21,6 +21,9 @@ pub struct SetupWords {
 
     /// Whether `cq` is asked for. Else the completion ring is twice the submission ring.
     pub has_cq: bool,
+
+    /// Whether a submission call stops behind an entry with a fault.
+    pub stops: bool,
 }
 
 impl SetupWords {
@@ -31,6 +34,11 @@ impl SetupWords {
         ensures { MatchOption result (IsRefused self.now) (IsAskedFor self.now) }
     {
         let cq = if self.has_cq { Some(self.cq) } else { None };
-        Setup::new(self.sq, cq, self.files, self.start).ok()
+        let set_up = Setup::new(self.sq, cq, self.files, self.start).ok()?;
+        Some(if self.stops {
+            set_up.stopping()
+        } else {
+            set_up
+        })
     }
 }

@@ -1,6 +1,7 @@
 //! What can go wrong in a run of the program.
 
 use uring_options::OptionsFault;
+use uring_play::PlayFault;
 use uring_trace::TraceFault;
 
 /// Why a run of the program didn't do what was asked.
@@ -9,6 +10,9 @@ pub enum Fault {
     /// A fault of a trace.
     Trace(TraceFault),
 
+    /// A fault of a play.
+    Play(PlayFault),
+
     /// A fault of the command line.
     Options(OptionsFault),
 }
@@ -16,6 +20,12 @@ pub enum Fault {
 impl From<TraceFault> for Fault {
     fn from(fault: TraceFault) -> Fault {
         Fault::Trace(fault)
+    }
+}
+
+impl From<PlayFault> for Fault {
+    fn from(fault: PlayFault) -> Fault {
+        Fault::Play(fault)
     }
 }
 

@@ -9,22 +9,35 @@ use crate::telling::tell;
 use std::env;
 use std::io::ErrorKind;
 use std::process::ExitCode;
-use uring_options::{Options, not_text, options};
+use std::sync::Wait;
+use std::thread::Threads;
+use uring_check::{Verdict, check};
+use uring_options::{Options, Setup, not_text, options};
+use uring_pictures::{graph, timeline};
+use uring_play::play;
 use uring_trace::{TraceFault, explain, trace};
 
-/// The exit status if a line of `explain` was bad.
+/// The exit status if all went well.
+const DONE: u8 = 0;
+
+/// The exit status if an answer of a recorded trace isn't called for.
+const WRONG: u8 = 3;
+
+/// The exit status if a line of `explain` or `check` was bad.
 const BAD_LINE: u8 = 4;
 
 fn main(rt: HostRuntime) -> ExitCode {
-    match run(&rt) {
-        Ok(false) => ExitCode::SUCCESS,
-        Ok(true) => ExitCode::from(BAD_LINE),
+    match run(&rt, rt) {
+        Ok(status) => ExitCode::from(status),
         Err(fault) => ExitCode::from(tell(rt.alloc(), &mut rt.stderr(), &fault)),
     }
 }
 
-/// Does what the command line asks for. Returns whether a line of `explain` was bad.
-fn run(rt: &HostRuntime) -> Result<bool, Fault> {
+/// Does what the command line asks for, and returns the exit status; a play starts its threads by `threads`.
+fn run<R: Threads + Wait + Copy + Send + 'static>(
+    rt: &HostRuntime,
+    threads: R,
+) -> Result<u8, Fault> {
     let alloc = rt.alloc();
     let args = words(rt)?;
     let mut words = Vec::with_capacity(alloc, args.len()).map_err(TraceFault::from)?;
@@ -32,17 +45,48 @@ fn run(rt: &HostRuntime) -> Result<bool, Fault> {
         words.push(arg.as_str()).map_err(TraceFault::from)?;
     }
     match options(alloc, words.as_slice())? {
+        Options::Play(setup, workers) => {
+            let (mut stdin, mut stdout) = (rt.stdin(), rt.stdout());
+            play(threads, alloc, &mut stdin, &mut stdout, &setup, workers)?;
+            Ok(DONE)
+        }
         Options::Trace(setup) => {
             trace(alloc, &mut rt.stdin(), &mut rt.stdout(), &setup)?;
-            Ok(false)
+            Ok(DONE)
         }
-        Options::Explain(setup) => Ok(explain(
-            alloc,
-            &mut rt.stdin(),
-            &mut rt.stdout(),
-            &mut rt.stderr(),
-            &setup,
-        )?),
+        Options::Check(setup) => {
+            let verdict = check(alloc, &mut rt.stdin(), &mut rt.stdout(), &setup, false)?;
+            Ok(status_of(verdict))
+        }
+        Options::Explain(setup) => {
+            let (mut input, mut output, mut errors) = (rt.stdin(), rt.stdout(), rt.stderr());
+            let has_bad = explain(alloc, &mut input, &mut output, &mut errors, &setup)?;
+            Ok(status_behind(has_bad))
+        }
+        Options::Graph(setup) => {
+            let (mut input, mut output, mut errors) = (rt.stdin(), rt.stdout(), rt.stderr());
+            let has_bad = graph(alloc, &mut input, &mut output, &mut errors, &setup)?;
+            Ok(status_behind(has_bad))
+        }
+        Options::Timeline(setup) => {
+            let (mut input, mut output, mut errors) = (rt.stdin(), rt.stdout(), rt.stderr());
+            let has_bad = timeline(alloc, &mut input, &mut output, &mut errors, &setup)?;
+            Ok(status_behind(has_bad))
+        }
+    }
+}
+
+/// The exit status behind the lines of an explanation, of which some may have been bad.
+fn status_behind(has_bad: bool) -> u8 {
+    if has_bad { BAD_LINE } else { DONE }
+}
+
+/// The exit status of a verdict.
+fn status_of(verdict: Verdict) -> u8 {
+    match verdict {
+        Verdict::Lawful => DONE,
+        Verdict::Wrong => WRONG,
+        Verdict::Bad => BAD_LINE,
     }
 }
 

@@ -31,7 +31,7 @@ pub fn tell<W: Write>(alloc: Global, writer: &mut W, fault: &Fault) -> u8 {
 /// The exit status of a fault.
 fn status_of(fault: &Fault) -> u8 {
     match fault {
-        Fault::Trace(_) => FAILED,
+        Fault::Trace(_) | Fault::Play(_) => FAILED,
         Fault::Options(OptionsFault::Small) => REFUSED,
         Fault::Options(OptionsFault::Words(error)) => match error.kind() {
             ErrorKind::OutOfMemory => FAILED,
@@ -44,6 +44,7 @@ fn status_of(fault: &Fault) -> u8 {
 fn text_of(alloc: Global, fault: &Fault) -> Result<String, AllocError> {
     match fault {
         Fault::Trace(fault) => format!(in alloc; "uring: {fault}\n"),
+        Fault::Play(fault) => format!(in alloc; "uring: {fault}\n"),
         Fault::Options(OptionsFault::Small) => format!(in alloc;
             "uring: completion ring too small\n"
         ),

@@ -1,15 +1,8 @@
--- What a start and a choice leave of what is held, and what the end of a request as it is issued makes of the lists.
-use Rattle.std.proofs.Common.{◌≡◌, ℕ, ◌+◌, ◌≤◌, ℤ, pos, [], ◌∷◌, ◌++◌, length, true, false, ◌&&◌, ◌||◌, ◌==◌, Some, None, is_some, refl, sym, ◌∙◌, ap, subst, arith, inl, inr}
-use Rattle.std.specs.Prelude.{if◌then◌else◌}
-use Rattle.std.specs.Ordering.{int_eq}
-use Rattle.std.specs.Option.{option_to_list}
-use Rattle.std.proofs.lemmas.List.{append-nil}
-use Rattle.std.proofs.lemmas.Bool.{cases_eq, and_right, eq-eqb, eqb-true, ne_eqb}
-use Rattle.uring_entry.specs.Layout.{Sqe, opcode_of, len_of}
-use Rattle.uring_entry.specs.declared.opcode.TheConstants.{READ, WRITE}
-use Rattle.uring_entry.specs.Preparation.{is_faulty, is_cancel}
-use Rattle.uring_entry.specs.Success.{is_success}
-use Rattle.uring_entry.specs.Requests.{Requests, entry_of, is_running, with_started, with_ended, with_issued_end, no_bytes, chosen_by, target_of}
+-- What a start and a choice leave of what is held.
+use Rattle.std.proofs.Common.{◌≡◌, ℕ, ◌+◌, ◌≤◌, [], ◌∷◌, length, false, ◌==◌, Some, None, is_some, refl, sym, ◌∙◌, ap, subst, arith, inl, inr}
+use Rattle.std.proofs.lemmas.Bool.{cases_eq, eq-eqb, ne_eqb}
+use Rattle.uring_entry.specs.Preparation.{is_faulty}
+use Rattle.uring_entry.specs.Requests.{Requests, entry_of, is_running, with_started, with_cancelled}
 use Rattle.uring_entry.proofs.RequestLemmas.{is_running-started_same, is_running-started_other, added-same, added-other}
 use Rattle.uring_dispatch.specs.declared.request.Request.{Request}
 use Rattle.uring_dispatch.specs.Window.{Window, at, end_of, one_if, Changes, started, chosen, IsAsBefore}
@@ -65,7 +58,7 @@ gone w v n k q c e =
     ]
 
 -- a cancel chooses a request
-pub choose-held : (w v : Window) (g : Groups) (r : Requests) (n : ℕ) (p : Request) → AreHeld w g r → at w n ≡ Some p → Changes w v n (Some (chosen p)) → IsAsBefore w v → v.running ≡ w.running → AreHeld v g (record r { cancelled = r.cancelled ++ n ∷ [] })
+pub choose-held : (w v : Window) (g : Groups) (r : Requests) (n : ℕ) (p : Request) → AreHeld w g r → at w n ≡ Some p → Changes w v n (Some (chosen p)) → IsAsBefore w v → v.running ≡ w.running → AreHeld v g (with_cancelled r (n ∷ []))
 choose-held w v g r n p h there c as_before runs_on = record {
   count = h.count ∙ sym as_before.end;
   outstanding = as_before.outstanding ∙ h.outstanding;
@@ -76,8 +69,8 @@ choose-held w v g r n p h there c as_before runs_on = record {
         | inl same ↦
             let one : chosen p ≡ q = same_some _ _ (sym c.here ∙ ap (at v) (sym same) ∙ is) in
             let old = h.shown n p there in
-            let P : Request → Type 0 = λ z. IsShown (record r { cancelled = r.cancelled ++ n ∷ [] }) n z in
-            let Q : ℕ → Type 0 = λ k. IsShown (record r { cancelled = r.cancelled ++ n ∷ [] }) k q in
+            let P : Request → Type 0 = λ z. IsShown (with_cancelled r (n ∷ [])) n z in
+            let Q : ℕ → Type 0 = λ k. IsShown (with_cancelled r (n ∷ [])) k q in
             subst Q (sym same)
             (subst P one
             (record {
@@ -181,38 +174,3 @@ start-held w v g r n p s h there waits right c as_before more =
             cut = old.cut;
           };
     }
-
--- A request ends as it is issued.
-
--- one that dooms nobody
-pub ends-alone : (v : Window) (h : Groups) (r : Requests) (n : ℕ) (res : ℤ) → chosen_by r n res ≡ [] → AreHeld v h (with_ended r n res no_bytes) → AreHeld v h (with_issued_end r n res)
-ends-alone v h r n res none held =
-    let same : with_issued_end r n res ≡ with_ended r n res no_bytes =
-    ap (λ more. record (with_ended r n res no_bytes) { cancelled = r.cancelled ++ more }) none
-    ∙ ap (λ all. record (with_ended r n res no_bytes) { cancelled = all }) (append-nil r.cancelled)
-    in
-    rw same held
-
--- a result that isn't 0 dooms nobody
-pub none_chosen : (r : Requests) (n : ℕ) (res : ℤ) → int_eq res (pos 0) ≡ false → chosen_by r n res ≡ []
-none_chosen r n res e =
-    ap (λ b. if b then option_to_list (target_of r n) else []) (and_right (is_cancel (entry_of r n)) _ e)
-
--- a cancel that ends with 0 dooms what it chose
-pub target_chosen : (r : Requests) (n m : ℕ) → is_cancel (entry_of r n) ≡ true → target_of r n ≡ Some m → chosen_by r n (pos 0) ≡ m ∷ []
-target_chosen r n m is chose =
-    ap (λ b. if b && true then option_to_list (target_of r n) else []) is ∙ ap option_to_list chose
-
--- 0 is a cancel's success
-pub cancel_success : (e : Sqe) → is_cancel e ≡ true → is_success e (pos 0) ≡ true
-cancel_success e is =
-    let code : opcode_of e ≡ 14 = eqb-true (opcode_of e) 14 is in
-    ap (λ o. int_eq (pos 0) (pos (if (o == READ) || (o == WRITE) then len_of e else 0))) code
-
--- a cancel that chose m
-pub ends-chosen : (v : Window) (h : Groups) (r : Requests) (n m : ℕ) → is_cancel (entry_of r n) ≡ true → target_of r n ≡ Some m → AreHeld v h (with_ended (record r { cancelled = r.cancelled ++ m ∷ [] }) n (pos 0) no_bytes) → AreHeld v h (with_issued_end r n (pos 0))
-ends-chosen v h r n m is chose held =
-    let same : with_issued_end r n (pos 0) ≡ with_ended (record r { cancelled = r.cancelled ++ m ∷ [] }) n (pos 0) no_bytes =
-    ap (λ more. record (with_ended r n (pos 0) no_bytes) { cancelled = r.cancelled ++ more }) (target_chosen r n m is chose)
-    in
-    rw same held

@@ -6,7 +6,7 @@ use Rattle.uring_entry.specs.Layout.{Sqe, opcode_of, fd_of, off_of, addr_of, len
 use Rattle.uring_entry.specs.declared.operation.Op.{Op}
 use Rattle.uring_entry.specs.declared.operation.Op.TheVariants.{Nop, Read, Write, Fsync, Cancel}
 use Rattle.uring_entry.specs.declared.opcode.TheConstants.{NOP, FSYNC, ASYNC_CANCEL, READ}
-use Rattle.uring_entry.specs.Preparation.{is_faulty, is_cancel, operation_of}
+use Rattle.uring_entry.specs.Preparation.{is_faulty, is_cancel, is_cancel_all, operation_of}
 use Rattle.uring_entry.specs.Requests.{Requests, entry_of, is_outstanding, is_running, is_doomed, is_ready, doomed_result, cancel_result}
 use Rattle.uring_entry.proofs.RequestLemmas.{is_doomed-own_fault}
 use Rattle.uring_dispatch.specs.declared.answers.Issued.TheVariants.{Run, Ended, NotReady, Running, Unknown}
@@ -73,33 +73,33 @@ operation_at : ℕ → Sqe → Op
 operation_at o e =
     if o == NOP then Nop else
     if o == FSYNC then Fsync (fd_of e) else
-    if o == ASYNC_CANCEL then Cancel (addr_of e) else
+    if o == ASYNC_CANCEL then Cancel (addr_of e) (is_cancel_all e) else
     if o == READ then Read (fd_of e) (off_of e) (len_of e) else
     Write (fd_of e) (off_of e) (len_of e) (payload_of e)
 
-cancels : (e : Sqe) → is_cancel e ≡ true → operation_of e ≡ Cancel (addr_of e)
+cancels : (e : Sqe) → is_cancel e ≡ true → operation_of e ≡ Cancel (addr_of e) (is_cancel_all e)
 unfolding operation_at
 cancels e is = ap (λ o. operation_at o e) (eqb-true (opcode_of e) 14 is)
 
-picked : (a b c d : Bool) (e : Sqe) (t : ℕ) → (if a then Nop else if b then Fsync (fd_of e) else if c then Cancel (addr_of e) else if d then Read (fd_of e) (off_of e) (len_of e) else Write (fd_of e) (off_of e) (len_of e) (payload_of e)) ≡ Cancel t → c ≡ true
-picked true b c d e t is = cc
-picked false true c d e t is = cc
-picked false false true d e t is = refl
-picked false false false true e t is = cc
-picked false false false false e t is = cc
+picked : (a b c d : Bool) (e : Sqe) (t : ℕ) (all : Bool) → (if a then Nop else if b then Fsync (fd_of e) else if c then Cancel (addr_of e) (is_cancel_all e) else if d then Read (fd_of e) (off_of e) (len_of e) else Write (fd_of e) (off_of e) (len_of e) (payload_of e)) ≡ Cancel t all → (c ≡ true) × (all ≡ is_cancel_all e)
+picked true b c d e t all is = cc
+picked false true c d e t all is = cc
+picked false false true d e t all is = (refl, cc)
+picked false false false true e t all is = cc
+picked false false false false e t all is = cc
 
-pub is_cancel-operation : (e : Sqe) (t : ℕ) → operation_of e ≡ Cancel t → is_cancel e ≡ true
-is_cancel-operation e t is = picked (opcode_of e == NOP) (opcode_of e == FSYNC) (opcode_of e == ASYNC_CANCEL) (opcode_of e == READ) e t is
+pub is_cancel-operation : (e : Sqe) (t : ℕ) (all : Bool) → operation_of e ≡ Cancel t all → (is_cancel e ≡ true) × (all ≡ is_cancel_all e)
+is_cancel-operation e t all is = picked (opcode_of e == NOP) (opcode_of e == FSYNC) (opcode_of e == ASYNC_CANCEL) (opcode_of e == READ) e t all is
 
 pub issued-cancel : (r : Requests) (n : ℕ) (res : ℤ) → is_doomed r n ≡ false → is_ready r n ≡ true → is_cancel (entry_of r n) ≡ true → res ≡ cancel_result r n → Ended res ≡ issued_waiting r n
 issued-cancel r n res free ready cancel is =
     ap Ended is
     ∙ sym (issued-ready r n free ready ∙ ap (λ b. if b then Ended (cancel_result r n) else Run (operation_of (entry_of r n))) cancel)
 
-pub issued-run : (r : Requests) (n : ℕ) (op : Op) → is_doomed r n ≡ false → is_ready r n ≡ true → op ≡ operation_of (entry_of r n) → ((t : ℕ) → op ≡ Cancel t → ⊥) → Run op ≡ issued_waiting r n
+pub issued-run : (r : Requests) (n : ℕ) (op : Op) → is_doomed r n ≡ false → is_ready r n ≡ true → op ≡ operation_of (entry_of r n) → ((t : ℕ) (all : Bool) → op ≡ Cancel t all → ⊥) → Run op ≡ issued_waiting r n
 issued-run r n op free ready does other =
     elim (cases_Bool (is_cancel (entry_of r n))) [
-      | inl cancel ↦ absurd (other (addr_of (entry_of r n)) (does ∙ cancels (entry_of r n) cancel))
+      | inl cancel ↦ absurd (other (addr_of (entry_of r n)) (is_cancel_all (entry_of r n)) (does ∙ cancels (entry_of r n) cancel))
       | inr other_code ↦
           ap Run does
           ∙ sym

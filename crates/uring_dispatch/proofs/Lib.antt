@@ -13,6 +13,7 @@ pub mod EndLemmas
 pub mod EndsHeld
 pub mod Issues
 pub mod Changes
+pub mod Choosing
 pub mod Accepts
 pub mod AcceptsHeld
 pub mod AcceptsListed

@@ -71,6 +71,13 @@ pub record IsAsBefore (old new : Window) : Type 0 where
   pub outstanding : new.outstanding ≡ old.outstanding
   pub room : new.room ≡ old.room
 
+-- the same requests are outstanding, and the same ones run: only who was chosen by a cancel may differ
+pub record HasSameRequests (old new : Window) : Type 0 where
+  pub as_before : IsAsBefore old new
+  pub running : new.running ≡ old.running
+  pub there : (k : ℕ) → is_some (at new k) ≡ is_some (at old k)
+  pub runs_on : (k : ℕ) → runs (at new k) ≡ runs (at old k)
+
 -- an outstanding request has a number before n
 pub record HasBefore (w : Window) (n : ℕ) : Type 0 where
   pub number : ℕ

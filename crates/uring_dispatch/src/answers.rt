@@ -8,7 +8,7 @@ pub enum Issued {
     /// It was started, with this operation.
     Run(Op),
 
-    /// It ended with this result: -22 or -125 if it was doomed; 0, -2 or -114 if it is a cancel. io_uring_enter(2), CQE ERRORS, IOSQE_IO_LINK and IORING_OP_ASYNC_CANCEL.
+    /// It ended with this result: -22 or -125 if it was doomed; 0, -2 or -114 if it is a cancel of one, and 0 or more if it is one of all. io_uring_enter(2), CQE ERRORS, IOSQE_IO_LINK and IORING_OP_ASYNC_CANCEL; io_uring_prep_cancel(3), IORING_ASYNC_CANCEL_ALL.
     Ended(i32),
 
     /// It waits for earlier requests. io_uring_enter(2), IOSQE_IO_LINK and IOSQE_IO_DRAIN.

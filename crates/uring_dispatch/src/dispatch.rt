@@ -125,7 +125,7 @@ impl Dispatch {
         self.is_between_calls = true;
     }
 
-    /// Issues request `n`, any number. It ends at once if it is doomed, with -22 (EINVAL) if it has a fault itself and else with -125 (ECANCELED), or if it is a cancel that may start, with 0, -2 (ENOENT) or -114 (EALREADY); otherwise it starts if it may.
+    /// Issues request `n`, any number. It ends at once if it is doomed, with -22 (EINVAL) if it has a fault itself and else with -125 (ECANCELED), or if it is a cancel that may start, with 0, -2 (ENOENT) or -114 (EALREADY), or the number of its targets if it is one of all; otherwise it starts if it may.
     ///
     /// Refused with `Unknown` if it isn't outstanding, with `Running` if it runs already, and with `NotReady` if it isn't doomed and waits for earlier requests. A refusal changes nothing. The order of these is our own rule.
     pub fn issue(&mut self, n: u64) -> Issued

@@ -1,12 +1,10 @@
-//! What happens to the outstanding requests: they are issued, chosen by a cancel, and finished.
+//! What happens to the outstanding requests: they are issued, end and are finished.
 
 ghost use Rattle.std.specs.Prelude.{◌≡◌, ◌≢◌, ◌⊎◌, ℕ, ℤ, ◌+◌, ◌<◌, ◌≤◌, List, true, false, Some, None, is_some, Bool, not, ◌&&◌};
-ghost use Rattle.uring_entry.specs.Requests.{Requests, entry_of, with_ended, with_issued_end};
+ghost use Rattle.uring_entry.specs.Requests.{Requests, entry_of, with_ended};
 ghost use Rattle.uring_entry.specs.Requests as spec;
 ghost use Rattle.uring_entry.specs.Groups.{earlier_of, is_before};
-ghost use Rattle.uring_entry.specs.Preparation.{is_cancel};
 ghost use Rattle.uring_entry.specs.Success as success;
-ghost use Rattle.uring_entry.specs.Layout.{addr_of};
 ghost use Rattle.uring_dispatch.specs.IssueAndFinish.{issued, issued_waiting, after_issue, finished, after_finish};
 ghost use Rattle.uring_dispatch.specs.Dispatch.{dispatch_of, HasEnded, IssueCounts, FinishCounts};
 ghost use Rattle.uring_dispatch.specs.Window.{at, end_of, runs, one_if, Changes};
@@ -15,16 +13,23 @@ ghost use Rattle.uring_dispatch.specs.Held.{AreHeld, IsSound, IsNext, HasLost};
 ghost use Rattle.uring_dispatch.specs.Waiting.{IsListed, HasMemory, StandsAsBefore};
 
 use crate::answers::{Finished, Issued};
+use crate::cancels::cancel;
 use crate::group::{Group, earlier_of};
 use crate::groups::Groups;
 use crate::request::Request;
-use crate::standing::{group_of, is_doomed, is_ready, target};
+use crate::standing::{group_of, is_doomed, is_ready};
 use crate::waiting::Waiting;
 use crate::window::Window;
 use uring_entry::{Op, Outcome, errno, succeeded};
 
 /// Ends request `n`, lets go what was kept of it, and tells anew who waits.
-fn end(window: &mut Window, groups: &mut Groups, waiting: &mut Waiting, n: u64, is_success: bool)
+pub(crate) fn end(
+    window: &mut Window,
+    groups: &mut Groups,
+    waiting: &mut Waiting,
+    n: u64,
+    is_success: bool,
+)
     requires sound { IsSound window.old groups.old }
     requires closed { groups.old.last ≡ None }
     requires listed { IsListed window.old groups.old waiting.old }
@@ -192,48 +197,13 @@ fn issue_waiting(
     if !is_ready(window, groups, n, &request) {
         return Issued::NotReady;
     }
-    if let Op::Cancel { .. } = op {
-        return Issued::Ended(cancel(window, groups, waiting, n, request.entry.addr()));
+    if let Op::Cancel { all, .. } = op {
+        let user_data = request.entry.addr();
+        return Issued::Ended(cancel(window, groups, waiting, n, user_data, all));
     }
     window.start(n);
     waiting.relist(window, groups, n);
     Issued::Run(op)
-}
-
-/// Carries out the cancel `n` of these user data, and gives its result: ENOENT if there is no request to choose, EALREADY if the one chosen is running, else 0. io_uring_enter(2), IORING_OP_ASYNC_CANCEL.
-fn cancel(
-    window: &mut Window,
-    groups: &mut Groups,
-    waiting: &mut Waiting,
-    n: u64,
-    user_data: u64,
-) -> i32
-    requires sound { IsSound window.old groups.old }
-    requires closed { groups.old.last ≡ None }
-    requires listed { IsListed window.old groups.old waiting.old }
-    requires there { is_some (at window.old n) ≡ true }
-    requires waits { runs (at window.old n) ≡ false }
-    ensures sound { IsSound window.new groups.new }
-    ensures closed { groups.new.last ≡ None }
-    ensures groups_room { groups.new.room ≡ groups.old.room }
-    ensures listed { IsListed window.new groups.new waiting.new }
-    ensures waiting_room { HasMemory waiting.old waiting.new }
-    ensures answer { (r : Requests) → AreHeld window.old groups.old r → user_data ≡ addr_of (entry_of r n) → result ≡ spec.cancel_result r n }
-    ensures held { (r : Requests) → AreHeld window.old groups.old r → user_data ≡ addr_of (entry_of r n) → is_cancel (entry_of r n) ≡ true → AreHeld window.new groups.new (with_issued_end r n result) }
-    ensures counts { HasLost window.old window.new 0 }
-{
-    let Some(m) = target(window, groups, n, user_data) else {
-        end(window, groups, waiting, n, false);
-        return -errno::ENOENT;
-    };
-    if window.is_running(m) {
-        end(window, groups, waiting, n, false);
-        return -errno::EALREADY;
-    }
-    window.choose(m);
-    waiting.relist(window, groups, m);
-    end(window, groups, waiting, n, true);
-    0
 }
 
 /// Finishes request `n` with this outcome if it is running, and leaves it as it is otherwise.

@@ -3,6 +3,7 @@
 
 mod answers;
 mod blocks;
+mod cancels;
 mod dispatch;
 mod errors;
 mod events;

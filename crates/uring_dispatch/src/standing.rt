@@ -73,6 +73,15 @@ pub(crate) fn target(window: &Window, groups: &Groups, n: u64, user_data: u64) -
     None
 }
 
+/// Whether the cancel `n` of all requests with these user data has request `m` as a target: what a cancel may choose, if it isn't running. Our own rule.
+pub(crate) fn is_target(window: &Window, groups: &Groups, n: u64, m: u64, user_data: u64) -> bool
+    requires { IsSound window.now groups.now }
+    ensures target { (r : Requests) → AreHeld window.now groups.now r → user_data ≡ addr_of (entry_of r n) → result ≡ spec.is_target r n m }
+    ensures there { result ≡ true → is_some (at window.now m) ≡ true }
+{
+    is_candidate(window, groups, n, m, user_data) && !window.is_running(m)
+}
+
 /// Whether the cancel `n` of these user data may choose request `m`.
 fn is_candidate(window: &Window, groups: &Groups, n: u64, m: u64, user_data: u64) -> bool
     requires { IsSound window.now groups.now }

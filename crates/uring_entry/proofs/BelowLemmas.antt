@@ -1,7 +1,9 @@
 -- Searches below a bound: what an answer tells, and what gives it.
-use Rattle.std.proofs.Common.{◌≡◌, ℕ, zero, suc, ◌<◌, ◌≤◌, Bool, true, false, ◌||◌, Option, Some, None, is_some, refl, sym, ◌∙◌, ap, arith, inl, inr}
-use Rattle.std.proofs.lemmas.Bool.{cases_lt, cases_Bool, or_cases, or_from, or_left, or_right, both_ways}
-use Rattle.uring_entry.specs.Below.{some_below, least_below, found_or}
+use Rattle.std.proofs.Common.{◌≡◌, ℕ, zero, suc, ◌<◌, ◌≤◌, Bool, true, false, ◌||◌, ◌==◌, [], ◌∷◌, ◌++◌, cond, Option, Some, None, is_some, refl, sym, ◌∙◌, ap, arith, inl, inr}
+use Rattle.std.specs.List.{list_any}
+use Rattle.std.proofs.lemmas.Bool.{cases_lt, cases_Bool, or_cases, or_from, or_left, or_right, both_ways, eqb-true, eq-eqb, false_from_ne_true}
+use Rattle.std.proofs.lemmas.List.Folds.{list_any-append}
+use Rattle.uring_entry.specs.Below.{some_below, least_below, all_below, found_or}
 
 pub some_below-none : (p : ℕ → Bool) (n : ℕ) → ((k : ℕ) → k < n → p k ≡ false) → some_below p n ≡ false
 some_below-none p zero h = refl
@@ -123,3 +125,49 @@ least_below-tells p (suc n) k e =
             | inr fails ↦ none_some k (found_or None (p n) n) (ap (λ b. found_or None b n) fails) is
           ]
     ] refl e
+
+-- Who is among all numbers below a bound of which a test holds.
+
+here_if : (holds : Bool) (n m : ℕ) → list_any (λ k. k == m) (cond holds (n ∷ []) []) ≡ true → (n ≡ m) × (holds ≡ true)
+here_if false n m e = absurd (both_ways false refl e)
+here_if true n m e =
+    elim (or_cases (n == m) false e) [
+      | inl here ↦ (eqb-true n m here, refl)
+      | inr none ↦ absurd (both_ways false refl none)
+    ]
+
+pub all_below-in : (p : ℕ → Bool) (n m : ℕ) → list_any (λ k. k == m) (all_below p n) ≡ true → (m < n) × (p m ≡ true)
+all_below-in p zero m e = absurd (both_ways false refl e)
+all_below-in p (suc n) m e =
+    elim (or_cases _ _ (sym (list_any-append (λ k. k == m) (all_below p n) (cond (p n) (n ∷ []) [])) ∙ e)) [
+      | inl below ↦ let found = all_below-in p n m below in (omega (arith, found.0), found.1)
+      | inr here ↦ let is = here_if (p n) n m here in (omega (arith, is.0), ap p (sym is.0) ∙ is.1)
+    ]
+
+pub all_below-there : (p : ℕ → Bool) (n m : ℕ) → m < n → p m ≡ true → list_any (λ k. k == m) (all_below p n) ≡ true
+all_below-there p zero m lt e = absurd (omega arith)
+all_below-there p (suc n) m lt e =
+    list_any-append (λ k. k == m) (all_below p n) (cond (p n) (n ∷ []) [])
+    ∙ elim (cases_lt m n) [
+      | inl low ↦ or_left _ _ (all_below-there p n m low e)
+      | inr high ↦
+          let same : n ≡ m = omega arith in
+          or_right _ _ (ap (λ b. list_any (λ k. k == m) (cond b (n ∷ []) [])) (ap p same ∙ e) ∙ or_left _ _ (eq-eqb n m same))
+    ]
+
+pub all_below-none : (p : ℕ → Bool) (n : ℕ) → ((k : ℕ) → k < n → p k ≡ false) → all_below p n ≡ []
+all_below-none p zero h = refl
+all_below-none p (suc n) h =
+    ap (λ xs. xs ++ cond (p n) (n ∷ []) []) (all_below-none p n (λ k lt. h k (omega arith)))
+    ∙ ap (λ b. cond b (n ∷ []) []) (h n (omega arith))
+
+-- one at or past the bound isn't
+pub all_below-past : (p : ℕ → Bool) (n m : ℕ) → n ≤ m → list_any (λ k. k == m) (all_below p n) ≡ false
+all_below-past p n m le = false_from_ne_true _ (λ there. let lt = (all_below-in p n m there).0 in omega (arith, le))
+
+-- two tests that agree below the bound
+pub all_below-same : (p q : ℕ → Bool) (n : ℕ) → ((k : ℕ) → k < n → p k ≡ q k) → all_below p n ≡ all_below q n
+all_below-same p q zero h = refl
+all_below-same p q (suc n) h =
+    ap (λ xs. xs ++ cond (p n) (n ∷ []) []) (all_below-same p q n (λ k lt. h k (omega arith)))
+    ∙ ap (λ b. all_below q n ++ cond b (n ∷ []) []) (h n (omega arith))

@@ -1,5 +1,5 @@
 -- What is doomed, drains and is ready, from what is known of its group: no more is needed of the members that have ended.
-use Rattle.std.proofs.Common.{◌≡◌, ℕ, zero, suc, ◌<◌, ◌≤◌, min, max, length, Bool, true, false, not, ◌&&◌, ◌||◌, leb, ltb, Option, Some, None, is_some, refl, sym, ◌∙◌, ap, arith, inl, inr, ◌+◌, ◌-◌, List}
+use Rattle.std.proofs.Common.{◌≡◌, ℕ, zero, suc, ◌<◌, ◌≤◌, min, max, length, Bool, true, false, not, ◌&&◌, ◌||◌, leb, ltb, Option, Some, None, is_some, refl, sym, ◌∙◌, ap, arith, inl, inr}
 use Rattle.std.proofs.lemmas.Bool.{cases_lt, cases_Bool, and_left, and_right, and_from, and_parts, or_from, or_left, or_right, both_ways, le-leb, lt-leb, lt-ltb, le-ltb, leb-true, or_cases, not-true, not-false}
 use Rattle.uring_entry.specs.Layout.{Sqe}
 use Rattle.uring_entry.specs.Below.{some_below, least_below}
@@ -7,7 +7,7 @@ use Rattle.uring_entry.specs.Requests.{Requests, entry_of, has_ended, has_failed
 use Rattle.uring_entry.specs.Preparation.{is_faulty}
 use Rattle.uring_entry.specs.Groups.{IsGroup, first_member, is_before, first_fault, first_drain, first_broken}
 use Rattle.uring_entry.proofs.BelowLemmas.{some_below-none, some_below-some, some_below-same, some_below-between, least_below-out, least_below-tells, is_some-least_below, some_below-in}
-use Rattle.uring_entry.proofs.RequestLemmas.{is_joined-yes, is_joined-no, is_ready-yes, is_ready-no, is_joined-inside}
+use Rattle.uring_entry.proofs.RequestLemmas.{is_joined-yes, is_joined-no, is_ready-yes, is_ready-no}
 
 pub and-true : (b : Bool) → (b && true) ≡ b
 and-true true = refl

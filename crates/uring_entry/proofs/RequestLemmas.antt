@@ -1,16 +1,19 @@
 -- What the definitions on requests mean, and what each event changes in them.
-use Rattle.std.proofs.Common.{◌≡◌, ℕ, ◌<◌, ◌≤◌, min, max, ℤ, List, [], ◌∷◌, ◌++◌, length, get_or, Bool, true, false, not, ◌&&◌, ◌||◌, leb, Some, None, length-append, ◌==◌, ◌≢◌, refl, sym, ◌∙◌, ap, arith, inl, inr}
+use Rattle.std.proofs.Common.{◌≡◌, ℕ, ◌<◌, ◌≤◌, min, max, ℤ, pos, negsuc, List, [], ◌∷◌, ◌++◌, length, get_or, Bool, true, false, not, ◌&&◌, ◌||◌, leb, Some, None, length-append, ◌==◌, ◌≢◌, refl, sym, ◌∙◌, ap, arith, inl, inr}
 use Rattle.std.specs.List.{list_any}
+use Rattle.std.specs.Ordering.{int_eq}
+use Rattle.std.specs.Prelude.{int_le, if◌then◌else◌}
 use Rattle.std.proofs.Math.ListN.{get_or-append}
 use Rattle.std.proofs.Math.Seq.{get_or-append_seam}
 use Rattle.std.proofs.lemmas.List.{get_or_past}
 use Rattle.std.proofs.lemmas.List.Folds.{list_any-append}
-use Rattle.std.proofs.lemmas.Bool.{cases_lt, cases_eq, cases_Bool, and_left, and_right, and_from, and_cases, or_parts, or_from, or_left, or_right, both_ways, le-leb, lt-leb, lt-ltb, eq-eqb, ne_eqb, not-false}
-use Rattle.uring_entry.specs.Layout.{Sqe, zero_entry}
+use Rattle.std.proofs.lemmas.Bool.{cases_lt, cases_eq, cases_Bool, and_left, and_right, and_from, and_cases, or_parts, or_from, or_left, or_right, both_ways, le-leb, lt-leb, lt-ltb, eq-eqb, eqb-true, ne_eqb, not-false}
+use Rattle.uring_entry.specs.Layout.{Sqe, zero_entry, opcode_of, len_of}
+use Rattle.uring_entry.specs.declared.opcode.TheConstants.{READ, WRITE}
 use Rattle.uring_entry.specs.Success.{is_success}
-use Rattle.uring_entry.specs.Requests.{Requests, entry_of, has_started, has_ended, has_failed, is_running, is_outstanding, is_last, is_joined, is_in_group, some_member, is_in_faulty_group, is_behind_failure, is_cancelled, is_doomed, is_ready, holds_back, is_issuable, is_candidate, target_of, least_of, with_accepted, with_started, with_ended}
-use Rattle.uring_entry.specs.Preparation.{is_faulty}
-use Rattle.uring_entry.proofs.BelowLemmas.{some_below-none, some_below-some, least_below-none, least_below-some, least_below-tells, IsLeast}
+use Rattle.uring_entry.specs.Requests.{Requests, entry_of, has_started, has_ended, has_failed, is_running, is_outstanding, is_last, is_joined, is_in_group, some_member, is_in_faulty_group, is_behind_failure, is_cancelled, is_doomed, is_ready, holds_back, is_issuable, is_candidate, target_of, is_target, targets_of, least_of, with_accepted, with_started, with_ended}
+use Rattle.uring_entry.specs.Preparation.{is_faulty, is_cancel, is_cancel_all, is_transfer}
+use Rattle.uring_entry.proofs.BelowLemmas.{some_below-none, some_below-some, least_below-none, least_below-some, least_below-tells, IsLeast, all_below-in, all_below-there}
 
 -- Groups.
 
@@ -99,6 +102,32 @@ pub target_of-some : (r : Requests) (n m : ℕ) → m < length r.accepted → is
     → ((k : ℕ) → k < m → is_candidate r n k ≡ false) → target_of r n ≡ Some m
 unfolding target_of
 target_of-some r n m lt e before = least_below-some (is_candidate r n) (length r.accepted) m lt e before
+
+pub target-in : (r : Requests) (n m : ℕ) → list_any (λ k. k == m) (targets_of r n) ≡ true → is_target r n m ≡ true
+unfolding targets_of
+target-in r n m e = (all_below-in (is_target r n) (length r.accepted) m e).1
+
+pub target-there : (r : Requests) (n m : ℕ) → m < length r.accepted → is_target r n m ≡ true → list_any (λ k. k == m) (targets_of r n) ≡ true
+unfolding targets_of
+target-there r n m lt e = all_below-there (is_target r n) (length r.accepted) m lt e
+
+-- When a cancel succeeded.
+
+pub one_success : (e : Sqe) (res : ℤ) → is_cancel e ≡ true → is_cancel_all e ≡ false → is_success e res ≡ int_eq res (pos 0)
+one_success e res is one =
+    let code : opcode_of e ≡ 14 = eqb-true (opcode_of e) 14 is in
+    ap (λ b. if b then int_le (pos 0) res else int_eq res (pos (if is_transfer e then len_of e else 0))) one
+    ∙ ap (λ o. int_eq res (pos (if (o == READ) || (o == WRITE) then len_of e else 0))) code
+
+pub all_success : (e : Sqe) (res : ℤ) → is_cancel_all e ≡ true → is_success e res ≡ int_le (pos 0) res
+all_success e res all = ap (λ b. if b then int_le (pos 0) res else int_eq res (pos (if is_transfer e then len_of e else 0))) all
+
+-- nothing succeeds with the negative of a number
+pub never_success : (e : Sqe) (below : ℕ) → is_success e (negsuc below) ≡ false
+never_success e below = by_all (is_cancel_all e) where
+  by_all : (all : Bool) → (if all then int_le (pos 0) (negsuc below) else int_eq (negsuc below) (pos (if is_transfer e then len_of e else 0))) ≡ false
+  by_all true = refl
+  by_all false = refl
 
 -- what is before the least outstanding request has ended
 ended-before : (r : Requests) (n m : ℕ) → IsLeast (is_outstanding r) (length r.accepted) n → m < n → has_ended r m ≡ true

@@ -1,5 +1,5 @@
 -- Searches and counts among the numbers below a bound.
-use Rattle.std.specs.Prelude.{ℕ, zero, suc, ◌+◌, Bool, false, ◌||◌, Option, Some, None, if◌then◌else◌}
+use Rattle.std.specs.Prelude.{ℕ, zero, suc, ◌+◌, Bool, false, ◌||◌, List, [], ◌∷◌, ◌++◌, Option, Some, None, if◌then◌else◌}
 
 -- whether p holds of some number below n
 abbrev pub some_below : (ℕ → Bool) → ℕ → Bool
@@ -20,3 +20,8 @@ least_below p (suc n) = found_or (least_below p n) (p n) n
 abbrev pub count_below : (ℕ → Bool) → ℕ → ℕ
 count_below p zero = 0
 count_below p (suc n) = count_below p n + (if p n then 1 else 0)
+
+-- the numbers below n of which p holds, in order
+abbrev pub all_below : (ℕ → Bool) → ℕ → List ℕ
+all_below p zero = []
+all_below p (suc n) = all_below p n ++ (if p n then n ∷ [] else [])

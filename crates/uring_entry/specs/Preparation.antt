@@ -7,7 +7,7 @@ use Rattle.uring_entry.specs.declared.fault.Fault.{Fault}
 use Rattle.uring_entry.specs.declared.fault.Fault.TheVariants.{Flags, Opcode, Ioprio, OpFlags, Reserved, Len, Off}
 use Rattle.uring_entry.specs.declared.operation.Op.{Op}
 use Rattle.uring_entry.specs.declared.operation.Op.TheVariants.{Nop, Read, Write, Fsync, Cancel}
-use Rattle.uring_entry.specs.declared.opcode.TheConstants.{NOP, FSYNC, ASYNC_CANCEL, READ, WRITE}
+use Rattle.uring_entry.specs.declared.opcode.TheConstants.{NOP, FSYNC, ASYNC_CANCEL, READ, WRITE, ASYNC_CANCEL_ALL}
 
 -- the operations that are served, with the numbers of <linux/io_uring.h>. io_uring_enter(2), IORING_OP_NOP, FSYNC, ASYNC_CANCEL, READ and WRITE; which are served is our own rule
 abbrev pub served : List ℕ
@@ -29,12 +29,16 @@ is_transfer e = is_read e || is_write e
 abbrev pub is_cancel : Sqe → Bool
 is_cancel e = opcode_of e == ASYNC_CANCEL
 
+-- whether the entry cancels all that it names, by the one flag of an operation that is served. io_uring_prep_cancel(3), IORING_ASYNC_CANCEL_ALL
+abbrev pub is_cancel_all : Sqe → Bool
+is_cancel_all e = is_cancel e && (operation_flags_of e == ASYNC_CANCEL_ALL)
+
 -- Whether the entry has this fault. io_uring_enter(2), CQE ERRORS, EINVAL, for invalid flags and operations; which they are, and the other faults, are our own rule
 abbrev pub has_fault_of : Sqe → Fault → Bool
 has_fault_of e Flags = has_some_of refused e
 has_fault_of e Opcode = not (is_served (opcode_of e))
 has_fault_of e Ioprio = not (ioprio_of e == 0)
-has_fault_of e OpFlags = not (operation_flags_of e == 0)
+has_fault_of e OpFlags = not ((operation_flags_of e == 0) || is_cancel_all e)
 has_fault_of e Reserved = list_any (λ word. not (word == 0)) (reserved_of e)
 has_fault_of e Len = nat_lt 64 (len_of e)
 has_fault_of e Off = is_transfer e && (off_of e == 2 ^ 64 - 1)
@@ -56,6 +60,6 @@ abbrev pub operation_of : Sqe → Op
 operation_of e =
     if opcode_of e == NOP then Nop else
     if opcode_of e == FSYNC then Fsync (fd_of e) else
-    if opcode_of e == ASYNC_CANCEL then Cancel (addr_of e) else
+    if opcode_of e == ASYNC_CANCEL then Cancel (addr_of e) (is_cancel_all e) else
     if opcode_of e == READ then Read (fd_of e) (off_of e) (len_of e) else
     Write (fd_of e) (off_of e) (len_of e) (payload_of e)

@@ -1,15 +1,14 @@
 -- The requests that were accepted, as lists of all that ever happened to them. io_uring_enter(2), IOSQE_IO_LINK, IOSQE_IO_HARDLINK, IOSQE_IO_DRAIN and IORING_OP_ASYNC_CANCEL.
-use Rattle.std.specs.Prelude.{ℕ, ◌+◌, ℤ, pos, neg_ℤ, Bool, not, ◌&&◌, ◌||◌, ◌==◌, nat_lt, nat_le, min, max, List, [], ◌∷◌, ◌++◌, length, replicate, slice_index_or, Option, Some, None, if◌then◌else◌}
+use Rattle.std.specs.Prelude.{ℕ, ◌+◌, ℤ, pos, neg_ℤ, ◌-◌, ◌^◌, Bool, not, ◌&&◌, ◌||◌, ◌==◌, nat_lt, nat_le, min, max, List, [], ◌∷◌, ◌++◌, length, replicate, slice_index_or, Option, Some, None, if◌then◌else◌}
 use Rattle.std.specs.List.{list_any}
 use Rattle.std.specs.Option.{option_to_list}
-use Rattle.std.specs.Ordering.{int_eq}
 use Rattle.uring_entry.specs.declared.errno.TheConstants.{ENOENT, EINVAL, EALREADY, ECANCELED}
 use Rattle.uring_entry.specs.declared.operation.Op.{Op}
 use Rattle.uring_entry.specs.Flags.{io_drain, io_link, io_hardlink}
 use Rattle.uring_entry.specs.Layout.{Sqe, zero_entry, has, addr_of, user_data_of}
-use Rattle.uring_entry.specs.Preparation.{is_faulty, is_cancel, operation_of}
+use Rattle.uring_entry.specs.Preparation.{is_faulty, is_cancel, is_cancel_all, operation_of}
 use Rattle.uring_entry.specs.Success.{is_success}
-use Rattle.uring_entry.specs.Below.{some_below, least_below, count_below}
+use Rattle.uring_entry.specs.Below.{some_below, least_below, all_below, count_below}
 
 -- How a request ended: its number, the result, and the bytes that its completion carries.
 pub record Ending : Type 0 where
@@ -157,9 +156,25 @@ abbrev pub result_for : Requests → Option ℕ → ℤ
 result_for r None = neg_ℤ ENOENT
 result_for r (Some m) = if is_running r m then neg_ℤ EALREADY else pos 0
 
+-- whether the cancel n of all has m as a target: what a cancel may choose, if it isn't running. Our own rule
+abbrev pub is_target : Requests → ℕ → ℕ → Bool
+is_target r n m = is_candidate r n m && not (is_running r m)
+
+-- the targets of the cancel n of all, in order
+unfoldable pub targets_of : Requests → ℕ → List ℕ
+targets_of r n = all_below (is_target r n) (length r.accepted)
+
+-- what a cancel of all with so many targets ends with: their number, and no more than a result can tell. io_uring_prep_cancel(3), IORING_ASYNC_CANCEL_ALL; that it can be 0, and the limit, are our own rule
+abbrev pub count_result : ℕ → ℤ
+count_result count = pos (min count (2 ^ 31 - 1))
+
 -- what the cancel n ends with
 abbrev pub cancel_result : Requests → ℕ → ℤ
-cancel_result r n = result_for r (target_of r n)
+cancel_result r n = if is_cancel_all (entry_of r n) then count_result (length (targets_of r n)) else result_for r (target_of r n)
+
+-- whom the cancel n chooses: each of its targets if it is one of all, and else one at most
+abbrev pub choices_of : Requests → ℕ → List ℕ
+choices_of r n = if is_cancel_all (entry_of r n) then targets_of r n else option_to_list (target_of r n)
 
 -- What is told of them.
 
@@ -204,10 +219,14 @@ with_ended r n res bytes = record r { ended = r.ended ++ record { number = n; re
 abbrev pub no_bytes : List ℕ
 no_bytes = replicate 64 0
 
--- who is doomed by the end of n with this result: what a cancel chose that ended with 0. Our own rule, also for one that waits in a chain or for a drain
-abbrev pub chosen_by : Requests → ℕ → ℤ → List ℕ
-chosen_by r n res = if is_cancel (entry_of r n) && int_eq res (pos 0) then option_to_list (target_of r n) else []
+-- cancels chose these too
+abbrev pub with_cancelled : Requests → List ℕ → Requests
+with_cancelled r chosen = record r { cancelled = r.cancelled ++ chosen }
 
--- a request ends as it is issued, and a cancel that ended with 0 dooms what it chose
+-- who is doomed by the end of n with this result: whom a cancel chose that succeeded. Our own rule, also for one that waits in a chain or for a drain
+abbrev pub chosen_by : Requests → ℕ → ℤ → List ℕ
+chosen_by r n res = if is_cancel (entry_of r n) && is_success (entry_of r n) res then choices_of r n else []
+
+-- a request ends as it is issued, and a cancel that succeeded dooms whom it chose
 abbrev pub with_issued_end : Requests → ℕ → ℤ → Requests
-with_issued_end r n res = record (with_ended r n res no_bytes) { cancelled = r.cancelled ++ chosen_by r n res }
+with_issued_end r n res = with_ended (with_cancelled r (chosen_by r n res)) n res no_bytes

@@ -1,13 +1,14 @@
 -- The sizes that a set-up fixes.
-use Rattle.std.specs.Prelude.{◌≡◌, ℕ, ◌*◌, ◌^◌, ◌<◌, ◌≤◌, ◌⊎◌, Option, Some, None, unwrap_or}
+use Rattle.std.specs.Prelude.{◌≡◌, ℕ, ◌*◌, ◌^◌, ◌<◌, ◌≤◌, ◌⊎◌, Bool, false, Option, Some, None, unwrap_or}
 use Rattle.std.specs.Int.{IsPowerOfTwo, IsNextPowerOfTwo}
 
--- A pair of rings and its files: the entries of the submission ring and of the completion ring, the number of files, and the index word at which both rings begin. io_uring_setup(2), sq_entries and cq_entries; the files and the word are our own rule
+-- A pair of rings and its files: the entries of the submission ring and of the completion ring, the number of files, the index word at which both rings begin, and whether a call stops behind an entry with a fault. io_uring_setup(2), sq_entries, cq_entries and IORING_SETUP_SUBMIT_ALL, without which calls stop; the files and the word are our own rule
 pub record Setup : Type 0 where
   pub sq : ℕ
   pub cq : ℕ
   pub files : ℕ
   pub start : ℕ
+  pub stops : Bool
 
 -- The limits that every set-up keeps. io_uring_setup(2), IORING_SETUP_CQSIZE, for the powers of two, our own rule for the limits
 pub record IsWithinLimits (s : Setup) : Type 0 where
@@ -20,7 +21,7 @@ pub record IsWithinLimits (s : Setup) : Type 0 where
   pub files_limit : s.files ≤ 64
   pub word : s.start < 2 ^ 32
 
--- What is asked for leads to s: at least one entry is asked for each ring, and sizes are rounded up to powers of two; a completion ring that isn't asked for has twice the submission ring's size. io_uring_setup(2), DESCRIPTION and IORING_SETUP_CQSIZE; the doubling is the kernel's, of which the pages don't tell
+-- What is asked for leads to s: at least one entry is asked for each ring, and sizes are rounded up to powers of two; a completion ring that isn't asked for has twice the submission ring's size. io_uring_setup(2), DESCRIPTION and IORING_SETUP_CQSIZE; the doubling is the kernel's, of which the pages don't tell. No call stops unless that is asked for besides: our own rule
 pub record IsSetupFor (sq : ℕ) (cq : Option ℕ) (files start : ℕ) (s : Setup) : Type 0 where
   pub sq_asked : 1 ≤ sq
   pub sq_rounded : IsNextPowerOfTwo sq s.sq
@@ -28,6 +29,7 @@ pub record IsSetupFor (sq : ℕ) (cq : Option ℕ) (files start : ℕ) (s : Setu
   pub cq_rounded : IsNextPowerOfTwo (unwrap_or cq (2 * s.sq)) s.cq
   pub files_kept : s.files ≡ files
   pub start_kept : s.start ≡ start
+  pub goes_on : s.stops ≡ false
   pub limits : IsWithinLimits s
 
 -- n doesn't lie from low to high

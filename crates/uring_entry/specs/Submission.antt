@@ -1,14 +1,17 @@
 -- The submission ring as lists of all that ever happened to it. io_uring(7), Submitting I/O requests; what is refused, and that a call goes on after a word that names no slot, is our own rule.
-use Rattle.std.specs.Prelude.{ℕ, ◌+◌, ◌-◌, ◌%◌, ◌^◌, Bool, ◌==◌, nat_lt, List, [], ◌∷◌, ◌++◌, length, take, drop, map, sum, count_by, Option, Some, None, is_none, if◌then◌else◌, min}
+use Rattle.std.specs.Prelude.{ℕ, ◌+◌, ◌-◌, ◌%◌, ◌^◌, Bool, ◌&&◌, ◌==◌, nat_lt, List, [], ◌∷◌, ◌++◌, length, take, drop, map, sum, count_by, Option, Some, None, is_none, if◌then◌else◌, min}
 use Rattle.std.specs.List.{list_any, filter_map}
+use Rattle.std.specs.Option.{option_map}
+use Rattle.uring_entry.specs.Setup.{Setup}
 use Rattle.uring_entry.specs.Layout.{Sqe, zero_entry}
+use Rattle.uring_entry.specs.Preparation.{is_faulty}
 
 -- A published position: the word of the index array, and the entry of the slot that the word names, as it was when the position was published: our own rule. A word that names no slot has none.
 pub record Place : Type 0 where
   pub word : ℕ
   pub entry : Option Sqe
 
--- A submission call: how many positions it takes, and how many of them were taken.
+-- A submission call: how many positions it takes, and how many of them were taken. A call that stops takes no more than it has.
 pub record Call : Type 0 where
   pub count : ℕ
   pub taken : ℕ
@@ -83,6 +86,10 @@ is_full size l = staged l - l.seen_head == size
 abbrev pub call_length : Submission → ℕ → ℕ
 call_length l n = min n (pending l)
 
+-- whether a call that takes this entry stops behind it: calls of the ring stop, and the entry has a fault. io_uring_setup(2), IORING_SETUP_SUBMIT_ALL; that an entry with a link flag is no exception is our own rule
+abbrev pub stops_at : Setup → Sqe → Bool
+stops_at g e = g.stops && is_faulty e
+
 -- what each event makes of it
 
 -- an entry is written to a slot
@@ -112,6 +119,14 @@ with_begun l n = record l { call = Some (record { count = call_length l n; taken
 -- the open call takes its next position
 abbrev pub with_taken : Submission → Call → Submission
 with_taken l call = record l { call = Some (record call { taken = call.taken + 1 }) }
+
+-- a call, which takes no further position if it stops
+abbrev pub stopped : Bool → Call → Call
+stopped stops call = record call { count = if stops then call.taken else call.count }
+
+-- the open call stops, if this holds, and leaves the rest of its positions to later calls. io_uring_setup(2), IORING_SETUP_SUBMIT_ALL
+abbrev pub with_stopped : Bool → Submission → Submission
+with_stopped stops l = record l { call = option_map (stopped stops) l.call }
 
 -- the open call closes, with all its positions taken
 abbrev pub with_closed : Submission → Call → Submission

@@ -18,7 +18,7 @@ pub enum Fault {
     /// The priority isn't zero.
     Ioprio,
 
-    /// The operation's own flags aren't zero.
+    /// The operation's own flags aren't zero, nor those of a cancel of all.
     OpFlags,
 
     /// One of the bytes 40 to 63 isn't zero.

@@ -28,9 +28,10 @@ pub enum Op {
         fd: i32,
     },
 
-    /// The end of the request with this user data.
+    /// The end of a request with this user data, or of all that aren't running.
     Cancel {
         target: u64,
+        all: bool,
     },
 }
 

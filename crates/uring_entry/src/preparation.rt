@@ -33,7 +33,7 @@ fn first_fault(entry: &Sqe) -> Option<Fault>
         Some(Fault::Opcode)
     } else if entry.ioprio() != 0 {
         Some(Fault::Ioprio)
-    } else if entry.operation_flags() != 0 {
+    } else if entry.operation_flags() != 0 && !entry.is_cancel_all() {
         Some(Fault::OpFlags)
     } else if entry.has_reserved_bits() {
         Some(Fault::Reserved)
@@ -73,6 +73,7 @@ fn operation(entry: &Sqe) -> Op
         opcode::FSYNC => Op::Fsync { fd: entry.fd() },
         opcode::ASYNC_CANCEL => Op::Cancel {
             target: entry.addr(),
+            all: entry.is_cancel_all(),
         },
         opcode::READ => Op::Read {
             fd: entry.fd(),

@@ -1,17 +1,18 @@
-ghost use Rattle.std.specs.Prelude.{◌≡◌, ◌↔◌, ◌≤◌, ◌*◌, ℕ, IfOk, IsErrOf, IsNone, IfSome, unwrap_or};
+ghost use Rattle.std.specs.Prelude.{◌≡◌, ◌↔◌, ◌≤◌, ◌*◌, ℕ, true, IfOk, IsErrOf, IsNone, IfSome, unwrap_or};
 ghost use Rattle.std.specs.Int.{IsPowerOfTwo, IsNextPowerOfTwo};
 ghost use Rattle.uring_entry.specs.Setup.{IsBadCq};
 
 use crate::bad_setup::BadSetup;
 use std::marker::Model;
 
-/// The sizes of a pair of rings, the number of its files, and the word at which both rings begin. io_uring_setup(2); the files and the word are our own rule.
+/// The sizes of a pair of rings, the number of its files, the word at which both rings begin, and whether a submission call stops behind an entry with a fault. io_uring_setup(2); the files and the word are our own rule.
 #[derive(Clone, Copy, Debug, PartialEq, Eq)]
 pub struct Setup {
     sq: u32,
     cq: u32,
     files: u32,
     start: u32,
+    stops: bool,
 }
 
 impl Model for Setup {
@@ -19,11 +20,11 @@ impl Model for Setup {
 
     ghost Value = { Setup };
 
-    ghost view = { λ s. record { sq = s.sq; cq = s.cq; files = s.files; start = s.start } };
+    ghost view = { λ s. record { sq = s.sq; cq = s.cq; files = s.files; start = s.start; stops = s.stops } };
 
-    ghost invariant = { λ s. IsWithinLimits (record { sq = s.sq; cq = s.cq; files = s.files; start = s.start }) };
+    ghost invariant = { λ s. IsWithinLimits (record { sq = s.sq; cq = s.cq; files = s.files; start = s.start; stops = s.stops }) };
 
-    ghost inverse = { λ s. record { sq = s.sq; cq = s.cq; files = s.files; start = s.start } };
+    ghost inverse = { λ s. record { sq = s.sq; cq = s.cq; files = s.files; start = s.start; stops = s.stops } };
 }
 
 impl Setup {
@@ -39,6 +40,8 @@ impl Setup {
     pub const MAX_FILES: u32 = 64;
 
     /// A set-up with a submission ring of `sq` entries (1 to 4,096) and a completion ring of `cq` entries (1 to 8,192), or of twice the submission ring's, each rounded up to a power of two; `files` files (1 to 64); and rings that begin at the index word `start`.
+    ///
+    /// A submission call goes on behind an entry with a fault: `stopping` asks for the other.
     ///
     /// `BadSq`, `BadCq` and `BadFiles` come in that order, each if its limit is broken; `BadCq` also if the completion ring is smaller after rounding than the submission ring. Sizes are rounded as in io_uring_setup(2), IORING_SETUP_CQSIZE; the limits are our own rule, and so is that a completion ring of the submission ring's size is taken.
     pub fn new(sq: u32, cq: Option<u32>, files: u32, start: u32) -> Result<Setup, BadSetup>
@@ -62,7 +65,18 @@ impl Setup {
             cq,
             files,
             start,
+            stops: false,
         })
+    }
+
+    /// The same set-up for a ring that stops: a submission call ends behind the first entry with a fault that it takes, whether or not that entry has a link flag, and later calls take what it leaves. io_uring_setup(2), IORING_SETUP_SUBMIT_ALL: a ring without that flag; that an entry with a link flag is no exception is our own rule.
+    pub fn stopping(self) -> Setup
+        ensures { result ≡ record self { stops = true } }
+    {
+        Setup {
+            stops: true,
+            ..self
+        }
     }
 
     /// The entries of the submission ring: a power of two from 1 to 4,096.
@@ -95,6 +109,14 @@ impl Setup {
         ensures limits { IsWithinLimits self }
     {
         self.start
+    }
+
+    /// Whether a submission call ends behind an entry with a fault: not unless `stopping` asked for it.
+    pub fn stops(self) -> bool
+        ensures value { result ≡ self.stops }
+        ensures limits { IsWithinLimits self }
+    {
+        self.stops
     }
 }
 

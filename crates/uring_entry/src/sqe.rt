@@ -4,7 +4,8 @@ ghost use Rattle.std.specs.List.{list_any};
 ghost use Rattle.uring_entry.specs.Layout.{opcode_of, flags_of, ioprio_of, fd_of, off_of, addr_of, len_of, operation_flags_of, user_data_of, reserved_of, payload_of, header, without_data, HasData};
 ghost use Rattle.uring_entry.specs.Layout as layout;
 ghost use Rattle.uring_entry.specs.Requests as spec;
-ghost use Rattle.uring_entry.specs.declared.opcode.TheConstants.{NOP, FSYNC, ASYNC_CANCEL, READ, WRITE};
+ghost use Rattle.uring_entry.specs.Preparation as preparation;
+ghost use Rattle.uring_entry.specs.declared.opcode.TheConstants.{NOP, FSYNC, ASYNC_CANCEL, READ, WRITE, ASYNC_CANCEL_ALL};
 
 use crate::flags::SqeFlags;
 use crate::opcode;
@@ -133,6 +134,13 @@ impl Sqe {
         (self.words[3] >> 32) as u32
     }
 
+    /// Whether the entry cancels all that it names: io_uring_prep_cancel(3), IORING_ASYNC_CANCEL_ALL.
+    pub fn is_cancel_all(&self) -> bool
+        ensures { result ≡ preparation.is_cancel_all self.now }
+    {
+        self.opcode() == opcode::ASYNC_CANCEL && self.operation_flags() == opcode::ASYNC_CANCEL_ALL
+    }
+
     /// What the completion repeats unchanged: bytes 32 to 39.
     pub fn user_data(&self) -> u64
         ensures { result ≡ user_data_of self.now }
@@ -197,6 +205,15 @@ impl Sqe {
     {
         let first = word_zero(opcode::ASYNC_CANCEL, flags, 0);
         from_header([first, 0, target, 0, user_data, 0, 0, 0])
+    }
+
+    /// A cancel of all requests with the user data `target` that aren't running. io_uring_prep_cancel(3), IORING_ASYNC_CANCEL_ALL; that those that run go on is our own rule.
+    pub fn cancel_all(user_data: u64, flags: u8, target: u64) -> Sqe
+        ensures { result ≡ without_data (header ASYNC_CANCEL flags (pos 0) 0 target (2 ^ 32 * ASYNC_CANCEL_ALL) user_data) }
+    {
+        let first = word_zero(opcode::ASYNC_CANCEL, flags, 0);
+        let operation_flags = u64::from(opcode::ASYNC_CANCEL_ALL) << 32;
+        from_header([first, 0, target, operation_flags, user_data, 0, 0, 0])
     }
 
     /// An entry of any operation, served or not, every other field zero.

@@ -6,10 +6,13 @@ use crate::flags::SqeFlags;
 use crate::opcode;
 use crate::sqe::Sqe;
 
-/// Whether a request of this entry that ended with `res` succeeded: a read or a write if it moved all `len` bytes, anything else if it gave 0. A short read or write didn't succeed, io_uring_enter(2), IOSQE_IO_LINK.
+/// Whether a request of this entry that ended with `res` succeeded: a read or a write if it moved all `len` bytes, a cancel of all if it gave 0 or more, anything else if it gave 0. A short read or write didn't succeed, io_uring_enter(2), IOSQE_IO_LINK; that of a cancel of all is our own rule.
 pub fn succeeded(entry: &Sqe, res: i32) -> bool
     ensures { result ≡ is_success entry.now res }
 {
+    if entry.is_cancel_all() {
+        return res >= 0;
+    }
     let code = entry.opcode();
     let wanted = if code == opcode::READ || code == opcode::WRITE {
         entry.len()

@@ -68,14 +68,14 @@ others_stay files Nop res fd other = refl
 others_stay files (Read own off len) res fd other = refl
 others_stay files (Write own off len bytes) res fd other = chosen_other (int_eq res (pos len)) files own fd (written off (take len bytes)) other
 others_stay files (Fsync own) res fd other = chosen_other (int_eq res (pos 0)) files own fd with_writes_synced other
-others_stay files (Cancel target) res fd other = refl
+others_stay files (Cancel target all) res fd other = refl
 
 pub files_apart : FilesStandAlone
 files_apart files others Nop res fd same = same
 files_apart files others (Read own off len) res fd same = same
 files_apart files others (Write own off len bytes) res fd same = chosen_apart (int_eq res (pos len)) files others own fd (written off (take len bytes)) same
 files_apart files others (Fsync own) res fd same = chosen_apart (int_eq res (pos 0)) files others own fd with_writes_synced same
-files_apart files others (Cancel target) res fd same = same
+files_apart files others (Cancel target all) res fd same = same
 
 itself : (fd : ℤ) → int_eq fd fd ≡ true
 itself fd = (Decides-int_eq fd fd).1 refl
@@ -86,4 +86,4 @@ ends_apart files others (Read fd off len) agree = (ap (λ file. on_file file (re
 ends_apart files others (Write fd off len bytes) agree =
     (ap (λ file. on_file file (λ f. ended_with (cond (is_too_long off len) (neg_ℤ EFBIG) (pos len)))) (agree fd (itself fd)), ap (λ file. option_map_or (λ f. not (is_too_long off len) && is_past_end off len f) file false) (agree fd (itself fd)))
 ends_apart files others (Fsync fd) agree = (ap (λ file. on_file file (λ f. ended_with (pos 0))) (agree fd (itself fd)), refl)
-ends_apart files others (Cancel target) agree = (refl, refl)
+ends_apart files others (Cancel target all) agree = (refl, refl)

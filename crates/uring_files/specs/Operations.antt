@@ -26,7 +26,7 @@ IsForFiles Nop = Unit {0}
 IsForFiles (Read fd off len) = len ≤ 64
 IsForFiles (Write fd off len bytes) = len ≤ 64
 IsForFiles (Fsync fd) = Unit {0}
-IsForFiles (Cancel target) = ⊥
+IsForFiles (Cancel target all) = ⊥
 
 -- an end with this result and no bytes
 abbrev pub ended_with : ℤ → Outcome

@@ -1,4 +1,4 @@
-ghost use Rattle.std.specs.Prelude.{◌≡◌, ◌≤◌, ◌↔◌, length, IsTrue, OnOk, OnErr, IsErrOf, slice_get, pos};
+ghost use Rattle.std.specs.Prelude.{◌≡◌, ◌≤◌, ◌↔◌, length, IsTrue, OnOk, OnErr, IsErrOf, slice_get, pos, not, ◌&&◌};
 ghost use Rattle.uring_entry.specs.Layout.{padded};
 ghost use Rattle.uring_files.specs.Contents.{empty_file, max_len, read_outcome, is_too_long, is_past_end, written, with_writes_synced};
 
@@ -81,6 +81,18 @@ impl File {
         ensures { result ≡ slice_get self.now.bytes at }
     {
         self.bytes.get(at as usize).copied()
+    }
+
+    /// Whether a write of `len` bytes at `off` makes the file longer, within the largest size.
+    pub(crate) fn is_lengthened(&self, off: u64, len: u32) -> bool
+        ensures { result ≡ (not (is_too_long off len) && is_past_end off len self.now) }
+    {
+        match off.checked_add(u64::from(len)) {
+            Some(end) => {
+                len != 0 && end <= u64::from(File::MAX_LEN) && end > self.bytes.len() as u64
+            }
+            None => false,
+        }
     }
 
     /// Reads at most `len` bytes from `off` on.

@@ -25,7 +25,7 @@ impl Files {
     ghost use Rattle.std.specs.Prelude.{◌≤◌, pos, ◌<◌, length, IfNone, None};
     ghost use Rattle.std.specs.Option.{option_copied};
     ghost use Rattle.uring_files.specs.Contents.{empty_file, max_len};
-    ghost use Rattle.uring_files.specs.Operations.{IsForFiles, IsOutcome, result_of, after, file_of, state_of, byte_of};
+    ghost use Rattle.uring_files.specs.Operations.{IsForFiles, IsOutcome, is_lengthening, result_of, after, file_of, state_of, byte_of};
 
     /// As many files as `count`, each of no bytes. The only error is that memory for them was refused; no files take none.
     pub fn new(alloc: Global, count: u32) -> Result<Files, AllocError>
@@ -64,6 +64,19 @@ impl Files {
             } => ended_with(self.write(*fd, *off, *len, bytes)),
             Op::Fsync { fd } => ended_with(self.sync(*fd)),
             Op::Cancel { .. } => unreachable!(),
+        }
+    }
+
+    /// Whether an operation is a write that makes its file longer, within the largest size. Such a one alone asks `apply` for memory, and may end with -12 (ENOMEM) in place of its success.
+    pub fn lengthens(&self, op: &Op) -> bool
+        ensures { result ≡ is_lengthening self.now op.now }
+    {
+        match op {
+            Op::Write { fd, off, len, .. } => match self.file(*fd) {
+                Some(file) => file.is_lengthened(*off, *len),
+                None => false,
+            },
+            _ => false,
         }
     }
 

@@ -1,15 +1,16 @@
 -- Whom cancels chose, read off a history.
-use Rattle.std.proofs.Common.{◌≡◌, ℕ, ◌==◌, ℤ, pos, Bool, true, false, ◌&&◌, List, [], ◌∷◌, ◌++◌, Option, Some, None, cond, refl, sym, subst, ap, ◌∙◌, ◌⊎◌, inl, inr}
+use Rattle.std.proofs.Common.{◌≡◌, ℕ, ◌==◌, ℤ, pos, negsuc, Bool, true, false, ◌&&◌, List, [], ◌∷◌, ◌++◌, Option, Some, None, cond, refl, sym, subst, ap, ◌∙◌, ◌⊎◌, inl, inr, arith}
 use Rattle.std.specs.List.{list_any}
 use Rattle.std.specs.Option.{option_to_list}
-use Rattle.std.specs.Ordering.{int_eq}
-use Rattle.std.proofs.lemmas.Bool.{and_parts, or_cases, or_left, or_right, both_ways, eqb-true, eq-eqb}
+use Rattle.std.specs.Prelude.{int_le}
+use Rattle.std.proofs.lemmas.Bool.{and_parts, or_cases, or_left, or_right, both_ways, eqb-true, eq-eqb, le-leb}
 use Rattle.std.proofs.lemmas.Bool.Decides.{Decides-int_eq}
 use Rattle.std.proofs.lemmas.List.Folds.{list_any-append}
 use Rattle.uring_entry.specs.Setup.{Setup}
-use Rattle.uring_entry.specs.Preparation.{is_cancel}
-use Rattle.uring_entry.specs.Requests.{Requests, entry_of, is_cancelled, target_of, chosen_by, doomed_result, cancel_result, no_bytes, with_issued_end}
-use Rattle.uring_machine.specs.HistoryLists.{IsChosenIn}
+use Rattle.uring_entry.specs.Preparation.{is_cancel, is_cancel_all}
+use Rattle.uring_entry.specs.Success.{is_success}
+use Rattle.uring_entry.specs.Requests.{Requests, entry_of, is_cancelled, target_of, targets_of, choices_of, chosen_by, doomed_result, cancel_result, no_bytes, with_issued_end}
+use Rattle.uring_machine.specs.HistoryLists.{Chose, IsChosenIn}
 use Rattle.uring_machine.specs.World.{World}
 use Rattle.uring_machine.specs.Histories.{Event, History, world, IsLawfulApart}
 use Rattle.uring_machine.specs.declared.step.Step.{Step}
@@ -18,65 +19,69 @@ use Rattle.uring_machine.specs.declared.answer.Answer.{Answer}
 use Rattle.uring_machine.specs.declared.answer.Answer.TheVariants as answer
 use Rattle.uring_machine.proofs.Changes.{change_of}
 use Rattle.uring_machine.proofs.Moves.{Move, ends_doomed, ends_cancel, move_of}
-use Rattle.uring_machine.proofs.RequestEnds.{doomed_unlike_zero}
+use Rattle.uring_machine.proofs.RequestEnds.{doomed_fails}
+use Rattle.uring_machine.proofs.SoundRequests.{outstanding_tells}
+use Rattle.uring_entry.proofs.RequestLemmas.{one_success, all_success, target-in, target-there}
 use Rattle.uring_machine.proofs.Growth.{event_grows}
 
 any_both : {X : Type 0} (p : X → Bool) (xs ys : List X) → list_any p (xs ++ ys) ≡ true → (list_any p xs ≡ true) ⊎ (list_any p ys ≡ true)
 any_both p xs ys e = or_cases _ _ (sym (list_any-append p xs ys) ∙ e)
 
--- the end of n was that of a cancel with the result 0, which chose m
-record ChoseNow (r : Requests) (n m : ℕ) : Type 0 where
-  cancel : is_cancel (entry_of r n) ≡ true
-  result : cancel_result r n ≡ pos 0
-  target : target_of r n ≡ Some m
-
--- what is chosen with a result
-record Chose (r : Requests) (n : ℕ) (res : ℤ) (m : ℕ) : Type 0 where
-  cancel : is_cancel (entry_of r n) ≡ true
-  at_zero : int_eq res (pos 0) ≡ true
-  target : target_of r n ≡ Some m
-
 only_one : (target : Option ℕ) (m : ℕ) → list_any (λ k. k == m) (option_to_list target) ≡ true → target ≡ Some m
 only_one None m e = absurd (let f : false ≡ true = e in cc)
 only_one (Some t) m e = elim (or_cases (t == m) false e) [ inl here ↦ ap Some (eqb-true t m here) | inr none ↦ absurd (let f : false ≡ true = none in cc) ]
 
-chose : (r : Requests) (n : ℕ) (res : ℤ) (m : ℕ) → list_any (λ k. k == m) (chosen_by r n res) ≡ true → Chose r n res m
-chose r n res m e = by_test (is_cancel (entry_of r n) && int_eq res (pos 0)) refl e where
-  by_test : (chooses : Bool) → (is_cancel (entry_of r n) && int_eq res (pos 0)) ≡ chooses → list_any (λ k. k == m) (cond chooses (option_to_list (target_of r n)) []) ≡ true → Chose r n res m
+a_number : (res : ℤ) → int_le (pos 0) res ≡ true → (count : ℕ) × (res ≡ pos count)
+a_number (pos count) e = (count, refl)
+a_number (negsuc below) e = absurd (let f : false ≡ true = e in cc)
+
+-- whom a cancel chose that succeeded with this result
+chose_so : (r : Requests) (n : ℕ) (res : ℤ) (m : ℕ) → is_cancel (entry_of r n) ≡ true → is_success (entry_of r n) res ≡ true → list_any (λ k. k == m) (choices_of r n) ≡ true → Chose r n res m
+chose_so r n res m cancel success there = by_all (is_cancel_all (entry_of r n)) refl there where
+  by_all : (all : Bool) → is_cancel_all (entry_of r n) ≡ all → list_any (λ k. k == m) (cond all (targets_of r n) (option_to_list (target_of r n))) ≡ true → Chose r n res m
+  by_all true is among =
+      let number = a_number res (sym (all_success (entry_of r n) res is) ∙ success) in
+      inr (record { all = is; count = number.0; result = number.1; target = target-in r n m among })
+  by_all false is among =
+      inl
+      (record {
+        cancel = cancel;
+        one = is;
+        result = (Decides-int_eq res (pos 0)).0 (sym (one_success (entry_of r n) res cancel is) ∙ success);
+        target = only_one (target_of r n) m among;
+      })
+
+-- who is chosen with a result
+chose : (r : Requests) (n : ℕ) (res : ℤ) (m : ℕ) → list_any (λ k. k == m) (chosen_by r n res) ≡ true → (is_success (entry_of r n) res ≡ true) × Chose r n res m
+chose r n res m e = by_test (is_cancel (entry_of r n) && is_success (entry_of r n) res) refl e where
+  by_test : (chooses : Bool) → (is_cancel (entry_of r n) && is_success (entry_of r n) res) ≡ chooses → list_any (λ k. k == m) (cond chooses (choices_of r n) []) ≡ true → (is_success (entry_of r n) res ≡ true) × Chose r n res m
   by_test false is none = absurd (let f : false ≡ true = none in cc)
-  by_test true is there = let p = and_parts _ _ is in record { cancel = p.0; at_zero = p.1; target = only_one (target_of r n) m there }
-
-doomed_chooses_none : (r : Requests) (n m : ℕ) → list_any (λ k. k == m) (chosen_by r n (doomed_result r n)) ≡ true → ⊥
-doomed_chooses_none r n m e = both_ways _ (doomed_unlike_zero r n) (chose r n (doomed_result r n) m e).at_zero
-
-chosen_now : (r : Requests) (n m : ℕ) → list_any (λ k. k == m) (chosen_by r n (cancel_result r n)) ≡ true → ChoseNow r n m
-chosen_now r n m e =
-    let c = chose r n (cancel_result r n) m e in
-    record { cancel = c.cancel; result = (Decides-int_eq (cancel_result r n) (pos 0)).0 c.at_zero; target = c.target }
+  by_test true is there = let p = and_parts _ _ is in (p.1, chose_so r n res m p.0 p.1 there)
 
 -- where a request is newly chosen, the event is the end of a cancel
 record IsChoosing (w : World) (s : Step) (a : Answer) (m : ℕ) : Type 0 where
   number : ℕ
-  now : ChoseNow w.requests number m
+  res : ℤ
+  now : Chose w.requests number res m
   step_is : s ≡ step.Issue number
-  answer_is : a ≡ answer.Ended (pos 0) no_bytes
+  answer_is : a ≡ answer.Ended res no_bytes
 
 new_cancel : (w : World) (s : Step) (a : Answer) (later : Requests) → Move w.requests s a later
     → (m : ℕ) → is_cancelled later m ≡ true → (is_cancelled w.requests m ≡ true) ⊎ IsChoosing w s a m
 new_cancel w s a later (ends_doomed n outstanding) m gone =
     elim (any_both (λ k. k == m) w.requests.cancelled (chosen_by w.requests n (doomed_result w.requests n)) gone) [
       | inl old ↦ inl old
-      | inr new ↦ absurd (doomed_chooses_none w.requests n m new)
+      | inr new ↦ absurd (both_ways _ (doomed_fails w.requests n) (chose w.requests n (doomed_result w.requests n) m new).0)
     ]
 new_cancel w s a later (ends_cancel n outstanding spared ready cancel) m gone =
     elim (any_both (λ k. k == m) w.requests.cancelled (chosen_by w.requests n (cancel_result w.requests n)) gone) [
       | inl old ↦ inl old
-      | inr new ↦ inr (let c = chosen_now w.requests n m new in record { number = n; now = c; step_is = refl; answer_is = ap (λ res. answer.Ended res no_bytes) c.result })
+      | inr new ↦ inr (record { number = n; res = cancel_result w.requests n; now = (chose w.requests n (cancel_result w.requests n) m new).1; step_is = refl; answer_is = refl })
     ]
 new_cancel w s a later _ m gone = inl gone
 
 one_later : (g : Setup) (e : Event) (h : History) (m : ℕ) → IsChosenIn g h m → IsChosenIn g (e ∷ h) m
-one_later g e h m c = record { after = e ∷ c.after; before = c.before; number = c.number; bytes = c.bytes; split = ap (λ xs. e ∷ xs) c.split; cancel = c.cancel; target = c.target }
+one_later g e h m c = record { after = e ∷ c.after; before = c.before; number = c.number; res = c.res; bytes = c.bytes; split = ap (λ xs. e ∷ xs) c.split; chose = c.chose }
 
 pub chosen_in : (g : Setup) (h : History) → IsLawfulApart g h → (m : ℕ) → is_cancelled (world g h).requests m ≡ true → IsChosenIn g h m
 chosen_in g [] lawful m gone = absurd (let f : false ≡ true = gone in cc)
@@ -88,29 +93,41 @@ chosen_in g ((s, a) ∷ before) lawful m gone =
             after = [];
             before = before;
             number = new.number;
+            res = new.res;
             bytes = no_bytes;
             split = ap (λ x. (x, a) ∷ before) new.step_is ∙ ap (λ b. (step.Issue new.number, b) ∷ before) new.answer_is;
-            cancel = new.now.cancel;
-            target = new.now.target;
+            chose = new.now;
           }
     ]
 
--- the end of a cancel with the result 0 dooms what it chose
-dooms_now : (r : Requests) (n m : ℕ) → is_cancel (entry_of r n) ≡ true → target_of r n ≡ Some m → is_cancelled (with_issued_end r n (pos 0)) m ≡ true
-dooms_now r n m cancel target =
-    list_any-append (λ k. k == m) r.cancelled (chosen_by r n (pos 0))
+-- the end of a cancel dooms whom it chose
+dooms_with : (r : Requests) (n : ℕ) (res : ℤ) (m : ℕ) → is_cancel (entry_of r n) ≡ true → is_success (entry_of r n) res ≡ true → list_any (λ k. k == m) (choices_of r n) ≡ true → is_cancelled (with_issued_end r n res) m ≡ true
+dooms_with r n res m cancel success there =
+    list_any-append (λ k. k == m) r.cancelled (chosen_by r n res)
     ∙ or_right _ _
-    (ap (λ b. list_any (λ k. k == m) (cond (b && int_eq (pos 0) (pos 0)) (option_to_list (target_of r n)) [])) cancel
-    ∙ ap (λ o. list_any (λ k. k == m) (option_to_list o)) target
-    ∙ or_left (m == m) false (eq-eqb m m refl))
+    (ap (λ b. list_any (λ k. k == m) (cond (b && is_success (entry_of r n) res) (choices_of r n) [])) cancel
+    ∙ ap (λ b. list_any (λ k. k == m) (cond b (choices_of r n) [])) success
+    ∙ there)
 
-stays_chosen : (g : Setup) (after before : History) (n m : ℕ) (bytes : List ℕ) → IsLawfulApart g (after ++ (step.Issue n, answer.Ended (pos 0) bytes) ∷ before) → is_cancel (entry_of (world g before).requests n) ≡ true → target_of (world g before).requests n ≡ Some m
-    → is_cancelled (world g (after ++ (step.Issue n, answer.Ended (pos 0) bytes) ∷ before)).requests m ≡ true
-stays_chosen g [] before n m bytes lawful cancel target = dooms_now (world g before).requests n m cancel target
-stays_chosen g ((s, a) ∷ after) before n m bytes lawful cancel target =
-    (event_grows g s a (after ++ (step.Issue n, answer.Ended (pos 0) bytes) ∷ before) lawful).stays_cancelled m (stays_chosen g after before n m bytes lawful.1 cancel target)
+dooms_now : (r : Requests) (n : ℕ) (res : ℤ) (m : ℕ) → Chose r n res m → is_cancelled (with_issued_end r n res) m ≡ true
+dooms_now r n res m (inl c) =
+    dooms_with r n res m c.cancel (one_success (entry_of r n) res c.cancel c.one ∙ (Decides-int_eq res (pos 0)).1 c.result)
+    (ap (λ b. list_any (λ k. k == m) (cond b (targets_of r n) (option_to_list (target_of r n)))) c.one
+    ∙ ap (λ o. list_any (λ k. k == m) (option_to_list o)) c.target
+    ∙ or_left (m == m) false (eq-eqb m m refl))
+dooms_now r n res m (inr c) =
+    let within = (outstanding_tells r m (and_parts _ _ (and_parts _ _ (and_parts _ _ (and_parts _ _ c.target).0).0).0).0).0 in
+    dooms_with r n res m (and_parts _ _ c.all).0
+    (all_success (entry_of r n) res c.all ∙ ap (int_le (pos 0)) c.result ∙ le-leb 0 c.count (omega arith))
+    (ap (λ b. list_any (λ k. k == m) (cond b (targets_of r n) (option_to_list (target_of r n)))) c.all ∙ target-there r n m within c.target)
+
+stays_chosen : (g : Setup) (after before : History) (n : ℕ) (res : ℤ) (m : ℕ) (bytes : List ℕ) → IsLawfulApart g (after ++ (step.Issue n, answer.Ended res bytes) ∷ before) → Chose (world g before).requests n res m
+    → is_cancelled (world g (after ++ (step.Issue n, answer.Ended res bytes) ∷ before)).requests m ≡ true
+stays_chosen g [] before n res m bytes lawful chose = dooms_now (world g before).requests n res m chose
+stays_chosen g ((s, a) ∷ after) before n res m bytes lawful chose =
+    (event_grows g s a (after ++ (step.Issue n, answer.Ended res bytes) ∷ before) lawful).stays_cancelled m (stays_chosen g after before n res m bytes lawful.1 chose)
 
 pub chosen_stays : (g : Setup) (h : History) → IsLawfulApart g h → (m : ℕ) → IsChosenIn g h m → is_cancelled (world g h).requests m ≡ true
 chosen_stays g h lawful m c =
     subst (λ x. is_cancelled (world g x).requests m ≡ true) (sym c.split)
-    (stays_chosen g c.after c.before c.number m c.bytes (subst (IsLawfulApart g) c.split lawful) c.cancel c.target)
+    (stays_chosen g c.after c.before c.number c.res m c.bytes (subst (IsLawfulApart g) c.split lawful) c.chose)

@@ -6,7 +6,7 @@ use Rattle.uring_entry.specs.Layout.{Sqe, Cqe}
 use Rattle.uring_entry.specs.Submission.{Submission, entries_of, places_from}
 use Rattle.uring_entry.specs.Requests.{Requests, entry_of}
 use Rattle.uring_entry.specs.Completions.{next_to_reap, with_end, with_flushed, with_tail_loaded, with_reaped, with_head_stored}
-use Rattle.uring_machine.specs.World.{World, happens, taking_of, ending_of}
+use Rattle.uring_machine.specs.World.{World, happens, taking_of, taking_entry_of, ending_of}
 use Rattle.uring_machine.specs.Histories.{Event}
 use Rattle.uring_machine.specs.Direct.{end_told_by, reaped_by, is_flush, is_load_cq_tail, is_store_cq_head}
 use Rattle.uring_machine.specs.declared.step.Step.{Step}
@@ -49,7 +49,7 @@ pub completion_move : (g : Setup) (w : World) (s : Step) (a : Answer) → Change
 completion_move g w s a (event_refuses _ _ same i) =
     subst (CompletionMove g w s a) (sym (same w)) (stays s a w.submission w.requests w.is_closed (assumption i) i.ends (same_ends w.requests))
 completion_move g w s a (event_takes entry call place opened left at valid) =
-    subst (λ o. CompletionMove g w step.Take (answer.Entry entry) (taking_of w o)) (sym opened) (stays _ _ _ _ _ (search rules) refl (same_ends w.requests))
+    subst (λ o. CompletionMove g w step.Take (answer.Entry entry) (taking_entry_of g w entry o)) (sym opened) (stays _ _ _ _ _ (search rules) refl (same_ends w.requests))
 completion_move g w s a (event_drops call place opened left at invalid) =
     subst (λ o. CompletionMove g w step.Take answer.Dropped (taking_of w o)) (sym opened) (stays _ _ _ _ _ (search rules) refl (same_ends w.requests))
 completion_move g w s a (event_closes accepted missed head call opened all counted) =

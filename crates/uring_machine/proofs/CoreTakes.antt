@@ -1,21 +1,22 @@
 -- What a core shows as a submission call takes a position, and as it closes.
 use Rattle.std.specs.Option.{option_and_then}
-use Rattle.std.proofs.Common.{◌≡◌, ℕ, zero, suc, ◌+◌, ◌-◌, ◌^◌, ◌<◌, ◌≤◌, false, cond, eqb, List, [], ◌∷◌, ◌++◌, length, take, drop, Option, Some, None, slice_get, refl, sym, ap, subst, ◌∙◌, arith, inl, inr, IfSome}
+use Rattle.std.proofs.Common.{◌≡◌, ℕ, zero, suc, ◌+◌, ◌-◌, ◌^◌, ◌<◌, ◌≤◌, Bool, false, cond, eqb, List, [], ◌∷◌, ◌++◌, length, take, drop, Option, Some, None, slice_get, refl, sym, ap, subst, ◌∙◌, arith, inl, inr, IfSome}
 use Rattle.std.proofs.lemmas.Bool.{cases_Bool, eqb-false}
 use Rattle.std.proofs.lemmas.List.Elements.{filter_map-append}
 use Rattle.std.proofs.lemmas.Grind.{common_steps}
 use Rattle.uring_entry.specs.Setup.{Setup}
 use Rattle.uring_entry.specs.Layout.{Sqe}
-use Rattle.uring_entry.specs.Submission.{Submission, Call, Place, taken, pending, staged, entries_of, with_taken}
+use Rattle.uring_entry.specs.Submission.{Submission, Call, Place, taken, pending, staged, entries_of, with_taken, stops_at, with_stopped}
 use Rattle.uring_rings.specs.Sq.{Sq, ShowsSubmission}
 use Rattle.uring_rings.specs.SqAnswers as ring
 use Rattle.uring_rings.specs.declared.answers.TakeAnswer.{TakeAnswer}
 use Rattle.uring_rings.specs.declared.answers.TakeAnswer.TheVariants as took_as
 use Rattle.uring_rings.proofs.Places.{places_more, entries_and_dropped}
-use Rattle.uring_machine.specs.World.{World, taking_of}
+use Rattle.uring_machine.specs.World.{World, taking_of, taking_entry_of}
 use Rattle.uring_machine.specs.StepAnswers.{take_answer_in}
 use Rattle.uring_machine.specs.Histories.{History, world}
 use Rattle.uring_machine.specs.Core.{Core, ShowsWorld, FitsApart, held_by, positions_of}
+use Rattle.uring_machine.proofs.SoundRings.{stopped_between}
 use Rattle.uring_machine.specs.declared.step.Step.TheVariants as step
 use Rattle.uring_machine.specs.declared.answer.Answer.{Answer}
 use Rattle.uring_machine.specs.declared.answer.Answer.TheVariants as answer
@@ -75,30 +76,50 @@ answered_dropped : (w : World) (call : Call) (place : Place) → eqb call.taken 
     → answer.Dropped ≡ take_answer_in w (Some call)
 answered_dropped w call place more is has = rw (more, is, has) refl
 
--- the parts after a take, whatever was taken
-taken_shows : (p : Core) (w : World) (q : Sq) (call : Call) (held : List Sqe) → ShowsWorld p w → w.submission.call ≡ Some call → ShowsSubmission p.setup q (with_taken w.submission call)
-    → held ≡ entries_of (take (call.taken + 1) (drop (taken w.submission) w.submission.published))
-    → ShowsWorld (record p { sq = q; held = held }) (record w { submission = with_taken w.submission call })
-taken_shows p w q call held s is shown holds =
-    let to_post = subst (λ c. p.dispatch.outstanding + positions_of c ≤ p.cq.room) is s.room_to_post in
-    let to_accept = subst (λ c. positions_of c ≤ p.dispatch.room) is s.room_to_accept in
-    let numbers = subst (λ c. p.dispatch.accepted + positions_of c ≤ 2 ^ 63 - 1) is s.numbers in
-    assumption (s, shown, holds, to_post, to_accept, numbers)
+pub some_call : (c : Option Call) (call : Call) (P : Call → Type 0) → c ≡ Some call → IfSome c P → P call
+some_call None call P is holds = cc
+some_call (Some other) call P is holds = let same : other ≡ call = cc in subst P same holds
 
--- what a take shows and answers, by the call that is open
-pub record Takes (p : Core) (w : World) (q : Sq) (held : List Sqe) (a : Answer) (c : Option Call) : Type 0 where
-  pub shows : ShowsWorld (record p { sq = q; held = held }) (taking_of w c)
+-- the parts after a take, whatever was taken, and whether or not the call stops behind it
+taken_shows : (p : Core) (w : World) (q : Sq) (call : Call) (held : List Sqe) (stops : Bool) → ShowsWorld p w → w.submission.call ≡ Some call → eqb call.taken call.count ≡ false
+    → ShowsSubmission p.setup q (with_stopped stops (with_taken w.submission call))
+    → held ≡ entries_of (take (call.taken + 1) (drop (taken w.submission) w.submission.published))
+    → ShowsWorld (record p { sq = q; held = held }) (record w { submission = with_stopped stops (with_taken w.submission call) })
+taken_shows p w q call held stops s is more shown holds =
+    let fits = some_call w.submission.call call _ is s.submission.call_fits in
+    let further : call.taken + 1 ≤ call.count = omega (arith, fits.0, eqb-false call.taken call.count more) in
+    let fewer = (stopped_between stops (record call { taken = call.taken + 1 }) further).1 in
+    let to_post : p.dispatch.outstanding + call.count ≤ p.cq.room = subst (λ c. p.dispatch.outstanding + positions_of c ≤ p.cq.room) is s.room_to_post in
+    let to_accept : call.count ≤ p.dispatch.room = subst (λ c. positions_of c ≤ p.dispatch.room) is s.room_to_accept in
+    let numbers : p.dispatch.accepted + call.count ≤ 2 ^ 63 - 1 = subst (λ c. p.dispatch.accepted + positions_of c ≤ 2 ^ 63 - 1) is s.numbers in
+    record {
+      submission = shown;
+      completions = s.completions;
+      requests = s.requests;
+      held = holds;
+      closed = s.closed;
+      between = s.between;
+      room_to_post = omega (arith, fewer, to_post);
+      room_to_accept = omega (arith, fewer, to_accept);
+      promised = s.promised;
+      numbers = omega (arith, fewer, numbers);
+      posts = s.posts;
+    }
+
+-- what a take shows and answers, by the call that is open, where the call stops behind it or not
+pub record Takes (p : Core) (w v : World) (q : Sq) (held : List Sqe) (a : Answer) (c : Option Call) : Type 0 where
+  pub shows : ShowsWorld (record p { sq = q; held = held }) v
   pub answered : a ≡ take_answer_in w c
 
 take_entry : (p : Core) (w : World) (q : Sq) (entry : Sqe) (c : Option Call) → ShowsWorld p w → w.submission.call ≡ c → took_as.Entry entry ≡ ring.take_in w.submission c
-    → ShowsSubmission p.setup q (ring.taken_on w.submission c) → Takes p w q (p.held ++ entry ∷ []) (answer.Entry entry) c
+    → ShowsSubmission p.setup q (with_stopped (stops_at p.setup entry) (ring.taken_on w.submission c)) → Takes p w (taking_entry_of p.setup w entry c) q (p.held ++ entry ∷ []) (answer.Entry entry) c
 take_entry p w q entry None s is e shown = absurd (let f : took_as.Entry entry ≡ took_as.NoCall = e in cc)
 take_entry p w q entry (Some call) s is e shown =
     let more = not_all w.submission call (took_as.Entry entry) e (λ f. cc) in
     let place = place_given _ entry (given_by w.submission call (took_as.Entry entry) e more) in
     let so_far : p.held ≡ entries_of (take call.taken (drop (taken w.submission) w.submission.published)) = s.held ∙ ap (held_by w.submission) is in
     record {
-      shows = taken_shows p w q call (p.held ++ entry ∷ []) s is shown
+      shows = taken_shows p w q call (p.held ++ entry ∷ []) (stops_at p.setup entry) s is more shown
           (sym (held_more w.submission call place.0 place.1 ∙ ap (λ xs. xs ++ entries_of (place.0 ∷ [])) (sym so_far) ∙ ap (λ xs. p.held ++ xs) (one_entry place.0 entry place.2)));
       answered = answered_entry w call place.0 entry more place.1 place.2;
     }
@@ -113,12 +134,8 @@ place_of_call l call fits more within = found (taken l + call.taken) l.published
     found zero (x ∷ xs) below = (x, refl)
     found (suc k) (x ∷ xs) below = found k xs (omega arith)
 
-pub some_call : (c : Option Call) (call : Call) (P : Call → Type 0) → c ≡ Some call → IfSome c P → P call
-some_call None call P is holds = cc
-some_call (Some other) call P is holds = let same : other ≡ call = cc in subst P same holds
-
 take_dropped : (p : Core) (w : World) (q : Sq) (c : Option Call) → ShowsWorld p w → w.submission.call ≡ c → took_as.Dropped ≡ ring.take_in w.submission c
-    → ShowsSubmission p.setup q (ring.taken_on w.submission c) → Takes p w q p.held answer.Dropped c
+    → ShowsSubmission p.setup q (ring.taken_on w.submission c) → Takes p w (taking_of w c) q p.held answer.Dropped c
 take_dropped p w q None s is e shown = absurd (let f : took_as.Dropped ≡ took_as.NoCall = e in cc)
 take_dropped p w q (Some call) s is e shown =
     let more = not_all w.submission call took_as.Dropped e (λ f. cc) in
@@ -126,7 +143,7 @@ take_dropped p w q (Some call) s is e shown =
     let none = place_dropped _ place.0 place.1 (given_by w.submission call took_as.Dropped e more) in
     let so_far : p.held ≡ entries_of (take call.taken (drop (taken w.submission) w.submission.published)) = s.held ∙ ap (held_by w.submission) is in
     record {
-      shows = taken_shows p w q call p.held s is shown
+      shows = taken_shows p w q call p.held false s is more shown
           (sym (held_more w.submission call place.0 place.1 ∙ ap (λ xs. entries_of (take call.taken (drop (taken w.submission) w.submission.published)) ++ xs) (no_entries place.0 none) ∙ nothing_more _ ∙ sym so_far));
       answered = answered_dropped w call place.0 more place.1 none;
     }
@@ -134,13 +151,15 @@ take_dropped p w q (Some call) s is e shown =
     nothing_more : (xs : List Sqe) → xs ++ [] ≡ xs
     nothing_more xs = grind (arith, common_steps)
 
-pub take_entry_goes : (p : Core) (q : Sq) (entry : Sqe)
+-- the ring after a take, and then with its call stopped behind the entry, if it stops there
+pub take_entry_goes : (p : Core) (q stops : Sq) (entry : Sqe)
     → ((g : Setup) (l : Submission) → ShowsSubmission g p.sq l → took_as.Entry entry ≡ ring.take_answer l)
     → ((g : Setup) (l : Submission) → ShowsSubmission g p.sq l → ShowsSubmission g q (ring.after_take l (took_as.Entry entry)))
-    → (h : History) → FitsApart p h → FitsApart (record p { sq = q; held = p.held ++ entry ∷ [] }) ((step.Take, answer.Entry entry) ∷ h)
-take_entry_goes p q entry answered shown h f =
+    → ((g : Setup) (l : Submission) → ShowsSubmission g q l → ShowsSubmission g stops (with_stopped (stops_at p.setup entry) l))
+    → (h : History) → FitsApart p h → FitsApart (record p { sq = stops; held = p.held ++ entry ∷ [] }) ((step.Take, answer.Entry entry) ∷ h)
+take_entry_goes p q stops entry answered shown stopped h f =
     let w = world p.setup h in
-    let t = take_entry p w q entry w.submission.call f.shows refl (answered p.setup w.submission f.shows.submission) (shown p.setup w.submission f.shows.submission) in
+    let t = take_entry p w stops entry w.submission.call f.shows refl (answered p.setup w.submission f.shows.submission) (stopped p.setup _ (shown p.setup w.submission f.shows.submission)) in
     record { shows = t.shows; lawful = (t.answered, f.lawful) }
 
 pub take_dropped_goes : (p : Core) (q : Sq)

@@ -1,12 +1,13 @@
 -- The submission ring's lists, read off a history.
-use Rattle.std.proofs.Common.{◌≡◌, ℕ, ◌+◌, ◌==◌, Bool, true, false, List, [], ◌∷◌, ◌++◌, length, take, map, sum, count_by, get_or, Option, Some, None, unwrap_or, if◌then◌else◌, cond, refl, sym, subst, ap, ap₂, ◌∙◌, arith, append-nil, append_assoc}
+use Rattle.std.proofs.Common.{◌≡◌, ℕ, ◌+◌, ◌≤◌, ◌==◌, Bool, true, false, ◌||◌, eqb, List, [], ◌∷◌, ◌++◌, length, map, sum, count_by, Option, Some, None, unwrap_or, if◌then◌else◌, cond, refl, sym, subst, ap, ap₂, ◌∙◌, arith, append-nil, append_assoc}
+use Rattle.std.specs.List.{list_any}
 use Rattle.std.specs.Option.{option_or}
-use Rattle.std.proofs.lemmas.Bool.{eq-eqb, ne_eqb}
-use Rattle.std.proofs.lemmas.List.{length_push, map-append, take_at, get_or_push}
+use Rattle.std.proofs.lemmas.Bool.{eq-eqb, ne_eqb, eqb-false, ltb-false}
+use Rattle.std.proofs.lemmas.List.{length_push, map-append}
 use Rattle.uring_entry.specs.Setup.{Setup}
 use Rattle.uring_entry.specs.Layout.{Sqe, zero_entry}
 use Rattle.uring_entry.specs.Submission.{Call, place_of, call_length}
-use Rattle.uring_machine.specs.Direct.{filled_by, staged_by, takes_position, opens_call, opened_by, closes_call, is_store_tail, is_load_head, told, last_told, since_last, staged_words, published_words, slot_content, open_call, call_counts, taken_count, loaded_head}
+use Rattle.uring_machine.specs.Direct.{filled_by, staged_by, takes_position, takes_last, opens_call, opened_by, closes_call, is_store_tail, is_load_head, last_told, since_last, staged_words, published_words, slot_content, taken_since, has_stopped, open_count, open_call, call_counts, taken_count, loaded_head}
 use Rattle.uring_machine.specs.World.{World}
 use Rattle.uring_machine.specs.Histories.{Event, History, world, IsLawfulApart}
 use Rattle.uring_machine.specs.declared.step.Step.{Step}
@@ -15,33 +16,61 @@ use Rattle.uring_machine.specs.declared.answer.Answer.{Answer}
 use Rattle.uring_machine.specs.declared.answer.Answer.TheVariants as answer
 use Rattle.uring_machine.proofs.Changes.{change_of}
 use Rattle.uring_machine.proofs.SubmissionMoves.{SubmissionMove, stays, fills, stages, stores, loads, begins, takes, drops, closes, submission_move}
+use Rattle.uring_machine.proofs.SoundRings.{IsSoundSubmission, open_taken, open_count as positions_open}
+use Rattle.uring_machine.proofs.Sound.{sound_of}
 use Rattle.uring_machine.proofs.Telling.{count_more, count_same, told_same, before_same}
 
--- how many positions the open call has
-abbrev pub open_counts : Option Call → List ℕ
-open_counts None = []
-open_counts (Some call) = call.count ∷ []
+-- an open call is the one that was opened last
+abbrev pub IsOpened : Setup → History → Option Call → Type 0
+IsOpened g h None = Unit {0}
+IsOpened g h (Some call) = (call.taken ≡ taken_since h) × (call.count ≡ open_count g h)
 
--- the open call has taken this many
-abbrev pub TakenSince : Option Call → ℕ → Type 0
-TakenSince None n = Unit {0}
-TakenSince (Some call) n = call.taken ≡ n
+-- how many calls are open: one or none
+abbrev pub open_calls : Option Call → ℕ
+open_calls None = 0
+open_calls (Some call) = 1
 
-pub record DirectSubmission (h : History) (w : World) : Type 0 where
+pub record DirectSubmission (g : Setup) (h : History) (w : World) : Type 0 where
   pub content : (slot : ℕ) → w.submission.content slot ≡ slot_content h slot
   pub published : map (λ place. place.word) w.submission.published ≡ published_words h
   pub staged : published_words h ++ w.submission.fresh ≡ staged_words h
-  pub opened : told opened_by h ≡ w.submission.calls ++ open_counts w.submission.call
+  pub calls : w.submission.calls ≡ call_counts h
   pub closed : count_by closes_call h ≡ length w.submission.calls
-  pub openings : count_by opens_call h ≡ length w.submission.calls + length (open_counts w.submission.call)
+  pub openings : count_by opens_call h ≡ length w.submission.calls + open_calls w.submission.call
   pub seen : w.submission.seen_head ≡ loaded_head h
-  pub since : TakenSince w.submission.call (count_by takes_position (since_last opens_call h))
+  pub opened : IsOpened g h w.submission.call
 
--- an event that neither opens a call nor takes a position
-same_since : (e : Event) (h : History) (call : Option Call) → opens_call e ≡ false → takes_position e ≡ false → TakenSince call (count_by takes_position (since_last opens_call h)) → TakenSince call (count_by takes_position (since_last opens_call (e ∷ h)))
-same_since e h None other idle i = tt
-same_since e h (Some call) other idle i =
-    i ∙ sym (count_same takes_position e (since_last opens_call h) idle) ∙ ap (λ b. count_by takes_position (cond b [] (e ∷ since_last opens_call h))) (sym other)
+-- an event behind which a call stops takes a position
+takes_last_takes : (g : Setup) (e : Event) → takes_position e ≡ false → takes_last g e ≡ false
+takes_last_takes g (step.Take, answer.Entry entry) idle = absurd cc
+takes_last_takes g _ idle = refl
+
+-- what an event leaves of the call that was opened last, if it opens none and takes no position
+record SameOpened (g : Setup) (h : History) (e : Event) : Type 0 where
+  taken : taken_since h ≡ taken_since (e ∷ h)
+  count : open_count g h ≡ open_count g (e ∷ h)
+
+same_opened : (g : Setup) (h : History) (e : Event) → opens_call e ≡ false → opened_by e ≡ None → takes_position e ≡ false → SameOpened g h e
+same_opened g h e other none idle =
+    let since : since_last opens_call (e ∷ h) ≡ e ∷ since_last opens_call h = ap (λ b. cond b [] (e ∷ since_last opens_call h)) other in
+    let taken : taken_since h ≡ taken_since (e ∷ h) = sym (ap (count_by takes_position) since ∙ count_same takes_position e (since_last opens_call h) idle) in
+    let stops : has_stopped g h ≡ has_stopped g (e ∷ h) = sym (ap (list_any (takes_last g)) since ∙ ap (λ b. b || has_stopped g h) (takes_last_takes g e idle)) in
+    let last : last_told opened_by h ≡ last_told opened_by (e ∷ h) = sym (ap (λ o. option_or o (last_told opened_by h)) none) in
+    record {
+      taken = taken;
+      count = ap₂ (λ b n. cond b n (unwrap_or (last_told opened_by h) 0)) stops taken ∙ ap (λ o. cond (has_stopped g (e ∷ h)) (taken_since (e ∷ h)) (unwrap_or o 0)) last;
+    }
+
+still_opened : (g : Setup) (h : History) (e : Event) (call : Option Call) → SameOpened g h e → IsOpened g h call → IsOpened g (e ∷ h) call
+still_opened g h e None same i = tt
+still_opened g h e (Some call) same i = (i.0 ∙ same.taken, i.1 ∙ same.count)
+
+-- how many positions the open call takes once it took one more, behind which it may stop
+count_further : (stops had : Bool) (count before after last : ℕ) → count ≡ (if had then before else last) → eqb before count ≡ false → before + 1 ≡ after
+    → (if stops then before + 1 else count) ≡ (if stops || had then after else last)
+count_further true had count before after last so_far left more = more
+count_further false true count before after last so_far left more = absurd (eqb-false before count left (sym so_far))
+count_further false false count before after last so_far left more = so_far
 
 -- what a slot holds once one is filled
 fill_tells : (here : Bool) (entry : Sqe) (last : Option Sqe) → unwrap_or (option_or (if here then Some entry else None) last) zero_entry ≡ (if here then entry else unwrap_or last zero_entry)
@@ -52,124 +81,130 @@ words_of_places : (size : ℕ) (content : ℕ → Sqe) (words : List ℕ) → ma
 words_of_places size content [] = refl
 words_of_places size content (word ∷ words) = ap (λ xs. word ∷ xs) (words_of_places size content words)
 
--- the calls that closed are the first of those that opened
-own_calls : (h : History) (w : World) → told opened_by h ≡ w.submission.calls ++ open_counts w.submission.call → count_by closes_call h ≡ length w.submission.calls → call_counts h ≡ w.submission.calls
-own_calls h w opened closed = ap₂ (λ n xs. take n xs) closed opened ∙ take_at w.submission.calls (open_counts w.submission.call) (length w.submission.calls) refl
-
 -- what an event leaves that neither opens nor closes a call and takes no position
-record NoneCalled (h : History) (w : World) (e : Event) : Type 0 where
+record NoneCalled (g : Setup) (h : History) (w : World) (e : Event) : Type 0 where
+  calls : w.submission.calls ≡ call_counts (e ∷ h)
   closed : count_by closes_call (e ∷ h) ≡ length w.submission.calls
-  openings : count_by opens_call (e ∷ h) ≡ length w.submission.calls + length (open_counts w.submission.call)
-  since : TakenSince w.submission.call (count_by takes_position (since_last opens_call (e ∷ h)))
+  openings : count_by opens_call (e ∷ h) ≡ length w.submission.calls + open_calls w.submission.call
+  opened : IsOpened g (e ∷ h) w.submission.call
 
-none_called : (h : History) (w : World) (e : Event) → opens_call e ≡ false → closes_call e ≡ false → takes_position e ≡ false → DirectSubmission h w → NoneCalled h w e
-none_called h w e none_opened none_closed idle i =
+none_called : (g : Setup) (h : History) (w : World) (e : Event) → opens_call e ≡ false → opened_by e ≡ None → closes_call e ≡ false → takes_position e ≡ false → DirectSubmission g h w → NoneCalled g h w e
+none_called g h w e none_opened none none_closed idle i =
     record {
+      calls = i.calls ∙ ap (λ b. if b then call_counts h ++ taken_since h ∷ [] else call_counts h) (sym none_closed);
       closed = count_same closes_call e h none_closed ∙ i.closed;
       openings = count_same opens_call e h none_opened ∙ i.openings;
-      since = same_since e h w.submission.call none_opened idle i.since;
+      opened = still_opened g h e w.submission.call (same_opened g h e none_opened none idle) i.opened;
     }
 
 -- what an event leaves by which the open call takes a position
-record PositionTaken (h : History) (w : World) (e : Event) (call : Call) : Type 0 where
-  opened : told opened_by h ≡ w.submission.calls ++ call.count ∷ []
+record PositionTaken (g : Setup) (h : History) (w : World) (e : Event) (call : Call) : Type 0 where
+  calls : w.submission.calls ≡ call_counts (e ∷ h)
   closed : count_by closes_call (e ∷ h) ≡ length w.submission.calls
   openings : count_by opens_call (e ∷ h) ≡ length w.submission.calls + 1
-  since : call.taken + 1 ≡ count_by takes_position (since_last opens_call (e ∷ h))
+  opened : (call.taken + 1 ≡ taken_since (e ∷ h)) × ((if takes_last g e then call.taken + 1 else call.count) ≡ open_count g (e ∷ h))
 
-position_taken : (h : History) (w : World) (e : Event) (call : Call) → w.submission.call ≡ Some call → opens_call e ≡ false → closes_call e ≡ false
-    → takes_position e ≡ true → DirectSubmission h w → PositionTaken h w e call
-position_taken h w e call opened none_opened none_closed taken i =
-    let since : call.taken ≡ count_by takes_position (since_last opens_call h) = subst (λ o. TakenSince o (count_by takes_position (since_last opens_call h))) opened i.since in
+position_taken : (g : Setup) (h : History) (w : World) (e : Event) (call : Call) → w.submission.call ≡ Some call → eqb call.taken call.count ≡ false → opens_call e ≡ false → opened_by e ≡ None → closes_call e ≡ false
+    → takes_position e ≡ true → DirectSubmission g h w → PositionTaken g h w e call
+position_taken g h w e call is left none_opened none none_closed taken i =
+    let so_far : (call.taken ≡ taken_since h) × (call.count ≡ open_count g h) = subst (IsOpened g h) is i.opened in
+    let since : since_last opens_call (e ∷ h) ≡ e ∷ since_last opens_call h = ap (λ b. cond b [] (e ∷ since_last opens_call h)) none_opened in
+    let more : call.taken + 1 ≡ taken_since (e ∷ h) = omega (arith, count_more takes_position e (since_last opens_call h) taken, so_far.0) ∙ sym (ap (count_by takes_position) since) in
+    let stops : has_stopped g (e ∷ h) ≡ (takes_last g e || has_stopped g h) = ap (list_any (takes_last g)) since in
+    let last : last_told opened_by (e ∷ h) ≡ last_told opened_by h = ap (λ o. option_or o (last_told opened_by h)) none in
     record {
-      opened = i.opened ∙ ap (λ o. w.submission.calls ++ open_counts o) opened;
+      calls = i.calls ∙ ap (λ b. if b then call_counts h ++ taken_since h ∷ [] else call_counts h) (sym none_closed);
       closed = count_same closes_call e h none_closed ∙ i.closed;
-      openings = count_same opens_call e h none_opened ∙ i.openings ∙ ap (λ o. length w.submission.calls + length (open_counts o)) opened;
-      since =
-          omega (arith, count_more takes_position e (since_last opens_call h) taken, since)
-          ∙ ap (λ b. count_by takes_position (cond b [] (e ∷ since_last opens_call h))) (sym none_opened);
+      openings = count_same opens_call e h none_opened ∙ i.openings ∙ ap (λ o. length w.submission.calls + open_calls o) is;
+      opened = (
+        more,
+        count_further (takes_last g e) (has_stopped g h) call.count call.taken (taken_since (e ∷ h)) (unwrap_or (last_told opened_by h) 0)
+            (so_far.1 ∙ ap (λ n. cond (has_stopped g h) n (unwrap_or (last_told opened_by h) 0)) (sym so_far.0)) left more
+            ∙ ap₂ (λ b o. cond b (taken_since (e ∷ h)) (unwrap_or o 0)) (sym stops) (sym last),
+      );
     }
 
-submission_direct : (g : Setup) (h : History) (w : World) (s : Step) (a : Answer) (v : World) → SubmissionMove g w s a v → DirectSubmission h w → DirectSubmission ((s, a) ∷ h) v
-submission_direct g h w s a v (stays _ _ r c is_closed off left) i =
+submission_direct : (g : Setup) (h : History) (w : World) (s : Step) (a : Answer) (v : World) → SubmissionMove g w s a v → IsSoundSubmission g.sq w.submission → DirectSubmission g h w → DirectSubmission g ((s, a) ∷ h) v
+submission_direct g h w s a v (stays _ _ r c is_closed off left) sound i =
+    let f = none_called g h w (s, a) off.opens_none off.opens off.closes off.takes i in
     record {
       content = λ slot. i.content slot ∙ sym (ap (λ o. unwrap_or (option_or o (last_told (filled_by slot) h)) zero_entry) (off.fills slot));
       published = i.published ∙ ap staged_words (sym (before_same is_store_tail (s, a) h off.stores_tail));
       staged = ap (λ b. staged_words b ++ w.submission.fresh) (before_same is_store_tail (s, a) h off.stores_tail) ∙ i.staged ∙ sym (told_same staged_by (s, a) h off.stages);
-      opened = told_same opened_by (s, a) h off.opens ∙ i.opened;
-      closed = count_same closes_call (s, a) h off.closes ∙ i.closed;
-      openings = count_same opens_call (s, a) h off.opens_none ∙ i.openings;
+      calls = f.calls;
+      closed = f.closed;
+      openings = f.openings;
       seen = i.seen ∙ ap taken_count (sym (before_same is_load_head (s, a) h off.loads_head));
-      since = same_since (s, a) h w.submission.call off.opens_none off.takes i.since;
+      opened = f.opened;
     }
-submission_direct g h w s a v (fills slot entry) i =
-    let f = none_called h w (s, a) refl refl refl i in
+submission_direct g h w s a v (fills slot entry) sound i =
+    let f = none_called g h w (s, a) refl refl refl refl i in
     let content : (asked : ℕ) → (if asked == slot then entry else w.submission.content asked) ≡ slot_content ((step.Fill slot entry, answer.Filled) ∷ h) asked =
     λ asked. ap (λ o. if asked == slot then entry else o) (i.content asked) ∙ sym (fill_tells (asked == slot) entry (last_told (filled_by asked) h)) in
     assumption (content, f, i)
-submission_direct g h w s a v (stages word room) i =
-    let f = none_called h w (s, a) refl refl refl i in
+submission_direct g h w s a v (stages word room) sound i =
+    let f = none_called g h w (s, a) refl refl refl refl i in
     let staged = sym (append_assoc (published_words h) w.submission.fresh (word ∷ [])) ∙ ap (λ xs. xs ++ word ∷ []) i.staged in
     assumption (staged, f, i)
-submission_direct g h w s a v (stores tail) i =
-    let f = none_called h w (s, a) refl refl refl i in
+submission_direct g h w s a v (stores tail) sound i =
+    let f = none_called g h w (s, a) refl refl refl refl i in
     let published =
     map-append (λ p. p.word) w.submission.published (map (place_of g.sq w.submission.content) w.submission.fresh)
     ∙ ap₂ (λ xs ys. xs ++ ys) i.published (words_of_places g.sq w.submission.content w.submission.fresh) ∙ i.staged in
     let staged = append-nil (staged_words h) in
     assumption (published, staged, f, i)
-submission_direct g h w s a v (loads head) i =
-    let f = none_called h w (s, a) refl refl refl i in
-    let seen = ap sum (sym (own_calls h w i.opened i.closed)) in
+submission_direct g h w s a v (loads head) sound i =
+    let f = none_called g h w (s, a) refl refl refl refl i in
+    let seen = ap sum i.calls in
     assumption (seen, f, i)
-submission_direct g h w s a v (begins count is_open no_call) i =
+submission_direct g h w s a v (begins count is_open no_call) sound i =
     record {
       content = i.content;
       published = i.published;
       staged = i.staged;
-      opened = ap (λ xs. xs ++ call_length w.submission count ∷ []) (i.opened ∙ ap (λ o. w.submission.calls ++ open_counts o) no_call ∙ append-nil w.submission.calls);
+      calls = i.calls;
       closed = count_same closes_call (step.Begin count, answer.Call (call_length w.submission count)) h refl ∙ i.closed;
       openings =
           count_more opens_call (step.Begin count, answer.Call (call_length w.submission count)) h refl
-          ∙ omega (arith, i.openings, ap (λ o. length (open_counts o)) no_call);
+          ∙ omega (arith, i.openings, ap open_calls no_call);
       seen = i.seen;
-      since = refl;
+      opened = (refl, refl);
     }
-submission_direct g h w s a v (takes entry call place opened left at valid) i =
-    let f = position_taken h w (s, a) call opened refl refl refl i in
+submission_direct g h w s a v (takes entry call place opened left at valid) sound i =
+    let f = position_taken g h w (s, a) call opened left refl refl refl refl i in
     assumption (f, i)
-submission_direct g h w s a v (drops call place opened left at invalid) i =
-    let f = position_taken h w (s, a) call opened refl refl refl i in
+submission_direct g h w s a v (drops call place opened left at invalid) sound i =
+    let f = position_taken g h w (s, a) call opened left refl refl refl refl i in
     assumption (f, i)
-submission_direct g h w s a v (closes accepted missed head call opened all counted) i =
+submission_direct g h w s a v (closes accepted missed head call opened all counted) sound i =
     let longer = length_push w.submission.calls call.count in
+    let so_far : (call.taken ≡ taken_since h) × (call.count ≡ open_count g h) = subst (IsOpened g h) opened i.opened in
+    let within : call.taken ≤ call.count = subst (λ o. open_taken o ≤ positions_open o) opened sound.within_call in
+    let whole : call.count ≡ taken_since h = omega (arith, ltb-false call.taken call.count all, within, so_far.0) in
     record {
       content = i.content;
       published = i.published;
       staged = i.staged;
-      opened = i.opened ∙ ap (λ o. w.submission.calls ++ open_counts o) opened ∙ sym (append-nil (w.submission.calls ++ call.count ∷ []));
+      calls = ap₂ (λ xs n. xs ++ n ∷ []) i.calls whole;
       closed = count_more closes_call (step.End, answer.Taken accepted missed head) h refl ∙ omega (arith, i.closed, longer);
       openings =
           count_same opens_call (step.End, answer.Taken accepted missed head) h refl
-          ∙ omega (arith, i.openings, ap (λ o. length (open_counts o)) opened, longer);
+          ∙ omega (arith, i.openings, ap open_calls opened, longer);
       seen = i.seen;
-      since = tt;
+      opened = tt;
     }
 
-pub direct_submission : (g : Setup) (h : History) → IsLawfulApart g h → DirectSubmission h (world g h)
-direct_submission g [] lawful = record { content = λ slot. refl; published = refl; staged = refl; opened = refl; closed = refl; openings = refl; seen = refl; since = tt }
-direct_submission g ((s, a) ∷ before) lawful = submission_direct g before (world g before) s a _ (submission_move g (world g before) s a (change_of g (world g before) s a lawful.0)) (direct_submission g before lawful.1)
-
-pub calls_direct : (h : History) (w : World) → DirectSubmission h w → call_counts h ≡ w.submission.calls
-calls_direct h w i = own_calls h w i.opened i.closed
+pub direct_submission : (g : Setup) (h : History) → IsLawfulApart g h → DirectSubmission g h (world g h)
+direct_submission g [] lawful = record { content = λ slot. refl; published = refl; staged = refl; calls = refl; closed = refl; openings = refl; seen = refl; opened = tt }
+direct_submission g ((s, a) ∷ before) lawful =
+    submission_direct g before (world g before) s a _ (submission_move g (world g before) s a (change_of g (world g before) s a lawful.0)) (sound_of g before lawful.1).submission (direct_submission g before lawful.1)
 
 -- the call that is open
-pub call_direct : (h : History) (w : World) → DirectSubmission h w → w.submission.call ≡ open_call h
-call_direct h w i = by_call w.submission.call i.opened i.openings i.since where
-  by_call : (call : Option Call) → told opened_by h ≡ w.submission.calls ++ open_counts call → count_by opens_call h ≡ length w.submission.calls + length (open_counts call) → TakenSince call (count_by takes_position (since_last opens_call h)) → call ≡ open_call h
-  by_call None opened openings since =
-      ap (λ b. if b then None else Some (record { count = get_or (told opened_by h) (count_by closes_call h) 0; taken = count_by takes_position (since_last opens_call h) })) (sym (eq-eqb (count_by opens_call h) (count_by closes_call h) (omega (arith, i.closed))))
-  by_call (Some call) opened openings since =
-      let at : get_or (told opened_by h) (count_by closes_call h) 0 ≡ call.count = ap₂ (λ xs n. get_or xs n 0) opened i.closed ∙ get_or_push w.submission.calls call.count 0 (length w.submission.calls) refl in
-      ap₂ (λ count taken. Some (record { count = count; taken = taken })) (sym at) since
-      ∙ ap (λ b. if b then None else Some (record { count = get_or (told opened_by h) (count_by closes_call h) 0; taken = count_by takes_position (since_last opens_call h) })) (sym (ne_eqb (count_by opens_call h) (count_by closes_call h) (λ same. omega (arith, i.closed, openings, same))))
+pub call_direct : (g : Setup) (h : History) (w : World) → DirectSubmission g h w → w.submission.call ≡ open_call g h
+call_direct g h w i = by_call w.submission.call i.openings i.opened where
+  by_call : (call : Option Call) → count_by opens_call h ≡ length w.submission.calls + open_calls call → IsOpened g h call → call ≡ open_call g h
+  by_call None openings opened =
+      ap (λ b. if b then None else Some (record { count = open_count g h; taken = taken_since h })) (sym (eq-eqb (count_by opens_call h) (count_by closes_call h) (omega (arith, i.closed))))
+  by_call (Some call) openings opened =
+      ap₂ (λ count taken. Some (record { count = count; taken = taken })) opened.1 opened.0
+      ∙ ap (λ b. if b then None else Some (record { count = open_count g h; taken = taken_since h })) (sym (ne_eqb (count_by opens_call h) (count_by closes_call h) (λ same. omega (arith, i.closed, openings, same))))

@@ -6,7 +6,7 @@ use Rattle.std.specs.List.{list_any}
 use Rattle.std.proofs.lemmas.Bool.{or_left, or_right, eqb-true, eq-eqb}
 use Rattle.uring_entry.specs.Setup.{Setup}
 use Rattle.uring_entry.specs.Layout.{Sqe, opcode_of, addr_of}
-use Rattle.uring_entry.specs.Preparation.{is_faulty, is_cancel, operation_of}
+use Rattle.uring_entry.specs.Preparation.{is_faulty, is_cancel, is_cancel_all, operation_of}
 use Rattle.uring_entry.specs.Requests.{Requests, Ending, entry_of, doomed_result, cancel_result, no_bytes, with_call, with_started, with_ended, with_issued_end}
 use Rattle.uring_entry.specs.declared.opcode.TheConstants.{NOP, FSYNC, ASYNC_CANCEL}
 use Rattle.uring_entry.specs.declared.operation.Op.{Op}
@@ -44,7 +44,7 @@ failed files Nop below = refl
 failed files (Read fd off len) below = refl
 failed files (Write fd off len bytes) below = refl
 failed files (Fsync fd) below = refl
-failed files (Cancel target) below = refl
+failed files (Cancel target all) below = refl
 
 doomed_changes_none : (files : List FileContents) (r : Requests) (n : ℕ) → after files (operation_of (entry_of r n)) (doomed_result r n) ≡ files
 doomed_changes_none files r n = by_fault (is_faulty (entry_of r n)) where
@@ -52,11 +52,11 @@ doomed_changes_none files r n = by_fault (is_faulty (entry_of r n)) where
   by_fault true = failed files (operation_of (entry_of r n)) 21
   by_fault false = failed files (operation_of (entry_of r n)) 124
 
-asks_cancel : (code target : ℕ) (sync other : Op) → code ≡ ASYNC_CANCEL → (if code == NOP then Nop else (if code == FSYNC then sync else (if code == ASYNC_CANCEL then Cancel target else other))) ≡ Cancel target
-asks_cancel code target sync other e = rw e refl
+asks_cancel : (code target : ℕ) (all : Bool) (sync other : Op) → code ≡ ASYNC_CANCEL → (if code == NOP then Nop else (if code == FSYNC then sync else (if code == ASYNC_CANCEL then Cancel target all else other))) ≡ Cancel target all
+asks_cancel code target all sync other e = rw e refl
 
 cancel_changes_none : (files : List FileContents) (e : Sqe) (res : ℤ) → is_cancel e ≡ true → after files (operation_of e) res ≡ files
-cancel_changes_none files e res cancel = ap (λ op. after files op res) (asks_cancel (opcode_of e) (addr_of e) _ _ (eqb-true _ _ cancel))
+cancel_changes_none files e res cancel = ap (λ op. after files op res) (asks_cancel (opcode_of e) (addr_of e) (is_cancel_all e) _ _ (eqb-true _ _ cancel))
 
 -- what an end makes of the files
 pub files_ended : (r : Requests) (n : ℕ) (res : ℤ) (bytes : List ℕ) (files : List FileContents)

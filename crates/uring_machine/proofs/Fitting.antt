@@ -37,7 +37,7 @@ step_fits core later files s a h same other fits next =
     }
 
 -- what runs has this operation
-runs_with : (r : Requests) (n : ℕ) (op : Op) → Some op ≡ operation_running r n → (is_running r n ≡ true) × (op ≡ operation_of (entry_of r n))
+pub runs_with : (r : Requests) (n : ℕ) (op : Op) → Some op ≡ operation_running r n → (is_running r n ≡ true) × (op ≡ operation_of (entry_of r n))
 runs_with r n op e = by_running (is_running r n) e where
   by_running : (running : Bool) → Some op ≡ (if running then Some (operation_of (entry_of r n)) else None) → (running ≡ true) × (op ≡ operation_of (entry_of r n))
   by_running true f = (refl, cc)
@@ -76,7 +76,7 @@ finish_fits core later files n op outcome left a h same fits is allowed leaves n
     }
 
 -- what has no operation to carry out isn't running
-not_running : {X : Type 0} (op : X) (running : Bool) → None ≡ (if running then Some op else None) → running ≡ false
+pub not_running : {X : Type 0} (op : X) (running : Bool) → None ≡ (if running then Some op else None) → running ≡ false
 not_running op true e = absurd cc
 not_running op false e = refl
 

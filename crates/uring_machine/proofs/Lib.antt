@@ -40,4 +40,9 @@ pub mod PublishedItems
 pub mod Standing
 pub mod WholeCalls
 pub mod ReasonLaws
+pub mod SameAnswers
+pub mod RecordedAnswers
+pub mod RecordedEnds
+pub mod RecordedLaws
 mod WorkedHistory
+pub mod Stopping

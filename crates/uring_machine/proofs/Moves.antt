@@ -5,7 +5,7 @@ use Rattle.uring_entry.specs.Layout.{Sqe}
 use Rattle.uring_entry.specs.Preparation.{is_cancel}
 use Rattle.uring_entry.specs.Submission.{entries_of, places_from}
 use Rattle.uring_entry.specs.Requests.{Requests, entry_of, is_outstanding, is_running, is_doomed, is_ready, doomed_result, cancel_result, no_bytes, with_call, with_started, with_ended, with_issued_end}
-use Rattle.uring_machine.specs.World.{World, happens, taking_of, ending_of}
+use Rattle.uring_machine.specs.World.{World, happens, taking_of, taking_entry_of, ending_of}
 use Rattle.uring_machine.specs.Direct.{started_by, end_told_by}
 use Rattle.uring_machine.specs.StepAnswers.{CalledForApart}
 use Rattle.uring_machine.specs.declared.step.Step.{Step}
@@ -38,7 +38,7 @@ run_no_cancel true false false true true as_doomed as_cancel e = absurd cc
 
 pub move_of : (g : Setup) (w : World) (s : Step) (a : Answer) → Change g w s a → CalledForApart g w s a → Move w.requests s a (happens g w s a).requests
 move_of g w s a (refuses _ _ same silent) called = subst (λ v. Move w.requests s a v.requests) (sym (same w)) (stays s a silent.starts silent.ends)
-move_of g w s a (takes entry call place opened left at valid) called = subst (λ o. Move w.requests s a (taking_of w o).requests) (sym opened) (stays _ _ refl refl)
+move_of g w s a (takes entry call place opened left at valid) called = subst (λ o. Move w.requests s a (taking_entry_of g w entry o).requests) (sym opened) (stays _ _ refl refl)
 move_of g w s a (drops call place opened left at invalid) called = subst (λ o. Move w.requests s a (taking_of w o).requests) (sym opened) (stays _ _ refl refl)
 move_of g w s a (closes accepted missed head call opened all told) called = subst (λ o. Move w.requests s a (ending_of w o).requests) (sym opened) (accepts accepted missed head (entries_of (places_from w.submission call.count)))
 move_of g w s a (runs n outstanding idle spared ready) called =

@@ -7,7 +7,8 @@ use Rattle.std.proofs.lemmas.List.Folds.{list_any_at}
 use Rattle.std.proofs.lemmas.Option.{slice_get_within, get_or_from_slice_get}
 use Rattle.uring_entry.specs.Setup.{Setup}
 use Rattle.uring_entry.specs.declared.errno.TheConstants.{EALREADY, ECANCELED}
-use Rattle.uring_entry.specs.Requests.{Requests, Ending, has_started, has_ended, is_joined, is_draining, is_doomed, is_ready, is_running, waits_for, doomed_result, cancel_result, result_for, target_of}
+use Rattle.uring_entry.specs.Requests.{Requests, Ending, has_started, has_ended, is_joined, is_draining, is_doomed, is_ready, is_running, waits_for, doomed_result, cancel_result, count_result, result_for, target_of, targets_of, entry_of}
+use Rattle.uring_entry.specs.Preparation.{is_cancel_all}
 use Rattle.uring_entry.proofs.RequestLemmas.{is_ready-inside}
 use Rattle.uring_machine.specs.World.{World}
 use Rattle.uring_machine.specs.StepAnswers.{IsEnded}
@@ -50,12 +51,18 @@ never_run g h lawful =
     }
 
 -- ECANCELED is no result of a cancel
-cancel_unlike : (r : Requests) (target : Option ℕ) → int_eq (result_for r target) (neg_ℤ ECANCELED) ≡ false
-cancel_unlike r None = refl
-cancel_unlike r (Some m) = by_running (is_running r m) where
+one_unlike : (r : Requests) (target : Option ℕ) → int_eq (result_for r target) (neg_ℤ ECANCELED) ≡ false
+one_unlike r None = refl
+one_unlike r (Some m) = by_running (is_running r m) where
   by_running : (running : Bool) → int_eq (cond running (neg_ℤ EALREADY) (pos 0)) (neg_ℤ ECANCELED) ≡ false
   by_running true = refl
   by_running false = refl
+
+cancel_unlike : (r : Requests) (n : ℕ) → int_eq (cancel_result r n) (neg_ℤ ECANCELED) ≡ false
+cancel_unlike r n = by_all (is_cancel_all (entry_of r n)) where
+  by_all : (all : Bool) → int_eq (cond all (count_result (length (targets_of r n))) (result_for r (target_of r n))) (neg_ℤ ECANCELED) ≡ false
+  by_all true = refl
+  by_all false = one_unlike r (target_of r n)
 
 -- an Issue that is refused neither starts nor ends its request
 refused_no_end : (n : ℕ) (a : Answer) → IsSilent (step.Issue n, a) → IsEnded a → ⊥
@@ -71,7 +78,7 @@ doomed_just_before g w n a bytes (runs _ outstanding idle spared ready) is = abs
 doomed_just_before g w n a bytes (dooms _ outstanding idle doomed) is = doomed
 doomed_just_before g w n a bytes (cancels _ outstanding idle spared ready cancel) is =
     let e : cancel_result w.requests n ≡ neg_ℤ ECANCELED = cc in
-    absurd (both_ways _ (cancel_unlike w.requests (target_of w.requests n)) ((Decides-int_eq (cancel_result w.requests n) (neg_ℤ ECANCELED)).1 e))
+    absurd (both_ways _ (cancel_unlike w.requests n) ((Decides-int_eq (cancel_result w.requests n) (neg_ℤ ECANCELED)).1 e))
 
 pub were_doomed : (g : Setup) (after before : History) (n : ℕ) (bytes : List ℕ) → IsLawfulApart g (after ++ (step.Issue n, answer.Ended (neg_ℤ ECANCELED) bytes) ∷ before) → is_doomed (world g before).requests n ≡ true
 were_doomed g after before n bytes lawful =

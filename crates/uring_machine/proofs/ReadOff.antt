@@ -3,7 +3,7 @@ use Rattle.std.proofs.Common.{sym, ap, ◌∙◌}
 use Rattle.uring_entry.specs.Setup.{Setup}
 use Rattle.uring_machine.specs.Histories.{History, world, IsLawfulApart}
 use Rattle.uring_machine.specs.HistoryLists.{OwnSubmission, OwnRequests, OwnCompletions}
-use Rattle.uring_machine.proofs.DirectSubmission.{direct_submission, calls_direct, call_direct}
+use Rattle.uring_machine.proofs.DirectSubmission.{direct_submission, call_direct}
 use Rattle.uring_machine.proofs.DirectCompletions.{direct_completions}
 use Rattle.std.specs.List.{filter_map}
 use Rattle.uring_machine.specs.Direct.{completion_of, before_last, is_load_cq_tail}
@@ -20,8 +20,8 @@ own_submission g h lawful =
       published = d.published;
       staged = d.staged;
       entries = direct_places g h lawful;
-      call = call_direct h (world g h) d;
-      calls = sym (calls_direct h (world g h) d);
+      call = call_direct g h (world g h) d;
+      calls = d.calls;
       seen_head = d.seen;
       is_closed = (direct_requests g h lawful).shut;
     }

@@ -1,5 +1,5 @@
 -- What holds of the requests stays as one ends.
-use Rattle.std.proofs.Common.{◌≡◌, ◌≢◌, ℕ, ◌==◌, ◌<◌, ℤ, pos, neg_ℤ, List, [], ◌∷◌, ◌++◌, length, Bool, true, false, not, ◌&&◌, eqb, Option, Some, None, cond, refl, sym, subst, ◌∙◌, ◌⊎◌, inl, inr}
+use Rattle.std.proofs.Common.{◌≡◌, ◌≢◌, ℕ, ◌==◌, ◌<◌, ℤ, pos, neg_ℤ, List, [], ◌∷◌, ◌++◌, length, Bool, true, false, not, ◌&&◌, eqb, Option, Some, None, cond, refl, sym, subst, ap, ◌∙◌, ◌⊎◌, inl, inr}
 use Rattle.std.specs.List.{list_any}
 use Rattle.std.specs.Option.{option_to_list}
 use Rattle.std.specs.Ordering.{int_eq}
@@ -7,10 +7,10 @@ use Rattle.std.proofs.lemmas.Bool.{cases_eq, cases_Bool, and_parts, and_from, an
 use Rattle.std.proofs.lemmas.Bool.Decides.{Decides-int_eq}
 use Rattle.std.proofs.lemmas.List.Folds.{list_any-append}
 use Rattle.uring_entry.specs.Success.{is_success}
-use Rattle.uring_entry.specs.Preparation.{is_faulty, is_cancel}
+use Rattle.uring_entry.specs.Preparation.{is_faulty, is_cancel, is_cancel_all}
 use Rattle.uring_entry.specs.declared.errno.TheConstants.{EINVAL, EALREADY, ECANCELED}
-use Rattle.uring_entry.specs.Requests.{Requests, entry_of, has_started, has_ended, has_failed, is_running, is_outstanding, is_joined, some_member, is_in_faulty_group, is_cancelled, is_doomed, is_ready, target_of, result_for, cancel_result, doomed_result, no_bytes, chosen_by, with_ended, with_issued_end}
-use Rattle.uring_entry.proofs.RequestLemmas.{is_doomed-faulty, is_doomed-behind, is_doomed-cancelled}
+use Rattle.uring_entry.specs.Requests.{Requests, entry_of, has_started, has_ended, has_failed, is_running, is_outstanding, is_joined, some_member, is_in_faulty_group, is_cancelled, is_doomed, is_ready, is_candidate, is_target, target_of, targets_of, choices_of, count_result, result_for, cancel_result, doomed_result, no_bytes, chosen_by, with_ended, with_issued_end}
+use Rattle.uring_entry.proofs.RequestLemmas.{is_doomed-faulty, is_doomed-behind, is_doomed-cancelled, one_success, never_success, target-in}
 use Rattle.uring_machine.proofs.ListCounts.{any_looser, any_push, any_kept, any_new, count_once_more}
 use Rattle.uring_entry.proofs.EventLemmas.{is_doomed-tells, is_behind_failure-tells, is_behind_failure-from, target_of-tells}
 use Rattle.uring_machine.proofs.SoundRequests.{IsFree, is_otherwise, EndsDoomed, IsSoundRequests, outstanding_tells, idle_tells, ready_first}
@@ -155,12 +155,12 @@ finish_sound r n res bytes running s =
 
 -- What a cancel chooses.
 
--- the result 0 is that of no doomed request
-pub doomed_unlike_zero : (r : Requests) (n : ℕ) → int_eq (doomed_result r n) (pos 0) ≡ false
-doomed_unlike_zero r n = by_fault (is_faulty (entry_of r n)) where
-  by_fault : (faulty : Bool) → int_eq (cond faulty (neg_ℤ EINVAL) (neg_ℤ ECANCELED)) (pos 0) ≡ false
-  by_fault true = refl
-  by_fault false = refl
+-- no doomed request succeeds
+pub doomed_fails : (r : Requests) (n : ℕ) → is_success (entry_of r n) (doomed_result r n) ≡ false
+doomed_fails r n = by_fault (is_faulty (entry_of r n)) where
+  by_fault : (faulty : Bool) → is_success (entry_of r n) (cond faulty (neg_ℤ EINVAL) (neg_ℤ ECANCELED)) ≡ false
+  by_fault true = never_success (entry_of r n) 21
+  by_fault false = never_success (entry_of r n) 124
 
 -- a cancel that ends with 0 found its target at rest
 result_tells : (r : Requests) (m : ℕ) → int_eq (result_for r (Some m)) (pos 0) ≡ true → is_running r m ≡ false
@@ -170,21 +170,36 @@ result_tells r m e = by_running (is_running r m) e where
   by_running false f = refl
 
 module _ (r : Requests) (n : ℕ) where
-  chosen_is : (target : Option ℕ) (m : ℕ) → target_of r n ≡ target → int_eq (result_for r target) (pos 0) ≡ true → list_any (λ k. k == m) (option_to_list target) ≡ true → IsChosen r n m
-  chosen_is None m is at_zero e = absurd (let f : false ≡ true = e in cc)
-  chosen_is (Some t) m is at_zero e =
-      let same : t ≡ m = eqb-true _ _ (elim (or_cases (t == m) false e) [ inl here ↦ here | inr none ↦ absurd (let f : false ≡ true = none in cc) ]) in
-      let p = and_parts _ _ (target_of-tells r n t is).holds in
+  -- what a cancel may choose is chosen, if it isn't running
+  chosen_at : (m : ℕ) → is_candidate r n m ≡ true → is_running r m ≡ false → IsChosen r n m
+  chosen_at m candidate idle =
+      let p = and_parts _ _ candidate in
       let q = and_parts _ _ p.0 in
       let u = and_parts _ _ q.0 in
-      let o = outstanding_tells r t u.0 in
-      subst (IsChosen r n) same
-      (record {
+      let o = outstanding_tells r m u.0 in
+      record {
         other = eqb-false _ _ (not-true _ u.1);
-        unstarted = idle_tells r t (result_tells r t at_zero) o.1;
+        unstarted = idle_tells r m idle o.1;
         unended = o.1;
         accepted = o.0;
-      })
+      }
+
+  one_is : (target : Option ℕ) (m : ℕ) → target_of r n ≡ target → int_eq (result_for r target) (pos 0) ≡ true → list_any (λ k. k == m) (option_to_list target) ≡ true → IsChosen r n m
+  one_is None m is at_zero e = absurd (let f : false ≡ true = e in cc)
+  one_is (Some t) m is at_zero e =
+      let same : t ≡ m = eqb-true _ _ (elim (or_cases (t == m) false e) [ inl here ↦ here | inr none ↦ absurd (let f : false ≡ true = none in cc) ]) in
+      subst (IsChosen r n) same (chosen_at t (target_of-tells r n t is).holds (result_tells r t at_zero))
+
+  target_is : (m : ℕ) → is_target r n m ≡ true → IsChosen r n m
+  target_is m e = let p = and_parts _ _ e in chosen_at m p.0 (not-true _ p.1)
+
+  chosen_is : (m : ℕ) → is_cancel (entry_of r n) ≡ true → is_success (entry_of r n) (cancel_result r n) ≡ true → list_any (λ k. k == m) (choices_of r n) ≡ true → IsChosen r n m
+  chosen_is m cancel success e = by_all (is_cancel_all (entry_of r n)) refl e where
+    by_all : (all : Bool) → is_cancel_all (entry_of r n) ≡ all → list_any (λ k. k == m) (cond all (targets_of r n) (option_to_list (target_of r n))) ≡ true → IsChosen r n m
+    by_all true is there = target_is m (target-in r n m there)
+    by_all false is there =
+        let result : cancel_result r n ≡ result_for r (target_of r n) = ap (λ b. cond b (count_result (length (targets_of r n))) (result_for r (target_of r n))) is in
+        one_is (target_of r n) m refl (ap (λ x. int_eq x (pos 0)) (sym result) ∙ sym (one_success (entry_of r n) (cancel_result r n) cancel is) ∙ success) there
 
   -- who is chosen by the end of n with this result
   pub choice_of : (res : ℤ) → (res ≡ doomed_result r n) ⊎ (res ≡ cancel_result r n) → IsChoice r n (r.cancelled ++ chosen_by r n res)
@@ -193,16 +208,16 @@ module _ (r : Requests) (n : ℕ) where
         kept = λ m e. any_kept (λ k. k == m) r.cancelled (chosen_by r n res) e;
         added = λ m e. elim (or_cases _ _ (sym (list_any-append (λ k. k == m) r.cancelled (chosen_by r n res)) ∙ e)) [
           | inl old ↦ inl old
-          | inr new ↦ inr (by_test (is_cancel (entry_of r n) && int_eq res (pos 0)) refl m new)
+          | inr new ↦ inr (by_test (is_cancel (entry_of r n) && is_success (entry_of r n) res) refl m new)
         ];
       } where
-        by_test : (chooses : Bool) → (is_cancel (entry_of r n) && int_eq res (pos 0)) ≡ chooses → (m : ℕ) → list_any (λ k. k == m) (cond chooses (option_to_list (target_of r n)) []) ≡ true → IsChosen r n m
+        by_test : (chooses : Bool) → (is_cancel (entry_of r n) && is_success (entry_of r n) res) ≡ chooses → (m : ℕ) → list_any (λ k. k == m) (cond chooses (choices_of r n) []) ≡ true → IsChosen r n m
         by_test false is m e = absurd (let f : false ≡ true = e in cc)
         by_test true is m e =
-            let at_zero = (and_parts _ _ is).1 in
+            let p = and_parts _ _ is in
             elim how [
-              | inl doomed ↦ absurd (both_ways _ (doomed_unlike_zero r n) (subst (λ x. int_eq x (pos 0) ≡ true) doomed at_zero))
-              | inr cancels ↦ chosen_is (target_of r n) m refl (subst (λ x. int_eq x (pos 0) ≡ true) cancels at_zero) e
+              | inl doomed ↦ absurd (both_ways _ (doomed_fails r n) (subst (λ x. is_success (entry_of r n) x ≡ true) doomed p.1))
+              | inr cancels ↦ chosen_is m p.0 (subst (λ x. is_success (entry_of r n) x ≡ true) cancels p.1) e
             ]
 
 pub doom_sound : (r : Requests) (n : ℕ) → is_outstanding r n ≡ true → IsSoundRequests r → IsSoundRequests (with_issued_end r n (doomed_result r n))

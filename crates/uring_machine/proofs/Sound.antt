@@ -1,6 +1,7 @@
 -- What holds of everything that a lawful history has made.
-use Rattle.std.proofs.Common.{ℕ, [], ◌∷◌, refl, arith}
+use Rattle.std.proofs.Common.{ℕ, ◌+◌, [], ◌∷◌, refl, arith}
 use Rattle.uring_entry.specs.Setup.{Setup}
+use Rattle.uring_entry.specs.Submission.{with_taken, stops_at}
 use Rattle.uring_machine.specs.World.{World, at_first}
 use Rattle.uring_machine.specs.Histories.{History, world, IsLawfulApart}
 use Rattle.uring_machine.specs.declared.step.Step.{Step}
@@ -9,7 +10,7 @@ use Rattle.uring_machine.proofs.Changes.{change_of}
 use Rattle.uring_machine.proofs.Moves.{Move, stays, accepts, starts, ends_doomed, ends_cancel, ends_run, move_of}
 use Rattle.uring_machine.proofs.SubmissionMoves.{SubmissionMove, stays as stays_off_submission, fills, stages, stores, loads, begins, takes, drops, closes, submission_move}
 use Rattle.uring_machine.proofs.CompletionMoves.{CompletionMove, stays as stays_off_completions, ends, flushes, sees_tail, reaps, stores_head, completion_move}
-use Rattle.uring_machine.proofs.SoundRings.{IsSoundCompletions, IsSoundSubmission, end_sound, flush_sound, see_tail_sound, reap_sound, store_head_sound, stage_sound, store_sound, load_sound, begin_sound, take_sound, close_sound}
+use Rattle.uring_machine.proofs.SoundRings.{IsSoundCompletions, IsSoundSubmission, end_sound, flush_sound, see_tail_sound, reap_sound, store_head_sound, stage_sound, store_sound, load_sound, begin_sound, take_sound, stop_sound, close_sound}
 use Rattle.uring_machine.proofs.SoundRequests.{IsSoundRequests, first_requests, start_sound}
 use Rattle.uring_machine.proofs.RequestEnds.{finish_sound, doom_sound, cancel_sound}
 use Rattle.uring_machine.proofs.Groups.{call_sound}
@@ -39,7 +40,8 @@ submission_kept g w s a v (stages word room) i = stage_sound g.sq w.submission w
 submission_kept g w s a v (stores tail) i = store_sound g.sq w.submission i
 submission_kept g w s a v (loads head) i = load_sound g.sq w.submission i
 submission_kept g w s a v (begins count is_open no_call) i = begin_sound g.sq w.submission count i
-submission_kept g w s a v (takes entry call place opened left at valid) i = take_sound g.sq w.submission call opened left i
+submission_kept g w s a v (takes entry call place opened left at valid) i =
+    stop_sound g.sq (with_taken w.submission call) (record call { taken = call.taken + 1 }) (stops_at g entry) refl (take_sound g.sq w.submission call opened left i)
 submission_kept g w s a v (drops call place opened left at invalid) i = take_sound g.sq w.submission call opened left i
 submission_kept g w s a v (closes accepted missed head call opened all counted) i = close_sound g.sq w.submission call opened i
 

@@ -1,11 +1,12 @@
 -- What holds of both rings' lists in every lawful history.
-use Rattle.std.proofs.Common.{◌≡◌, ℕ, ◌+◌, ◌-◌, ◌<◌, ◌≤◌, Bool, true, false, eqb, List, [], ◌∷◌, ◌++◌, length, take, map, Option, Some, None, slice_get, cond, refl, sym, ap, ◌∙◌, arith, inl, inr}
+use Rattle.std.proofs.Common.{◌≡◌, ℕ, ◌+◌, ◌-◌, ◌<◌, ◌≤◌, Bool, true, false, eqb, List, [], ◌∷◌, ◌++◌, length, take, map, Option, Some, None, slice_get, cond, refl, sym, ap, subst, ◌∙◌, arith, inl, inr}
+use Rattle.std.specs.Option.{option_map}
 use Rattle.std.proofs.lemmas.Bool.{ltb-true, ltb-false, eqb-true, eqb-false, and_cases, and_parts}
 use Rattle.std.proofs.lemmas.List.{length_push, length-append, length-map, take-append-le, take_more}
 use Rattle.std.proofs.lemmas.List.Sums.{sum_by_push}
 use Rattle.std.proofs.lemmas.Option.{slice_get_within, get_or_from_slice_get}
 use Rattle.uring_entry.specs.Layout.{Cqe}
-use Rattle.uring_entry.specs.Submission.{Submission, Call, staged, taken, is_full, with_staged, with_published, with_head_loaded, with_begun, with_taken, with_closed}
+use Rattle.uring_entry.specs.Submission.{Submission, Call, staged, taken, is_full, with_staged, with_published, with_head_loaded, with_begun, with_taken, stopped, with_stopped, with_closed}
 use Rattle.uring_entry.specs.Completions.{Completions, has_room, next_to_reap, with_posted, with_flushed, with_tail_loaded, with_reaped, with_head_stored}
 
 -- The completion ring.
@@ -117,6 +118,22 @@ take_sound size l call e f s =
     let c = ap open_count e in
     let t = ap open_taken e in
     grind arith
+
+-- a call that may stop takes no fewer positions than it took, and no more than it would
+pub stopped_between : (stops : Bool) (call : Call) → call.taken ≤ call.count → (call.taken ≤ (stopped stops call).count) × ((stopped stops call).count ≤ call.count)
+stopped_between true call within = (omega arith, within)
+stopped_between false call within = (within, omega arith)
+
+pub stop_sound : (size : ℕ) (l : Submission) (call : Call) (stops : Bool) → l.call ≡ Some call → IsSoundSubmission size l → IsSoundSubmission size (with_stopped stops l)
+stop_sound size l call stops e s =
+    let b = stopped_between stops call (let w : open_taken (Some call) ≤ open_count (Some call) = subst (λ o. open_taken o ≤ open_count o) e s.within_call in w) in
+    let published : taken l + call.count ≤ length l.published = subst (λ o. taken l + open_count o ≤ length l.published) e s.call_published in
+    record {
+      seen_first = s.seen_first;
+      call_published = subst (λ o. taken l + open_count (option_map (stopped stops) o) ≤ length l.published) (sym e) (omega (arith, b.1));
+      within_call = subst (λ o. open_taken (option_map (stopped stops) o) ≤ open_count (option_map (stopped stops) o)) (sym e) b.0;
+      few = s.few;
+    }
 
 pub close_sound : (size : ℕ) (l : Submission) (call : Call) → l.call ≡ Some call → IsSoundSubmission size l → IsSoundSubmission size (with_closed l call)
 close_sound size l call e s =

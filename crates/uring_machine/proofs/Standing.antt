@@ -2,7 +2,7 @@
 -- Each from the answer that is called for, with `Stands` for what the definitions test; no history is needed.
 -- Stable: other crates may import what is pub.
 use Rattle.std.proofs.Common.{◌≡◌, ℕ, ◌+◌, ◌-◌, ◌<◌, ◌≤◌, Bool, true, false, List, [], ◌∷◌, ◌++◌, length, map, drop, get_or, Option, Some, None, is_some, slice_get, if◌then◌else◌, refl, sym, subst, ap, ap₂, ◌∙◌, ◌⊎◌, inl, inr, arith, append_assoc, append-nil}
-use Rattle.std.specs.Prelude.{All, ◌==◌, nat_le}
+use Rattle.std.specs.Prelude.{All, ◌&&◌, ◌==◌, nat_le}
 use Rattle.std.specs.List.{list_any}
 use Rattle.std.proofs.Math.ListN.{drop_of_length-le}
 use Rattle.std.proofs.lemmas.Bool.{ne_eqb, eq-eqb, lt-leb, lt-ltb, le-ltb}
@@ -12,6 +12,7 @@ use Rattle.std.proofs.lemmas.List.Sums.{sum_by_push}
 use Rattle.std.proofs.lemmas.Option.{slice_get-get_or}
 use Rattle.uring_entry.specs.Setup.{Setup}
 use Rattle.uring_entry.specs.Layout.{Sqe}
+use Rattle.uring_entry.specs.Preparation.{is_faulty}
 use Rattle.uring_entry.specs.Submission.{Submission, Place, place_of, taken, staged, is_busy, is_full, with_closed, call_length}
 use Rattle.uring_machine.specs.World.{World, happens, taking, ending, ending_of}
 use Rattle.uring_machine.specs.StepAnswers.{OrAgain, is_spent, place_answer, entry_answer}
@@ -128,18 +129,19 @@ call_opens g w count asked a s is_open few called =
       by_spent false e told = inl told
 
 -- a position was taken, whatever its word
-took_place : (w : World) (count done : ℕ) (entry : Option Sqe) (a : Answer) → a ≡ entry_answer entry → taking (in_call w count done) a ≡ in_call w count (done + 1)
-took_place w count done None a is = ap (taking (in_call w count done)) is
-took_place w count done (Some entry) a is = ap (taking (in_call w count done)) is
+took_place : (g : Setup) (w : World) (count done : ℕ) (entry : Option Sqe) (a : Answer) → g.stops ≡ false → a ≡ entry_answer entry → taking g (in_call w count done) a ≡ in_call w count (done + 1)
+took_place g w count done None a goes is = ap (taking g (in_call w count done)) is
+took_place g w count done (Some entry) a goes is =
+    ap (taking g (in_call w count done)) is ∙ ap (λ b. in_call w (if b && is_faulty entry then done + 1 else count) (done + 1)) goes
 
 pub position_taken : (g : Setup) → PositionIsTaken g
-position_taken g w count asked done a s few low called =
+position_taken g goes w count asked done a s few low called =
     let l : Submission = w.submission in
     let at : ℕ = taken l + done in
     let within : at < length l.published = omega (arith, s.waiting) in
     let place : Place = get_or l.published at (record { word = 0; entry = None }) in
     let told : a ≡ place_answer (slice_get l.published at) = called ∙ ap (λ b. if b then answer.NoMore else place_answer (slice_get l.published at)) (ne_eqb done asked (λ same. omega arith)) in
-    (told, took_place w asked done place.entry a (told ∙ ap place_answer (slice_get-get_or l.published at _ within)))
+    (told, took_place g w asked done place.entry a goes (told ∙ ap place_answer (slice_get-get_or l.published at _ within)))
 
 closes : (w : World) (count : ℕ) (few : Bool) (accepted missed head : ℕ) (a : Answer) → few ≡ false → a ≡ (if few then answer.NotAll else answer.Taken accepted missed head) → ending (in_call w count count) a ≡ ending_of (in_call w count count) (Some (record { count = count; taken = count }))
 closes w count few accepted missed head a all called = ap (ending (in_call w count count)) (called ∙ ap (λ b. if b then answer.NotAll else answer.Taken accepted missed head) all)

@@ -6,7 +6,7 @@ use Rattle.uring_entry.specs.Layout.{Sqe}
 use Rattle.uring_entry.specs.Submission.{Call, Place, taken, is_full, call_length, entries_of, places_from, with_filled, with_staged, with_published, with_head_loaded, with_begun}
 use Rattle.uring_entry.specs.Requests.{Requests}
 use Rattle.uring_entry.specs.Completions.{Completions}
-use Rattle.uring_machine.specs.World.{World, happens, taking_of, ending_of}
+use Rattle.uring_machine.specs.World.{World, happens, taking_of, taking_entry_of, ending_of}
 use Rattle.uring_machine.specs.Histories.{Event}
 use Rattle.uring_machine.specs.Direct.{staged_by, filled_by, entry_taken_by, takes_position, opened_by, opens_call, accepted_by, closes_call, closes_ring, is_store_tail, is_load_head}
 use Rattle.uring_machine.specs.Laws.{takes_in}
@@ -49,7 +49,7 @@ pub data SubmissionMove (g : Setup) (w : World) : Step → Answer → World → 
       → SubmissionMove g w (step.Begin count) (answer.Call (call_length w.submission count)) (record w { submission = with_begun w.submission count })
   takes : (entry : Sqe) (call : Call) (place : Place) → w.submission.call ≡ Some call → eqb call.taken call.count ≡ false
       → slice_get w.submission.published (taken w.submission + call.taken) ≡ Some place → place.entry ≡ Some entry
-      → SubmissionMove g w step.Take (answer.Entry entry) (taking_of w (Some call))
+      → SubmissionMove g w step.Take (answer.Entry entry) (taking_entry_of g w entry (Some call))
   drops : (call : Call) (place : Place) → w.submission.call ≡ Some call → eqb call.taken call.count ≡ false
       → slice_get w.submission.published (taken w.submission + call.taken) ≡ Some place → place.entry ≡ None
       → SubmissionMove g w step.Take answer.Dropped (taking_of w (Some call))
@@ -69,7 +69,7 @@ submission_move g w s a (event_stores tail) = stores tail
 submission_move g w s a (event_loads head) = loads head
 submission_move g w s a (event_begins count is_open no_call) = begins count is_open no_call
 submission_move g w s a (event_takes entry call place opened left at valid) =
-    subst (λ o. SubmissionMove g w step.Take (answer.Entry entry) (taking_of w o)) (sym opened) (takes entry call place opened left at valid)
+    subst (λ o. SubmissionMove g w step.Take (answer.Entry entry) (taking_entry_of g w entry o)) (sym opened) (takes entry call place opened left at valid)
 submission_move g w s a (event_drops call place opened left at invalid) =
     subst (λ o. SubmissionMove g w step.Take answer.Dropped (taking_of w o)) (sym opened) (drops call place opened left at invalid)
 submission_move g w s a (event_closes accepted missed head call opened all counted) =

@@ -9,7 +9,7 @@ use Rattle.std.proofs.lemmas.Option.{slice_get_within, get_or_from_slice_get}
 use Rattle.uring_entry.specs.Setup.{Setup, IsWithinLimits}
 use Rattle.uring_entry.specs.Layout.{Sqe}
 use Rattle.uring_entry.specs.Submission.{Submission, Call, Place, taken, entries_of, place_of, call_length}
-use Rattle.uring_machine.specs.World.{World, happens, taking_of, ending_of}
+use Rattle.uring_machine.specs.World.{World, happens, taking_of, taking_entry_of, ending_of}
 use Rattle.uring_machine.specs.Histories.{History, world, IsLawfulApart}
 use Rattle.uring_machine.specs.Direct.{takes_position, entry_taken_by, entries_taken, positions_taken}
 use Rattle.uring_machine.specs.Laws.{TakenOnceInOrder}
@@ -39,9 +39,9 @@ one_further places k place entry at is =
     ∙ ap (λ p. entries_of (take k places) ++ cons_option p.entry []) (get_or_from_slice_get places k place place at)
     ∙ ap (λ o. entries_of (take k places) ++ cons_option o []) is
 
-took_valid : (h : History) (w : World) (entry : Sqe) (call : Call) (place : Place) → w.submission.call ≡ Some call → slice_get w.submission.published (taken w.submission + call.taken) ≡ Some place → place.entry ≡ Some entry
-    → TakesPlaces h w → TakesPlaces ((step.Take, answer.Entry entry) ∷ h) (taking_of w (Some call))
-took_valid h w entry call place opened at valid i =
+took_valid : (g : Setup) (h : History) (w : World) (entry : Sqe) (call : Call) (place : Place) → w.submission.call ≡ Some call → slice_get w.submission.published (taken w.submission + call.taken) ≡ Some place → place.entry ≡ Some entry
+    → TakesPlaces h w → TakesPlaces ((step.Take, answer.Entry entry) ∷ h) (taking_entry_of g w entry (Some call))
+took_valid g h w entry call place opened at valid i =
     let t : open_taken w.submission.call ≡ call.taken = ap open_taken opened in
     let next : reached w.submission + 1 ≡ taken w.submission + (call.taken + 1) = omega arith in
     let here : reached w.submission ≡ taken w.submission + call.taken = omega arith in
@@ -95,7 +95,7 @@ places_kept g h w s a v (stays _ _ r c is_closed off left) sound i =
     record { count = count_same takes_position (s, a) h off.takes ∙ i.count; entries = told_same entry_taken_by (s, a) h off.takes_entry ∙ i.entries }
 places_kept g h w s a v (stores tail) sound i = stored_places g h w tail sound i
 places_kept g h w s a v (begins count is_open no_call) sound i = begun_places g h w count no_call i
-places_kept g h w s a v (takes entry call place opened left at valid) sound i = took_valid h w entry call place opened at valid i
+places_kept g h w s a v (takes entry call place opened left at valid) sound i = took_valid g h w entry call place opened at valid i
 places_kept g h w s a v (drops call place opened left at invalid) sound i = took_invalid h w call place opened at invalid i
 places_kept g h w s a v (closes accepted missed head call opened all counted) sound i = closed_places g h w accepted missed head call opened all sound i
 places_kept g h w s a v _ sound i = record { count = count_same takes_position (s, a) h refl ∙ i.count; entries = i.entries }

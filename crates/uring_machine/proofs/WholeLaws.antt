@@ -33,7 +33,7 @@ lawful_apart g [] lawful = tt
 lawful_apart g ((s, a) ∷ before) lawful = (apart_called g (world g before) s a lawful.0, lawful_apart g before lawful.1)
 
 -- what came before in a lawful history is lawful
-lawful_before : (g : Setup) (after before : History) → IsLawful g (after ++ before) → IsLawful g before
+pub lawful_before : (g : Setup) (after before : History) → IsLawful g (after ++ before) → IsLawful g before
 lawful_before g [] before lawful = lawful
 lawful_before g ((s, a) ∷ after) before lawful = lawful_before g after before lawful.1
 
@@ -74,7 +74,7 @@ result_not files Nop e = not_pos 0 e
 result_not files (Read fd off len) e = on_file_not (file_of files fd) (read_outcome off len) (λ f h. not_pos _ h) e
 result_not files (Write fd off len bytes) e = on_file_not (file_of files fd) (λ file. ended_with (cond (is_too_long off len) (negsuc 26) (pos len))) (λ f h. chosen_not (is_too_long off len) len h) e
 result_not files (Fsync fd) e = on_file_not (file_of files fd) (λ file. ended_with (pos 0)) (λ f h. not_pos 0 h) e
-result_not files (Cancel target) e = not_pos 0 e
+result_not files (Cancel target all) e = not_pos 0 e
 
 outcome_not : (files : List FileContents) (op : Op) (outcome : Outcome) → IsOutcome files op outcome → IsCancelled outcome.res → ⊥
 outcome_not files op outcome (inl called) e = result_not files op (subst (λ o. IsCancelled o.res) called e)

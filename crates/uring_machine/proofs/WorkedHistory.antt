@@ -1,6 +1,6 @@
 -- A worked history, on which definitions of histories are computed: a call of an fsync and of a bad word, and the fsync carried out.
 -- Each line holds by computing alone: no lemma is used. Nothing cites this file.
-use Rattle.std.proofs.Common.{◌≡◌, ◌+◌, ◌*◌, ◌^◌, pos, List, [], ◌∷◌, ◌++◌, replicate, take, refl, inl}
+use Rattle.std.proofs.Common.{◌≡◌, ◌+◌, ◌*◌, ◌^◌, pos, Some, true, false, List, [], ◌∷◌, ◌++◌, replicate, take, refl, inl}
 use Rattle.uring_entry.specs.Setup.{Setup}
 use Rattle.uring_entry.specs.Layout.{Sqe, Cqe}
 use Rattle.uring_entry.specs.Submission.{dropped}
@@ -9,7 +9,7 @@ use Rattle.uring_entry.specs.Completions.{Completions, no_completion, with_poste
 use Rattle.uring_entry.specs.declared.operation.Op.TheVariants.{Fsync}
 use Rattle.uring_machine.specs.World.{World}
 use Rattle.uring_machine.specs.CalledFor.{IsLawful, files_of}
-use Rattle.uring_machine.specs.Direct.{call_counts}
+use Rattle.uring_machine.specs.Direct.{call_counts, open_call}
 use Rattle.uring_machine.specs.Finishes.{done_in, files_left, first_files, AreDone, ends_of}
 use Rattle.uring_machine.specs.Histories.{Event, world, history_of}
 use Rattle.uring_machine.specs.Laws.{in_ring, in_overflow}
@@ -19,7 +19,7 @@ use Rattle.uring_machine.specs.declared.step.Step.TheVariants as step
 use Rattle.uring_machine.specs.declared.answer.Answer.TheVariants as answer
 
 abbrev setup : Setup
-setup = record { sq = 2; cq = 2; files = 3; start = 0 }
+setup = record { sq = 2; cq = 2; files = 3; start = 0; stops = false }
 
 -- an fsync of the file of descriptor 2
 abbrev sync : Sqe
@@ -67,6 +67,37 @@ stands_again = record { fresh = refl; call = refl; head = refl; waiting = refl }
 
 first_steps : after_items (with_entry sync ∷ bad_word 9 ∷ []) (item_answers (with_entry sync ∷ bad_word 9 ∷ [])) [] ≡ history_of (take 3 call)
 first_steps = refl
+
+-- A call of two entries, of which the first has a fault: in a ring that stops it ends there, and the next call takes the other.
+
+abbrev stopping : Setup
+stopping = record setup { stops = true }
+
+-- an entry of operation 99
+abbrev odd : Sqe
+odd = 99 ∷ 0 ∷ 0 ∷ 0 ∷ 8 ∷ replicate 11 0
+
+abbrev two : List Event
+two =
+    (step.Fill 0 odd, answer.Filled) ∷ (step.Fill 1 sync, answer.Filled) ∷ (step.Index 0, answer.Staged) ∷ (step.Index 1, answer.Staged) ∷ (step.StoreTail, answer.Tail 2)
+    ∷ (step.Begin 2, answer.Call 2) ∷ (step.Take, answer.Entry odd) ∷ []
+
+abbrev stop : List Event
+stop =
+    two ++ (step.Take, answer.NoMore) ∷ (step.End, answer.Taken 1 0 1) ∷ (step.Begin 2, answer.Call 1) ∷ (step.End, answer.NotAll) ∷ (step.Take, answer.Entry sync)
+    ∷ (step.Take, answer.NoMore) ∷ (step.End, answer.Taken 1 0 2) ∷ []
+
+stop_lawful : IsLawful stopping (history_of stop)
+stop_lawful = (refl, (refl, (refl, (refl, (inl refl, (refl, (refl, (refl, (inl refl, (refl, (refl, (refl, (refl, (refl, tt))))))))))))))
+
+two_calls : call_counts (history_of stop) ≡ 1 ∷ 1 ∷ []
+two_calls = refl
+
+call_stopped : open_call stopping (history_of two) ≡ Some (record { count = 1; taken = 1 })
+call_stopped = refl
+
+call_goes_on : open_call setup (history_of two) ≡ Some (record { count = 2; taken = 1 })
+call_goes_on = refl
 
 -- What was carried out.
 

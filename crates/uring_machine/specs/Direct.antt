@@ -1,10 +1,11 @@
 -- Lists and counts read straight off a history: what its events tell, and which of them stand before which.
-use Rattle.std.specs.Prelude.{ℕ, ◌+◌, Bool, true, false, not, ◌&&◌, ◌==◌, nat_lt, List, [], ◌∷◌, ◌++◌, length, take, sum, count_by, Option, Some, None, is_some, unwrap_or, if◌then◌else◌, slice_index_or}
-use Rattle.std.specs.List.{filter_map}
+use Rattle.std.specs.Prelude.{ℕ, ◌+◌, Bool, true, false, not, ◌&&◌, ◌==◌, nat_lt, List, [], ◌∷◌, ◌++◌, length, sum, count_by, Option, Some, None, is_some, unwrap_or, if◌then◌else◌, slice_index_or}
+use Rattle.std.specs.List.{list_any, filter_map}
 use Rattle.std.specs.Option.{option_or}
 use Rattle.uring_entry.specs.Layout.{Sqe, Cqe, zero_entry}
 use Rattle.uring_entry.specs.Success.{posts_completion}
-use Rattle.uring_entry.specs.Submission.{Call}
+use Rattle.uring_entry.specs.Setup.{Setup}
+use Rattle.uring_entry.specs.Submission.{Call, stops_at}
 use Rattle.uring_entry.specs.Completions.{completion_for}
 use Rattle.uring_entry.specs.Requests.{Ending}
 use Rattle.uring_machine.specs.Histories.{Event, History}
@@ -49,6 +50,11 @@ abbrev pub takes_position : Event → Bool
 takes_position (step.Take, answer.Entry entry) = true
 takes_position (step.Take, answer.Dropped) = true
 takes_position _ = false
+
+-- whether a call takes an entry behind which it stops
+abbrev pub takes_last : Setup → Event → Bool
+takes_last g (step.Take, answer.Entry entry) = stops_at g entry
+takes_last g _ = false
 
 -- how many positions the call has that opens
 abbrev pub opened_by : Event → Option ℕ
@@ -169,9 +175,14 @@ published_entry size h position =
     let word = slice_index_or (staged_words h) position 0 in
     if nat_lt word size then Some (slot_content (before_published position h) word) else None
 
--- how many positions each call had that was closed, in order: the calls opened, but for the one that is open
+-- how many positions the call took that was opened last
+abbrev pub taken_since : History → ℕ
+taken_since h = count_by takes_position (since_last opens_call h)
+
+-- how many positions each call took that was closed, in order
 abbrev pub call_counts : History → List ℕ
-call_counts h = take (count_by closes_call h) (told opened_by h)
+call_counts [] = []
+call_counts (event ∷ before) = if closes_call event then call_counts before ++ taken_since before ∷ [] else call_counts before
 
 -- how many positions closed calls took
 abbrev pub taken_count : History → ℕ
@@ -181,11 +192,19 @@ taken_count h = sum (call_counts h)
 abbrev pub loaded_head : History → ℕ
 loaded_head h = taken_count (before_last is_load_head h)
 
+-- whether the call that was opened last stopped: it took an entry behind which it stops
+abbrev pub has_stopped : Setup → History → Bool
+has_stopped g h = list_any (takes_last g) (since_last opens_call h)
+
+-- how many positions the call takes that was opened last: those that it opened with, or those that it took, if it stopped
+abbrev pub open_count : Setup → History → ℕ
+open_count g h = if has_stopped g h then taken_since h else unwrap_or (last_told opened_by h) 0
+
 -- the call that is open, where more were opened than closed: the last one opened, with the positions taken since
-abbrev pub open_call : History → Option Call
-open_call h =
+abbrev pub open_call : Setup → History → Option Call
+open_call g h =
     if count_by opens_call h == count_by closes_call h then None else
-    Some (record { count = slice_index_or (told opened_by h) (count_by closes_call h) 0; taken = count_by takes_position (since_last opens_call h) })
+    Some (record { count = open_count g h; taken = taken_since h })
 
 -- the sums of a list's beginnings, of which each has an element more, after what was summed before
 abbrev pub sums_from : ℕ → List ℕ → List ℕ

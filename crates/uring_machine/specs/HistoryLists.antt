@@ -1,11 +1,11 @@
 -- The lists that a history has made are those that are read straight off it.
-use Rattle.std.specs.Prelude.{◌≡◌, ◌↔◌, ℕ, ◌+◌, ◌-◌, ◌==◌, nat_lt, min, pos, Bool, true, ◌&&◌, List, [], ◌∷◌, ◌++◌, length, map, Some, is_some, if◌then◌else◌, slice_get}
+use Rattle.std.specs.Prelude.{◌≡◌, ◌↔◌, ℕ, ◌+◌, ◌-◌, ◌==◌, nat_lt, min, ℤ, pos, Bool, true, false, ◌&&◌, List, [], ◌∷◌, ◌++◌, length, map, Some, is_some, if◌then◌else◌, slice_get, ◌⊎◌}
 use Rattle.std.specs.List.{list_any}
 use Rattle.std.specs.Option.{option_and_then}
 use Rattle.uring_entry.specs.Setup.{Setup}
-use Rattle.uring_entry.specs.Preparation.{is_cancel}
+use Rattle.uring_entry.specs.Preparation.{is_cancel, is_cancel_all}
 use Rattle.uring_entry.specs.Submission.{Place, accepted}
-use Rattle.uring_entry.specs.Requests.{entry_of, is_cancelled, target_of}
+use Rattle.uring_entry.specs.Requests.{Requests, entry_of, is_cancelled, target_of, is_target}
 use Rattle.uring_machine.specs.Histories.{Event, History, world}
 use Rattle.uring_machine.specs.Direct.{closes_ring, is_flush, is_load_cq_tail, end_told_by, completion_of, before_last, starts, ends, reaps, posts, staged_words, published_words, slot_content, published_entry, open_call, call_counts, cut_counts, loaded_head, stored_head, flushed_head}
 use Rattle.uring_machine.specs.declared.step.Step.TheVariants as step
@@ -34,7 +34,7 @@ pub record OwnSubmission (g : Setup) (h : History) : Type 0 where
   pub published : map (λ place. place.word) (world g h).submission.published ≡ published_words h
   pub staged : published_words h ++ (world g h).submission.fresh ≡ staged_words h
   pub entries : (position : ℕ) (place : Place) → slice_get (world g h).submission.published position ≡ Some place → place.entry ≡ published_entry g.sq h position
-  pub call : (world g h).submission.call ≡ open_call h
+  pub call : (world g h).submission.call ≡ open_call g h
   pub calls : (world g h).submission.calls ≡ call_counts h
   pub seen_head : (world g h).submission.seen_head ≡ loaded_head h
   pub is_closed : (world g h).is_closed ≡ list_any closes_ring h
@@ -55,15 +55,33 @@ pub record OwnCompletions (g : Setup) (h : History) : Type 0 where
   pub seen_head : (world g h).completions.seen_head ≡ flushed_head h
   pub seen_tail : (world g h).completions.seen_tail ≡ put_count g (before_last is_load_cq_tail h)
 
--- a cancel that ended with 0 had m as its target just before
+-- n, a cancel of one that ended with 0, had m as its target
+pub record ChoseOne (r : Requests) (n : ℕ) (res : ℤ) (m : ℕ) : Type 0 where
+  pub cancel : is_cancel (entry_of r n) ≡ true
+  pub one : is_cancel_all (entry_of r n) ≡ false
+  pub result : res ≡ pos 0
+  pub target : target_of r n ≡ Some m
+
+-- n, a cancel of all that ended with a number, had m among its targets
+pub record ChoseAll (r : Requests) (n : ℕ) (res : ℤ) (m : ℕ) : Type 0 where
+  pub all : is_cancel_all (entry_of r n) ≡ true
+  pub count : ℕ
+  pub result : res ≡ pos count
+  pub target : is_target r n m ≡ true
+
+-- n, a cancel that ended with this result, chose m
+abbrev pub Chose : Requests → ℕ → ℤ → ℕ → Type 0
+Chose r n res m = ChoseOne r n res m ⊎ ChoseAll r n res m
+
+-- a cancel ended, and chose m by what stood just before
 pub record IsChosenIn (g : Setup) (h : History) (m : ℕ) : Type 0 where
   pub after : History
   pub before : History
   pub number : ℕ
+  pub res : ℤ
   pub bytes : List ℕ
-  pub split : h ≡ after ++ (step.Issue number, answer.Ended (pos 0) bytes) ∷ before
-  pub cancel : is_cancel (entry_of (world g before).requests number) ≡ true
-  pub target : target_of (world g before).requests number ≡ Some m
+  pub split : h ≡ after ++ (step.Issue number, answer.Ended res bytes) ∷ before
+  pub chose : Chose (world g before).requests number res m
 
 -- whom cancels chose
 abbrev pub OwnCancelled : Setup → History → Type 0

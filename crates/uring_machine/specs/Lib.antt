@@ -1,5 +1,6 @@
 pub mod World
 pub mod StepAnswers
+pub mod Stopping
 pub mod Histories
 pub mod Direct
 pub mod Laws
@@ -13,3 +14,4 @@ pub mod Finishes
 pub mod Published
 pub mod Standing
 pub mod Reasons
+pub mod Recorded

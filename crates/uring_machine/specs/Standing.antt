@@ -64,9 +64,9 @@ abbrev pub CallOpens : Setup → Type 0
 CallOpens g = (w : World) (count asked : ℕ) (a : Answer) → Stands w.submission [] count → w.is_closed ≡ false → asked ≤ count → CalledForApart g w (step.Begin asked) a
     → (OrAgain (answer.Call asked) a ⊎ ((a ≡ answer.Spent) × (is_spent w asked ≡ true))) × (happens g w (step.Begin asked) (answer.Call asked) ≡ in_call w asked 0)
 
--- it takes its positions one by one, whatever their words
+-- in a ring that doesn't stop it takes its positions one by one, whatever their words and entries
 abbrev pub PositionIsTaken : Setup → Type 0
-PositionIsTaken g = (w : World) (count asked done : ℕ) (a : Answer) → Stands w.submission [] count → asked ≤ count → done < asked → CalledForApart g (in_call w asked done) step.Take a
+PositionIsTaken g = g.stops ≡ false → (w : World) (count asked done : ℕ) (a : Answer) → Stands w.submission [] count → asked ≤ count → done < asked → CalledForApart g (in_call w asked done) step.Take a
     → (a ≡ place_answer (slice_get w.submission.published (taken w.submission + done))) × (happens g (in_call w asked done) step.Take a ≡ in_call w asked (done + 1))
 
 -- the world after such a call, once the application has loaded the head

@@ -2,7 +2,7 @@
 use Rattle.std.specs.Prelude.{ℕ, Bool, true, false, Option, Some, None, length}
 use Rattle.uring_entry.specs.Setup.{Setup}
 use Rattle.uring_entry.specs.Layout.{Sqe}
-use Rattle.uring_entry.specs.Submission.{Submission, Call, no_submission, entries_from, with_filled, with_staged, with_published, with_head_loaded, with_begun, with_taken, with_closed}
+use Rattle.uring_entry.specs.Submission.{Submission, Call, no_submission, entries_from, with_filled, with_staged, with_published, with_head_loaded, with_begun, with_taken, stops_at, with_stopped, with_closed}
 use Rattle.uring_entry.specs.Requests.{Requests, no_request, entry_of, with_call, with_started, with_ended, with_issued_end, no_bytes}
 use Rattle.uring_entry.specs.Completions.{Completions, no_completion, with_end, with_flushed, with_tail_loaded, with_reaped, with_head_stored}
 use Rattle.uring_machine.specs.declared.step.Step.{Step}
@@ -39,11 +39,16 @@ abbrev pub taking_of : World → Option Call → World
 taking_of w None = w
 taking_of w (Some call) = record w { submission = with_taken w.submission call }
 
--- a position was taken, whether its word names a slot or not
-abbrev pub taking : World → Answer → World
-taking w (answer.Entry entry) = taking_of w w.submission.call
-taking w answer.Dropped = taking_of w w.submission.call
-taking w _ = w
+-- the open call takes this entry, and stops behind it if it stops there
+abbrev pub taking_entry_of : Setup → World → Sqe → Option Call → World
+taking_entry_of g w entry None = w
+taking_entry_of g w entry (Some call) = record w { submission = with_stopped (stops_at g entry) (with_taken w.submission call) }
+
+-- a position was taken: an entry, or a word that names no slot, behind which no call stops
+abbrev pub taking : Setup → World → Answer → World
+taking g w (answer.Entry entry) = taking_entry_of g w entry w.submission.call
+taking g w answer.Dropped = taking_of w w.submission.call
+taking g w _ = w
 
 -- the open call closes, and the entries that it took are accepted
 abbrev pub ending_of : World → Option Call → World
@@ -92,7 +97,7 @@ happens g w (step.Index word) a = staging w word a
 happens g w step.StoreTail a = record w { submission = with_published g.sq w.submission }
 happens g w step.LoadHead a = record w { submission = with_head_loaded w.submission }
 happens g w (step.Begin count) a = beginning w count a
-happens g w step.Take a = taking w a
+happens g w step.Take a = taking g w a
 happens g w step.End a = ending w a
 happens g w (step.Issue n) a = issuing g w n a
 happens g w (step.Finish n) a = finishing g w n a

@@ -1,3 +1,5 @@
+ghost use Rattle.std.specs.Prelude.{◌≡◌, ◌↔◌, IsTrue};
+
 use uring_entry::{Cqe, Sqe};
 
 /// The answer to a step. The refusals are our own rule, but for `Again`, and so is their order: `NoSlot` before `Busy`; `Closed`, `InCall`, `Spent`, `Again`; `NoCall` before `NoMore` and `NotAll`; `Unknown`, `Running`, `NotReady`. A refusal changes nothing.
@@ -96,4 +98,11 @@ pub enum Answer {
 
     /// To Next: the least request that can be issued.
     Next(u64),
+}
+
+/// Whether two answers are the same.
+pub fn same_answer(a: &Answer, b: &Answer) -> bool
+    ensures { IsTrue result ↔ (a.now ≡ b.now) }
+{
+    *a == *b
 }

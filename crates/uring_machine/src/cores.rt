@@ -1,12 +1,15 @@
-ghost use Rattle.std.specs.Prelude.{◌≡◌, ◌+◌, ◌<◌, ◌≤◌, ◌∷◌, [], true, length, IfOk, IfSome, slice_get};
+ghost use Rattle.std.specs.Prelude.{◌≡◌, ◌+◌, ◌<◌, ◌≤◌, ◌∷◌, [], true, drop, length, IfOk, IfSome, slice_get};
 ghost use Rattle.uring_entry.specs.Setup.{Setup, IsWithinLimits};
+ghost use Rattle.uring_entry.specs.Submission.{Submission, stops_at, with_stopped};
 ghost use Rattle.uring_entry.specs.Completions.{Completions, unreaped, with_end};
 ghost use Rattle.uring_entry.specs.Requests.{Requests, least_of, operation_running, next_of, with_call};
 ghost use Rattle.uring_entry.specs.Why.{why_of};
 ghost use Rattle.uring_rings.specs.Cq.{ShowsCompletions};
+ghost use Rattle.uring_rings.specs.Sq.{ShowsSubmission};
 ghost use Rattle.uring_dispatch.specs.Dispatch.{ShowsRequests};
 ghost use Rattle.uring_files.specs.Operations.{IsForFiles};
 ghost use Rattle.uring_machine.specs.Histories.{History, world};
+ghost use Rattle.uring_machine.specs.StepAnswers.{begin_answer};
 ghost use Rattle.uring_machine.specs.declared.step.Step.TheVariants as step;
 ghost use Rattle.uring_machine.specs.declared.answer.Answer.TheVariants as answer;
 
@@ -16,7 +19,7 @@ use crate::step::Step;
 use std::alloc::{AllocError, Global};
 use std::marker::Model;
 use uring_dispatch::{Dispatch, Finished, Issued, ReserveError};
-use uring_entry::{Cqe, Op, Outcome, Setup, Sqe, Why, posts_completion};
+use uring_entry::{Cqe, Op, Outcome, Setup, Sqe, Why, posts_completion, prepare};
 use uring_rings::{Cq, EndAnswer, Sq, TakeAnswer};
 
 /// A pair of rings and its requests, moved one step at a time, without files: how a running request ends comes from outside.
@@ -93,6 +96,23 @@ impl Core {
         }
     }
 
+    /// What a Begin of this many positions, any number, is answered where memory is there: the answer of `Step::Begin`, unless that is `Again`. It is no step, and so not part of a history.
+    pub fn would_begin(&self, count: u32) -> Answer
+        ensures { (h : History) → FitsApart self.now h → result ≡ begin_answer (world self.now.setup h) count }
+    {
+        if self.is_closed {
+            return Answer::Closed;
+        }
+        if self.sq.in_call() {
+            return Answer::InCall;
+        }
+        let length = count.min(self.sq.pending());
+        if u64::from(length) > Dispatch::MAX_ACCEPTED - self.dispatch.accepted() {
+            return Answer::Spent;
+        }
+        Answer::Call(length)
+    }
+
     /// Ends the running request of this number with an outcome from outside, any one, and posts its completion, unless it succeeded and is to be skipped; `NotRunning` if it isn't running, and then nothing changes.
     pub fn finish(&mut self, number: u64, outcome: Outcome) -> Answer
         ensures setup { self.new.setup ≡ self.old.setup }
@@ -156,6 +176,20 @@ impl Core {
         self.cq.rest(place)
     }
 
+    /// How many completions wait in the overflow list.
+    pub fn overflowing(&self) -> u64
+        ensures { (h : History) → FitsApart self.now h → result ≡ length (drop (world self.now.setup h).completions.put (world self.now.setup h).completions.posted) }
+    {
+        self.cq.overflowing()
+    }
+
+    /// The completion at this place, from 0, of those that wait in the overflow list, the oldest first: `None` past the last.
+    pub fn overflow(&self, place: u64) -> Option<Cqe>
+        ensures { (h : History) → FitsApart self.now h → result ≡ slice_get (drop (world self.now.setup h).completions.put (world self.now.setup h).completions.posted) place }
+    {
+        self.cq.overflow(place)
+    }
+
     /// How many requests were accepted, are outstanding and run, and how many completions were posted and reaped.
     pub fn counts(&self) -> Counts
         ensures { (h : History) → FitsApart self.now h → IsCounts (world self.now.setup h) result }
@@ -212,17 +246,15 @@ impl Core {
         ensures memory { HasNoLessMemory self.old self.new }
         ensures again { (h : History) → FitsApart self.old h → result ≡ answer.Again → IsShortOfMemory self.old (world self.old.setup h) (step.Begin count) }
     {
-        if self.is_closed {
-            return Answer::Closed;
-        }
-        if self.sq.in_call() {
-            return Answer::InCall;
-        }
-        let length = u64::from(count.min(self.sq.pending()));
+        let wanted = self.would_begin(count);
+        let Answer::Call(length) = wanted else {
+            return wanted;
+        };
+        let length = u64::from(length);
         let ends = self.dispatch.outstanding() + length;
         match self.dispatch.reserve(length) {
             Ok(()) => {}
-            Err(ReserveError::Spent) => return Answer::Spent,
+            Err(ReserveError::Spent) => unreachable!(),
             Err(ReserveError::NoMemory) => return Answer::Again,
         }
         if self.cq.reserve(ends).is_err() {
@@ -231,7 +263,7 @@ impl Core {
         Answer::from(self.sq.begin(count))
     }
 
-    /// The dispatcher copies the call's next position.
+    /// The dispatcher copies the call's next position. A call that stops behind its entry takes no more.
     fn take(&mut self) -> Answer
         ensures setup { self.new.setup ≡ self.old.setup }
         ensures fits { (h : History) → FitsApart self.old h → FitsApart self.new ((step.Take, result) ∷ h) }
@@ -240,6 +272,7 @@ impl Core {
         let answer = self.sq.take();
         if let TakeAnswer::Entry(entry) = answer {
             self.held.push_reserved(entry);
+            stop_behind(&mut self.sq, self.setup, &entry);
         }
         Answer::from(answer)
     }
@@ -355,6 +388,15 @@ pub struct Counts {
 
     /// The completions reaped, at most those posted.
     pub reaped: u64,
+}
+
+/// Stops the open call, if a call of this set-up stops behind this entry.
+fn stop_behind(sq: &mut Sq, setup: Setup, entry: &Sqe)
+    ensures { (g : Setup) (l : Submission) → ShowsSubmission g sq.old l → ShowsSubmission g sq.new (with_stopped (stops_at setup entry.now) l) }
+{
+    if setup.stops() && prepare(entry).is_err() {
+        sq.stop();
+    }
 }
 
 /// Accepts the entries of a call, in order, and ends it.

@@ -11,6 +11,7 @@ ghost use Rattle.uring_machine.specs.Published.{OwnPublished};
 pub mod calls;
 pub mod files;
 pub mod reasons;
+pub mod recorded;
 
 /// Each list and count that a history has made is the one that is read straight off its events.
 pub fn lists_are_the_historys_own()

@@ -2,17 +2,22 @@
 #![tactic(auto)]
 
 mod answer;
+mod checks;
 mod conversions;
 mod cores;
+mod follow;
 pub mod laws;
 mod machine;
 mod runs;
 mod step;
+mod wanted;
 
-pub use answer::Answer;
+pub use answer::{Answer, same_answer};
+pub use checks::{check, check_apart};
 pub use cores::{Core, Counts};
 pub use machine::Machine;
 pub use runs::run;
 pub use step::Step;
 pub use uring_entry::{BadSetup, Cqe, Doom, Fault, Op, Outcome, Setup, Since, Sqe, SqeFlags, Why};
 pub use uring_files::FileState;
+pub use wanted::{Refusal, Wanted};

@@ -1,22 +1,28 @@
-ghost use Rattle.std.specs.Prelude.{◌≡◌, ◌≤◌, ◌∷◌, [], IfOk, IfSome, slice_get};
+ghost use Rattle.std.specs.Prelude.{◌≡◌, ◌≤◌, ◌∷◌, [], true, drop, length, List, Some, IfOk, IfErr, IfSome, IsErrOf, OnOk, slice_get};
 ghost use Rattle.uring_entry.specs.Setup.{IsWithinLimits};
 ghost use Rattle.uring_entry.specs.Completions.{unreaped};
 ghost use Rattle.uring_entry.specs.Requests.{operation_running, next_of, least_of};
 ghost use Rattle.uring_entry.specs.Why.{why_of};
-ghost use Rattle.uring_files.specs.Operations.{IsForFiles, state_of, byte_of};
+ghost use Rattle.uring_files.specs.Contents.{FileContents};
+ghost use Rattle.uring_files.specs.Operations.{IsForFiles, ended_with, is_lengthening, result_of, state_of, byte_of};
 ghost use Rattle.uring_machine.specs.CalledFor.{CalledFor, files_of};
 ghost use Rattle.uring_machine.specs.Core.{IsCounts, IsShortOfMemory, HasNoLessMemory};
 ghost use Rattle.uring_machine.specs.Histories.{History, world};
+ghost use Rattle.uring_machine.specs.Recorded.{IsRefused, MayLackMemory, resumed};
+ghost use Rattle.uring_machine.specs.StepAnswers.{begin_answer};
 ghost use Rattle.uring_machine.specs.Settling.{HasSettled, IsSettled};
 ghost use Rattle.uring_machine.specs.declared.step.Step.TheVariants as step;
 ghost use Rattle.uring_machine.specs.declared.answer.Answer.TheVariants as answer;
 
-use crate::answer::Answer;
+use crate::answer::{Answer, same_answer};
+use crate::conversions::ended;
 use crate::cores::{Core, Counts};
+use crate::follow::compared;
 use crate::step::Step;
+use crate::wanted::{Refusal, Wanted};
 use std::alloc::{AllocError, Global};
 use std::marker::Model;
-use uring_entry::{Cqe, Op, Setup, Why};
+use uring_entry::{Cqe, Op, Outcome, Setup, Why, errno};
 use uring_files::{FileState, Files};
 
 /// A pair of rings, its requests and files in memory, moved one step at a time.
@@ -73,11 +79,49 @@ impl Machine {
         }
     }
 
+    /// Follows a step with the answer that was recorded for it elsewhere, any answer.
+    ///
+    /// If it is called for, the step is made with it: a `Begin` that was answered `Again` makes nothing, and a write that lengthens its file may end with -12 (ENOMEM), and then changes no file. Else it is `Wrong`, and tells the answers that are called for; if that is one alone, the machine goes on as though it had been given, and else as though the step hadn't been made. `NoMemory` comes only to `Begin`, if a call is recorded, and to the `Finish` of a write that lengthens its file, if its success is recorded, and memory is refused; then the step isn't made.
+    pub fn follow(&mut self, step: Step, given: Answer) -> Result<(), Refusal>
+        ensures setup { self.new.core.setup ≡ self.old.core.setup }
+        ensures ok { OnOk result ((h : History) → Fits self.old h → Fits self.new ((step, given) ∷ h)) }
+        ensures refused { IfErr result (λ refusal. (h : History) → Fits self.old h → IsRefused (CalledFor self.old.core.setup (world self.old.core.setup h) step) given refusal) }
+        ensures resumed { IfErr result (λ refusal. (h : History) → Fits self.old h → Fits self.new (resumed step refusal h)) }
+        ensures no_memory { IsErrOf result Refusal.NoMemory → (h : History) → Fits self.old h → MayLackMemory self.old (world self.old.core.setup h) step }
+        ensures memory { HasNoLessMemory self.old.core self.new.core }
+    {
+        match step {
+            Step::Finish { number } => self.follow_finish(number, given),
+            _ => self.core.follow(step, given),
+        }
+    }
+
+    /// What a Begin of this many positions, any number, is answered where memory is there: the answer of `Step::Begin`, unless that is `Again`. It is no step, and so not part of a history.
+    pub fn would_begin(&self, count: u32) -> Answer
+        ensures { (h : History) → Fits self.now h → result ≡ begin_answer (world self.now.core.setup h) count }
+    {
+        self.core.would_begin(count)
+    }
+
     /// The completion at this place, from 0, among those posted and not reaped, the oldest first: `None` past the last.
     pub fn rest(&self, place: u64) -> Option<Cqe>
         ensures { (h : History) → Fits self.now h → result ≡ slice_get (unreaped (world self.now.core.setup h).completions) place }
     {
         self.core.rest(place)
+    }
+
+    /// How many completions wait in the overflow list.
+    pub fn overflowing(&self) -> u64
+        ensures { (h : History) → Fits self.now h → result ≡ length (drop (world self.now.core.setup h).completions.put (world self.now.core.setup h).completions.posted) }
+    {
+        self.core.overflowing()
+    }
+
+    /// The completion at this place, from 0, of those that wait in the overflow list, the oldest first: `None` past the last.
+    pub fn overflow(&self, place: u64) -> Option<Cqe>
+        ensures { (h : History) → Fits self.now h → result ≡ slice_get (drop (world self.now.core.setup h).completions.put (world self.now.core.setup h).completions.posted) place }
+    {
+        self.core.overflow(place)
     }
 
     /// How many requests were accepted, are outstanding and run, and how many completions were posted and reaped.
@@ -191,5 +235,67 @@ impl Machine {
             }
             None => Answer::NotRunning,
         }
+    }
+
+    /// Follows a Finish.
+    fn follow_finish(&mut self, number: u64, given: Answer) -> Result<(), Refusal>
+        ensures setup { self.new.core.setup ≡ self.old.core.setup }
+        ensures ok { OnOk result ((h : History) → Fits self.old h → Fits self.new ((step.Finish number, given) ∷ h)) }
+        ensures refused { IfErr result (λ refusal. (h : History) → Fits self.old h → IsRefused (CalledFor self.old.core.setup (world self.old.core.setup h) (step.Finish number)) given refusal) }
+        ensures resumed { IfErr result (λ refusal. (h : History) → Fits self.old h → Fits self.new (resumed (step.Finish number) refusal h)) }
+        ensures no_memory { IsErrOf result Refusal.NoMemory → (h : History) → Fits self.old h → MayLackMemory self.old (world self.old.core.setup h) (step.Finish number) }
+        ensures memory { HasNoLessMemory self.old.core self.new.core }
+    {
+        let Some(op) = self.core.running_op(number) else {
+            return compared(Answer::NotRunning, given);
+        };
+        if self.files.lengthens(&op) {
+            self.follow_growth(number, &op, given)
+        } else {
+            compared(self.finish(number), given)
+        }
+    }
+
+    /// Follows the Finish of a write that makes its file longer.
+    fn follow_growth(&mut self, number: u64, op: &Op, given: Answer) -> Result<(), Refusal>
+        requires asks { IsForFiles op.now }
+        requires running { (h : History) → Fits self.old h → Some op.now ≡ operation_running (world self.old.core.setup h).requests number }
+        requires lengthens { is_lengthening self.old.files op.now ≡ true }
+        ensures setup { self.new.core.setup ≡ self.old.core.setup }
+        ensures ok { OnOk result ((h : History) → Fits self.old h → Fits self.new ((step.Finish number, given) ∷ h)) }
+        ensures refused { IfErr result (λ refusal. (h : History) → Fits self.old h → IsRefused (CalledFor self.old.core.setup (world self.old.core.setup h) (step.Finish number)) given refusal) }
+        ensures resumed { IfErr result (λ refusal. (h : History) → Fits self.old h → Fits self.new (resumed (step.Finish number) refusal h)) }
+        ensures no_memory { IsErrOf result Refusal.NoMemory → (h : History) → Fits self.old h → MayLackMemory self.old (world self.old.core.setup h) (step.Finish number) }
+        ensures memory { HasNoLessMemory self.old.core self.new.core }
+    {
+        let refused = Outcome {
+            res: -errno::ENOMEM,
+            bytes: [0; 64],
+        };
+        if same_answer(&given, &ended(refused.res, refused.bytes)) {
+            self.core.finish(number, refused);
+            return Ok(());
+        }
+        let length = written_length(op);
+        if !same_answer(&given, &ended(length, [0; 64])) {
+            return Err(Refusal::Wrong(Wanted::EndOrNoMemory(length)));
+        }
+        let outcome = self.files.apply(op);
+        if outcome.res != length {
+            return Err(Refusal::NoMemory);
+        }
+        self.core.finish(number, outcome);
+        Ok(())
+    }
+}
+
+/// How many bytes a write writes if it succeeds, 0 for any other operation.
+fn written_length(op: &Op) -> i32
+    requires { IsForFiles op.now }
+    ensures { (files : List FileContents) → is_lengthening files op.now ≡ true → result_of files op.now ≡ ended_with result }
+{
+    match op {
+        Op::Write { len, .. } => *len as i32,
+        _ => 0,
     }
 }

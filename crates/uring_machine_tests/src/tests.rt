@@ -1,5 +1,6 @@
 mod cores;
 mod growth;
+mod recorded;
 mod settling;
 mod sizes;
 

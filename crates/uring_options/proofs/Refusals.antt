@@ -1,10 +1,11 @@
 -- When numbers are refused, and what else a command line can end with.
-use Rattle.std.proofs.Common.{◌≡◌, ◌∙◌, ◌*◌, ◌<◌, ◌≤◌, ◌^◌, ◌↔◌, ℕ, zero, suc, Bool, true, false, List, [], Option, Some, None, Result, Ok, Err, refl, sym, ap, subst, inl, inr, arith}
+use Rattle.std.proofs.Common.{◌≡◌, ◌∙◌, ◌*◌, ◌<◌, ◌≤◌, ◌^◌, ◌↔◌, ℕ, zero, suc, false, List, [], Option, Some, None, Result, Ok, Err, refl, sym, ap, subst, inl, inr, arith}
 use Rattle.std.specs.Prelude.{codes, unwrap_or, IfOk, IfErr, IsErrOf, IsErrAnd}
 use Rattle.std.specs.Int.{IsNextPowerOfTwo}
 use Rattle.std.specs.Str.Parse.{digits_value, without_leading_plus}
 use Rattle.std.proofs.Math.Nat.{pow-suc}
 use Rattle.std.proofs.lemmas.Bool.{cases_lt}
+use Rattle.std.proofs.lemmas.Result.{IfOk-weaker, IfErr-weaker}
 use Rattle.clap.specs.Faults.{fault_of}
 use Rattle.clap.specs.Kinds.{Kinds, HasKind, IsAmong}
 use Rattle.clap.specs.Simple.{subcommand_of}
@@ -14,10 +15,10 @@ use Rattle.clap.specs.declared.error.Error.{Error}
 use Rattle.clap.specs.declared.error.kind.ErrorKind.TheVariants.{OutOfMemory}
 use Rattle.uring_entry.specs.Setup.{Setup, IsBadCq}
 use Rattle.uring_entry.proofs.Powers.{rounded_once}
-use Rattle.uring_options.specs.CommandLine.{uring, trace_rows, Gives, Numbers, AreInRange, GivesNumbers, IsWithin, IsSetupOver, Writes, IsTooSmall, AskFor, AskForTooSmall, IsMemory}
+use Rattle.uring_options.specs.CommandLine.{uring, Run, run_of, command_rows, Gives, Numbers, AreInRange, GivesNumbers, IsWithin, IsSetupOver, IsRunOver, Writes, IsTooSmall, AskFor, AskForTooSmall, IsMemory, IsFaultOf}
 use Rattle.uring_options.proofs.CommandLine.{Asks}
 use Rattle.uring_options.specs.declared.answers.Options.{Options}
-use Rattle.uring_options.specs.declared.answers.Options.TheVariants.{Trace, Explain}
+use Rattle.uring_options.specs.declared.answers.Options.TheVariants.{Trace, Explain, Graph, Timeline, Check, Play}
 use Rattle.uring_options.specs.declared.answers.OptionsFault.{OptionsFault}
 use Rattle.uring_options.specs.declared.answers.OptionsFault.TheVariants.{Small, Words}
 
@@ -66,8 +67,8 @@ gives_once rows id (Some a) (Some b) x y =
 
 not_over : (words : List Text) (n : Numbers) (s : Setup) → Writes words n → IsSetupOver n s → AskForTooSmall words → ⊥
 not_over words n s writes set_up (m, small_writes, small) =
-    let sq : n.sq ≡ m.sq = gives_once (trace_rows (subcommand_of uring words)) (codes "sq") n.sq m.sq writes.numbers.sq small_writes.numbers.sq in
-    let cq : n.cq ≡ m.cq = gives_once (trace_rows (subcommand_of uring words)) (codes "cq") n.cq m.cq writes.numbers.cq small_writes.numbers.cq in
+    let sq : n.sq ≡ m.sq = gives_once (command_rows (subcommand_of uring words)) (codes "sq") n.sq m.sq writes.numbers.sq small_writes.numbers.sq in
+    let cq : n.cq ≡ m.cq = gives_once (command_rows (subcommand_of uring words)) (codes "cq") n.cq m.cq writes.numbers.cq small_writes.numbers.cq in
     let given : n.cq ≡ Some small.cq = cq ∙ small.given in
     let asked : 1 ≤ small.cq = subst (λ o. 1 ≤ unwrap_or o (2 * s.sq)) given set_up.cq_asked in
     let size = subst (λ o. IsNextPowerOfTwo (unwrap_or o (2 * s.sq)) s.cq) given set_up.cq_rounded in
@@ -79,8 +80,12 @@ not_over words n s writes set_up (m, small_writes, small) =
     omega arith
 
 not_both : (words : List Text) (o : Options) → AskFor words o → AskForTooSmall words → ⊥
-not_both words (Trace s) (n, writes, over) small = not_over words n s writes over.1 small
-not_both words (Explain s) (n, writes, over) small = not_over words n s writes over.1 small
+not_both words (Trace s) (n, writes, over) small = not_over words n (record s { stops = false }) writes over.1.0 small
+not_both words (Explain s) (n, writes, over) small = not_over words n (record s { stops = false }) writes over.1.0 small
+not_both words (Graph s) (n, writes, over) small = not_over words n (record s { stops = false }) writes over.1.0 small
+not_both words (Timeline s) (n, writes, over) small = not_over words n (record s { stops = false }) writes over.1.0 small
+not_both words (Check s) (n, writes, over) small = not_over words n (record s { stops = false }) writes over.1.0 small
+not_both words (Play s workers) (n, writes, over) small = not_over words n s writes over.1 small
 
 -- words without a fault fail by memory alone
 memory_alone : (kinds : Kinds) (e : Error) → kinds ≡ [] → HasKind kinds e → kind_of e ≡ OutOfMemory
@@ -100,30 +105,42 @@ small_exactly words (Err (Words e)) asked refused = ((λ e. absurd cc), (λ h. a
 
 -- ---- what the rows of the options ask for
 
-abbrev SetsUp : List Row → Setup → Type 0
-SetsUp rows s = (n : Numbers) × GivesNumbers rows n × IsSetupOver n s
+written : (words : List Text) (rows : List Row) (n : Numbers) (run : Run) → fault_of uring words ≡ [] → Asks words rows run → GivesNumbers rows n → Writes words n
+written words rows n run no_fault asks gives = record { no_fault = no_fault; numbers = subst (λ (rs : List Row). GivesNumbers rs n) (sym asks.rows_are) gives }
 
-written : (words : List Text) (rows : List Row) (n : Numbers) (is_explained : Bool) → fault_of uring words ≡ [] → Asks words rows is_explained → GivesNumbers rows n → Writes words n
-written words rows n is_explained no_fault asks gives = record { no_fault = no_fault; numbers = subst (λ (rs : List Row). GivesNumbers rs n) (sym asks.rows_are) gives }
+-- what is run over the numbers that the rows give
+abbrev pub RunsOver : Run → List Row → Options → Type 0
+RunsOver run rows o = (n : Numbers) × GivesNumbers rows n × IsRunOver run rows n o
 
-pub trace_is_asked : (words : List Text) (rows : List Row) (s : Setup) → fault_of uring words ≡ [] → Asks words rows false → SetsUp rows s → AskFor words (Trace s)
-trace_is_asked words rows s no_fault asks (n, gives, over) = (n, written words rows n false no_fault asks gives, (asks.explained, over))
+pub is_asked : (words : List Text) (rows : List Row) (run : Run) (o : Options) → fault_of uring words ≡ [] → Asks words rows run → RunsOver run rows o → AskFor words o
+is_asked words rows run o no_fault asks (n, gives, over) =
+    let runs = subst (λ (r : Run). IsRunOver r rows n o) (sym asks.runs) over in
+    (n, written words rows n run no_fault asks gives, subst (λ (rs : List Row). IsRunOver (run_of (subcommand_of uring words)) rs n o) (sym asks.rows_are) runs)
 
-pub explain_is_asked : (words : List Text) (rows : List Row) (s : Setup) → fault_of uring words ≡ [] → Asks words rows true → SetsUp rows s → AskFor words (Explain s)
-explain_is_asked words rows s no_fault asks (n, gives, over) = (n, written words rows n true no_fault asks gives, (asks.explained, over))
-
-abbrev IsSmallBy : List Row → OptionsFault → Type 0
+abbrev pub IsSmallBy : List Row → OptionsFault → Type 0
 IsSmallBy rows e = (e ≡ Small) × ((n : Numbers) × GivesNumbers rows n × IsTooSmall n)
 
-refused : (words : List Text) (rows : List Row) (e : OptionsFault) (is_explained : Bool) → fault_of uring words ≡ [] → Asks words rows is_explained → IsSmallBy rows e → IsRefusal words e
-refused words rows e is_explained no_fault asks (small, (n, gives, too)) = subst (IsRefusal words) (sym small) (n, written words rows n is_explained no_fault asks gives, too)
+refused : (words : List Text) (rows : List Row) (e : OptionsFault) (run : Run) → fault_of uring words ≡ [] → Asks words rows run → IsSmallBy rows e → IsRefusal words e
+refused words rows e run no_fault asks (small, (n, gives, too)) = subst (IsRefusal words) (sym small) (n, written words rows n run no_fault asks gives, too)
 
 -- a small ring alone refuses such words
-pub refused_small : (words : List Text) (rows : List Row) (r : Result Options OptionsFault) (e : OptionsFault) (is_explained : Bool) → r ≡ Err e → fault_of uring words ≡ [] → Asks words rows is_explained → IsSmallBy rows e
+pub refused_small : (words : List Text) (rows : List Row) (r : Result Options OptionsFault) (e : OptionsFault) (run : Run) → r ≡ Err e → fault_of uring words ≡ [] → Asks words rows run → IsSmallBy rows e
     → IsErrOf r Small ↔ (AskForTooSmall words × ¬ IsErrAnd r IsMemory)
-refused_small words rows r e is_explained is no_fault asks small =
+refused_small words rows r e run is no_fault asks small =
     subst (λ (x : Result Options OptionsFault). IsErrOf x Small ↔ (AskForTooSmall words × ¬ IsErrAnd x IsMemory)) (sym is)
-    (small_exactly words (Err e) tt (refused words rows e is_explained no_fault asks small))
+    (small_exactly words (Err e) tt (refused words rows e run no_fault asks small))
+
+-- what such words lead to, of a call that fails for a small ring alone
+pub all_asked : (words : List Text) (rows : List Row) (run : Run) (r : Result Options OptionsFault) → fault_of uring words ≡ [] → Asks words rows run → IfOk r (RunsOver run rows) → IfOk r (AskFor words)
+all_asked words rows run r no_fault asks over = IfOk-weaker r _ _ (λ o h. is_asked words rows run o no_fault asks h) over
+
+pub all_small : (words : List Text) (rows : List Row) (run : Run) (r : Result Options OptionsFault) → fault_of uring words ≡ [] → Asks words rows run → IfOk r (RunsOver run rows) → IfErr r (IsSmallBy rows)
+    → IsErrOf r Small ↔ (AskForTooSmall words × ¬ IsErrAnd r IsMemory)
+all_small words rows run r no_fault asks over small =
+    small_exactly words r (all_asked words rows run r no_fault asks over) (IfErr-weaker r _ _ (λ e h. refused words rows e run no_fault asks h) small)
+
+pub all_faults : (words : List Text) (rows : List Row) (r : Result Options OptionsFault) → IfErr r (IsSmallBy rows) → IfErr r (IsFaultOf words)
+all_faults words rows r small = IfErr-weaker r _ _ (λ e h. subst (IsFaultOf words) (sym h.0) tt) small
 
 pub refused_by_words : (words : List Text) (r : Result Options OptionsFault) (e : Error) → IsErrAnd r (λ f. f ≡ Words e) → HasKind (fault_of uring words) e → IsErrOf r Small ↔ (AskForTooSmall words × ¬ IsErrAnd r IsMemory)
 refused_by_words words (Ok o) e is kind = absurd is

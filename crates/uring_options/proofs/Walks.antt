@@ -54,9 +54,10 @@ found_among p (x ∷ xs) y found = go (found_among p xs y) (p x) refl found
 
 -- ---- rules and rows
 
--- the action takes values, or asks for help
+-- the action takes values or none, or asks for help
 abbrev pub sets_or_helps : ArgAction → Bool
 sets_or_helps action.Set = true
+sets_or_helps action.SetTrue = true
 sets_or_helps action.Help = true
 sets_or_helps _ = false
 
@@ -97,8 +98,15 @@ module _ (rules : List Rule) where
       let added = at_no_row a.id (more_values source.CommandLine values) (new ∷ []) rows both.0 in
       subst (λ rs. Each (IsRowOf rules) (at_row a.id (more_values source.CommandLine values) (new ∷ []) rs)) (sym same)
       (subst (Each (IsRowOf rules)) (sym added) (each_more (IsRowOf rules) rows new each row))
+  used_row a action.SetTrue values rows among sets each passes =
+      let both = no_repeat (has_row a.id rows) (values_fault a values) passes in
+      let same : at_row a.id (λ _. []) [] rows ≡ rows = at_no_row a.id (λ _. []) [] rows both.0 ∙ append-nil rows in
+      let new : Row = record { id = a.id; values = values; count = None; source = Some source.CommandLine; reading = reading_by a } in
+      let row : IsRowOf rules new = record { rule = a; among = among; id = refl; reading = refl; values = both.1 } in
+      let added = at_no_row a.id (more_values source.CommandLine values) (new ∷ []) rows both.0 in
+      subst (λ rs. Each (IsRowOf rules) (at_row a.id (more_values source.CommandLine values) (new ∷ []) rs)) (sym same)
+      (subst (Each (IsRowOf rules)) (sym added) (each_more (IsRowOf rules) rows new each row))
   used_row a action.Help values rows among sets each passes = absurd (nil_not_cons _ _ (sym passes))
-  used_row a action.SetTrue values rows among sets each passes = absurd (true≢false (sym sets))
   used_row a action.SetFalse values rows among sets each passes = absurd (true≢false (sym sets))
   used_row a action.Append values rows among sets each passes = absurd (true≢false (sym sets))
   used_row a action.Count values rows among sets each passes = absurd (true≢false (sym sets))
@@ -271,22 +279,32 @@ module _ (rules : List Rule) where
 
     -- ---- after the walk
 
-    -- rules with no default leave the rows as they are
-    none_by_default : (others : List Rule) (rows : List Row) → Each (λ (a : Rule). a.defaults ≡ []) others → fold with_default rows others ≡ rows
-    none_by_default [] rows none = refl
-    none_by_default (a ∷ others) rows none = go (has_row a.id rows) ∙ none_by_default others rows none.1
+    -- a default that the parser takes adds a row of its rule
+    default_row : (a : Rule) (rows : List Row) → Among a rules → values_fault a a.defaults ≡ [] → Rows rows → Rows (with_default rows a)
+    default_row a rows among passes each = go (has_row a.id rows) refl
       where
-        go : (b : Bool) → fold with_default (cond b rows (default_rows a.id (reading_by a) a.defaults rows)) others ≡ fold with_default rows others
-        go true = refl
-        go false = rw none.0 refl
+        added : has_row a.id rows ≡ false → (values : List Text) → values_fault a values ≡ [] → Rows (default_rows a.id (reading_by a) values rows)
+        added none [] fits = each
+        added none (v ∷ vs) fits =
+            let new : Row = record { id = a.id; values = v ∷ vs; count = None; source = Some source.DefaultValue; reading = reading_by a } in
+            let row : IsRowOf rules new = record { rule = a; among = among; id = refl; reading = refl; values = fits } in
+            subst Rows (sym (at_no_row a.id (more_values source.DefaultValue (v ∷ vs)) (new ∷ []) rows none)) (each_more (IsRowOf rules) rows new each row)
+
+        go : (b : Bool) → has_row a.id rows ≡ b → Rows (cond b rows (default_rows a.id (reading_by a) a.defaults rows))
+        go true e = each
+        go false e = added e a.defaults passes
+
+    defaults_rows : (others : List Rule) (rows : List Row) → ((a : Rule) → Among a others → Among a rules) → Each (λ (a : Rule). values_fault a a.defaults ≡ []) others → Rows rows → Rows (fold with_default rows others)
+    defaults_rows [] rows among passes each = each
+    defaults_rows (a ∷ others) rows among passes each = defaults_rows others (with_default rows a) (λ b there. among b (inr there)) passes.1 (default_row a rows (among a (inl refl)) passes.0 each)
 
     -- words without a fault leave rows of the rules
-    pub rows_of_rules : (s : Shape) (words : List Text) → s.rules ≡ rules → s.args_override_self ≡ false → Each (λ (a : Rule). a.defaults ≡ []) rules
+    pub rows_of_rules : (s : Shape) (words : List Text) → s.rules ≡ rules → s.args_override_self ≡ false → Each (λ (a : Rule). values_fault a a.defaults ≡ []) rules
         → level_fault s [] nothing_held words false [] ≡ [] → Each (IsRowOf rules) (rows_after rules [] words)
-    rows_of_rules s words is once none passes =
+    rows_of_rules s words is once defaults passes =
         let walk_passes = neither_fails _ _ passes in
         let end_passes = neither_fails (settle_fault s.rules s.args_override_self (walk s.rules [] nothing_held words).held) _ walk_passes.1 in
         let end : Held = (walk rules [] nothing_held words).held in
         let end_rows : Rows end.rows = walk_row s [] (walk_from nothing_held) words is once tt walk_passes.0 in
         let settles : settle_fault rules false end ≡ [] = subst (λ b. settle_fault rules b end ≡ []) once (subst (λ rs. settle_fault rs s.args_override_self (walk rs [] nothing_held words).held ≡ []) is end_passes.0) in
-        subst Rows (sym (none_by_default rules (settled rules end).rows none)) (settled_row end end_rows settles)
+        defaults_rows rules (settled rules end).rows (λ a there. there) defaults (settled_row end end_rows settles)

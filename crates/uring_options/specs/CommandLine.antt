@@ -1,5 +1,5 @@
 -- The command line, and what it asks for. The options are our own rule.
-use Rattle.std.specs.Prelude.{◌≡◌, ℕ, ◌<◌, ◌≤◌, pos, Bool, true, false, List, [], Option, Some, None, codes, unwrap_or, if◌then◌else◌}
+use Rattle.std.specs.Prelude.{◌≡◌, ℕ, ◌<◌, ◌≤◌, ◌⊎◌, pos, Bool, true, false, List, [], Option, Some, None, codes, unwrap_or, if◌then◌else◌}
 use Rattle.std.specs.Int.{IsNextPowerOfTwo}
 use Rattle.std.specs.Str.{bytes_eq}
 use Rattle.std.specs.Str.Parse.{IsNumeral, digits_value, without_leading_plus}
@@ -8,13 +8,13 @@ use Rattle.clap.specs.Kinds.{Kinds, HasKind}
 use Rattle.clap.specs.Simple.{App, new_app, new_rule, subcommand_of, with_rule, with_subcommand}
 use Rattle.clap.specs.Values.{kind_of}
 use Rattle.clap.specs.Walk.{Row, Rule, Text, one_of}
-use Rattle.clap.specs.declared.builder.action.ArgAction.TheVariants.{Set}
+use Rattle.clap.specs.declared.builder.action.ArgAction.TheVariants.{Set, SetTrue}
 use Rattle.clap.specs.declared.builder.value_parser.ValueParser.{ValueParser}
 use Rattle.clap.specs.declared.builder.value_parser.ValueParser.TheVariants.{Signed}
 use Rattle.clap.specs.declared.error.kind.ErrorKind.TheVariants.{OutOfMemory}
 use Rattle.uring_entry.specs.Setup.{Setup, IsSetupFor}
 use Rattle.uring_options.specs.declared.answers.Options.{Options}
-use Rattle.uring_options.specs.declared.answers.Options.TheVariants.{Trace, Explain}
+use Rattle.uring_options.specs.declared.answers.Options.TheVariants.{Trace, Explain, Graph, Timeline, Check, Play}
 use Rattle.uring_options.specs.declared.answers.OptionsFault.{OptionsFault}
 use Rattle.uring_options.specs.declared.answers.OptionsFault.TheVariants.{Small, Words}
 
@@ -31,26 +31,62 @@ with_numbers_of app =
     (option_rule (codes "files") (Signed (pos 1) (pos 64))))
     (option_rule (codes "start") (Signed (pos 0) (pos 4294967295)))
 
--- `uring trace`, and `uring explain` with the same options
-abbrev pub trace_app : App
-trace_app = with_numbers_of (new_app (codes "trace"))
+-- an option of this name that takes no value
+abbrev pub flag_rule : Text → Rule
+flag_rule id = record (new_rule id) { long = Some id; action = Some SetTrue }
 
+-- a command with the four options, and with the one by which calls stop
+abbrev pub with_set_up_of : App → App
+with_set_up_of app = with_rule (with_numbers_of app) (flag_rule (codes "stop"))
+
+-- a command with the options of the pictures
+abbrev pub with_pictures_of : App → App
+with_pictures_of app = with_rule (with_rule app (flag_rule (codes "graph"))) (flag_rule (codes "timeline"))
+
+-- `uring trace`, and `uring check` with the same options
+abbrev pub trace_app : App
+trace_app = with_set_up_of (new_app (codes "trace"))
+
+abbrev pub check_app : App
+check_app = with_set_up_of (new_app (codes "check"))
+
+-- `uring explain`, which has the options of the pictures as well
 abbrev pub explain_app : App
-explain_app = with_numbers_of (new_app (codes "explain"))
+explain_app = with_pictures_of (with_set_up_of (new_app (codes "explain")))
+
+-- `uring play`, whose calls go on, with an option for its workers
+abbrev pub play_app : App
+play_app = with_rule (with_numbers_of (new_app (codes "play"))) (option_rule (codes "workers") (Signed (pos 1) (pos 8)))
 
 -- the program's command line, as clap sees a command
 abbrev pub uring : App
-uring = with_subcommand (with_subcommand (new_app (codes "uring")) trace_app.top) explain_app.top
+uring = with_subcommand (with_subcommand (with_subcommand (with_subcommand (new_app (codes "uring")) trace_app.top) explain_app.top) check_app.top) play_app.top
 
--- whether the command is `explain`
-abbrev pub explains : Option (Text × List Row) → Bool
-explains None = false
-explains (Some named) = bytes_eq named.0 (codes "explain")
+-- what a command runs
+pub data Run : Type 0 where
+  Traces : Run
+  Explains : Run
+  Checks : Run
+  Plays : Run
 
--- what the words after `uring trace` or `uring explain` give, nothing without these commands
-abbrev pub trace_rows : Option (Text × List Row) → List Row
-trace_rows None = []
-trace_rows (Some named) = if bytes_eq named.0 (codes "explain") then named.1 else if bytes_eq named.0 (codes "trace") then named.1 else []
+-- the command, a trace without one
+abbrev pub run_of : Option (Text × List Row) → Run
+run_of None = Traces
+run_of (Some named) =
+    if bytes_eq named.0 (codes "explain") then Explains else
+    if bytes_eq named.0 (codes "check") then Checks else
+    if bytes_eq named.0 (codes "play") then Plays else
+    Traces
+
+-- what the words after a command give, nothing without one
+abbrev pub command_rows : Option (Text × List Row) → List Row
+command_rows None = []
+command_rows (Some named) =
+    if bytes_eq named.0 (codes "explain") then named.1 else
+    if bytes_eq named.0 (codes "check") then named.1 else
+    if bytes_eq named.0 (codes "play") then named.1 else
+    if bytes_eq named.0 (codes "trace") then named.1 else
+    []
 
 -- n is the number that a text writes in decimal digits, which may follow a plus
 pub record IsNumber (text : Text) (n : ℕ) : Type 0 where
@@ -67,7 +103,7 @@ abbrev pub IsWithin : ℕ → ℕ → Option ℕ → Type 0
 IsWithin low high None = Unit {0}
 IsWithin low high (Some n) = (low ≤ n) × (n ≤ high)
 
--- the numbers of `uring trace` or `uring explain`, each where it is given
+-- the numbers of a set-up, each where it is given
 pub record Numbers : Type 0 where
   pub sq : Option ℕ
   pub cq : Option ℕ
@@ -89,19 +125,40 @@ pub record GivesNumbers (rows : List Row) (n : Numbers) : Type 0 where
   pub start : Gives rows (codes "start") n.start
   pub in_range : AreInRange n
 
+-- the option for the workers of a play gives this number, in its range
+abbrev pub GivesWorkers : List Row → Option ℕ → Type 0
+GivesWorkers rows n = Gives rows (codes "workers") n × IsWithin 1 8 n
+
+-- so many workers: 2 where no number is given
+abbrev pub AreWorkers : List Row → ℕ → Type 0
+AreWorkers rows workers = (n : Option ℕ) × GivesWorkers rows n × (workers ≡ unwrap_or n 2)
+
 -- clap finds no fault in the words of a command line, and they give these numbers
 pub record Writes (words : List Text) (n : Numbers) : Type 0 where
   pub no_fault : fault_of uring words ≡ []
-  pub numbers : GivesNumbers (trace_rows (subcommand_of uring words)) n
+  pub numbers : GivesNumbers (command_rows (subcommand_of uring words)) n
 
 -- the set-up of these numbers: 4 entries, a completion ring of twice as many, 2 files and the word 0 where none is given
 abbrev pub IsSetupOver : Numbers → Setup → Type 0
 IsSetupOver n s = IsSetupFor (unwrap_or n.sq 4) n.cq (unwrap_or n.files 2) (unwrap_or n.start 0) s
 
--- a trace over the set-up of these numbers, explained if the command is `explain`
-abbrev pub IsRunOver : Bool → Numbers → Options → Type 0
-IsRunOver is_explained n (Trace s) = (is_explained ≡ false) × IsSetupOver n s
-IsRunOver is_explained n (Explain s) = (is_explained ≡ true) × IsSetupOver n s
+-- whether the option of a name that takes no value is given: clap has the text `true` for it, and else `false`, or no text without the command
+abbrev pub IsGiven : List Row → Text → Bool → Type 0
+IsGiven rows id true = one_of id rows ≡ Some (codes "true")
+IsGiven rows id false = (one_of id rows ≡ None) ⊎ (one_of id rows ≡ Some (codes "false"))
+
+-- the set-up of these numbers, whose calls stop exactly if `--stop` is given
+abbrev pub IsTracedOver : List Row → Numbers → Setup → Type 0
+IsTracedOver rows n s = IsSetupOver n (record s { stops = false }) × IsGiven rows (codes "stop") s.stops
+
+-- what a command runs, over the set-up that these rows and numbers give: `uring explain` the graph where `--graph` is given, else the timeline where `--timeline` is, and else the answers
+abbrev pub IsRunOver : Run → List Row → Numbers → Options → Type 0
+IsRunOver run rows n (Trace s) = (run ≡ Traces) × IsTracedOver rows n s
+IsRunOver run rows n (Explain s) = (run ≡ Explains) × IsTracedOver rows n s × IsGiven rows (codes "graph") false × IsGiven rows (codes "timeline") false
+IsRunOver run rows n (Graph s) = (run ≡ Explains) × IsTracedOver rows n s × IsGiven rows (codes "graph") true
+IsRunOver run rows n (Timeline s) = (run ≡ Explains) × IsTracedOver rows n s × IsGiven rows (codes "graph") false × IsGiven rows (codes "timeline") true
+IsRunOver run rows n (Check s) = (run ≡ Checks) × IsTracedOver rows n s
+IsRunOver run rows n (Play s workers) = (run ≡ Plays) × IsSetupOver n s × AreWorkers rows workers
 
 -- a completion ring is given, and is smaller after rounding than the submission ring
 pub record IsTooSmall (n : Numbers) : Type 0 where
@@ -113,9 +170,9 @@ pub record IsTooSmall (n : Numbers) : Type 0 where
   pub cq_rounded : IsNextPowerOfTwo cq cq_size
   pub smaller : cq_size < sq_size
 
--- the words write numbers, and ask for the trace over them or its explanation
+-- the words write numbers, and ask for a command over them
 abbrev pub AskFor : List Text → Options → Type 0
-AskFor words o = (n : Numbers) × Writes words n × IsRunOver (explains (subcommand_of uring words)) n o
+AskFor words o = (n : Numbers) × Writes words n × IsRunOver (run_of (subcommand_of uring words)) (command_rows (subcommand_of uring words)) n o
 
 -- the words write numbers of which the completion ring's is too small
 abbrev pub AskForTooSmall : List Text → Type 0

@@ -12,6 +12,18 @@ pub enum Options {
 
     /// `uring explain`: an explained trace over this set-up.
     Explain(Setup),
+
+    /// `uring explain --graph`: the graph of the outstanding requests of a trace over this set-up.
+    Graph(Setup),
+
+    /// `uring explain --timeline`: the lines at which each request of a trace over this set-up moved.
+    Timeline(Setup),
+
+    /// `uring check`: the check of a recorded trace over this set-up.
+    Check(Setup),
+
+    /// `uring play`: a play over this set-up, with so many workers, 1 to 8.
+    Play(Setup, u32),
 }
 
 /// Why a command line is refused.

@@ -3,6 +3,8 @@
 
 mod answers;
 mod command_line;
+mod commands;
+mod helps;
 
 pub use answers::{Options, OptionsFault};
 pub use command_line::{not_text, options};

@@ -9,7 +9,7 @@ use Rattle.std.proofs.lemmas.Bool.{ltb-true, ltb-false, eqb-true, eqb-false, cas
 use Rattle.std.proofs.lemmas.Slice.Eq.{bytes_eq-Decides}
 use Rattle.std.proofs.lemmas.List.{append-nil, nil_from_length, take-append-drop, length-take}
 use Rattle.uring_entry.specs.Layout.{Sqe, header, without_data, padded, bytes_of, AreWords}
-use Rattle.uring_entry.specs.declared.opcode.TheConstants.{NOP, FSYNC, ASYNC_CANCEL, READ, WRITE}
+use Rattle.uring_entry.specs.declared.opcode.TheConstants.{NOP, FSYNC, ASYNC_CANCEL, ASYNC_CANCEL_ALL, READ, WRITE}
 use Rattle.uring_trace.specs.Lines.{Splits, with_last}
 use Rattle.uring_trace.specs.Tokens.{tokens_of}
 use Rattle.uring_trace.specs.Spelling.{Form, IsForm, IsEntryOf, AreBytes, HasBytes, SpellsEntry, IsNoEntry, SpellsNumber, IsNoNumber}
@@ -95,6 +95,7 @@ entry_of (form.Write user_data fl fd off bytes) flags h =
     let words = words_of 8 (padded bytes) (omega (arith, length-append bytes (zeros (64 - length bytes)), zeros_length (64 - length bytes))) (small_append bytes _ h.4.each (small_zeros (64 - length bytes))) in
     (header WRITE fl fd off 0 (length bytes) user_data ++ words.0, record { size = omega (arith, words.1); first = refl; rest = words.2; payload = words.3 })
 entry_of (form.Cancel user_data fl target) flags h = (without_data (header ASYNC_CANCEL fl (pos 0) 0 target 0 user_data), refl)
+entry_of (form.CancelAll user_data fl target) flags h = (without_data (header ASYNC_CANCEL fl (pos 0) 0 target (2 ^ 32 * ASYNC_CANCEL_ALL) user_data), refl)
 entry_of (form.Op code user_data fl) flags h = (without_data (header code fl (pos 0) 0 0 0 user_data), refl)
 entry_of (form.Raw bytes) flags h =
     let few : 128 ≤ length bytes = h.few in

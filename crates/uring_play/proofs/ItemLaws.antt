@@ -27,6 +27,7 @@ no_form (form.Fsync user_data fl fd) flags rest e = other_name _ _ _ _ _ (λ n. 
 no_form (form.Read user_data fl fd off len) flags rest e = other_name _ _ _ _ _ (λ n. omega arith) e
 no_form (form.Write user_data fl fd off bytes) flags rest e = other_name _ _ _ _ _ (λ n. omega arith) e
 no_form (form.Cancel user_data fl target) flags rest e = other_name _ _ _ _ _ (λ n. omega arith) e
+no_form (form.CancelAll user_data fl target) flags rest e = other_name _ _ _ _ _ (λ n. omega arith) e
 no_form (form.Op code user_data fl) flags rest e = other_name _ _ _ _ _ (λ n. omega arith) e
 no_form (form.Raw bytes) flags rest e = other_name _ _ _ _ _ (λ n. omega arith) e
 
@@ -73,6 +74,7 @@ named (form.Fsync user_data fl fd) flags rest e = absurd cc
 named (form.Read user_data fl fd off len) flags rest e = absurd cc
 named (form.Write user_data fl fd off bytes) flags rest e = absurd cc
 named (form.Cancel user_data fl target) flags rest e = absurd cc
+named (form.CancelAll user_data fl target) flags rest e = absurd cc
 named (form.Op code user_data fl) flags rest e = absurd cc
 named (form.Raw bytes) flags rest e = absurd cc
 

@@ -6,3 +6,5 @@ pub mod Outputs
 pub mod TotalLaws
 pub mod OnceLaws
 pub mod AlwaysLaws
+mod PlayedThrough
+mod PlayTexts

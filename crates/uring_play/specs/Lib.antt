@@ -7,3 +7,5 @@ pub mod Scripts
 pub mod Readings
 pub mod Outputs
 pub mod Totals
+pub mod Threads
+pub mod Plays

@@ -2,12 +2,12 @@
 use Rattle.std.specs.Prelude.{ℕ, List, [], ◌∷◌, Option, Some, None, sum_by, unwrap_or}
 use Rattle.uring_machine.specs.declared.answer.Answer.{Answer}
 use Rattle.uring_machine.specs.declared.answer.Answer.TheVariants as answer
+use Rattle.uring_machine.specs.Direct.{accepted_by}
 use Rattle.uring_machine.specs.Histories.{Event}
 
--- how many requests an answer accepted
-abbrev pub accepted_by : Answer → ℕ
-accepted_by (answer.Taken accepted dropped head) = accepted
-accepted_by _ = 0
+-- how many requests were accepted by an event: those of the call that it closes, if it closes one
+abbrev pub accepted_of : Event → ℕ
+accepted_of event = unwrap_or (accepted_by event) 0
 
 -- how many words the ring had dropped when the answer closed a call
 abbrev pub dropped_by : Answer → Option ℕ
@@ -16,7 +16,7 @@ dropped_by _ = None
 
 -- how many requests all calls accepted
 abbrev pub accepted_in : List Event → ℕ
-accepted_in trace = sum_by (λ e. accepted_by e.1) trace
+accepted_in trace = sum_by accepted_of trace
 
 -- the count of the last call that was closed, or this one if none was
 abbrev pub dropped_or : ℕ → List Event → ℕ

@@ -1,2 +1,3 @@
+mod playing;
 mod reading;
 mod writing;

@@ -1,4 +1,4 @@
-ghost use Rattle.std.specs.Prelude.{◌≡◌, ◌+◌, ◌-◌, ◌%◌, ◌^◌, ◌<◌, length, IfOk, OnOk, OnErr, Option, None, if◌then◌else◌, min, nat_lt, slice_get, slice_set};
+ghost use Rattle.std.specs.Prelude.{◌≡◌, ◌+◌, ◌-◌, ◌%◌, ◌^◌, ◌<◌, drop, length, IfOk, OnOk, OnErr, Option, None, if◌then◌else◌, min, nat_lt, slice_get, slice_set};
 ghost use Rattle.uring_entry.specs.Setup.{Setup};
 ghost use Rattle.uring_entry.specs.IndexWords.{word_of};
 ghost use Rattle.uring_entry.specs.Completions.{Completions, no_completion, has_room, with_posted, with_flushed, with_tail_loaded, with_head_stored, next_to_reap, unreaped};
@@ -206,6 +206,22 @@ impl Cq {
         } else {
             self.overflow.get((i - in_ring) as usize).copied()
         }
+    }
+
+    /// How many completions wait in the overflow list. io_uring_setup(2), IORING_FEAT_NODROP.
+    pub fn overflowing(&self) -> u64
+        ensures { (g : Setup) (l : Completions) → ShowsCompletions g self.now l →
+            result ≡ length (drop l.put l.posted) }
+    {
+        self.overflow.len() as u64
+    }
+
+    /// The completion at place `i`, from 0, of those that wait in the overflow list, the oldest first. None past the last.
+    pub fn overflow(&self, i: u64) -> Option<Cqe>
+        ensures { (g : Setup) (l : Completions) → ShowsCompletions g self.now l →
+            result ≡ slice_get (drop l.put l.posted) i }
+    {
+        self.overflow.get(i as usize).copied()
     }
 
     /// How many completions were posted, modulo 2^64.

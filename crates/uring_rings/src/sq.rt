@@ -1,7 +1,7 @@
-ghost use Rattle.std.specs.Prelude.{◌≡◌, ◌≢◌, ◌%◌, ◌<◌, length, IfOk, is_some};
+ghost use Rattle.std.specs.Prelude.{◌≡◌, ◌≢◌, ◌%◌, ◌<◌, length, true, IfOk, is_some};
 ghost use Rattle.uring_entry.specs.Setup.{Setup};
 ghost use Rattle.uring_entry.specs.IndexWords.{word_of};
-ghost use Rattle.uring_entry.specs.Submission.{Submission, no_submission, staged, taken, pending, is_busy, with_published, with_head_loaded};
+ghost use Rattle.uring_entry.specs.Submission.{Submission, no_submission, staged, taken, pending, is_busy, with_published, with_head_loaded, with_stopped};
 ghost use Rattle.uring_rings.specs.Sq.{ShowsSubmission, IsOrderedSubmission};
 ghost use Rattle.uring_rings.specs.SqAnswers.{fill_answer, after_fill, index_answer, after_index, begin_answer, after_begin, take_answer, after_take, end_answer, after_end};
 
@@ -34,7 +34,7 @@ pub struct Sq {
 /// How far the open submission call has come.
 #[derive(Clone, Copy, Debug, PartialEq, Eq)]
 pub struct OpenCall {
-    /// The positions that it takes.
+    /// The positions that it takes: once it is stopped, those that it took.
     pub count: u32,
 
     /// Those of them that were taken.
@@ -215,6 +215,19 @@ impl Sq {
             ..call
         });
         TakeAnswer::Entry(self.table[word as usize])
+    }
+
+    /// Stops the open call: it takes no further position, and those that are left stay published for later calls. Without an open call nothing changes. io_uring_setup(2), IORING_SETUP_SUBMIT_ALL: what a ring without that flag does; when to stop is the caller's to know, who prepares entries.
+    pub fn stop(&mut self)
+        ensures shows { (g : Setup) (l : Submission) → ShowsSubmission g self.old l →
+            ShowsSubmission g self.new (with_stopped true l) }
+    {
+        if let Some(call) = self.call {
+            self.call = Some(OpenCall {
+                count: call.taken,
+                ..call
+            });
+        }
     }
 
     /// Closes the open call: the head moves past its positions, its entries are accepted, and its dropped words are counted. Before that an entry that was taken isn't accepted: our own rule.

@@ -15,7 +15,7 @@ pub(crate) enum Verdict {
     /// The answers differ from the wanted ones, behind as many lines that are the same.
     Differs { lines: usize },
 
-    /// The set-up isn't four numbers, or they are no set-up.
+    /// The set-up isn't four numbers with or without the word `stops`, or they are no set-up.
     BadSetup,
 
     /// The trace stopped before its end.
@@ -34,14 +34,18 @@ pub(crate) fn judge(alloc: Global, setup: &str, steps: &str, wanted: &str) -> Ve
     }
 }
 
-/// The set-up of four numbers with spaces between them.
+/// The set-up of four numbers with spaces between them, for a ring that stops if the word `stops` follows them.
 fn setup_of(text: &str) -> Option<Setup> {
     let mut numbers = text.split_whitespace();
     let sq = numbers.next()?.parse().ok()?;
     let cq = numbers.next()?.parse().ok()?;
     let files = numbers.next()?.parse().ok()?;
     let start = numbers.next()?.parse().ok()?;
-    Setup::new(sq, Some(cq), files, start).ok()
+    let setup = Setup::new(sq, Some(cq), files, start).ok()?;
+    match numbers.next() {
+        None => Some(setup),
+        Some(word) => (word == "stops").then_some(setup.stopping()),
+    }
 }
 
 /// Compares the answers with the wanted ones.

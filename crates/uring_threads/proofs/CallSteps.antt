@@ -21,7 +21,7 @@ begun_cases a count x s not_closed called not_call not_again not_spent =
     ]
 
 -- a position was taken
-pub took_now : (a b : Kept) (w : World) (count done : ℕ) (x : Answer) → Stands w.submission [] count → done < count → now a ≡ in_call w count done → Grows a b (step.Take, x) → CalledForApart a.setup (now a) step.Take x
+pub took_now : (a b : Kept) (w : World) (count done : ℕ) (x : Answer) → a.setup.stops ≡ false → Stands w.submission [] count → done < count → now a ≡ in_call w count done → Grows a b (step.Take, x) → CalledForApart a.setup (now a) step.Take x
     → now b ≡ in_call w count (done + 1)
-took_now a b w count done x s low at g called =
-    grown a b step.Take x g ∙ ap (λ v. happens a.setup v step.Take x) at ∙ (position_taken a.setup w count count done x s (omega arith) low (subst (λ v. CalledForApart a.setup v step.Take x) at called)).1
+took_now a b w count done x goes s low at g called =
+    grown a b step.Take x g ∙ ap (λ v. happens a.setup v step.Take x) at ∙ (position_taken a.setup goes w count count done x s (omega arith) low (subst (λ v. CalledForApart a.setup v step.Take x) at called)).1

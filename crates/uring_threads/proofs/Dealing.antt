@@ -14,7 +14,7 @@ on_place workers files fd Nop on = absurd (let f : false ≡ true = on in cc)
 on_place workers files fd (Read own off len) on = ap (place_of_file workers files) (sym ((Decides-int_eq fd own).0 on))
 on_place workers files fd (Write own off len bytes) on = ap (place_of_file workers files) (sym ((Decides-int_eq fd own).0 on))
 on_place workers files fd (Fsync own) on = ap (place_of_file workers files) (sym ((Decides-int_eq fd own).0 on))
-on_place workers files fd (Cancel target) on = absurd (let f : false ≡ true = on in cc)
+on_place workers files fd (Cancel target all) on = absurd (let f : false ≡ true = on in cc)
 
 -- one of the workers
 pub file_within : (workers files : ℕ) (fd : ℤ) → 0 < workers → place_of_file workers files fd < workers
@@ -29,7 +29,7 @@ within workers files Nop some = some
 within workers files (Read fd off len) some = file_within workers files fd some
 within workers files (Write fd off len bytes) some = file_within workers files fd some
 within workers files (Fsync fd) some = file_within workers files fd some
-within workers files (Cancel target) some = some
+within workers files (Cancel target all) some = some
 
 pub dealt_by_file : DealtByFile
 dealt_by_file workers files some =

@@ -1,14 +1,19 @@
 -- How the Issue of the next request is answered.
-use Rattle.std.proofs.Common.{◌≡◌, ℕ, true, List, Some, length, ℤ, refl, sym, subst}
-use Rattle.uring_entry.specs.Requests.{Requests, is_issuable, next_of}
+use Rattle.std.proofs.Common.{◌≡◌, ℕ, true, List, Some, None, length, ℤ, refl, sym, subst, ap, ◌∙◌, cond}
+use Rattle.std.proofs.lemmas.Bool.{and_parts}
+use Rattle.uring_entry.specs.Preparation.{operation_of}
+use Rattle.uring_entry.specs.Requests.{Requests, entry_of, is_running, is_issuable, next_of, operation_running}
+use Rattle.uring_entry.proofs.RequestLemmas.{is_running-started_same}
 use Rattle.uring_entry.proofs.BelowLemmas.{least_below-tells}
 use Rattle.uring_machine.specs.Laws.{IsIssued}
 use Rattle.uring_machine.specs.StepAnswers.{CalledForApart, IsEnded}
 use Rattle.uring_machine.proofs.RequestLaws.{issue_goes, issued_cases}
+use Rattle.uring_machine.proofs.SoundRequests.{outstanding_tells}
 use Rattle.uring_machine.specs.declared.step.Step.TheVariants as step
 use Rattle.uring_machine.specs.declared.answer.Answer.{Answer}
 use Rattle.uring_machine.specs.declared.answer.Answer.TheVariants as answer
-use Rattle.uring_threads.specs.Kept.{Kept, now}
+use Rattle.uring_threads.specs.Kept.{Kept, Grows, now}
+use Rattle.uring_threads.proofs.TraceSteps.{grown}
 
 -- the next can be issued
 next_issuable : (r : Requests) (n : ℕ) → next_of r ≡ Some n → is_issuable r n ≡ true
@@ -21,3 +26,12 @@ issue_cases a n x next called not_run not_ended =
       no_end : (y : Answer) → ((res : ℤ) (bytes : List ℕ) → y ≡ answer.Ended res bytes → ⊥) → IsEnded y → ⊥
       no_end (answer.Ended res bytes) other ended = other res bytes refl
       no_end _ other ended = ended
+
+-- what it starts runs
+pub started_runs : (a b : Kept) (n : ℕ) → next_of (now a).requests ≡ Some n → Grows a b (step.Issue n, answer.Run) → operation_running (now b).requests n ≡ None → ⊥
+started_runs a b n next grows none =
+    let waits = and_parts _ _ (and_parts _ _ (next_issuable (now a).requests n next)).0 in
+    let unended = (outstanding_tells (now a).requests n waits.0).1 in
+    let runs : is_running (now b).requests n ≡ true = ap (λ w. is_running w.requests n) (grown a b (step.Issue n) answer.Run grows) ∙ is_running-started_same (now a).requests n unended in
+    let some : operation_running (now b).requests n ≡ Some (operation_of (entry_of (now b).requests n)) = ap (λ x. cond x (Some (operation_of (entry_of (now b).requests n))) None) runs in
+    absurd (let no : None ≡ Some (operation_of (entry_of (now b).requests n)) = sym none ∙ some in cc)

@@ -6,7 +6,7 @@ pub mod Tying
 mod MessageLemmas
 mod MessageSteps
 mod LaneLemmas
-mod AppEndLemmas
+pub mod AppEndLemmas
 pub mod Dealing
 mod Times
 mod Sent
@@ -23,3 +23,6 @@ mod WorkerFiles
 pub mod Turning
 mod FreshWorkers
 mod FullLanes
+mod Closing
+pub mod SameEnds
+pub mod Reporting

@@ -1,7 +1,8 @@
 -- A worker whose results were all taken in is settled, and nothing of the others' work has changed.
-use Rattle.std.proofs.Common.{◌≡◌, ℕ, List, [], ◌++◌, map, sym, subst, ap, ap₂, ◌∙◌, append-nil}
+use Rattle.std.proofs.Common.{◌≡◌, ℕ, List, [], ◌∷◌, ◌++◌, map, refl, sym, subst, ap, ap₂, ◌∙◌, append-nil}
+use Rattle.uring_entry.specs.Setup.{Setup}
 use Rattle.uring_machine.specs.Finishes.{Done}
-use Rattle.uring_machine.specs.Histories.{Event, history_of, IsLawfulApart}
+use Rattle.uring_machine.specs.Histories.{Event, History, history_of, IsLawfulApart}
 use Rattle.uring_threads.specs.declared.job.Job.{Job}
 use Rattle.uring_threads.specs.declared.job.JobResult.{JobResult}
 use Rattle.rtrb.specs.Ring.{sent, received}
@@ -12,11 +13,16 @@ use Rattle.uring_threads.specs.SettledWorker.{IsSettledAt}
 use Rattle.uring_threads.specs.Kept.{Kept}
 use Rattle.uring_threads.specs.Settled.{IsWork, finish_of, with_taken_in}
 use Rattle.uring_threads.specs.Work.{jobs_to, done_by_worker, jobs_of, results_of}
-use Rattle.uring_machine.proofs.Following.{history_of-append}
+use Rattle.uring_machine.proofs.Following.{history_of-cons, history_of-append}
 use Rattle.uring_threads.proofs.Settling.{IsDrained, drain}
 
+-- results that are taken in send no job
+pub jobs_keep : (g : Setup) (workers k : ℕ) (rs : List JobResult) (h : History) → jobs_to g workers k (with_taken_in rs h) ≡ jobs_to g workers k h
+jobs_keep g workers k [] h = refl
+jobs_keep g workers k (r ∷ rs) h = ap (jobs_to g workers k) (history_of-cons (finish_of r) (map finish_of rs) h) ∙ jobs_keep g workers k rs (finish_of r ∷ h)
+
 -- the history of a trace that goes on
-longer_history : (a b : Kept) (events : List Event) → b.trace ≡ a.trace ++ events → history b ≡ history_of events ++ history a
+pub longer_history : (a b : Kept) (events : List Event) → b.trace ≡ a.trace ++ events → history b ≡ history_of events ++ history a
 longer_history a b events same =
     ap history_of same ∙ sym (append-nil (history_of (a.trace ++ events))) ∙ history_of-append a.trace events [] ∙ ap (λ h. history_of events ++ h) (append-nil (history_of a.trace))
 

@@ -12,9 +12,10 @@ use Rattle.uring_threads.specs.Collected.{history, OthersStay, TakesAll}
 use Rattle.uring_threads.specs.Dispatched.{HasCarried, HaveCarried}
 use Rattle.uring_threads.specs.Kept.{Kept}
 use Rattle.uring_threads.specs.Settled.{Work, IsWork, IsSettled, finish_of}
-use Rattle.uring_threads.specs.SettledWorker.{AreLanesOf, IsSettledAt, waiting_at, all_waiting, settled_work, works_of}
-use Rattle.uring_threads.specs.Work.{results_of}
+use Rattle.uring_threads.specs.SettledWorker.{AreLanesOf, HaveSeenAll, IsSettledAt, waiting_at, all_waiting, settled_work, works_of}
+use Rattle.uring_threads.specs.Work.{jobs_to, results_of}
 use Rattle.uring_threads.specs.Worker.{Worker, IsRight, Looks, empty_files}
+use Rattle.uring_threads.proofs.SettledWork.{jobs_keep, longer_history}
 use Rattle.uring_threads.proofs.Settling.{none_waits}
 
 -- Results taken in one after the other.
@@ -179,3 +180,12 @@ all_settled a b ls ms ws vs e s some of lawful =
     let many : length (get_or vs k e).files ≡ b.setup.files = same ∙ of.have k e lt ∙ ap (λ g. g.files) (sym s.recorded.setup) in
     subst (λ n. AreDone (empty_files n) (get_or vs k e).done) many right.done)
     (λ k lt. refl))
+
+-- Each has seen all that was sent to it.
+
+pub all_seen : (a b : Kept) (ls ms : List WorkLanes) (ws vs : List Worker) → SoFar a b ls ms ws vs (length ls) → HaveCarried a ls → HaveSeenAll ls vs
+all_seen a b ls ms ws vs s carried = λ k d e low.
+    let taken : List JobResult = all_waiting (take (length ls) ls) (take (length ls) ws) in
+    (s.settled k e low).jobs
+    ∙ ap₂ (λ g h. jobs_to g (length ls) k h) s.recorded.setup (longer_history a b (map finish_of taken) s.recorded.trace)
+    ∙ jobs_keep a.setup (length ls) k taken (history a) ∙ sym (carried k d low).jobs

@@ -11,27 +11,29 @@ use Rattle.uring_threads.specs.Delivered.{IsDelivered, KeepsAllBut, OnlyPosts}
 use Rattle.uring_threads.specs.Dispatched.{HaveCarried, AreSameLanes, SomeIsFull}
 use Rattle.uring_threads.specs.Kept.{Kept, now, IsUnmoved}
 use Rattle.uring_threads.specs.Ports.{Put}
-use Rattle.uring_threads.specs.Taking.{Tied, TakesIn, waiting_in}
+use Rattle.uring_threads.specs.Taking.{Tied, ClosesOnce, TakesIn, waiting_in}
 use Rattle.uring_threads.specs.Tallies.{Tally, Appends, both, none_counted, issues_counted, finishes_counted, reaps_counted}
 use Rattle.uring_threads.specs.Turns.{AreTies, Counts}
 use Rattle.uring_threads.specs.declared.intake.Intake.{Intake}
 use Rattle.uring_threads.specs.declared.work_lanes.WorkLanes.{WorkLanes}
 use Rattle.uring_threads.proofs.Carrying.{quiet_stays, carried_stays}
+use Rattle.uring_threads.proofs.Closing.{once_stays}
 use Rattle.uring_threads.proofs.TraceSteps.{appends_none, appends_then}
 
 -- a call or the close mark was taken in
-pub ties_taken : (a b : Kept) (pulled later : Put) (delivered : List Cqe) (i j : Intake) (lanes : List WorkLanes) (n : ℕ) → AreTies a pulled delivered i lanes → TakesIn a b n → Tied a.setup.sq (now b) later j → (now b).completions ≡ (now a).completions
+pub ties_taken : (a b : Kept) (pulled later : Put) (delivered : List Cqe) (i j : Intake) (lanes : List WorkLanes) (n : ℕ) → AreTies a pulled delivered i lanes → TakesIn a b n → Tied a.setup.sq (now b) later j → (ClosesOnce a i → ClosesOnce b j) → (now b).completions ≡ (now a).completions
     → AreTies b later delivered j lanes
-ties_taken a b pulled later delivered i j lanes n t p tied same =
+ties_taken a b pulled later delivered i j lanes n t p tied once same =
     record {
       tied = subst (λ (g : Setup). Tied g.sq (now b) later j) (sym p.appends.setup) tied;
+      once = once t.once;
       delivered = subst (λ l. IsDelivered l delivered) (sym same) t.delivered;
       carried = carried_stays a b lanes (quiet_stays a b _ p.appends refl refl) t.carried;
     }
 
 -- requests were issued or ended
-pub ties_posted : (a b : Kept) (pulled : Put) (delivered : List Cqe) (i : Intake) (lanes later : List WorkLanes) (t : Tally) → AreTies a pulled delivered i lanes → Appends a b t → OnlyPosts (now a) (now b) → HaveCarried b later → AreTies b pulled delivered i later
-ties_posted a b pulled delivered i lanes later t s p posts carried =
+pub ties_posted : (a b : Kept) (pulled : Put) (delivered : List Cqe) (i : Intake) (lanes later : List WorkLanes) (t : Tally) → AreTies a pulled delivered i lanes → Appends a b t → t.closes ≡ 0 → OnlyPosts (now a) (now b) → HaveCarried b later → AreTies b pulled delivered i later
+ties_posted a b pulled delivered i lanes later t s p closes posts carried =
     record {
       tied = subst (λ (g : Setup). Tied g.sq (now b) pulled i) (sym p.setup)
           (record {
@@ -41,14 +43,15 @@ ties_posted a b pulled delivered i lanes later t s p posts carried =
             closed = posts.is_closed ∙ s.tied.closed;
             shut = s.tied.shut;
           });
+      once = once_stays a b t i p closes s.once;
       delivered = record { reaped = posts.reaped ∙ s.delivered.reaped; head = posts.head ∙ s.delivered.head };
       carried = carried;
     }
 
 -- completions were delivered
-pub ties_delivered : (a b : Kept) (pulled : Put) (before delivered : List Cqe) (i : Intake) (lanes : List WorkLanes) (t : Tally) → AreTies a pulled before i lanes → Appends a b t → t.issues ≡ 0 → t.finishes ≡ 0 → KeepsAllBut (now a) (now b)
+pub ties_delivered : (a b : Kept) (pulled : Put) (before delivered : List Cqe) (i : Intake) (lanes : List WorkLanes) (t : Tally) → AreTies a pulled before i lanes → Appends a b t → t.issues ≡ 0 → t.finishes ≡ 0 → t.closes ≡ 0 → KeepsAllBut (now a) (now b)
     → IsDelivered (now b).completions delivered → AreTies b pulled delivered i lanes
-ties_delivered a b pulled before delivered i lanes t s p issues finishes keeps now_delivered =
+ties_delivered a b pulled before delivered i lanes t s p issues finishes closes keeps now_delivered =
     record {
       tied = subst (λ (g : Setup). Tied g.sq (now b) pulled i) (sym p.setup)
           (record {
@@ -58,6 +61,7 @@ ties_delivered a b pulled before delivered i lanes t s p issues finishes keeps n
             closed = keeps.is_closed ∙ s.tied.closed;
             shut = s.tied.shut;
           });
+      once = once_stays a b t i p closes s.once;
       delivered = now_delivered;
       carried = carried_stays a b lanes (quiet_stays a b t p issues finishes) s.carried;
     }
@@ -83,15 +87,15 @@ counts_all a b c d e popped finished issued delivered p q q_idle r r_idle s s_id
     }
 
 -- the ties before a delivery: a call was taken in, results were, and requests were issued
-pub ties_worked : (a b c d : Kept) (pulled later : Put) (before delivered : List Cqe) (i j : Intake) (lanes collected issued : List WorkLanes) (n : ℕ) (t u : Tally) → AreTies a pulled before i lanes → TakesIn a b n → Tied a.setup.sq (now b) later j → (now b).completions ≡ (now a).completions → delivered ≡ before
-    → Appends b c t → OnlyPosts (now b) (now c) → HaveCarried c collected → Appends c d u → OnlyPosts (now c) (now d) → HaveCarried d issued → AreTies d later delivered j issued
-ties_worked a b c d pulled later before delivered i j lanes collected issued n t u s p tied same reaped q q_posts q_carried r r_posts r_carried =
+pub ties_worked : (a b c d : Kept) (pulled later : Put) (before delivered : List Cqe) (i j : Intake) (lanes collected issued : List WorkLanes) (n : ℕ) (t u : Tally) → AreTies a pulled before i lanes → TakesIn a b n → Tied a.setup.sq (now b) later j → (ClosesOnce a i → ClosesOnce b j) → (now b).completions ≡ (now a).completions → delivered ≡ before
+    → Appends b c t → t.closes ≡ 0 → OnlyPosts (now b) (now c) → HaveCarried c collected → Appends c d u → u.closes ≡ 0 → OnlyPosts (now c) (now d) → HaveCarried d issued → AreTies d later delivered j issued
+ties_worked a b c d pulled later before delivered i j lanes collected issued n t u s p tied once same reaped q q_closes q_posts q_carried r r_closes r_posts r_carried =
     subst (λ l. AreTies d later l j issued) (sym reaped)
-    (ties_posted c d later before j collected issued u (ties_posted b c later before j lanes collected t (ties_taken a b pulled later before i j lanes n s p tied same) q q_posts q_carried) r r_posts r_carried)
+    (ties_posted c d later before j collected issued u (ties_posted b c later before j lanes collected t (ties_taken a b pulled later before i j lanes n s p tied once same) q q_closes q_posts q_carried) r r_closes r_posts r_carried)
 
 -- where nothing was delivered
 pub ties_unmoved : (a b : Kept) (pulled : Put) (before delivered : List Cqe) (i : Intake) (lanes : List WorkLanes) → AreTies a pulled before i lanes → IsUnmoved a b → KeepsAllBut (now a) (now b) → IsDelivered (now b).completions delivered → AreTies b pulled delivered i lanes
-ties_unmoved a b pulled before delivered i lanes s u keeps reaped = ties_delivered a b pulled before delivered i lanes none_counted s (appends_none a b u) refl refl keeps reaped
+ties_unmoved a b pulled before delivered i lanes s u keeps reaped = ties_delivered a b pulled before delivered i lanes none_counted s (appends_none a b u) refl refl refl keeps reaped
 
 -- some events, and then some
 pub some_then : (a b c : Kept) (t u : Tally) → Appends a b t → Appends b c u → (x : Tally) × Appends a c x

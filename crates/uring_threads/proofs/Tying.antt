@@ -52,7 +52,7 @@ items_of_calls-snoc [] items = append-nil items
 items_of_calls-snoc (call ∷ later) items = ap (λ xs. call ++ xs) (items_of_calls-snoc later items) ∙ sym (append_assoc call (items_of_calls later) items)
 
 -- what holds of all of two lists holds of all of each
-all_first : {X : Type 0} (P : X → Type 0) (xs ys : List X) → All P (xs ++ ys) → All P xs
+pub all_first : {X : Type 0} (P : X → Type 0) (xs ys : List X) → All P (xs ++ ys) → All P xs
 all_first P xs ys all = λ k d low. subst P (get_or_append_left xs ys d k low) (all k d (omega (arith, low, length-append xs ys)))
 
 all_last : {X : Type 0} (P : X → Type 0) (xs ys : List X) → All P (xs ++ ys) → All P ys
@@ -81,7 +81,7 @@ tied_published size w put items t not_closed few =
           items_published l size shown t.stands.fresh (omega (arith, few, length-map items published_as)) (all_last (IsItem size) before shown all)
           ∙ ap (λ xs. xs ++ shown) (t.published (all_first (IsItem size) before shown all)) ∙ sym whole;
       calls = ap (λ xs. xs ++ length items ∷ []) (items_keep_calls l 0 shown ∙ sym (append-nil l.calls) ∙ t.calls) ∙ sym (map-append length put.calls (items ∷ []));
-      stands = subst (Stands _ []) (many ∙ omega arith) (tail_publishes (record { sq = size; cq = 0; files = 0; start = 0 }) _ _ put_stands.0);
+      stands = subst (Stands _ []) (many ∙ omega arith) (tail_publishes (record { sq = size; cq = 0; files = 0; start = 0; stops = false }) _ _ put_stands.0);
       closed = t.closed;
       shut = sym not_closed;
     }

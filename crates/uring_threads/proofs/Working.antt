@@ -32,12 +32,12 @@ many_changed false files fd change = refl
 many_changed true files (pos fd) change = length-set files fd _
 many_changed true files (negsuc below) change = refl
 
-many_after : (files : List FileContents) (op : Op) (res : ℤ) → length (after files op res) ≡ length files
+pub many_after : (files : List FileContents) (op : Op) (res : ℤ) → length (after files op res) ≡ length files
 many_after files Nop res = refl
 many_after files (Read fd off len) res = refl
 many_after files (Write fd off len bytes) res = many_changed (int_eq res (pos len)) files fd (written off (take len bytes))
 many_after files (Fsync fd) res = many_changed (int_eq res (pos 0)) files fd with_writes_synced
-many_after files (Cancel target) res = refl
+many_after files (Cancel target all) res = refl
 
 -- jobs and results of the same operations are theirs
 pub done_of-own : (done : List Done) → done_of (jobs_of done) (results_of done) ≡ done

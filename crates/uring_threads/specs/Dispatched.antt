@@ -1,8 +1,9 @@
 -- What went through the lanes between the dispatcher and the workers. All of it is our own rule.
-use Rattle.std.specs.Prelude.{◌≡◌, ℕ, ◌<◌, List, [], ◌∷◌, ◌++◌, length, get_or}
-use Rattle.rtrb.specs.Ring.{sent, known_free, producer_capacity, received, SameProducer, SameConsumer}
+use Rattle.std.specs.Prelude.{◌≡◌, ℕ, ◌<◌, ◌≤◌, List, [], ◌∷◌, ◌++◌, length, map, get_or}
+use Rattle.rtrb.specs.Ring.{sent, known_free, producer_capacity, received, consumer_capacity, SameProducer, SameConsumer}
 use Rattle.uring_threads.specs.Kept.{Kept}
 use Rattle.uring_threads.specs.Collected.{history, AreTakenIn}
+use Rattle.uring_threads.specs.Pairings.{pairing_of}
 use Rattle.uring_threads.specs.Work.{jobs_to}
 use Rattle.uring_threads.specs.declared.job.Job.{Job}
 use Rattle.uring_threads.specs.declared.work_lanes.WorkLanes.{WorkLanes}
@@ -23,6 +24,14 @@ HaveCarriedNone lanes = (k : ℕ) (d : WorkLanes) → k < length lanes → (sent
 -- each worker's lane for jobs holds 64
 abbrev pub HoldJobs : List WorkLanes → Type 0
 HoldJobs lanes = (k : ℕ) (d : WorkLanes) → k < length lanes → producer_capacity (get_or lanes k d).jobs ≡ 64
+
+-- each worker's lane for results holds at most 64
+abbrev pub HoldResults : List WorkLanes → Type 0
+HoldResults lanes = (k : ℕ) (d : WorkLanes) → k < length lanes → consumer_capacity (get_or lanes k d).results ≤ 64
+
+-- which lanes these are, as numbers that the workers' ends of them have too, worker 0's first
+abbrev pub numbers_of_lanes : List WorkLanes → List (List (List ℕ))
+numbers_of_lanes lanes = map (λ (l : WorkLanes). pairing_of l.jobs l.results) lanes
 
 -- each worker's lane for jobs shows room
 abbrev pub ShowRoom : List WorkLanes → Type 0

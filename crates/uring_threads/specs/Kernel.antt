@@ -3,7 +3,7 @@ use Rattle.std.specs.Prelude.{◌≡◌, ℕ, ◌<◌, ◌≤◌, true, List, le
 use Rattle.uring_entry.specs.Layout.{Cqe}
 use Rattle.uring_entry.specs.Requests.{outstanding_in}
 use Rattle.uring_machine.specs.World.{World}
-use Rattle.uring_threads.specs.Dispatched.{HoldJobs}
+use Rattle.uring_threads.specs.Dispatched.{HoldJobs, HoldResults}
 use Rattle.uring_threads.specs.Kept.{Kept}
 use Rattle.uring_threads.specs.Ports.{Put, Sizes}
 use Rattle.uring_threads.specs.Turns.{AreTies}
@@ -20,13 +20,14 @@ pub record Kernel : Type 0 where
   pub pulled : Put
   pub reaped : List Cqe
 
--- The port has the sizes of the rings, there are 1 to 8 workers, each with a lane for 64 jobs, and the trace has all that went through the dispatcher's hands.
+-- The port has the sizes of the rings, there are 1 to 8 workers, each with a lane for 64 jobs and one for at most 64 results, and the trace has all that went through the dispatcher's hands.
 pub record IsKernel (k : Kernel) : Type 0 where
   pub sq : k.sizes.sq ≡ k.kept.setup.sq
   pub cq : k.sizes.cq ≡ k.kept.setup.cq
   pub some : 0 < length k.lanes
   pub few : length k.lanes ≤ 8
   pub hold : HoldJobs k.lanes
+  pub short : HoldResults k.lanes
   pub ties : AreTies k.kept k.pulled k.reaped k.intake k.lanes
 
 -- The ring is closed, nothing is outstanding, and all that was posted is reaped.

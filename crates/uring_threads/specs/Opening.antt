@@ -5,6 +5,7 @@ use Rattle.uring_threads.specs.AppEnd.{AppEnd}
 use Rattle.uring_threads.specs.Dispatched.{HaveCarriedNone, HoldJobs}
 use Rattle.uring_threads.specs.Kernel.{Kernel}
 use Rattle.uring_threads.specs.Ports.{nothing_put, sizes_of}
+use Rattle.uring_threads.specs.Report.{AreTogether}
 use Rattle.uring_threads.specs.SettledWorker.{AreLanesOf}
 use Rattle.uring_threads.specs.Worker.{Worker, empty_files}
 use Rattle.uring_threads.specs.declared.intake.Intake.TheVariants as intake
@@ -49,3 +50,4 @@ pub record AreEnds (g : Setup) (gates : ℕ) (numbers : List ℕ) (app : AppEnd)
   pub application : app ≡ record { pairing = numbers; sizes = sizes_of g; submitted = nothing_put; received = [] }
   pub dispatcher : kernel ≡ kernel_at_first g numbers kernel
   pub opened : AreOpened g.files kernel.lanes workers
+  pub together : AreTogether app kernel workers

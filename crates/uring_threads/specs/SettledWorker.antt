@@ -1,6 +1,6 @@
 -- Settling a worker: all its results are taken in. Our own rule.
 use Rattle.std.specs.Prelude.{◌≡◌, ℕ, ℤ, Option, ◌<◌, ◌≤◌, List, [], ◌∷◌, ◌++◌, length, drop, get_or}
-use Rattle.rtrb.specs.Ring.{received, consumer_capacity}
+use Rattle.rtrb.specs.Ring.{sent, received, consumer_capacity}
 use Rattle.uring_machine.specs.Finishes.{Done}
 use Rattle.uring_threads.specs.declared.job.Job.{Job}
 use Rattle.uring_threads.specs.declared.work_lanes.WorkLanes.{WorkLanes}
@@ -12,7 +12,7 @@ use Rattle.uring_machine.specs.CalledFor.{files_of}
 use Rattle.uring_threads.specs.Kept.{Kept, now}
 use Rattle.uring_threads.specs.Settled.{Work, IsWork, IsSettled}
 use Rattle.uring_threads.specs.Pairings.{pairing_of}
-use Rattle.uring_threads.specs.Work.{results_of}
+use Rattle.uring_threads.specs.Work.{jobs_of, results_of}
 use Rattle.uring_threads.specs.Worker.{Worker, Looks}
 use Rattle.uring_threads.specs.declared.job.JobResult.{JobResult}
 
@@ -54,6 +54,10 @@ AreSettled kept workers = (e : Worker) → IsSettled kept.setup (length workers)
 pub record HaveLooked (old new : List Worker) : Type 0 where
   pub many : length new ≡ length old
   pub looked : (k : ℕ) (e : Worker) → k < length old → Looks (get_or old k e) (get_or new k e)
+
+-- each has seen all jobs that these lanes have carried and that it hasn't taken
+abbrev pub HaveSeenAll : List WorkLanes → List Worker → Type 0
+HaveSeenAll lanes workers = (k : ℕ) (d : WorkLanes) (e : Worker) → k < length lanes → jobs_of (get_or workers k e).done ++ (get_or workers k e).seen ≡ sent (get_or lanes k d).jobs
 
 -- there is a worker, and each has as many files as there are
 pub record HaveFiles (files : ℕ) (workers : List Worker) : Type 0 where

@@ -1,12 +1,12 @@
 -- What the dispatcher pulled, and what the submission ring has of it.
-use Rattle.std.specs.Prelude.{◌≡◌, ℕ, ◌+◌, Bool, true, false, List, [], ◌∷◌, ◌++◌, length, map, sum}
+use Rattle.std.specs.Prelude.{◌≡◌, ℕ, ◌+◌, Bool, true, false, List, [], ◌∷◌, ◌++◌, length, map, sum, count_by, if◌then◌else◌}
 use Rattle.uring_machine.specs.World.{World}
 use Rattle.uring_machine.specs.Published.{published_items}
 use Rattle.uring_machine.specs.Standing.{Stands}
 use Rattle.uring_threads.specs.Items.{all_published_as, AreItems}
 use Rattle.uring_threads.specs.Kept.{Kept}
 use Rattle.uring_threads.specs.Ports.{Put, items_of_calls}
-use Rattle.uring_threads.specs.Tallies.{Appends}
+use Rattle.uring_threads.specs.Tallies.{Appends, closes_ring}
 use Rattle.uring_threads.specs.declared.calls.Begun.{Begun}
 use Rattle.uring_threads.specs.declared.calls.Begun.TheVariants as begun
 use Rattle.uring_threads.specs.declared.intake.Intake.{Intake}
@@ -36,6 +36,10 @@ pub record Tied (size : ℕ) (w : World) (pulled : Put) (i : Intake) : Type 0 wh
   pub stands : Stands w.submission [] (sum (waiting_in i))
   pub closed : w.is_closed ≡ pulled.closed
   pub shut : is_shut i ≡ pulled.closed
+
+-- The trace has one Close once the close mark was pulled, and none before.
+abbrev pub ClosesOnce : Kept → Intake → Type 0
+ClosesOnce kept i = count_by closes_ring kept.trace ≡ (if is_shut i then 1 else 0)
 
 -- The trace goes on with so many items and nothing but calls and closes, and without any of these it stays.
 pub record TakesIn (old new : Kept) (items : ℕ) : Type 0 where

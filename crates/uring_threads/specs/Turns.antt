@@ -5,7 +5,7 @@ use Rattle.uring_threads.specs.Delivered.{IsDelivered}
 use Rattle.uring_threads.specs.Dispatched.{HaveCarried}
 use Rattle.uring_threads.specs.Kept.{Kept, now}
 use Rattle.uring_threads.specs.Ports.{Put}
-use Rattle.uring_threads.specs.Taking.{Tied}
+use Rattle.uring_threads.specs.Taking.{Tied, ClosesOnce}
 use Rattle.uring_threads.specs.Tallies.{Appends}
 use Rattle.uring_threads.specs.declared.intake.Intake.{Intake}
 use Rattle.uring_threads.specs.declared.turns.Turn.{Turn}
@@ -14,6 +14,7 @@ use Rattle.uring_threads.specs.declared.work_lanes.WorkLanes.{WorkLanes}
 -- The trace has all that went through the dispatcher's hands: what it pulled, what it delivered, and what the lanes of its workers carried.
 pub record AreTies (kept : Kept) (pulled : Put) (reaped : List Cqe) (intake : Intake) (lanes : List WorkLanes) : Type 0 where
   pub tied : Tied kept.setup.sq (now kept) pulled intake
+  pub once : ClosesOnce kept intake
   pub delivered : IsDelivered (now kept).completions reaped
   pub carried : HaveCarried kept lanes
 

@@ -59,6 +59,9 @@ impl<P: AppPort> AppEnd<P> {
         ensures ok { OnOk result (IsSound self.old items.now × (self.new ≡ submits self.old items.now)) }
         // A refusal: nothing changes.
         ensures refused { IfErr result (λ refusal. RefusesCall self.old items.now refusal × (self.new ≡ self.old)) }
+        // Of one pair it stays.
+        ensures pairing { self.new.pairing ≡ self.old.pairing }
+        ensures sizes { self.new.sizes ≡ self.old.sizes }
     {
         if self.closed {
             return Err(SubmitRefusal::Closed);
@@ -74,7 +77,10 @@ impl<P: AppPort> AppEnd<P> {
 
     /// The oldest completion that was delivered and not reaped. `None` says only that this end saw none.
     pub fn reap(&mut self) -> Option<Cqe>
-        ensures { MatchOption result (self.new ≡ self.old) (λ completion. self.new ≡ reaps self.old completion) }
+        ensures reaped { MatchOption result (self.new ≡ self.old) (λ completion. self.new ≡ reaps self.old completion) }
+        // Of one pair it stays.
+        ensures pairing { self.new.pairing ≡ self.old.pairing }
+        ensures sizes { self.new.sizes ≡ self.old.sizes }
     {
         self.port.get()
     }
@@ -86,6 +92,9 @@ impl<P: AppPort> AppEnd<P> {
         ensures ok { OnOk result ((self.old.submitted.closed ≡ false) × (self.new ≡ closes self.old)) }
         // A refusal: nothing changes.
         ensures refused { IfErr result (λ refusal. RefusesClose self.old refusal × (self.new ≡ self.old)) }
+        // Of one pair it stays.
+        ensures pairing { self.new.pairing ≡ self.old.pairing }
+        ensures sizes { self.new.sizes ≡ self.old.sizes }
     {
         if self.closed {
             return Err(CloseRefusal::Closed);

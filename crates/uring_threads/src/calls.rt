@@ -33,6 +33,7 @@ fn take_all(kept: &mut Kept, count: u32)
     ensures tally { Appends kept.old kept.new none_counted }
     ensures length { length kept.new.trace ≤ length kept.old.trace + count }
 {
+    kept.is_lawful();
     for _ in 0..count {
         kept.step_reserved(Step::Take);
     }

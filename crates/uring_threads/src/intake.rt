@@ -1,7 +1,7 @@
 //! Calls that the dispatcher takes in from its port, and the close mark.
 ghost use Rattle.std.specs.Prelude.{◌≡◌, ◌+◌, ◌≤◌, length, IfOk, OnErr, vec_capacity};
 ghost use Rattle.uring_threads.specs.Kept.{now};
-ghost use Rattle.uring_threads.specs.Taking.{TakesIn, Tied, intake_after};
+ghost use Rattle.uring_threads.specs.Taking.{ClosesOnce, TakesIn, Tied, intake_after};
 ghost use Rattle.uring_threads.specs.Ports.{Put};
 ghost use Rattle.uring_threads.specs.declared.intake.Intake.TheVariants.{Ready};
 
@@ -48,6 +48,7 @@ fn retry(kept: &mut Kept, intake: &mut Intake) -> Result<(), AllocError>
     ensures tied { (put : Put) → Tied kept.old.setup.sq (now kept.old) put intake.old → Tied kept.old.setup.sq (now kept.new) put intake.new }
     ensures completions { (now kept.new).completions ≡ (now kept.old).completions }
     ensures taken { TakesIn kept.old kept.new 0 }
+    ensures once { ClosesOnce kept.old intake.old → ClosesOnce kept.new intake.new }
 {
     if let Intake::Waiting(count) = *intake {
         kept.reserve(count as usize + 3)?;
@@ -71,6 +72,7 @@ fn pull_call<P: KernelPort>(
     ensures completions { (now kept.new).completions ≡ (now kept.old).completions }
     ensures taken { IfOk result (λ n. TakesIn kept.old kept.new n) }
     ensures err { OnErr result (TakesIn kept.old kept.new 0) }
+    ensures once { ClosesOnce kept.old intake.old → ClosesOnce kept.new intake.new }
     ensures items { vec_capacity items.old ≤ vec_capacity items.new }
     ensures pairing { P.pairing port.new ≡ P.pairing port.old }
     ensures sizes { P.sizes port.new ≡ P.sizes port.old }
@@ -109,6 +111,7 @@ pub fn take_in<P: KernelPort>(
     ensures completions { (now kept.new).completions ≡ (now kept.old).completions }
     ensures taken { IfOk result (λ n. TakesIn kept.old kept.new n) }
     ensures err { OnErr result (TakesIn kept.old kept.new 0) }
+    ensures once { ClosesOnce kept.old intake.old → ClosesOnce kept.new intake.new }
     ensures items { vec_capacity items.old ≤ vec_capacity items.new }
 
     // Nothing else of the port changes.

@@ -1,5 +1,5 @@
 //! The dispatcher's core, and the trace of what was done with it.
-ghost use Rattle.std.specs.Prelude.{◌≡◌, ◌+◌, ◌^◌, ◌<◌, ◌≤◌, [], length, IfOk, IfSome, OnOk, OnErr, slice_get};
+ghost use Rattle.std.specs.Prelude.{◌≡◌, ◌+◌, ◌^◌, ◌<◌, ◌≤◌, [], length, false, IfOk, IfSome, OnOk, OnErr, slice_get};
 ghost use Rattle.uring_entry.specs.Completions.{unreaped};
 ghost use Rattle.uring_entry.specs.Requests.{operation_running, next_of};
 ghost use Rattle.uring_entry.specs.Setup.{IsWithinLimits};
@@ -14,7 +14,7 @@ use std::alloc::{AllocError, Global};
 use std::marker::Model;
 use uring_machine::{Answer, Core, Counts, Cqe, Op, Outcome, Setup, Step};
 
-/// A core with the trace of all its steps and their answers, the oldest first. The core always fits this trace: no step is left out, and none made up.
+/// A core with the trace of all its steps and their answers, the oldest first. The core always fits this trace: no step is left out, and none made up. Its calls don't stop behind an entry with a fault.
 #[derive(Drop)]
 pub struct Kept {
     core: Core,
@@ -26,21 +26,22 @@ impl Model for Kept {
 
     ghost Value = { Kept };
 
-    ghost use Rattle.std.specs.Prelude.{vec_capacity};
+    ghost use Rattle.std.specs.Prelude.{◌≡◌, false, vec_capacity};
     ghost use Rattle.uring_entry.specs.Setup.{IsWithinLimits};
     ghost use Rattle.uring_machine.specs.Core.{FitsApart};
     ghost use Rattle.uring_machine.specs.Histories.{history_of};
 
     ghost view = { λ k. record { trace = k.trace.items; room = vec_capacity k.trace; setup = k.core.setup } };
 
-    ghost invariant = { λ k. IsWithinLimits k.core.setup × FitsApart k.core (history_of k.trace.items) };
+    ghost invariant = { λ k. IsWithinLimits k.core.setup × FitsApart k.core (history_of k.trace.items) × (k.core.setup.stops ≡ false) };
 }
 
 impl Kept {
     ghost use Rattle.uring_threads.specs.Kept.{Grows, IsUnmoved, now};
 
-    /// A new core of this set-up, with nothing recorded. `AllocError`: memory was refused.
+    /// A new core of this set-up, whose calls don't stop, with nothing recorded. `AllocError`: memory was refused.
     pub fn new(alloc: Global, setup: &Setup) -> Result<Kept, AllocError>
+        requires { setup.now.stops ≡ false }
         ensures trace { IfOk result (λ kept. kept.trace ≡ []) }
         ensures setup { IfOk result (λ kept. kept.setup ≡ setup.now) }
     {
@@ -123,10 +124,18 @@ impl Kept {
         self.core.setup()
     }
 
-    /// A law, and no code: the trace is lawful apart from what operations gave.
+    /// The trace, the oldest event first.
+    pub fn trace(&self) -> &[(Step, Answer)]
+        ensures { result.now ≡ self.now.trace }
+    {
+        &self.trace
+    }
+
+    /// A law, and no code: the trace is lawful apart from what operations gave, and no call of it stops.
     pub fn is_lawful(&self)
         ensures lawful { IsLawfulApart self.now.setup (history_of self.now.trace) }
         ensures limits { IsWithinLimits self.now.setup }
+        ensures goes_on { self.now.setup.stops ≡ false }
     {
         // A body knows the invariant once it reads a field.
         let _core = &self.core;

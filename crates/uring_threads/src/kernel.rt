@@ -1,21 +1,27 @@
 //! The dispatcher's end.
-ghost use Rattle.std.specs.Prelude.{◌≡◌, ◌↔◌, ◌<◌, ◌≤◌, ◌⊎◌, [], length, count_by, None, IsTrue, IfOk, OnErr, vec_capacity};
+ghost use Rattle.std.specs.Prelude.{◌≡◌, ◌↔◌, ◌+◌, ◌*◌, ◌<◌, ◌≤◌, ◌⊎◌, [], length, count_by, None, IsTrue, IfOk, IfErr, OnErr, OnOk, vec_capacity};
+ghost use Rattle.uring_entry.specs.Completions.{unreaped};
 ghost use Rattle.uring_entry.specs.Requests.{next_of};
-ghost use Rattle.uring_threads.specs.Dispatched.{AreSameLanes, HaveCarriedNone, HoldJobs, SomeIsFull};
+ghost use Rattle.uring_threads.specs.Dispatched.{AreSameLanes, HaveCarriedNone, HoldJobs, HoldResults, SomeIsFull, numbers_of_lanes};
+ghost use Rattle.uring_threads.specs.Items.{AreItems};
 ghost use Rattle.uring_threads.specs.Kept.{now};
-ghost use Rattle.uring_threads.specs.Ports.{nothing_put, sizes_of};
+ghost use Rattle.uring_threads.specs.Ports.{nothing_put, sizes_of, items_of_calls, LeavesItems, LeavesCompletions};
 ghost use Rattle.uring_threads.specs.Tallies.{Tally, Appends, starts_request};
 ghost use Rattle.uring_threads.specs.Turns.{Counts};
 ghost use Rattle.uring_threads.specs.declared.intake.Intake.TheVariants.{Ready};
 
+use crate::app_end::AppEnd;
 use crate::intake::Intake;
 use crate::item::Item;
 use crate::kept::Kept;
 use crate::ports::KernelPort;
+use crate::pulled::Rests;
+use crate::report::list_for_waiting;
 use crate::turns::{Turn, make_turn};
-use crate::work_lanes::WorkLanes;
-use std::alloc::AllocError;
+use crate::work_lanes::{LANE_LENGTH, WorkLanes};
+use std::alloc::{AllocError, Global};
 use std::marker::Model;
+use uring_entry::Cqe;
 
 /// The dispatcher's end over a port: it takes in what the application submits, sends jobs to workers and takes in their results, delivers completions, and records each step of this as its trace. It may run in a thread of its own.
 #[derive(Drop)]
@@ -43,7 +49,8 @@ impl<P: KernelPort> Model for Kernel<P> {
 }
 
 impl<P: KernelPort> Kernel<P> {
-    ghost use Rattle.uring_threads.specs.Kernel.{IsIdle};
+    ghost use Rattle.uring_threads.specs.Kernel.{IsIdle, IsKernel};
+    ghost use Rattle.uring_threads.specs.Report.{IsSameKernel};
 
     /// The dispatcher's end over a fresh port and fresh lanes of 1 to 8 workers, worker 0's first, with an empty trace and room for the items of a whole ring.
     pub(crate) fn new(kept: Kept, port: P, items: Vec<Item>, lanes: Vec<WorkLanes>) -> Kernel<P>
@@ -55,6 +62,7 @@ impl<P: KernelPort> Kernel<P> {
         requires some { 0 < length lanes.items }
         requires few { length lanes.items ≤ 8 }
         requires hold { HoldJobs lanes.items }
+        requires short { HoldResults lanes.items }
         requires carried { HaveCarriedNone lanes.items }
         ensures { result ≡ record { kept = kept; intake = Ready; lanes = lanes.items; pairing = P.pairing port; sizes = sizes_of kept.setup; pulled = nothing_put; reaped = [] } }
     {
@@ -86,6 +94,7 @@ impl<P: KernelPort> Kernel<P> {
         // Nothing else changes.
         ensures setup { self.new.kept.setup ≡ self.old.kept.setup }
         ensures lanes { AreSameLanes self.old.lanes self.new.lanes }
+        ensures numbers { numbers_of_lanes self.new.lanes ≡ numbers_of_lanes self.old.lanes }
         ensures pairing { self.new.pairing ≡ self.old.pairing }
         ensures sizes { self.new.sizes ≡ self.old.sizes }
     {
@@ -104,5 +113,62 @@ impl<P: KernelPort> Kernel<P> {
     {
         let counts = self.kept.counts();
         self.intake == Intake::Closed && counts.outstanding == 0 && counts.posted == counts.reaped
+    }
+    /// A law, and no code: the trace has all that went through this end's hands.
+    pub fn is_right(&self)
+        ensures { IsKernel self.now }
+    {
+        // A body knows the invariant once it reads a field.
+        let _intake = &self.intake;
+    }
+
+    /// Makes room in the trace for 64 results of each worker, and a list for all completions that may wait then. `AllocError`: the system is out of memory.
+    pub(crate) fn make_room(&mut self, alloc: Global) -> Result<Vec<Cqe>, AllocError>
+        ensures same { IsSameKernel self.old self.new }
+        ensures room { OnOk result (length self.old.kept.trace + 64 * length self.old.lanes ≤ self.new.kept.room) }
+        ensures empty { IfOk result (λ list. list.items ≡ []) }
+        ensures list { IfOk result (λ list. length (unreaped (now self.old.kept).completions) + 64 * length self.old.lanes ≤ vec_capacity list) }
+    {
+        let results = LANE_LENGTH * self.lanes.len();
+        self.kept.reserve(results)?;
+        list_for_waiting(alloc, &self.kept, results)
+    }
+
+    /// Ends both ports of the pair, and hands out the trace, the lanes, and what the ports still held.
+    ///
+    /// `Err` says that the system is out of memory, which is asked for first: both ends come back unchanged.
+    pub(crate) fn settle_ports(
+        self,
+        alloc: Global,
+        app: AppEnd<P::App>,
+    ) -> Result<(Kept, Vec<WorkLanes>, Rests), (AppEnd<P::App>, Kernel<P>)>
+        requires { self.pairing ≡ app.pairing }
+        ensures kept { IfOk result (λ left. left.0 ≡ self.kept) }
+        ensures lanes { IfOk result (λ left. left.1.items ≡ self.lanes) }
+        ensures items { IfOk result (λ left. LeavesItems app.submitted self.pulled left.2.unsent.items) }
+        ensures completions { IfOk result (λ left. LeavesCompletions self.reaped app.received left.2.undelivered.items) }
+        ensures submitted { OnOk result (AreItems app.sizes.sq (items_of_calls app.submitted.calls)) }
+        ensures unchanged { IfErr result (λ ends. (ends.0 ≡ app) × (ends.1 ≡ self)) }
+    {
+        let Kernel {
+            kept,
+            port,
+            intake,
+            lanes,
+            items,
+        } = self;
+        match app.settle(alloc, port) {
+            Ok(rests) => Ok((kept, lanes, rests)),
+            Err((app, port)) => {
+                let kernel = Kernel {
+                    kept,
+                    port,
+                    intake,
+                    lanes,
+                    items,
+                };
+                Err((app, kernel))
+            }
+        }
     }
 }

@@ -41,7 +41,7 @@ fn take_known_items(lane: &mut Consumer<Message, Global, WholeCalls>, items: &mu
     }
 }
 
-// Takes the completions that were delivered and not got.
+/// Takes the completions that were delivered and not got, with both ends of their lane in hand.
 pub fn take_undelivered(
     lane: &mut Consumer<Cqe>,
     sender: &mut Producer<Cqe>,

@@ -28,6 +28,8 @@ mod worker_files;
 
 // all sides
 mod opening;
+mod report;
+mod settle_ends;
 
 // the dispatcher's side
 mod calls;
@@ -46,11 +48,14 @@ pub use gate::{Gate, Open};
 pub use item::Item;
 pub use job::{Job, JobResult};
 pub use kernel::Kernel;
-pub use opening::{LanesFault, ends, lanes};
+pub use lane_rests::take_undelivered;
+pub use opening::{LanesFault, check_ends, ends, lanes};
 pub use port_lanes::{AppLanes, KernelLanes, lane_ports};
 pub use ports::{AppPort, KernelPort};
 pub use pulled::{Pulled, Rests};
 pub use refusals::{CloseRefusal, SubmitRefusal};
+pub use report::Report;
+pub use settle_ends::{NotSettled, settle};
 pub use turns::Turn;
 pub use uring_files::FileState;
 pub use uring_machine::{

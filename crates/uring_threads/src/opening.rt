@@ -1,5 +1,5 @@
 //! All the ends of a set-up.
-ghost use Rattle.std.specs.Prelude.{◌≡◌, ℕ, List, ◌↔◌, ◌<◌, ◌≤◌, [], length, IfOk, IsErrOf, OnOk};
+ghost use Rattle.std.specs.Prelude.{◌≡◌, ℕ, List, ◌↔◌, ◌<◌, ◌≤◌, [], length, true, false, IfOk, IsErrOf, OnOk};
 ghost use Rattle.uring_threads.specs.Opening.{AreBadWorkers, AreEnds};
 ghost use Rattle.uring_threads.specs.Ports.{nothing_put, sizes_of};
 
@@ -17,6 +17,9 @@ use uring_entry::Setup;
 /// Why there are no ends.
 #[derive(Clone, Copy, Debug, PartialEq, Eq)]
 pub enum LanesFault {
+    /// A call of the set-up stops behind an entry with a fault, so that it wouldn't take all that was submitted as one: our own rule.
+    Stops,
+
     /// There aren't 1 to 8 gates, one for each worker: our own rule.
     BadWorkers,
 
@@ -26,7 +29,7 @@ pub enum LanesFault {
 
 /// The ends of this set-up over two fresh ports of one pair: the application's, the dispatcher's, and those of the workers, one behind each gate, in the gates' order. A worker is known by its place, from 0.
 ///
-/// `BadWorkers` comes exactly if there aren't 1 to 8 gates, and is tested first; else `NoMemory` if memory was refused.
+/// `Stops` comes exactly if calls of the set-up stop, and is tested first; else `BadWorkers` exactly if there aren't 1 to 8 gates; else `NoMemory` if memory was refused.
 pub fn ends<K: KernelPort, G: Gate>(
     alloc: Global,
     setup: &Setup,
@@ -38,9 +41,10 @@ pub fn ends<K: KernelPort, G: Gate>(
     requires app { (K.App.sizes app ≡ sizes_of setup.now) × (K.App.put app ≡ nothing_put) × (K.App.got app ≡ []) }
     requires kernel { (K.sizes kernel ≡ sizes_of setup.now) × (K.pulled kernel ≡ nothing_put) × (K.delivered kernel ≡ []) }
     ensures ok { IfOk result (λ ends. AreEnds setup.now (length gates.items) (K.pairing kernel) ends.0 ends.1 ends.2.items) }
-    ensures bad_workers { IsErrOf result LanesFault.BadWorkers ↔ AreBadWorkers (length gates.items) }
+    ensures stops { IsErrOf result LanesFault.Stops ↔ (setup.now.stops ≡ true) }
+    ensures bad_workers { IsErrOf result LanesFault.BadWorkers ↔ ((setup.now.stops ≡ false) × AreBadWorkers (length gates.items)) }
 {
-    check_workers(gates.len())?;
+    check_ends(setup, gates.len())?;
     match make_ends(alloc, setup, gates, app, kernel) {
         Ok(ends) => Ok(ends),
         Err(AllocError) => Err(LanesFault::NoMemory),
@@ -49,34 +53,40 @@ pub fn ends<K: KernelPort, G: Gate>(
 
 /// The ends of this set-up over lanes: the application's, the dispatcher's, and those of the workers, one behind each gate, in the gates' order. A worker is known by its place, from 0.
 ///
-/// `BadWorkers` comes exactly if there aren't 1 to 8 gates, and is tested first; else `NoMemory` if memory was refused.
+/// `Stops` comes exactly if calls of the set-up stop, and is tested first; else `BadWorkers` exactly if there aren't 1 to 8 gates; else `NoMemory` if memory was refused.
 pub fn lanes<G: Gate>(
     alloc: Global,
     setup: &Setup,
     gates: Vec<G>,
 ) -> Result<(AppEnd<AppLanes>, Kernel<KernelLanes>, Vec<Worker<G>>), LanesFault>
     ensures ok { IfOk result (λ ends. (numbers : List ℕ) × AreEnds setup.now (length gates.items) numbers ends.0 ends.1 ends.2.items) }
-    ensures bad_workers { IsErrOf result LanesFault.BadWorkers ↔ AreBadWorkers (length gates.items) }
+    ensures stops { IsErrOf result LanesFault.Stops ↔ (setup.now.stops ≡ true) }
+    ensures bad_workers { IsErrOf result LanesFault.BadWorkers ↔ ((setup.now.stops ≡ false) × AreBadWorkers (length gates.items)) }
 {
-    check_workers(gates.len())?;
+    check_ends(setup, gates.len())?;
     let Ok((app, kernel)) = lane_ports(alloc, setup) else {
         return Err(LanesFault::NoMemory);
     };
     ends(alloc, setup, gates, app, kernel)
 }
 
-fn check_workers(count: usize) -> Result<(), LanesFault>
-    ensures ok { OnOk result ((0 < count) × (count ≤ 8)) }
-    ensures bad_workers { IsErrOf result LanesFault.BadWorkers ↔ AreBadWorkers count }
+/// Whether there can be ends of this set-up with so many workers: `Stops` if its calls stop, else `BadWorkers` if there aren't 1 to 8 of them.
+pub fn check_ends(setup: &Setup, count: usize) -> Result<(), LanesFault>
+    ensures ok { OnOk result ((setup.now.stops ≡ false) × (0 < count) × (count ≤ 8)) }
+    ensures stops { IsErrOf result LanesFault.Stops ↔ (setup.now.stops ≡ true) }
+    ensures bad_workers { IsErrOf result LanesFault.BadWorkers ↔ ((setup.now.stops ≡ false) × AreBadWorkers count) }
     ensures no_memory { IsErrOf result LanesFault.NoMemory → ⊥ }
 {
+    if setup.stops() {
+        return Err(LanesFault::Stops);
+    }
     if count == 0 || count > 8 {
         return Err(LanesFault::BadWorkers);
     }
     Ok(())
 }
 
-// The same where there are 1 to 8 gates.
+// The same where calls don't stop and there are 1 to 8 gates.
 fn make_ends<K: KernelPort, G: Gate>(
     alloc: Global,
     setup: &Setup,
@@ -84,6 +94,7 @@ fn make_ends<K: KernelPort, G: Gate>(
     app: K::App,
     kernel: K,
 ) -> Result<(AppEnd<K::App>, Kernel<K>, Vec<Worker<G>>), AllocError>
+    requires goes_on { setup.now.stops ≡ false }
     requires some { 0 < length gates.items }
     requires few { length gates.items ≤ 8 }
     requires pairing { K.pairing kernel ≡ K.App.pairing app }

@@ -4,7 +4,7 @@ ghost use Rattle.rtrb.specs.Ring.{received, consumer_capacity};
 ghost use Rattle.uring_threads.specs.Collected.{TakesAll};
 ghost use Rattle.uring_threads.specs.Dispatched.{HasCarried, HaveCarried};
 ghost use Rattle.uring_threads.specs.Pairings.{pairing_of};
-ghost use Rattle.uring_threads.specs.SettledWorker.{AreLanesOf, AreSettled, HaveLooked, IsSettledAt, all_waiting};
+ghost use Rattle.uring_threads.specs.SettledWorker.{AreLanesOf, AreSettled, HaveLooked, HaveSeenAll, IsSettledAt, all_waiting};
 ghost use Rattle.uring_threads.specs.Work.{results_of};
 ghost use Rattle.uring_threads.specs.Worker.{IsRight, Looks};
 ghost use Rattle.uring_threads.specs.declared.job.JobResult.{JobResult};
@@ -23,9 +23,11 @@ pub fn settle_workers<G: Gate>(kept: &mut Kept, lanes: &mut [WorkLanes], workers
     requires carried { HaveCarried kept.old lanes.old }
     // A Finish for each result that waited, and no more.
     ensures trace { TakesAll kept.old kept.new (all_waiting lanes.old workers.old) }
+    ensures few { length kept.new.trace ≤ length kept.old.trace + 64 * length lanes.old }
     // The history is lawful, the files are the workers', and what runs is what no worker has taken.
     ensures settled { AreSettled kept.new workers.new }
     ensures workers { HaveLooked workers.old workers.new }
+    ensures seen { HaveSeenAll lanes.old workers.new }
 {
     for k in 0..lanes.len() {
         settle_worker(kept, &mut lanes[k], &mut workers[k]);

@@ -92,7 +92,11 @@ impl<G: Gate> Worker<G> {
 
     /// Takes one job, if it sees one and sees room for its result: passes the gate, carries the job out and sends the result. Only a write that lengthens its file takes memory.
     pub fn turn(&mut self) -> Worked
-        ensures { Turns self.old self.new result }
+        ensures turns { Turns self.old self.new result }
+        // Of the same lanes it stays, with as many files.
+        ensures pairing { self.new.pairing ≡ self.old.pairing }
+        ensures files { length self.new.files ≡ length self.old.files }
+        ensures place { self.new.place ≡ self.old.place }
     {
         if self.results.is_full() {
             return Worked::Held;

@@ -32,5 +32,6 @@ entry_once (form.Fsync user_data flags fd) a b h k = h ∙ sym k
 entry_once (form.Read user_data flags fd off len) a b h k = h ∙ sym k
 entry_once (form.Write user_data flags fd off bytes) a b h k = data_once a b _ bytes h k
 entry_once (form.Cancel user_data flags target) a b h k = h ∙ sym k
+entry_once (form.CancelAll user_data flags target) a b h k = h ∙ sym k
 entry_once (form.Op code user_data flags) a b h k = h ∙ sym k
 entry_once (form.Raw bytes) a b h k = words_once a b h.words k.words (h.all ∙ sym k.all)

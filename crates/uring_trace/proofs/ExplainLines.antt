@@ -1,6 +1,6 @@
 -- What an explainer keeps, byte by byte and line by line.
-use Rattle.std.proofs.Common.{◌≡◌, ◌≢◌, ℕ, ◌+◌, ◌-◌, ◌^◌, min, Bool, true, false, not, ◌&&◌, ◌||◌, List, [], ◌∷◌, ◌++◌, length, Some, None, Result, Ok, Err, refl, sym, ap, subst, ◌∙◌, append_assoc, arith}
-use Rattle.std.specs.Prelude.{if◌then◌else◌, is_none, IfOk}
+use Rattle.std.proofs.Common.{◌≡◌, ◌≢◌, ℕ, ◌+◌, ◌-◌, ◌^◌, min, Bool, true, false, ◌||◌, List, [], ◌∷◌, ◌++◌, length, Some, None, Result, Ok, Err, refl, sym, ap, subst, ◌∙◌, append_assoc, arith}
+use Rattle.std.specs.Prelude.{IfOk}
 use Rattle.std.specs.List.{list_any}
 use Rattle.std.proofs.lemmas.List.{append-nil}
 use Rattle.uring_entry.specs.Setup.{Setup}
@@ -12,11 +12,12 @@ use Rattle.uring_trace.specs.Spelling.{IsStep, IsBad}
 use Rattle.uring_trace.specs.Lines.{with_last, joined, ended}
 use Rattle.uring_trace.specs.KeptLine.{KeptLine, kept_of}
 use Rattle.uring_trace.specs.Remarks.{is_remark}
-use Rattle.uring_trace.specs.Exchanges.{Exchange, lines_of, events_of}
 use Rattle.uring_trace.specs.Sessions.{with_event}
 use Rattle.std.specs.Prelude.{codes}
-use Rattle.uring_trace.specs.Explanations.{Explains, ExplainsWhole, ExplainsEnded, ExplainsBeginning, told_of, noted_of, bad_note, line_number, is_bad}
-use Rattle.uring_trace.specs.Explaining.{AppendsLine, TellsStep, Explaining}
+use Rattle.uring_trace.specs.Questions.{IsQuestion, IsNoQuestion}
+use Rattle.uring_trace.specs.declared.questions.Question.{Question}
+use Rattle.uring_trace.specs.Explanations.{Saying, Made, Asked, Remark, Bad, event_in, lines_in, events_in, Explains, ExplainsWhole, ExplainsEnded, ExplainsBeginning, told_of, noted_of, bad_note, line_number, is_bad}
+use Rattle.uring_trace.specs.Explaining.{AppendsLine, TellsStep, TellsShown, Explaining}
 use Rattle.uring_trace.proofs.Sessions.{split_more, split_end, split_whole, one_more, last_some}
 
 -- two facts of a value, whatever the value
@@ -32,11 +33,11 @@ or_true : (b : Bool) → true ≡ (b || true)
 or_true true = refl
 or_true false = refl
 
--- what becomes of a line: a step, a remark, or a bad one
+-- what becomes of a line: a step, a question, a remark, or a bad one
 
 pub line_made : (old new : Machine) (number : ℕ) (bad : Bool) (line before after notes : List ℕ) (step : Step) → IsStep line step → TellsStep old new step before after → AppendsLine old new number bad bad line before after notes notes
 line_made old new number bad line before after notes step is t = record {
-  event = Some (step, t.answer);
+  said = Made (step, t.answer);
   read = is;
   told = t.told;
   noted = sym (append-nil notes);
@@ -45,25 +46,36 @@ line_made old new number bad line before after notes step is t = record {
   fits = t.fits;
 }
 
-pub line_passed : (m : Machine) (number : ℕ) (bad : Bool) (line before notes : List ℕ) → IsBad line → is_remark line ≡ true → AppendsLine m m number bad bad line before before notes notes
-line_passed m number bad line before notes is remark = record {
-  event = None;
+pub line_asked : (m : Machine) (number : ℕ) (bad : Bool) (line before after notes : List ℕ) (question : Question) → IsQuestion line question → TellsShown m question before after → AppendsLine m m number bad bad line before after notes notes
+line_asked m number bad line before after notes question is tells = record {
+  said = Asked question;
   read = is;
-  told = λ h f. sym (ap (λ b. before ++ (if b then [] else ended (codes "bad line"))) remark ∙ append-nil before);
-  noted = sym (ap (λ b. notes ++ (if b then [] else bad_note number)) remark ∙ append-nil notes);
-  bad_line = or_false bad ∙ ap (λ b. bad || not b) (sym remark);
+  told = tells;
+  noted = sym (append-nil notes);
+  bad_line = or_false bad;
   same = refl;
   fits = λ h f. f;
 }
 
-pub line_bad : (m : Machine) (number : ℕ) (was_bad : Bool) (line before after notes notes' : List ℕ) → IsBad line → is_remark line ≡ false → after ≡ before ++ ended (codes "bad line") → notes' ≡ notes ++ bad_note number
+pub line_passed : (m : Machine) (number : ℕ) (bad : Bool) (line before notes : List ℕ) → is_remark line ≡ true → AppendsLine m m number bad bad line before before notes notes
+line_passed m number bad line before notes remark = record {
+  said = Remark;
+  read = remark;
+  told = λ h f. sym (append-nil before);
+  noted = sym (append-nil notes);
+  bad_line = or_false bad;
+  same = refl;
+  fits = λ h f. f;
+}
+
+pub line_bad : (m : Machine) (number : ℕ) (was_bad : Bool) (line before after notes notes' : List ℕ) → IsBad line → is_remark line ≡ false → IsNoQuestion line → after ≡ before ++ ended (codes "bad line") → notes' ≡ notes ++ bad_note number
     → AppendsLine m m number was_bad true line before after notes notes'
-line_bad m number was_bad line before after notes notes' is remark told noted = record {
-  event = None;
-  read = is;
-  told = λ h f. told ∙ ap (λ b. before ++ (if b then [] else ended (codes "bad line"))) (sym remark);
-  noted = noted ∙ ap (λ b. notes ++ (if b then [] else bad_note number)) (sym remark);
-  bad_line = or_true was_bad ∙ ap (λ b. was_bad || not b) (sym remark);
+line_bad m number was_bad line before after notes notes' is remark none told noted = record {
+  said = Bad;
+  read = (is, remark, none);
+  told = λ h f. told;
+  noted = noted;
+  bad_line = or_true was_bad;
   same = refl;
   fits = λ h f. f;
 }
@@ -72,10 +84,10 @@ line_bad m number was_bad line before after notes notes' is remark told noted = 
 pub explain_byte : (setup : Setup) (m : Machine) (kept kept' : KeptLine) (number : ℕ) (bad : Bool) (before text notes : List ℕ) (b : ℕ) → b ≢ 10 → ((line : List ℕ) → kept ≡ kept_of line → kept' ≡ kept_of (line ++ b ∷ []))
     → Explaining setup m kept number bad before text notes → Explaining setup m kept' number bad (before ++ b ∷ []) text notes
 explain_byte setup m kept kept' number bad before text notes b ne more h = record {
-  exchanges = h.exchanges;
+  sayings = h.sayings;
   line = h.line ++ b ∷ [];
   explains = h.explains;
-  splits = split_more before (lines_of h.exchanges) h.line b ne h.splits;
+  splits = split_more before (lines_in h.sayings) h.line b ne h.splits;
   keeps = more h.line h.keeps;
   numbered = h.numbered;
   bad_lines = h.bad_lines;
@@ -89,30 +101,30 @@ or_comes true false = refl
 or_comes false true = refl
 or_comes false false = refl
 
--- one exchange more
-explained_more : (setup : Setup) (m m' : Machine) (number : ℕ) (was_bad bad : Bool) (xs : List Exchange) (line text before after notes noted noted' : List ℕ) → Explains setup xs (text ++ before) (notes ++ noted) → number ≡ line_number (length xs) → m.core.setup ≡ setup → Fits m (history_of (events_of xs)) → (a : AppendsLine m m' number was_bad bad line before after noted noted')
-    → Explains setup (record { line = line; event = a.event } ∷ xs) (text ++ after) (notes ++ noted')
+-- one line more
+explained_more : (setup : Setup) (m m' : Machine) (number : ℕ) (was_bad bad : Bool) (xs : List Saying) (line text before after notes noted noted' : List ℕ) → Explains setup xs (text ++ before) (notes ++ noted) → number ≡ line_number (length xs) → m.core.setup ≡ setup → Fits m (history_of (events_in xs)) → (a : AppendsLine m m' number was_bad bad line before after noted noted')
+    → Explains setup (record { line = line; said = a.said } ∷ xs) (text ++ after) (notes ++ noted')
 explained_more setup m m' number was_bad bad xs line text before after notes noted noted' h numbered same fits a =
-    let past : History = history_of (events_of xs) in
-    let told : after ≡ before ++ told_of (world setup past) line a.event = subst (λ (g : Setup). after ≡ before ++ told_of (world g past) line a.event) same (a.told past fits) in
+    let past : History = history_of (events_in xs) in
+    let told : after ≡ before ++ told_of setup (world setup past) a.said = subst (λ (g : Setup). after ≡ before ++ told_of g (world g past) a.said) same (a.told past fits) in
     record {
       lawful =
-          subst (λ (k : History). IsLawful setup k) (one_more a.event (events_of xs))
-          (subst (λ (g : Setup). IsLawful g (with_event a.event past)) (a.same ∙ same) (a.fits past fits).lawful);
+          subst (λ (k : History). IsLawful setup k) (one_more (event_in a.said) (events_in xs))
+          (subst (λ (g : Setup). IsLawful g (with_event (event_in a.said) past)) (a.same ∙ same) (a.fits past fits).lawful);
       each = (a.read, h.each);
       told =
-          ap (λ (t : List ℕ). text ++ t) told ∙ sym (append_assoc text before (told_of (world setup past) line a.event))
-          ∙ ap (λ (t : List ℕ). t ++ told_of (world setup past) line a.event) h.told;
+          ap (λ (t : List ℕ). text ++ t) told ∙ sym (append_assoc text before (told_of setup (world setup past) a.said))
+          ∙ ap (λ (t : List ℕ). t ++ told_of setup (world setup past) a.said) h.told;
       noted =
-          ap (λ (t : List ℕ). notes ++ t) (a.noted ∙ ap (λ n. noted ++ noted_of n line a.event) numbered)
-          ∙ sym (append_assoc notes noted (noted_of (line_number (length xs)) line a.event))
-          ∙ ap (λ (t : List ℕ). t ++ noted_of (line_number (length xs)) line a.event) h.noted;
+          ap (λ (t : List ℕ). notes ++ t) (a.noted ∙ ap (λ n. noted ++ noted_of n a.said) numbered)
+          ∙ sym (append_assoc notes noted (noted_of (line_number (length xs)) a.said))
+          ∙ ap (λ (t : List ℕ). t ++ noted_of (line_number (length xs)) a.said) h.noted;
     }
 
-bad_more : (m m' : Machine) (number : ℕ) (was_bad bad : Bool) (xs : List Exchange) (line before after noted noted' : List ℕ) → was_bad ≡ list_any is_bad xs → (a : AppendsLine m m' number was_bad bad line before after noted noted')
-    → bad ≡ list_any is_bad (record { line = line; event = a.event } ∷ xs)
+bad_more : (m m' : Machine) (number : ℕ) (was_bad bad : Bool) (xs : List Saying) (line before after noted noted' : List ℕ) → was_bad ≡ list_any (λ x. is_bad x.said) xs → (a : AppendsLine m m' number was_bad bad line before after noted noted')
+    → bad ≡ list_any (λ x. is_bad x.said) (record { line = line; said = a.said } ∷ xs)
 bad_more m m' number was_bad bad xs line before after noted noted' was a =
-    a.bad_line ∙ ap (λ b. b || (is_none a.event && not (is_remark line))) was ∙ or_comes (list_any is_bad xs) (is_none a.event && not (is_remark line))
+    a.bad_line ∙ ap (λ b. b || is_bad a.said) was ∙ or_comes (list_any (λ x. is_bad x.said) xs) (is_bad a.said)
 
 -- a line that has its end
 pub explain_line : (setup : Setup) (m m' : Machine) (kept : KeptLine) (number number' : ℕ) (was_bad bad : Bool) (bytes text before after notes noted noted' : List ℕ) → number' ≡ min (number + 1) (2 ^ 64 - 1)
@@ -122,42 +134,50 @@ explain_line setup m m' kept number number' was_bad bad bytes text before after 
     let a = tells h.line h.keeps in
     let numbered = h.numbered in
     record {
-      exchanges = record { line = h.line; event = a.event } ∷ h.exchanges;
+      sayings = record { line = h.line; said = a.said } ∷ h.sayings;
       line = [];
-      explains = explained_more setup m m' number was_bad bad h.exchanges h.line text before after notes noted noted' h.explains h.numbered h.same h.fits a;
-      splits = split_end bytes (lines_of h.exchanges) h.line h.splits;
+      explains = explained_more setup m m' number was_bad bad h.sayings h.line text before after notes noted noted' h.explains h.numbered h.same h.fits a;
+      splits = split_end bytes (lines_in h.sayings) h.line h.splits;
       keeps = refl;
       numbered = omega (arith, next, numbered);
-      bad_lines = bad_more m m' number was_bad bad h.exchanges h.line before after noted noted' h.bad_lines a;
+      bad_lines = bad_more m m' number was_bad bad h.sayings h.line before after noted noted' h.bad_lines a;
       same = a.same ∙ h.same;
-      fits = subst (λ (k : History). Fits m' k) (one_more a.event (events_of h.exchanges)) (a.fits (history_of (events_of h.exchanges)) h.fits);
+      fits = subst (λ (k : History). Fits m' k) (one_more (event_in a.said) (events_in h.sayings)) (a.fits (history_of (events_in h.sayings)) h.fits);
     }
+
+-- the lines to their end, and the machine that fits them
+abbrev pub Ended : Setup → Machine → Bool → List ℕ → List ℕ → List ℕ → Type 0
+Ended setup m bad bytes text notes = (whole : ExplainsWhole setup bad bytes text notes) × (m.core.setup ≡ setup) × Fits m (history_of (events_in whole.0))
 
 -- a last line that has begun
 pub explain_last : (setup : Setup) (m m' : Machine) (kept : KeptLine) (number : ℕ) (was_bad bad : Bool) (bytes text before after notes noted noted' : List ℕ) → ((line : List ℕ) → kept ≡ kept_of line → line ≡ [] → ⊥)
     → ((line : List ℕ) → kept ≡ kept_of line → AppendsLine m m' number was_bad bad line before after noted noted')
-    → Explaining setup m kept number was_bad bytes (text ++ before) (notes ++ noted) → ExplainsWhole setup bad bytes (text ++ after) (notes ++ noted')
+    → Explaining setup m kept number was_bad bytes (text ++ before) (notes ++ noted) → Ended setup m' bad bytes (text ++ after) (notes ++ noted')
 explain_last setup m m' kept number was_bad bad bytes text before after notes noted noted' some tells h =
     let a = tells h.line h.keeps in (
-      record { line = h.line; event = a.event } ∷ h.exchanges,
-      lines_of h.exchanges,
-      h.line,
-      explained_more setup m m' number was_bad bad h.exchanges h.line text before after notes noted noted' h.explains h.numbered h.same h.fits a,
-      h.splits,
-      sym (last_some (lines_of h.exchanges) h.line (some h.line h.keeps)),
-      bad_more m m' number was_bad bad h.exchanges h.line before after noted noted' h.bad_lines a,
+      (
+        record { line = h.line; said = a.said } ∷ h.sayings,
+        lines_in h.sayings,
+        h.line,
+        explained_more setup m m' number was_bad bad h.sayings h.line text before after notes noted noted' h.explains h.numbered h.same h.fits a,
+        h.splits,
+        sym (last_some (lines_in h.sayings) h.line (some h.line h.keeps)),
+        bad_more m m' number was_bad bad h.sayings h.line before after noted noted' h.bad_lines a,
+      ),
+      a.same ∙ h.same,
+      subst (λ (k : History). Fits m' k) (one_more (event_in a.said) (events_in h.sayings)) (a.fits (history_of (events_in h.sayings)) h.fits),
     )
 
 -- no last line has begun
-pub explain_none : (setup : Setup) (m : Machine) (kept : KeptLine) (number : ℕ) (bad : Bool) (bytes text notes : List ℕ) → ((line : List ℕ) → kept ≡ kept_of line → line ≡ []) → Explaining setup m kept number bad bytes text notes → ExplainsWhole setup bad bytes text notes
+pub explain_none : (setup : Setup) (m : Machine) (kept : KeptLine) (number : ℕ) (bad : Bool) (bytes text notes : List ℕ) → ((line : List ℕ) → kept ≡ kept_of line → line ≡ []) → Explaining setup m kept number bad bytes text notes → Ended setup m bad bytes text notes
 explain_none setup m kept number bad bytes text notes none h =
-    (h.exchanges, lines_of h.exchanges, h.line, h.explains, h.splits, sym (ap (with_last (lines_of h.exchanges)) (none h.line h.keeps)), h.bad_lines)
+    ((h.sayings, lines_in h.sayings, h.line, h.explains, h.splits, sym (ap (with_last (lines_in h.sayings)) (none h.line h.keeps)), h.bad_lines), h.same, h.fits)
 
 -- what an explainer holds, for the outcomes that end early
 pub explain_ended : (setup : Setup) (m : Machine) (kept : KeptLine) (number : ℕ) (bad : Bool) (bytes text notes : List ℕ) → Explaining setup m kept number bad bytes text notes → ExplainsEnded setup bytes text notes
-explain_ended setup m kept number bad bytes text notes h = (h.exchanges, h.line, h.explains, h.splits)
+explain_ended setup m kept number bad bytes text notes h = (h.sayings, h.line, h.explains, h.splits)
 
 pub explain_beginning : (setup : Setup) (m : Machine) (kept : KeptLine) (number : ℕ) (bad : Bool) (bytes text notes more : List ℕ) → Explaining setup m kept number bad bytes text notes → ExplainsBeginning setup (bytes ++ more) text notes
 explain_beginning setup m kept number bad bytes text notes more h =
-    let lines = lines_of h.exchanges in
-    (joined lines, h.line ++ more, h.exchanges, h.explains, split_whole lines h.splits.each, ap (λ (l : List ℕ). l ++ more) h.splits.whole ∙ append_assoc (joined lines) h.line more)
+    let lines = lines_in h.sayings in
+    (joined lines, h.line ++ more, h.sayings, h.explains, split_whole lines h.splits.each, ap (λ (l : List ℕ). l ++ more) h.splits.whole ∙ append_assoc (joined lines) h.line more)

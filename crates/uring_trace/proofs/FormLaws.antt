@@ -6,7 +6,7 @@ use Rattle.std.specs.Str.{bytes_eq}
 use Rattle.std.proofs.lemmas.Slice.Eq.{bytes_eq-Decides}
 use Rattle.uring_trace.specs.Spelling.{Form, spelled, IsForm, SpellsForm, IsFile, AreBytes}
 use Rattle.uring_trace.specs.Spelling as form
-use Rattle.uring_trace.specs.Reading.{◌>>=◌, number_of, file_of, flags_of, data_of, hex_of, nop_of, fsync_of, read_of, write_of, cancel_of, op_of, raw_of, bytes_form_of, form_of}
+use Rattle.uring_trace.specs.Reading.{◌>>=◌, number_of, file_of, flags_of, data_of, hex_of, nop_of, fsync_of, read_of, write_of, cancel_of, cancel_all_of, op_of, raw_of, bytes_form_of, form_of}
 use Rattle.uring_trace.proofs.Options.{bind_some, chosen, some_is}
 use Rattle.uring_trace.proofs.NumberLaws.{number_found, number_again, file_found, file_again}
 use Rattle.uring_trace.proofs.FlagLaws.{flags_found, flags_again}
@@ -103,6 +103,22 @@ cancel_found (ud ∷ fl ∷ other ∷ []) f e =
     subst (SpellsForm (codes "cancel" ∷ ud ∷ fl ∷ other ∷ [])) (some_is (form.Cancel s0.0 s1.0 s2.0) f s2.2) (fl, (n0.1, n1, n2.1), tokens_are)
 cancel_found (a ∷ b ∷ c ∷ d ∷ more) f e = absurd cc
 
+cancel_all_found : (tokens : List (List ℕ)) (f : Form) → cancel_all_of tokens ≡ Some f → SpellsForm (codes "cancelall" ∷ tokens) f
+unfolding cancel_all_of
+cancel_all_found [] f e = absurd cc
+cancel_all_found (a ∷ []) f e = absurd cc
+cancel_all_found (a ∷ b ∷ []) f e = absurd cc
+cancel_all_found (ud ∷ fl ∷ other ∷ []) f e =
+    let s0 = bind_some (number_of (2 ^ 64) ud) (λ x0. (flags_of fl >>= λ x1. (number_of (2 ^ 64) other >>= λ x2. Some (form.CancelAll x0 x1 x2)))) f e in
+    let s1 = bind_some (flags_of fl) (λ x1. (number_of (2 ^ 64) other >>= λ x2. Some (form.CancelAll s0.0 x1 x2))) f s0.2 in
+    let s2 = bind_some (number_of (2 ^ 64) other) (λ x2. Some (form.CancelAll s0.0 s1.0 x2)) f s1.2 in
+    let n0 = number_found (2 ^ 64) ud s0.0 (omega arith) s0.1 in
+    let n1 = flags_found fl s1.0 s1.1 in
+    let n2 = number_found (2 ^ 64) other s2.0 (omega arith) s2.1 in
+    let tokens_are : codes "cancelall" ∷ ud ∷ fl ∷ other ∷ [] ≡ spelled (form.CancelAll s0.0 s1.0 s2.0) fl = ap2 (λ w0 w2. codes "cancelall" ∷ w0 ∷ fl ∷ w2 ∷ []) n0.0 n2.0 in
+    subst (SpellsForm (codes "cancelall" ∷ ud ∷ fl ∷ other ∷ [])) (some_is (form.CancelAll s0.0 s1.0 s2.0) f s2.2) (fl, (n0.1, n1, n2.1), tokens_are)
+cancel_all_found (a ∷ b ∷ c ∷ d ∷ more) f e = absurd cc
+
 op_found : (tokens : List (List ℕ)) (f : Form) → op_of tokens ≡ Some f → SpellsForm (codes "op" ∷ tokens) f
 unfolding op_of
 op_found [] f e = absurd cc
@@ -162,16 +178,18 @@ form_found (name ∷ tokens) f e =
     named name (codes "read") P (read_of tokens) _ f e (read_found tokens f) (λ e.
     named name (codes "write") P (write_of tokens) _ f e (write_found tokens f) (λ e.
     named name (codes "cancel") P (cancel_of tokens) _ f e (cancel_found tokens f) (λ e.
+    named name (codes "cancelall") P (cancel_all_of tokens) _ f e (cancel_all_found tokens f) (λ e.
     named name (codes "op") P (op_of tokens) _ f e (op_found tokens f) (λ e.
-    named name (codes "raw") P (raw_of tokens) None f e (raw_found tokens f) (λ e. absurd (let no : None ≡ Some f = e in cc))))))))
+    named name (codes "raw") P (raw_of tokens) None f e (raw_found tokens f) (λ e. absurd (let no : None ≡ Some f = e in cc)))))))))
 
 form_again_of : (f : Form) (token : List ℕ) → IsForm f token → form_of (spelled f token) ≡ Some f
-unfolding form_of nop_of fsync_of read_of write_of cancel_of op_of raw_of bytes_form_of
+unfolding form_of nop_of fsync_of read_of write_of cancel_of cancel_all_of op_of raw_of bytes_form_of
 form_again_of (form.Nop ud fl) token h = rw (number_again (2 ^ 64) ud (omega arith) h.0, flags_again token fl h.1) refl
 form_again_of (form.Fsync ud fl fd) token h = rw (number_again (2 ^ 64) ud (omega arith) h.0, flags_again token fl h.1, file_again fd h.2) refl
 form_again_of (form.Read ud fl fd off len) token h = rw (number_again (2 ^ 64) ud (omega arith) h.0, flags_again token fl h.1, file_again fd h.2, number_again (2 ^ 64) off (omega arith) h.3, number_again (2 ^ 32) len (omega arith) h.4) refl
 form_again_of (form.Write ud fl fd off bytes) token h = rw (number_again (2 ^ 64) ud (omega arith) h.0, flags_again token fl h.1, file_again fd h.2, number_again (2 ^ 64) off (omega arith) h.3, data_again bytes h.4) refl
 form_again_of (form.Cancel ud fl target) token h = rw (number_again (2 ^ 64) ud (omega arith) h.0, flags_again token fl h.1, number_again (2 ^ 64) target (omega arith) h.2) refl
+form_again_of (form.CancelAll ud fl target) token h = rw (number_again (2 ^ 64) ud (omega arith) h.0, flags_again token fl h.1, number_again (2 ^ 64) target (omega arith) h.2) refl
 form_again_of (form.Op code ud fl) token h = rw (number_again 256 code (omega arith) h.0, number_again (2 ^ 64) ud (omega arith) h.1, flags_again token fl h.2) refl
 form_again_of (form.Raw bytes) token h = rw (hex_again 128 bytes h) refl
 

@@ -7,6 +7,8 @@ pub mod NumberLaws
 pub mod FlagLaws
 pub mod KeptLines
 pub mod Sessions
+pub mod QuestionLines
+pub mod ShownTexts
 pub mod ExplainLines
 pub mod ExplainStreams
 pub mod Traces

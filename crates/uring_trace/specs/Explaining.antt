@@ -1,12 +1,12 @@
 -- Glue. What an explainer keeps of the lines that it took in.
-use Rattle.std.specs.Prelude.{◌≡◌, ℕ, ◌+◌, ◌<◌, Bool, List, ◌∷◌, ◌++◌, ◌||◌, not, ◌&&◌, is_none, length, Option, Result, Ok, Err}
+use Rattle.std.specs.Prelude.{◌≡◌, ℕ, ◌+◌, ◌<◌, Bool, List, ◌∷◌, ◌++◌, ◌||◌, length, Option, Result, Ok, Err}
 use Rattle.std.specs.List.{list_any}
 use Rattle.std.specs.Io.KnownBytes.{Appends}
 use Rattle.uring_trace.specs.declared.explainer.Explainer.{Explainer}
 use Rattle.uring_trace.specs.declared.trace_fault.TraceFault.{TraceFault}
 use Rattle.uring_trace.specs.declared.trace_fault.TraceFault.TheVariants as fault
 use Rattle.uring_entry.specs.Setup.{Setup}
-use Rattle.uring_machine.specs.Histories.{Event, History, world, history_of}
+use Rattle.uring_machine.specs.Histories.{History, world, history_of}
 use Rattle.uring_machine.specs.Machine.{Machine, Fits}
 use Rattle.uring_machine.specs.declared.step.Step.{Step}
 use Rattle.uring_machine.specs.declared.answer.Answer.{Answer}
@@ -14,20 +14,20 @@ use Rattle.uring_trace.specs.Text.{text_of}
 use Rattle.uring_trace.specs.Reasons.{reason_of, reason_text}
 use Rattle.uring_trace.specs.Lines.{ended, Splits}
 use Rattle.uring_trace.specs.KeptLine.{KeptLine, kept_of}
-use Rattle.uring_trace.specs.Exchanges.{Exchange, IsReadAs, lines_of, events_of}
 use Rattle.uring_trace.specs.Sessions.{with_event}
-use Rattle.uring_trace.specs.Explanations.{Explains, WritesBoth, told_of, noted_of, line_number, is_bad}
-use Rattle.uring_trace.specs.Remarks.{is_remark}
+use Rattle.uring_trace.specs.Shown.{shown}
+use Rattle.uring_trace.specs.declared.questions.Question.{Question}
+use Rattle.uring_trace.specs.Explanations.{Said, Saying, IsSaid, event_in, lines_in, events_in, Explains, ExplainsWhole, WritesBoth, told_of, noted_of, line_number, is_bad}
 
 -- What a line is told and noted as is appended, and a step is made where the line is one.
 pub record AppendsLine (old new : Machine) (number : ℕ) (was_bad bad : Bool) (line before after noted_before noted_after : List ℕ) : Type 0 where
-  pub event : Option Event
-  pub read : IsReadAs line event
-  pub told : (h : History) → Fits old h → after ≡ before ++ told_of (world old.core.setup h) line event
-  pub noted : noted_after ≡ noted_before ++ noted_of number line event
-  pub bad_line : bad ≡ (was_bad || (is_none event && not (is_remark line)))
+  pub said : Said
+  pub read : IsSaid line said
+  pub told : (h : History) → Fits old h → after ≡ before ++ told_of old.core.setup (world old.core.setup h) said
+  pub noted : noted_after ≡ noted_before ++ noted_of number said
+  pub bad_line : bad ≡ (was_bad || is_bad said)
   pub same : new.core.setup ≡ old.core.setup
-  pub fits : (h : History) → Fits old h → Fits new (with_event event h)
+  pub fits : (h : History) → Fits old h → Fits new (with_event (event_in said) h)
 
 -- A step was made, and its answer with the reason is appended as a line.
 pub record TellsStep (old new : Machine) (step : Step) (before after : List ℕ) : Type 0 where
@@ -35,6 +35,10 @@ pub record TellsStep (old new : Machine) (step : Step) (before after : List ℕ)
   pub told : (h : History) → Fits old h → after ≡ before ++ ended (text_of answer ++ reason_text (reason_of (world old.core.setup h) step answer))
   pub same : new.core.setup ≡ old.core.setup
   pub fits : (h : History) → Fits old h → Fits new ((step, answer) ∷ h)
+
+-- What a question asks for is appended as a line.
+abbrev pub TellsShown : Machine → Question → List ℕ → List ℕ → Type 0
+TellsShown m question before after = (h : History) → Fits m h → after ≡ before ++ ended (shown m.core.setup (world m.core.setup h) question)
 
 -- What a write of two texts did: at `Ok` it appended both, and else together less, each from its beginning on.
 abbrev pub WritesTexts : Result (Unit {0}) TraceFault → List ℕ → List ℕ → List ℕ → List ℕ → Type 0
@@ -48,19 +52,23 @@ WritesPair w w' e e' result text notes = (written : List ℕ) × (noted : List �
 
 -- The explainer's invariant, over its fields: these bytes have been taken in, text and notes are what was told and noted so far, and `kept` is what is kept of the unfinished line, which has this number.
 pub record Explaining (setup : Setup) (machine : Machine) (kept : KeptLine) (number : ℕ) (bad : Bool) (bytes text notes : List ℕ) : Type 0 where
-  pub exchanges : List Exchange
+  pub sayings : List Saying
   pub line : List ℕ
-  pub explains : Explains setup exchanges text notes
-  pub splits : Splits bytes (lines_of exchanges) line
+  pub explains : Explains setup sayings text notes
+  pub splits : Splits bytes (lines_in sayings) line
   pub keeps : kept ≡ kept_of line
-  pub numbered : number ≡ line_number (length exchanges)
-  pub bad_lines : bad ≡ list_any is_bad exchanges
+  pub numbered : number ≡ line_number (length sayings)
+  pub bad_lines : bad ≡ list_any (λ x. is_bad x.said) sayings
   pub same : machine.core.setup ≡ setup
-  pub fits : Fits machine (history_of (events_of exchanges))
+  pub fits : Fits machine (history_of (events_in sayings))
 
 -- The explainer has taken in these bytes, and told and noted this so far.
 abbrev pub HasTold : Setup → Explainer → List ℕ → List ℕ → List ℕ → Type 0
 HasTold setup s bytes text notes = Explaining setup s.machine s.line s.number s.has_bad bytes text notes
+
+-- The explainer has taken in these bytes to their end, and its machine is as the steps in them left it.
+abbrev pub HasEnded : Setup → Explainer → List ℕ → List ℕ → List ℕ → Type 0
+HasEnded setup s bytes text notes = (whole : ExplainsWhole setup s.has_bad bytes text notes) × (s.machine.core.setup ≡ setup) × Fits s.machine (history_of (events_in whole.0))
 
 -- These bytes were to be taken in, and this is what has been written: all that was told and noted so far, or what a fault allows.
 abbrev pub TookBoth : Setup → Result (Unit {0}) TraceFault → Explainer → List ℕ → List ℕ → List ℕ → Type 0

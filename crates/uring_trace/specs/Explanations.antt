@@ -1,7 +1,8 @@
 -- The lines of a trace, each with its answer and its reason. The language of explanations is our own rule.
-use Rattle.std.specs.Prelude.{◌≡◌, ℕ, ◌+◌, ◌-◌, ◌^◌, ◌<◌, ◌⊎◌, ◌&&◌, not, min, Bool, List, [], ◌∷◌, ◌++◌, length, codes, Option, Some, None, is_none, Result, Ok, Err, if◌then◌else◌}
+use Rattle.std.specs.Prelude.{◌≡◌, ℕ, ◌+◌, ◌-◌, ◌^◌, ◌<◌, ◌⊎◌, min, Bool, true, false, List, [], ◌∷◌, ◌++◌, length, map, codes, Option, Some, None, Result, Ok, Err}
 use Rattle.std.specs.Fmt.{decimal}
 use Rattle.std.specs.List.{AllByRecursion, list_any}
+use Rattle.std.specs.Option.{option_to_list}
 use Rattle.std.specs.Io.KnownBytes.{Consumes, Appends, IsAtEnd}
 use Rattle.uring_entry.specs.Setup.{Setup}
 use Rattle.uring_machine.specs.World.{World}
@@ -12,59 +13,104 @@ use Rattle.uring_trace.specs.declared.trace_fault.TraceFault.TheVariants as faul
 use Rattle.uring_trace.specs.Text.{text_of}
 use Rattle.uring_trace.specs.Remarks.{is_remark}
 use Rattle.uring_trace.specs.Lines.{ended, Splits, with_last}
-use Rattle.uring_trace.specs.Exchanges.{Exchange, IsReadAs, lines_of, events_of}
+use Rattle.uring_trace.specs.Spelling.{IsStep, IsBad}
+use Rattle.uring_trace.specs.Questions.{IsQuestion, IsNoQuestion}
+use Rattle.uring_trace.specs.Shown.{shown}
+use Rattle.uring_trace.specs.declared.questions.Question.{Question}
 use Rattle.uring_trace.specs.Reasons.{reason_of, reason_text}
 
--- what is told of a line in this world: of a step its answer with the reason, of a remark nothing, and of any other that it is bad
-abbrev pub told_of : World → List ℕ → Option Event → List ℕ
-told_of w line (Some event) = ended (text_of event.1 ++ reason_text (reason_of w event.0 event.1))
-told_of w line None = if is_remark line then [] else ended (codes "bad line")
+-- What a line is: a step, with its answer; a question of what stands; a remark; or none of these.
+pub data Said : Type 0 where
+  Made : Event → Said
+  Asked : Question → Said
+  Remark : Said
+  Bad : Said
+
+-- a line, and what it is
+pub record Saying : Type 0 where
+  pub line : List ℕ
+  pub said : Said
+
+-- the line is this
+abbrev pub IsSaid : List ℕ → Said → Type 0
+IsSaid line (Made event) = IsStep line event.0
+IsSaid line (Asked question) = IsQuestion line question
+IsSaid line Remark = is_remark line ≡ true
+IsSaid line Bad = IsBad line × (is_remark line ≡ false) × IsNoQuestion line
+
+-- the step that a line is, with its answer
+abbrev pub event_in : Said → Option Event
+event_in (Made event) = Some event
+event_in (Asked question) = None
+event_in Remark = None
+event_in Bad = None
+
+-- Of lines, the newest first: the lines alone, and the steps with their answers in the order in which they happened.
+
+abbrev pub lines_in : List Saying → List (List ℕ)
+lines_in xs = map (λ x. x.line) xs
+
+abbrev pub events_in : List Saying → List Event
+events_in [] = []
+events_in (x ∷ before) = events_in before ++ option_to_list (event_in x.said)
+
+-- what is told of a line in this world: of a step its answer with the reason, of a question what it asks for, of a remark nothing, and of any other that it is bad
+abbrev pub told_of : Setup → World → Said → List ℕ
+told_of g w (Made event) = ended (text_of event.1 ++ reason_text (reason_of w event.0 event.1))
+told_of g w (Asked question) = ended (shown g w question)
+told_of g w Remark = []
+told_of g w Bad = ended (codes "bad line")
 
 -- the note that the line with this number is bad
 abbrev pub bad_note : ℕ → List ℕ
 bad_note number = codes "uring: line " ++ decimal number ++ ended (codes ": bad line")
 
 -- what is noted of a line with this number: only that it is bad
-abbrev pub noted_of : ℕ → List ℕ → Option Event → List ℕ
-noted_of number line (Some event) = []
-noted_of number line None = if is_remark line then [] else bad_note number
+abbrev pub noted_of : ℕ → Said → List ℕ
+noted_of number (Made event) = []
+noted_of number (Asked question) = []
+noted_of number Remark = []
+noted_of number Bad = bad_note number
 
 -- the number of a line behind so many others, from 1 on; 2^64 - 1 is the number of every later one
 abbrev pub line_number : ℕ → ℕ
 line_number before = min (before + 1) (2 ^ 64 - 1)
 
--- Of exchanges, the newest first: what is told of each line by the world before it, and what is noted.
+-- Of lines, the newest first: what is told of each by the world before it, and what is noted.
 
-abbrev pub explained : Setup → List Exchange → List ℕ
+abbrev pub explained : Setup → List Saying → List ℕ
 explained g [] = []
-explained g (x ∷ before) = explained g before ++ told_of (world g (history_of (events_of before))) x.line x.event
+explained g (x ∷ before) = explained g before ++ told_of g (world g (history_of (events_in before))) x.said
 
-abbrev pub notes_of : List Exchange → List ℕ
+abbrev pub notes_of : List Saying → List ℕ
 notes_of [] = []
-notes_of (x ∷ before) = notes_of before ++ noted_of (line_number (length before)) x.line x.event
+notes_of (x ∷ before) = notes_of before ++ noted_of (line_number (length before)) x.said
 
 -- whether a line is bad
-abbrev pub is_bad : Exchange → Bool
-is_bad x = is_none x.event && not (is_remark x.line)
+abbrev pub is_bad : Said → Bool
+is_bad (Made event) = false
+is_bad (Asked question) = false
+is_bad Remark = false
+is_bad Bad = true
 
--- The exchanges explain their lines: each answer is called for by the steps before it, the text is what is told of each, and the notes are those of the bad ones.
-pub record Explains (setup : Setup) (xs : List Exchange) (text notes : List ℕ) : Type 0 where
-  pub each : AllByRecursion (λ x. IsReadAs x.line x.event) xs
-  pub lawful : IsLawful setup (history_of (events_of xs))
+-- The lines are explained: each answer is called for by the steps before it, the text is what is told of each line, and the notes are those of the bad ones.
+pub record Explains (setup : Setup) (xs : List Saying) (text notes : List ℕ) : Type 0 where
+  pub each : AllByRecursion (λ x. IsSaid x.line x.said) xs
+  pub lawful : IsLawful setup (history_of (events_in xs))
   pub told : text ≡ explained setup xs
   pub noted : notes ≡ notes_of xs
 
 -- text and notes explain every line of the bytes, of which the last may lack its end; and whether some line is bad
 abbrev pub ExplainsWhole : Setup → Bool → List ℕ → List ℕ → List ℕ → Type 0
-ExplainsWhole setup bad bytes text notes = (xs : List Exchange) × (lines : List (List ℕ)) × (rest : List ℕ) × Explains setup xs text notes × Splits bytes lines rest × (lines_of xs ≡ with_last lines rest) × (bad ≡ list_any is_bad xs)
+ExplainsWhole setup bad bytes text notes = (xs : List Saying) × (lines : List (List ℕ)) × (rest : List ℕ) × Explains setup xs text notes × Splits bytes lines rest × (lines_in xs ≡ with_last lines rest) × (bad ≡ list_any (λ x. is_bad x.said) xs)
 
 -- text and notes explain every line of the bytes that has its end
 abbrev pub ExplainsEnded : Setup → List ℕ → List ℕ → List ℕ → Type 0
-ExplainsEnded setup bytes text notes = (xs : List Exchange) × (rest : List ℕ) × Explains setup xs text notes × Splits bytes (lines_of xs) rest
+ExplainsEnded setup bytes text notes = (xs : List Saying) × (rest : List ℕ) × Explains setup xs text notes × Splits bytes (lines_in xs) rest
 
 -- text and notes explain the first lines of the bytes
 abbrev pub ExplainsBeginning : Setup → List ℕ → List ℕ → List ℕ → Type 0
-ExplainsBeginning setup bytes text notes = (first : List ℕ) × (after : List ℕ) × (xs : List Exchange) × Explains setup xs text notes × Splits first (lines_of xs) [] × (bytes ≡ first ++ after)
+ExplainsBeginning setup bytes text notes = (first : List ℕ) × (after : List ℕ) × (xs : List Saying) × Explains setup xs text notes × Splits first (lines_in xs) [] × (bytes ≡ first ++ after)
 
 -- text and notes together lack something of what explains lines of the bytes
 abbrev pub ExplainsLess : Setup → List ℕ → List ℕ → List ℕ → Type 0

@@ -10,5 +10,7 @@ pub mod Sessions
 pub mod Streams
 pub mod Reasons
 pub mod Remarks
+pub mod Questions
+pub mod Shown
 pub mod Explanations
 pub mod Explaining

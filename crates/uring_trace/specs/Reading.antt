@@ -108,6 +108,14 @@ cancel_of (ud ∷ fl ∷ other ∷ []) = do
   Some (form.Cancel user_data flags target)
 cancel_of _ = None
 
+unfoldable pub cancel_all_of : List (List ℕ) → Option Form
+cancel_all_of (ud ∷ fl ∷ other ∷ []) = do
+  user_data ← number_of (2 ^ 64) ud
+  flags ← flags_of fl
+  target ← number_of (2 ^ 64) other
+  Some (form.CancelAll user_data flags target)
+cancel_all_of _ = None
+
 unfoldable pub op_of : List (List ℕ) → Option Form
 op_of (op ∷ ud ∷ fl ∷ []) = do
   code ← number_of 256 op
@@ -132,6 +140,7 @@ form_of (name ∷ tokens) =
     if bytes_eq name (codes "read") then read_of tokens else
     if bytes_eq name (codes "write") then write_of tokens else
     if bytes_eq name (codes "cancel") then cancel_of tokens else
+    if bytes_eq name (codes "cancelall") then cancel_all_of tokens else
     if bytes_eq name (codes "op") then op_of tokens else
     if bytes_eq name (codes "raw") then raw_of tokens else None
 

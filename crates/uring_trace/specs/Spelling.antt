@@ -1,10 +1,10 @@
 -- The lines that are steps: the tokens that each step is written as.
-use Rattle.std.specs.Prelude.{◌≡◌, ℕ, ℤ, pos, negsuc, ◌<◌, ◌≤◌, ◌^◌, List, [], ◌∷◌, length, codes}
+use Rattle.std.specs.Prelude.{◌≡◌, ℕ, ℤ, pos, negsuc, ◌<◌, ◌≤◌, ◌^◌, ◌*◌, List, [], ◌∷◌, length, codes}
 use Rattle.std.specs.List.{AllByRecursion}
 use Rattle.std.specs.Fmt.{decimal, signed_decimal}
 use Rattle.hex.specs.Hex.{encode_lower}
 use Rattle.uring_entry.specs.Layout.{Sqe, header, without_data, bytes_of, AreWords, HasData}
-use Rattle.uring_entry.specs.declared.opcode.TheConstants.{NOP, FSYNC, ASYNC_CANCEL, READ, WRITE}
+use Rattle.uring_entry.specs.declared.opcode.TheConstants.{NOP, FSYNC, ASYNC_CANCEL, ASYNC_CANCEL_ALL, READ, WRITE}
 use Rattle.uring_machine.specs.declared.step.Step.{Step}
 use Rattle.uring_machine.specs.declared.step.Step.TheVariants as step
 use Rattle.uring_trace.specs.Tokens.{tokens_of, AreFlags, hex_or_dash}
@@ -16,6 +16,7 @@ pub data Form : Type 0 where
   Read : (user_data flags : ℕ) → (fd : ℤ) → (off len : ℕ) → Form
   Write : (user_data flags : ℕ) → (fd : ℤ) → (off : ℕ) → (bytes : List ℕ) → Form
   Cancel : (user_data flags target : ℕ) → Form
+  CancelAll : (user_data flags target : ℕ) → Form
   Op : (code user_data flags : ℕ) → Form
   Raw : (bytes : List ℕ) → Form
 
@@ -26,6 +27,7 @@ spelled (Fsync user_data flags fd) token = codes "fsync" ∷ decimal user_data �
 spelled (Read user_data flags fd off len) token = codes "read" ∷ decimal user_data ∷ token ∷ signed_decimal fd ∷ decimal off ∷ decimal len ∷ []
 spelled (Write user_data flags fd off bytes) token = codes "write" ∷ decimal user_data ∷ token ∷ signed_decimal fd ∷ decimal off ∷ hex_or_dash bytes ∷ []
 spelled (Cancel user_data flags target) token = codes "cancel" ∷ decimal user_data ∷ token ∷ decimal target ∷ []
+spelled (CancelAll user_data flags target) token = codes "cancelall" ∷ decimal user_data ∷ token ∷ decimal target ∷ []
 spelled (Op code user_data flags) token = codes "op" ∷ decimal code ∷ decimal user_data ∷ token ∷ []
 spelled (Raw bytes) token = codes "raw" ∷ encode_lower bytes ∷ []
 
@@ -47,6 +49,7 @@ IsForm (Fsync user_data flags fd) token = (user_data < 2 ^ 64) × AreFlags token
 IsForm (Read user_data flags fd off len) token = (user_data < 2 ^ 64) × AreFlags token flags × IsFile fd × (off < 2 ^ 64) × (len < 2 ^ 32)
 IsForm (Write user_data flags fd off bytes) token = (user_data < 2 ^ 64) × AreFlags token flags × IsFile fd × (off < 2 ^ 64) × AreBytes bytes 0 64
 IsForm (Cancel user_data flags target) token = (user_data < 2 ^ 64) × AreFlags token flags × (target < 2 ^ 64)
+IsForm (CancelAll user_data flags target) token = (user_data < 2 ^ 64) × AreFlags token flags × (target < 2 ^ 64)
 IsForm (Op code user_data flags) token = (code < 256) × (user_data < 2 ^ 64) × AreFlags token flags
 IsForm (Raw bytes) token = AreBytes bytes 128 128
 
@@ -67,6 +70,7 @@ IsEntryOf (Fsync user_data flags fd) entry = entry ≡ without_data (header FSYN
 IsEntryOf (Read user_data flags fd off len) entry = entry ≡ without_data (header READ flags fd off 0 len user_data)
 IsEntryOf (Write user_data flags fd off bytes) entry = HasData entry (header WRITE flags fd off 0 (length bytes) user_data) bytes
 IsEntryOf (Cancel user_data flags target) entry = entry ≡ without_data (header ASYNC_CANCEL flags (pos 0) 0 target 0 user_data)
+IsEntryOf (CancelAll user_data flags target) entry = entry ≡ without_data (header ASYNC_CANCEL flags (pos 0) 0 target (2 ^ 32 * ASYNC_CANCEL_ALL) user_data)
 IsEntryOf (Op code user_data flags) entry = entry ≡ without_data (header code flags (pos 0) 0 0 0 user_data)
 IsEntryOf (Raw bytes) entry = HasBytes entry bytes
 

@@ -10,11 +10,7 @@ use std::fmt::Write;
 use uring_machine::{Answer, Cqe};
 
 /// Appends the text of an answer, without the end of its line.
-pub(crate) fn push_answer(
-    alloc: Global,
-    text: &mut String,
-    answer: &Answer,
-) -> Result<(), AllocError>
+pub fn push_answer(alloc: Global, text: &mut String, answer: &Answer) -> Result<(), AllocError>
     ensures { OnOk result (string_bytes text.new ≡ string_bytes text.old ++ text_of answer.now) }
 {
     match answer {

@@ -5,7 +5,7 @@ ghost use Rattle.std.specs.Option.{option_map};
 ghost use Rattle.std.specs.Str.{bytes_eq};
 ghost use Rattle.uring_trace.specs.Spelling as form;
 ghost use Rattle.uring_trace.specs.Spelling.{SpellsEntry, IsNoEntry};
-ghost use Rattle.uring_trace.specs.Reading.{ReadsEntry, form_of, nop_of, fsync_of, read_of, write_of, cancel_of, op_of, raw_of, data_of};
+ghost use Rattle.uring_trace.specs.Reading.{ReadsEntry, form_of, nop_of, fsync_of, read_of, write_of, cancel_of, cancel_all_of, op_of, raw_of, data_of};
 
 use crate::flag_tokens::flag_bits;
 use crate::hex_tokens::{decode, raw_entry};
@@ -34,6 +34,7 @@ pub(crate) fn read_entry(tokens: &[&[u8]]) -> Option<Sqe>
         _ if is(name, "read") => read(tokens),
         _ if is(name, "write") => write(tokens),
         _ if is(name, "cancel") => cancel(tokens),
+        _ if is(name, "cancelall") => cancel_all(tokens),
         _ if is(name, "op") => other(tokens),
         _ if is(name, "raw") => raw(tokens),
         _ => None,
@@ -104,6 +105,18 @@ fn cancel(tokens: &[&[u8]]) -> Option<Sqe>
     };
     let user_data = number(user_data)?;
     Some(Sqe::cancel(user_data, flag_bits(flags)?, number(target)?))
+}
+
+/// A cancel of all: user data, flags, target.
+#[tactic(auto, unfolding(crate::specs::Reading::cancel_all_of))]
+fn cancel_all(tokens: &[&[u8]]) -> Option<Sqe>
+    ensures { ReadsEntry result (cancel_all_of (map (λ token. token.now) tokens.now)) }
+{
+    let [user_data, flags, target] = tokens else {
+        return None;
+    };
+    let user_data = number(user_data)?;
+    Some(Sqe::cancel_all(user_data, flag_bits(flags)?, number(target)?))
 }
 
 /// An entry of any operation: operation, user data, flags.

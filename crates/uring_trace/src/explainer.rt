@@ -4,21 +4,23 @@ ghost use Rattle.std.specs.Prelude.{◌≡◌, ◌≢◌, ℕ, ◌+◌, ◌-◌,
 ghost use Rattle.uring_entry.specs.Setup.{Setup};
 ghost use Rattle.uring_trace.specs.KeptLine.{kept_of};
 ghost use Rattle.uring_trace.specs.Lines.{ended};
-ghost use Rattle.uring_trace.specs.Explanations.{ExplainsWhole, bad_note};
-ghost use Rattle.uring_trace.specs.Explaining.{TellsStep};
+ghost use Rattle.uring_trace.specs.Explanations.{bad_note};
+ghost use Rattle.uring_trace.specs.Explaining.{TellsStep, TellsShown};
 
 use crate::answer_text::push_answer;
 use crate::kept_line::KeptLine;
+use crate::questions::{Question, read_question};
 use crate::reason_text::{ask, keep, push_reason};
+use crate::shown_text::push_shown;
 use crate::step_lines::read_line;
 use crate::trace_fault::TraceFault;
 use std::alloc::{AllocError, Global};
 use std::fmt::Write;
 use uring_machine::{Machine, Setup, Step};
 
-/// A machine, what is kept of the unfinished line, and the number of that line.
+/// Explains lines as their bytes come: a machine, what is kept of the unfinished line, and the number of that line.
 #[derive(Drop)]
-pub(crate) struct Explainer {
+pub struct Explainer {
     alloc: Global,
     machine: Machine,
     line: KeptLine,
@@ -29,10 +31,10 @@ pub(crate) struct Explainer {
 }
 
 impl Explainer {
-    ghost use Rattle.uring_trace.specs.Explaining.{HasTold, AppendsLine};
+    ghost use Rattle.uring_trace.specs.Explaining.{HasTold, HasEnded, AppendsLine};
 
     /// A new machine, before the first line.
-    pub(crate) fn new(alloc: Global, setup: &Setup) -> Result<Explainer, TraceFault>
+    pub fn new(alloc: Global, setup: &Setup) -> Result<Explainer, TraceFault>
         ensures ok { IfOk result (λ s. HasTold setup.now s [] [] []) }
         ensures err { IfErr result (λ e. e ≡ TraceFault.Memory) }
     {
@@ -47,14 +49,21 @@ impl Explainer {
     }
 
     /// Whether a line was bad so far.
-    pub(crate) fn has_bad(&self) -> bool
+    pub fn has_bad(&self) -> bool
         ensures { result ≡ self.now.has_bad }
     {
         self.has_bad
     }
 
+    /// The machine, as the lines taken in so far have left it.
+    pub fn machine(&self) -> &Machine
+        ensures { result.now ≡ self.now.machine }
+    {
+        &self.machine
+    }
+
     /// Takes in the next bytes, and appends what is told and noted of the lines that they complete.
-    pub(crate) fn feed(
+    pub fn feed(
         &mut self,
         bytes: &[u8],
         text: &mut String,
@@ -70,8 +79,8 @@ impl Explainer {
     }
 
     /// Ends the input. Appends what is told and noted of the last line, if that line has some byte but no end.
-    pub(crate) fn finish(&mut self, text: &mut String, notes: &mut String) -> Result<(), TraceFault>
-        ensures ok { OnOk result ((setup : Setup) (before told noted : List ℕ) → HasTold setup self.old before (told ++ string_bytes text.old) (noted ++ string_bytes notes.old) → ExplainsWhole setup self.new.has_bad before (told ++ string_bytes text.new) (noted ++ string_bytes notes.new)) }
+    pub fn finish(&mut self, text: &mut String, notes: &mut String) -> Result<(), TraceFault>
+        ensures ok { OnOk result ((setup : Setup) (before told noted : List ℕ) → HasTold setup self.old before (told ++ string_bytes text.old) (noted ++ string_bytes notes.old) → HasEnded setup self.new before (told ++ string_bytes text.new) (noted ++ string_bytes notes.new)) }
         ensures err { IfErr result (λ e. e ≡ TraceFault.Memory) }
     {
         if self.line.is_empty() {
@@ -111,7 +120,7 @@ impl Explainer {
         Ok(())
     }
 
-    /// Appends what is told and noted of the line, and makes the step that it is.
+    /// Appends what is told and noted of the line, and makes the step that it is, if it is one.
     fn tell_line(&mut self, text: &mut String, notes: &mut String) -> Result<(), AllocError>
         ensures told { OnOk result ((line : List ℕ) → self.old.line ≡ kept_of line → AppendsLine self.old.machine self.new.machine self.old.number self.old.has_bad self.new.has_bad line (string_bytes text.old) (string_bytes text.new) (string_bytes notes.old) (string_bytes notes.new)) }
         ensures number { self.new.number ≡ self.old.number }
@@ -119,10 +128,13 @@ impl Explainer {
         match read_line(self.alloc, &self.line)? {
             Some(step) => tell_step(self.alloc, &mut self.machine, &step, text),
             None if self.line.is_remark() => Ok(()),
-            None => {
-                self.has_bad = true;
-                tell_bad(self.number, text, notes)
-            }
+            None => match read_question(&self.line) {
+                Some(question) => tell_shown(self.alloc, &self.machine, question, text),
+                None => {
+                    self.has_bad = true;
+                    tell_bad(self.number, text, notes)
+                }
+            },
         }
     }
 }
@@ -151,6 +163,19 @@ fn tell_step(
     let answer = machine.step(*step);
     push_answer(alloc, text, &answer)?;
     push_reason(text, keep(&answer, why))?;
+    text.push_str("\n")
+}
+
+/// Appends what a question asks for.
+fn tell_shown(
+    alloc: Global,
+    machine: &Machine,
+    question: Question,
+    text: &mut String,
+) -> Result<(), AllocError>
+    ensures { OnOk result (TellsShown machine.now question (string_bytes text.old) (string_bytes text.new)) }
+{
+    push_shown(alloc, text, machine, question)?;
     text.push_str("\n")
 }
 

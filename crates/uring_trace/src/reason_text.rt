@@ -53,8 +53,8 @@ pub(crate) fn push_reason(text: &mut String, reason: Option<Why>) -> Result<(), 
     push_why(text, why)
 }
 
-/// Appends why a request stands as it does.
-fn push_why(text: &mut String, why: Why) -> Result<(), AllocError>
+/// Appends why a request stands as it does, as behind an answer of `explain`.
+pub fn push_why(text: &mut String, why: Why) -> Result<(), AllocError>
     ensures { OnOk result (string_bytes text.new ≡ string_bytes text.old ++ why_text why) }
 {
     match why {
@@ -99,6 +99,13 @@ fn push_wait(text: &mut String, least: u64, since: Since) -> Result<(), AllocErr
     ensures { OnOk result (string_bytes text.new ≡ string_bytes text.old ++ (codes "waits for " ++ decimal least ++ codes ": " ++ since_text least since)) }
 {
     write!(text, "waits for {least}: ")?;
+    push_since(text, least, since)
+}
+
+/// Appends why request `least` is waited for.
+pub fn push_since(text: &mut String, least: u64, since: Since) -> Result<(), AllocError>
+    ensures { OnOk result (string_bytes text.new ≡ string_bytes text.old ++ since_text least since) }
+{
     match since {
         Since::SameGroup => text.push_str("a member of its group"),
         Since::ItDrains => write!(text, "{least}'s group drains"),

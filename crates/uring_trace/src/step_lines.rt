@@ -23,7 +23,7 @@ pub(crate) fn read_line(alloc: Global, line: &KeptLine) -> Result<Option<Step>, 
 }
 
 /// The step that a line of at most 300 bytes spells, if it spells one.
-pub(crate) fn read_step(alloc: Global, line: &[u8]) -> Result<Option<Step>, AllocError>
+pub fn read_step(alloc: Global, line: &[u8]) -> Result<Option<Step>, AllocError>
     requires { length line.now ≤ 300 }
     ensures { IfOk result (λ read. MatchOption read (IsBad line.now) (IsStep line.now)) }
 {

@@ -5,7 +5,7 @@ use Rattle.uring_entry.specs.Setup.{Setup}
 use Rattle.uring_entry.specs.Preparation.{is_cancel}
 use Rattle.uring_entry.specs.Success.{is_success}
 use Rattle.uring_entry.specs.Requests.{Requests, entry_of, has_ended, has_failed, is_outstanding, is_running, is_joined, is_last, is_doomed, is_ready, doomed_result, cancel_result, no_bytes, with_ended}
-use Rattle.uring_entry.proofs.RequestLemmas.{is_joined-yes, is_doomed-behind, has_ended-other, is_running-ended_other, has_failed-same}
+use Rattle.uring_entry.proofs.RequestLemmas.{is_joined-yes, is_doomed-behind, has_ended-other, is_running-ended_other, has_failed-same, never_success}
 use Rattle.uring_entry.proofs.EventLemmas.{is_joined-ended, is_behind_failure-from}
 use Rattle.uring_machine.specs.World.{World}
 use Rattle.uring_machine.specs.Histories.{History, world}
@@ -28,7 +28,7 @@ next_doomed r n below bytes next =
       before = omega arith;
       joined = is_joined-ended r n (negsuc below) bytes n (n + 1) ∙ is_joined-yes r n (n + 1) last;
       soft = next.soft;
-      failed = has_failed-same r n (negsuc below) bytes unended;
+      failed = has_failed-same r n (negsuc below) bytes unended ∙ ap not (never_success (entry_of r n) below);
     }))
 
 doomed_ends : (outstanding running doomed ready cancel : Bool) (as_doomed as_cancel : ℤ) → outstanding ≡ true → running ≡ false

@@ -162,6 +162,7 @@ fn run(seed: u64, found: &mut Findings) -> Result<(), Error> {
         cq: None,
         files: 1,
         start: 0,
+        stops: false,
     })?;
     let has_fault = rng.below(3) == 0;
     let crashes = rng.below(2) == 0;

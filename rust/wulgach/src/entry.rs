@@ -80,6 +80,13 @@ impl Entry {
         entry
     }
 
+    /// A cancel of all requests with the user data `target` that don't run, which ends with their number: at most 2^31 - 1.
+    pub fn cancel_all(user_data: u64, flags: u8, target: u64) -> Entry {
+        let mut entry = Entry::cancel(user_data, flags, target);
+        entry.words[3] = 1 << 32;
+        entry
+    }
+
     fn bare(code: u8, user_data: u64, flags: u8, fd: i32) -> Entry {
         let mut words = [0; 16];
         words[0] = u64::from(code) | u64::from(flags) << 8 | u64::from(fd as u32) << 32;

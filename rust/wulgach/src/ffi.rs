@@ -26,6 +26,7 @@ pub struct Setup {
     pub files: u32,
     pub start: u32,
     pub has_cq: bool,
+    pub stops: bool,
 }
 
 #[repr(C)]
@@ -89,6 +90,7 @@ pub struct Operation {
     pub off: u64,
     pub target: u64,
     pub len: u32,
+    pub all: u32,
     pub bytes: [u8; 64],
 }
 

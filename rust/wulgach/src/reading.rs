@@ -34,8 +34,8 @@ pub enum Operation {
     },
     /// The writes of a file so far noted as safe.
     Fsync { fd: i32 },
-    /// The end of another request. A cancel never runs: it ends as it is issued.
-    Cancel { target: u64 },
+    /// The end of another request, or of all that don't run. A cancel never runs: it ends as it is issued.
+    Cancel { target: u64, all: bool },
 }
 
 /// How a file of a machine stands.
@@ -67,6 +67,7 @@ pub(crate) const NO_OPERATION: ffi::Operation = ffi::Operation {
     off: 0,
     target: 0,
     len: 0,
+    all: 0,
     bytes: [0; 64],
 };
 
@@ -94,6 +95,7 @@ pub(crate) fn operation(words: &ffi::Operation) -> Operation {
         3 => Operation::Fsync { fd: words.fd },
         14 => Operation::Cancel {
             target: words.target,
+            all: words.all != 0,
         },
         22 => Operation::Read {
             fd: words.fd,

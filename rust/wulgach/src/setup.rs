@@ -11,16 +11,19 @@ pub struct Setup {
     pub files: u32,
     /// The index word at which both rings begin.
     pub start: u32,
+    /// Whether a submission call ends behind an entry with a fault, also one with a link flag, and leaves the rest to later calls. Else it goes on.
+    pub stops: bool,
 }
 
 impl Default for Setup {
-    /// 4 entries, 8 completions, 2 files, from word 0 on.
+    /// 4 entries, 8 completions, 2 files, from word 0 on, and calls that go on.
     fn default() -> Setup {
         Setup {
             sq: 4,
             cq: None,
             files: 2,
             start: 0,
+            stops: false,
         }
     }
 }
@@ -33,6 +36,7 @@ impl Setup {
             files: self.files,
             start: self.start,
             has_cq: self.cq.is_some(),
+            stops: self.stops,
         }
     }
 }

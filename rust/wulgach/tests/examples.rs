@@ -47,6 +47,7 @@ fn entry_of(words: &[&str]) -> Option<Entry> {
             &bytes_of(hex),
         ),
         ["cancel", ..] => Entry::cancel(user_data(), flags(), number(3)),
+        ["cancelall", ..] => Entry::cancel_all(user_data(), flags(), number(3)),
         ["op", code, user_data, letters] => Entry::with_opcode(
             code.parse().unwrap(),
             user_data.parse().unwrap(),
@@ -152,9 +153,14 @@ fn text_of(answer: Answer) -> String {
 fn setup_of(options: &str) -> Setup {
     let mut setup = Setup::default();
     let words: Vec<&str> = options.split_whitespace().collect();
-    for pair in words.chunks_exact(2) {
-        let number = pair[1].parse().unwrap();
-        match pair[0] {
+    let mut words = words.into_iter();
+    while let Some(option) = words.next() {
+        if option == "--stop" {
+            setup.stops = true;
+            continue;
+        }
+        let number = words.next().unwrap().parse().unwrap();
+        match option {
             "--sq" => setup.sq = number,
             "--cq" => setup.cq = Some(number),
             "--files" => setup.files = number,

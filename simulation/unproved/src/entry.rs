@@ -17,6 +17,9 @@ pub mod opcode {
     pub const WRITE: u8 = 23;
 }
 
+/// The flag of a cancel that cancels all that it names.
+pub const CANCEL_ALL: u32 = 1;
+
 /// An entry of the submission ring.
 #[derive(Clone, Copy)]
 pub struct Sqe {
@@ -37,7 +40,7 @@ pub struct Sqe {
 #[derive(Clone, Copy)]
 pub enum Op {
     Nop,
-    Cancel { target: u64 },
+    Cancel { target: u64, is_of_all: bool },
     File(FileOp),
 }
 
@@ -87,11 +90,15 @@ impl Sqe {
         self.has(flags::IO_LINK | flags::IO_HARDLINK)
     }
 
+    fn is_cancel_of_all(&self) -> bool {
+        self.opcode == opcode::ASYNC_CANCEL && self.op_flags == CANCEL_ALL
+    }
+
     /// What the entry asks for; `None` where it has a fault.
     pub fn prepare(&self) -> Option<Op> {
         let is_faulty = self.has(flags::REFUSED)
             || self.ioprio != 0
-            || self.op_flags != 0
+            || self.op_flags != 0 && !self.is_cancel_of_all()
             || self.reserved != [0; 24]
             || self.len > 64;
         if is_faulty {
@@ -101,7 +108,10 @@ impl Sqe {
         match self.opcode {
             opcode::NOP => Some(Op::Nop),
             opcode::FSYNC => Some(Op::File(FileOp::Sync { fd })),
-            opcode::ASYNC_CANCEL => Some(Op::Cancel { target: self.addr }),
+            opcode::ASYNC_CANCEL => Some(Op::Cancel {
+                target: self.addr,
+                is_of_all: self.is_cancel_of_all(),
+            }),
             opcode::READ if off != u64::MAX => Some(Op::File(FileOp::Read { fd, off, len })),
             opcode::WRITE if off != u64::MAX => {
                 let bytes = self.payload;
@@ -121,6 +131,9 @@ impl Op {
     /// Whether an operation that ended with `res` succeeded.
     pub fn succeeded(&self, res: i32) -> bool {
         let wanted = match self {
+            Op::Cancel {
+                is_of_all: true, ..
+            } => return res >= 0,
             Op::File(FileOp::Read { len, .. } | FileOp::Write { len, .. }) => *len,
             _ => 0,
         };

@@ -1,5 +1,5 @@
 use crate::completion::Cqe;
-use crate::entry::{flags, opcode, Sqe};
+use crate::entry::{flags, opcode, Sqe, CANCEL_ALL};
 use crate::machine::{Answer, Step};
 use std::fmt;
 use std::str::FromStr;
@@ -73,6 +73,11 @@ fn read_entry(words: &[&str]) -> Option<Sqe> {
         }
         ["cancel", user_data, flags, target] => Some(Sqe {
             addr: number(target)?,
+            ..entry(opcode::ASYNC_CANCEL, user_data, flags)?
+        }),
+        ["cancelall", user_data, flags, target] => Some(Sqe {
+            addr: number(target)?,
+            op_flags: CANCEL_ALL,
             ..entry(opcode::ASYNC_CANCEL, user_data, flags)?
         }),
         ["op", code, user_data, flags] => entry(number(code)?, user_data, flags),

@@ -1,4 +1,4 @@
-//! The step machine without proofs, to compare with: `unproved trace [--sq N] [--cq N] [--files N] [--start N]`, and `unproved measure [few | many]`.
+//! The step machine without proofs, to compare with: `unproved trace [--sq N] [--cq N] [--files N] [--start N] [--stop]`, and `unproved measure [few | many]`.
 
 mod completion;
 mod entry;
@@ -50,12 +50,14 @@ fn main() -> ExitCode {
 }
 
 fn set_up(options: &[&str]) -> Option<Setup> {
-    let (mut sq, mut cq, mut files, mut start) = (4, None, 2, 0);
-    for pair in options.chunks(2) {
-        let &[name, value] = pair else {
-            return None;
-        };
-        let value = value.parse().ok()?;
+    let (mut sq, mut cq, mut files, mut start, mut stops) = (4, None, 2, 0, false);
+    let mut words = options.iter().copied();
+    while let Some(name) = words.next() {
+        if name == "--stop" {
+            stops = true;
+            continue;
+        }
+        let value = words.next()?.parse().ok()?;
         match name {
             "--sq" => sq = value,
             "--cq" => cq = Some(value),
@@ -64,10 +66,10 @@ fn set_up(options: &[&str]) -> Option<Setup> {
             _ => return None,
         }
     }
-    Setup::new(sq, cq, files, start)
+    Setup::new(sq, cq, files, start).map(|setup| Setup { stops, ..setup })
 }
 
 fn usage() -> ExitCode {
-    eprintln!("unproved trace [--sq N] [--cq N] [--files N] [--start N], or unproved measure [few | many]");
+    eprintln!("unproved trace [--sq N] [--cq N] [--files N] [--start N] [--stop], or unproved measure [few | many]");
     ExitCode::from(2)
 }

@@ -110,8 +110,12 @@ impl Requests {
         if !self.is_ready(n, request) {
             return Issued::NotReady;
         }
-        if let Op::Cancel { target } = op {
-            let res = self.cancel(n, target);
+        if let Op::Cancel { target, is_of_all } = op {
+            let res = if is_of_all {
+                self.cancel_all(n, target)
+            } else {
+                self.cancel(n, target)
+            };
             return Issued::Ended(self.end(n, res));
         }
         self.get_mut(n).unwrap().state = State::Running;
@@ -172,6 +176,25 @@ impl Requests {
                 0
             }
         }
+    }
+
+    /// Carries out the cancel `n` of all, and gives its result: how many it cancelled.
+    fn cancel_all(&mut self, n: u64, target: u64) -> i32 {
+        let is_target = |m: u64, request: &Request| {
+            m != n
+                && request.user_data == target
+                && request.state == State::Waiting
+                && !self.is_doomed(m, request)
+        };
+        let targets: Vec<u64> = self
+            .outstanding()
+            .filter(|&(m, request)| is_target(m, request))
+            .map(|(m, _)| m)
+            .collect();
+        for m in &targets {
+            self.get_mut(*m).unwrap().is_cancelled = true;
+        }
+        i32::try_from(targets.len()).unwrap_or(i32::MAX)
     }
 
     fn is_doomed(&self, n: u64, request: &Request) -> bool {

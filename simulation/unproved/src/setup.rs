@@ -1,10 +1,11 @@
-/// The sizes of a pair of rings, the number of its files, and the word at which both rings begin.
+/// The sizes of a pair of rings, the number of its files, the word at which both rings begin, and whether a call stops behind an entry with a fault.
 #[derive(Clone, Copy)]
 pub struct Setup {
     pub sq: u32,
     pub cq: u32,
     pub files: u32,
     pub start: u32,
+    pub stops: bool,
 }
 
 impl Setup {
@@ -24,6 +25,7 @@ impl Setup {
             cq,
             files,
             start,
+            stops: false,
         })
     }
 }

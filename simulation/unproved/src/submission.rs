@@ -5,6 +5,8 @@ struct Call {
     count: u32,
     taken: u32,
     accepted: u32,
+    /// The last entry taken was its last.
+    is_over: bool,
 }
 
 /// The submission ring. Heads and tails run freely and wrap at 32 bits.
@@ -14,6 +16,7 @@ pub struct SubmissionRing {
     head: u32,
     seen_head: u32,
     dropped: u32,
+    stops: bool,
     call: Option<Call>,
     table: Vec<Sqe>,
     array: Vec<u32>,
@@ -51,6 +54,7 @@ impl SubmissionRing {
             head: setup.start,
             seen_head: setup.start,
             dropped: 0,
+            stops: setup.stops,
             call: None,
             table: vec![Sqe::new(opcode::NOP, 0, 0); size],
             array: vec![0; size],
@@ -114,6 +118,7 @@ impl SubmissionRing {
             count,
             taken: 0,
             accepted: 0,
+            is_over: count == 0,
         });
     }
 
@@ -122,14 +127,16 @@ impl SubmissionRing {
         let Some(call) = &mut self.call else {
             return Take::NoCall;
         };
-        if call.taken == call.count {
+        if call.is_over {
             return Take::NoMore;
         }
         let cell = self.head.wrapping_add(call.taken) & (size - 1);
         call.taken += 1;
+        call.is_over = call.taken == call.count;
         match self.table.get(self.array[cell as usize] as usize) {
             Some(entry) => {
                 call.accepted += 1;
+                call.is_over |= self.stops && entry.prepare().is_none();
                 Take::Entry(*entry)
             }
             None => Take::Dropped,
@@ -140,12 +147,12 @@ impl SubmissionRing {
         let Some(call) = &self.call else {
             return End::NoCall;
         };
-        if call.taken < call.count {
+        if !call.is_over {
             return End::NotAll;
         }
         let accepted = call.accepted;
-        self.head = self.head.wrapping_add(call.count);
-        self.dropped = self.dropped.wrapping_add(call.count - accepted);
+        self.head = self.head.wrapping_add(call.taken);
+        self.dropped = self.dropped.wrapping_add(call.taken - accepted);
         self.call = None;
         End::Taken {
             accepted,

@@ -4,7 +4,7 @@ use bitflags::Flags;
 use uring_entry::{BadSetup, Cqe, Fault, Op, Setup, Sqe, SqeFlags, prepare, succeeded};
 
 /// Makers, and the first nine words that they give; the others are zero.
-fn made() -> [(Sqe, [u64; 9]); 7] {
+fn made() -> [(Sqe, [u64; 9]); 8] {
     [
         (Sqe::nop(0, 0), [0; 9]),
         (
@@ -20,6 +20,10 @@ fn made() -> [(Sqe, [u64; 9]); 7] {
             [0xffff_ffff_0000_0203, 0, 0, 0, 2, 0, 0, 0, 0],
         ),
         (Sqe::cancel(3, 0, 9), [14, 0, 9, 0, 3, 0, 0, 0, 0]),
+        (
+            Sqe::cancel_all(8, 0, 5),
+            [14, 0, 5, 4_294_967_296, 8, 0, 0, 0, 0],
+        ),
         (
             Sqe::with_opcode(99, 5, 64),
             [0x4063, 0, 0, 0, 5, 0, 0, 0, 0],
@@ -119,6 +123,10 @@ fn success_is_all_bytes_or_zero(rt: HostRuntime) {
         (Sqe::nop(0, 0), 0, true),
         (Sqe::nop(0, 0), 1, false),
         (Sqe::cancel(0, 0, 0), -2, false),
+        (Sqe::cancel(0, 0, 0), 2, false),
+        (Sqe::cancel_all(0, 0, 0), 0, true),
+        (Sqe::cancel_all(0, 0, 0), 2, true),
+        (Sqe::cancel_all(0, 0, 0), -125, false),
         (long, -22, false),
     ] {
         assert_eq!(rt; succeeded(&entry, res), wanted, "{res} of {entry:?}");
@@ -129,6 +137,11 @@ fn success_is_all_bytes_or_zero(rt: HostRuntime) {
 fn entry(words: [u64; 8]) -> Sqe {
     let [a, b, c, d, e, f, g, h] = words;
     Sqe::from_words([a, b, c, d, e, f, g, h, 0, 0, 0, 0, 0, 0, 0, 0])
+}
+
+/// A cancel of these user data.
+fn cancel(target: u64, all: bool) -> Op {
+    Op::Cancel { target, all }
 }
 
 /// An entry of this operation with these flag bits.
@@ -169,8 +182,12 @@ fn entries_are_prepared_or_refused(rt: HostRuntime) {
         (Sqe::write(0, 0, 0, LAST, b""), Err(Fault::Off)),
         (Sqe::write(0, 0, -1, 5, b"a"), Ok(write)),
         (entry([3, LAST, 0, 0, 0, 0, 0, 0]), Ok(Op::Fsync { fd: 0 })),
-        (entry([14, 0, 9, 1 << 32, 0, 0, 0, 0]), Err(Fault::OpFlags)),
-        (Sqe::cancel(1, 0, 9), Ok(Op::Cancel { target: 9 })),
+        (entry([14, 0, 9, 1 << 32, 0, 0, 0, 0]), Ok(cancel(9, true))),
+        (entry([14, 0, 9, 2 << 32, 0, 0, 0, 0]), Err(Fault::OpFlags)),
+        (entry([14, 0, 9, 3 << 32, 0, 0, 0, 0]), Err(Fault::OpFlags)),
+        (entry([3, 0, 0, 1 << 32, 0, 0, 0, 0]), Err(Fault::OpFlags)),
+        (Sqe::cancel(1, 0, 9), Ok(cancel(9, false))),
+        (Sqe::cancel_all(1, 0, 9), Ok(cancel(9, true))),
         (
             entry([0, 0, 0, 0, 0, 0, 0, high_byte]),
             Err(Fault::Reserved),
@@ -234,4 +251,15 @@ fn a_set_up_keeps_files_and_start(rt: HostRuntime) {
         return;
     };
     assert_eq!(rt; (set_up.files(), set_up.start()), (64, u32::MAX));
+    let stopping = set_up.stopping();
+    assert_eq!(rt; (set_up.stops(), stopping.stops()), (false, true));
+    assert_eq!(rt;
+        (
+            stopping.sq(),
+            stopping.cq(),
+            stopping.files(),
+            stopping.start()
+        ),
+        (1, 2, 64, u32::MAX)
+    );
 }

@@ -54,6 +54,8 @@ fn a_call_ends_at_an_empty_line(rt: HostRuntime) -> Result<(), Fail> {
     let second = [Item::Entry(Sqe::read(6, 0, 0, 0, 1))];
     let text = b"bad 9\nnop 5 S\n\nread 6 - 0 0 1\n";
     assert!(rt; spells(alloc, text, &[&first, &second])?);
+    let cancel = [Item::Entry(Sqe::cancel_all(8, 4, 5))];
+    assert!(rt; spells(alloc, b"cancelall 8 L 5\n", &[&cancel])?);
     Ok(())
 }
 

@@ -1,4 +1,4 @@
-//! What `explain` writes to its two streams: a group with a fault, a request of its own, a number that wasn't given, and a bad line.
+//! What `explain` writes to its two streams: a group with a fault, a request of its own, a number that wasn't given, bad lines, and what is shown.
 
 use std::alloc::Global;
 use std::test::Fail;
@@ -15,22 +15,44 @@ const ANSWERS: &str =
 /// The bad line is the 19th.
 const NOTES: &str = "uring: line 19: bad line\n";
 
-/// Whether answers and notes are these, and it is told that a line was bad.
-fn is_explained(alloc: Global) -> Result<bool, Fail> {
-    let setup = Setup::new(4, Some(4), 2, 0)?;
+/// A write of 2 bytes at offset 2 and a no-op, whose completion finds no room in a ring of one entry. Each question is asked where its answer differs from what it was at first.
+const ASKING: &str =
+    "show sizes\nshow overflow\nfill 0 write 5 - 0 2 0a0b\nindex 0\ntail\nbegin 1\ntake\nend\nissue 0\nshow counts\nfinish 0\nshow file 0\nshow file 1\nshow file -1\nhead\nfill 0 nop 6 -\nindex 0\ntail\nbegin 1\ntake\nend\nissue 1\nfinish 1\nshow overflow\nshow counts\nshow  counts\nshow file 01\n";
+
+const SHOWN: &str =
+    "sq 1 cq 1 files 1 start 0\noverflow 0\nok\nok\ntail 1\ncall 1\nentry 5\ntaken 1 dropped 0 head 1\nrun  # waits for nobody\naccepted 1 outstanding 1 running 1 posted 0 reaped 0\nended 2\nlen 4 writes 1 synced 0\nno file\nno file\nhead 1\nok\nok\ntail 2\ncall 1\nentry 6\ntaken 1 dropped 0 head 2\nrun  # waits for nobody\nended 0\noverflow 1, cqe 6 0 -\naccepted 2 outstanding 0 running 0 posted 2 reaped 0\nbad line\nbad line\n";
+
+/// Two spaces, and a number with a leading zero.
+const TOO_MUCH: &str = "uring: line 26: bad line\nuring: line 27: bad line\n";
+
+/// Whether answers and notes to this input are these, and it is told that a line was bad.
+fn is_explained(
+    alloc: Global,
+    setup: &Setup,
+    mut input: &[u8],
+    told: &str,
+    noted: &str,
+) -> Result<bool, Fail> {
     let mut answers = Vec::new(alloc);
     let mut notes = Vec::new(alloc);
-    let mut input = INPUT.as_bytes();
-    let result = explain(alloc, &mut input, &mut answers, &mut notes, &setup);
+    let result = explain(alloc, &mut input, &mut answers, &mut notes, setup);
     Ok(
         result == Ok(true)
-            && answers.as_slice() == ANSWERS.as_bytes()
-            && notes.as_slice() == NOTES.as_bytes(),
+            && answers.as_slice() == told.as_bytes()
+            && notes.as_slice() == noted.as_bytes(),
     )
 }
 
 #[test]
 fn answers_have_their_reasons(rt: HostRuntime) -> Result<(), Fail> {
-    assert!(rt; is_explained(rt.alloc())?);
+    let setup = Setup::new(4, Some(4), 2, 0)?;
+    assert!(rt; is_explained(rt.alloc(), &setup, INPUT.as_bytes(), ANSWERS, NOTES)?);
+    Ok(())
+}
+
+#[test]
+fn questions_are_answered(rt: HostRuntime) -> Result<(), Fail> {
+    let setup = Setup::new(1, Some(1), 1, 0)?;
+    assert!(rt; is_explained(rt.alloc(), &setup, ASKING.as_bytes(), SHOWN, TOO_MUCH)?);
     Ok(())
 }

@@ -1,4 +1,4 @@
-use Rattle.std.proofs.Common.{sym, ◌∙◌, ap, refl, is_some, negsuc, rules, arith}
+use Rattle.std.proofs.Common.{sym, ◌∙◌, ap, refl, is_some, rules, arith}
 use Rattle.std.specs.Int.{w32}
 use Rattle.std.proofs.lemmas.Int.{to_z-of_z}
 use Rattle.uring_entry.specs.Layout.{addr_of}
@@ -6,7 +6,9 @@ use Rattle.uring_entry.specs.Requests.{entry_of, no_bytes}
 use Rattle.uring_dispatch.specs.Window.{started}
 use Rattle.uring_dispatch.proofs.HeldLemmas.{shown-within}
 use Rattle.uring_dispatch.proofs.WaitingLemmas.{tell-outstanding, write-listed}
-use Rattle.uring_dispatch.proofs.Changes.{write-sound, start-held, ends-alone, none_chosen}
+use Rattle.uring_dispatch.proofs.Changes.{write-sound, start-held}
+use Rattle.uring_entry.proofs.RequestLemmas.{never_success}
+use Rattle.uring_dispatch.proofs.Choosing.{ends-failing}
 use Rattle.uring_dispatch.proofs.Issues.{op-none, op-some, issued-faulty, issued-doomed, issued-cancel, issued-run, is_cancel-operation}
 use Rattle.uring_dispatch.proofs.events.issue_waiting.Goals as goal
 
@@ -17,7 +19,7 @@ returns-in_default-clause-answer c = λ r h.
 
 pub returns-in_default-clause-held : goal.returns-in_default-clause-held
 returns-in_default-clause-held c = λ r h.
-    ends-alone _ _ r c.args.n (negsuc 21) (none_chosen r c.args.n (negsuc 21) refl) (c.end.ensures.held r (negsuc 21) no_bytes h refl)
+    ends-failing _ _ r c.args.n 21 (c.end.ensures.held r _ no_bytes h (sym (never_success (entry_of r c.args.n) 21)))
 
 pub returns-then-is_doomed-clause-answer : goal.returns-then-is_doomed-clause-answer
 returns-then-is_doomed-clause-answer c = λ r h.
@@ -27,23 +29,23 @@ returns-then-is_doomed-clause-answer c = λ r h.
 
 pub returns-then-is_doomed-clause-held : goal.returns-then-is_doomed-clause-held
 returns-then-is_doomed-clause-held c = λ r h.
-    ends-alone _ _ r c.args.n (negsuc 124) (none_chosen r c.args.n (negsuc 124) refl) (c.end-then-is_doomed.ensures.held r (negsuc 124) no_bytes h refl)
+    ends-failing _ _ r c.args.n 124 (c.end-then-is_doomed.ensures.held r _ no_bytes h (sym (never_success (entry_of r c.args.n) 124)))
 
 pub returns-in-Cancel-clause-answer : goal.returns-in-Cancel-clause-answer
 returns-in-Cancel-clause-answer c = λ r h.
     let shown = h.shown c.args.n c.args.request c.requires.there in
     let does = op-some (entry_of r c.args.n) c.in-Some.op (sym c.in-Some.is ∙ shown.op) in
+    let asks = is_cancel-operation (entry_of r c.args.n) _ c.in-Cancel.all (sym does.1 ∙ c.in-Cancel.is) in
     rw (to_z-of_z w32 c.cancel.result (search rules))
     (issued-cancel r c.args.n _ (sym (c.is_doomed.ensures r h) ∙ c.if-is_doomed.false) (sym (c.is_ready.ensures r h) ∙ c.if-not-is_ready.false)
-    (is_cancel-operation (entry_of r c.args.n) c.in-Cancel.target (sym does.1 ∙ c.in-Cancel.is))
-    (c.cancel.ensures.answer r h (c.addr.ensures ∙ ap addr_of shown.entry)))
+    asks.0 (c.cancel.ensures.answer r h (c.addr-user_data.ensures ∙ ap addr_of shown.entry) asks.1))
 
 pub returns-in-Cancel-clause-held : goal.returns-in-Cancel-clause-held
 returns-in-Cancel-clause-held c = λ r h.
     let shown = h.shown c.args.n c.args.request c.requires.there in
     let does = op-some (entry_of r c.args.n) c.in-Some.op (sym c.in-Some.is ∙ shown.op) in
-    rw (to_z-of_z w32 c.cancel.result (search rules))
-    (c.cancel.ensures.held r h (c.addr.ensures ∙ ap addr_of shown.entry) (is_cancel-operation (entry_of r c.args.n) c.in-Cancel.target (sym does.1 ∙ c.in-Cancel.is)))
+    let asks = is_cancel-operation (entry_of r c.args.n) _ c.in-Cancel.all (sym does.1 ∙ c.in-Cancel.is) in
+    rw (to_z-of_z w32 c.cancel.result (search rules)) (c.cancel.ensures.held r h (c.addr-user_data.ensures ∙ ap addr_of shown.entry) asks.0 asks.1)
 
 pub relist-requires : goal.relist-requires
 relist-requires c = tell-outstanding _ _ _ c.args.n c.requires.listed (ap is_some c.requires.there)

@@ -13,12 +13,13 @@ enum Event {
     LoadHead(u32),
     Begin(u32, BeginAnswer),
     Take(TakeAnswer),
+    Stop,
     End(EndAnswer),
     Pending(u32),
     InCall(bool),
 }
 
-use Event::{Begin, End, Fill, InCall, Index, LoadHead, Pending, StoreTail, Take};
+use Event::{Begin, End, Fill, InCall, Index, LoadHead, Pending, Stop, StoreTail, Take};
 
 /// The answer to a position with a no-op.
 fn entry(user_data: u64) -> TakeAnswer {
@@ -49,6 +50,10 @@ fn goes(ring: &mut Sq, event: Event) -> bool {
         LoadHead(wanted) => ring.load_head() == wanted,
         Begin(n, wanted) => ring.begin(n) == wanted,
         Take(wanted) => ring.take() == wanted,
+        Stop => {
+            ring.stop();
+            true
+        }
         End(wanted) => ring.end() == wanted,
         Pending(wanted) => ring.pending() == wanted,
         InCall(wanted) => ring.in_call() == wanted,
@@ -126,6 +131,36 @@ fn bad_word_is_dropped(rt: HostRuntime) -> Result<(), Fail> {
         End(taken(1, 1, 2)),
     ];
     let wrong = first_wrong_from(rt.alloc(), 0, &events)?;
+    assert_eq!(rt; wrong, None);
+    Ok(())
+}
+
+#[test]
+fn stopped_call_leaves_the_rest(rt: HostRuntime) -> Result<(), Fail> {
+    let events = [
+        Stop,
+        Fill(0, 1, FillAnswer::Filled),
+        Fill(1, 2, FillAnswer::Filled),
+        Index(9, IndexAnswer::Staged),
+        Index(0, IndexAnswer::Staged),
+        Index(1, IndexAnswer::Staged),
+        StoreTail(1),
+        Begin(3, BeginAnswer::Call(3)),
+        Take(TakeAnswer::Dropped),
+        Take(entry(1)),
+        End(EndAnswer::NotAll),
+        Stop,
+        Take(TakeAnswer::NoMore),
+        Stop,
+        Pending(3),
+        End(taken(1, 1, 0)),
+        Pending(1),
+        LoadHead(0),
+        Begin(3, BeginAnswer::Call(1)),
+        Take(entry(2)),
+        End(taken(1, 1, 1)),
+    ];
+    let wrong = first_wrong_from(rt.alloc(), u32::MAX - 1, &events)?;
     assert_eq!(rt; wrong, None);
     Ok(())
 }

@@ -1,53 +1,140 @@
-use Rattle.std.proofs.Common.{sym, subst, refl, true≢false, [], rules}
+use Rattle.std.proofs.Common.{sym, subst, refl, true≢false, inl, [], rules}
 use Rattle.clap.specs.Walk.{texts}
-use Rattle.uring_options.proofs.CommandLine.{explain_asked, trace_asked, none_asked}
-use Rattle.uring_options.proofs.Numbers.{HasNumbers, no_numbers, numbers_written}
-use Rattle.uring_options.proofs.Refusals.{trace_is_asked, explain_is_asked, refused_small, refused_by_words, small_exactly}
+use Rattle.uring_options.specs.declared.answers.Options.TheVariants.{Trace, Check, Play}
+use Rattle.uring_options.proofs.CommandLine.{explain_asked, check_asked, play_asked, trace_asked, none_asked, untraced_over}
+use Rattle.uring_options.proofs.CommandOptions.{HasNumbers, no_numbers, numbers_written}
+use Rattle.uring_options.proofs.Refusals.{is_asked, all_asked, all_small, all_faults, refused_small, refused_by_words, small_exactly}
 use Rattle.uring_options.proofs.command_line.options.Goals as goal
 
-pub setup_of-requires : goal.setup_of-requires
-setup_of-requires c =
+pub explained-requires-clause-numbers : goal.explained-requires-clause-numbers
+explained-requires-clause-numbers c =
     let asks = explain_asked c.in_ok-matches.matches (texts c.args.args.now) _ c.in_ok-matches.ensures.matches c.in-Some.ensures.rows (c.in-Some.ensures.found.0 refl) in
-    subst HasNumbers asks.rows_are (numbers_written (texts c.args.args.now) c.in_ok-matches.ensures.kinds)
+    let has = subst HasNumbers asks.rows_are (numbers_written (texts c.args.args.now) c.in_ok-matches.ensures.kinds) in
+    (has.numbers, has.given)
+
+pub explained-requires-clause-stop : goal.explained-requires-clause-stop
+explained-requires-clause-stop c =
+    let asks = explain_asked c.in_ok-matches.matches (texts c.args.args.now) _ c.in_ok-matches.ensures.matches c.in-Some.ensures.rows (c.in-Some.ensures.found.0 refl) in
+    let has = subst HasNumbers asks.rows_are (numbers_written (texts c.args.args.now) c.in_ok-matches.ensures.kinds) in
+    (has.stops, has.stop_given)
+
+pub explained-requires-clause-graph : goal.explained-requires-clause-graph
+explained-requires-clause-graph c =
+    let asks = explain_asked c.in_ok-matches.matches (texts c.args.args.now) _ c.in_ok-matches.ensures.matches c.in-Some.ensures.rows (c.in-Some.ensures.found.0 refl) in
+    let has = subst HasNumbers asks.rows_are (numbers_written (texts c.args.args.now) c.in_ok-matches.ensures.kinds) in
+    (has.draws, has.graph_given)
+
+pub explained-requires-clause-timeline : goal.explained-requires-clause-timeline
+explained-requires-clause-timeline c =
+    let asks = explain_asked c.in_ok-matches.matches (texts c.args.args.now) _ c.in_ok-matches.ensures.matches c.in-Some.ensures.rows (c.in-Some.ensures.found.0 refl) in
+    let has = subst HasNumbers asks.rows_are (numbers_written (texts c.args.args.now) c.in_ok-matches.ensures.kinds) in
+    (has.times, has.timeline_given)
 
 pub returns-in-Some-clause-ok : goal.returns-in-Some-clause-ok
 returns-in-Some-clause-ok c =
     let asks = explain_asked c.in_ok-matches.matches (texts c.args.args.now) _ c.in_ok-matches.ensures.matches c.in-Some.ensures.rows (c.in-Some.ensures.found.0 refl) in
-    explain_is_asked (texts c.args.args.now) _ c.in_ok-setup_of.field-0 c.in_ok-matches.ensures.kinds asks c.in_ok-setup_of.ensures.ok
+    all_asked (texts c.args.args.now) _ _ c.explained.result c.in_ok-matches.ensures.kinds asks c.explained.ensures.ok
 
 pub returns-in-Some-clause-small : goal.returns-in-Some-clause-small
 returns-in-Some-clause-small c =
     let asks = explain_asked c.in_ok-matches.matches (texts c.args.args.now) _ c.in_ok-matches.ensures.matches c.in-Some.ensures.rows (c.in-Some.ensures.found.0 refl) in
-    small_exactly (texts c.args.args.now) _ (explain_is_asked (texts c.args.args.now) _ c.in_ok-setup_of.field-0 c.in_ok-matches.ensures.kinds asks c.in_ok-setup_of.ensures.ok) tt
+    all_small (texts c.args.args.now) _ _ c.explained.result c.in_ok-matches.ensures.kinds asks c.explained.ensures.ok c.explained.ensures.err
 
-pub setup_of-requires-in-Some-subcommand_matches : goal.setup_of-requires-in-Some-subcommand_matches
-setup_of-requires-in-Some-subcommand_matches c =
-    let asks = trace_asked c.in_ok-matches.matches (texts c.args.args.now) _ c.in_ok-matches.ensures.matches c.in-Some-subcommand_matches.ensures.rows (c.in-Some-subcommand_matches.ensures.found.0 refl) in
-    subst HasNumbers asks.rows_are (numbers_written (texts c.args.args.now) c.in_ok-matches.ensures.kinds)
+pub returns-in-Some-clause-words : goal.returns-in-Some-clause-words
+returns-in-Some-clause-words c =
+    all_faults (texts c.args.args.now) _ c.explained.result c.explained.ensures.err
 
-pub returns-in_err-setup_of-in-Some-subcommand_matches-clause-small : goal.returns-in_err-setup_of-in-Some-subcommand_matches-clause-small
-returns-in_err-setup_of-in-Some-subcommand_matches-clause-small c =
-    let asks = trace_asked c.in_ok-matches.matches (texts c.args.args.now) _ c.in_ok-matches.ensures.matches c.in-Some-subcommand_matches.ensures.rows (c.in-Some-subcommand_matches.ensures.found.0 refl) in
-    refused_small (texts c.args.args.now) _ _ c.in_err-setup_of-in-Some-subcommand_matches.field-0.0 _ (search rules) c.in_ok-matches.ensures.kinds asks c.in_err-setup_of-in-Some-subcommand_matches.ensures.err
+pub traced_setup_of-requires-clause-numbers : goal.traced_setup_of-requires-clause-numbers
+traced_setup_of-requires-clause-numbers c =
+    let asks = check_asked c.in_ok-matches.matches (texts c.args.args.now) _ c.in_ok-matches.ensures.matches c.in-Some-subcommand_matches.ensures.rows (c.in-Some-subcommand_matches.ensures.found.0 refl) in
+    let has = subst HasNumbers asks.rows_are (numbers_written (texts c.args.args.now) c.in_ok-matches.ensures.kinds) in
+    (has.numbers, has.given)
+
+pub traced_setup_of-requires-clause-stop : goal.traced_setup_of-requires-clause-stop
+traced_setup_of-requires-clause-stop c =
+    let asks = check_asked c.in_ok-matches.matches (texts c.args.args.now) _ c.in_ok-matches.ensures.matches c.in-Some-subcommand_matches.ensures.rows (c.in-Some-subcommand_matches.ensures.found.0 refl) in
+    let has = subst HasNumbers asks.rows_are (numbers_written (texts c.args.args.now) c.in_ok-matches.ensures.kinds) in
+    (has.stops, has.stop_given)
+
+pub returns-in_err-traced_setup_of-clause-small : goal.returns-in_err-traced_setup_of-clause-small
+returns-in_err-traced_setup_of-clause-small c =
+    let asks = check_asked c.in_ok-matches.matches (texts c.args.args.now) _ c.in_ok-matches.ensures.matches c.in-Some-subcommand_matches.ensures.rows (c.in-Some-subcommand_matches.ensures.found.0 refl) in
+    refused_small (texts c.args.args.now) _ _ c.in_err-traced_setup_of.field-0.0 _ (search rules) c.in_ok-matches.ensures.kinds asks c.in_err-traced_setup_of.ensures.err
 
 pub returns-in-Some-subcommand_matches-clause-ok : goal.returns-in-Some-subcommand_matches-clause-ok
 returns-in-Some-subcommand_matches-clause-ok c =
-    let asks = trace_asked c.in_ok-matches.matches (texts c.args.args.now) _ c.in_ok-matches.ensures.matches c.in-Some-subcommand_matches.ensures.rows (c.in-Some-subcommand_matches.ensures.found.0 refl) in
-    trace_is_asked (texts c.args.args.now) _ c.in_ok-setup_of-in-Some-subcommand_matches.field-0 c.in_ok-matches.ensures.kinds asks c.in_ok-setup_of-in-Some-subcommand_matches.ensures.ok
+    let asks = check_asked c.in_ok-matches.matches (texts c.args.args.now) _ c.in_ok-matches.ensures.matches c.in-Some-subcommand_matches.ensures.rows (c.in-Some-subcommand_matches.ensures.found.0 refl) in
+    is_asked (texts c.args.args.now) _ _ (Check c.in_ok-traced_setup_of.field-0) c.in_ok-matches.ensures.kinds asks (c.in_ok-traced_setup_of.ensures.ok.0, c.in_ok-traced_setup_of.ensures.ok.1, (refl, c.in_ok-traced_setup_of.ensures.ok.2))
 
 pub returns-in-Some-subcommand_matches-clause-small : goal.returns-in-Some-subcommand_matches-clause-small
 returns-in-Some-subcommand_matches-clause-small c =
-    let asks = trace_asked c.in_ok-matches.matches (texts c.args.args.now) _ c.in_ok-matches.ensures.matches c.in-Some-subcommand_matches.ensures.rows (c.in-Some-subcommand_matches.ensures.found.0 refl) in
-    small_exactly (texts c.args.args.now) _
-    (trace_is_asked (texts c.args.args.now) _ c.in_ok-setup_of-in-Some-subcommand_matches.field-0 c.in_ok-matches.ensures.kinds asks c.in_ok-setup_of-in-Some-subcommand_matches.ensures.ok) tt
+    let asks = check_asked c.in_ok-matches.matches (texts c.args.args.now) _ c.in_ok-matches.ensures.matches c.in-Some-subcommand_matches.ensures.rows (c.in-Some-subcommand_matches.ensures.found.0 refl) in
+    small_exactly (texts c.args.args.now) _ (is_asked (texts c.args.args.now) _ _ (Check c.in_ok-traced_setup_of.field-0) c.in_ok-matches.ensures.kinds asks (c.in_ok-traced_setup_of.ensures.ok.0, c.in_ok-traced_setup_of.ensures.ok.1, (refl, c.in_ok-traced_setup_of.ensures.ok.2))) tt
+
+pub setup_of-requires : goal.setup_of-requires
+setup_of-requires c =
+    let asks = play_asked c.in_ok-matches.matches (texts c.args.args.now) _ c.in_ok-matches.ensures.matches c.in-Some-subcommand_matches-2.ensures.rows (c.in-Some-subcommand_matches-2.ensures.found.0 refl) in
+    let has = subst HasNumbers asks.rows_are (numbers_written (texts c.args.args.now) c.in_ok-matches.ensures.kinds) in
+    (has.numbers, has.given)
+
+pub workers_of-requires : goal.workers_of-requires
+workers_of-requires c =
+    let asks = play_asked c.in_ok-matches.matches (texts c.args.args.now) _ c.in_ok-matches.ensures.matches c.in-Some-subcommand_matches-2.ensures.rows (c.in-Some-subcommand_matches-2.ensures.found.0 refl) in
+    let has = subst HasNumbers asks.rows_are (numbers_written (texts c.args.args.now) c.in_ok-matches.ensures.kinds) in
+    (has.workers, has.workers_given)
+
+pub returns-in_err-setup_of-clause-small : goal.returns-in_err-setup_of-clause-small
+returns-in_err-setup_of-clause-small c =
+    let asks = play_asked c.in_ok-matches.matches (texts c.args.args.now) _ c.in_ok-matches.ensures.matches c.in-Some-subcommand_matches-2.ensures.rows (c.in-Some-subcommand_matches-2.ensures.found.0 refl) in
+    refused_small (texts c.args.args.now) _ _ c.in_err-setup_of.field-0.0 _ (search rules) c.in_ok-matches.ensures.kinds asks c.in_err-setup_of.ensures.err
+
+pub returns-in-Some-subcommand_matches-2-clause-ok : goal.returns-in-Some-subcommand_matches-2-clause-ok
+returns-in-Some-subcommand_matches-2-clause-ok c =
+    let asks = play_asked c.in_ok-matches.matches (texts c.args.args.now) _ c.in_ok-matches.ensures.matches c.in-Some-subcommand_matches-2.ensures.rows (c.in-Some-subcommand_matches-2.ensures.found.0 refl) in
+    is_asked (texts c.args.args.now) _ _ (Play c.in_ok-setup_of.field-0 c.workers_of.result) c.in_ok-matches.ensures.kinds asks (c.in_ok-setup_of.ensures.ok.0, c.in_ok-setup_of.ensures.ok.1, (refl, c.in_ok-setup_of.ensures.ok.2, c.workers_of.ensures))
+
+pub returns-in-Some-subcommand_matches-2-clause-small : goal.returns-in-Some-subcommand_matches-2-clause-small
+returns-in-Some-subcommand_matches-2-clause-small c =
+    let asks = play_asked c.in_ok-matches.matches (texts c.args.args.now) _ c.in_ok-matches.ensures.matches c.in-Some-subcommand_matches-2.ensures.rows (c.in-Some-subcommand_matches-2.ensures.found.0 refl) in
+    small_exactly (texts c.args.args.now) _ (is_asked (texts c.args.args.now) _ _ (Play c.in_ok-setup_of.field-0 c.workers_of.result) c.in_ok-matches.ensures.kinds asks (c.in_ok-setup_of.ensures.ok.0, c.in_ok-setup_of.ensures.ok.1, (refl, c.in_ok-setup_of.ensures.ok.2, c.workers_of.ensures))) tt
+
+pub traced_setup_of-requires-in-Some-subcommand_matches-3-clause-numbers : goal.traced_setup_of-requires-in-Some-subcommand_matches-3-clause-numbers
+traced_setup_of-requires-in-Some-subcommand_matches-3-clause-numbers c =
+    let asks = trace_asked c.in_ok-matches.matches (texts c.args.args.now) _ c.in_ok-matches.ensures.matches c.in-Some-subcommand_matches-3.ensures.rows (c.in-Some-subcommand_matches-3.ensures.found.0 refl) in
+    let has = subst HasNumbers asks.rows_are (numbers_written (texts c.args.args.now) c.in_ok-matches.ensures.kinds) in
+    (has.numbers, has.given)
+
+pub traced_setup_of-requires-in-Some-subcommand_matches-3-clause-stop : goal.traced_setup_of-requires-in-Some-subcommand_matches-3-clause-stop
+traced_setup_of-requires-in-Some-subcommand_matches-3-clause-stop c =
+    let asks = trace_asked c.in_ok-matches.matches (texts c.args.args.now) _ c.in_ok-matches.ensures.matches c.in-Some-subcommand_matches-3.ensures.rows (c.in-Some-subcommand_matches-3.ensures.found.0 refl) in
+    let has = subst HasNumbers asks.rows_are (numbers_written (texts c.args.args.now) c.in_ok-matches.ensures.kinds) in
+    (has.stops, has.stop_given)
+
+pub returns-in_err-traced_setup_of-in-Some-subcommand_matches-3-clause-small : goal.returns-in_err-traced_setup_of-in-Some-subcommand_matches-3-clause-small
+returns-in_err-traced_setup_of-in-Some-subcommand_matches-3-clause-small c =
+    let asks = trace_asked c.in_ok-matches.matches (texts c.args.args.now) _ c.in_ok-matches.ensures.matches c.in-Some-subcommand_matches-3.ensures.rows (c.in-Some-subcommand_matches-3.ensures.found.0 refl) in
+    refused_small (texts c.args.args.now) _ _ c.in_err-traced_setup_of-in-Some-subcommand_matches-3.field-0.0 _ (search rules) c.in_ok-matches.ensures.kinds asks c.in_err-traced_setup_of-in-Some-subcommand_matches-3.ensures.err
+
+pub returns-in-Some-subcommand_matches-3-clause-ok : goal.returns-in-Some-subcommand_matches-3-clause-ok
+returns-in-Some-subcommand_matches-3-clause-ok c =
+    let asks = trace_asked c.in_ok-matches.matches (texts c.args.args.now) _ c.in_ok-matches.ensures.matches c.in-Some-subcommand_matches-3.ensures.rows (c.in-Some-subcommand_matches-3.ensures.found.0 refl) in
+    is_asked (texts c.args.args.now) _ _ (Trace c.in_ok-traced_setup_of-in-Some-subcommand_matches-3.field-0) c.in_ok-matches.ensures.kinds asks (c.in_ok-traced_setup_of-in-Some-subcommand_matches-3.ensures.ok.0, c.in_ok-traced_setup_of-in-Some-subcommand_matches-3.ensures.ok.1, (refl, c.in_ok-traced_setup_of-in-Some-subcommand_matches-3.ensures.ok.2))
+
+pub returns-in-Some-subcommand_matches-3-clause-small : goal.returns-in-Some-subcommand_matches-3-clause-small
+returns-in-Some-subcommand_matches-3-clause-small c =
+    let asks = trace_asked c.in_ok-matches.matches (texts c.args.args.now) _ c.in_ok-matches.ensures.matches c.in-Some-subcommand_matches-3.ensures.rows (c.in-Some-subcommand_matches-3.ensures.found.0 refl) in
+    small_exactly (texts c.args.args.now) _ (is_asked (texts c.args.args.now) _ _ (Trace c.in_ok-traced_setup_of-in-Some-subcommand_matches-3.field-0) c.in_ok-matches.ensures.kinds asks (c.in_ok-traced_setup_of-in-Some-subcommand_matches-3.ensures.ok.0, c.in_ok-traced_setup_of-in-Some-subcommand_matches-3.ensures.ok.1, (refl, c.in_ok-traced_setup_of-in-Some-subcommand_matches-3.ensures.ok.2))) tt
 
 pub returns-clause-ok : goal.returns-clause-ok
 returns-clause-ok c =
     let asks =
     none_asked c.in_ok-matches.matches (texts c.args.args.now) c.in_ok-matches.ensures.matches
-    (λ e. true≢false (sym (c.in_default.ensures.found.1 e))) (λ e. true≢false (sym (c.in-None.ensures.found.1 e)))
+    (λ e. true≢false (sym (c.in_default.ensures.found.1 e))) (λ e. true≢false (sym (c.in_default-subcommand_matches.ensures.found.1 e)))
+    (λ e. true≢false (sym (c.in_default-subcommand_matches-2.ensures.found.1 e))) (λ e. true≢false (sym (c.in-None.ensures.found.1 e)))
     in
-    trace_is_asked (texts c.args.args.now) [] c.in_ok-setup_over-in-None.field-0 c.in_ok-matches.ensures.kinds asks (no_numbers.0, no_numbers.1, c.in_ok-setup_over-in-None.ensures.ok)
+    is_asked (texts c.args.args.now) [] _ (Trace c.in_ok-setup_over-in-None.field-0) c.in_ok-matches.ensures.kinds asks
+    (no_numbers.numbers, no_numbers.given, (refl, untraced_over [] no_numbers.numbers _ (inl refl) c.in_ok-setup_over-in-None.ensures.ok))
 
 pub returns-in_err-matches-clause-small : goal.returns-in_err-matches-clause-small
-returns-in_err-matches-clause-small c = refused_by_words (texts c.args.args.now) c.from_residual.result c.in_err-matches.field-0.0 c.from_residual.ensures.1 c.in_err-matches.ensures.kinds
+returns-in_err-matches-clause-small c =
+    refused_by_words (texts c.args.args.now) c.from_residual.result c.in_err-matches.field-0.0 c.from_residual.ensures.1 c.in_err-matches.ensures.kinds

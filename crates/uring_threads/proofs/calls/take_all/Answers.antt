@@ -14,6 +14,6 @@ loop-preserved c =
     let same = ap (λ (v : World). in_call v c.args.count c.loop.counter) at in
     record {
       events = omega (arith, i.events, grown_length _ _ _ c.step_reserved.ensures.grows);
-      world = took_now c.loop.kept c.step_reserved.new.self w c.args.count c.loop.counter c.step_reserved.result c.requires.in_call.1 (omega arith) (i.world ∙ same) c.step_reserved.ensures.grows c.step_reserved.ensures.called ∙ sym (ap (λ (v : World). in_call v c.args.count (c.loop.counter + 1)) at);
+      world = took_now c.loop.kept c.step_reserved.new.self w c.args.count c.loop.counter c.step_reserved.result (ap (λ g. g.stops) i.tally.setup ∙ c.is_lawful.ensures.goes_on) c.requires.in_call.1 (omega arith) (i.world ∙ same) c.step_reserved.ensures.grows c.step_reserved.ensures.called ∙ sym (ap (λ (v : World). in_call v c.args.count (c.loop.counter + 1)) at);
       tally = appends_then _ _ _ _ _ _ i.tally (appends_one _ _ _ none_counted c.step_reserved.ensures.grows refl) refl;
     }

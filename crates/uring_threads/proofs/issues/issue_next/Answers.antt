@@ -1,6 +1,15 @@
-use Rattle.uring_threads.proofs.IssueSteps.{issue_cases}
+use Rattle.std.proofs.Common.{subst, sym, ◌∙◌}
+use Rattle.uring_machine.specs.declared.step.Step.TheVariants as step
+use Rattle.uring_threads.specs.Kept.{Grows}
+use Rattle.uring_threads.proofs.IssueSteps.{issue_cases, started_runs}
 use Rattle.uring_threads.proofs.issues.issue_next.Goals as goal
 
 pub unreachable-requires-in_default : goal.unreachable-requires-in_default
 unreachable-requires-in_default c =
     issue_cases c.args.kept.now c.args.number c.step_reserved.result c.requires.next c.step_reserved.ensures.called c.in_default.not-Run c.in_default.not-Ended
+
+pub unreachable-requires : goal.unreachable-requires
+unreachable-requires c =
+    started_runs c.args.kept.now c.step_reserved.new.self c.args.number c.requires.next
+    (subst (λ x. Grows c.args.kept.now c.step_reserved.new.self (step.Issue c.args.number, x)) c.in-Run.is c.step_reserved.ensures.grows)
+    (sym c.running_op.ensures.value ∙ c.in_default-running_op.is)

@@ -1,5 +1,5 @@
 use Rattle.std.proofs.Common.{rules, ◌≡◌, length, get_or, subst, arith}
-use Rattle.uring_threads.proofs.SettledWorkers.{SoFar, SettlesOne, one_more, all_settled}
+use Rattle.uring_threads.proofs.SettledWorkers.{SoFar, SettlesOne, one_more, all_settled, all_seen}
 use Rattle.uring_threads.proofs.settle_work.settle_workers.Goals as goal
 
 pub loop-k-preserved : goal.loop-k-preserved
@@ -19,3 +19,9 @@ returns-clause-settled g c = λ e.
 
 pub returns-clause-workers : goal.returns-clause-workers
 returns-clause-workers g c = record { many = c.loop-k.invariant.many_workers; looked = λ k e lt. c.loop-k.invariant.looked k e }
+
+pub returns-clause-seen : goal.returns-clause-seen
+returns-clause-seen g c =
+    let end : c.loop-k.k ≡ length c.args.lanes.now = search (rules, arith) in
+    all_seen c.args.kept.now c.loop-k.kept c.args.lanes.now c.loop-k.lanes c.args.workers.now c.loop-k.workers
+    (subst (SoFar c.args.kept.now c.loop-k.kept c.args.lanes.now c.loop-k.lanes c.args.workers.now c.loop-k.workers) end c.loop-k.invariant) c.requires.carried

@@ -3,19 +3,19 @@ use Rattle.uring_threads.specs.Tallies.{finishes_counted, issues_counted, reaps_
 use Rattle.uring_threads.specs.Turns.{AreTies}
 use Rattle.uring_threads.proofs.Collecting.{on_err}
 use Rattle.uring_threads.proofs.TraceSteps.{appends_none}
-use Rattle.uring_threads.proofs.Turning.{ties_taken, ties_worked, ties_unmoved, ties_delivered, counts_all, some_then, lanes_then}
+use Rattle.uring_threads.proofs.Turning.{ties_taken, ties_posted, ties_worked, ties_unmoved, ties_delivered, counts_all, some_then, lanes_then}
 use Rattle.uring_threads.proofs.turns.make_turn.Goals as goal
 
 pub returns-in_err-popped-clause-ties : goal.returns-in_err-popped-clause-ties
 returns-in_err-popped-clause-ties g c =
     subst (λ d. AreTies c.take_in.new.kept (g.P.KernelPort.pulled c.take_in.new.port) d c.take_in.new.intake c.args.lanes.now) (sym c.take_in.ensures.delivered)
     (ties_taken c.args.kept.now c.take_in.new.kept (g.P.KernelPort.pulled c.args.port.now) (g.P.KernelPort.pulled c.take_in.new.port) (g.P.KernelPort.delivered c.args.port.now) c.args.intake.now c.take_in.new.intake c.args.lanes.now 0
-    c.requires.ties c.in_err-popped.ensures.err c.take_in.ensures.tied c.take_in.ensures.completions)
+    c.requires.ties c.in_err-popped.ensures.err c.take_in.ensures.tied c.take_in.ensures.once c.take_in.ensures.completions)
 
 pub collect_all-requires-clause-carried : goal.collect_all-requires-clause-carried
 collect_all-requires-clause-carried g c =
     (ties_taken c.args.kept.now c.take_in.new.kept (g.P.KernelPort.pulled c.args.port.now) (g.P.KernelPort.pulled c.take_in.new.port) (g.P.KernelPort.delivered c.args.port.now) c.args.intake.now c.take_in.new.intake c.args.lanes.now c.in_ok-popped.popped
-    c.requires.ties c.in_ok-popped.ensures.taken c.take_in.ensures.tied c.take_in.ensures.completions).carried
+    c.requires.ties c.in_ok-popped.ensures.taken c.take_in.ensures.tied c.take_in.ensures.once c.take_in.ensures.completions).carried
 
 pub returns-in_err-finished-clause-err : goal.returns-in_err-finished-clause-err
 returns-in_err-finished-clause-err g c =
@@ -32,8 +32,8 @@ returns-in_err-issued-clause-lanes g c = lanes_then c.args.lanes.now c.collect_a
 pub returns-in_err-delivered-clause-ties : goal.returns-in_err-delivered-clause-ties
 returns-in_err-delivered-clause-ties g c =
     let t = ties_worked c.args.kept.now c.take_in.new.kept c.collect_all.new.kept c.issue_all.new.kept (g.P.KernelPort.pulled c.args.port.now) (g.P.KernelPort.pulled c.take_in.new.port) (g.P.KernelPort.delivered c.args.port.now) (g.P.KernelPort.delivered c.take_in.new.port) c.args.intake.now c.take_in.new.intake c.args.lanes.now c.collect_all.new.lanes c.issue_all.new.lanes
-    c.in_ok-popped.popped (finishes_counted c.in_ok-finished.finished) (issues_counted c.in_ok-issued.issued) c.requires.ties c.in_ok-popped.ensures.taken c.take_in.ensures.tied c.take_in.ensures.completions c.take_in.ensures.delivered
-    c.in_ok-finished.ensures.tally c.collect_all.ensures.posts c.collect_all.ensures.carried c.in_ok-issued.ensures.tally c.issue_all.ensures.stays c.issue_all.ensures.carried in
+    c.in_ok-popped.popped (finishes_counted c.in_ok-finished.finished) (issues_counted c.in_ok-issued.issued) c.requires.ties c.in_ok-popped.ensures.taken c.take_in.ensures.tied c.take_in.ensures.once c.take_in.ensures.completions c.take_in.ensures.delivered
+    c.in_ok-finished.ensures.tally refl c.collect_all.ensures.posts c.collect_all.ensures.carried c.in_ok-issued.ensures.tally refl c.issue_all.ensures.stays c.issue_all.ensures.carried in
     subst (λ p. AreTies c.deliver.new.kept p (g.P.KernelPort.delivered c.deliver.new.port) c.take_in.new.intake c.issue_all.new.lanes) (sym c.deliver.ensures.pulled)
     (ties_unmoved c.issue_all.new.kept c.deliver.new.kept (g.P.KernelPort.pulled c.take_in.new.port) (g.P.KernelPort.delivered c.take_in.new.port) (g.P.KernelPort.delivered c.deliver.new.port) c.take_in.new.intake c.issue_all.new.lanes t c.in_err-delivered.ensures.err c.deliver.ensures.keeps c.deliver.ensures.delivered)
 
@@ -49,10 +49,10 @@ returns-in_err-delivered-clause-lanes g c = lanes_then c.args.lanes.now c.collec
 pub returns-clause-ties : goal.returns-clause-ties
 returns-clause-ties g c =
     let t = ties_worked c.args.kept.now c.take_in.new.kept c.collect_all.new.kept c.issue_all.new.kept (g.P.KernelPort.pulled c.args.port.now) (g.P.KernelPort.pulled c.take_in.new.port) (g.P.KernelPort.delivered c.args.port.now) (g.P.KernelPort.delivered c.take_in.new.port) c.args.intake.now c.take_in.new.intake c.args.lanes.now c.collect_all.new.lanes c.issue_all.new.lanes
-    c.in_ok-popped.popped (finishes_counted c.in_ok-finished.finished) (issues_counted c.in_ok-issued.issued) c.requires.ties c.in_ok-popped.ensures.taken c.take_in.ensures.tied c.take_in.ensures.completions c.take_in.ensures.delivered
-    c.in_ok-finished.ensures.tally c.collect_all.ensures.posts c.collect_all.ensures.carried c.in_ok-issued.ensures.tally c.issue_all.ensures.stays c.issue_all.ensures.carried in
+    c.in_ok-popped.popped (finishes_counted c.in_ok-finished.finished) (issues_counted c.in_ok-issued.issued) c.requires.ties c.in_ok-popped.ensures.taken c.take_in.ensures.tied c.take_in.ensures.once c.take_in.ensures.completions c.take_in.ensures.delivered
+    c.in_ok-finished.ensures.tally refl c.collect_all.ensures.posts c.collect_all.ensures.carried c.in_ok-issued.ensures.tally refl c.issue_all.ensures.stays c.issue_all.ensures.carried in
     subst (λ p. AreTies c.deliver.new.kept p (g.P.KernelPort.delivered c.deliver.new.port) c.take_in.new.intake c.issue_all.new.lanes) (sym c.deliver.ensures.pulled)
-    (ties_delivered c.issue_all.new.kept c.deliver.new.kept (g.P.KernelPort.pulled c.take_in.new.port) (g.P.KernelPort.delivered c.take_in.new.port) (g.P.KernelPort.delivered c.deliver.new.port) c.take_in.new.intake c.issue_all.new.lanes (reaps_counted c.in_ok-delivered.delivered) t c.in_ok-delivered.ensures.tally refl refl c.deliver.ensures.keeps c.deliver.ensures.delivered)
+    (ties_delivered c.issue_all.new.kept c.deliver.new.kept (g.P.KernelPort.pulled c.take_in.new.port) (g.P.KernelPort.delivered c.take_in.new.port) (g.P.KernelPort.delivered c.deliver.new.port) c.take_in.new.intake c.issue_all.new.lanes (reaps_counted c.in_ok-delivered.delivered) t c.in_ok-delivered.ensures.tally refl refl refl c.deliver.ensures.keeps c.deliver.ensures.delivered)
 
 pub returns-clause-counts : goal.returns-clause-counts
 returns-clause-counts g c =
@@ -61,3 +61,17 @@ returns-clause-counts g c =
 
 pub returns-clause-lanes : goal.returns-clause-lanes
 returns-clause-lanes g c = lanes_then c.args.lanes.now c.collect_all.new.lanes c.issue_all.new.lanes c.collect_all.ensures.lanes c.issue_all.ensures.lanes
+
+pub returns-in_err-finished-clause-ties : goal.returns-in_err-finished-clause-ties
+returns-in_err-finished-clause-ties g c =
+    let taken = ties_taken c.args.kept.now c.take_in.new.kept (g.P.KernelPort.pulled c.args.port.now) (g.P.KernelPort.pulled c.take_in.new.port) (g.P.KernelPort.delivered c.args.port.now) c.args.intake.now c.take_in.new.intake c.args.lanes.now c.in_ok-popped.popped
+    c.requires.ties c.in_ok-popped.ensures.taken c.take_in.ensures.tied c.take_in.ensures.once c.take_in.ensures.completions in
+    subst (λ d. AreTies c.collect_all.new.kept (g.P.KernelPort.pulled c.take_in.new.port) d c.take_in.new.intake c.collect_all.new.lanes) (sym c.take_in.ensures.delivered)
+    (ties_posted c.take_in.new.kept c.collect_all.new.kept (g.P.KernelPort.pulled c.take_in.new.port) (g.P.KernelPort.delivered c.args.port.now) c.take_in.new.intake c.args.lanes.now c.collect_all.new.lanes (finishes_counted c.in_err-finished.ensures.err.0)
+    taken c.in_err-finished.ensures.err.1 refl c.collect_all.ensures.posts c.collect_all.ensures.carried)
+
+pub returns-in_err-issued-clause-ties : goal.returns-in_err-issued-clause-ties
+returns-in_err-issued-clause-ties g c =
+    ties_worked c.args.kept.now c.take_in.new.kept c.collect_all.new.kept c.issue_all.new.kept (g.P.KernelPort.pulled c.args.port.now) (g.P.KernelPort.pulled c.take_in.new.port) (g.P.KernelPort.delivered c.args.port.now) (g.P.KernelPort.delivered c.take_in.new.port) c.args.intake.now c.take_in.new.intake c.args.lanes.now c.collect_all.new.lanes c.issue_all.new.lanes
+    c.in_ok-popped.popped (finishes_counted c.in_ok-finished.finished) (issues_counted c.in_err-issued.ensures.err.0) c.requires.ties c.in_ok-popped.ensures.taken c.take_in.ensures.tied c.take_in.ensures.once c.take_in.ensures.completions c.take_in.ensures.delivered
+    c.in_ok-finished.ensures.tally refl c.collect_all.ensures.posts c.collect_all.ensures.carried c.in_err-issued.ensures.err.1 refl c.issue_all.ensures.stays c.issue_all.ensures.carried

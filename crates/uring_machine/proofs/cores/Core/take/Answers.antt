@@ -77,7 +77,7 @@ push_reserved-requires c =
     omega arith
 
 pub invariant_of-self : goal.invariant_of-self
-invariant_of-self c = rw (c.push_reserved.ensures.items, c.push_reserved.ensures.capacity) (c.self.invariant.0, core_after _ _ _ refl (take_entry_goes _ c.take-answer.new.self c.in-Entry.entry c.in-Entry.ensures.answer c.in-Entry.ensures.shows) c.self.invariant.1)
+invariant_of-self c = rw (c.push_reserved.ensures.items, c.push_reserved.ensures.capacity) (c.self.invariant.0, core_after _ _ _ refl (take_entry_goes _ c.take-answer.new.self c.stop_behind.new.sq c.in-Entry.entry c.in-Entry.ensures.answer c.in-Entry.ensures.shows c.stop_behind.ensures) c.self.invariant.1)
 
 pub invariant_of-self-in_default : goal.invariant_of-self-in_default
 invariant_of-self-in_default c = (c.self.invariant.0, core_after _ _ _ refl (no_entry_goes _ c.take-answer.new.self c.take-answer.result c.in_default.not-Entry c.take-answer.ensures.answer c.take-answer.ensures.shows c.take-answer.ensures.no_call c.take-answer.ensures.no_more) c.self.invariant.1)
@@ -85,6 +85,6 @@ invariant_of-self-in_default c = (c.self.invariant.0, core_after _ _ _ refl (no_
 pub returns-clause-fits : goal.returns-clause-fits
 returns-clause-fits c =
     elim c.match-answer.branch [
-      | in-Entry w ↦ rw (c.from.ensures, w.self-is, w.answer-is, ← c.self.view_is) (simp w.push_reserved.ensures.items (take_entry_goes _ c.take-answer.new.self w.in-Entry.entry w.in-Entry.ensures.answer w.in-Entry.ensures.shows))
+      | in-Entry w ↦ rw (c.from.ensures, w.self-is, w.answer-is, ← c.self.view_is) (simp w.push_reserved.ensures.items (take_entry_goes _ c.take-answer.new.self w.stop_behind.new.sq w.in-Entry.entry w.in-Entry.ensures.answer w.in-Entry.ensures.shows w.stop_behind.ensures))
       | in_default w ↦ rw (c.from.ensures, w.self-is, w.answer-is, ← c.self.view_is) (no_entry_goes _ c.take-answer.new.self c.take-answer.result w.in_default.not-Entry c.take-answer.ensures.answer c.take-answer.ensures.shows c.take-answer.ensures.no_call c.take-answer.ensures.no_more)
     ]

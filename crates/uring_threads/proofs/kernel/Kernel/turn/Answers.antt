@@ -1,7 +1,8 @@
-use Rattle.std.proofs.Common.{◌≡◌, rules, arith, subst, ◌∙◌}
+use Rattle.std.proofs.Common.{◌≡◌, rules, arith, subst, ap, ◌∙◌}
 use Rattle.std.proofs.lemmas.Grind.{common_steps}
-use Rattle.uring_threads.specs.Dispatched.{HoldJobs}
+use Rattle.uring_threads.specs.Dispatched.{HoldJobs, numbers_of_lanes}
 use Rattle.uring_threads.proofs.FullLanes.{hold_stays, next_is_none, setup_stays}
+use Rattle.uring_threads.proofs.SameEnds.{same_numbers}
 use Rattle.uring_threads.proofs.Turning.{left_same}
 use Rattle.uring_threads.proofs.kernel.Kernel.turn.Goals as goal
 
@@ -16,3 +17,7 @@ returns-clause-next g c =
 
 pub returns-clause-setup : goal.returns-clause-setup
 returns-clause-setup g c = setup_stays c.make_turn.result c.self.inside.kept c.make_turn.new.kept c.make_turn.ensures.counts c.make_turn.ensures.err ∙ first_of (search rules, grind (arith, common_steps))
+
+pub returns-clause-numbers : goal.returns-clause-numbers
+returns-clause-numbers g c =
+    ap numbers_of_lanes (first_of (search rules, grind (arith, common_steps))) ∙ same_numbers c.deref_mut.result.now c.make_turn.new.lanes c.make_turn.ensures.lanes ∙ ap numbers_of_lanes (first_of (search rules, grind (arith, common_steps)))

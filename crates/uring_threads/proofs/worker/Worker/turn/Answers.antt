@@ -1,6 +1,7 @@
-use Rattle.std.proofs.Common.{refl, ◌∙◌, arith}
+use Rattle.std.proofs.Common.{length, refl, ap, ◌∙◌, arith}
 use Rattle.rtrb.specs.Ring.{sent, received}
-use Rattle.uring_threads.proofs.Working.{goes_on, done_of-snoc, done_as, same_ring, same_worker}
+use Rattle.uring_threads.specs.Worker.{Worker}
+use Rattle.uring_threads.proofs.Working.{goes_on, done_of-snoc, many_after, done_as, same_ring, same_worker}
 use Rattle.uring_threads.proofs.worker.Worker.turn.Goals as goal
 
 pub invariant_of-self-2 : goal.invariant_of-self-2
@@ -8,8 +9,8 @@ invariant_of-self-2 g c =
     rw (c.in-Ok.ensures.ok.0, c.push_reserved.ensures.sent.0, c.is_full.ensures.looked.1, c.apply-outcome.ensures.files)
     (goes_on (received c.self.inside.jobs) (sent c.self.inside.results) c.self.inside.files c.self.invariant c.in-Ok.job c.apply-outcome.result c.apply-outcome.ensures.outcome)
 
-pub returns : goal.returns
-returns g c =
+pub returns-clause-turns : goal.returns-clause-turns
+returns-clause-turns g c =
     let inside = c.self.inside in
     let popped = c.in-Ok.ensures in
     let full = c.is_full.ensures.looked in
@@ -28,3 +29,11 @@ returns g c =
         room = rw (← c.self.view_is) (let before = full.2 in let after = pushed.sent.1 in omega arith);
       },
     )
+
+pub returns-clause-pairing : goal.returns-clause-pairing
+returns-clause-pairing g c = ap (λ (w : Worker). w.pairing) (returns-clause-turns g c).2.done
+
+pub returns-clause-files : goal.returns-clause-files
+returns-clause-files g c =
+    let turned = returns-clause-turns g c in
+    ap (λ (w : Worker). length w.files) turned.2.done ∙ many_after c.args.self.now.files turned.0.op turned.0.outcome.res

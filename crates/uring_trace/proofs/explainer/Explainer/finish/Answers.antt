@@ -1,8 +1,11 @@
-use Rattle.std.proofs.Common.{◌≡◌, [], ℕ, List, false}
+use Rattle.std.proofs.Common.{◌≡◌, [], ℕ, List, false, refl}
 use Rattle.std.specs.Prelude.{IsTrue}
 use Rattle.uring_trace.specs.KeptLine.{kept_of}
-use Rattle.uring_trace.proofs.ExplainLines.{explain_last}
+use Rattle.uring_trace.proofs.ExplainLines.{explain_last, explain_none}
 use Rattle.uring_trace.proofs.explainer.Explainer.finish.Goals as goal
+
+pub returns-then-is_empty-clause-ok : goal.returns-then-is_empty-clause-ok
+returns-then-is_empty-clause-ok c = λ setup before told noted h. explain_none setup _ _ _ _ before _ _ (λ line e. (c.if-is_empty.ensures line e).0 refl) h
 
 pub returns-clause-ok : goal.returns-clause-ok
 returns-clause-ok c =

@@ -1,6 +1,7 @@
 use Rattle.std.proofs.Common.{sym, ◌∙◌}
 use Rattle.uring_trace.proofs.Sessions.{if_ok_map}
-use Rattle.uring_trace.proofs.ExplainLines.{if_ok_both, line_made, line_bad}
+use Rattle.uring_trace.proofs.ShownTexts.{on_ok_map}
+use Rattle.uring_trace.proofs.ExplainLines.{if_ok_both, line_made, line_asked, line_bad}
 use Rattle.uring_trace.proofs.explainer.Explainer.tell_line.Goals as goal
 
 pub returns-in-Some-clause-told : goal.returns-in-Some-clause-told
@@ -9,10 +10,16 @@ returns-in-Some-clause-told c =
     (λ done h line k. line_made _ _ c.args.self.now.number c.args.self.now.has_bad line _ _ _ c.in-Some.step (rw c.in-Some.is at (c.in_ok-step.ensures line k)) h)
     c.tell_step.ensures
 
-pub returns-in-None-2-clause-told : goal.returns-in-None-2-clause-told
-returns-in-None-2-clause-told c =
+pub returns-in-Some-read_question-clause-told : goal.returns-in-Some-read_question-clause-told
+returns-in-Some-read_question-clause-told c =
+    on_ok_map c.tell_shown.result _ _
+    (λ h line k. line_asked c.args.self.now.machine c.args.self.now.number c.args.self.now.has_bad line _ _ _ c.in-Some-read_question.question (rw c.in-Some-read_question.is at (c.read_question.ensures line k)) h)
+    c.tell_shown.ensures
+
+pub returns-in-None-read_question-clause-told : goal.returns-in-None-read_question-clause-told
+returns-in-None-read_question-clause-told c =
     if_ok_both c.tell_bad.result _ _ _
     (λ done told noted line k.
     line_bad c.args.self.now.machine c.args.self.now.number c.args.self.now.has_bad line _ _ _ _ (rw c.in-None-2.is at (c.in_ok-step.ensures line k))
-    (sym (c.is_remark.ensures line k) ∙ c.if-is_remark.false) told noted)
+    (sym (c.is_remark.ensures line k) ∙ c.if-is_remark.false) (rw c.in-None-read_question.is at (c.read_question.ensures line k)) told noted)
     c.tell_bad.ensures.told c.tell_bad.ensures.noted

@@ -1,0 +1,126 @@
+-- What findings say of the text of a lawful history.
+use Rattle.std.proofs.Common.{◌≡◌, ◌⊎◌, ℕ, Bool, false, List, [], ◌∷◌, refl, sym, ap, subst, ◌∙◌, inl, inr}
+use Rattle.uring_entry.specs.Setup.{Setup}
+use Rattle.std.proofs.lemmas.Bool.{true≢false}
+use Rattle.uring_machine.specs.CalledFor.{CalledFor, IsLawful}
+use Rattle.uring_machine.specs.Histories.{History, world}
+use Rattle.uring_machine.specs.declared.answer.Answer.{Answer}
+use Rattle.uring_machine.specs.declared.step.Step.{Step}
+use Rattle.uring_trace.specs.Text.{text_of}
+use Rattle.uring_check.specs.Checks.{Says}
+use Rattle.uring_check.specs.Findings.{Found, Finding, AreFound, IsFinding, IsFindingBehind, first_fault, has_stopped, history_behind, judged, lines_of, stops, verdict_of, with_finding}
+use Rattle.uring_check.specs.Findings as finding
+use Rattle.uring_check.specs.Records.{AreRecorded, IsLawfulText, Records}
+use Rattle.uring_check.specs.declared.verdict.Verdict.{Verdict}
+use Rattle.uring_check.specs.declared.verdict.Verdict.TheVariants as verdict
+use Rattle.uring_check.proofs.SameTexts.{answer_once}
+use Rattle.uring_check.proofs.Splitting.{record_once}
+
+-- the history is lawful, these lines are its text, and no check stopped at one of them
+pub record IsRight (g : Setup) (all : Bool) (xs : List Found) : Type 0 where
+  pub lawful : IsLawful g (history_behind xs)
+  pub recorded : AreRecorded (lines_of xs) (history_behind xs)
+  pub goes_on : has_stopped all xs ≡ false
+
+no_fault : (v : Verdict) → first_fault v verdict.Wrong ≡ verdict.Lawful → ⊥
+no_fault verdict.Lawful e = absurd cc
+no_fault verdict.Wrong e = absurd cc
+no_fault verdict.Bad e = absurd cc
+
+no_bad : (v : Verdict) → first_fault v verdict.Bad ≡ verdict.Lawful → ⊥
+no_bad verdict.Lawful e = absurd cc
+no_bad verdict.Wrong e = absurd cc
+no_bad verdict.Bad e = absurd cc
+
+-- one line more
+right_more : (g : Setup) (all : Bool) (before : List Found) (line : List ℕ) (f : Finding) → IsFindingBehind (has_stopped all before) g (history_behind before) line f → judged (verdict_of before) f ≡ verdict.Lawful → (verdict_of before ≡ verdict.Lawful → IsRight g all before)
+    → IsRight g all (record { line = line; finding = f } ∷ before)
+right_more g all before line finding.Passed is v prior =
+    let r = prior v in
+    let so = subst (λ (b : Bool). IsFindingBehind b g (history_behind before) line finding.Passed) r.goes_on is in
+    record { lawful = r.lawful; recorded = inl (so, r.recorded); goes_on = r.goes_on }
+right_more g all before line (finding.Right s a) is v prior =
+    let r = prior v in
+    let so = subst (λ (b : Bool). IsFindingBehind b g (history_behind before) line (finding.Right s a)) r.goes_on is in
+    record { lawful = (so.1, r.lawful); recorded = inr ((s, a), history_behind before, refl, so.0, r.recorded); goes_on = r.goes_on }
+right_more g all before line (finding.Wrong s wanted) is v prior = absurd (no_fault (verdict_of before) v)
+right_more g all before line finding.Bad is v prior = absurd (no_bad (verdict_of before) v)
+right_more g all before line finding.Skipped is v prior =
+    let r = prior v in
+    absurd (subst (λ (b : Bool). IsFindingBehind b g (history_behind before) line finding.Skipped) r.goes_on is)
+
+pub all_right : (g : Setup) (all : Bool) (xs : List Found) → AreFound g all xs → verdict_of xs ≡ verdict.Lawful → IsRight g all xs
+all_right g all [] are v = record { lawful = tt; recorded = refl; goes_on = refl }
+all_right g all (x ∷ before) are v = right_more g all before x.line x.finding are.0 v (all_right g all before are.1)
+
+pub lawful_said : (g : Setup) (all : Bool) (xs : List Found) → AreFound g all xs → verdict_of xs ≡ verdict.Lawful → IsLawfulText g (lines_of xs)
+lawful_said g all xs are v = let r = all_right g all xs are v in (history_behind xs, r.lawful, r.recorded)
+
+-- ---- one lawful history has the text
+
+-- a line records one event at most that is lawful behind a history
+same_event : (g : Setup) (past known : History) (line : List ℕ) (s t : Step) (a b : Answer) → past ≡ known → Records line (t, b) → Records line (s, a) → CalledFor g (world g past) t b → CalledFor g (world g known) s a → ((t, b) ∷ past) ≡ ((s, a) ∷ known)
+same_event g past known line s t a b same rec is called right =
+    let once = record_once line t s (text_of b) (text_of a) rec is in
+    let there : CalledFor g (world g known) t b = subst (λ (h : History). CalledFor g (world g h) t b) same called in
+    let here : CalledFor g (world g known) s b = subst (λ (x : Step). CalledFor g (world g known) x b) once.0 there in
+    let answers : b ≡ a = answer_once g (world g known) s b a here right once.1 in
+    λ i. (once.0 i, answers i) ∷ same i
+
+pub same_history : (g : Setup) (lines : List (List ℕ)) (h k : History) → IsLawful g h → AreRecorded lines h → IsLawful g k → AreRecorded lines k → h ≡ k
+same_history g [] h k p x q y = x ∙ sym y
+same_history g (line ∷ lines) h k p (inl x) q (inl y) = same_history g lines h k p x.1 q y.1
+same_history g (line ∷ lines) h k p (inl x) q (inr y) = absurd (x.0.0 y.0.0 (text_of y.0.1) y.3)
+same_history g (line ∷ lines) h k p (inr x) q (inl y) = absurd (y.0.0 x.0.0 (text_of x.0.1) x.3)
+same_history g (line ∷ lines) h k p (inr x) q (inr y) =
+    let one : IsLawful g (x.0 ∷ x.1) = subst (IsLawful g) x.2 p in
+    let other : IsLawful g (y.0 ∷ y.1) = subst (IsLawful g) y.2 q in
+    let past : x.1 ≡ y.1 = same_history g lines x.1 y.1 one.1 x.4 other.1 y.4 in
+    x.2 ∙ same_event g x.1 y.1 line y.0.0 x.0.0 y.0.1 x.0.1 past x.3 y.3 one.0 other.0 ∙ sym y.2
+
+-- ---- the text of no lawful history
+
+-- the finding of a line behind right ones
+found_next : (g : Setup) (all : Bool) (x : Found) (before : List Found) → AreFound g all (x ∷ before) → verdict_of before ≡ verdict.Lawful → IsFinding g (history_behind before) x.line x.finding
+found_next g all x before are v = subst (λ (b : Bool). IsFindingBehind b g (history_behind before) x.line x.finding) (all_right g all before are.1 v).goes_on are.0
+
+-- the lines before are the text of a lawful history too
+lawful_before : (g : Setup) (line : List ℕ) (lines : List (List ℕ)) → IsLawfulText g (line ∷ lines) → IsLawfulText g lines
+lawful_before g line lines (h, lawful, inl passed) = (h, lawful, passed.1)
+lawful_before g line lines (h, lawful, inr r) = let so : IsLawful g (r.0 ∷ r.1) = subst (IsLawful g) r.2 lawful in (r.1, so.1, r.4)
+
+-- the first line that isn't right is no line of a lawful history
+none_more : (g : Setup) (line : List ℕ) (lines : List (List ℕ)) (known h : History) (f : Finding) → IsFinding g known line f → (judged verdict.Lawful f ≡ verdict.Lawful → ⊥)
+    → ((past : History) → IsLawful g past → AreRecorded lines past → past ≡ known) → IsLawful g h → AreRecorded (line ∷ lines) h → ⊥
+none_more g line lines known h finding.Passed is v prior lawful rec = v refl
+none_more g line lines known h (finding.Right s a) is v prior lawful rec = v refl
+none_more g line lines known h (finding.Wrong s wanted) is v prior lawful (inl passed) = passed.0.0 s is.0 is.1
+none_more g line lines known h (finding.Wrong s wanted) is v prior lawful (inr r) =
+    let so : IsLawful g (r.0 ∷ r.1) = subst (IsLawful g) r.2 lawful in
+    let once = record_once line r.0.0 s (text_of r.0.1) is.0 r.3 is.1 in
+    let there : CalledFor g (world g known) r.0.0 r.0.1 = subst (λ (past : History). CalledFor g (world g past) r.0.0 r.0.1) (prior r.1 so.1 r.4) so.0 in
+    is.2.not_called r.0.1 (subst (λ (x : Step). CalledFor g (world g known) x r.0.1) once.0 there) once.1
+none_more g line lines known h finding.Bad is v prior lawful (inl passed) = true≢false (sym passed.0.1 ∙ is.1)
+none_more g line lines known h finding.Bad is v prior lawful (inr r) = is.0 r.0.0 (text_of r.0.1) r.3
+none_more g line lines known h finding.Skipped is v prior lawful rec = v refl
+
+-- a verdict is that of no fault, or isn't
+no_fault_or_one : (v : Verdict) → (v ≡ verdict.Lawful) ⊎ (v ≡ verdict.Lawful → ⊥)
+no_fault_or_one verdict.Lawful = inl refl
+no_fault_or_one verdict.Wrong = inr (λ e. absurd cc)
+no_fault_or_one verdict.Bad = inr (λ e. absurd cc)
+
+unlawful_said : (g : Setup) (all : Bool) (xs : List Found) → AreFound g all xs → (verdict_of xs ≡ verdict.Lawful → ⊥) → IsLawfulText g (lines_of xs) → ⊥
+unlawful_said g all [] are v is = v refl
+unlawful_said g all (x ∷ before) are v is = elim (no_fault_or_one (verdict_of before)) [
+  | inl so ↦
+      let r = all_right g all before are.1 so in
+      none_more g x.line (lines_of before) (history_behind before) is.0 x.finding (found_next g all x before are so) (λ e. v (ap (λ (w : Verdict). judged w x.finding) so ∙ e))
+      (λ past lawful rec. same_history g (lines_of before) past (history_behind before) lawful rec r.lawful r.recorded) is.1 is.2
+  | inr fault ↦ unlawful_said g all before are.1 fault (lawful_before g x.line (lines_of before) is)
+]
+
+pub said : (g : Setup) (all : Bool) (xs : List Found) (v : Verdict) → AreFound g all xs → v ≡ verdict_of xs → Says g (lines_of xs) v
+said g all xs verdict.Lawful are e = lawful_said g all xs are (sym e)
+said g all xs verdict.Wrong are e = unlawful_said g all xs are (λ v. let no : verdict.Wrong ≡ verdict.Lawful = e ∙ v in absurd cc)
+said g all xs verdict.Bad are e = unlawful_said g all xs are (λ v. let no : verdict.Bad ≡ verdict.Lawful = e ∙ v in absurd cc)

@@ -1,0 +1,6 @@
+pub mod Splitting
+pub mod WantedAnswers
+pub mod Looking
+pub mod Readings
+pub mod SameTexts
+pub mod LawfulTexts

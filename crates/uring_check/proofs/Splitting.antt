@@ -1,0 +1,130 @@
+-- How a line is split at its first `=`.
+use Rattle.std.proofs.Common.{◌≡◌, ◌≢◌, ℕ, ◌+◌, ◌<◌, ◌≤◌, List, [], ◌∷◌, ◌++◌, length, take, drop, get_or, refl, sym, ap, subst, ◌∙◌, append_assoc, inl, inr, arith}
+use Rattle.std.specs.List.{AllByRecursion}
+use Rattle.std.proofs.lemmas.Bool.{cases_lt}
+use Rattle.std.proofs.lemmas.List.{take-append-drop, drop_more, take_all}
+use Rattle.uring_machine.specs.declared.step.Step.{Step}
+use Rattle.uring_trace.specs.Spelling.{IsStep, IsBad}
+use Rattle.uring_trace.proofs.Spellings.{step_once}
+use Rattle.uring_check.specs.Checking.{IsSplit, IsUnsplit}
+use Rattle.uring_check.specs.Records.{IsRecord, IsNoRecord}
+
+abbrev pub HasNone : List ℕ → Type 0
+HasNone xs = AllByRecursion (λ b. b ≢ 61) xs
+
+none_before : (xs ys : List ℕ) → HasNone (xs ++ ys) → HasNone xs
+none_before [] ys h = tt
+none_before (x ∷ xs) ys h = (h.0, none_before xs ys h.1)
+
+none_and_one : (xs ys : List ℕ) → HasNone (xs ++ 61 ∷ ys) → ⊥
+none_and_one [] ys h = h.0 refl
+none_and_one (x ∷ xs) ys h = none_and_one xs ys h.1
+
+abbrev IsOther : ℕ → Type 0
+IsOther b = b ≢ 61
+
+other : IsOther 32
+other e = absurd (omega (arith, e))
+
+none_more : (xs : List ℕ) → HasNone xs → HasNone (xs ++ 32 ∷ [])
+none_more [] h = (other, tt)
+none_more (x ∷ xs) h = (h.0, none_more xs h.1)
+
+first_same : (b c : ℕ) (xs ys : List ℕ) → b ∷ xs ≡ c ∷ ys → b ≡ c
+first_same b c xs ys e = cc
+
+rest_same : (b c : ℕ) (xs ys : List ℕ) → b ∷ xs ≡ c ∷ ys → xs ≡ ys
+rest_same b c xs ys e = cc
+
+-- the first `=` stands at one place
+first_once : (xs ys us vs : List ℕ) → HasNone xs → HasNone us → xs ++ 61 ∷ ys ≡ us ++ 61 ∷ vs → (xs ≡ us) × (ys ≡ vs)
+first_once [] ys [] vs h k e = (refl, rest_same 61 61 ys vs e)
+first_once [] ys (u ∷ us) vs h k e = absurd (k.0 (sym (first_same 61 u ys (us ++ 61 ∷ vs) e)))
+first_once (x ∷ xs) ys [] vs h k e = absurd (h.0 (first_same x 61 (xs ++ 61 ∷ ys) vs e))
+first_once (x ∷ xs) ys (u ∷ us) vs h k e =
+    let same = first_once xs ys us vs h.1 k.1 (rest_same x u (xs ++ 61 ∷ ys) (us ++ 61 ∷ vs) e) in
+    (ap (λ (b : ℕ). b ∷ xs) (first_same x u (xs ++ 61 ∷ ys) (us ++ 61 ∷ vs) e) ∙ ap (λ (l : List ℕ). u ∷ l) same.0, same.1)
+
+sign_text : (before text : List ℕ) → before ++ 32 ∷ 61 ∷ 32 ∷ text ≡ (before ++ 32 ∷ []) ++ 61 ∷ 32 ∷ text
+sign_text before text = simp append_assoc refl
+
+-- a split line, at its `=`
+at_sign : (line before text : List ℕ) → IsSplit line before text → line ≡ (before ++ 32 ∷ []) ++ 61 ∷ 32 ∷ text
+at_sign line before text h = h.whole ∙ sign_text before text
+
+-- what a cut gave: the bytes before the first `=`, and the rest
+pub record IsCut (line front back : List ℕ) (n : ℕ) : Type 0 where
+  pub front_is : front ≡ take n line
+  pub back_is : back ≡ drop n line
+  pub within : n ≤ length line
+  pub none : HasNone (take n line)
+  pub here : n < length line → get_or line n 0 ≡ 61
+
+-- the cut of a split line
+cut_split : (line front back before text : List ℕ) (n : ℕ) → IsCut line front back n → IsSplit line before text → (front ≡ before ++ 32 ∷ []) × (back ≡ 61 ∷ 32 ∷ text)
+cut_split line front back before text n c h = elim (cases_lt n (length line)) [
+  | inl lt ↦
+      let next : drop n line ≡ 61 ∷ drop (n + 1) line = drop_more line n 0 lt ∙ ap (λ (b : ℕ). b ∷ drop (n + 1) line) (c.here lt) in
+      let whole : take n line ++ 61 ∷ drop (n + 1) line ≡ (before ++ 32 ∷ []) ++ 61 ∷ 32 ∷ text = ap (λ (l : List ℕ). take n line ++ l) (sym next) ∙ take-append-drop n line ∙ at_sign line before text h in
+      let same = first_once (take n line) (drop (n + 1) line) (before ++ 32 ∷ []) (32 ∷ text) c.none (none_more before h.first) whole in
+      (c.front_is ∙ same.0, c.back_is ∙ next ∙ ap (λ (l : List ℕ). 61 ∷ l) same.1)
+  | inr ge ↦
+      let all : HasNone line = subst HasNone (take_all n line ge) c.none in
+      absurd (none_and_one (before ++ 32 ∷ []) (32 ∷ text) (subst HasNone (at_sign line before text h) all))
+]
+
+-- what is left of a cut, each without its space, is the split
+pub split_made : (line front back before text : List ℕ) (n : ℕ) → IsCut line front back n → front ≡ before ++ 32 ∷ [] → back ≡ 61 ∷ 32 ∷ text → IsSplit line before text
+split_made line front back before text n c x y = record {
+  whole =
+      sym (take-append-drop n line) ∙ ap (λ (l : List ℕ). l ++ drop n line) (sym c.front_is ∙ x)
+      ∙ ap (λ (l : List ℕ). (before ++ 32 ∷ []) ++ l) (sym c.back_is ∙ y)
+      ∙ sym (sign_text before text);
+  first = none_before before (32 ∷ []) (subst HasNone (sym c.front_is ∙ x) c.none);
+}
+
+-- no space before the `=`
+pub no_front : (line front back : List ℕ) (n : ℕ) → IsCut line front back n → ((before : List ℕ) → front ≢ before ++ 32 ∷ []) → IsUnsplit line
+no_front line front back n c none = λ before text h. none before (cut_split line front back before text n c h).0
+
+-- no `=` with a space behind it
+pub no_back : (line front back : List ℕ) (n : ℕ) → IsCut line front back n → ((text : List ℕ) → back ≢ 61 ∷ 32 ∷ text) → IsUnsplit line
+no_back line front back n c none = λ before text h. none text (cut_split line front back before text n c h).1
+
+-- a line is split in one way
+pub split_once : (line before text other rest : List ℕ) → IsSplit line before text → IsSplit line other rest → (before ≡ other) × (text ≡ rest)
+split_once line before text other rest h k =
+    let same = first_once (before ++ 32 ∷ []) (32 ∷ text) (other ++ 32 ∷ []) (32 ∷ rest) (none_more before h.first) (none_more other k.first) (sym (at_sign line before text h) ∙ at_sign line other rest k) in
+    (last_same before other same.0, rest_same 32 32 text rest same.1)
+  where
+    last_same : (xs ys : List ℕ) → xs ++ 32 ∷ [] ≡ ys ++ 32 ∷ [] → xs ≡ ys
+    last_same [] [] e = refl
+    last_same [] (y ∷ []) e = absurd cc
+    last_same [] (y ∷ z ∷ ys) e = absurd cc
+    last_same (x ∷ []) [] e = absurd cc
+    last_same (x ∷ z ∷ xs) [] e = absurd cc
+    last_same (x ∷ xs) (y ∷ ys) e = ap (λ (b : ℕ). b ∷ xs) (first_same x y (xs ++ 32 ∷ []) (ys ++ 32 ∷ []) e) ∙ ap (λ (l : List ℕ). y ∷ l) (last_same xs ys (rest_same x y (xs ++ 32 ∷ []) (ys ++ 32 ∷ []) e))
+
+-- the split of a record
+pub split_of : (line : List ℕ) (s : Step) (text : List ℕ) → (r : IsRecord line s text) → IsSplit line r.before text
+split_of line s text r = record { whole = r.whole; first = r.first }
+
+-- ---- what lines record
+
+pub recorded : (line before text : List ℕ) (s : Step) → length line ≤ 300 → IsSplit line before text → IsStep before s → IsRecord line s text
+recorded line before text s short h is = record { short = short; before = before; whole = h.whole; first = h.first; step = is }
+
+pub unsplit_none : (line : List ℕ) → IsUnsplit line → IsNoRecord line
+unsplit_none line none = λ s text r. none r.before text (split_of line s text r)
+
+pub bad_none : (line before text : List ℕ) → IsSplit line before text → IsBad before → IsNoRecord line
+bad_none line before text h bad = λ s other r. bad s (subst (λ (l : List ℕ). IsStep l s) (split_once line r.before other before text (split_of line s other r) h).0 r.step)
+
+pub long_none : (line : List ℕ) → 300 < length line → IsNoRecord line
+long_none line long = λ s text r. let short : length line ≤ 300 = r.short in absurd (omega arith)
+
+-- a line records one step with one text at most
+pub record_once : (line : List ℕ) (s t : Step) (text rest : List ℕ) → IsRecord line s text → IsRecord line t rest → (s ≡ t) × (text ≡ rest)
+record_once line s t text rest h k =
+    let same = split_once line h.before text k.before rest (split_of line s text h) (split_of line t rest k) in
+    (step_once k.before s t (subst (λ (l : List ℕ). IsStep l s) same.0 h.step) k.step, same.1)

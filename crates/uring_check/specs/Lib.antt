@@ -1,0 +1,5 @@
+pub mod Records
+pub mod Findings
+pub mod Reports
+pub mod Checks
+pub mod Checking

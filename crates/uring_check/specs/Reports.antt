@@ -1,0 +1,73 @@
+-- The text of a check's report. Its words are our own rule.
+use Rattle.std.specs.Prelude.{ℕ, ◌+◌, ◌-◌, ◌^◌, min, List, [], ◌∷◌, ◌++◌, length, codes, Option, Some, None}
+use Rattle.std.specs.Fmt.{decimal, signed_decimal}
+use Rattle.uring_entry.specs.Requests.{Requests}
+use Rattle.uring_entry.specs.Setup.{Setup}
+use Rattle.uring_entry.specs.Why.{why_of}
+use Rattle.uring_entry.specs.declared.why.Why.{Why}
+use Rattle.uring_machine.specs.Histories.{world}
+use Rattle.uring_machine.specs.World.{World}
+use Rattle.uring_machine.specs.declared.step.Step.{Step}
+use Rattle.uring_machine.specs.declared.step.Step.TheVariants as step
+use Rattle.uring_machine.specs.declared.wanted.Wanted.{Wanted}
+use Rattle.uring_machine.specs.declared.wanted.Wanted.TheVariants.{Only, CallOrAgain, AnyEnd, EndOrNoMemory}
+use Rattle.uring_trace.specs.Explanations.{line_number}
+use Rattle.uring_trace.specs.Lines.{ended}
+use Rattle.uring_trace.specs.Reasons.{why_text}
+use Rattle.uring_trace.specs.Text.{text_of}
+use Rattle.uring_check.specs.Findings.{Found, Finding, history_behind, verdict_of}
+use Rattle.uring_check.specs.Findings as finding
+use Rattle.uring_check.specs.declared.verdict.Verdict.{Verdict}
+use Rattle.uring_check.specs.declared.verdict.Verdict.TheVariants as verdict
+
+-- the answers that are called for
+abbrev pub wanted_text : Wanted → List ℕ
+wanted_text (Only a) = text_of a
+wanted_text (CallOrAgain length) = codes "call " ++ decimal length ++ codes " or again"
+wanted_text AnyEnd = codes "an end"
+wanted_text (EndOrNoMemory res) = codes "ended " ++ signed_decimal res ++ codes " or ended -12"
+
+-- of an issue and of a finish, the number of its request and why that stands as it does
+abbrev pub why_asked : Requests → Step → Option (ℕ × Why)
+why_asked r (step.Issue n) = Some (n, why_of r n)
+why_asked r (step.Finish n) = Some (n, why_of r n)
+why_asked r _ = None
+
+-- what is told of it
+abbrev pub why_told : Option (ℕ × Why) → List ℕ
+why_told None = []
+why_told (Some why) = codes "why: " ++ decimal why.0 ++ codes " " ++ ended (why_text why.1)
+
+-- the number of a line
+abbrev pub line_text : ℕ → List ℕ
+line_text number = codes "line " ++ decimal number ++ codes ": "
+
+-- What is told of the line with this number, by the world before it: of a wrong one the line, the answers that are called for, and why; and that a line is bad.
+abbrev pub told_of : World → ℕ → List ℕ → Finding → List ℕ
+told_of w number line (finding.Wrong s wanted) = line_text number ++ ended line ++ codes "wanted: " ++ ended (wanted_text wanted) ++ why_told (why_asked w.requests s)
+told_of w number line finding.Bad = line_text number ++ ended (codes "bad line")
+told_of w number line _ = []
+
+-- one step more for a right line
+abbrev pub counted_with : Finding → ℕ → ℕ
+counted_with (finding.Right s a) steps = min (steps + 1) (2 ^ 64 - 1)
+counted_with _ steps = steps
+
+-- of lines with their findings, the newest first, how many are right; 2^64 - 1 stands for every greater number too
+abbrev pub steps_of : List Found → ℕ
+steps_of [] = 0
+steps_of (x ∷ before) = counted_with x.finding (steps_of before)
+
+-- what is told of all of them
+abbrev pub told_of_all : Setup → List Found → List ℕ
+told_of_all g [] = []
+told_of_all g (x ∷ before) = told_of_all g before ++ told_of (world g (history_behind before)) (line_number (length before)) x.line x.finding
+
+-- the last line, where all is lawful: how many steps there were
+abbrev pub closing : Verdict → ℕ → List ℕ
+closing verdict.Lawful steps = codes "lawful: " ++ decimal steps ++ ended (codes " steps")
+closing v steps = []
+
+-- The report.
+abbrev pub report : Setup → List Found → List ℕ
+report g xs = told_of_all g xs ++ closing (verdict_of xs) (steps_of xs)

@@ -1,0 +1,36 @@
+//! The check of a recorded trace over two streams.
+
+ghost use Rattle.std.specs.Prelude.{◌≡◌};
+ghost use Rattle.uring_check.specs.Checks.{IsChecked};
+
+use crate::reading::{Reading, read_all};
+use crate::verdict::Verdict;
+use std::alloc::Global;
+use std::io::{Read, Write};
+use uring_machine::Setup;
+use uring_trace::{Calls, TraceFault, write_all};
+
+/// Reads all of `reader`, a recorded trace with a line `STEP = ANSWER` for each step, and writes to `writer` whether it is the text of a history that can happen on a new machine of this set-up: `lawful: N steps`, or the first line that isn't lawful with its number, from 1 on. Steps and answers are written as in a trace, and the form of the lines is our own rule.
+///
+/// `Lawful` is returned exactly if there is such a history; there is one at most. A line that is empty or begins with `#` is passed over. `Wrong`: `line K: STEP = ANSWER`, then `wanted: ` with the answers that are called for there, and of an issue or a finish `why: ` with how its request stands. With `is_all` the lines behind it are looked at too, as though the one answer that was called for had been given, or, if there is more than one, as though the step hadn't been made. `Bad`: `line K: bad line`, if the line is no step with ` = ` and a text behind it, or has more than 300 bytes; no line behind it is looked at.
+///
+/// An interrupted read or write is made again. Nothing is written before the end of the input.
+///
+/// - `Read`: a read failed, or 2^64 - 1 reads were made. Nothing is written.
+/// - `Write`: a write failed or took no byte, or 2^64 - 1 writes were made. The report is cut short.
+/// - `Memory`: memory was refused. Nothing is written.
+pub fn check<R: Read, W: Write>(
+    alloc: Global,
+    reader: &mut R,
+    writer: &mut W,
+    setup: &Setup,
+    is_all: bool,
+) -> Result<Verdict, TraceFault>
+    ensures { IsChecked setup.now is_all result (R.remaining reader.old) (R.remaining reader.new) (W.contents writer.old) (W.contents writer.new) }
+{
+    let mut reading = Reading::new(alloc, setup, is_all)?;
+    read_all(reader, &mut reading, &mut Calls::new())?;
+    let (verdict, report) = reading.end()?;
+    write_all(writer, report.as_slice(), &mut Calls::new())?;
+    Ok(verdict)
+}

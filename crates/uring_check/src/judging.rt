@@ -1,0 +1,195 @@
+//! Whether the text of an answer is that of one that is called for.
+
+ghost use Rattle.std.specs.Prelude.{◌≡◌, ◌∷◌, IfOk, OnOk};
+ghost use Rattle.std.specs.Bool.{Decides};
+ghost use Rattle.uring_entry.specs.Requests.{no_bytes};
+ghost use Rattle.uring_machine.specs.Histories.{History};
+ghost use Rattle.uring_machine.specs.Machine.{Fits};
+ghost use Rattle.uring_machine.specs.declared.answer.Answer.TheVariants as answer;
+ghost use Rattle.uring_trace.specs.Text.{text_of};
+ghost use Rattle.uring_check.specs.Reports.{wanted_text};
+ghost use Rattle.uring_check.specs.Checking.{Judges, JudgesTold, IsJudged, IsOneJudged, HasOneAnswer, IsWanted, IsEither};
+
+use crate::telling::push_wanted;
+use std::alloc::{AllocError, Global};
+use uring_entry::errno;
+use uring_machine::{Answer, Machine, Refusal, Step, Wanted};
+use uring_trace::push_answer;
+
+/// Makes a step with an answer of this text, if one is called for: `None`. Else it tells which answers are; if that is one alone, the machine goes on as though it had been given, and else as though the step hadn't been made. `AllocError`: memory was refused, to the step or to a text.
+fn judge(
+    alloc: Global,
+    machine: &mut Machine,
+    step: &Step,
+    text: &[u8],
+) -> Result<Option<Wanted>, AllocError>
+    ensures setup { machine.new.core.setup ≡ machine.old.core.setup }
+    ensures judges { IfOk result (Judges machine.old machine.new step.now text.now) }
+{
+    match step {
+        Step::Begin { .. } | Step::Finish { .. } => judge_open(alloc, machine, step, text),
+        _ => judge_sure(alloc, machine, step, text),
+    }
+}
+
+/// Judges a step, and gives the text of the answers that are called for if the text isn't that of one.
+pub(crate) fn judge_told(
+    alloc: Global,
+    machine: &mut Machine,
+    step: &Step,
+    text: &[u8],
+) -> Result<Option<Vec<u8>>, AllocError>
+    ensures setup { machine.new.core.setup ≡ machine.old.core.setup }
+    ensures judges { IfOk result (JudgesTold machine.old machine.new step.now text.now) }
+{
+    match judge(alloc, machine, step, text) {
+        Ok(None) => Ok(None),
+        Ok(Some(wanted)) => Ok(Some(wanted_bytes(alloc, &wanted)?)),
+        Err(error) => Err(error),
+    }
+}
+
+/// The text of the answers that are called for.
+fn wanted_bytes(alloc: Global, wanted: &Wanted) -> Result<Vec<u8>, AllocError>
+    ensures { IfOk result (λ told. told.items ≡ wanted_text wanted.now) }
+{
+    let mut text = String::new(alloc);
+    push_wanted(alloc, &mut text, wanted)?;
+    let mut bytes = Vec::new(alloc);
+    bytes.extend_from_slice(text.as_bytes())?;
+    Ok(bytes)
+}
+
+/// Judges a step to which one answer alone is called for, and makes it with that.
+fn judge_sure(
+    alloc: Global,
+    machine: &mut Machine,
+    step: &Step,
+    text: &[u8],
+) -> Result<Option<Wanted>, AllocError>
+    requires { HasOneAnswer step.now }
+    ensures setup { machine.new.core.setup ≡ machine.old.core.setup }
+    ensures judges { IfOk result (Judges machine.old machine.new step.now text.now) }
+{
+    let answer = machine.step(*step);
+    judge_one(alloc, answer, text)
+}
+
+/// Judges a Begin or a Finish, to which two answers may be called for. It follows an answer that neither is ever given, and so is told those that are.
+fn judge_open(
+    alloc: Global,
+    machine: &mut Machine,
+    step: &Step,
+    text: &[u8],
+) -> Result<Option<Wanted>, AllocError>
+    ensures setup { machine.new.core.setup ≡ machine.old.core.setup }
+    ensures judges { IfOk result (Judges machine.old machine.new step.now text.now) }
+{
+    match machine.follow(*step, Answer::Filled) {
+        Err(Refusal::Wrong(wanted)) => judge_wanted(alloc, machine, step, wanted, text),
+        _ => Err(AllocError),
+    }
+}
+
+/// Judges a step to which these answers are called for.
+#[tactic(auto, using(crate::proofs::WantedAnswers::either_call, crate::proofs::WantedAnswers::either_end))]
+fn judge_wanted(
+    alloc: Global,
+    machine: &mut Machine,
+    step: &Step,
+    wanted: Wanted,
+    text: &[u8],
+) -> Result<Option<Wanted>, AllocError>
+    ensures setup { machine.new.core.setup ≡ machine.old.core.setup }
+    ensures judges { IfOk result (λ found. (h : History) → IsWanted h machine.old step.now wanted → IsJudged machine.old.core.setup h machine.new step.now text.now found) }
+{
+    match wanted {
+        Wanted::Only(answer) => judge_one(alloc, answer, text),
+        Wanted::CallOrAgain(length) => judge_either(
+            alloc,
+            machine,
+            step,
+            wanted,
+            &Answer::Call(length),
+            &Answer::Again,
+            text,
+        ),
+        Wanted::EndOrNoMemory(res) => judge_either(
+            alloc,
+            machine,
+            step,
+            wanted,
+            &ended(res),
+            &ended(-errno::ENOMEM),
+            text,
+        ),
+        // A machine with files knows each end.
+        Wanted::AnyEnd => Err(AllocError),
+    }
+}
+
+/// Whether the one answer that is called for has this text.
+fn judge_one(alloc: Global, answer: Answer, text: &[u8]) -> Result<Option<Wanted>, AllocError>
+    ensures { IfOk result (λ found. IsOneJudged answer text.now found) }
+{
+    if is_text(alloc, &answer, text)? {
+        Ok(None)
+    } else {
+        Ok(Some(Wanted::Only(answer)))
+    }
+}
+
+/// Judges a step to which either of two answers is called for.
+fn judge_either(
+    alloc: Global,
+    machine: &mut Machine,
+    step: &Step,
+    wanted: Wanted,
+    one: &Answer,
+    other: &Answer,
+    text: &[u8],
+) -> Result<Option<Wanted>, AllocError>
+    requires { IsEither wanted one.now other.now }
+    ensures setup { machine.new.core.setup ≡ machine.old.core.setup }
+    ensures judges { IfOk result (λ found. (h : History) → IsWanted h machine.old step.now wanted → IsJudged machine.old.core.setup h machine.new step.now text.now found) }
+{
+    if is_text(alloc, one, text)? {
+        make(machine, step, one)?;
+        return Ok(None);
+    }
+    if is_text(alloc, other, text)? {
+        make(machine, step, other)?;
+        return Ok(None);
+    }
+    Ok(Some(wanted))
+}
+
+/// Makes a step with an answer that is called for.
+fn make(machine: &mut Machine, step: &Step, answer: &Answer) -> Result<(), AllocError>
+    ensures setup { machine.new.core.setup ≡ machine.old.core.setup }
+    ensures made { OnOk result ((h : History) → Fits machine.old h → Fits machine.new ((step.now, answer.now) ∷ h)) }
+{
+    match machine.follow(*step, *answer) {
+        Ok(()) => Ok(()),
+        Err(_) => Err(AllocError),
+    }
+}
+
+/// An end with this result and no bytes.
+fn ended(res: i32) -> Answer
+    ensures { result ≡ answer.Ended res no_bytes }
+{
+    Answer::Ended {
+        res,
+        bytes: [0; 64],
+    }
+}
+
+/// Whether this is the answer's text.
+fn is_text(alloc: Global, answer: &Answer, text: &[u8]) -> Result<bool, AllocError>
+    ensures { IfOk result (λ same. Decides same (text_of answer.now ≡ text.now)) }
+{
+    let mut told = String::new(alloc);
+    push_answer(alloc, &mut told, answer)?;
+    Ok(told.as_bytes() == text)
+}

@@ -1,0 +1,16 @@
+//! The check of a recorded trace: lines with a step and the text of its answer each, and whether they are the text of a lawful history.
+#![tactic(auto)]
+
+mod check_loop;
+mod checker;
+mod judging;
+pub mod laws;
+mod reading;
+mod record_line;
+mod telling;
+mod verdict;
+
+pub use check_loop::check;
+pub use uring_entry::Setup;
+pub use uring_trace::TraceFault;
+pub use verdict::Verdict;

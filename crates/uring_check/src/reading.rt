@@ -1,0 +1,111 @@
+//! The lines of bytes, given to a checker one by one.
+
+ghost use Rattle.std.specs.Prelude.{◌≡◌, ◌≢◌, ℕ, List, [], ◌∷◌, ◌++◌, Bool, Err, IfErr, IfOk, OnOk};
+ghost use Rattle.uring_entry.specs.Setup.{Setup};
+ghost use Rattle.uring_trace.specs.Streams.{AreOver};
+ghost use Rattle.uring_check.specs.Checking.{Has, ReadsIn};
+ghost use Rattle.uring_check.specs.Checks.{IsVerdict};
+
+use crate::checker::Checker;
+use crate::verdict::Verdict;
+use std::alloc::{AllocError, Global};
+use std::io::Read;
+use uring_machine::Setup;
+use uring_trace::{Calls, KeptLine, TraceFault, read_once};
+
+/// Most bytes that are read at once.
+const CHUNK: usize = 512;
+
+/// Takes in all that a reader has.
+pub(crate) fn read_all<R: Read>(
+    reader: &mut R,
+    reading: &mut Reading,
+    reads: &mut Calls,
+) -> Result<(), TraceFault>
+    ensures bytes { (g : Setup) (all : Bool) → Has g all reading.old [] → ReadsIn g all result (R.remaining reader.old) (R.remaining reader.new) reading.new }
+
+    // The reader is blamed only if it gave up.
+    ensures read { result ≡ Err TraceFault.Read → AreOver reads.new }
+{
+    let mut chunk = [0; CHUNK];
+    while !reads.are_over() {
+        match read_once(reader, &mut chunk, reads) {
+            Ok(0) => return Ok(()),
+            Ok(count) => reading.feed(&chunk[..count])?,
+            Err(_) => {}
+        }
+    }
+    Err(TraceFault::Read)
+}
+
+/// What is kept of the unfinished line, and a checker that has the lines before.
+#[derive(Drop)]
+pub(crate) struct Reading {
+    // The unfinished line.
+    line: KeptLine,
+    checker: Checker,
+}
+
+impl Reading {
+    /// No byte yet.
+    pub(crate) fn new(alloc: Global, setup: &Setup, is_all: bool) -> Result<Reading, AllocError>
+        ensures { IfOk result (λ r. Has setup.now is_all r []) }
+    {
+        Ok(Reading {
+            line: KeptLine::new(alloc)?,
+            checker: Checker::new(alloc, setup, is_all)?,
+        })
+    }
+
+    /// Takes in the next bytes.
+    fn feed(&mut self, bytes: &[u8]) -> Result<(), TraceFault>
+        ensures ok { OnOk result ((g : Setup) (all : Bool) (before : List ℕ) → Has g all self.old before → Has g all self.new (before ++ bytes.now)) }
+        ensures err { IfErr result (λ e. e ≡ TraceFault.Memory) }
+    {
+        for byte in bytes {
+            self.take(*byte)?;
+        }
+        Ok(())
+    }
+
+    /// Ends the input. A last line without an end counts if it has some byte.
+    pub(crate) fn end(mut self) -> Result<(Verdict, Vec<u8>), AllocError>
+        ensures { IfOk result (λ told. (g : Setup) (all : Bool) (bytes : List ℕ) → Has g all self bytes → IsVerdict g all bytes told.1.items told.0) }
+    {
+        if self.line.is_empty() {
+            return self.checker.end();
+        }
+        self.checker.take_line(&self.line)?;
+        self.checker.end()
+    }
+
+    /// Takes in one byte.
+    fn take(&mut self, byte: u8) -> Result<(), TraceFault>
+        ensures ok { OnOk result ((g : Setup) (all : Bool) (before : List ℕ) → Has g all self.old before → Has g all self.new (before ++ byte ∷ [])) }
+        ensures err { IfErr result (λ e. e ≡ TraceFault.Memory) }
+    {
+        if byte == b'\n' {
+            self.end_line()?;
+        } else {
+            self.keep(byte);
+        }
+        Ok(())
+    }
+
+    /// Takes in one byte of a line, which isn't its end.
+    fn keep(&mut self, byte: u8)
+        requires { byte ≢ 10 }
+        ensures { (g : Setup) (all : Bool) (before : List ℕ) → Has g all self.old before → Has g all self.new (before ++ byte ∷ []) }
+    {
+        self.line.push(byte);
+    }
+
+    /// Gives the line to the checker, and begins the next line.
+    fn end_line(&mut self) -> Result<(), AllocError>
+        ensures { OnOk result ((g : Setup) (all : Bool) (before : List ℕ) → Has g all self.old before → Has g all self.new (before ++ 10 ∷ [])) }
+    {
+        self.checker.take_line(&self.line)?;
+        self.line.clear();
+        Ok(())
+    }
+}

@@ -1,0 +1,116 @@
+//! What a check writes of traces that are written by hand, and what it returns.
+
+use std::alloc::Global;
+use std::test::Fail;
+use uring_check::{Setup, Verdict, check};
+
+/// Whether a check of this trace, over a submission ring of 4 entries and two files, comes to this verdict and report.
+fn is_told(
+    alloc: Global,
+    is_all: bool,
+    trace: &str,
+    verdict: Verdict,
+    report: &str,
+) -> Result<bool, Fail> {
+    let setup = Setup::new(4, Some(4), 2, 0)?;
+    let mut writer = Vec::new(alloc);
+    let mut reader = trace.as_bytes();
+    let result = check(alloc, &mut reader, &mut writer, &setup, is_all);
+    Ok(result == Ok(verdict) && writer.as_slice() == report.as_bytes())
+}
+
+/// Whether a check of this trace, with or without all wrong lines, comes to this report of a lawful one.
+fn is_lawful(alloc: Global, trace: &str, report: &str) -> Result<bool, Fail> {
+    let first = is_told(alloc, false, trace, Verdict::Lawful, report)?;
+    let all = is_told(alloc, true, trace, Verdict::Lawful, report)?;
+    Ok(first && all)
+}
+
+/// A no-op from its entry to its completion, behind a remark and an empty line. The last line has no end.
+const NO_OP: &str =
+    "# a no-op\n\nfill 0 nop 7 - = ok\nindex 0 = ok\ntail = tail 1\nbegin 1 = call 1\ntake = entry 7\nend = taken 1 dropped 0 head 1\nissue 0 = run\nfinish 0 = ended 0\ncqtail = tail 1\nreap = cqe 7 0 -\nreap = none\ncqhead = head 1";
+
+#[test]
+fn a_no_op_is_lawful(rt: HostRuntime) -> Result<(), Fail> {
+    assert!(rt; is_lawful(rt.alloc(), NO_OP, "lawful: 12 steps\n")?);
+    Ok(())
+}
+
+#[test]
+fn no_line_is_lawful(rt: HostRuntime) -> Result<(), Fail> {
+    assert!(rt; is_lawful(rt.alloc(), "", "lawful: 0 steps\n")?);
+    assert!(rt; is_lawful(rt.alloc(), "\n", "lawful: 0 steps\n")?);
+    assert!(rt; is_lawful(rt.alloc(), "# end", "lawful: 0 steps\n")?);
+    Ok(())
+}
+
+/// The end of the no-op is wrong in line 8, and so is the head in line 12; line 11 is empty.
+const CHANGED: &str =
+    "fill 0 nop 7 - = ok\nindex 0 = ok\ntail = tail 1\nbegin 1 = call 1\ntake = entry 7\nend = taken 1 dropped 0 head 1\nissue 0 = run\nfinish 0 = ended 1\ncqtail = tail 1\nreap = cqe 7 0 -\n\ncqhead = head 2\nnext = none\n";
+
+const FIRST_CHANGE: &str = "line 8: finish 0 = ended 1\nwanted: ended 0\nwhy: 0 runs\n";
+
+const ALL_CHANGES: &str =
+    "line 8: finish 0 = ended 1\nwanted: ended 0\nwhy: 0 runs\nline 12: cqhead = head 2\nwanted: head 1\n";
+
+#[test]
+fn a_changed_answer_is_told(rt: HostRuntime) -> Result<(), Fail> {
+    assert!(rt; is_told(rt.alloc(), false, CHANGED, Verdict::Wrong, FIRST_CHANGE)?);
+    assert!(rt; is_told(rt.alloc(), true, CHANGED, Verdict::Wrong, ALL_CHANGES)?);
+    Ok(())
+}
+
+/// A wrong line, and a bad one behind it.
+const WRONG_AND_BAD: &str = "next = none\ntail = hello\nhead\nhead = head 5\n";
+
+/// A bad line, and a wrong one behind it.
+const BAD_AND_WRONG: &str = "next = none\nhead  = head 0\nhead = head 5\n";
+
+#[test]
+fn a_bad_line_ends_a_check(rt: HostRuntime) -> Result<(), Fail> {
+    let first = "line 2: tail = hello\nwanted: tail 0\n";
+    let both = "line 2: tail = hello\nwanted: tail 0\nline 3: bad line\n";
+    assert!(rt; is_told(rt.alloc(), false, WRONG_AND_BAD, Verdict::Wrong, first)?);
+    assert!(rt; is_told(rt.alloc(), true, WRONG_AND_BAD, Verdict::Wrong, both)?);
+    let bad = "line 2: bad line\n";
+    assert!(rt; is_told(rt.alloc(), false, BAD_AND_WRONG, Verdict::Bad, bad)?);
+    assert!(rt; is_told(rt.alloc(), true, BAD_AND_WRONG, Verdict::Bad, bad)?);
+    Ok(())
+}
+
+/// A call that opens at the second `begin`: memory was refused to the first one.
+const AGAIN: &str =
+    "fill 0 nop 7 - = ok\nindex 0 = ok\ntail = tail 1\nbegin 1 = again\nbegin 1 = call 1\nbegin 1 = in call\n";
+
+/// A call that is longer than what is published counts as not begun, so that the next two may happen.
+const TOO_LONG: &str =
+    "fill 0 nop 7 - = ok\nindex 0 = ok\ntail = tail 1\nbegin 2 = call 2\nbegin 2 = again\nbegin 2 = call 1\n";
+
+/// Memory refused to a call of no position, which needs none. The call counts as open.
+const AGAIN_FOR_NONE: &str = "begin 1 = again\nbegin 0 = in call\n";
+
+#[test]
+fn memory_may_be_refused_to_a_call(rt: HostRuntime) -> Result<(), Fail> {
+    assert!(rt; is_lawful(rt.alloc(), AGAIN, "lawful: 6 steps\n")?);
+    let too_long = "line 4: begin 2 = call 2\nwanted: call 1 or again\n";
+    assert!(rt; is_told(rt.alloc(), true, TOO_LONG, Verdict::Wrong, too_long)?);
+    let for_none = "line 1: begin 1 = again\nwanted: call 0\n";
+    assert!(rt; is_told(rt.alloc(), true, AGAIN_FOR_NONE, Verdict::Wrong, for_none)?);
+    Ok(())
+}
+
+/// A write of two bytes to an empty file, for which memory was refused.
+const REFUSED_WRITE: &str =
+    "fill 0 write 1 - 0 0 6162 = ok\nindex 0 = ok\ntail = tail 1\nbegin 1 = call 1\ntake = entry 1\nend = taken 1 dropped 0 head 1\nissue 0 = run\nfinish 0 = ended -12\nfinish 0 = not running\n";
+
+/// The end gives one byte too few, and counts as not made; the next one is right.
+const SHORT_WRITE: &str =
+    "fill 0 write 1 - 0 0 6162 = ok\nindex 0 = ok\ntail = tail 1\nbegin 1 = call 1\ntake = entry 1\nend = taken 1 dropped 0 head 1\nissue 0 = run\nfinish 0 = ended 1\nfinish 0 = ended 2\n";
+
+#[test]
+fn memory_may_be_refused_to_a_write(rt: HostRuntime) -> Result<(), Fail> {
+    assert!(rt; is_lawful(rt.alloc(), REFUSED_WRITE, "lawful: 9 steps\n")?);
+    let told = "line 8: finish 0 = ended 1\nwanted: ended 2 or ended -12\nwhy: 0 runs\n";
+    assert!(rt; is_told(rt.alloc(), true, SHORT_WRITE, Verdict::Wrong, told)?);
+    Ok(())
+}

@@ -1,0 +1,222 @@
+-- What cancels make of the lists: the end of a request as it is issued, with those that it dooms, and the search for all targets of a cancel.
+use Rattle.std.proofs.Common.{◌≡◌, ℕ, suc, ◌+◌, ◌<◌, ◌≤◌, ℤ, pos, negsuc, List, [], ◌∷◌, ◌++◌, length, length-append, Bool, true, false, not, ◌&&◌, ◌||◌, ◌==◌, Option, Some, None, is_some, cond, refl, sym, ◌∙◌, ap, subst, arith, inl, inr}
+use Rattle.std.specs.Prelude.{if◌then◌else◌, min, ◌-◌, ◌^◌}
+use Rattle.std.specs.List.{list_any}
+use Rattle.std.specs.Option.{option_to_list}
+use Rattle.std.proofs.lemmas.List.{append-nil, append_assoc}
+use Rattle.std.proofs.lemmas.List.Folds.{list_any-append}
+use Rattle.std.proofs.lemmas.Bool.{cases_eq, and_left, and_parts, le-leb}
+use Rattle.uring_entry.specs.Layout.{Sqe, addr_of, user_data_of}
+use Rattle.uring_entry.specs.Preparation.{is_cancel, is_cancel_all}
+use Rattle.uring_entry.specs.Success.{is_success}
+use Rattle.uring_entry.specs.Below.{all_below}
+use Rattle.uring_entry.specs.Requests.{Requests, entry_of, is_joined, some_member, is_in_faulty_group, is_behind_failure, is_cancelled, is_doomed, is_running, is_outstanding, is_target, target_of, targets_of, choices_of, count_result, chosen_by, no_bytes, with_cancelled, with_ended, with_issued_end}
+use Rattle.uring_entry.proofs.BelowLemmas.{all_below-past, all_below-none}
+use Rattle.uring_entry.proofs.RequestLemmas.{one_success, all_success, never_success}
+use Rattle.uring_dispatch.specs.declared.request.Request.{Request}
+use Rattle.uring_dispatch.specs.Window.{Window, at, runs, Changes, chosen, IsAsBefore, HasSameRequests}
+use Rattle.uring_dispatch.specs.Groups.{Groups}
+use Rattle.uring_dispatch.specs.Held.{AreHeld, IsSound}
+use Rattle.uring_dispatch.specs.Waiting.{IsListed, HasMemory}
+use Rattle.uring_dispatch.specs.declared.waiting.Waiting.{Waiting}
+use Rattle.uring_dispatch.proofs.HeldLemmas.{running-none, running-some, candidate-none}
+
+-- A request ends as it is issued.
+
+-- one that dooms these
+pub ends-choosing : (v : Window) (h : Groups) (r : Requests) (n : ℕ) (res : ℤ) (these : List ℕ) → chosen_by r n res ≡ these → AreHeld v h (with_ended (with_cancelled r these) n res no_bytes) → AreHeld v h (with_issued_end r n res)
+ends-choosing v h r n res these are held = subst (λ xs. AreHeld v h (with_ended (with_cancelled r xs) n res no_bytes)) (sym are) held
+
+none-cancelled : (r : Requests) → with_cancelled r [] ≡ r
+none-cancelled r = ap (λ all. record r { cancelled = all }) (append-nil r.cancelled)
+
+-- one that fails dooms nobody
+pub ends-failing : (v : Window) (h : Groups) (r : Requests) (n below : ℕ) → AreHeld v h (with_ended r n (negsuc below) no_bytes) → AreHeld v h (with_issued_end r n (negsuc below))
+ends-failing v h r n below held =
+    ends-choosing v h r n (negsuc below) []
+    (ap (λ b. if is_cancel (entry_of r n) && b then choices_of r n else []) (never_success (entry_of r n) below)
+    ∙ and-none (is_cancel (entry_of r n)) (choices_of r n))
+    (subst (λ q. AreHeld v h (with_ended q n (negsuc below) no_bytes)) (sym (none-cancelled r)) held)
+  where
+    and-none : (b : Bool) (these : List ℕ) → (if b && false then these else []) ≡ []
+    and-none true these = refl
+    and-none false these = refl
+
+-- a cancel of one that ends with 0 dooms what it chose
+pub one_chosen : (r : Requests) (n m : ℕ) → is_cancel (entry_of r n) ≡ true → is_cancel_all (entry_of r n) ≡ false → target_of r n ≡ Some m → chosen_by r n (pos 0) ≡ m ∷ []
+one_chosen r n m is one chose =
+    ap (λ b. if b && is_success (entry_of r n) (pos 0) then choices_of r n else []) is
+    ∙ ap (λ b. if b then choices_of r n else []) (one_success (entry_of r n) (pos 0) is one)
+    ∙ ap (λ b. if b then targets_of r n else option_to_list (target_of r n)) one
+    ∙ ap option_to_list chose
+
+-- a cancel of all that ends with a number dooms its targets
+pub all_chosen : (r : Requests) (n count : ℕ) → is_cancel_all (entry_of r n) ≡ true → chosen_by r n (pos count) ≡ targets_of r n
+all_chosen r n count all =
+    let is = (and_parts _ _ all).0 in
+    ap (λ b. if b && is_success (entry_of r n) (pos count) then choices_of r n else []) is
+    ∙ ap (λ b. if b then choices_of r n else []) (all_success (entry_of r n) (pos count) all ∙ le-leb 0 count (omega arith))
+    ∙ ap (λ b. if b then targets_of r n else option_to_list (target_of r n)) all
+
+pub all_succeeds : (e : Sqe) (count : ℕ) → is_cancel_all e ≡ true → true ≡ is_success e (pos count)
+all_succeeds e count all = sym (all_success e (pos count) all ∙ le-leb 0 count (omega arith))
+
+pub one_succeeds : (e : Sqe) → is_cancel e ≡ true → is_cancel_all e ≡ false → true ≡ is_success e (pos 0)
+one_succeeds e is one = sym (one_success e (pos 0) is one)
+
+-- the end of a cancel of all
+pub ends-all : (v : Window) (h : Groups) (r : Requests) (n count : ℕ) (res : ℤ) → is_cancel_all (entry_of r n) ≡ true → res ≡ count_result count → AreHeld v h (with_ended (with_cancelled r (targets_of r n)) n (count_result count) no_bytes) → AreHeld v h (with_issued_end r n res)
+ends-all v h r n count res all is held =
+    subst (λ x. AreHeld v h (with_issued_end r n x)) (sym is)
+    (ends-choosing v h r n (count_result count) (targets_of r n) (all_chosen r n (min count (2 ^ 31 - 1)) all) held)
+
+-- A cancel chooses one.
+
+still-there : (w v : Window) (m k : ℕ) (p : Request) → at w m ≡ Some p → Changes w v m (Some (chosen p)) → is_some (at v k) ≡ is_some (at w k)
+still-there w v m k p there c =
+    elim (cases_eq k m) [
+      | inl same ↦ ap (λ j. is_some (at v j)) same ∙ ap is_some c.here ∙ sym (ap is_some there) ∙ ap (λ j. is_some (at w j)) (sym same)
+      | inr other ↦ ap is_some (c.others k other)
+    ]
+
+runs-still : (w v : Window) (m k : ℕ) (p : Request) → at w m ≡ Some p → Changes w v m (Some (chosen p)) → runs (at v k) ≡ runs (at w k)
+runs-still w v m k p there c =
+    elim (cases_eq k m) [
+      | inl same ↦ ap (λ j. runs (at v j)) same ∙ ap runs c.here ∙ sym (ap runs there) ∙ ap (λ j. runs (at w j)) (sym same)
+      | inr other ↦ ap runs (c.others k other)
+    ]
+
+pub choose-same : (w v : Window) (m : ℕ) (p : Request) → at w m ≡ Some p → Changes w v m (Some (chosen p)) → IsAsBefore w v → v.running ≡ w.running → HasSameRequests w v
+choose-same w v m p there c as_before running = record {
+  as_before = as_before;
+  running = running;
+  there = λ k. still-there w v m k p there c;
+  runs_on = λ k. runs-still w v m k p there c;
+}
+
+pub same-none : (w : Window) → HasSameRequests w w
+same-none w = record { as_before = record { end = refl; outstanding = refl; room = refl }; running = refl; there = λ k. refl; runs_on = λ k. refl }
+
+pub same-both : (u v w : Window) → HasSameRequests u v → HasSameRequests v w → HasSameRequests u w
+same-both u v w a b = record {
+  as_before = record { end = b.as_before.end ∙ a.as_before.end; outstanding = b.as_before.outstanding ∙ a.as_before.outstanding; room = b.as_before.room ∙ a.as_before.room };
+  running = b.running ∙ a.running;
+  there = λ k. b.there k ∙ a.there k;
+  runs_on = λ k. b.runs_on k ∙ a.runs_on k;
+}
+
+pub memory-both : (s t u : Waiting) → HasMemory s t → HasMemory t u → HasMemory s u
+memory-both s t u a b =
+    let x = a.heads in
+    let y = a.doomed in
+    let z = b.heads in
+    let v = b.doomed in
+    record { heads = omega arith; doomed = omega arith }
+
+-- Targets.
+
+pub runs-held : (w : Window) (g : Groups) (r : Requests) (m : ℕ) → AreHeld w g r → is_running r m ≡ runs (at w m)
+runs-held w g r m h = go (at w m) refl
+  where
+    go : (o : Option Request) → at w m ≡ o → is_running r m ≡ runs o
+    go None e = running-none w g r m h e
+    go (Some q) e = running-some w g r m q h e
+
+or-false : (b : Bool) → (b || false) ≡ b
+or-false true = refl
+or-false false = refl
+
+-- who isn't among those chosen stays as it was
+doomed-still : (r : Requests) (these : List ℕ) (m : ℕ) → list_any (λ k. k == m) these ≡ false → is_doomed (with_cancelled r these) m ≡ is_doomed r m
+unfolding is_doomed is_behind_failure some_member is_joined
+doomed-still r these m out =
+    ap (λ b. (is_in_faulty_group r m || is_behind_failure r m) || b)
+    (list_any-append (λ k. k == m) r.cancelled these ∙ ap (λ b. is_cancelled r m || b) out ∙ or-false (is_cancelled r m))
+
+-- whether the next is a target doesn't depend on the targets before it
+pub target-next : (r : Requests) (n m : ℕ) → is_target (with_cancelled r (all_below (is_target r n) m)) n m ≡ is_target r n m
+target-next r n m =
+    let these = all_below (is_target r n) m in
+    ap (λ b. ((is_outstanding r m && not (m == n) && (user_data_of (entry_of r m) == addr_of (entry_of r n))) && not b) && not (is_running r m)) (doomed-still r these m (all_below-past (is_target r n) m m (omega arith)))
+
+-- The search for targets.
+
+-- the targets of the cancel n before the number m are chosen, so many
+pub record AreChosen (w v : Window) (g : Groups) (s t : Waiting) (n user_data m count : ℕ) : Type 0 where
+  pub sound : IsSound v g
+  pub listed : IsListed v g t
+  pub memory : HasMemory s t
+  pub same : HasSameRequests w v
+  pub few : count ≤ m
+  pub count_is : (r : Requests) → AreHeld w g r → user_data ≡ addr_of (entry_of r n) → count ≡ length (all_below (is_target r n) m)
+  pub held : (r : Requests) → AreHeld w g r → user_data ≡ addr_of (entry_of r n) → AreHeld v g (with_cancelled r (all_below (is_target r n) m))
+
+pub chosen-none : (w : Window) (g : Groups) (s : Waiting) (n user_data m : ℕ) → IsSound w g → IsListed w g s → ((k : ℕ) → k < m → at w k ≡ None) → AreChosen w w g s s n user_data m 0
+chosen-none w g s n user_data m sound listed none =
+    let nobody : (r : Requests) → AreHeld w g r → all_below (is_target r n) m ≡ [] =
+    λ r h. all_below-none (is_target r n) m (λ k lt. and_left _ _ (candidate-none w g r n k h (none k lt)))
+    in
+    record {
+      sound = sound;
+      listed = listed;
+      memory = record { heads = omega arith; doomed = omega arith };
+      same = same-none w;
+      few = omega arith;
+      count_is = λ r h named. sym (ap (λ (xs : List ℕ). length xs) (nobody r h));
+      held = λ r h named. subst (λ xs. AreHeld w g (with_cancelled r xs)) (sym (nobody r h)) (subst (λ q. AreHeld w g q) (sym (none-cancelled r)) h);
+    }
+
+one-more : (p : ℕ → Bool) (m : ℕ) → p m ≡ true → all_below p (m + 1) ≡ all_below p m ++ m ∷ []
+one-more p m e = let next : m + 1 ≡ suc m = omega arith in ap (all_below p) next ∙ ap (λ b. all_below p m ++ cond b (m ∷ []) []) e
+
+none-more : (p : ℕ → Bool) (m : ℕ) → p m ≡ false → all_below p (m + 1) ≡ all_below p m
+none-more p m e = let next : m + 1 ≡ suc m = omega arith in ap (all_below p) next ∙ ap (λ b. all_below p m ++ cond b (m ∷ []) []) e ∙ append-nil (all_below p m)
+
+-- what the test of the next number answers
+target-tested : (w v : Window) (g : Groups) (s t : Waiting) (n user_data m count : ℕ) (tested : Bool) → AreChosen w v g s t n user_data m count → ((r : Requests) → AreHeld v g r → user_data ≡ addr_of (entry_of r n) → tested ≡ is_target r n m) → (r : Requests) → AreHeld w g r → user_data ≡ addr_of (entry_of r n) → is_target r n m ≡ tested
+target-tested w v g s t n user_data m count tested c test r h named =
+    sym (test (with_cancelled r (all_below (is_target r n) m)) (c.held r h named) named ∙ target-next r n m)
+
+-- the next number is a target, and was chosen
+pub chosen-more : (w v x : Window) (g : Groups) (s t u : Waiting) (n user_data m count : ℕ) → AreChosen w v g s t n user_data m count → ((r : Requests) → AreHeld v g r → user_data ≡ addr_of (entry_of r n) → true ≡ is_target r n m) → IsSound x g → IsListed x g u → HasMemory t u → HasSameRequests v x → ((r : Requests) → AreHeld v g r → AreHeld x g (with_cancelled r (m ∷ []))) → AreChosen w x g s u n user_data (m + 1) (count + 1)
+chosen-more w v x g s t u n user_data m count c test sound listed memory same held =
+    let few = c.few in
+    let more : (r : Requests) → AreHeld w g r → user_data ≡ addr_of (entry_of r n) → all_below (is_target r n) (m + 1) ≡ all_below (is_target r n) m ++ m ∷ [] =
+    λ r h named. one-more (is_target r n) m (target-tested w v g s t n user_data m count true c test r h named)
+    in
+    record {
+      sound = sound;
+      listed = listed;
+      memory = memory-both s t u c.memory memory;
+      same = same-both w v x c.same same;
+      few = omega arith;
+      count_is = λ r h named.
+          ap (λ k. k + 1) (c.count_is r h named) ∙ sym (length-append (all_below (is_target r n) m) (m ∷ []))
+          ∙ ap (λ (xs : List ℕ). length xs) (sym (more r h named));
+      held = λ r h named.
+          subst (λ xs. AreHeld x g (with_cancelled r xs)) (sym (more r h named))
+          (subst (λ xs. AreHeld x g (record r { cancelled = xs })) (append_assoc r.cancelled (all_below (is_target r n) m) (m ∷ []))
+          (held (with_cancelled r (all_below (is_target r n) m)) (c.held r h named)));
+    }
+
+-- the next number is none
+pub chosen-past : (w v : Window) (g : Groups) (s t : Waiting) (n user_data m count : ℕ) → AreChosen w v g s t n user_data m count → ((r : Requests) → AreHeld v g r → user_data ≡ addr_of (entry_of r n) → false ≡ is_target r n m) → AreChosen w v g s t n user_data (m + 1) count
+chosen-past w v g s t n user_data m count c test =
+    let few = c.few in
+    let same_ones : (r : Requests) → AreHeld w g r → user_data ≡ addr_of (entry_of r n) → all_below (is_target r n) (m + 1) ≡ all_below (is_target r n) m =
+    λ r h named. none-more (is_target r n) m (target-tested w v g s t n user_data m count false c test r h named)
+    in
+    record {
+      sound = c.sound;
+      listed = c.listed;
+      memory = c.memory;
+      same = c.same;
+      few = omega arith;
+      count_is = λ r h named. c.count_is r h named ∙ ap (λ (xs : List ℕ). length xs) (sym (same_ones r h named));
+      held = λ r h named. subst (λ xs. AreHeld v g (with_cancelled r xs)) (sym (same_ones r h named)) (c.held r h named);
+    }
+
+-- all numbers were tested
+pub chosen-all : (r : Requests) (n m : ℕ) → m ≡ length r.accepted → all_below (is_target r n) m ≡ targets_of r n
+unfolding targets_of
+chosen-all r n m all = ap (all_below (is_target r n)) all

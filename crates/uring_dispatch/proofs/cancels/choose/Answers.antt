@@ -1,0 +1,30 @@
+use Rattle.std.proofs.Common.{refl}
+use Rattle.uring_dispatch.specs.Window.{at, chosen}
+use Rattle.uring_dispatch.proofs.HeldLemmas.{is_some_value}
+use Rattle.uring_dispatch.proofs.WaitingLemmas.{tell-outstanding, write-listed}
+use Rattle.uring_dispatch.proofs.Changes.{write-sound, choose-held}
+use Rattle.uring_dispatch.proofs.Choosing.{choose-same}
+use Rattle.uring_dispatch.proofs.cancels.choose.Goals as goal
+
+pub relist-requires : goal.relist-requires
+relist-requires c = tell-outstanding _ _ _ c.args.m c.requires.listed c.requires.there
+
+pub returns-clause-sound : goal.returns-clause-sound
+returns-clause-sound c =
+    let found = is_some_value (at c.args.window.now c.args.m) c.requires.there in
+    write-sound _ _ _ c.args.m found.0 (chosen found.0) c.requires.sound found.1 (c.choose.ensures.changes found.0 found.1) refl c.choose.ensures.same.end
+
+pub returns-clause-listed : goal.returns-clause-listed
+returns-clause-listed c =
+    let found = is_some_value (at c.args.window.now c.args.m) c.requires.there in
+    write-listed _ _ _ _ _ c.args.m (chosen found.0) c.requires.listed c.requires.there (c.choose.ensures.changes found.0 found.1) c.choose.ensures.same.end c.relist.ensures.keeps c.relist.ensures.here
+
+pub returns-clause-same : goal.returns-clause-same
+returns-clause-same c =
+    let found = is_some_value (at c.args.window.now c.args.m) c.requires.there in
+    choose-same _ _ c.args.m found.0 found.1 (c.choose.ensures.changes found.0 found.1) c.choose.ensures.same c.choose.ensures.running
+
+pub returns-clause-held : goal.returns-clause-held
+returns-clause-held c = λ r h.
+    let found = is_some_value (at c.args.window.now c.args.m) c.requires.there in
+    choose-held _ _ _ r c.args.m found.0 h found.1 (c.choose.ensures.changes found.0 found.1) c.choose.ensures.same c.choose.ensures.running

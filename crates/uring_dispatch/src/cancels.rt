@@ -1,0 +1,158 @@
+//! What a cancel makes of the outstanding requests. io_uring_enter(2), IORING_OP_ASYNC_CANCEL, and io_uring_prep_cancel(3), IORING_ASYNC_CANCEL_ALL.
+
+ghost use Rattle.std.specs.Prelude.{◌≡◌, [], ◌∷◌, length, true, false, None, is_some};
+ghost use Rattle.uring_entry.specs.Requests.{Requests, entry_of, with_cancelled, with_issued_end, targets_of};
+ghost use Rattle.uring_entry.specs.Requests as spec;
+ghost use Rattle.uring_entry.specs.Preparation.{is_cancel, is_cancel_all};
+ghost use Rattle.uring_entry.specs.Layout.{addr_of};
+ghost use Rattle.uring_dispatch.specs.Window.{at, runs, HasSameRequests};
+ghost use Rattle.uring_dispatch.specs.Held.{AreHeld, IsSound, HasLost};
+ghost use Rattle.uring_dispatch.specs.Waiting.{IsListed, HasMemory};
+
+use crate::events::end;
+use crate::groups::Groups;
+use crate::standing::{is_target, target};
+use crate::waiting::Waiting;
+use crate::window::Window;
+use uring_entry::errno;
+
+/// Carries out the cancel `n` of these user data, which is one of all or not, and gives its result.
+pub(crate) fn cancel(
+    window: &mut Window,
+    groups: &mut Groups,
+    waiting: &mut Waiting,
+    n: u64,
+    user_data: u64,
+    all: bool,
+) -> i32
+    requires sound { IsSound window.old groups.old }
+    requires closed { groups.old.last ≡ None }
+    requires listed { IsListed window.old groups.old waiting.old }
+    requires there { is_some (at window.old n) ≡ true }
+    requires waits { runs (at window.old n) ≡ false }
+    ensures sound { IsSound window.new groups.new }
+    ensures closed { groups.new.last ≡ None }
+    ensures groups_room { groups.new.room ≡ groups.old.room }
+    ensures listed { IsListed window.new groups.new waiting.new }
+    ensures waiting_room { HasMemory waiting.old waiting.new }
+    ensures answer { (r : Requests) → AreHeld window.old groups.old r → user_data ≡ addr_of (entry_of r n) → all ≡ is_cancel_all (entry_of r n) → result ≡ spec.cancel_result r n }
+    ensures held { (r : Requests) → AreHeld window.old groups.old r → user_data ≡ addr_of (entry_of r n) → is_cancel (entry_of r n) ≡ true → all ≡ is_cancel_all (entry_of r n) → AreHeld window.new groups.new (with_issued_end r n result) }
+    ensures counts { HasLost window.old window.new 0 }
+{
+    if all {
+        cancel_all(window, groups, waiting, n, user_data)
+    } else {
+        cancel_one(window, groups, waiting, n, user_data)
+    }
+}
+
+/// Carries out the cancel `n` of one request with these user data, and gives its result: ENOENT if there is no request to choose, EALREADY if the one chosen is running, else 0.
+fn cancel_one(
+    window: &mut Window,
+    groups: &mut Groups,
+    waiting: &mut Waiting,
+    n: u64,
+    user_data: u64,
+) -> i32
+    requires sound { IsSound window.old groups.old }
+    requires closed { groups.old.last ≡ None }
+    requires listed { IsListed window.old groups.old waiting.old }
+    requires there { is_some (at window.old n) ≡ true }
+    requires waits { runs (at window.old n) ≡ false }
+    ensures sound { IsSound window.new groups.new }
+    ensures closed { groups.new.last ≡ None }
+    ensures groups_room { groups.new.room ≡ groups.old.room }
+    ensures listed { IsListed window.new groups.new waiting.new }
+    ensures waiting_room { HasMemory waiting.old waiting.new }
+    ensures answer { (r : Requests) → AreHeld window.old groups.old r → user_data ≡ addr_of (entry_of r n) → is_cancel_all (entry_of r n) ≡ false → result ≡ spec.cancel_result r n }
+    ensures held { (r : Requests) → AreHeld window.old groups.old r → user_data ≡ addr_of (entry_of r n) → is_cancel (entry_of r n) ≡ true → is_cancel_all (entry_of r n) ≡ false → AreHeld window.new groups.new (with_issued_end r n result) }
+    ensures counts { HasLost window.old window.new 0 }
+{
+    let Some(m) = target(window, groups, n, user_data) else {
+        end(window, groups, waiting, n, false);
+        return -errno::ENOENT;
+    };
+    if window.is_running(m) {
+        end(window, groups, waiting, n, false);
+        return -errno::EALREADY;
+    }
+    choose(window, groups, waiting, m);
+    end(window, groups, waiting, n, true);
+    0
+}
+
+/// Carries out the cancel `n` of all requests with these user data, and gives its result: how many it chose, and no more than 2^31 - 1.
+fn cancel_all(
+    window: &mut Window,
+    groups: &mut Groups,
+    waiting: &mut Waiting,
+    n: u64,
+    user_data: u64,
+) -> i32
+    requires sound { IsSound window.old groups.old }
+    requires closed { groups.old.last ≡ None }
+    requires listed { IsListed window.old groups.old waiting.old }
+    requires there { is_some (at window.old n) ≡ true }
+    requires waits { runs (at window.old n) ≡ false }
+    ensures sound { IsSound window.new groups.new }
+    ensures closed { groups.new.last ≡ None }
+    ensures groups_room { groups.new.room ≡ groups.old.room }
+    ensures listed { IsListed window.new groups.new waiting.new }
+    ensures waiting_room { HasMemory waiting.old waiting.new }
+    ensures answer { (r : Requests) → AreHeld window.old groups.old r → user_data ≡ addr_of (entry_of r n) → is_cancel_all (entry_of r n) ≡ true → result ≡ spec.cancel_result r n }
+    ensures held { (r : Requests) → AreHeld window.old groups.old r → user_data ≡ addr_of (entry_of r n) → is_cancel_all (entry_of r n) ≡ true → AreHeld window.new groups.new (with_issued_end r n result) }
+    ensures counts { HasLost window.old window.new 0 }
+{
+    let count = choose_targets(window, groups, waiting, n, user_data);
+    end(window, groups, waiting, n, true);
+    count_result(count)
+}
+
+/// Notes that the cancel `n` of all requests with these user data chose each of its targets, and gives their number.
+fn choose_targets(
+    window: &mut Window,
+    groups: &Groups,
+    waiting: &mut Waiting,
+    n: u64,
+    user_data: u64,
+) -> u64
+    requires sound { IsSound window.old groups.now }
+    requires listed { IsListed window.old groups.now waiting.old }
+    ensures sound { IsSound window.new groups.now }
+    ensures listed { IsListed window.new groups.now waiting.new }
+    ensures waiting_room { HasMemory waiting.old waiting.new }
+    ensures same { HasSameRequests window.old window.new }
+    ensures count { (r : Requests) → AreHeld window.old groups.now r → user_data ≡ addr_of (entry_of r n) → result ≡ length (targets_of r n) }
+    ensures held { (r : Requests) → AreHeld window.old groups.now r → user_data ≡ addr_of (entry_of r n) → AreHeld window.new groups.now (with_cancelled r (targets_of r n)) }
+{
+    let mut count = 0;
+    for m in window.first()..window.end() {
+        if is_target(window, groups, n, m, user_data) {
+            choose(window, groups, waiting, m);
+            count += 1;
+        }
+    }
+    count
+}
+
+/// The result of a cancel of all that chose so many requests.
+fn count_result(count: u64) -> i32
+    ensures { result ≡ spec.count_result count }
+{
+    count.min(i32::MAX as u64) as i32
+}
+
+/// Notes that a cancel chose request `m`, and tells anew how it stands.
+fn choose(window: &mut Window, groups: &Groups, waiting: &mut Waiting, m: u64)
+    requires sound { IsSound window.old groups.now }
+    requires listed { IsListed window.old groups.now waiting.old }
+    requires there { is_some (at window.old m) ≡ true }
+    ensures sound { IsSound window.new groups.now }
+    ensures listed { IsListed window.new groups.now waiting.new }
+    ensures waiting_room { HasMemory waiting.old waiting.new }
+    ensures same { HasSameRequests window.old window.new }
+    ensures held { (r : Requests) → AreHeld window.old groups.now r → AreHeld window.new groups.now (with_cancelled r (m ∷ [])) }
+{
+    window.choose(m);
+    waiting.relist(window, groups, m);
+}

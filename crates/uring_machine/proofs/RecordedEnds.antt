@@ -1,0 +1,198 @@
+-- Answers that were recorded elsewhere, with files: what a machine fits after a step was followed, and what is called for as a request ends.
+use Rattle.std.proofs.Common.{◌≡◌, ℕ, ℤ, neg_ℤ, true, false, List, ◌∷◌, Some, None, if◌then◌else◌, refl, sym, ap, subst, ◌∙◌, inl, inr}
+use Rattle.std.specs.Prelude.{Result, Ok, Err, OnOk, IfErr}
+use Rattle.std.proofs.lemmas.Bool.{true≢false}
+use Rattle.uring_entry.specs.Setup.{Setup}
+use Rattle.uring_entry.specs.Preparation.{operation_of}
+use Rattle.uring_entry.specs.Requests.{Requests, entry_of, is_running, operation_running, no_bytes}
+use Rattle.uring_entry.specs.declared.errno.TheConstants.{ENOMEM}
+use Rattle.uring_entry.specs.declared.operation.Op.{Op}
+use Rattle.uring_entry.specs.declared.operation.Op.TheVariants.{Nop, Read, Write, Fsync, Cancel}
+use Rattle.uring_entry.specs.declared.operation.Outcome.{Outcome}
+use Rattle.uring_files.specs.Contents.{FileContents}
+use Rattle.uring_files.specs.Operations.{after, ended_with, is_lengthening, result_of, IsOutcome}
+use Rattle.uring_machine.specs.World.{World}
+use Rattle.uring_machine.specs.StepAnswers.{CalledForApart}
+use Rattle.uring_machine.specs.CalledFor.{CalledFor, IsLawful, EndsOn, files_of}
+use Rattle.uring_machine.specs.Core.{Core, FitsApart, IsNoFinish, IsFinished, IsShortOfMemory}
+use Rattle.uring_machine.specs.Histories.{History, world}
+use Rattle.uring_machine.specs.Machine.{Machine, Fits}
+use Rattle.uring_machine.specs.Recorded.{Meets, IsWrong, IsRefused, MayLackMemory, resumed}
+use Rattle.uring_machine.specs.declared.step.Step.{Step}
+use Rattle.uring_machine.specs.declared.step.Step.TheVariants as step
+use Rattle.uring_machine.specs.declared.answer.Answer.{Answer}
+use Rattle.uring_machine.specs.declared.answer.Answer.TheVariants as answer
+use Rattle.uring_machine.specs.declared.wanted.Wanted.TheVariants.{Only, CallOrAgain, AnyEnd, EndOrNoMemory}
+use Rattle.uring_machine.specs.declared.wanted.Refusal.{Refusal}
+use Rattle.uring_machine.specs.declared.wanted.Refusal.TheVariants.{Wrong, NoMemory}
+use Rattle.uring_machine.proofs.Fitting.{step_fits, finish_fits, runs_with, not_running}
+use Rattle.uring_machine.proofs.RecordedAnswers.{wrong_beside}
+
+-- what holds of a refusal holds of another clause that follows
+pub if_refused : (r : Result Unit Refusal) (P Q : Refusal → Type 0) → ((refusal : Refusal) → P refusal → Q refusal) → IfErr r P → IfErr r Q
+if_refused (Ok x) P Q follows p = tt
+if_refused (Err refusal) P Q follows p = follows refusal p
+
+pub if_followed : (r : Result Unit Refusal) (P Q : Type 0) → (P → Q) → OnOk r P → OnOk r Q
+if_followed (Ok x) P Q follows p = follows p
+if_followed (Err refusal) P Q follows p = tt
+
+-- Any step but a Finish: its core follows.
+
+-- the machine with a core that fits the same history
+pub kept_fits : (core later : Core) (files left : List FileContents) (h : History) → later.setup ≡ core.setup → left ≡ files → Fits (record { core = core; files = files }) h → FitsApart later h
+    → Fits (record { core = later; files = left }) h
+kept_fits core later files left h same untouched fits next = record {
+  core = next;
+  files = untouched ∙ subst (λ k. files ≡ files_of k (world k h)) (sym same) fits.files;
+  lawful = subst (λ k. IsLawful k h) (sym same) fits.lawful;
+}
+
+pub resumed_fits : (core later : Core) (files : List FileContents) (s : Step) (refusal : Refusal) (h : History) → later.setup ≡ core.setup → IsNoFinish s
+    → Fits (record { core = core; files = files }) h → FitsApart later (resumed s refusal h) → Fits (record { core = later; files = files }) (resumed s refusal h)
+resumed_fits core later files s (Wrong (Only x)) h same other fits next = step_fits core later files s x h same other fits next
+resumed_fits core later files s (Wrong (CallOrAgain n)) h same other fits next = kept_fits core later files files h same refl fits next
+resumed_fits core later files s (Wrong AnyEnd) h same other fits next = kept_fits core later files files h same refl fits next
+resumed_fits core later files s (Wrong (EndOrNoMemory res)) h same other fits next = kept_fits core later files files h same refl fits next
+resumed_fits core later files s NoMemory h same other fits next = kept_fits core later files files h same refl fits next
+
+-- some history is fitted, whichever way the core went
+pub follows_some : (core later : Core) (files : List FileContents) (s : Step) (a : Answer) (r : Result Unit Refusal) (h : History) → later.setup ≡ core.setup → IsNoFinish s
+    → Fits (record { core = core; files = files }) h
+    → OnOk r ((k : History) → FitsApart core k → FitsApart later ((s, a) ∷ k)) → IfErr r (λ refusal. (k : History) → FitsApart core k → FitsApart later (resumed s refusal k))
+    → (k : History) × Fits (record { core = later; files = files }) k
+follows_some core later files s a (Ok x) h same other fits next goes_on = ((s, a) ∷ h, step_fits core later files s a h same other fits (next h fits.core))
+follows_some core later files s a (Err refusal) h same other fits next goes_on = (resumed s refusal h, resumed_fits core later files s refusal h same other fits (goes_on h fits.core))
+
+-- what is refused apart from files is refused
+pub refused_apart : (g : Setup) (w : World) (s : Step) (a : Answer) (refusal : Refusal) → IsNoFinish s → IsRefused (CalledForApart g w s) a refusal → IsRefused (CalledFor g w s) a refusal
+refused_apart g w (step.Finish n) a refusal other refused = absurd other
+refused_apart g w _ a refusal other refused = refused
+
+pub lacks_apart : (m : Machine) (w : World) (s : Step) → IsNoFinish s → IsShortOfMemory m.core w s → MayLackMemory m w s
+lacks_apart m w (step.Finish n) other short = absurd other
+lacks_apart m w _ other short = short
+
+-- A Finish of what doesn't run.
+
+pub idle_refused : (g : Setup) (w : World) (n : ℕ) (a : Answer) (refusal : Refusal) → None ≡ operation_running w.requests n → refusal ≡ Wrong (Only answer.NotRunning) → (a ≡ answer.NotRunning → ⊥)
+    → IsRefused (CalledFor g w (step.Finish n)) a refusal
+idle_refused g w n a refusal none is other =
+    let idle : is_running w.requests n ≡ false = not_running (operation_of (entry_of w.requests n)) (is_running w.requests n) none in
+    subst (λ r. IsRefused (CalledFor g w (step.Finish n)) a r) (sym is)
+    (wrong_beside (CalledFor g w (step.Finish n)) answer.NotRunning a (subst (λ b. EndsOn (files_of g w) w.requests n b answer.NotRunning) (sym idle) refl)
+    (λ b called. subst (λ running. EndsOn (files_of g w) w.requests n running b) idle called) other)
+
+-- A Finish of what runs.
+
+-- an end as this operation calls for on these files
+abbrev pub EndsWith : List FileContents → Op → Answer → Type 0
+EndsWith files op (answer.Ended res bytes) = IsOutcome files op (record { res = res; bytes = bytes })
+EndsWith files op _ = ⊥
+
+ends_with : (files : List FileContents) (r : Requests) (n : ℕ) (a : Answer) → EndsOn files r n true a → EndsWith files (operation_of (entry_of r n)) a
+ends_with files r n (answer.Ended res bytes) called = called
+ends_with files r n _ called = called
+
+with_ends : (files : List FileContents) (r : Requests) (n : ℕ) (a : Answer) → EndsWith files (operation_of (entry_of r n)) a → EndsOn files r n true a
+with_ends files r n (answer.Ended res bytes) called = called
+with_ends files r n _ called = called
+
+-- What runs in a machine that fits a history: what is called for, by the operation and the machine's files.
+pub record RunsWith (m : Machine) (h : History) (n : ℕ) (op : Op) : Type 0 where
+  pub ends : (a : Answer) → CalledFor m.core.setup (world m.core.setup h) (step.Finish n) a → EndsWith m.files op a
+  pub called : (a : Answer) → EndsWith m.files op a → CalledFor m.core.setup (world m.core.setup h) (step.Finish n) a
+  pub is_same : is_lengthening m.files op ≡ is_lengthening (files_of m.core.setup (world m.core.setup h)) (operation_of (entry_of (world m.core.setup h).requests n))
+
+pub runs_so : (m : Machine) (h : History) (n : ℕ) (op : Op) → Fits m h → Some op ≡ operation_running (world m.core.setup h).requests n → RunsWith m h n op
+runs_so m h n op fits is =
+    let g : Setup = m.core.setup in
+    let w : World = world g h in
+    let runs = runs_with w.requests n op is in
+    record {
+      ends = λ a called.
+          subst (λ fs. EndsWith fs op a) (sym fits.files) (subst (λ o. EndsWith (files_of g w) o a) (sym runs.1) (ends_with (files_of g w) w.requests n a (subst (λ b. EndsOn (files_of g w) w.requests n b a) runs.0 called)));
+      called = λ a ends.
+          subst (λ b. EndsOn (files_of g w) w.requests n b a) (sym runs.0) (with_ends (files_of g w) w.requests n a (subst (λ o. EndsWith (files_of g w) o a) runs.1 (subst (λ fs. EndsWith fs op a) fits.files ends)));
+      is_same = ap (λ fs. is_lengthening fs op) fits.files ∙ ap (λ o. is_lengthening (files_of g w) o) runs.1;
+    }
+
+-- one end alone is called for where the operation doesn't make its file longer
+pub one_end : (files : List FileContents) (op : Op) → is_lengthening files op ≡ false → (a b : Answer) → EndsWith files op a → EndsWith files op b → a ≡ b
+one_end files op short (answer.Ended res bytes) (answer.Ended res' bytes') (inl e) (inl f) = ap (λ (o : Outcome). answer.Ended o.res o.bytes) (e ∙ sym f)
+one_end files op short (answer.Ended res bytes) (answer.Ended res' bytes') (inr long) f = absurd (true≢false (sym long.0 ∙ short))
+one_end files op short (answer.Ended res bytes) (answer.Ended res' bytes') (inl e) (inr long) = absurd (true≢false (sym long.0 ∙ short))
+one_end files op short (answer.Ended res bytes) _ e f = absurd f
+one_end files op short _ b e f = absurd e
+
+pub end_refused : (m : Machine) (h : History) (n : ℕ) (op : Op) (x a : Answer) (refusal : Refusal) → RunsWith m h n op → is_lengthening m.files op ≡ false
+    → CalledFor m.core.setup (world m.core.setup h) (step.Finish n) x → refusal ≡ Wrong (Only x) → (a ≡ x → ⊥) → IsRefused (CalledFor m.core.setup (world m.core.setup h) (step.Finish n)) a refusal
+end_refused m h n op x a refusal runs short called is other =
+    subst (λ r. IsRefused (CalledFor m.core.setup (world m.core.setup h) (step.Finish n)) a r) (sym is)
+    (wrong_beside (CalledFor m.core.setup (world m.core.setup h) (step.Finish n)) x a called (λ b k. one_end m.files op short b x (runs.ends b k) (runs.ends x called)) other)
+
+-- The write makes its file longer.
+
+-- a write that found no memory changed no file
+pub left_alone : (files : List FileContents) (op : Op) → after files op (neg_ℤ ENOMEM) ≡ files
+left_alone files Nop = refl
+left_alone files (Read fd off len) = refl
+left_alone files (Write fd off len bytes) = refl
+left_alone files (Fsync fd) = refl
+left_alone files (Cancel target all) = refl
+
+growth_ends : (files : List FileContents) (op : Op) (res : ℤ) (a : Answer) → result_of files op ≡ ended_with res → EndsWith files op a → Meets (EndOrNoMemory res) a
+growth_ends files op res (answer.Ended r bytes) is (inl e) = inl (ap (λ (o : Outcome). answer.Ended o.res o.bytes) (e ∙ is))
+growth_ends files op res (answer.Ended r bytes) is (inr e) = inr (ap (λ (o : Outcome). answer.Ended o.res o.bytes) e.1)
+growth_ends files op res _ is e = absurd e
+
+ends_growth : (files : List FileContents) (op : Op) (res : ℤ) (a : Answer) → is_lengthening files op ≡ true → result_of files op ≡ ended_with res → Meets (EndOrNoMemory res) a → EndsWith files op a
+ends_growth files op res a long is (inl e) = subst (EndsWith files op) (sym e) (inl (sym is))
+ends_growth files op res a long is (inr e) = subst (EndsWith files op) (sym e) (inr (long, refl))
+
+pub growth_wrong : (m : Machine) (h : History) (n : ℕ) (op : Op) (res : ℤ) (a : Answer) → RunsWith m h n op → is_lengthening m.files op ≡ true → result_of m.files op ≡ ended_with res
+    → (a ≡ answer.Ended (neg_ℤ ENOMEM) no_bytes → ⊥) → (a ≡ answer.Ended res no_bytes → ⊥) → IsWrong (CalledFor m.core.setup (world m.core.setup h) (step.Finish n)) a (EndOrNoMemory res)
+growth_wrong m h n op res a runs long is no_failure no_success = record {
+  not_called = λ k. neither (growth_ends m.files op res a is (runs.ends a k));
+  called = λ b k. growth_ends m.files op res b is (runs.ends b k);
+  only = λ b k. runs.called b (ends_growth m.files op res b long is k);
+} where
+  neither : Meets (EndOrNoMemory res) a → ⊥
+  neither (inl e) = no_success e
+  neither (inr e) = no_failure e
+
+pub growth_called : (m : Machine) (h : History) (n : ℕ) (op : Op) (res : ℤ) (a : Answer) → RunsWith m h n op → is_lengthening m.files op ≡ true → result_of m.files op ≡ ended_with res
+    → a ≡ answer.Ended res no_bytes → CalledFor m.core.setup (world m.core.setup h) (step.Finish n) a
+growth_called m h n op res a runs long is e = runs.called a (ends_growth m.files op res a long is (inl e))
+
+-- what ended otherwise than with its success found no memory
+pub growth_failed : (files : List FileContents) (op : Op) (res : ℤ) (outcome : Outcome) → result_of files op ≡ ended_with res → IsOutcome files op outcome → (outcome.res ≡ res → ⊥) → outcome.res ≡ neg_ℤ ENOMEM
+growth_failed files op res outcome is (inl e) other = absurd (other (ap (λ (o : Outcome). o.res) (e ∙ is)))
+growth_failed files op res outcome is (inr e) other = ap (λ (o : Outcome). o.res) e.1
+
+-- no write gives bytes
+pub growth_bytes : (files : List FileContents) (op : Op) (res : ℤ) (outcome : Outcome) → result_of files op ≡ ended_with res → IsOutcome files op outcome → outcome.bytes ≡ no_bytes
+growth_bytes files op res outcome is (inl e) = ap (λ (o : Outcome). o.bytes) (e ∙ is)
+growth_bytes files op res outcome is (inr e) = ap (λ (o : Outcome). o.bytes) e.1
+
+pub ended_alike : (x y : ℤ) (b c : List ℕ) → x ≡ y → b ≡ c → answer.Ended x b ≡ answer.Ended y c
+ended_alike x y b c e f = λ i. answer.Ended (e i) (f i)
+
+-- a running request ended as was recorded
+pub followed_end : (core later : Core) (files : List FileContents) (n : ℕ) (op : Op) (outcome : Outcome) (left : List FileContents) (a given : Answer) (h : History) → later.setup ≡ core.setup
+    → Fits (record { core = core; files = files }) h → Some op ≡ operation_running (world core.setup h).requests n → IsOutcome files op outcome → left ≡ after files op outcome.res
+    → FitsApart later ((step.Finish n, a) ∷ h) → IsFinished (world core.setup h) n outcome a → given ≡ answer.Ended outcome.res outcome.bytes
+    → Fits (record { core = later; files = left }) ((step.Finish n, given) ∷ h)
+followed_end core later files n op outcome left a given h same fits is allowed leaves next finished recorded =
+    let runs = runs_with (world core.setup h).requests n op is in
+    let ends : a ≡ answer.Ended outcome.res outcome.bytes = finished ∙ ap (λ b. if b then answer.Ended outcome.res outcome.bytes else answer.NotRunning) runs.0 in
+    subst (λ b. Fits (record { core = later; files = left }) ((step.Finish n, b) ∷ h)) (ends ∙ sym recorded)
+    (finish_fits core later files n op outcome left a h same fits is allowed leaves next finished)
+
+-- it ended without memory, as was recorded
+pub followed_failure : (core later : Core) (files : List FileContents) (n : ℕ) (op : Op) (a given : Answer) (h : History) → later.setup ≡ core.setup
+    → Fits (record { core = core; files = files }) h → Some op ≡ operation_running (world core.setup h).requests n → is_lengthening files op ≡ true
+    → FitsApart later ((step.Finish n, a) ∷ h) → IsFinished (world core.setup h) n (ended_with (neg_ℤ ENOMEM)) a → given ≡ answer.Ended (neg_ℤ ENOMEM) no_bytes
+    → Fits (record { core = later; files = files }) ((step.Finish n, given) ∷ h)
+followed_failure core later files n op a given h same fits is long next finished recorded =
+    followed_end core later files n op (ended_with (neg_ℤ ENOMEM)) files a given h same fits is (inr (long, refl)) (sym (left_alone files op)) next finished recorded

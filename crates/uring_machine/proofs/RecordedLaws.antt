@@ -1,0 +1,135 @@
+-- Laws of answers that were recorded elsewhere: whether one is called for is decided, and a wrong one makes a list unlawful.
+use Rattle.std.proofs.Common.{◌≡◌, ℕ, ◌+◌, ◌<◌, ◌≤◌, Bool, true, false, List, [], ◌∷◌, ◌++◌, length, take, drop, get_or, neg_ℤ, Option, Some, refl, sym, ap, subst, ◌∙◌, ◌⊎◌, inl, inr, arith}
+use Rattle.std.specs.Prelude.{slice_get, Result, Ok, IfOk, OnOk, MatchOption}
+use Rattle.std.specs.declared.alloc.AllocError.{AllocError}
+use Rattle.std.proofs.lemmas.Result.{IfOk-weaker}
+use Rattle.std.proofs.lemmas.Bool.{cases_Bool, cases_lt, both_ways}
+use Rattle.std.proofs.lemmas.List.{take_more, take-append-drop, reverse-append}
+use Rattle.std.proofs.lemmas.Option.{slice_get_within, get_or_from_slice_get, slice_get_read}
+use Rattle.uring_entry.specs.Setup.{Setup}
+use Rattle.uring_entry.specs.Preparation.{operation_of}
+use Rattle.uring_entry.specs.Requests.{Requests, entry_of, is_running}
+use Rattle.uring_entry.specs.declared.errno.TheConstants.{ENOMEM}
+use Rattle.uring_entry.specs.declared.operation.Op.{Op}
+use Rattle.uring_entry.specs.declared.operation.Outcome.{Outcome}
+use Rattle.uring_files.specs.Contents.{FileContents}
+use Rattle.uring_files.specs.Operations.{is_lengthening, result_of, ended_with, IsOutcome}
+use Rattle.uring_machine.specs.StepAnswers.{CalledForApart, FinishesApart, OrAgain, begin_answer}
+use Rattle.uring_machine.specs.CalledFor.{CalledFor, IsLawful, EndsOn, files_of}
+use Rattle.uring_machine.specs.Histories.{Event, History, world, history_of, IsLawfulApart}
+use Rattle.uring_machine.specs.Recorded.{IsRefused, IsFirstWrongAnswer, IsFirstWrongApart, CalledIsDecided, CalledIsDecidedApart, WrongIsUnlawful, WrongIsUnlawfulApart}
+use Rattle.uring_machine.specs.declared.step.Step.TheVariants as step
+use Rattle.uring_machine.specs.declared.answer.Answer.{Answer}
+use Rattle.uring_machine.specs.declared.answer.Answer.TheVariants as answer
+use Rattle.uring_machine.specs.declared.wanted.Wanted.{Wanted}
+use Rattle.uring_machine.specs.declared.wanted.Refusal.{Refusal}
+use Rattle.uring_machine.specs.declared.wanted.Refusal.TheVariants.{Wrong, NoMemory}
+use Rattle.uring_machine.proofs.SameAnswers.{decided}
+use Rattle.uring_machine.proofs.Following.{history_of-snoc}
+use Rattle.uring_machine.proofs.Growth as apart
+use Rattle.uring_machine.proofs.WholeLaws.{lawful_before}
+
+-- That an answer is called for is decided.
+
+-- a fact holds, or doesn't
+abbrev Decided : Type 0 → Type 0
+Decided P = P ⊎ (P → ⊥)
+
+decided_begin : (x a : Answer) → Decided (OrAgain x a)
+decided_begin (answer.Call n) a =
+    elim (decided a (answer.Call n)) [
+      | inl is ↦ inl (inl is)
+      | inr no_call ↦ or_again (decided a answer.Again) (cases_lt 0 n) no_call
+    ] where
+      or_again : Decided (a ≡ answer.Again) → (0 < n) ⊎ (n ≤ 0) → (a ≡ answer.Call n → ⊥) → Decided (OrAgain (answer.Call n) a)
+      or_again (inl again) (inl some) no_call = inl (inr (again, some))
+      or_again (inl again) (inr none) no_call = inr (λ k. elim k [ inl e ↦ no_call e | inr e ↦ omega (arith, e.1) ])
+      or_again (inr other) some no_call = inr (λ k. elim k [ inl e ↦ no_call e | inr e ↦ other e.0 ])
+decided_begin x a = decided a x
+
+decided_finish : (running : Bool) (a : Answer) → Decided (FinishesApart running a)
+decided_finish true (answer.Ended res bytes) = inl tt
+decided_finish true _ = inr (λ k. k)
+decided_finish false a = decided a answer.NotRunning
+
+pub decided_apart : CalledIsDecidedApart
+decided_apart g w (step.Begin count) a = decided_begin (begin_answer w count) a
+decided_apart g w (step.Finish n) a = decided_finish (is_running w.requests n) a
+decided_apart g w _ a = decided a _
+
+-- outcomes, as ends that have them
+decided_outcome : (o p : Outcome) → Decided (o ≡ p)
+decided_outcome o p =
+    elim (decided (answer.Ended o.res o.bytes) (answer.Ended p.res p.bytes)) [
+      | inl e ↦ inl (same_outcome e)
+      | inr other ↦ inr (λ e. other (ap (λ (q : Outcome). answer.Ended q.res q.bytes) e))
+    ] where
+      same_outcome : answer.Ended o.res o.bytes ≡ answer.Ended p.res p.bytes → o ≡ p
+      same_outcome e = let f : o.res ≡ p.res = cc in let k : o.bytes ≡ p.bytes = cc in λ i. record { res = f i; bytes = k i }
+
+decided_end : (files : List FileContents) (op : Op) (o : Outcome) → Decided (IsOutcome files op o)
+decided_end files op o = by_both (decided_outcome o (result_of files op)) (cases_Bool (is_lengthening files op)) (decided_outcome o (ended_with (neg_ℤ ENOMEM))) where
+  by_both : Decided (o ≡ result_of files op) → (is_lengthening files op ≡ true) ⊎ (is_lengthening files op ≡ false) → Decided (o ≡ ended_with (neg_ℤ ENOMEM)) → Decided (IsOutcome files op o)
+  by_both (inl is) long failed = inl (inl is)
+  by_both (inr other) (inl long) (inl failed) = inl (inr (long, failed))
+  by_both (inr other) (inr short) failed = inr (λ k. elim k [ inl e ↦ other e | inr e ↦ both_ways (is_lengthening files op) short e.0 ])
+  by_both (inr other) (inl long) (inr no_failure) = inr (λ k. elim k [ inl e ↦ other e | inr e ↦ no_failure e.1 ])
+
+decided_on : (files : List FileContents) (r : Requests) (n : ℕ) (running : Bool) (a : Answer) → Decided (EndsOn files r n running a)
+decided_on files r n true (answer.Ended res bytes) = decided_end files (operation_of (entry_of r n)) (record { res = res; bytes = bytes })
+decided_on files r n true _ = inr (λ k. k)
+decided_on files r n false a = decided a answer.NotRunning
+
+pub decided_called : CalledIsDecided
+decided_called g w (step.Finish n) a = decided_on (files_of g w) w.requests n (is_running w.requests n) a
+decided_called g w (step.Begin count) a = decided_begin (begin_answer w count) a
+decided_called g w _ a = decided a _
+
+-- A list with a wrong answer is unlawful.
+
+-- the history up to an event
+parted : (events : List Event) (place : ℕ) (e : Event) → slice_get events place ≡ Some e → (later : History) × (history_of events ≡ later ++ e ∷ history_of (take place events))
+parted events place e is_there =
+    let within = slice_get_within events place e is_there in
+    let at : get_or events place e ≡ e = get_or_from_slice_get events place e e is_there in
+    let more : take (place + 1) events ≡ take place events ++ e ∷ [] = take_more events place e within ∙ ap (λ x. take place events ++ x ∷ []) at in
+    let whole : history_of events ≡ history_of (drop (place + 1) events) ++ history_of (take (place + 1) events) =
+    ap history_of (sym (take-append-drop (place + 1) events)) ∙ reverse-append (take (place + 1) events) (drop (place + 1) events) in
+    (history_of (drop (place + 1) events), whole ∙ ap (λ k. history_of (drop (place + 1) events) ++ k) (ap history_of more ∙ history_of-snoc (take place events) e))
+
+pub wrong_unlawful : (g : Setup) → WrongIsUnlawful g
+wrong_unlawful g events place wanted first lawful =
+    let parts = parted events place first.event first.is_there in
+    first.wrong.not_called (lawful_before g parts.0 (first.event ∷ history_of (take place events)) (subst (IsLawful g) parts.1 lawful)).0
+
+pub wrong_unlawful_apart : (g : Setup) → WrongIsUnlawfulApart g
+wrong_unlawful_apart g events place wanted first lawful =
+    let parts = parted events place first.event first.is_there in
+    first.wrong.not_called (apart.lawful_before g parts.0 (first.event ∷ history_of (take place events)) (subst (IsLawfulApart g) parts.1 lawful)).0
+
+-- What is told of a list where an answer was refused.
+
+pub stops : (refusal : Refusal) (place : ℕ) (r : Result (Option (ℕ × Wanted)) AllocError) (P : Type 0) (Q : ℕ × Wanted → Type 0)
+    → ((w : Wanted) → refusal ≡ Wrong w → r ≡ Ok (Some (place, w))) → (refusal ≡ NoMemory → OnOk r ⊥) → ((w : Wanted) → refusal ≡ Wrong w → Q (place, w)) → IfOk r (λ found. MatchOption found P Q)
+stops (Wrong w) place r P Q told none q = subst (λ k. IfOk k (λ found. MatchOption found P Q)) (sym (told w refl)) (q w refl)
+stops NoMemory place r P Q told none q = IfOk-weaker r (λ x. ⊥) (λ found. MatchOption found P Q) (λ x bad. absurd bad) (none refl)
+
+pub first_wrong_at : (g k : Setup) (events : List Event) (place : ℕ) (e : Event) (refusal : Refusal) (w : Wanted) → k ≡ g → place < length events → e ≡ get_or events place e
+    → IsLawful k (history_of (take place events)) → IsRefused (CalledFor k (world k (history_of (take place events))) e.0) e.1 refusal → refusal ≡ Wrong w → IsFirstWrongAnswer g events place w
+first_wrong_at g k events place e refusal w same within at lawful refused is =
+    subst (λ s. IsFirstWrongAnswer s events place w) same (record {
+      event = e;
+      is_there = slice_get_read events (length events) place e refl within at;
+      before = lawful;
+      wrong = subst (λ r. IsRefused (CalledFor k (world k (history_of (take place events))) e.0) e.1 r) is refused;
+    })
+
+pub first_wrong_apart_at : (g k : Setup) (events : List Event) (place : ℕ) (e : Event) (refusal : Refusal) (w : Wanted) → k ≡ g → place < length events → e ≡ get_or events place e
+    → IsLawfulApart k (history_of (take place events)) → IsRefused (CalledForApart k (world k (history_of (take place events))) e.0) e.1 refusal → refusal ≡ Wrong w → IsFirstWrongApart g events place w
+first_wrong_apart_at g k events place e refusal w same within at lawful refused is =
+    subst (λ s. IsFirstWrongApart s events place w) same (record {
+      event = e;
+      is_there = slice_get_read events (length events) place e refl within at;
+      before = lawful;
+      wrong = subst (λ r. IsRefused (CalledForApart k (world k (history_of (take place events))) e.0) e.1 r) is refused;
+    })

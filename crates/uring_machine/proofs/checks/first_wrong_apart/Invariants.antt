@@ -1,0 +1,11 @@
+use Rattle.std.proofs.Common.{◌≡◌, take}
+use Rattle.uring_machine.specs.Core.{FitsApart}
+use Rattle.uring_machine.specs.Histories.{history_of}
+use Rattle.uring_machine.proofs.checks.first_wrong_apart.Given as goal
+
+-- the answers so far were followed
+abbrev pub invariant-loop-place : goal.invariant-loop-place
+invariant-loop-place l = record {
+  setup : l.core.setup ≡ l.initial.core.setup;
+  fits : FitsApart l.core (history_of (take l.place l.events));
+}

@@ -1,0 +1,17 @@
+use Rattle.std.proofs.Common.{◌∷◌, not, sym, subst, ap, ◌∙◌, rules}
+use Rattle.std.specs.Int.{w32}
+use Rattle.std.proofs.lemmas.Int.{to_z-of_z}
+use Rattle.uring_machine.specs.Histories.{world}
+use Rattle.uring_machine.specs.Core.{FitsApart}
+use Rattle.uring_machine.specs.declared.step.Step.TheVariants as step
+use Rattle.uring_machine.specs.declared.answer.Answer.TheVariants as answer
+use Rattle.uring_machine.proofs.RecordedAnswers.{ended_since}
+use Rattle.uring_machine.proofs.cores.Core.follow_finish.Goals as goal
+
+pub returns-in-Ended-clause-ok : goal.returns-in-Ended-clause-ok
+returns-in-Ended-clause-ok c = λ h f.
+    let ends = simp (to_z-of_z w32 c.in-Ended.res (search rules)) at (c.finish.ensures.outcome h f) in
+    subst (λ a. FitsApart c.finish.new.self ((step.Finish c.args.number, a) ∷ h))
+    (ended_since (world c.args.self.now.setup h) c.args.number c.running_op.result (answer.Ended c.in-Ended.res c.in-Ended.bytes) c.finish.result
+    (c.running_op.ensures.value h f) (c.is_none.ensures ∙ ap not c.if-is_none.false) ends ∙ sym c.in-Ended.is)
+    (c.finish.ensures.fits h f)

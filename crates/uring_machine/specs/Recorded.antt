@@ -1,0 +1,84 @@
+-- Answers that were recorded elsewhere: which ones are wanted where one is wrong, and what is so of a whole list of steps with their answers. All of it is our own rule.
+use Rattle.std.specs.Prelude.{◌≡◌, ℕ, neg_ℤ, true, List, take, Some, ◌∷◌, ◌⊎◌, slice_get}
+use Rattle.uring_entry.specs.Setup.{Setup}
+use Rattle.uring_entry.specs.Preparation.{operation_of}
+use Rattle.uring_entry.specs.Requests.{entry_of, no_bytes}
+use Rattle.uring_entry.specs.declared.errno.TheConstants.{ENOMEM}
+use Rattle.uring_files.specs.Operations.{is_lengthening}
+use Rattle.uring_machine.specs.World.{World}
+use Rattle.uring_machine.specs.StepAnswers.{CalledForApart, IsEnded}
+use Rattle.uring_machine.specs.CalledFor.{CalledFor, IsLawful, files_of}
+use Rattle.uring_machine.specs.Histories.{Event, History, world, history_of, IsLawfulApart}
+use Rattle.uring_machine.specs.Core.{IsShortOfMemory}
+use Rattle.uring_machine.specs.Machine.{Machine}
+use Rattle.uring_machine.specs.declared.step.Step.{Step}
+use Rattle.uring_machine.specs.declared.step.Step.TheVariants as step
+use Rattle.uring_machine.specs.declared.answer.Answer.{Answer}
+use Rattle.uring_machine.specs.declared.answer.Answer.TheVariants as answer
+use Rattle.uring_machine.specs.declared.wanted.Wanted.{Wanted}
+use Rattle.uring_machine.specs.declared.wanted.Wanted.TheVariants.{Only, CallOrAgain, AnyEnd, EndOrNoMemory}
+use Rattle.uring_machine.specs.declared.wanted.Refusal.{Refusal}
+use Rattle.uring_machine.specs.declared.wanted.Refusal.TheVariants.{Wrong, NoMemory}
+
+-- the answers that are wanted
+abbrev pub Meets : Wanted → Answer → Type 0
+Meets (Only x) a = a ≡ x
+Meets (CallOrAgain length) a = (a ≡ answer.Call length) ⊎ (a ≡ answer.Again)
+Meets AnyEnd a = IsEnded a
+Meets (EndOrNoMemory res) a = (a ≡ answer.Ended res no_bytes) ⊎ (a ≡ answer.Ended (neg_ℤ ENOMEM) no_bytes)
+
+-- The answer isn't called for, and exactly those that are wanted are.
+pub record IsWrong (Called : Answer → Type 0) (a : Answer) (wanted : Wanted) : Type 0 where
+  pub not_called : Called a → ⊥
+  pub called : (b : Answer) → Called b → Meets wanted b
+  pub only : (b : Answer) → Meets wanted b → Called b
+
+-- what a refusal says: the answer is wrong; or it is called for, and memory was refused to follow it
+abbrev pub IsRefused : (Answer → Type 0) → Answer → Refusal → Type 0
+IsRefused Called a (Wrong wanted) = IsWrong Called a wanted
+IsRefused Called a NoMemory = Called a
+
+-- one answer alone is called for
+abbrev pub IsOneAnswer : (Answer → Type 0) → Type 0
+IsOneAnswer Called = (a b : Answer) → Called a → Called b → a ≡ b
+
+-- The history from which one goes on after a refusal: the one answer that was called for counts as given, and else the step counts as not made.
+abbrev pub resumed : Step → Refusal → History → History
+resumed s (Wrong (Only x)) h = (s, x) ∷ h
+resumed s _ h = h
+
+-- memory may be short to follow an answer to this step: at a Begin as for the step itself, and at the Finish of a write that makes its file longer
+abbrev pub MayLackMemory : Machine → World → Step → Type 0
+MayLackMemory m w (step.Finish n) = is_lengthening (files_of m.core.setup w) (operation_of (entry_of w.requests n)) ≡ true
+MayLackMemory m w s = IsShortOfMemory m.core w s
+
+-- What stands before this place of a list of steps with their answers, the oldest first, is lawful, and the answer there is wrong.
+pub record IsFirstWrong (Lawful : History → Type 0) (Called : History → Step → Answer → Type 0) (events : List Event) (place : ℕ) (wanted : Wanted) : Type 0 where
+  pub event : Event
+  pub is_there : slice_get events place ≡ Some event
+  pub before : Lawful (history_of (take place events))
+  pub wrong : IsWrong (Called (history_of (take place events)) event.0) event.1 wanted
+
+-- the first wrong answer, with what operations give
+abbrev pub IsFirstWrongAnswer : Setup → List Event → ℕ → Wanted → Type 0
+IsFirstWrongAnswer g events place wanted = IsFirstWrong (IsLawful g) (λ h s a. CalledFor g (world g h) s a) events place wanted
+
+-- the first wrong answer, apart from what operations give
+abbrev pub IsFirstWrongApart : Setup → List Event → ℕ → Wanted → Type 0
+IsFirstWrongApart g events place wanted = IsFirstWrong (IsLawfulApart g) (λ h s a. CalledForApart g (world g h) s a) events place wanted
+
+-- An answer is called for, or isn't: also in worlds that no history makes.
+abbrev pub CalledIsDecided : Type 0
+CalledIsDecided = (g : Setup) (w : World) (s : Step) (a : Answer) → CalledFor g w s a ⊎ (CalledFor g w s a → ⊥)
+
+-- the same apart from what operations give
+abbrev pub CalledIsDecidedApart : Type 0
+CalledIsDecidedApart = (g : Setup) (w : World) (s : Step) (a : Answer) → CalledForApart g w s a ⊎ (CalledForApart g w s a → ⊥)
+
+-- A list with a wrong answer is no lawful history.
+abbrev pub WrongIsUnlawful : Setup → Type 0
+WrongIsUnlawful g = (events : List Event) (place : ℕ) (wanted : Wanted) → IsFirstWrongAnswer g events place wanted → IsLawful g (history_of events) → ⊥
+
+-- the same apart from what operations give
+abbrev pub WrongIsUnlawfulApart : Setup → Type 0
+WrongIsUnlawfulApart g = (events : List Event) (place : ℕ) (wanted : Wanted) → IsFirstWrongApart g events place wanted → IsLawfulApart g (history_of events) → ⊥

@@ -1,0 +1,85 @@
+//! Lists of steps whose answers were recorded elsewhere.
+
+ghost use Rattle.std.specs.Prelude.{◌≡◌, [], Ok, Some, IfOk, OnOk, MatchOption};
+ghost use Rattle.uring_machine.specs.CalledFor.{IsLawful};
+ghost use Rattle.uring_machine.specs.Core.{FitsApart};
+ghost use Rattle.uring_machine.specs.Histories.{IsLawfulApart, history_of};
+ghost use Rattle.uring_machine.specs.Machine.{Fits};
+ghost use Rattle.uring_machine.specs.Recorded.{IsFirstWrongAnswer, IsFirstWrongApart};
+
+use crate::answer::Answer;
+use crate::cores::Core;
+use crate::machine::Machine;
+use crate::step::Step;
+use crate::wanted::{Refusal, Wanted};
+use std::alloc::{AllocError, Global};
+use uring_entry::Setup;
+
+/// Whether these steps, the oldest first, each with its answer, are what can happen on a new machine of this set-up: `None` if they are, else the place of the first answer that isn't called for, from 0, and those that are. `AllocError`: memory was refused, and nothing is said.
+pub fn check(
+    alloc: Global,
+    setup: &Setup,
+    events: &[(Step, Answer)],
+) -> Result<Option<(usize, Wanted)>, AllocError>
+    ensures { IfOk result (λ found. MatchOption found (IsLawful setup.now (history_of events.now)) (λ at. IsFirstWrongAnswer setup.now events.now at.0 at.1)) }
+{
+    let mut machine = Machine::new(alloc, setup)?;
+    first_wrong(&mut machine, events)
+}
+
+/// As `check`, apart from what operations give: a running request may end with any result and any bytes.
+pub fn check_apart(
+    alloc: Global,
+    setup: &Setup,
+    events: &[(Step, Answer)],
+) -> Result<Option<(usize, Wanted)>, AllocError>
+    ensures { IfOk result (λ found. MatchOption found (IsLawfulApart setup.now (history_of events.now)) (λ at. IsFirstWrongApart setup.now events.now at.0 at.1)) }
+{
+    let mut core = Core::new(alloc, setup)?;
+    first_wrong_apart(&mut core, events)
+}
+
+/// Follows these answers on a new machine up to the first wrong one.
+fn first_wrong(
+    machine: &mut Machine,
+    events: &[(Step, Answer)],
+) -> Result<Option<(usize, Wanted)>, AllocError>
+    requires { Fits machine.old [] }
+    ensures { IfOk result (λ found. MatchOption found (IsLawful machine.old.core.setup (history_of events.now)) (λ at. IsFirstWrongAnswer machine.old.core.setup events.now at.0 at.1)) }
+{
+    for (place, event) in events.iter().enumerate() {
+        let (step, given) = *event;
+        if let Err(refusal) = machine.follow(step, given) {
+            return stopped(place, refusal);
+        }
+    }
+    Ok(None)
+}
+
+/// Follows these answers on a new core up to the first wrong one.
+fn first_wrong_apart(
+    core: &mut Core,
+    events: &[(Step, Answer)],
+) -> Result<Option<(usize, Wanted)>, AllocError>
+    requires { FitsApart core.old [] }
+    ensures { IfOk result (λ found. MatchOption found (IsLawfulApart core.old.setup (history_of events.now)) (λ at. IsFirstWrongApart core.old.setup events.now at.0 at.1)) }
+{
+    for (place, event) in events.iter().enumerate() {
+        let (step, given) = *event;
+        if let Err(refusal) = core.follow(step, given) {
+            return stopped(place, refusal);
+        }
+    }
+    Ok(None)
+}
+
+/// What is told of a list of which the answer at this place was refused.
+fn stopped(place: usize, refusal: Refusal) -> Result<Option<(usize, Wanted)>, AllocError>
+    ensures wrong { (wanted : Wanted) → refusal ≡ Refusal.Wrong wanted → result ≡ Ok (Some (place, wanted)) }
+    ensures no_memory { refusal ≡ Refusal.NoMemory → OnOk result ⊥ }
+{
+    match refusal {
+        Refusal::Wrong(wanted) => Ok(Some((place, wanted))),
+        Refusal::NoMemory => Err(AllocError),
+    }
+}

@@ -1,0 +1,15 @@
+//! Answers that were recorded elsewhere: laws of the definitions alone.
+ghost use Rattle.uring_entry.specs.Setup.{Setup};
+ghost use Rattle.uring_machine.specs.Recorded.{CalledIsDecided, CalledIsDecidedApart, WrongIsUnlawful, WrongIsUnlawfulApart};
+
+/// Whether an answer is called for is decided, in any world, also in one that no history makes.
+pub fn called_for_is_decided()
+    ensures called { CalledIsDecided }
+    ensures apart { CalledIsDecidedApart }
+{}
+
+/// Steps with a wrong answer among theirs are no lawful history.
+pub fn wrong_is_unlawful()
+    ensures lawful { (g : Setup) → WrongIsUnlawful g }
+    ensures apart { (g : Setup) → WrongIsUnlawfulApart g }
+{}

@@ -1,0 +1,103 @@
+//! What the help of each command says of its lines.
+
+/// The lines of a trace, for its help.
+pub(crate) const STEPS: &str = "\
+Steps, a line each, and their answers:
+  fill SLOT nop UD FLAGS                   write an entry: ok, no slot, busy
+  fill SLOT fsync UD FLAGS FD
+  fill SLOT read UD FLAGS FD OFF LEN
+  fill SLOT write UD FLAGS FD OFF HEX
+  fill SLOT cancel UD FLAGS TARGET
+  fill SLOT cancelall UD FLAGS TARGET
+  fill SLOT op CODE UD FLAGS
+  fill SLOT raw RAW
+  index WORD     stage a word: ok, full
+  tail           publish what is staged: tail N
+  head           load the submission ring's head: head N
+  begin COUNT    open a call: call N, closed, in call, spent, again
+  take           copy the next entry: entry UD, dropped, no more, no call
+  end            close the call: taken N dropped N head N, no call, not all
+  issue NUM      issue a request: run, ended RES, not ready, running, unknown
+  finish NUM     finish a running request: ended RES, not running
+  flush          move from the overflow list into the ring: moved N
+  cqtail         load the completion ring's tail: tail N
+  reap           copy the next completion: cqe UD RES DATA, none
+  cqhead         store the completion ring's head: head N
+  close          close the ring: ok, in call
+  next           name the request to be issued next: next N, none
+Any other line is answered bad line, and is no step.
+
+Requests are numbered from 0 on, in the order in which they are accepted, over
+all calls: NUM is that number. A dropped word has none, a faulty entry has one.
+
+UD, TARGET, OFF and NUM are numbers up to 2^64 - 1, SLOT, WORD, COUNT and LEN
+up to 2^32 - 1, CODE up to 255; FD has 32 bits and a sign. FLAGS is - or letters:
+D drain, L link, H hard link, A async, S skip success. HEX is - or 1 to 64 bytes
+and RAW 128 bytes, in lower case hexadecimal.";
+
+/// The reasons of `uring explain`, for its help.
+pub(crate) const REASONS: &str = "\
+Steps and answers are those of trace. Behind an answer to issue, and behind
+not running, stand two spaces, # and the reason:
+  never accepted, has ended, runs, waits for nobody
+  waits for M: a member of its group
+  waits for M: M's group drains
+  waits for M: its own group drains
+  doomed: a fault of its entry
+  doomed: M of its group has a fault
+  doomed: M failed before it
+  doomed: a cancel chose it
+A line that is empty or begins with # is passed over. Any other that is no step
+is answered bad line, and told on standard error with its number; the status at
+the end is then 4.
+
+Lines that ask how things stand, and their answers:
+  show counts    accepted N outstanding N running N posted N reaped N
+  show sizes     sq N cq N files N start N
+  show overflow  overflow N, and each completion that waits there
+  show file FD   len N writes N synced N, or no file
+
+With one of these no answers are written; --graph goes before --timeline:
+  --graph        when the input ends, the outstanding requests as a graph for
+                 Graphviz's dot: an ellipse runs, an octagon is doomed, a box
+                 waits, a diamond may start
+  --timeline     when the input ends, a row for each request: the lines at which
+                 it was accepted, started and ended, and its completion posted
+                 and reaped";
+
+/// The lines of `uring check`, for its help.
+pub(crate) const RECORDS: &str = "\
+A line is STEP = ANSWER, both as in trace. One that is empty or begins with # is
+passed over. All input is read before anything is written:
+  lawful: N steps    each answer is called for by the lines before it
+  line K: STEP = ANSWER
+  wanted: ANSWER     the first whose answer isn't, and what is called for there:
+                     one answer, call N or again, or ended RES or ended -12
+  why: NUM REASON    of an issue or a finish, how its request stands, in the
+                     words of explain
+  line K: bad line   before any such line, this one is no step with an answer
+The status is 0, 3 and 4 in this order.";
+
+/// The lines of a play, for its help.
+pub(crate) const ITEMS: &str = "\
+All of the input is read first. Each line is an item, or is empty and ends a
+call, as the end of the input does. A call without items is passed over. Items:
+  nop UD FLAGS                             an entry
+  fsync UD FLAGS FD
+  read UD FLAGS FD OFF LEN
+  write UD FLAGS FD OFF HEX
+  cancel UD FLAGS TARGET
+  op CODE UD FLAGS
+  raw RAW
+  bad WORD                                 a word that names no slot
+The tokens of an entry are those of trace. WORD has 32 bits and isn't below the
+entries of the submission ring, which are the most items of a call.
+
+The application, the dispatcher and each worker have a thread of their own. The
+calls are submitted in order and the ring is closed; once nothing is left to do,
+the completions are written, sorted by user data, result and bytes:
+  cqe UD RES DATA
+and then how many requests were accepted, and how many words were dropped:
+  taken N dropped N
+A bad line, or a call that is too long, is told on standard error with its
+number, counted from 1, and nothing is played; the status is then 1.";

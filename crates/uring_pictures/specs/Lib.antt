@@ -1,0 +1,3 @@
+pub mod Graphs
+pub mod Drawings
+pub mod Readings

@@ -1,0 +1,130 @@
+//! The run of a trace of which a picture is drawn.
+
+ghost use Rattle.std.specs.Prelude.{[], IfOk, OnOk};
+ghost use Rattle.std.specs.Io.KnownBytes.{Appends};
+ghost use Rattle.uring_entry.specs.Setup.{Setup};
+ghost use Rattle.uring_machine.specs.Histories.{History, world};
+ghost use Rattle.uring_machine.specs.Machine.{Fits};
+ghost use Rattle.uring_trace.specs.Explaining.{HasTold};
+ghost use Rattle.uring_pictures.specs.Drawings.{Draws, last_graph};
+ghost use Rattle.uring_pictures.specs.Graphs.{graph_of};
+ghost use Rattle.uring_pictures.specs.Readings.{ReadsAll, TakesIn, EndsIn, EndsLine};
+
+use crate::graph_text::push_graph;
+use std::alloc::Global;
+use std::io::{Read, Write};
+use uring_machine::{Machine, Setup};
+use uring_trace::{Calls, Explainer, TraceFault, read_once, write_all};
+
+/// Most bytes that are read at once.
+const CHUNK: usize = 512;
+
+/// Reads the lines of an explanation from `reader`, makes their steps on a new machine of this set-up, and writes to `writer`, once the input has ended, the graph of the outstanding requests in Graphviz's language: no answers. `Ok` tells whether a line was bad.
+///
+/// A request is a node: an ellipse if it runs, an octagon if it is doomed, a box if it waits, a diamond if it may start. From one that waits an edge leads to the least request that it waits for, with the reason. Each bad line is noted with its number, from 1 on, on `errors`.
+///
+/// - `Read`: a read failed, or 2^64 - 1 reads were made. Nothing is drawn.
+/// - `Write`: a write failed or took no byte, or 2^64 - 1 writes were made. The graph or the notes are cut short.
+/// - `Memory`: memory was refused. Nothing is drawn.
+pub fn graph<R: Read, W: Write, E: Write>(
+    alloc: Global,
+    reader: &mut R,
+    writer: &mut W,
+    errors: &mut E,
+    setup: &Setup,
+) -> Result<bool, TraceFault>
+    ensures { IfOk result (λ bad. Draws last_graph setup.now bad (R.remaining reader.old) (R.remaining reader.new) (W.contents writer.old) (W.contents writer.new) (E.contents errors.old) (E.contents errors.new)) }
+{
+    let mut explainer = Explainer::new(alloc, setup)?;
+    draw_all(alloc, &mut explainer, reader, writer, errors)
+}
+
+/// Takes in all lines, and draws the graph behind the last.
+fn draw_all<R: Read, W: Write, E: Write>(
+    alloc: Global,
+    explainer: &mut Explainer,
+    reader: &mut R,
+    writer: &mut W,
+    errors: &mut E,
+) -> Result<bool, TraceFault>
+    ensures { IfOk result (λ bad. (setup : Setup) → HasTold setup explainer.old [] [] [] → Draws last_graph setup bad (R.remaining reader.old) (R.remaining reader.new) (W.contents writer.old) (W.contents writer.new) (E.contents errors.old) (E.contents errors.new)) }
+{
+    let bad = read_all(alloc, explainer, reader, errors)?;
+    write_graph(alloc, explainer.machine(), writer)?;
+    Ok(bad)
+}
+
+/// Writes the graph of the outstanding requests.
+fn write_graph<W: Write>(alloc: Global, machine: &Machine, writer: &mut W) -> Result<(), TraceFault>
+    ensures { OnOk result ((h : History) → Fits machine.now h → Appends (W.contents writer.old) (W.contents writer.new) (graph_of (world machine.now.core.setup h).requests)) }
+{
+    let mut text = String::new(alloc);
+    push_graph(&mut text, machine)?;
+    write_all(writer, text.as_bytes(), &mut Calls::new())
+}
+
+/// Takes in all lines, and writes what is noted of them. Returns whether a line was bad.
+fn read_all<R: Read, E: Write>(
+    alloc: Global,
+    explainer: &mut Explainer,
+    reader: &mut R,
+    errors: &mut E,
+) -> Result<bool, TraceFault>
+    ensures { IfOk result (λ bad. (setup : Setup) → HasTold setup explainer.old [] [] [] → ReadsAll setup bad explainer.new (R.remaining reader.old) (R.remaining reader.new) (E.contents errors.old) (E.contents errors.new)) }
+{
+    let mut reads = Calls::new();
+    let mut writes = Calls::new();
+    let mut chunk = [0; CHUNK];
+    while !reads.are_over() {
+        match read_once(reader, &mut chunk, &mut reads) {
+            Ok(0) => return end_in(alloc, explainer, errors, &mut writes),
+            Ok(count) => take_in(alloc, explainer, &chunk[..count], errors, &mut writes)?,
+            Err(_) => {}
+        }
+    }
+    Err(TraceFault::Read)
+}
+
+/// Takes in these bytes, and writes what is noted of the lines that they complete.
+fn take_in<E: Write>(
+    alloc: Global,
+    explainer: &mut Explainer,
+    bytes: &[u8],
+    errors: &mut E,
+    writes: &mut Calls,
+) -> Result<(), TraceFault>
+    ensures { OnOk result (TakesIn explainer.old explainer.new bytes.now (E.contents errors.old) (E.contents errors.new)) }
+{
+    let mut text = String::new(alloc);
+    let mut notes = String::new(alloc);
+    explainer.feed(bytes, &mut text, &mut notes)?;
+    write_all(errors, notes.as_bytes(), writes)
+}
+
+/// Ends the input, and writes what is noted of a last line without an end. Returns whether a line was bad.
+fn end_in<E: Write>(
+    alloc: Global,
+    explainer: &mut Explainer,
+    errors: &mut E,
+    writes: &mut Calls,
+) -> Result<bool, TraceFault>
+    ensures { IfOk result (λ bad. EndsIn bad explainer.old explainer.new (E.contents errors.old) (E.contents errors.new)) }
+{
+    note_last(alloc, explainer, errors, writes)?;
+    Ok(explainer.has_bad())
+}
+
+/// Ends the input, and writes what is noted of a last line without an end.
+fn note_last<E: Write>(
+    alloc: Global,
+    explainer: &mut Explainer,
+    errors: &mut E,
+    writes: &mut Calls,
+) -> Result<(), TraceFault>
+    ensures { OnOk result (EndsLine explainer.old explainer.new (E.contents errors.old) (E.contents errors.new)) }
+{
+    let mut text = String::new(alloc);
+    let mut notes = String::new(alloc);
+    explainer.finish(&mut text, &mut notes)?;
+    write_all(errors, notes.as_bytes(), writes)
+}

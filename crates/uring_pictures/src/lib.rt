@@ -1,0 +1,11 @@
+//! Pictures of a trace: the outstanding requests as a graph, and a timeline of all requests.
+#![tactic(auto)]
+
+mod drawing;
+mod graph_text;
+mod rows;
+mod watching;
+
+pub use drawing::graph;
+pub use uring_trace::TraceFault;
+pub use watching::timeline;

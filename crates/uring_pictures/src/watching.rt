@@ -1,0 +1,150 @@
+//! The run of a trace of which a timeline is drawn.
+
+use crate::rows::Timeline;
+use std::alloc::Global;
+use std::io::{Read, Write};
+use uring_machine::Setup;
+use uring_trace::{Calls, Explainer, TraceFault, read_once, write_all};
+
+/// Most bytes that are read at once.
+const CHUNK: usize = 512;
+
+/// Reads the lines of an explanation from `reader`, makes their steps on a new machine of this set-up, and writes to `writer`, once the input has ended, a row for each request that was accepted: the numbers of the lines, from 1 on, at which it was accepted, started and ended, and at which its completion was posted and reaped, and `-` for what didn't happen. No answers are written. `Ok` tells whether a line was bad.
+///
+/// Each bad line is noted with its number on `errors`. After each step that changes a count it looks at every request, so it is for traces that one can read.
+///
+/// - `Read`: a read failed, or 2^64 - 1 reads were made. Nothing is drawn.
+/// - `Write`: a write failed or took no byte, or 2^64 - 1 writes were made. The timeline or the notes are cut short.
+/// - `Memory`: memory was refused. Nothing is drawn.
+pub fn timeline<R: Read, W: Write, E: Write>(
+    alloc: Global,
+    reader: &mut R,
+    writer: &mut W,
+    errors: &mut E,
+    setup: &Setup,
+) -> Result<bool, TraceFault> {
+    let mut explainer = Explainer::new(alloc, setup)?;
+    draw_all(alloc, &mut explainer, reader, writer, errors)
+}
+
+/// Takes in all lines, and draws the timeline of their requests. Returns whether a line was bad.
+fn draw_all<R: Read, W: Write, E: Write>(
+    alloc: Global,
+    explainer: &mut Explainer,
+    reader: &mut R,
+    writer: &mut W,
+    errors: &mut E,
+) -> Result<bool, TraceFault> {
+    let mut timeline = Timeline::new(alloc);
+    watch_and_write(alloc, explainer, &mut timeline, reader, writer, errors)
+}
+
+/// Takes in all lines, and writes the timeline. Returns whether a line was bad.
+fn watch_and_write<R: Read, W: Write, E: Write>(
+    alloc: Global,
+    explainer: &mut Explainer,
+    timeline: &mut Timeline,
+    reader: &mut R,
+    writer: &mut W,
+    errors: &mut E,
+) -> Result<bool, TraceFault> {
+    watch_all(alloc, explainer, timeline, reader, errors)?;
+    write_timeline(alloc, timeline, writer)?;
+    Ok(explainer.has_bad())
+}
+
+/// Writes the timeline.
+fn write_timeline<W: Write>(
+    alloc: Global,
+    timeline: &Timeline,
+    writer: &mut W,
+) -> Result<(), TraceFault> {
+    let mut text = String::new(alloc);
+    timeline.push_text(&mut text)?;
+    write_all(writer, text.as_bytes(), &mut Calls::new())
+}
+
+/// Takes in all lines, and writes what is noted of them.
+fn watch_all<R: Read, E: Write>(
+    alloc: Global,
+    explainer: &mut Explainer,
+    timeline: &mut Timeline,
+    reader: &mut R,
+    errors: &mut E,
+) -> Result<(), TraceFault> {
+    let mut reads = Calls::new();
+    let mut writes = Calls::new();
+    let mut chunk = [0; CHUNK];
+    while !reads.are_over() {
+        match read_once(reader, &mut chunk, &mut reads) {
+            Ok(0) => return watch_last(alloc, explainer, timeline, errors, &mut writes),
+            Ok(count) => watch(
+                alloc,
+                explainer,
+                timeline,
+                &chunk[..count],
+                errors,
+                &mut writes,
+            )?,
+            Err(_) => {}
+        }
+    }
+    Err(TraceFault::Read)
+}
+
+/// Takes in these bytes, and writes what is noted of the lines that they complete.
+fn watch<E: Write>(
+    alloc: Global,
+    explainer: &mut Explainer,
+    timeline: &mut Timeline,
+    bytes: &[u8],
+    errors: &mut E,
+    writes: &mut Calls,
+) -> Result<(), TraceFault> {
+    let mut text = String::new(alloc);
+    let mut notes = String::new(alloc);
+    watch_bytes(explainer, timeline, bytes, &mut text, &mut notes)?;
+    write_all(errors, notes.as_bytes(), writes)
+}
+
+/// Takes in these bytes, and looks at the machine behind each line that they complete.
+fn watch_bytes(
+    explainer: &mut Explainer,
+    timeline: &mut Timeline,
+    bytes: &[u8],
+    text: &mut String,
+    notes: &mut String,
+) -> Result<(), TraceFault> {
+    for byte in bytes {
+        explainer.feed(&[*byte], text, notes)?;
+        if *byte == b'\n' {
+            timeline.end_line(explainer.machine())?;
+        }
+    }
+    Ok(())
+}
+
+/// Ends the input, and writes what is noted of its last line.
+fn watch_last<E: Write>(
+    alloc: Global,
+    explainer: &mut Explainer,
+    timeline: &mut Timeline,
+    errors: &mut E,
+    writes: &mut Calls,
+) -> Result<(), TraceFault> {
+    let mut text = String::new(alloc);
+    let mut notes = String::new(alloc);
+    end_last(explainer, timeline, &mut text, &mut notes)?;
+    write_all(errors, notes.as_bytes(), writes)
+}
+
+/// Ends the input, and looks at the machine behind its last line.
+fn end_last(
+    explainer: &mut Explainer,
+    timeline: &mut Timeline,
+    text: &mut String,
+    notes: &mut String,
+) -> Result<(), TraceFault> {
+    explainer.finish(text, notes)?;
+    Ok(timeline.end_line(explainer.machine())?)
+}

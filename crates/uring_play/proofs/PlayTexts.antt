@@ -1,0 +1,63 @@
+-- What is read, played and written, put together.
+use Rattle.std.proofs.Common.{◌≡◌, ℕ, List, [], ◌++◌, length, Option, Some, None, Result, Ok, Err, refl, sym, ap, ◌∙◌, subst, append-nil}
+use Rattle.std.specs.Io.KnownBytes.{Appends}
+use Rattle.std.specs.List.Sorted.{IsPermutation}
+use Rattle.std.specs.declared.vec.Vec.{Vec}
+use Rattle.std.specs.declared.alloc.Global.{Global}
+use Rattle.uring_entry.specs.Layout.{Cqe}
+use Rattle.uring_entry.specs.Setup.{Setup}
+use Rattle.uring_machine.specs.CalledFor.{IsLawful}
+use Rattle.uring_machine.specs.Histories.{Event, history_of}
+use Rattle.uring_threads.specs.declared.item.Item.{Item}
+use Rattle.uring_play.specs.Inputs.{ReadsCalls, lists_of}
+use Rattle.uring_play.specs.Outputs.{lines_text, counts_text, IsInOrder, IsWritten, Writes}
+use Rattle.uring_play.specs.Plays.{IsPlay, IsTextOf, IsPlayText, WritesPlay, Plays, made_by}
+use Rattle.uring_play.specs.Totals.{accepted_in, dropped_last}
+use Rattle.uring_play.proofs.PlayedThrough.{accepted_total}
+use Rattle.uring_play.specs.declared.play_fault.PlayFault.{PlayFault}
+use Rattle.uring_play.specs.declared.play_fault.PlayFault.TheVariants as fault
+
+-- nothing is written
+nothing_written : (held : Option (List ℕ)) → Appends held held []
+nothing_written None = tt
+nothing_written (Some held) = sym (append-nil held)
+
+-- the reader failed, or has a faulty line
+pub stopped_reading : (g : Setup) (f : PlayFault) (before after held : Option (List ℕ)) → ReadsCalls g (Err f) before after → Plays g (Err f) before after held held
+stopped_reading g fault.Read before after held r = record { bytes = r.bytes; consumed = r.consumed; whole = tt; written = []; appended = nothing_written held; answers = refl }
+stopped_reading g fault.Memory before after held r = record { bytes = r.bytes; consumed = r.consumed; whole = tt; written = []; appended = nothing_written held; answers = refl }
+stopped_reading g (fault.Line k) before after held r = record { bytes = r.bytes; consumed = r.consumed; whole = r.whole; written = []; appended = nothing_written held; answers = (r.returned, refl) }
+stopped_reading g (fault.Long k) before after held r = record { bytes = r.bytes; consumed = r.consumed; whole = r.whole; written = []; appended = nothing_written held; answers = (r.returned, refl) }
+stopped_reading g fault.Write before after held r = absurd r.whole
+
+-- memory was refused to the play
+pub out_of_memory : (g : Setup) (calls : Vec (Vec Item Global) Global) (before after held : Option (List ℕ)) → ReadsCalls g (Ok calls) before after → Plays g (Err fault.Memory) before after held held
+out_of_memory g calls before after held r = record { bytes = r.bytes; consumed = r.consumed; whole = tt; written = []; appended = nothing_written held; answers = refl }
+
+-- it was played
+pub played : (g : Setup) (calls : Vec (Vec Item Global) Global) (trace : List Event) (completions : List Cqe) (answer : Result (Unit {0}) PlayFault) (before after held_before held_after : Option (List ℕ)) → ReadsCalls g (Ok calls) before after
+    → IsPlay g (lists_of calls.items) trace completions → WritesPlay answer held_before held_after trace completions → Plays g answer before after held_before held_after
+played g calls trace completions answer before after held_before held_after r play (text, written, (part, appended, is)) = go answer is
+  where
+    the_text : (whole : List ℕ) → text ≡ whole → IsPlayText g r.bytes whole
+    the_text whole same = record { calls = lists_of calls.items; told = r.returned; trace = trace; completions = completions; play = play; written = subst (λ (t : List ℕ). IsTextOf trace completions t) same written }
+
+    go : (a : Result (Unit {0}) PlayFault) → IsWritten a text part → Plays g a before after held_before held_after
+    go (Ok done) is = record { bytes = r.bytes; consumed = r.consumed; whole = r.whole; written = part; appended = appended; answers = the_text part (sym is) }
+    go (Err fault.Write) (more, some, all) = record { bytes = r.bytes; consumed = r.consumed; whole = r.whole; written = part; appended = appended; answers = (more, some, the_text (part ++ more) all) }
+    go (Err fault.Memory) is = record { bytes = r.bytes; consumed = r.consumed; whole = tt; written = part; appended = appended; answers = is }
+    go (Err fault.Read) is = absurd is
+    go (Err (fault.Line k)) is = absurd is
+    go (Err (fault.Long k)) is = absurd is
+
+-- the completions of a lawful trace were sorted and written, and then these counts
+pub counts_told : (g : Setup) (trace : List Event) (completions old sorted : List Cqe) (taken dropped : ℕ) (answer : Result (Unit {0}) PlayFault) (before after : Option (List ℕ)) → IsLawful g (history_of trace) → taken ≡ length (made_by g trace).requests.accepted
+    → dropped ≡ dropped_last trace → old ≡ completions → IsPermutation old sorted → IsInOrder sorted → Writes answer before after (lines_text sorted ++ counts_text taken dropped) → WritesPlay answer before after trace completions
+counts_told g trace completions old sorted taken dropped answer before after lawful all last same permuted ordered writes =
+    let counts : counts_text taken dropped ≡ counts_text (accepted_in trace) (dropped_last trace) =
+    ap (λ (n : ℕ). counts_text n dropped) (all ∙ sym (accepted_total g trace lawful)) ∙ ap (counts_text (accepted_in trace)) last
+    in (
+      lines_text sorted ++ counts_text taken dropped,
+      record { sorted = sorted; same = subst (λ (cs : List Cqe). IsPermutation cs sorted) same permuted; in_order = ordered; is = ap (λ (t : List ℕ). lines_text sorted ++ t) counts },
+      writes,
+    )

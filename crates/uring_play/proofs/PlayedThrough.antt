@@ -1,0 +1,135 @@
+-- A play in which all went through: its trace published all items, and nothing is left.
+use Rattle.std.proofs.Common.{◌≡◌, ℕ, ◌+◌, true, List, [], ◌∷◌, ◌++◌, ◌<◌, get_or, length, map, sum, Option, Some, None, refl, sym, ap, ◌∙◌, subst, arith, append-nil}
+use Rattle.std.specs.Prelude.{unwrap_or}
+use Rattle.std.proofs.lemmas.List.{get_or-map, length-map}
+use Rattle.std.proofs.lemmas.List.Sums.{sum_by_push, sum_by-cons}
+use Rattle.uring_entry.specs.Layout.{Cqe}
+use Rattle.uring_entry.specs.Requests.{outstanding_in}
+use Rattle.uring_entry.specs.Setup.{Setup}
+use Rattle.uring_machine.specs.CalledFor.{IsLawful}
+use Rattle.uring_machine.specs.Direct.{accepted_by, told, with_told}
+use Rattle.uring_machine.specs.Histories.{Event, History, world, history_of}
+use Rattle.uring_machine.specs.Published.{published_items}
+use Rattle.uring_machine.proofs.DirectRequests.{direct_requests}
+use Rattle.uring_machine.proofs.Following.{history_of-cons, history_of-append}
+use Rattle.uring_machine.proofs.WholeLaws.{lawful_apart}
+use Rattle.uring_threads.specs.AppEnd.{AppEnd}
+use Rattle.uring_threads.specs.Items.{all_published_as}
+use Rattle.uring_threads.specs.Kept.{now}
+use Rattle.uring_threads.specs.Kernel.{Kernel, IsIdle}
+use Rattle.uring_threads.specs.Ports.{Put, items_of_calls}
+use Rattle.uring_threads.specs.Report.{Report, AreTogether, left_by, FinishesAll, PublishesItems, ClosesOnlyAllTaken, DeliversReaped, ReapsPosted}
+use Rattle.uring_threads.specs.Settled.{finish_of}
+use Rattle.uring_threads.specs.SettledWorker.{all_waiting}
+use Rattle.uring_threads.specs.Worker.{Worker}
+use Rattle.uring_threads.specs.declared.item.Item.{Item}
+use Rattle.uring_threads.specs.declared.job.JobResult.{JobResult}
+use Rattle.uring_play.specs.Plays.{IsPlay}
+use Rattle.uring_play.specs.Threads.{Applies, StaysKernel, StayWorkers}
+use Rattle.uring_play.specs.Totals.{accepted_in, accepted_of}
+use Rattle.uring_play.specs.declared.application.Applied.{Applied}
+
+-- ---- a ring that is closed stays so while results are taken in
+
+closed_behind : (g : Setup) (results : List JobResult) (h : History) → (world g (history_of (map finish_of results) ++ h)).is_closed ≡ (world g h).is_closed
+closed_behind g [] h = refl
+closed_behind g (r ∷ results) h =
+    ap (λ (k : History). (world g k).is_closed) (history_of-cons (finish_of r) (map finish_of results) h) ∙ closed_behind g results (finish_of r ∷ h)
+
+closed_later : (g : Setup) (trace : List Event) (results : List JobResult) → (world g (history_of (trace ++ map finish_of results))).is_closed ≡ (world g (history_of trace)).is_closed
+closed_later g trace results =
+    let both = history_of-append trace (map finish_of results) [] in
+    let none = append-nil (history_of (trace ++ map finish_of results)) in
+    let first = append-nil (history_of trace) in
+    ap (λ (k : History). (world g k).is_closed) (sym none ∙ both ∙ ap (λ (k : History). history_of (map finish_of results) ++ k) first)
+    ∙ closed_behind g results (history_of trace)
+
+-- ---- all went through
+
+-- what settling gave of ends that were done
+pub record IsOver (g : Setup) (calls : List (List Item)) (app : AppEnd) (kernel : Kernel) (workers : List Worker) (r : Report) : Type 0 where
+  pub setup : r.setup ≡ kernel.kept.setup
+  pub same : kernel.kept.setup ≡ g
+  pub lawful : IsLawful r.setup (history_of r.trace)
+  pub trace : FinishesAll kernel.kept.trace kernel.lanes workers r
+  pub items : PublishesItems app.submitted r
+  pub closed : ClosesOnlyAllTaken app.submitted r
+  pub reaped : DeliversReaped app.received r
+  pub posted : ReapsPosted r
+  pub idle : IsIdle (now kernel.kept)
+  pub submitted : app.submitted ≡ record { calls = calls; closed = true }
+  pub none_outstanding : outstanding_in (left_by r).requests ≡ 0
+  pub none_waits : r.waiting ≡ []
+
+pub over_is_play : (g : Setup) (calls : List (List Item)) (app : AppEnd) (kernel : Kernel) (workers : List Worker) (r : Report) (completions : List Cqe) → IsOver g calls app kernel workers r → completions ≡ app.received ++ r.undelivered
+    → IsPlay g calls r.trace completions
+over_is_play g calls app kernel workers r completions over all =
+    let same : r.setup ≡ g = over.setup ∙ over.same in
+    let results = all_waiting kernel.lanes workers in
+    let shut : (left_by r).is_closed ≡ true =
+    ap (λ (s : Setup). (world s (history_of r.trace)).is_closed) over.setup
+    ∙ ap (λ (t : List Event). (world kernel.kept.setup (history_of t)).is_closed) over.trace
+    ∙ closed_later kernel.kept.setup kernel.kept.trace results
+    ∙ over.idle.closed
+    in
+    let went = over.closed shut in
+    let calls_are : app.submitted.calls ≡ calls = ap (λ (p : Put). p.calls) over.submitted in
+    let published =
+    sym (append-nil _) ∙ ap (λ (u : List Item). published_items (left_by r).submission ++ all_published_as u) (sym went.unsent) ∙ over.items
+    ∙ ap (λ (cs : List (List Item)). all_published_as (items_of_calls cs)) calls_are
+    in
+    let reaped = sym over.reaped ∙ sym all in
+    let posted = sym over.posted ∙ ap (λ (w : List Cqe). (left_by r).completions.reaped ++ w) over.none_waits ∙ append-nil _ ∙ reaped in
+    subst (λ (s : Setup). IsPlay s calls r.trace completions) same
+    (record {
+      lawful = over.lawful;
+      published = published;
+      cut = went.calls ∙ ap (map length) calls_are;
+      none_outstanding = over.none_outstanding;
+      reaped = reaped;
+      none_waits = posted;
+    })
+
+-- ---- how many requests were accepted
+
+told_one : (before : List ℕ) (o : Option ℕ) → sum (with_told before o) ≡ sum before + unwrap_or o 0
+told_one before None = omega arith
+told_one before (Some n) = sum_by_push (λ k. k) before n
+
+told_all : (events : List Event) (h : History) → sum (told accepted_by (history_of events ++ h)) ≡ sum (told accepted_by h) + accepted_in events
+told_all [] h = omega arith
+told_all (e ∷ events) h =
+    let later = told_all events (e ∷ h) in
+    let one = told_one (told accepted_by h) (accepted_by e) in
+    let head = sum_by-cons accepted_of e events in
+    ap (λ (k : History). sum (told accepted_by k)) (history_of-cons e events h) ∙ omega (arith, later, one, head)
+
+-- the calls of a lawful trace accepted as many requests as there are
+pub accepted_total : (g : Setup) (trace : List Event) → IsLawful g (history_of trace) → accepted_in trace ≡ length (world g (history_of trace)).requests.accepted
+accepted_total g trace lawful =
+    let direct = direct_requests g (history_of trace) (lawful_apart g (history_of trace) lawful) in
+    let all = told_all trace [] in
+    let none = append-nil (history_of trace) in
+    let counted : sum (told accepted_by (history_of trace ++ [])) ≡ length (world g (history_of trace)).requests.accepted = ap (λ (k : History). sum (told accepted_by k)) none ∙ direct.counted in
+    omega (arith, all, counted)
+
+-- ---- the ends behind their threads
+
+-- the ends are still all of one set-up
+pub still_together : (app : AppEnd) (kernel : Kernel) (workers : List Worker) (calls : List (List Item)) (applied : Applied) (kernel_after : Kernel) (workers_after : List Worker) → AreTogether app kernel workers
+    → Applies app calls applied → StaysKernel kernel kernel_after → StayWorkers workers workers_after → AreTogether applied.app kernel_after workers_after
+still_together app kernel workers calls applied kernel_after workers_after t applies stays so =
+    let count : Worker → ℕ = λ w. length w.files in
+    let many : length workers_after ≡ length workers = sym (length-map workers_after count) ∙ ap length so.files ∙ length-map workers count in
+    record {
+      ports = stays.pairing ∙ t.ports ∙ sym applies.pairing;
+      sizes = stays.sizes ∙ t.sizes ∙ sym applies.sizes;
+      lanes = so.lanes ∙ t.lanes ∙ sym stays.lanes;
+      files = λ k e low.
+          let before : k < length workers = omega (arith, low, many) in
+          sym (get_or-map count workers_after k e (count e) low)
+          ∙ ap (λ (ns : List ℕ). get_or ns k (count e)) so.files
+          ∙ get_or-map count workers k e (count e) before
+          ∙ t.files k e before
+          ∙ ap (λ (s : Setup). s.files) (sym stays.setup);
+    }

@@ -1,0 +1,76 @@
+-- Plays: what the threads make of calls, and what is written of it. Our own rule.
+use Rattle.std.specs.Prelude.{◌≡◌, ℕ, ◌<◌, List, [], ◌++◌, length, map, Option, Result, Ok, Err}
+use Rattle.std.specs.Io.KnownBytes.{Appends, Consumes, IsAtEnd}
+use Rattle.std.specs.List.Sorted.{IsPermutation}
+use Rattle.uring_entry.specs.Layout.{Cqe}
+use Rattle.uring_entry.specs.Requests.{outstanding_in}
+use Rattle.uring_entry.specs.Setup.{Setup}
+use Rattle.uring_machine.specs.CalledFor.{IsLawful}
+use Rattle.uring_machine.specs.Histories.{Event, world, history_of}
+use Rattle.uring_machine.specs.Published.{published_items}
+use Rattle.uring_machine.specs.World.{World}
+use Rattle.uring_threads.specs.Items.{all_published_as}
+use Rattle.uring_threads.specs.Ports.{items_of_calls}
+use Rattle.uring_threads.specs.declared.item.Item.{Item}
+use Rattle.uring_play.specs.Inputs.{IsTold}
+use Rattle.uring_play.specs.Outputs.{lines_text, counts_text, IsInOrder, Writes}
+use Rattle.uring_play.specs.Totals.{accepted_in, dropped_last}
+use Rattle.uring_play.specs.declared.play_fault.PlayFault.{PlayFault}
+use Rattle.uring_play.specs.declared.play_fault.PlayFault.TheVariants as fault
+
+-- what a trace has made
+abbrev pub made_by : Setup → List Event → World
+made_by g trace = world g (history_of trace)
+
+-- A play of these calls: a lawful trace that published exactly their items, in order, and took them in by calls of these lengths; of its requests none is outstanding, and these are all the completions that it posted, in the order in which it reaped them: none waits.
+pub record IsPlay (g : Setup) (calls : List (List Item)) (trace : List Event) (completions : List Cqe) : Type 0 where
+  pub lawful : IsLawful g (history_of trace)
+  pub published : published_items (made_by g trace).submission ≡ all_published_as (items_of_calls calls)
+  pub cut : (made_by g trace).submission.calls ≡ map length calls
+  pub none_outstanding : outstanding_in (made_by g trace).requests ≡ 0
+  pub reaped : (made_by g trace).completions.reaped ≡ completions
+  pub none_waits : (made_by g trace).completions.posted ≡ completions
+
+-- The text of a play: its completions, sorted, and its counts.
+pub record IsTextOf (trace : List Event) (completions : List Cqe) (text : List ℕ) : Type 0 where
+  pub sorted : List Cqe
+  pub same : IsPermutation completions sorted
+  pub in_order : IsInOrder sorted
+  pub is : text ≡ lines_text sorted ++ counts_text (accepted_in trace) (dropped_last trace)
+
+-- what is written of a play: its text, or its beginning, or nothing, by what is returned
+abbrev pub WritesPlay : Result (Unit {0}) PlayFault → Option (List ℕ) → Option (List ℕ) → List Event → List Cqe → Type 0
+WritesPlay answer before after trace completions = (text : List ℕ) × IsTextOf trace completions text × Writes answer before after text
+
+-- These bytes tell calls, and this is the text of a play of them.
+pub record IsPlayText (g : Setup) (bytes text : List ℕ) : Type 0 where
+  pub calls : List (List Item)
+  pub told : IsTold g.sq bytes (Ok calls)
+  pub trace : List Event
+  pub completions : List Cqe
+  pub play : IsPlay g calls trace completions
+  pub written : IsTextOf trace completions text
+
+-- What is written of bytes, by what is returned: all of the text, or its beginning after a write that failed, and after another fault nothing. A faulty line is the first of the bytes.
+abbrev pub AnswersPlay : Setup → List ℕ → Result (Unit {0}) PlayFault → List ℕ → Type 0
+AnswersPlay g bytes (Ok done) written = IsPlayText g bytes written
+AnswersPlay g bytes (Err fault.Write) written = (more : List ℕ) × (0 < length more) × IsPlayText g bytes (written ++ more)
+AnswersPlay g bytes (Err (fault.Line k)) written = IsTold g.sq bytes (Err (fault.Line k)) × (written ≡ [])
+AnswersPlay g bytes (Err (fault.Long k)) written = IsTold g.sq bytes (Err (fault.Long k)) × (written ≡ [])
+AnswersPlay g bytes (Err fault.Read) written = written ≡ []
+AnswersPlay g bytes (Err fault.Memory) written = written ≡ []
+
+-- at the end the reader has nothing left, unless it failed or memory was refused
+abbrev pub ReadsToEnd : Result (Unit {0}) PlayFault → Option (List ℕ) → Type 0
+ReadsToEnd (Err fault.Read) left = Unit {0}
+ReadsToEnd (Err fault.Memory) left = Unit {0}
+ReadsToEnd answer left = IsAtEnd left
+
+-- What was read and written: the reader had `left_before` left and has `left_after`, the writer held `held_before` and holds `held_after`.
+pub record Plays (g : Setup) (answer : Result (Unit {0}) PlayFault) (left_before left_after held_before held_after : Option (List ℕ)) : Type 0 where
+  pub bytes : List ℕ
+  pub consumed : Consumes left_before left_after bytes
+  pub whole : ReadsToEnd answer left_after
+  pub written : List ℕ
+  pub appended : Appends held_before held_after written
+  pub answers : AnswersPlay g bytes answer written

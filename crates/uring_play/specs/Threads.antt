@@ -1,0 +1,50 @@
+-- What each thread of a play leaves of the end that it was given. All of it is our own rule.
+use Rattle.std.specs.Prelude.{◌≡◌, ℕ, true, List, length, map}
+use Rattle.std.specs.declared.thread.PromisedHandle.{PromisedHandle}
+use Rattle.uring_threads.specs.AppEnd.{AppEnd}
+use Rattle.uring_threads.specs.Dispatched.{numbers_of_lanes}
+use Rattle.uring_threads.specs.Kernel.{Kernel}
+use Rattle.uring_threads.specs.Worker.{Worker}
+use Rattle.uring_threads.specs.declared.item.Item.{Item}
+use Rattle.uring_play.specs.declared.application.Applied.{Applied}
+use Rattle.uring_play.specs.declared.promises.GivesWorker.{GivesWorker}
+
+-- The application's end is still of its pair of ports, and all that it reaped is at hand. If all is done, these calls were submitted, and the end was closed.
+pub record Applies (before : AppEnd) (calls : List (List Item)) (applied : Applied) : Type 0 where
+  pub pairing : applied.app.pairing ≡ before.pairing
+  pub sizes : applied.app.sizes ≡ before.sizes
+  pub reaped : applied.app.received ≡ applied.completions.items
+  pub submitted : applied.done ≡ true → applied.app.submitted ≡ record { calls = calls; closed = true }
+
+-- The dispatcher's end is still over the same port and lanes, and of the same set-up.
+pub record StaysKernel (before after : Kernel) : Type 0 where
+  pub setup : after.kept.setup ≡ before.kept.setup
+  pub pairing : after.pairing ≡ before.pairing
+  pub sizes : after.sizes ≡ before.sizes
+  pub lanes : numbers_of_lanes after.lanes ≡ numbers_of_lanes before.lanes
+
+-- The worker still has its lanes, and as many files.
+pub record StaysWorker (before after : Worker) : Type 0 where
+  pub pairing : after.pairing ≡ before.pairing
+  pub files : length after.files ≡ length before.files
+
+-- and so have all workers, in their order
+abbrev pub lanes_of_workers : List Worker → List (List (List ℕ))
+lanes_of_workers workers = map (λ (w : Worker). w.pairing) workers
+
+abbrev pub files_of_workers : List Worker → List ℕ
+files_of_workers workers = map (λ (w : Worker). length w.files) workers
+
+pub record StayWorkers (before after : List Worker) : Type 0 where
+  pub lanes : lanes_of_workers after ≡ lanes_of_workers before
+  pub files : files_of_workers after ≡ files_of_workers before
+
+-- the thread of a worker, and the workers for which such threads were started, in their order
+abbrev pub WorkerThread : Type 0
+WorkerThread = PromisedHandle Worker GivesWorker
+
+abbrev pub worker_of : WorkerThread → Worker
+worker_of thread = thread.promise.0.value
+
+abbrev pub workers_of : List WorkerThread → List Worker
+workers_of threads = map worker_of threads

@@ -1,0 +1,101 @@
+//! A play of calls: all ends are made, run in threads, and settled.
+ghost use Rattle.std.specs.Prelude.{◌≡◌, ◌<◌, ◌≤◌, ℕ, List, true, false, [], IfOk, IsTrue};
+ghost use Rattle.uring_entry.specs.Requests.{outstanding_in};
+ghost use Rattle.uring_play.specs.Inputs.{lists_of};
+ghost use Rattle.uring_play.specs.Plays.{IsPlay};
+ghost use Rattle.uring_threads.specs.Kept.{now};
+ghost use Rattle.uring_threads.specs.Kernel.{IsIdle};
+ghost use Rattle.uring_threads.specs.Report.{AreTogether, left_by};
+ghost use Rattle.uring_threads.specs.declared.item.Item.{Item};
+
+use crate::application::Applied;
+use crate::running::{Ended, run_threads};
+use std::alloc::{AllocError, Global};
+use std::sync::Wait;
+use std::thread::Threads;
+use uring_machine::Cqe;
+use uring_threads::{Item, Kernel, KernelLanes, Open, Report, Setup, lanes, settle};
+
+/// What a play leaves.
+#[derive(Drop)]
+pub(crate) struct Played {
+    pub report: Report<Open>,
+
+    /// The completions of all requests, in order.
+    pub completions: Vec<Cqe>,
+}
+
+/// Plays calls over this set-up with so many workers: application, dispatcher and each worker have a thread. Conditions: there are 1 to 8 workers, and calls of the set-up go on. `AllocError`: out of memory, or a thread can't be started.
+pub(crate) fn drive<R: Threads + Wait + Copy + Send + 'static>(
+    rt: R,
+    alloc: Global,
+    setup: &Setup,
+    workers: u32,
+    calls: Vec<Vec<Item>>,
+) -> Result<Played, AllocError>
+    requires some { 0 < workers }
+    requires few { workers ≤ 8 }
+    requires goes_on { setup.now.stops ≡ false }
+    ensures setup { IfOk result (λ played. played.report.setup ≡ setup.now) }
+    ensures play { IfOk result (λ played. IsPlay setup.now (lists_of calls.items) played.report.trace played.completions.items) }
+{
+    let completions = Vec::with_capacity(alloc, count_items(calls.as_slice()))?;
+    let gates = vec![in alloc; Open; workers as usize]?;
+    let Ok((app, kernel, workers)) = lanes(alloc, setup, gates) else {
+        return Err(AllocError);
+    };
+    let ended = run_threads(rt, alloc, app, kernel, workers, calls, completions)?;
+    settle_all(alloc, ended)
+}
+
+/// How many items there are, or the greatest number if they are more.
+fn count_items(calls: &[Vec<Item>]) -> usize {
+    let mut count = 0usize;
+    for call in calls {
+        count = count.saturating_add(call.len());
+    }
+    count
+}
+
+/// Settles all ends, and takes the completions that weren't received behind those that were. `AllocError`: out of memory; or one of the threads was, and so left something undone.
+fn settle_all(alloc: Global, ended: Ended) -> Result<Played, AllocError>
+    requires together { AreTogether ended.applied.app ended.kernel ended.workers.items }
+    requires reaped { ended.applied.app.received ≡ ended.applied.completions.items }
+    ensures setup { IfOk result (λ played. played.report.setup ≡ ended.kernel.kept.setup) }
+    ensures play { (calls : List (List Item)) → (ended.applied.done ≡ true → ended.applied.app.submitted ≡ record { calls = calls; closed = true }) → IfOk result (λ played. IsPlay ended.kernel.kept.setup calls played.report.trace played.completions.items) }
+{
+    let Ended {
+        applied,
+        kernel,
+        workers,
+    } = ended;
+    let is_over = are_done(&applied, &kernel);
+    let mut completions = applied.completions;
+    let Ok(report) = settle(alloc, applied.app, kernel, workers) else {
+        return Err(AllocError);
+    };
+    if !is_over || !is_empty(&report) {
+        return Err(AllocError);
+    }
+    completions.extend_from_slice(report.undelivered())?;
+    Ok(Played {
+        report,
+        completions,
+    })
+}
+
+/// Whether the application submitted all calls and closed, and nothing is left to the dispatcher.
+fn are_done(applied: &Applied, kernel: &Kernel<KernelLanes>) -> bool
+    ensures applied { IsTrue result → applied.now.done ≡ true }
+    ensures idle { IsTrue result → IsIdle (now kernel.now.kept) }
+{
+    applied.done && kernel.idle()
+}
+
+/// Whether nothing is outstanding, and no completion waits.
+fn is_empty(report: &Report<Open>) -> bool
+    ensures outstanding { IsTrue result → outstanding_in (left_by report.now).requests ≡ 0 }
+    ensures waiting { IsTrue result → report.now.waiting ≡ [] }
+{
+    report.counts().outstanding == 0 && report.waiting().is_empty()
+}

@@ -1,0 +1,53 @@
+//! A play: calls are read, played in threads, and their completions written.
+ghost use Rattle.std.specs.Prelude.{◌≡◌, ◌<◌, ◌≤◌, false};
+ghost use Rattle.uring_play.specs.Plays.{Plays, WritesPlay};
+
+use crate::drive::{Played, drive};
+use crate::play_fault::PlayFault;
+use crate::reading::read_calls;
+use crate::totals::dropped_last;
+use crate::writing::write_out;
+use std::alloc::Global;
+use std::io::{Read, Write};
+use std::sync::Wait;
+use std::thread::Threads;
+use uring_threads::Setup;
+
+/// Reads all of `reader` as calls of a play over this set-up, plays them with so many workers, and writes the completions of all requests to `writer`, sorted, and then how many requests were accepted and how many words dropped. Conditions: there are 1 to 8 workers, and calls of the set-up go on behind an entry with a fault. Our own rule.
+///
+/// The application, the dispatcher and each worker have a thread of their own; nothing is written before all have ended, and then all completions were reaped and none waits. That they end isn't promised.
+///
+/// - `Read`, `Line`, `Long`: as `read_calls` says. No thread was started, and nothing is written.
+/// - `Memory`: memory was refused, or a thread can't be started. Nothing is written.
+/// - `Write`: a write failed, as `write_out` says. The beginning of the text is written.
+pub fn play<R: Threads + Wait + Copy + Send + 'static, I: Read, O: Write>(
+    rt: R,
+    alloc: Global,
+    reader: &mut I,
+    writer: &mut O,
+    setup: &Setup,
+    workers: u32,
+) -> Result<(), PlayFault>
+    requires some { 0 < workers }
+    requires few { workers ≤ 8 }
+    requires goes_on { setup.now.stops ≡ false }
+    ensures { Plays setup.now result (I.remaining reader.old) (I.remaining reader.new) (O.contents writer.old) (O.contents writer.new) }
+{
+    let calls = read_calls(alloc, reader, setup)?;
+    let played = drive(rt, alloc, setup, workers, calls)?;
+    write_played(alloc, writer, played)
+}
+
+/// Writes the completions of a play, and its counts.
+fn write_played<O: Write>(alloc: Global, writer: &mut O, played: Played) -> Result<(), PlayFault>
+    ensures { WritesPlay result (O.contents writer.old) (O.contents writer.new) played.report.trace played.completions.items }
+{
+    let Played {
+        report,
+        mut completions,
+    } = played;
+    report.is_lawful();
+    let taken = report.counts().accepted;
+    let dropped = dropped_last(report.trace());
+    write_out(alloc, writer, &mut completions, taken, dropped)
+}

@@ -1,0 +1,111 @@
+//! What each thread of a play promises of the ends that it gives back.
+ghost use Rattle.std.specs.Prelude.{◌≡◌, IfOk};
+ghost use Rattle.uring_threads.specs.Ports.{nothing_put};
+ghost use Rattle.uring_play.specs.Inputs.{lists_of};
+ghost use Rattle.uring_play.specs.Threads.{Applies, StaysKernel, StaysWorker};
+
+use crate::application::{Applied, apply};
+use crate::serving::{dispatch, work};
+use std::alloc::AllocError;
+use std::snapshot::Snapshot;
+use std::sync::atomic::AtomicBool;
+use std::sync::{Arc, Wait};
+use std::thread;
+use std::thread::{Promise, PromisedHandle, Threads};
+use uring_machine::Cqe;
+use uring_threads::{AppEnd, AppLanes, Item, Kernel, KernelLanes, Open, Worker};
+
+/// The application's thread submits these calls through this end.
+#[derive(Drop)]
+pub(crate) struct AppliesAll {
+    before: Snapshot<AppEnd<AppLanes>>,
+    calls: Snapshot<Vec<Vec<Item>>>,
+}
+
+impl Promise<Applied> for AppliesAll {
+    ghost use Rattle.uring_play.specs.Inputs.{lists_of};
+    ghost use Rattle.uring_play.specs.Threads.{Applies};
+
+    ghost kept_by = { λ p applied. Applies p.before.value (lists_of p.calls.value.items) applied };
+}
+
+/// The dispatcher's thread gives this end back.
+#[derive(Drop)]
+pub(crate) struct GivesKernel(Snapshot<Kernel<KernelLanes>>);
+
+impl Promise<Kernel<KernelLanes>> for GivesKernel {
+    ghost use Rattle.uring_play.specs.Threads.{StaysKernel};
+
+    ghost kept_by = { λ p kernel. StaysKernel p.0.value kernel };
+}
+
+/// A worker's thread gives this worker back.
+#[derive(Drop)]
+pub(crate) struct GivesWorker(Snapshot<Worker<Open>>);
+
+impl Promise<Worker<Open>> for GivesWorker {
+    ghost use Rattle.uring_play.specs.Threads.{StaysWorker};
+
+    ghost kept_by = { λ p worker. StaysWorker p.0.value worker };
+}
+
+/// The thread of a worker.
+pub(crate) type WorkerThread = PromisedHandle<Worker<Open>, GivesWorker>;
+
+/// Starts the application's thread. `AllocError`: it can't be started.
+pub(crate) fn start_application<R: Threads + Wait + Copy + Send + 'static>(
+    rt: R,
+    app: AppEnd<AppLanes>,
+    calls: Vec<Vec<Item>>,
+    completions: Vec<Cqe>,
+    stop: &Arc<AtomicBool>,
+) -> Result<PromisedHandle<Applied, AppliesAll>, AllocError>
+    requires submitted { app.submitted ≡ nothing_put }
+    requires reaped { app.received ≡ completions.items }
+    ensures before { IfOk result (λ thread. thread.promise.before.value ≡ app) }
+    ensures calls { IfOk result (λ thread. thread.promise.calls.value ≡ calls) }
+{
+    let stop = Arc::try_clone(stop)?;
+    let promise = AppliesAll {
+        before: Snapshot::of(&app),
+        calls: Snapshot::of(&calls),
+    };
+    let body = move || -> Applied
+        requires submitted { app.submitted ≡ nothing_put }
+        requires reaped { app.received ≡ completions.items }
+        ensures { Applies app (lists_of calls.items) result }
+    { apply(&rt, app, calls, completions, &stop) };
+    Ok(thread::spawn_with(&rt, promise, body)?)
+}
+
+/// Starts the dispatcher's thread. `AllocError`: it can't be started.
+pub(crate) fn start_dispatcher<R: Threads + Wait + Copy + Send + 'static>(
+    rt: R,
+    kernel: Kernel<KernelLanes>,
+    stop: &Arc<AtomicBool>,
+) -> Result<PromisedHandle<Kernel<KernelLanes>, GivesKernel>, AllocError>
+    ensures { IfOk result (λ thread. thread.promise.0.value ≡ kernel) }
+{
+    let stop = Arc::try_clone(stop)?;
+    let promise = GivesKernel(Snapshot::of(&kernel));
+    let body = move || -> Kernel<KernelLanes>
+        ensures { StaysKernel kernel result }
+    { dispatch(&rt, kernel, &stop) };
+    Ok(thread::spawn_with(&rt, promise, body)?)
+}
+
+/// Starts a worker's thread. `AllocError`: it can't be started.
+pub(crate) fn start_worker<R: Threads + Wait + Copy + Send + 'static>(
+    rt: R,
+    worker: Worker<Open>,
+    stop: &Arc<AtomicBool>,
+) -> Result<WorkerThread, AllocError>
+    ensures { IfOk result (λ thread. thread.promise.0.value ≡ worker) }
+{
+    let stop = Arc::try_clone(stop)?;
+    let promise = GivesWorker(Snapshot::of(&worker));
+    let body = move || -> Worker<Open>
+        ensures { StaysWorker worker result }
+    { work(&rt, worker, &stop) };
+    Ok(thread::spawn_with(&rt, promise, body)?)
+}

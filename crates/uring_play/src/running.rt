@@ -1,0 +1,149 @@
+//! The threads of a play: each end in a thread of its own, from the start of all of them until all have ended.
+ghost use Rattle.std.specs.Prelude.{◌≡◌, ◌≤◌, [], length, IfOk, OnOk, vec_capacity};
+ghost use Rattle.uring_threads.specs.Ports.{nothing_put};
+ghost use Rattle.uring_play.specs.Inputs.{lists_of};
+ghost use Rattle.uring_play.specs.Threads.{Applies, StaysKernel, StayWorkers, workers_of};
+
+use crate::application::Applied;
+use crate::promises::{WorkerThread, start_application, start_dispatcher, start_worker};
+use std::alloc::{AllocError, Global};
+use std::sync::atomic::{AtomicBool, Ordering};
+use std::sync::{Arc, Wait};
+use std::thread::Threads;
+use uring_machine::Cqe;
+use uring_threads::{AppEnd, AppLanes, Item, Kernel, KernelLanes, Open, Worker};
+
+/// The ends of a play, behind its threads.
+#[derive(Drop)]
+pub(crate) struct Ended {
+    pub applied: Applied,
+    pub kernel: Kernel<KernelLanes>,
+    pub workers: Vec<Worker<Open>>,
+}
+
+/// Runs the application, the dispatcher and each worker in a thread of its own, until all have ended. `AllocError`: out of memory, or a thread can't be started; those that were started have ended.
+pub(crate) fn run_threads<R: Threads + Wait + Copy + Send + 'static>(
+    rt: R,
+    alloc: Global,
+    app: AppEnd<AppLanes>,
+    kernel: Kernel<KernelLanes>,
+    workers: Vec<Worker<Open>>,
+    calls: Vec<Vec<Item>>,
+    completions: Vec<Cqe>,
+) -> Result<Ended, AllocError>
+    requires submitted { app.submitted ≡ nothing_put }
+    requires reaped { app.received ≡ completions.items }
+    ensures application { IfOk result (λ ended. Applies app (lists_of calls.items) ended.applied) }
+    ensures dispatcher { IfOk result (λ ended. StaysKernel kernel ended.kernel) }
+    ensures workers { IfOk result (λ ended. StayWorkers workers.items ended.workers.items) }
+{
+    let stop = Arc::new(alloc, AtomicBool::new(false))?;
+    let mut started = Vec::with_capacity(alloc, workers.len())?;
+    let back = Vec::with_capacity(alloc, workers.len())?;
+    let ran = run_with_workers(
+        rt,
+        app,
+        kernel,
+        workers,
+        calls,
+        completions,
+        &stop,
+        &mut started,
+    );
+    stop.store(true, Ordering::SeqCst);
+    let workers = join_workers(rt, started, back);
+    let (applied, kernel) = ran?;
+    Ok(Ended {
+        applied,
+        kernel,
+        workers,
+    })
+}
+
+/// Starts all threads, and runs those of application and dispatcher until they have ended. The workers' threads run on.
+fn run_with_workers<R: Threads + Wait + Copy + Send + 'static>(
+    rt: R,
+    app: AppEnd<AppLanes>,
+    kernel: Kernel<KernelLanes>,
+    workers: Vec<Worker<Open>>,
+    calls: Vec<Vec<Item>>,
+    completions: Vec<Cqe>,
+    stop: &Arc<AtomicBool>,
+    started: &mut Vec<WorkerThread>,
+) -> Result<(Applied, Kernel<KernelLanes>), AllocError>
+    requires submitted { app.submitted ≡ nothing_put }
+    requires reaped { app.received ≡ completions.items }
+    requires none { started.old.items ≡ [] }
+    requires room { length workers.items ≤ vec_capacity started.old }
+    ensures few { length started.new.items ≤ length workers.items }
+    ensures application { IfOk result (λ ends. Applies app (lists_of calls.items) ends.0) }
+    ensures dispatcher { IfOk result (λ ends. StaysKernel kernel ends.1) }
+    ensures workers { OnOk result (workers_of started.new.items ≡ workers.items) }
+{
+    start_workers(rt, workers, stop, started)?;
+    run_both(rt, app, kernel, calls, completions, stop)
+}
+
+/// Runs the threads of application and dispatcher until they have ended.
+fn run_both<R: Threads + Wait + Copy + Send + 'static>(
+    rt: R,
+    app: AppEnd<AppLanes>,
+    kernel: Kernel<KernelLanes>,
+    calls: Vec<Vec<Item>>,
+    completions: Vec<Cqe>,
+    stop: &Arc<AtomicBool>,
+) -> Result<(Applied, Kernel<KernelLanes>), AllocError>
+    requires submitted { app.submitted ≡ nothing_put }
+    requires reaped { app.received ≡ completions.items }
+    ensures application { IfOk result (λ ends. Applies app (lists_of calls.items) ends.0) }
+    ensures dispatcher { IfOk result (λ ends. StaysKernel kernel ends.1) }
+{
+    let dispatcher = start_dispatcher(rt, kernel, stop)?;
+    match start_application(rt, app, calls, completions, stop) {
+        Ok(application) => {
+            let applied = application.join(&rt);
+            Ok((applied, dispatcher.join(&rt)))
+        }
+        Err(error) => {
+            stop.store(true, Ordering::SeqCst);
+            dispatcher.join(&rt);
+            Err(error)
+        }
+    }
+}
+
+/// Starts a thread for each worker, in their order.
+fn start_workers<R: Threads + Wait + Copy + Send + 'static>(
+    rt: R,
+    workers: Vec<Worker<Open>>,
+    stop: &Arc<AtomicBool>,
+    started: &mut Vec<WorkerThread>,
+) -> Result<(), AllocError>
+    requires none { started.old.items ≡ [] }
+    requires room { length workers.items ≤ vec_capacity started.old }
+    ensures few { length started.new.items ≤ length workers.items }
+    ensures started { OnOk result (workers_of started.new.items ≡ workers.items) }
+{
+    for worker in workers {
+        let thread = start_worker(rt, worker, stop)?;
+        started.push_reserved(thread);
+    }
+    Ok(())
+}
+
+/// Joins the threads of workers, and gives the workers back in their order.
+fn join_workers<R: Threads + Copy>(
+    rt: R,
+    started: Vec<WorkerThread>,
+    back: Vec<Worker<Open>>,
+) -> Vec<Worker<Open>>
+    requires none { back.items ≡ [] }
+    requires room { length started.items ≤ vec_capacity back }
+    ensures { StayWorkers (workers_of started.items) result.items }
+{
+    let mut back = back;
+    for thread in started {
+        back.push_reserved(thread.join(&rt));
+    }
+    back
+}

@@ -1,0 +1,60 @@
+//! The threads of a play that serve the application: the dispatcher's, and one for each worker.
+ghost use Rattle.std.specs.Prelude.{◌≡◌};
+ghost use Rattle.uring_play.specs.Threads.{StaysKernel, StaysWorker};
+
+use std::sync::Wait;
+use std::sync::atomic::{AtomicBool, Ordering};
+use std::thread;
+use uring_threads::{Kernel, KernelLanes, Open, Turn, Worked, Worker};
+
+/// Turns the dispatcher until it is idle or out of memory, or the threads are to stop, and then tells all threads to stop.
+pub(crate) fn dispatch<R: Wait>(
+    rt: &R,
+    kernel: Kernel<KernelLanes>,
+    stop: &AtomicBool,
+) -> Kernel<KernelLanes>
+    ensures { StaysKernel kernel result }
+{
+    let mut kernel = kernel;
+    turn_until(rt, &mut kernel, stop);
+    stop.store(true, Ordering::SeqCst);
+    kernel
+}
+
+fn turn_until<R: Wait>(rt: &R, kernel: &mut Kernel<KernelLanes>, stop: &AtomicBool)
+    ensures { StaysKernel kernel.old kernel.new }
+{
+    for _ in rt.forever() {
+        if stop.load(Ordering::SeqCst) || kernel.idle() {
+            return;
+        }
+        let Ok(turn) = kernel.turn() else {
+            return;
+        };
+        if is_empty(&turn) {
+            thread::yield_now();
+        }
+    }
+}
+
+/// Whether nothing was done in a turn.
+fn is_empty(turn: &Turn) -> bool {
+    turn.popped == 0 && turn.issued == 0 && turn.finished == 0 && turn.delivered == 0
+}
+
+/// Turns a worker until the threads are to stop.
+pub(crate) fn work<R: Wait>(rt: &R, worker: Worker<Open>, stop: &AtomicBool) -> Worker<Open>
+    ensures { StaysWorker worker result }
+{
+    let mut worker = worker;
+    for _ in rt.forever() {
+        if stop.load(Ordering::SeqCst) {
+            break;
+        }
+        match worker.turn() {
+            Worked::Done(_) => {}
+            Worked::Idle | Worked::Held => thread::yield_now(),
+        }
+    }
+    worker
+}

@@ -1,0 +1,251 @@
+-- What is reported once all ends are settled, from what ties them to the trace.
+use Rattle.std.proofs.Common.{◌≡◌, ◌↔◌, ℕ, ℤ, zero, suc, ◌+◌, ◌<◌, ◌≤◌, ◌==◌, Bool, Some, true, false, List, [], ◌∷◌, ◌++◌, length, map, take, drop, sum, get_or, All, count_by, if◌then◌else◌, refl, sym, subst, ap, ap₂, ◌∙◌, arith, inl, inr, append_assoc, append-nil, length-drop}
+use Rattle.std.specs.List.{list_any}
+use Rattle.std.proofs.Math.Seq.{drop-append_seam}
+use Rattle.std.proofs.lemmas.Bool.{or_cases, or_left, or_right}
+use Rattle.std.proofs.lemmas.Grind.{flat_map-append}
+use Rattle.std.proofs.lemmas.List.{map-append, length-map, length-append, take_more, take_all}
+use Rattle.std.specs.List.{slice_get}
+use Rattle.std.proofs.lemmas.Option.{slice_get_within, get_or_from_slice_get}
+use Rattle.uring_entry.specs.Completions.{Completions, unreaped, with_end, with_posted, completion_for}
+use Rattle.uring_entry.specs.Success.{posts_completion}
+use Rattle.uring_machine.specs.CalledFor.{IsLawful}
+use Rattle.uring_machine.specs.Laws.{ReapedBeginPosted, in_ring, in_overflow}
+use Rattle.uring_threads.specs.Collected.{history, TakesAll}
+use Rattle.std.proofs.lemmas.List.Folds.{list_any-append}
+use Rattle.uring_entry.specs.Layout.{Cqe, Sqe}
+use Rattle.uring_entry.specs.Requests.{entry_of, is_running}
+use Rattle.uring_entry.specs.Setup.{Setup}
+use Rattle.uring_entry.specs.Submission.{Submission, taken}
+use Rattle.uring_machine.specs.Histories.{Event, world, history_of}
+use Rattle.uring_machine.specs.Published.{published_items, IsItem}
+use Rattle.uring_machine.specs.World.{World}
+use Rattle.uring_machine.proofs.Following.{history_of-snoc}
+use Rattle.uring_threads.specs.Delivered.{OnlyPosts, IsDelivered}
+use Rattle.uring_threads.specs.Items.{all_published_as, published_as, AreItems}
+use Rattle.uring_threads.specs.AppEnd.{AppEnd}
+use Rattle.uring_threads.specs.Kernel.{Kernel, IsKernel}
+use Rattle.uring_threads.specs.Kept.{Kept, now}
+use Rattle.uring_threads.specs.Ports.{Put, Sizes, items_of_calls, LeavesItems, LeavesCompletions}
+use Rattle.uring_threads.specs.Report.{Report, AreTogether, IsSameKernel, left_by, FinishesAll, LeavesRunning, PublishesItems, BeginsCalls, HasOneClose, ClosesOnlyAllTaken, DeliversReaped, untaken_at, all_untaken, has_job}
+use Rattle.uring_threads.specs.Settled.{finish_of}
+use Rattle.uring_threads.specs.SettledWorker.{AreSettled, HaveLooked, HaveSeenAll, all_waiting}
+use Rattle.uring_threads.specs.Taking.{Tied, ClosesOnce, waiting_in, is_shut}
+use Rattle.uring_threads.specs.Tallies.{closes_ring}
+use Rattle.uring_threads.specs.Work.{jobs_of, job_of}
+use Rattle.uring_threads.specs.Worker.{Worker}
+use Rattle.uring_threads.specs.declared.intake.Intake.{Intake}
+use Rattle.uring_threads.specs.declared.intake.Intake.TheVariants as intake
+use Rattle.uring_threads.specs.declared.item.Item.{Item}
+use Rattle.uring_threads.specs.declared.job.Job.{Job}
+use Rattle.uring_threads.specs.declared.job.JobResult.{JobResult}
+use Rattle.uring_threads.specs.declared.work_lanes.WorkLanes.{WorkLanes}
+use Rattle.uring_threads.proofs.Closing.{closes-append}
+use Rattle.uring_threads.proofs.Posting.{posts_none, posts_then, end_posts}
+use Rattle.uring_threads.proofs.SameEnds.{together_same}
+use Rattle.uring_threads.proofs.Times.{times, times-counts}
+use Rattle.uring_threads.proofs.Tying.{all_first}
+
+-- Finishes leave the rings, but for what is posted.
+
+finishes_post : (g : Setup) (events : List Event) (rs : List JobResult) → OnlyPosts (world g (history_of events)) (world g (history_of (events ++ map finish_of rs)))
+finishes_post g events [] = subst (λ es. OnlyPosts (world g (history_of events)) (world g (history_of es))) (sym (append-nil events)) (posts_none (world g (history_of events)))
+finishes_post g events (r ∷ rs) =
+    let w : World = world g (history_of events) in
+    let p = end_posts g.cq w.completions (entry_of w.requests r.number) r.outcome.res r.outcome.bytes in
+    let one : OnlyPosts w (world g (history_of (events ++ finish_of r ∷ []))) = subst (λ h. OnlyPosts w (world g h)) (sym (history_of-snoc events (finish_of r))) (record { submission = refl; is_closed = refl; reaped = p.0; head = p.1 }) in
+    subst (λ es. OnlyPosts w (world g (history_of es))) (append_assoc events (finish_of r ∷ []) (map finish_of rs))
+    (posts_then w (world g (history_of (events ++ finish_of r ∷ []))) (world g (history_of ((events ++ finish_of r ∷ []) ++ map finish_of rs))) one (finishes_post g (events ++ finish_of r ∷ []) rs))
+
+pub posts_only : (k : Kept) (lanes : List WorkLanes) (workers : List Worker) (r : Report) → r.setup ≡ k.setup → FinishesAll k.trace lanes workers r → OnlyPosts (now k) (left_by r)
+posts_only k lanes workers r setup trace =
+    subst (λ es. OnlyPosts (now k) (world r.setup (history_of es))) (sym trace)
+    (subst (λ g. OnlyPosts (now k) (world g (history_of (k.trace ++ map finish_of (all_waiting lanes workers))))) (sym setup) (finishes_post k.setup k.trace (all_waiting lanes workers)))
+
+-- What the application submitted.
+
+module _ (size : ℕ) (w : World) (put pulled : Put) (i : Intake) (r : Report) (t : Tied size w pulled i) (posts : OnlyPosts w (left_by r)) (leaves : LeavesItems put pulled r.unsent) where
+  pub publishes : AreItems size (items_of_calls put.calls) → PublishesItems put r
+  publishes good =
+      let cut : items_of_calls put.calls ≡ items_of_calls pulled.calls ++ items_of_calls leaves.rest = ap items_of_calls (sym leaves.calls) ∙ flat_map-append (λ (call : List _). call) pulled.calls leaves.rest in
+      let whole : all_published_as (items_of_calls put.calls) ≡ all_published_as (items_of_calls pulled.calls) ++ all_published_as (items_of_calls leaves.rest) = ap all_published_as cut ∙ map-append published_as (items_of_calls pulled.calls) (items_of_calls leaves.rest) in
+      ap (λ l. published_items l ++ all_published_as r.unsent) posts.submission
+      ∙ ap (λ ps. ps ++ all_published_as r.unsent) (t.published (all_first (IsItem size) (all_published_as (items_of_calls pulled.calls)) (all_published_as (items_of_calls leaves.rest)) (subst (All (IsItem size)) whole good)))
+      ∙ ap (λ items. all_published_as (items_of_calls pulled.calls) ++ all_published_as items) leaves.items
+      ∙ sym whole
+
+  pub begins_calls : BeginsCalls put r
+  begins_calls = (
+    waiting_in i ++ map length leaves.rest,
+    ap (λ (l : Submission). l.calls ++ (waiting_in i ++ map length leaves.rest)) posts.submission
+        ∙ sym (append_assoc w.submission.calls (waiting_in i) (map length leaves.rest))
+        ∙ ap (λ ns. ns ++ map length leaves.rest) t.calls
+        ∙ sym (map-append length pulled.calls leaves.rest)
+        ∙ ap (map length) leaves.calls,
+  )
+
+  pub closes_all : ClosesOnlyAllTaken put r
+  closes_all = λ closed.
+      let pulled_closed : pulled.closed ≡ true = sym t.closed ∙ sym posts.is_closed ∙ closed in
+      let none : waiting_in i ≡ [] = none_behind i (t.shut ∙ pulled_closed) in
+      let last = leaves.closed pulled_closed in
+      let calls : pulled.calls ≡ put.calls = sym (append-nil pulled.calls) ∙ ap (λ rest. pulled.calls ++ rest) (sym last.1) ∙ leaves.calls in
+      record {
+        closed = last.0;
+        unsent = leaves.items ∙ ap items_of_calls last.1;
+        calls = ap (λ (l : Submission). l.calls) posts.submission ∙ sym (append-nil w.submission.calls) ∙ ap (λ ns. w.submission.calls ++ ns) (sym none) ∙ t.calls ∙ ap (map length) calls;
+        taken = ap taken posts.submission ∙ omega (arith, t.stands.waiting, ap sum none) ∙ ap (λ (l : Submission). length l.published) (sym posts.submission);
+      } where
+        none_behind : (i : Intake) → is_shut i ≡ true → waiting_in i ≡ []
+        none_behind intake.Ready shut = refl
+        none_behind (intake.Waiting count) shut = absurd (let f : false ≡ true = shut in cc)
+        none_behind (intake.Spent count) shut = absurd (let f : false ≡ true = shut in cc)
+        none_behind intake.Closed shut = refl
+
+-- The ring is closed once, if at all.
+
+no_close : (rs : List JobResult) → count_by closes_ring (map finish_of rs) ≡ 0
+no_close rs = sym (times-counts closes_ring (map finish_of rs)) ∙ none rs where
+  none : (rs : List JobResult) → times closes_ring (map finish_of rs) ≡ 0
+  none [] = refl
+  none (r ∷ rs) = omega (arith, none rs)
+
+abbrev one_if : Bool → ℕ
+one_if b = if b then 1 else 0
+
+pub has_one_close : (size : ℕ) (k : Kept) (pulled : Put) (i : Intake) (lanes : List WorkLanes) (workers : List Worker) (r : Report) → Tied size (now k) pulled i → ClosesOnce k i → OnlyPosts (now k) (left_by r) → FinishesAll k.trace lanes workers r → HasOneClose r
+has_one_close size k pulled i lanes workers r t once posts trace =
+    ap (count_by closes_ring) trace ∙ closes-append k.trace (map finish_of (all_waiting lanes workers))
+    ∙ omega (arith, no_close (all_waiting lanes workers)) ∙ once ∙ ap one_if (t.shut ∙ sym t.closed ∙ sym posts.is_closed)
+
+-- What the application received.
+
+pub delivers_reaped : (w : World) (reaped received : List Cqe) (r : Report) → IsDelivered w.completions reaped → OnlyPosts w (left_by r) → LeavesCompletions reaped received r.undelivered → DeliversReaped received r
+delivers_reaped w reaped received r delivered posts leaves = sym leaves ∙ sym delivered.reaped ∙ sym posts.reaped
+
+-- What runs.
+
+-- some job of all is some job of one of them
+any_of : (p : Job → Bool) (ls : List WorkLanes) (ws : List Worker) (d : WorkLanes) (e : Worker) → length ws ≡ length ls → list_any p (all_untaken ls ws) ≡ true → (k : ℕ) × (k < length ws) × (list_any p (untaken_at (get_or ls k d) (get_or ws k e)) ≡ true)
+any_of p [] [] d e many some = absurd (let f : false ≡ true = some in cc)
+any_of p [] (w ∷ ws) d e many some = absurd (omega (arith, many))
+any_of p (l ∷ ls) [] d e many some = absurd (omega (arith, many))
+any_of p (l ∷ ls) (w ∷ ws) d e many some =
+    elim (or_cases _ _ (sym (list_any-append p (untaken_at l w) (all_untaken ls ws)) ∙ some)) [
+      | inl here ↦ (0, omega arith, here)
+      | inr later ↦ let one = any_of p ls ws d e (omega (arith, many)) later in (suc one.0, omega (arith, one.1), one.2)
+    ]
+
+of_any : (p : Job → Bool) (ls : List WorkLanes) (ws : List Worker) (d : WorkLanes) (e : Worker) (k : ℕ) → length ws ≡ length ls → k < length ws → list_any p (untaken_at (get_or ls k d) (get_or ws k e)) ≡ true → list_any p (all_untaken ls ws) ≡ true
+of_any p [] [] d e k many low some = absurd (omega (arith, low))
+of_any p [] (w ∷ ws) d e k many low some = absurd (omega (arith, many))
+of_any p (l ∷ ls) [] d e k many low some = absurd (omega (arith, many))
+of_any p (l ∷ ls) (w ∷ ws) d e zero many low some = list_any-append p (untaken_at l w) (all_untaken ls ws) ∙ or_left _ _ some
+of_any p (l ∷ ls) (w ∷ ws) d e (suc k) many low some = list_any-append p (untaken_at l w) (all_untaken ls ws) ∙ or_right _ _ (of_any p ls ws d e k (omega (arith, many)) (omega (arith, low)) some)
+
+module _ (k : Kept) (ls : List WorkLanes) (ws vs : List Worker) (settled : AreSettled k vs) (looked : HaveLooked ws vs) (seen : HaveSeenAll ls vs) (many : length ws ≡ length ls) where
+  -- what a worker has seen and not taken is what was sent to it and not taken
+  untaken_seen : (j : ℕ) (d : WorkLanes) (e : Worker) → j < length ws → untaken_at (get_or ls j d) (get_or ws j e) ≡ (get_or vs j e).seen
+  untaken_seen j d e low =
+      let same : (get_or vs j e).done ≡ (get_or ws j e).done = ap (λ w. w.done) (looked.looked j e low).same in
+      let counted : length (get_or ws j e).done ≡ length (jobs_of (get_or vs j e).done) = ap length (sym same) ∙ sym (length-map (get_or vs j e).done job_of) in
+      ap₂ (λ n js. drop n js) counted (sym (seen j d e (omega (arith, low, many)))) ∙ drop-append_seam (jobs_of (get_or vs j e).done) (get_or vs j e).seen
+
+  pub runs_untaken : (d : WorkLanes) (e : Worker) (n : ℕ) → (is_running (now k).requests n ≡ true) ↔ (has_job (all_untaken ls ws) n ≡ true)
+  runs_untaken d e n =
+      let p : Job → Bool = λ job. job.number == n in
+      let both = (settled e).running n in (
+        λ runs.
+            let one = both.0 runs in
+            of_any p ls ws d e one.0 many (omega (arith, one.1, looked.many)) (ap (list_any p) (untaken_seen one.0 d e (omega (arith, one.1, looked.many))) ∙ one.2),
+        λ some.
+            let one = any_of p ls ws d e many some in
+            both.1 (one.0, omega (arith, one.1, looked.many), ap (list_any p) (sym (untaken_seen one.0 d e one.1)) ∙ one.2),
+      )
+
+pub all_run : (k : Kept) (ls : List WorkLanes) (ws vs : List Worker) → 0 < length ls → AreSettled k vs → HaveLooked ws vs → HaveSeenAll ls vs → length ws ≡ length ls → (n : ℕ) → (is_running (now k).requests n ≡ true) ↔ (has_job (all_untaken ls ws) n ≡ true)
+all_run k [] ws vs some settled looked seen many = absurd (omega (arith, some))
+all_run k (l ∷ ls) [] vs some settled looked seen many = absurd (omega (arith, many))
+all_run k (l ∷ ls) (w ∷ ws) vs some settled looked seen many = runs_untaken k (l ∷ ls) (w ∷ ws) vs settled looked seen many l w
+
+-- What waits.
+
+-- there is room for the next one that waits
+pub room_for_next : {X : Type 0} (xs : List X) (i : ℕ) (x : X) (len first room : ℕ) → slice_get xs i ≡ Some x → len ≡ i → length xs ≤ first → first ≤ room → len < room
+room_for_next xs i x len first room here same fits more = omega (arith, slice_get_within xs i x here, same, fits, more)
+
+-- and then one more is listed
+pub one_more_listed : {X : Type 0} (xs items later : List X) (i : ℕ) (x : X) → slice_get xs i ≡ Some x → items ≡ take i xs → later ≡ items ++ x ∷ [] → later ≡ take (i + 1) xs
+one_more_listed xs items later i x here so_far more =
+    more ∙ ap (λ ys. ys ++ x ∷ []) so_far ∙ ap (λ y. take i xs ++ y ∷ []) (sym (get_or_from_slice_get xs i x x here)) ∙ sym (take_more xs i x (slice_get_within xs i x here))
+
+-- in the end all are
+pub all_listed : (size : ℕ) (l : Completions) (items : List Cqe) (k : ℕ) → ReapedBeginPosted size l → items ≡ take k (unreaped l) → length l.posted ≤ length l.reaped + k → l.reaped ++ items ≡ l.posted
+all_listed size l items k law so_far many =
+    let rest : unreaped l ≡ in_ring l ++ in_overflow l = ap (drop (length l.reaped)) law.in_order ∙ drop-append_seam l.reaped (in_ring l ++ in_overflow l) in
+    ap (λ xs. l.reaped ++ xs) (so_far ∙ take_all k (unreaped l) (omega (arith, length-drop (length l.reaped) l.posted, many)) ∙ rest) ∙ sym law.in_order
+
+-- Each result that is taken in posts at most one completion.
+one_end : (size : ℕ) (l : Completions) (entry : Sqe) (res : ℤ) (bytes : List ℕ) → length (unreaped (with_end size l entry res bytes)) ≤ length (unreaped l) + 1
+one_end size l entry res bytes = by_posts (posts_completion entry res) where
+  by_posts : (posts : Bool) → length (unreaped (if posts then with_posted size l (completion_for entry res bytes) else l)) ≤ length (unreaped l) + 1
+  by_posts true = omega (arith, length-drop (length l.reaped) (l.posted ++ completion_for entry res bytes ∷ []), length-append l.posted (completion_for entry res bytes ∷ []), length-drop (length l.reaped) l.posted)
+  by_posts false = omega arith
+
+each_posts : (g : Setup) (events : List Event) (rs : List JobResult) → length (unreaped (world g (history_of (events ++ map finish_of rs))).completions) ≤ length (unreaped (world g (history_of events)).completions) + length rs
+each_posts g events [] = subst (λ es. length (unreaped (world g (history_of es)).completions) ≤ length (unreaped (world g (history_of events)).completions) + 0) (sym (append-nil events)) (omega arith)
+each_posts g events (r ∷ rs) =
+    let w : World = world g (history_of events) in
+    let one : length (unreaped (world g (history_of (events ++ finish_of r ∷ []))).completions) ≤ length (unreaped w.completions) + 1 =
+    subst (λ h. length (unreaped (world g h).completions) ≤ length (unreaped w.completions) + 1) (sym (history_of-snoc events (finish_of r))) (one_end g.cq w.completions (entry_of w.requests r.number) r.outcome.res r.outcome.bytes) in
+    subst (λ es. length (unreaped (world g (history_of es)).completions) ≤ length (unreaped w.completions) + length (r ∷ rs)) (append_assoc events (finish_of r ∷ []) (map finish_of rs))
+    (omega (arith, one, each_posts g (events ++ finish_of r ∷ []) rs))
+
+pub few_unreaped : (a b : Kept) (rs : List JobResult) (most : ℕ) → TakesAll a b rs → length b.trace ≤ length a.trace + most → length (unreaped (now b).completions) ≤ length (unreaped (now a).completions) + most
+few_unreaped a b rs most all few =
+    let counted : length rs ≤ most = omega (arith, few, ap length all.trace, length-append a.trace (map finish_of rs), length-map rs finish_of) in
+    let posts = each_posts a.setup a.trace rs in
+    subst (λ es. length (unreaped (world b.setup (history_of es)).completions) ≤ length (unreaped (now a).completions) + most) (sym all.trace)
+    (subst (λ g. length (unreaped (world g (history_of (a.trace ++ map finish_of rs))).completions) ≤ length (unreaped (now a).completions) + most) (sym all.setup) (omega (arith, posts, counted)))
+
+-- a list behind which others stand is taken whole
+pub take_whole : {X : Type 0} (n : ℕ) (xs others : List X) → length xs ≡ n → take n (xs ++ others) ≡ xs
+take_whole n xs others same = subst (λ m. take m (xs ++ others) ≡ xs) same (whole xs others) where
+  whole : {X : Type 0} (xs others : List X) → take (length xs) (xs ++ others) ≡ xs
+  whole [] others = refl
+  whole (x ∷ xs) others = ap (λ ys. x ∷ ys) (whole xs others)
+
+-- The history is lawful.
+
+pub settled_lawful : (k : Kept) (workers : List Worker) → 0 < length workers → AreSettled k workers → IsLawful k.setup (history k)
+settled_lawful k [] some settled = absurd (omega (arith, some))
+settled_lawful k (w ∷ ws) some settled = (settled w).lawful
+
+-- All of it, of ends in hand.
+
+pub record TellsEnds (app : AppEnd) (kernel : Kernel) (workers : List Worker) (r : Report) : Type 0 where
+  pub running : LeavesRunning kernel.lanes workers r
+  pub items : PublishesItems app.submitted r
+  pub calls : BeginsCalls app.submitted r
+  pub once : HasOneClose r
+  pub closed : ClosesOnlyAllTaken app.submitted r
+  pub reaped : DeliversReaped app.received r
+
+pub tells_ends : (app : AppEnd) (kernel same : Kernel) (workers : List Worker) (kept : Kept) (lanes : List WorkLanes) (unsent : List Item) (undelivered : List Cqe) (r : Report)
+    → AreTogether app kernel workers → IsSameKernel kernel same → IsKernel same → kept ≡ same.kept → lanes ≡ same.lanes
+    → LeavesItems app.submitted same.pulled unsent → LeavesCompletions same.reaped app.received undelivered → AreItems app.sizes.sq (items_of_calls app.submitted.calls)
+    → r.setup ≡ kept.setup → FinishesAll kept.trace lanes workers r → LeavesRunning lanes workers r → (r.unsent ≡ unsent) × (r.undelivered ≡ undelivered) → TellsEnds app kernel workers r
+tells_ends app kernel same workers kept lanes unsent undelivered r t s is keeps these items completions good setup trace running rests =
+    let goes_on : FinishesAll same.kept.trace lanes workers r = subst (λ (k : Kept). FinishesAll k.trace lanes workers r) keeps trace in
+    let posts : OnlyPosts (now same.kept) (left_by r) = posts_only same.kept lanes workers r (setup ∙ ap (λ (k : Kept). k.setup) keeps) goes_on in
+    let left : LeavesItems app.submitted same.pulled r.unsent = subst (LeavesItems app.submitted same.pulled) (sym rests.0) items in
+    let size : app.sizes.sq ≡ same.kept.setup.sq = ap (λ (z : Sizes). z.sq) (sym (together_same app kernel same workers s t).sizes) ∙ is.sq in
+    let tied = is.ties.tied in
+    record {
+      running = subst (λ ls. LeavesRunning ls workers r) (these ∙ ap (λ (k : Kernel). k.lanes) s.others) running;
+      items = publishes same.kept.setup.sq (now same.kept) app.submitted same.pulled same.intake r tied posts left (subst (λ n. AreItems n (items_of_calls app.submitted.calls)) size good);
+      calls = begins_calls same.kept.setup.sq (now same.kept) app.submitted same.pulled same.intake r tied posts left;
+      once = has_one_close same.kept.setup.sq same.kept same.pulled same.intake lanes workers r tied is.ties.once posts goes_on;
+      closed = closes_all same.kept.setup.sq (now same.kept) app.submitted same.pulled same.intake r tied posts left;
+      reaped = delivers_reaped (now same.kept) same.reaped app.received r is.ties.delivered posts (subst (LeavesCompletions same.reaped app.received) (sym rests.1) completions);
+    }

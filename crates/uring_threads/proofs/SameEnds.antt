@@ -1,0 +1,128 @@
+-- Lanes and workers by their numbers: whoever has the same numbers is the other end.
+use Rattle.std.proofs.Common.{◌≡◌, ℕ, zero, suc, ◌<◌, List, [], ◌∷◌, length, map, get_or, refl, sym, subst, ap, ap₂, ◌∙◌, arith, inl, inr}
+use Rattle.std.specs.Prelude.{slice_set}
+use Rattle.std.proofs.lemmas.Bool.{cases_eq}
+use Rattle.std.proofs.lemmas.List.{get_or-map, length-map, length-set, get_or-set_same, get_or-set_other}
+use Rattle.uring_threads.specs.Dispatched.{AreSameLanes, HaveCarried, HoldResults, numbers_of_lanes}
+use Rattle.uring_threads.specs.Kept.{Kept}
+use Rattle.uring_threads.specs.Kernel.{Kernel, IsKernel}
+use Rattle.uring_threads.specs.AppEnd.{AppEnd}
+use Rattle.uring_threads.specs.Pairings.{pairing_of}
+use Rattle.uring_threads.specs.Report.{AreTogether, IsSameKernel}
+use Rattle.uring_threads.specs.SettledWorker.{AreLanesOf, HaveFiles, HaveLooked}
+use Rattle.uring_threads.specs.Worker.{Worker}
+use Rattle.uring_threads.specs.declared.work_lanes.WorkLanes.{WorkLanes}
+use Rattle.uring_threads.proofs.Working.{same_ring}
+
+-- two lists are told the same if their elements are, place by place
+pub told_same : {X Y A : Type 0} (f : X → A) (g : Y → A) (xs : List X) (ys : List Y) → length xs ≡ length ys → ((k : ℕ) (d : X) (e : Y) → k < length xs → f (get_or xs k d) ≡ g (get_or ys k e)) → map f xs ≡ map g ys
+told_same f g [] [] many each = refl
+told_same f g [] (y ∷ ys) many each = absurd (omega (arith, many))
+told_same f g (x ∷ xs) [] many each = absurd (omega (arith, many))
+told_same f g (x ∷ xs) (y ∷ ys) many each = ap₂ (λ a more. a ∷ more) (each 0 x y (omega arith)) (told_same f g xs ys (omega (arith, many)) (λ k d e low. each (suc k) d e (omega (arith, low))))
+
+-- and the other way round
+pub same_told : {X Y A : Type 0} (f : X → A) (g : Y → A) (xs : List X) (ys : List Y) (k : ℕ) (d : X) (e : Y) → map f xs ≡ map g ys → k < length ys → f (get_or xs k d) ≡ g (get_or ys k e)
+same_told f g xs ys k d e same low =
+    let many : length xs ≡ length ys = sym (length-map xs f) ∙ ap length same ∙ length-map ys g in
+    sym (get_or-map f xs k d (f d) (omega (arith, low, many))) ∙ ap (λ told. get_or told k (f d)) same ∙ get_or-map g ys k e (f d) low
+
+any_default : {X : Type 0} (xs : List X) (k : ℕ) (x y : X) → k < length xs → get_or xs k x ≡ get_or xs k y
+any_default [] k x y within = absurd (omega (arith, within))
+any_default (z ∷ xs) zero x y within = refl
+any_default (z ∷ xs) (suc k) x y within = any_default xs k x y (omega (arith, within))
+
+-- the same lanes have the same numbers
+pub same_numbers : (old new : List WorkLanes) → AreSameLanes old new → numbers_of_lanes new ≡ numbers_of_lanes old
+same_numbers old new same =
+    told_same (λ (l : WorkLanes). pairing_of l.jobs l.results) (λ (l : WorkLanes). pairing_of l.jobs l.results) new old same.many (λ k d e low. at k d e (omega (arith, low, same.many))) where
+      at : (k : ℕ) (d e : WorkLanes) → k < length old → pairing_of (get_or new k d).jobs (get_or new k d).results ≡ pairing_of (get_or old k e).jobs (get_or old k e).results
+      at k d e low =
+          let jobs = (same.jobs k d low).0 in
+          let results = (same.results k d low).0 in
+          let l : WorkLanes = get_or old k d in
+          let m : WorkLanes = get_or new k d in
+          ap₂ (λ xs ys. xs ∷ ys ∷ []) (same_ring m.jobs.end l.jobs.end jobs.0 jobs.1 jobs.2) (same_ring m.results.end l.results.end results.0 results.1 results.2)
+          ∙ ap (λ (x : WorkLanes). pairing_of x.jobs x.results) (any_default old k d e low)
+
+-- and hold as many results
+pub results_hold : (old new : List WorkLanes) → AreSameLanes old new → HoldResults old → HoldResults new
+results_hold old new same hold = λ k d low.
+    let before : k < length old = omega (arith, low, same.many) in
+    let capacity = (same.results k d before).1 in
+    omega (arith, capacity, hold k d before)
+
+-- the dispatcher's lanes are those of the workers
+pub lanes_of_workers : (app : AppEnd) (kernel : Kernel) (workers : List Worker) → AreTogether app kernel workers → IsKernel kernel → AreLanesOf kernel.kept.setup.files kernel.lanes workers
+lanes_of_workers app kernel workers together is =
+    let many : length workers ≡ length kernel.lanes = sym (length-map workers (λ (w : Worker). w.pairing)) ∙ ap length together.lanes ∙ length-map kernel.lanes (λ (l : WorkLanes). pairing_of l.jobs l.results) in
+    record {
+      many = many;
+      pairing = λ k d e low. same_told (λ (w : Worker). w.pairing) (λ (l : WorkLanes). pairing_of l.jobs l.results) workers kernel.lanes k e d together.lanes low;
+      short = is.short;
+      have = λ k e low. together.files k e (omega (arith, low, many));
+    }
+
+-- the ends of a set-up, as they are opened
+pub opened_together : (files : ℕ) (app : AppEnd) (kernel : Kernel) (workers : List Worker) → kernel.pairing ≡ app.pairing → kernel.sizes ≡ app.sizes → kernel.kept.setup.files ≡ files → AreLanesOf files kernel.lanes workers → AreTogether app kernel workers
+opened_together files app kernel workers ports sizes same of =
+    record {
+      ports = ports;
+      sizes = sizes;
+      lanes = told_same (λ (w : Worker). w.pairing) (λ (l : WorkLanes). pairing_of l.jobs l.results) workers kernel.lanes of.many (λ k d e low. of.pairing k e d (omega (arith, low, of.many)));
+      files = λ k d low. of.have k d (omega (arith, low, of.many)) ∙ sym same;
+    }
+
+-- Who does something goes on to be of the same ends.
+
+pub app_stays : (old new : AppEnd) (kernel : Kernel) (workers : List Worker) → new.pairing ≡ old.pairing → new.sizes ≡ old.sizes → AreTogether old kernel workers → AreTogether new kernel workers
+app_stays old new kernel workers pairing sizes t = record { ports = t.ports ∙ sym pairing; sizes = t.sizes ∙ sym sizes; lanes = t.lanes; files = t.files }
+
+pub kernel_stays : (app : AppEnd) (old new : Kernel) (workers : List Worker) → new.pairing ≡ old.pairing → new.sizes ≡ old.sizes → numbers_of_lanes new.lanes ≡ numbers_of_lanes old.lanes → new.kept.setup ≡ old.kept.setup → AreTogether app old workers → AreTogether app new workers
+kernel_stays app old new workers pairing sizes numbers setup t =
+    record {
+      ports = pairing ∙ t.ports;
+      sizes = sizes ∙ t.sizes;
+      lanes = t.lanes ∙ sym numbers;
+      files = λ k d low. t.files k d low ∙ ap (λ g. g.files) (sym setup);
+    }
+
+module _ (workers : List Worker) (k : ℕ) (d new : Worker) (low : k < length workers) where
+  -- what of a worker stays where it does something
+  stays_at : {A : Type 0} (f : Worker → A) → f new ≡ f (get_or workers k d) → (j : ℕ) (x y : Worker) → j < length (slice_set workers k new) → f (get_or (slice_set workers k new) j x) ≡ f (get_or workers j y)
+  stays_at f here j x y within =
+      elim (cases_eq j k) [
+        | inl same ↦ ap (λ i. f (get_or (slice_set workers k new) i x)) same ∙ ap f (get_or-set_same workers k new x low) ∙ here ∙ ap f (any_default workers k d y low) ∙ ap (λ i. f (get_or workers i y)) (sym same)
+        | inr other ↦ ap f (get_or-set_other workers k j new x other) ∙ ap f (any_default workers j x y (omega (arith, within, length-set workers k new)))
+      ]
+
+  pub worker_stays : (app : AppEnd) (kernel : Kernel) → new.pairing ≡ (get_or workers k d).pairing → length new.files ≡ length (get_or workers k d).files → AreTogether app kernel workers → AreTogether app kernel (slice_set workers k new)
+  worker_stays app kernel pairing files t =
+      record {
+        ports = t.ports;
+        sizes = t.sizes;
+        lanes = told_same (λ (w : Worker). w.pairing) (λ (w : Worker). w.pairing) (slice_set workers k new) workers (length-set workers k new) (stays_at (λ w. w.pairing) pairing) ∙ t.lanes;
+        files = λ j x within. stays_at (λ w. length w.files) files j x x within ∙ t.files j x (omega (arith, within, length-set workers k new));
+      }
+
+-- Asking for room changes nothing else.
+
+pub together_same : (app : AppEnd) (kernel same : Kernel) (workers : List Worker) → IsSameKernel kernel same → AreTogether app kernel workers → AreTogether app same workers
+together_same app kernel same workers s t =
+    kernel_stays app kernel same workers (ap (λ (k : Kernel). k.pairing) s.others) (ap (λ (k : Kernel). k.sizes) s.others) (ap (λ (k : Kernel). numbers_of_lanes k.lanes) s.others) s.kept.setup t
+
+pub lanes_to_settle : (app : AppEnd) (kernel same : Kernel) (workers : List Worker) (kept : Kept) (lanes : List WorkLanes) → AreTogether app kernel workers → IsSameKernel kernel same → IsKernel same → kept ≡ same.kept → lanes ≡ same.lanes → AreLanesOf kept.setup.files lanes workers
+lanes_to_settle app kernel same workers kept lanes t s is keeps these =
+    subst (λ (k : Kept). AreLanesOf k.setup.files lanes workers) (sym keeps)
+    (subst (λ ls. AreLanesOf same.kept.setup.files ls workers) (sym these) (lanes_of_workers app same workers (together_same app kernel same workers s t) is))
+
+pub carried_to_settle : (same : Kernel) (kept : Kept) (lanes : List WorkLanes) → IsKernel same → kept ≡ same.kept → lanes ≡ same.lanes → HaveCarried kept lanes
+carried_to_settle same kept lanes is keeps these = subst (λ (k : Kept). HaveCarried k lanes) (sym keeps) (subst (HaveCarried same.kept) (sym these) is.ties.carried)
+
+-- workers that looked have as many files as before
+pub files_had : (files : ℕ) (lanes : List WorkLanes) (old new : List Worker) → 0 < length lanes → AreLanesOf files lanes old → HaveLooked old new → HaveFiles files new
+files_had files lanes old new some of looked =
+    record {
+      some = omega (arith, some, of.many, looked.many);
+      each = λ k e low. ap (λ (w : Worker). length w.files) (looked.looked k e (omega (arith, low, looked.many))).same ∙ of.have k e (omega (arith, low, looked.many, of.many));
+    }

@@ -1,0 +1,68 @@
+//! Settling all ends of a set-up: the one place where application, dispatcher and workers meet.
+ghost use Rattle.std.specs.Prelude.{◌≡◌, IfOk, IfErr};
+ghost use Rattle.uring_machine.specs.CalledFor.{IsLawful};
+ghost use Rattle.uring_machine.specs.Histories.{history_of};
+ghost use Rattle.uring_threads.specs.Report.{AreTogether, IsSameKernel, FinishesAll, LeavesRunning, PublishesItems, BeginsCalls, HasOneClose, ClosesOnlyAllTaken, DeliversReaped, ReapsPosted};
+
+use crate::app_end::AppEnd;
+use crate::gate::Gate;
+use crate::kernel::Kernel;
+use crate::ports::KernelPort;
+use crate::report::Report;
+use crate::worker::Worker;
+use std::alloc::Global;
+
+/// All ends, as they come back if the system is out of memory.
+#[derive(Drop)]
+pub struct NotSettled<K: KernelPort, G: Gate> {
+    pub app: AppEnd<K::App>,
+    pub kernel: Kernel<K>,
+    pub workers: Vec<Worker<G>>,
+}
+
+/// Settles all ends of one set-up, at any moment: takes in each result that waits at a worker, worker 0's first, and reports the trace, what is still on its way, and the files. Condition: the ends are those that one call of `lanes` or `ends` made, the workers in their order.
+///
+/// `NotSettled` says that the system is out of memory, which is asked for first: all ends come back unchanged, and can be settled again.
+pub fn settle<K: KernelPort, G: Gate>(
+    alloc: Global,
+    app: AppEnd<K::App>,
+    kernel: Kernel<K>,
+    workers: Vec<Worker<G>>,
+) -> Result<Report<G>, NotSettled<K, G>>
+    requires { AreTogether app kernel workers.items }
+    // The trace is the dispatcher's, and then a Finish for each result that waited; over the same set-up it is lawful.
+    ensures setup { IfOk result (λ report. report.setup ≡ kernel.kept.setup) }
+    ensures trace { IfOk result (λ report. FinishesAll kernel.kept.trace kernel.lanes workers.items report) }
+    ensures lawful { IfOk result (λ report. IsLawful report.setup (history_of report.trace)) }
+    // The requests that it leaves running are those whose jobs were sent and taken by no worker.
+    ensures running { IfOk result (λ report. LeavesRunning kernel.lanes workers.items report) }
+    // What was published begins what was submitted, in order, and so do the calls. Once the ring is closed, all of it was taken.
+    ensures items { IfOk result (λ report. PublishesItems app.submitted report) }
+    ensures calls { IfOk result (λ report. BeginsCalls app.submitted report) }
+    ensures once { IfOk result (λ report. HasOneClose report) }
+    ensures closed { IfOk result (λ report. ClosesOnlyAllTaken app.submitted report) }
+    // What was received begins what was reaped, and that begins what was posted.
+    ensures reaped { IfOk result (λ report. DeliversReaped app.received report) }
+    ensures posted { IfOk result (λ report. ReapsPosted report) }
+    ensures app { IfErr result (λ ends. ends.app ≡ app) }
+    ensures kernel { IfErr result (λ ends. IsSameKernel kernel ends.kernel) }
+    ensures workers { IfErr result (λ ends. ends.workers.items ≡ workers.items) }
+{
+    let mut kernel = kernel;
+    let Ok(waiting) = kernel.make_room(alloc) else {
+        return Err(NotSettled {
+            app,
+            kernel,
+            workers,
+        });
+    };
+    kernel.is_right();
+    match kernel.settle_ports(alloc, app) {
+        Ok((kept, lanes, rests)) => Ok(Report::new(kept, lanes, workers, rests, waiting)),
+        Err((app, kernel)) => Err(NotSettled {
+            app,
+            kernel,
+            workers,
+        }),
+    }
+}

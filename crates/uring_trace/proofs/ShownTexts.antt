@@ -1,0 +1,28 @@
+-- The text of what is shown.
+use Rattle.std.proofs.Common.{◌≡◌, ℕ, zero, suc, ◌+◌, List, [], ◌∷◌, ◌++◌, Option, Result, Ok, Err, take, refl, sym, ap, ◌∙◌, append_assoc, arith}
+use Rattle.std.specs.Prelude.{slice_get, Some, OnOk}
+use Rattle.std.proofs.lemmas.List.{append-nil}
+use Rattle.uring_entry.specs.Layout.{Cqe}
+use Rattle.uring_trace.specs.Shown.{list_text, listed_text}
+
+-- one completion more
+pub list_more : (cs : List Cqe) (i : ℕ) → list_text (take (suc i) cs) ≡ list_text (take i cs) ++ listed_text (slice_get cs i)
+list_more [] zero = refl
+list_more [] (suc i) = refl
+list_more (c ∷ cs) zero = append-nil (listed_text (Some c))
+list_more (c ∷ cs) (suc i) =
+    ap (λ (l : List ℕ). listed_text (Some c) ++ l) (list_more cs i) ∙ sym (append_assoc (listed_text (Some c)) (list_text (take i cs)) (listed_text (slice_get cs i)))
+
+-- a text with one completion more
+pub overflow_more : (cs : List Cqe) (place : ℕ) (o : Option Cqe) (front so after : List ℕ) → so ≡ front ++ list_text (take place cs) → after ≡ so ++ listed_text o → o ≡ slice_get cs place → after ≡ front ++ list_text (take (place + 1) cs)
+overflow_more cs place o front so after a b is =
+    let t = list_text (take place cs) in
+    let x = listed_text (slice_get cs place) in
+    let next : suc place ≡ place + 1 = omega arith in
+    let more : t ++ x ≡ list_text (take (place + 1) cs) = sym (list_more cs place) ∙ ap (λ k. list_text (take k cs)) next in
+    b ∙ ap (λ (l : List ℕ). l ++ listed_text o) a ∙ ap (λ (p : Option Cqe). (front ++ t) ++ listed_text p) is ∙ append_assoc front t x ∙ ap (λ (l : List ℕ). front ++ l) more
+
+-- a fact of a success, from another
+pub on_ok_map : {T E : Type 0} (r : Result T E) (P Q : Type 0) → (P → Q) → OnOk r P → OnOk r Q
+on_ok_map (Ok x) P Q f h = f h
+on_ok_map (Err e) P Q f h = tt

@@ -1,0 +1,11 @@
+use Rattle.std.proofs.Common.{◌≡◌, ◌++◌, Some}
+use Rattle.std.specs.Prelude.{codes}
+use Rattle.std.proofs.lemmas.Bool.Decides.{Decides-eqb}
+use Rattle.std.proofs.lemmas.Slice.Eq.{strip_prefix_is}
+use Rattle.uring_trace.proofs.QuestionLines.{file_words}
+use Rattle.uring_trace.proofs.questions.file_asked.Goals as goal
+
+pub returns : goal.returns
+returns c =
+    let begins : c.args.line.now ≡ codes "show file " ++ c.in_ok-strip_prefix.field-0.now = strip_prefix_is Decides-eqb c.args.line.now (codes "show file ") (Some c.in_ok-strip_prefix.field-0) c.in_ok-strip_prefix.ensures.cases in
+    file_words c.args.line.now c.in_ok-strip_prefix.field-0.now c.file.result begins c.file.ensures

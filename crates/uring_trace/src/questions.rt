@@ -1,0 +1,53 @@
+//! The lines of an explanation that ask to be shown something.
+
+ghost use Rattle.std.specs.Prelude.{◌≡◌, ◌≤◌, ℕ, ℤ, List, MatchOption, length};
+ghost use Rattle.uring_trace.specs.KeptLine.{kept_of};
+ghost use Rattle.uring_trace.specs.Questions.{Asks, IsQuestion, IsNoQuestion};
+ghost use Rattle.uring_trace.specs.declared.questions.Question.TheVariants as question;
+
+use crate::entry_tokens::is;
+use crate::kept_line::KeptLine;
+use crate::number_tokens::file;
+
+/// What a line asks to be shown. Our own rule.
+#[derive(Clone, Copy, Debug, PartialEq, Eq)]
+pub enum Question {
+    /// `show counts`: how many requests were accepted, are outstanding and run, and how many completions were posted and reaped.
+    Counts,
+
+    /// `show sizes`: the set-up, its sizes after rounding.
+    Sizes,
+
+    /// `show overflow`: the completions that wait in the overflow list.
+    Overflow,
+
+    /// `show file FD`: how the file of this descriptor stands.
+    File(i32),
+}
+
+/// What a line asks to be shown, if it asks for something.
+pub(crate) fn read_question(line: &KeptLine) -> Option<Question>
+    ensures { (bytes : List ℕ) → line.now ≡ kept_of bytes → MatchOption result (IsNoQuestion bytes) (IsQuestion bytes) }
+{
+    question_of(line.whole()?)
+}
+
+/// What a line of at most 300 bytes asks to be shown.
+fn question_of(line: &[u8]) -> Option<Question>
+    requires { length line.now ≤ 300 }
+    ensures { MatchOption result (IsNoQuestion line.now) (IsQuestion line.now) }
+{
+    match line {
+        _ if is(line, "show counts") => Some(Question::Counts),
+        _ if is(line, "show sizes") => Some(Question::Sizes),
+        _ if is(line, "show overflow") => Some(Question::Overflow),
+        _ => Some(Question::File(file_asked(line)?)),
+    }
+}
+
+/// The file of which a line asks how it stands.
+fn file_asked(line: &[u8]) -> Option<i32>
+    ensures { MatchOption result ((fd : ℤ) → ¬ Asks line.now (question.File fd)) (λ fd. Asks line.now (question.File fd)) }
+{
+    file(line.strip_prefix(b"show file ")?)
+}

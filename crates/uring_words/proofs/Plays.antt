@@ -1,0 +1,116 @@
+-- What each step of a seat asks.
+use Rattle.std.proofs.Common.{◌≡◌, ◌≢◌, ℕ, zero, suc, eqb, ◌+◌, ◌*◌, ◌%◌, ◌^◌, ◌<◌, ◌≤◌, Bool, true, false, List, [], ◌∷◌, ◌++◌, length, get_or, set, refl, sym, ◌∙◌, ap, subst, arith, append_assoc, append-nil, length-append}
+use Rattle.atomic_table.specs.Table.{step, Allows}
+use mathlib.Core.Option.{none}
+use Rattle.uring_entry.specs.IndexWords.{word_of}
+use Rattle.uring_words.specs.Calls.{AreWhole}
+use Rattle.uring_words.specs.Layout.{entry_index, array_index, tail_index, head_index, place_of, IsPosition, StandsAt}
+use Rattle.uring_words.specs.Rule.{stored, tail_seen, Agree, BothAgree}
+use Rattle.uring_words.specs.Steps.{Holder, with_app, with_kernel, word_stored, mark_stored, tail_stored, head_loaded, tail_loaded, word_loaded, head_stored, StoresWord, StoresMark, StoresTail, LoadsHead, TailTold, LoadsTail, MarkTold, LoadsMark, LoadsWord, StoresHead}
+use Rattle.uring_words.specs.declared.view.AppSide.{AppSide}
+use Rattle.uring_words.specs.declared.view.KernelSide.{KernelSide}
+use Rattle.uring_words.specs.declared.view.Position.{Position}
+use Rattle.uring_words.specs.declared.view.View.{View}
+use Rattle.uring_words.proofs.AppSteps.{keeps-word_stored, keeps-mark_stored, keeps-tail_stored, keeps-head_loaded, head_below}
+use Rattle.uring_words.proofs.KernelSteps.{keeps-tail_loaded, keeps-word_loaded, known_at, known_stands, keeps-head_stored}
+use Rattle.uring_words.proofs.Seats.{set_same, app_step, kernel_step}
+
+-- an entry word is stored for the next position
+pub stores_word : (slots id i : ℕ) (me : Holder) (word : ℕ) → me.0.is_app ≡ true → length (stored me.0.app) < me.0.app.head_seen + me.0.app.size → length me.0.app.entry < 16
+    → i ≡ entry_index (place_of me.0.app.start me.0.app.size (length (stored me.0.app))) (length me.0.app.entry)
+    → Allows BothAgree slots id me i (λ _. word) (λ _. StoresWord (step slots i word 0 none) me word)
+stores_word slots id i me word is_app room few is =
+    app_step slots id i (λ _. word) me (λ _. StoresWord (step slots i word 0 none) me word) is_app
+    (λ words d h. (word_stored me.0.app word, rw is (keeps-word_stored words me.0.app d word h room few), refl))
+
+-- the array word of the next position is stored
+pub stores_mark : (slots id i : ℕ) (me : Holder) (word : ℕ) → me.0.is_app ≡ true → length (stored me.0.app) < me.0.app.head_seen + me.0.app.size
+    → IsPosition me.0.app.size (place_of me.0.app.start me.0.app.size (length (stored me.0.app))) (record { mark = word; entry = me.0.app.entry })
+    → i ≡ array_index me.0.app.size (place_of me.0.app.start me.0.app.size (length (stored me.0.app)))
+    → Allows BothAgree slots id me i (λ _. word) (λ _. StoresMark (step slots i word 0 none) me word)
+stores_mark slots id i me word is_app room new is =
+    app_step slots id i (λ _. word) me (λ _. StoresMark (step slots i word 0 none) me word) is_app
+    (λ words d h. (mark_stored me.0.app word, rw is (keeps-mark_stored words me.0.app d word h room new), refl))
+
+-- the tail is stored
+pub stores_tail : (slots id i : ℕ) (me : Holder) (word : ℕ) → me.0.is_app ≡ true → me.0.app.entry ≡ [] → word ≡ word_of me.0.app.start (length (stored me.0.app)) → AreWhole (stored me.0.app)
+    → i ≡ tail_index me.0.app.size
+    → Allows BothAgree slots id me i (λ _. word) (λ _. StoresTail (step slots i word 0 none) me word)
+stores_tail slots id i me word is_app none_written is_word whole is =
+    app_step slots id i (λ _. word) me (λ _. StoresTail (step slots i word 0 none) me word) is_app
+    (λ words d h. (tail_stored me.0.app, rw is (keeps-tail_stored words me.0.app d word h none_written is_word whole), refl))
+
+-- the head is loaded
+pub loads_head : (slots id i : ℕ) (me : Holder) → me.0.is_app ≡ true → i ≡ head_index me.0.app.size
+    → Allows BothAgree slots id me i (λ n. n) (LoadsHead (step slots i 0 0 none) me)
+loads_head slots id i me is_app is =
+    app_step slots id i (λ n. n) me (LoadsHead (step slots i 0 0 none) me) is_app (λ words d h.
+    let P : List ℕ → Type 0 = λ ws. Agree ws (head_loaded me.0.app d.taken) d in
+    let o = h.ordered in (
+      head_loaded me.0.app d.taken,
+      subst P (sym (set_same words i)) (keeps-head_loaded words me.0.app d h),
+      (d.taken, refl, ap (λ j. get_or words j 0) is ∙ h.head, o.head_seen, omega (arith, o.taken, o.tail_seen)),
+    ))
+
+-- the tail is loaded
+pub loads_tail : (slots id i : ℕ) (me : Holder) → me.0.is_kernel ≡ true → i ≡ tail_index me.0.kernel.size
+    → Allows BothAgree slots id me i (λ n. n) (LoadsTail (step slots i 0 0 none) me)
+loads_tail slots id i me is_kernel is =
+    kernel_step slots id i (λ n. n) me (LoadsTail (step slots i 0 0 none) me) is_kernel (λ words a h both.
+    let d : KernelSide = me.0.kernel in
+    let P : List ℕ → Type 0 = λ ws. Agree ws a (tail_loaded d h.rest) in
+    let o = h.ordered in
+    let many : length a.published ≡ tail_seen d + length h.rest = omega (arith, ap length h.begins, length-append (d.copied ++ d.known) h.rest, length-append d.copied d.known) in (
+      tail_loaded d h.rest,
+      subst P (sym (set_same words i)) (keeps-tail_loaded words a d h),
+      (
+        h.rest,
+        refl,
+        record {
+          tail = ap (λ j. get_or words j 0) (is ∙ ap tail_index h.sized.size) ∙ h.tail ∙ ap (λ s. word_of s (length a.published)) (sym h.sized.start) ∙ ap (word_of d.start) many;
+          whole = subst AreWhole h.begins h.whole;
+          few = omega (arith, o.room, o.head_seen, length-append a.published a.staged, h.sized.size);
+          all = λ is_app. ap (λ (b : AppSide). b.published) (both is_app) ∙ h.begins;
+        },
+      ),
+    ))
+
+-- the array word of the first known position is loaded
+pub loads_mark : (slots id i : ℕ) (me : Holder) (p : Position) (ps : List Position) → me.0.is_kernel ≡ true → me.0.kernel.known ≡ p ∷ ps
+    → i ≡ array_index me.0.kernel.size (place_of me.0.kernel.start me.0.kernel.size (length me.0.kernel.copied))
+    → Allows BothAgree slots id me i (λ n. n) (LoadsMark (step slots i 0 0 none) me)
+loads_mark slots id i me p ps is_kernel known is =
+    kernel_step slots id i (λ n. n) me (LoadsMark (step slots i 0 0 none) me) is_kernel (λ words a h both.
+    let d : KernelSide = me.0.kernel in
+    let P : List ℕ → Type 0 = λ ws. Agree ws a (word_loaded d) in
+    let there = known_stands words a d p ps h known in (
+      word_loaded d,
+      subst P (sym (set_same words i)) (keeps-word_loaded words a d h),
+      (refl, record { first = p; others = ps; known = known; mark = ap (λ j. get_or words j 0) is ∙ there.0.mark; formed = there.1 }),
+    ))
+
+-- its next entry word is loaded
+pub loads_word : (slots id i k : ℕ) (me : Holder) (p : Position) (ps : List Position) → me.0.is_kernel ≡ true → me.0.kernel.known ≡ p ∷ ps → me.0.kernel.loaded ≡ k + 1 → k < length p.entry
+    → i ≡ entry_index (place_of me.0.kernel.start me.0.kernel.size (length me.0.kernel.copied)) k
+    → Allows BothAgree slots id me i (λ n. n) (LoadsWord (step slots i 0 0 none) me)
+loads_word slots id i k me p ps is_kernel known loaded within is =
+    kernel_step slots id i (λ n. n) me (LoadsWord (step slots i 0 0 none) me) is_kernel (λ words a h both.
+    let d : KernelSide = me.0.kernel in
+    let P : List ℕ → Type 0 = λ ws. Agree ws a (word_loaded d) in (
+      word_loaded d,
+      subst P (sym (set_same words i)) (keeps-word_loaded words a d h),
+      (
+        refl,
+        λ q qs j known' loaded' inside.
+            let there = known_stands words a d q qs h known' in
+            let same : k ≡ j = omega arith in
+            ap (λ n. get_or words n 0) (is ∙ ap (entry_index (place_of d.start d.size (length d.copied))) same) ∙ there.0.entry j inside,
+      ),
+    ))
+
+-- the head is stored
+pub stores_head : (slots id i : ℕ) (me : Holder) (word : ℕ) → me.0.is_kernel ≡ true → word ≡ word_of me.0.kernel.start (length me.0.kernel.copied) → i ≡ head_index me.0.kernel.size
+    → Allows BothAgree slots id me i (λ _. word) (λ _. StoresHead (step slots i word 0 none) me word)
+stores_head slots id i me word is_kernel is_word is =
+    kernel_step slots id i (λ _. word) me (λ _. StoresHead (step slots i word 0 none) me word) is_kernel
+    (λ words a h both. (head_stored me.0.kernel, rw is (keeps-head_stored words a me.0.kernel word h is_word), refl))

@@ -1,0 +1,6 @@
+pub mod Layout
+pub mod Calls
+pub mod Rule
+pub mod Steps
+pub mod Ends
+pub mod PortViews
