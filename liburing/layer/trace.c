@@ -6,7 +6,6 @@
 #include "operations.h"
 #include "ring.h"
 
-#include <errno.h>
 #include <fcntl.h>
 #include <inttypes.h>
 #include <stdarg.h>
@@ -14,18 +13,29 @@
 #include <string.h>
 #include <unistd.h>
 
-/* Hands the line to the file, and begins another. */
+/* A file for writing, under a high descriptor: a program that closes a low one twice doesn't close this. */
+static int open_high(const char *path)
+{
+    int low = open(path, O_WRONLY | O_CREAT | O_TRUNC | O_APPEND | O_CLOEXEC, 0666);
+    int high = low < 0 ? -1 : fcntl(low, F_DUPFD_CLOEXEC, 512);
+    if (high < 0)
+        return low;
+    close(low);
+    return high;
+}
+
+/* Hands the line to the file, and begins another. A trace that can't be written ends with the line before. */
 static void end_line(struct ring *ring)
 {
     fputc('\n', ring->trace);
     fflush(ring->trace);
-    for (size_t at = 0; at < ring->line_length;) {
-        ssize_t written = write(ring->trace_file, ring->line + at, ring->line_length - at);
-        if (written < 0 && errno != EINTR)
-            break;
-        at += written < 0 ? 0 : (size_t)written;
+    ssize_t written = write(ring->trace_file, ring->line, ring->line_length);
+    if (written == (ssize_t)ring->line_length) {
+        rewind(ring->trace);
+        return;
     }
-    rewind(ring->trace);
+    perror("wulgach: the trace can't be written");
+    close_trace(ring);
 }
 
 static void open_trace(struct ring *ring)
@@ -36,7 +46,7 @@ static void open_trace(struct ring *ring)
         return;
     char path[4096];
     snprintf(path, sizeof path, "%s.%d.%" PRIu32, prefix, (int)ring->process, ring->index);
-    ring->trace_file = open(path, O_WRONLY | O_CREAT | O_TRUNC | O_APPEND | O_CLOEXEC, 0666);
+    ring->trace_file = open_high(path);
     if (ring->trace_file >= 0)
         ring->trace = open_memstream(&ring->line, &ring->line_length);
     if (!ring->trace) {
