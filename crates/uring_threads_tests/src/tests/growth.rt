@@ -2,7 +2,7 @@
 //!
 //! Each test passes whether a growth is refused in it or none, and tells where one was; `growth/check` runs them with each growth refused in turn. One thread plays all ends, and what owns them returns plain values.
 
-ghost use Rattle.std.specs.Prelude.{◌≡◌, IfOk};
+ghost use Rattle.std.specs.Prelude.{IfOk};
 ghost use Rattle.uring_threads.specs.Report.{AreTogether};
 
 use super::nop;
@@ -54,6 +54,50 @@ fn make_again(alloc: Global, setup: &Setup) -> Result<Made, Fail>
         workers,
         was_refused: true,
     })
+}
+
+impl Made {
+    /// Submits a call. Whether it went.
+    fn submit(&mut self, items: &[Item]) -> bool
+        requires { AreTogether self.old.app self.old.kernel self.old.workers.items }
+        ensures { AreTogether self.new.app self.new.kernel self.new.workers.items }
+    {
+        self.app.submit(items).is_ok()
+    }
+
+    /// Closes the application's end. Whether it went.
+    fn close(&mut self) -> bool
+        requires { AreTogether self.old.app self.old.kernel self.old.workers.items }
+        ensures { AreTogether self.new.app self.new.kernel self.new.workers.items }
+    {
+        self.app.close().is_ok()
+    }
+
+    /// The next completion, if the application's end sees one.
+    fn reap(&mut self) -> Option<Cqe>
+        requires { AreTogether self.old.app self.old.kernel self.old.workers.items }
+        ensures { AreTogether self.new.app self.new.kernel self.new.workers.items }
+    {
+        self.app.reap()
+    }
+
+    /// Turns the dispatcher. Whether it was refused memory.
+    fn turn(&mut self) -> bool
+        requires { AreTogether self.old.app self.old.kernel self.old.workers.items }
+        ensures { AreTogether self.new.app self.new.kernel self.new.workers.items }
+    {
+        self.kernel.turn().is_err()
+    }
+
+    /// Has the worker take a job, if it sees one.
+    fn work(&mut self)
+        requires { AreTogether self.old.app self.old.kernel self.old.workers.items }
+        ensures { AreTogether self.new.app self.new.kernel self.new.workers.items }
+    {
+        if let Some(worker) = self.workers.get_mut(0) {
+            worker.turn();
+        }
+    }
 }
 
 /// What settling leaves, if need be at the second try, and whether memory for it was refused.
@@ -150,23 +194,23 @@ impl Progress {
     }
 
     /// Submits the next call, or closes behind the last one.
-    fn submit(&mut self, app: &mut AppEnd<AppLanes>)
-        ensures pairing { app.new.pairing ≡ app.old.pairing }
-        ensures sizes { app.new.sizes ≡ app.old.sizes }
+    fn submit(&mut self, made: &mut Made)
+        requires { AreTogether made.old.app made.old.kernel made.old.workers.items }
+        ensures { AreTogether made.new.app made.new.kernel made.new.workers.items }
     {
         if self.submitted >= CALLS {
-            self.is_closed |= app.close().is_ok();
-        } else if app.submit(&call(self.submitted)).is_ok() {
+            self.is_closed |= made.close();
+        } else if made.submit(&call(self.submitted)) {
             self.submitted = self.submitted.wrapping_add(1);
         }
     }
 
-    /// Reaps a completion, if the end sees one.
-    fn reap(&mut self, app: &mut AppEnd<AppLanes>)
-        ensures pairing { app.new.pairing ≡ app.old.pairing }
-        ensures sizes { app.new.sizes ≡ app.old.sizes }
+    /// Reaps a completion, if there is one.
+    fn reap(&mut self, made: &mut Made)
+        requires { AreTogether made.old.app made.old.kernel made.old.workers.items }
+        ensures { AreTogether made.new.app made.new.kernel made.new.workers.items }
     {
-        if let Some(completion) = app.reap() {
+        if let Some(completion) = made.reap() {
             self.reaped.add(&completion);
         }
     }
@@ -176,21 +220,14 @@ impl Progress {
         requires { AreTogether made.old.app made.old.kernel made.old.workers.items }
         ensures { AreTogether made.new.app made.new.kernel made.new.workers.items }
     {
-        self.submit(&mut made.app);
-        if made.kernel.turn().is_err() {
+        self.submit(made);
+        if made.turn() {
             self.refusals = self.refusals.wrapping_add(1);
         }
-        work(&mut made.workers);
-        work(&mut made.workers);
-        self.reap(&mut made.app);
-        self.reap(&mut made.app);
-    }
-}
-
-/// Has the worker take a job, if it sees one.
-fn work(workers: &mut Vec<Worker<Open>>) {
-    if let Some(worker) = workers.get_mut(0) {
-        worker.turn();
+        made.work();
+        made.work();
+        self.reap(made);
+        self.reap(made);
     }
 }
 
@@ -335,13 +372,17 @@ fn first_three<T: Copy + Drop>(list: &[T]) -> [Option<T>; 3] {
     ]
 }
 
-/// Turns the dispatcher, once more if it is refused memory. Whether it was.
-fn turn(kernel: &mut Kernel<KernelLanes>) -> bool {
-    if kernel.turn().is_ok() {
-        return false;
+/// Turns the dispatcher, once more if it is refused memory, and has the worker take a job. Whether memory was refused.
+fn turn_and_work(made: &mut Made) -> bool
+    requires { AreTogether made.old.app made.old.kernel made.old.workers.items }
+    ensures { AreTogether made.new.app made.new.kernel made.new.workers.items }
+{
+    let was_refused = made.turn();
+    if was_refused {
+        made.turn();
     }
-    let _ = kernel.turn();
-    true
+    made.work();
+    was_refused
 }
 
 /// Has one no-op delivered and not reaped, two issued of which the worker did the first, and a call of a bad word and a no-op submitted. Whether a turn was refused memory.
@@ -349,15 +390,13 @@ fn go_to_the_middle(made: &mut Made) -> bool
     requires { AreTogether made.old.app made.old.kernel made.old.workers.items }
     ensures { AreTogether made.new.app made.new.kernel made.new.workers.items }
 {
-    let _ = made.app.submit(&[nop(1)]);
-    let first = turn(&mut made.kernel);
-    work(&mut made.workers);
-    let delivery = turn(&mut made.kernel);
-    let _ = made.app.submit(&[nop(2), nop(3)]);
-    let second = turn(&mut made.kernel);
-    work(&mut made.workers);
-    let _ = made.app.submit(&[Item::Bad(9), nop(4)]);
-    first || delivery || second
+    made.submit(&[nop(1)]);
+    let first = turn_and_work(made);
+    let second = turn_and_work(made);
+    made.submit(&[nop(2), nop(3)]);
+    let third = turn_and_work(made);
+    made.submit(&[Item::Bad(9), nop(4)]);
+    first || second || third
 }
 
 /// The report of ends that are settled then.
