@@ -301,8 +301,8 @@ fn read_report(report: &Report<Open>) -> Said {
 }
 
 impl Said {
-    /// Whether all requests were accepted, and ended, and all that they posted was reaped; and the trace tells of each, and of so many refused calls at most.
-    fn is_over(&self, refusals: u64) -> bool {
+    /// Whether all requests were accepted, and ended, and all that they posted was reaped; and the trace tells of each, and of one refused call at most.
+    fn is_over(&self) -> bool {
         let all = REQUESTS as u64;
         let wanted = Counts {
             accepted: all,
@@ -320,7 +320,7 @@ impl Said {
         self.is_nothing_left
             && self.counts == wanted
             && self.traced == traced
-            && self.traced.refused <= refusals
+            && self.traced.refused <= 1
     }
 }
 
@@ -345,9 +345,10 @@ fn a_play_goes_on_behind_a_refusal(rt: HostRuntime) -> Result<(), Fail> {
     };
     assert!(rt; is_idle && progress.is_closed);
     assert!(rt; progress.reaped.is_right(is_whole));
-    assert!(rt; said.is_over(progress.refusals));
+    assert!(rt; said.is_over());
     assert_eq!(rt; said.state, Some(state));
-    if was_refused || progress.refusals > 0 || !is_whole {
+    let in_play = progress.refusals > 0 || said.traced.refused > 0 || !is_whole;
+    if was_refused || in_play {
         println!(rt; "refused")?;
     }
     Ok(())
