@@ -373,17 +373,15 @@ fn first_three<T: Copy + Drop>(list: &[T]) -> [Option<T>; 3] {
     ]
 }
 
-/// Turns the dispatcher, once more if it is refused memory, and has the worker take a job. Whether memory was refused.
+/// Turns the dispatcher twice, so that the second turn goes on where the first was refused memory, and has the worker take a job. Whether memory was refused.
 fn turn_and_work(made: &mut Made) -> bool
     requires { AreTogether made.old.app made.old.kernel made.old.workers.items }
     ensures { AreTogether made.new.app made.new.kernel made.new.workers.items }
 {
-    let was_refused = made.turn();
-    if was_refused {
-        made.turn();
-    }
+    let first = made.turn();
+    let second = made.turn();
     made.work();
-    was_refused
+    first || second
 }
 
 /// Has one no-op delivered and not reaped, two issued of which the worker did the first, and a call of a bad word and a no-op submitted. Whether a turn was refused memory.
