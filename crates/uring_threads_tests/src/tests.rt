@@ -1,6 +1,7 @@
 //! The ends over lanes, on one thread.
 
 mod all_ends;
+mod growth;
 mod no_ends;
 mod refusals;
 mod rests;
