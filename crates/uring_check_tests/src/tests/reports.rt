@@ -15,7 +15,7 @@ fn is_told(
     let setup = Setup::new(4, Some(4), 2, 0)?;
     let mut writer = Vec::new(alloc);
     let mut reader = trace.as_bytes();
-    let result = check(alloc, &mut reader, &mut writer, &setup, is_all);
+    let result = check(alloc, &mut reader, &mut writer, &setup, is_all, false);
     Ok(result == Ok(verdict) && writer.as_slice() == report.as_bytes())
 }
 
