@@ -12,7 +12,7 @@ use Rattle.uring_check.specs.Records.{AreRecorded, IsLawfulText, Records}
 use Rattle.uring_check.specs.Rules.{Rules, IsCalled, IsLawfulBy, IsPlain}
 use Rattle.uring_check.specs.declared.verdict.Verdict.{Verdict}
 use Rattle.uring_check.specs.declared.verdict.Verdict.TheVariants as verdict
-use Rattle.uring_check.proofs.Judging.{called_first, called_once, lawful_more, lawful_none, lawful_rest}
+use Rattle.uring_check.proofs.RuleLaws.{called_first, called_once, lawful_more, lawful_none, lawful_rest}
 use Rattle.uring_check.proofs.Splitting.{record_once}
 
 -- the history is lawful, these lines are its text, and no check stopped at one of them

@@ -22,11 +22,7 @@ pub(crate) enum Follower {
 
 impl Follower {
     /// A follower on which nothing has happened.
-    pub(crate) fn new(
-        alloc: Global,
-        setup: &Setup,
-        is_apart: bool,
-    ) -> Result<Follower, AllocError>
+    pub(crate) fn new(alloc: Global, setup: &Setup, is_apart: bool) -> Result<Follower, AllocError>
         ensures rules { IfOk result (λ follower. rules_of follower ≡ record { setup = setup.now; is_apart = is_apart }) }
         ensures fits { IfOk result (λ follower. FitsBy follower []) }
     {

@@ -170,11 +170,7 @@ fn judge_either(
 }
 
 /// Judges a Finish of a running request, which may end with any result. A follower with files knows each end, and never comes here.
-fn judge_end(
-    machine: &mut Follower,
-    step: &Step,
-    text: &[u8],
-) -> Result<Option<Wanted>, AllocError>
+fn judge_end(machine: &mut Follower, step: &Step, text: &[u8]) -> Result<Option<Wanted>, AllocError>
     ensures rules { rules_of machine.new ≡ rules_of machine.old }
     ensures judges { IfOk result (λ found. (h : History) → IsWanted h machine.old step.now Wanted.AnyEnd → IsJudged (rules_of machine.old) h machine.new step.now text.now found) }
 {

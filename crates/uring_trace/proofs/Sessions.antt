@@ -9,8 +9,12 @@ use Rattle.uring_machine.specs.CalledFor.{IsLawful}
 use Rattle.uring_machine.specs.Histories.{Event, History, history_of}
 use Rattle.uring_machine.proofs.Following.{history_of-snoc}
 use Rattle.uring_machine.specs.Machine.{Machine, Fits}
+use Rattle.uring_machine.specs.declared.answer.Answer.{Answer}
+use Rattle.uring_machine.specs.declared.step.Step.{Step}
+use Rattle.uring_trace.specs.Spelling.{IsStep}
+use Rattle.uring_trace.specs.Text.{text_of}
 use Rattle.uring_trace.specs.Lines.{IsUnbroken, Splits, with_last, joined, ended}
-use Rattle.uring_trace.specs.Exchanges.{Exchange, Manner, Answers, answer_text, lines_of, events_of}
+use Rattle.uring_trace.specs.Exchanges.{Exchange, Manner, Answers, answer_text, lines_of, events_of, step_text}
 use Rattle.uring_trace.specs.KeptLine.{KeptLine, kept_of}
 use Rattle.uring_trace.specs.Sessions.{AppendsAnswer, Holds, with_event}
 use Rattle.uring_trace.specs.Traces.{IsWhole, IsBeginning, IsEnded}
@@ -60,6 +64,20 @@ took_byte manner m is_echo kept kept' before text b ne more h = record {
   same = h.same;
   echoes = h.echoes;
   fits = h.fits;
+}
+
+-- a step was made, and its answer appended behind what stands before it
+pub told_step : (old new : Machine) (is_echo : Bool) (line before middle told after : List ℕ) (s : Step) (a : Answer) → IsStep line s → middle ≡ before ++ step_text is_echo line → told ≡ text_of a → after ≡ middle ++ told
+    → new.core.setup ≡ old.core.setup → ((h : History) → Fits old h → Fits new ((s, a) ∷ h)) → AppendsAnswer old new is_echo line before after
+told_step old new is_echo line before middle told after s a read m t e same fits = record {
+  event = Some (s, a);
+  read = read;
+  appended =
+      e ∙ ap (λ (l : List ℕ). l ++ told) m
+      ∙ ap (λ (l : List ℕ). (before ++ step_text is_echo line) ++ l) t
+      ∙ append_assoc before (step_text is_echo line) (text_of a);
+  same = same;
+  fits = fits;
 }
 
 -- the history of one exchange more

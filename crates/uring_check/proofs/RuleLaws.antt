@@ -1,6 +1,7 @@
 -- What the rules of a check make of histories and answers.
-use Rattle.std.proofs.Common.{◌≡◌, ◌∷◌, ◌<◌, ◌^◌, ◌∙◌, ℕ, Bool, true, false, List, drop, refl, sym, ap, arith}
-use Rattle.std.specs.Prelude.{ℤ, pos, negsuc, mag}
+use Rattle.std.proofs.Common.{◌≡◌, ◌∷◌, ◌<◌, ◌^◌, ◌∙◌, ℕ, Bool, true, false, List, [], drop, sym, ap, arith}
+use Rattle.std.specs.Prelude.{ℤ, pos, negsuc}
+use Rattle.std.specs.Int.Signed.{mag}
 use Rattle.std.specs.Fmt.{signed_decimal}
 use Rattle.std.proofs.lemmas.Fmt.{signed_decimal_injective}
 use Rattle.uring_entry.specs.Requests.{is_running}
