@@ -1,5 +1,5 @@
-use Rattle.std.proofs.Common.{◌≡◌, ◌<◌, ◌+◌, ℕ, List, [], ◌∷◌, ◌++◌, length, take, get_or, sym, ap, subst, ◌∙◌, append_assoc, rules}
-use Rattle.std.proofs.lemmas.List.{take_more}
+use Rattle.std.proofs.Common.{◌≡◌, ◌<◌, ◌+◌, ℕ, List, [], ◌∷◌, ◌++◌, length, take, get_or, sym, ap, subst, ◌∙◌, append_assoc, arith, rules}
+use Rattle.std.proofs.lemmas.List.{take_all, take_more}
 use Rattle.uring_trace.specs.Sessions.{Has}
 use Rattle.uring_trace.proofs.session.Session.feed.Goals as goal
 
@@ -14,5 +14,5 @@ loop-byte-preserved c = λ manner before told h.
 
 pub returns-clause-ok : goal.returns-clause-ok
 returns-clause-ok c = λ manner before told h.
-    let whole : take c.loop-byte.byte-index c.args.bytes.now ≡ c.args.bytes.now = search rules in
+    let whole : take c.loop-byte.byte-index c.args.bytes.now ≡ c.args.bytes.now = take_all c.loop-byte.byte-index c.args.bytes.now (omega (arith, c.loop-byte-test.false)) in
     rw whole at (c.loop-byte.invariant manner before told h)
