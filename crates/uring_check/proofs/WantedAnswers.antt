@@ -1,11 +1,11 @@
 -- What a text says of the answers that are called for.
-use Rattle.std.proofs.Common.{◌≡◌, ◌∷◌, ℕ, ℤ, neg_ℤ, Bool, true, false, List, Option, Some, None, refl, sym, ap, subst, ◌∙◌, inl, inr}
-use Rattle.uring_entry.specs.Requests.{no_bytes}
+use Rattle.std.proofs.Common.{◌≡◌, ◌∷◌, ℕ, ℤ, neg_ℤ, Bool, true, false, List, [], Option, Some, None, refl, sym, ap, subst, ◌∙◌, inl, inr}
+use Rattle.uring_entry.specs.Requests.{is_running, no_bytes}
 use Rattle.uring_entry.specs.Setup.{Setup}
 use Rattle.uring_entry.specs.declared.errno.TheConstants.{ENOMEM}
 use Rattle.uring_machine.specs.Core.{IsNoFinish}
 use Rattle.uring_machine.specs.Histories.{History, world}
-use Rattle.uring_machine.specs.StepAnswers.{CalledForApart, IsEnded}
+use Rattle.uring_machine.specs.StepAnswers.{CalledForApart, FinishesApart, IsEnded}
 use Rattle.uring_machine.specs.World.{World}
 use Rattle.uring_machine.specs.declared.answer.Answer.{Answer}
 use Rattle.uring_machine.specs.declared.answer.Answer.TheVariants as answer
@@ -100,10 +100,27 @@ sure_judged old new s text x (Some wanted) one rules fits judged = λ h f.
     subst (λ (v : Wanted). IsJudged g h new s text (Some v)) (sym judged.0)
     (one_wrong g h s x text (λ a c. one_answer g h s a x one c called) called judged.1, fits h f)
 
+-- without files no one end is called for alone
+only_end : (running : Bool) (res : ℤ) (bytes : List ℕ) → ((a : Answer) → FinishesApart running a → a ≡ answer.Ended res bytes) → FinishesApart running (answer.Ended res bytes) → ⊥
+only_end true res bytes called is =
+    let two : answer.Ended res [] ≡ answer.Ended res (0 ∷ []) = called (answer.Ended res []) tt ∙ sym (called (answer.Ended res (0 ∷ [])) tt) in
+    absurd cc
+only_end false res bytes called is = absurd cc
+
+-- an answer that alone is called for is told by its text
+only_plain : (g : Rules) (h : History) (s : Step) (x : Answer) → IsWrong (IsCalled g h s) answer.Filled (Only x) → IsPlain x g.is_apart s
+only_plain g h s x w = go x g.is_apart s w
+  where
+    go : (y : Answer) (apart : Bool) (t : Step) → IsWrong (CalledIn apart g.setup (world g.setup h) t) answer.Filled (Only y) → IsPlain y apart t
+    go (answer.Ended res bytes) true (step.Finish n) w = absurd (only_end (is_running (world g.setup h).requests n) res bytes w.called (w.only (answer.Ended res bytes) refl))
+    go (answer.Ended res bytes) true _ w = tt
+    go (answer.Ended res bytes) false t w = tt
+    go _ apart t w = tt
+
 -- the one answer that is wanted was compared
-pub only_judged : (h : History) (m : Follower) (s : Step) (text : List ℕ) (x : Answer) (found : Option Wanted) → IsPlain x (rules_of m).is_apart s → IsOneJudged x text found → IsWanted h m s (Only x) → IsJudged (rules_of m) h m s text found
-only_judged h m s text x None plain same is = (x, same, plain, is.1)
-only_judged h m s text x (Some wanted) plain judged is =
+pub only_judged : (h : History) (m : Follower) (s : Step) (text : List ℕ) (x : Answer) (found : Option Wanted) → IsOneJudged x text found → IsWanted h m s (Only x) → IsJudged (rules_of m) h m s text found
+only_judged h m s text x None same is = (x, same, only_plain (rules_of m) h s x is.0, is.1)
+only_judged h m s text x (Some wanted) judged is =
     subst (λ (v : Wanted). IsJudged (rules_of m) h m s text (Some v)) (sym judged.0)
     (one_wrong (rules_of m) h s x text is.0.called (is.0.only x refl) judged.1, is.1)
 
