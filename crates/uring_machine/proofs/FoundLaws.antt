@@ -51,6 +51,7 @@ found-said r n f e = by_standing (is_outstanding r n) (is_faulty (entry_of r n))
         let asks = is_cancel-operation (entry_of r n) t false does in
         let so = found-one r n f (sym asks.1) (let same : found_as r (target_of r n) ≡ f = cc in same) in
         record { outstanding = given; cancels = asks.0; one = sym asks.1; found = so.0; result = so.1 }
+
     by_standing : (b c : Bool) → is_outstanding r n ≡ b → found_for r n (if b && not c then Some (operation_of (entry_of r n)) else None) ≡ Some f → Finds r n f
     by_standing true false given is = by_operation given (operation_of (entry_of r n)) refl is
     by_standing true true given is = cc
