@@ -48,6 +48,7 @@ not running, stand two spaces, # and the reason:
   doomed: M of its group has a fault
   doomed: M failed before it
   doomed: a cancel chose it
+  of a cancel of one: chose M, M is running, found none
 A line that is empty or begins with # is passed over. Any other that is no step
 is answered bad line, and told on standard error with its number; the status at
 the end is then 4.
