@@ -1,15 +1,33 @@
-//! The ends over lanes, on one thread.
+//! The ends over lanes, on one thread and in threads of their own.
 
 mod all_ends;
+mod dice;
+mod dropped;
+mod ends;
+mod held;
+mod moments;
 mod no_ends;
+mod random;
 mod refusals;
+mod replay;
 mod rests;
 mod rounds;
+mod threads;
 
 use uring_entry::Sqe;
-use uring_threads::Item;
+use uring_threads::{Item, Turn};
 
 /// A no-op with this user data.
 fn nop(user_data: u64) -> Item {
     Item::Entry(Sqe::nop(user_data, 0))
+}
+
+/// A turn with these numbers.
+fn turn(popped: u64, issued: u64, finished: u64, delivered: u64) -> Turn {
+    Turn {
+        popped,
+        issued,
+        finished,
+        delivered,
+    }
 }
