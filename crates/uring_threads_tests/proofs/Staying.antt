@@ -1,11 +1,10 @@
 -- All ends go on to be of one set-up while threads run them.
 use Rattle.std.proofs.Common.{◌≡◌, ℕ, zero, suc, ◌<◌, List, [], ◌∷◌, length, get_or, refl, ap, ◌∙◌, arith}
 use Rattle.uring_threads.specs.AppEnd.{AppEnd}
-use Rattle.uring_threads.specs.Dispatched.{numbers_of_lanes}
 use Rattle.uring_threads.specs.Kernel.{Kernel}
 use Rattle.uring_threads.specs.Report.{AreTogether}
 use Rattle.uring_threads.specs.Worker.{Worker}
-use Rattle.uring_threads.proofs.SameEnds.{app_stays, kernel_stays, told_same}
+use Rattle.uring_threads.proofs.SameEnds.{told_same}
 
 any_worker : (workers : List Worker) (k : ℕ) (d e : Worker) → k < length workers → get_or workers k d ≡ get_or workers k e
 any_worker [] k d e low = absurd (omega (arith, low))
@@ -24,14 +23,3 @@ workers_stay app kernel old new many pairing files t =
       lanes = told_same (λ (w : Worker). w.pairing) (λ (w : Worker). w.pairing) new old many (λ k d e low. pairing k d (omega (arith, low, many)) ∙ ap (λ (w : Worker). w.pairing) (any_worker old k d e (omega (arith, low, many)))) ∙ t.lanes;
       files = λ k d low. files k d (omega (arith, low, many)) ∙ t.files k d (omega (arith, low, many));
     }
-
--- and so have application and dispatcher
-pub all_stay : (app new_app : AppEnd) (kernel new_kernel : Kernel) (old new : List Worker) → new_app.pairing ≡ app.pairing → new_app.sizes ≡ app.sizes
-    → new_kernel.pairing ≡ kernel.pairing → new_kernel.sizes ≡ kernel.sizes → numbers_of_lanes new_kernel.lanes ≡ numbers_of_lanes kernel.lanes → new_kernel.kept.setup ≡ kernel.kept.setup
-    → length new ≡ length old
-    → ((k : ℕ) (d : Worker) → k < length old → (get_or new k d).pairing ≡ (get_or old k d).pairing)
-    → ((k : ℕ) (d : Worker) → k < length old → length (get_or new k d).files ≡ length (get_or old k d).files)
-    → AreTogether app kernel old → AreTogether new_app new_kernel new
-all_stay app new_app kernel new_kernel old new app_pairing app_sizes pairing sizes numbers setup many lanes files t =
-    workers_stay new_app new_kernel old new many lanes files
-    (kernel_stays new_app kernel new_kernel old pairing sizes numbers setup (app_stays app new_app kernel old app_pairing app_sizes t))

@@ -1,7 +1,7 @@
 //! All ends of a set-up in one value, so that they can be settled at any moment.
 ghost use Rattle.uring_threads.specs.Report.{AreTogether};
 
-use super::threads::{Flags, Script, run_threads};
+use super::threads::{Flags, Script, run_threads, turn_at};
 use std::alloc::{AllocError, Global};
 use std::sync::Wait;
 use std::thread::Threads;
@@ -51,7 +51,7 @@ impl<G: Gate> Ends<G> {
         if place >= self.workers.len() {
             return None;
         }
-        Some(self.workers[place].turn())
+        Some(turn_at(&mut self.workers, place))
     }
 
     /// Runs all ends in threads of their own, until the dispatcher is idle.

@@ -53,9 +53,41 @@ pub fn run_threads<R: Threads + Wait + Sync, G: Gate + Send>(
 {
     join_mut(
         rt,
-        &mut || run_both(rt, flags, script, app, kernel),
-        &mut || run_workers(rt, &flags.stop, workers),
+        &mut || run_ends(rt, flags, script, app, kernel),
+        &mut || run_all_workers(rt, &flags.stop, workers),
     );
+}
+
+/// Runs the threads of application and dispatcher, which go on to be of the same set-up.
+fn run_ends<R: Threads + Wait + Sync>(
+    rt: &R,
+    flags: &Flags,
+    script: &mut Script,
+    app: &mut AppEnd<AppLanes>,
+    kernel: &mut Kernel<KernelLanes>,
+)
+    ensures { (workers : _) → AreTogether app.old kernel.old workers → AreTogether app.new kernel.new workers }
+{
+    run_both(rt, flags, script, app, kernel);
+}
+
+/// Runs the threads of the workers, which go on to be of the same set-up.
+fn run_all_workers<R: Threads + Wait + Sync, G: Gate + Send>(
+    rt: &R,
+    stop: &AtomicBool,
+    workers: &mut [Worker<G>],
+)
+    ensures { (app : _) (kernel : _) → AreTogether app kernel workers.old → AreTogether app kernel workers.new }
+{
+    run_workers(rt, stop, workers);
+}
+
+/// A turn of the worker at this place, which goes on to be of the same set-up.
+pub fn turn_at<G: Gate>(workers: &mut [Worker<G>], k: usize) -> Worked
+    requires { k < length workers.old }
+    ensures { (app : _) (kernel : _) → AreTogether app kernel workers.old → AreTogether app kernel workers.new }
+{
+    workers[k].turn()
 }
 
 /// Runs the threads of application and dispatcher.
@@ -85,6 +117,7 @@ fn run_workers<R: Threads + Wait + Sync, G: Gate + Send>(
     workers: &mut [Worker<G>],
 )
     ensures pairing { (k : ℕ) (d : _) → k < length workers.old → (slice_index_or workers.new k d).pairing ≡ (slice_index_or workers.old k d).pairing }
+    ensures many { length workers.new ≡ length workers.old }
     ensures files { (k : ℕ) (d : _) → k < length workers.old → length (slice_index_or workers.new k d).files ≡ length (slice_index_or workers.old k d).files }
 {
     let count = workers.len();
