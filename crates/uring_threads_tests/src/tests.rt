@@ -1,18 +1,11 @@
-//! The ends over lanes, on one thread and in threads of their own.
+//! The ends over lanes, on one thread.
 
 mod all_ends;
-mod dice;
 mod dropped;
-mod ends;
-mod held;
-mod moments;
 mod no_ends;
-mod random;
 mod refusals;
-mod replay;
 mod rests;
 mod rounds;
-mod threads;
 
 use uring_entry::Sqe;
 use uring_threads::{Item, Turn};
