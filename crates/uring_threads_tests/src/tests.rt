@@ -2,15 +2,26 @@
 
 mod all_ends;
 mod growth;
+mod dropped;
 mod no_ends;
 mod refusals;
 mod rests;
 mod rounds;
 
 use uring_entry::Sqe;
-use uring_threads::Item;
+use uring_threads::{Item, Turn};
 
 /// A no-op with this user data.
 fn nop(user_data: u64) -> Item {
     Item::Entry(Sqe::nop(user_data, 0))
+}
+
+/// A turn with these numbers.
+fn turn(popped: u64, issued: u64, finished: u64, delivered: u64) -> Turn {
+    Turn {
+        popped,
+        issued,
+        finished,
+        delivered,
+    }
 }

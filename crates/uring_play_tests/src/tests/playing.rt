@@ -44,15 +44,22 @@ fn is_done(end: &(Vec<u8>, Result<(), PlayFault>), wanted: &[u8]) -> bool {
     end.1.is_ok() && end.0.as_slice() == wanted
 }
 
-/// Whether a play of this input ends with this fault, and writes nothing.
+/// Whether a play of this input ends with this fault and writes nothing, with 1, 2 and 8 workers.
 fn is_refused<R: Threads + Wait + Copy + Send + 'static>(
     rt: R,
     alloc: Global,
     input: &[u8],
     fault: PlayFault,
 ) -> Result<bool, Fail> {
-    let (output, end) = played(rt, alloc, input, 2)?;
-    Ok(output.is_empty() && end == Err(fault))
+    let one = played(rt, alloc, input, 1)?;
+    let two = played(rt, alloc, input, 2)?;
+    let eight = played(rt, alloc, input, 8)?;
+    Ok(is_fault(&one, fault) && is_fault(&two, fault) && is_fault(&eight, fault))
+}
+
+/// Whether a play ended with this fault, and wrote nothing.
+fn is_fault(end: &(Vec<u8>, Result<(), PlayFault>), fault: PlayFault) -> bool {
+    end.0.is_empty() && end.1 == Err(fault)
 }
 
 #[test]

@@ -1,20 +1,10 @@
 //! One thread plays all ends: it submits, turns the dispatcher and the workers, and reaps.
 
-use super::nop;
+use super::{nop, turn};
 use std::alloc::{AllocError, Global};
 use std::test::Fail;
 use uring_entry::{Cqe, Setup};
 use uring_threads::{AppEnd, AppLanes, Kernel, KernelLanes, Open, Turn, Worked, Worker, lanes};
-
-/// A turn with these numbers.
-fn turn(popped: u64, issued: u64, finished: u64, delivered: u64) -> Turn {
-    Turn {
-        popped,
-        issued,
-        finished,
-        delivered,
-    }
-}
 
 /// What came of one no-op and a close.
 #[derive(Debug, Drop, PartialEq)]
