@@ -1,7 +1,8 @@
 //! Calls that the dispatcher takes in from its port, and the close mark.
 ghost use Rattle.std.specs.Prelude.{◌≡◌, ◌+◌, ◌≤◌, length, IfOk, OnErr, vec_capacity};
 ghost use Rattle.uring_threads.specs.Kept.{now};
-ghost use Rattle.uring_threads.specs.Taking.{ClosesOnce, TakesIn, Tied, intake_after};
+ghost use Rattle.uring_threads.specs.Taking.{TakesIn, intake_after};
+ghost use Rattle.uring_threads.specs.Turns.{ClosesOnce, Tied};
 ghost use Rattle.uring_threads.specs.Ports.{Put};
 ghost use Rattle.uring_threads.specs.declared.intake.Intake.TheVariants.{Ready};
 

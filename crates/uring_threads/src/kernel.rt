@@ -6,7 +6,7 @@ ghost use Rattle.uring_threads.specs.Dispatched.{AreSameLanes, HaveCarriedNone, 
 ghost use Rattle.uring_threads.specs.Items.{AreItems};
 ghost use Rattle.uring_threads.specs.Kept.{now};
 ghost use Rattle.uring_threads.specs.Ports.{nothing_put, sizes_of, items_of_calls, LeavesItems, LeavesCompletions};
-ghost use Rattle.uring_threads.specs.Tallies.{Tally, Appends, starts_request};
+ghost use Rattle.uring_threads.specs.Tallies.{Tally, Appends, TakesFewResults, starts_request};
 ghost use Rattle.uring_threads.specs.Turns.{Counts};
 ghost use Rattle.uring_threads.specs.declared.intake.Intake.TheVariants.{Ready};
 
@@ -90,6 +90,9 @@ impl<P: KernelPort> Kernel<P> {
         // As long as no more was posted than the completion ring holds, all of it is reaped.
         ensures all { IfOk result (λ turn. length (now self.new.kept).completions.posted ≤ self.old.kept.setup.cq → length self.new.reaped ≡ length (now self.new.kept).completions.posted) }
         ensures err { OnErr result ((t : Tally) × Appends self.old.kept self.new.kept t) }
+
+        // Of each worker at most 64 results are taken in, also if memory was refused.
+        ensures few_results { TakesFewResults (length self.old.lanes) self.old.kept self.new.kept }
 
         // Nothing else changes.
         ensures setup { self.new.kept.setup ≡ self.old.kept.setup }

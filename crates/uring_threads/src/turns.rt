@@ -3,7 +3,7 @@ ghost use Rattle.std.specs.Prelude.{◌≡◌, ◌+◌, ◌<◌, ◌≤◌, ◌�
 ghost use Rattle.uring_entry.specs.Requests.{next_of};
 ghost use Rattle.uring_threads.specs.Dispatched.{AreSameLanes, SomeIsFull};
 ghost use Rattle.uring_threads.specs.Kept.{now};
-ghost use Rattle.uring_threads.specs.Tallies.{Tally, Appends};
+ghost use Rattle.uring_threads.specs.Tallies.{Tally, Appends, TakesFewResults};
 ghost use Rattle.uring_threads.specs.Turns.{AreTies, Counts};
 
 use crate::collect::collect_all;
@@ -57,6 +57,9 @@ pub fn make_turn<P: KernelPort>(
     // As long as no more was posted than the completion ring holds, all of it is reaped.
     ensures all { IfOk result (λ turn. length (now kept.new).completions.posted ≤ kept.old.setup.cq → length (P.delivered port.new) ≡ length (now kept.new).completions.posted) }
     ensures err { OnErr result ((t : Tally) × Appends kept.old kept.new t) }
+
+    // Of each worker at most 64 results are taken in, also if memory was refused.
+    ensures few_results { TakesFewResults (length lanes.old) kept.old kept.new }
 
     // Nothing else changes.
     ensures lanes { AreSameLanes lanes.old lanes.new }
