@@ -12,6 +12,7 @@ use Rattle.uring_threads.specs.Ports.{Put, items_of_calls}
 use Rattle.uring_threads.specs.Tallies.{Appends, closes_ring}
 use Rattle.uring_threads.specs.declared.intake.Intake.{Intake}
 use Rattle.uring_threads.specs.declared.intake.Intake.TheVariants as intake
+use Rattle.uring_threads.specs.declared.intake.Intake.TheVariants as intake
 use Rattle.uring_threads.specs.declared.turns.Turn.{Turn}
 use Rattle.uring_threads.specs.declared.work_lanes.WorkLanes.{WorkLanes}
 
@@ -49,6 +50,11 @@ pub record AreTies (kept : Kept) (pulled : Put) (reaped : List Cqe) (intake : In
   pub once : ClosesOnce kept intake
   pub delivered : IsDelivered (now kept).completions reaped
   pub carried : HaveCarried kept lanes
+
+-- whether a call that was pulled waits for memory, to be begun again
+abbrev pub awaits_memory : Intake → Bool
+awaits_memory (intake.Waiting count) = true
+awaits_memory other = false
 
 -- The numbers of a turn are those of the events that it appended. Where all of them are 0 and no call was begun and nothing closed, it appended none.
 pub record Counts (old new : Kept) (turn : Turn) : Type 0 where

@@ -3,6 +3,7 @@ ghost use Rattle.std.specs.Prelude.{◌≡◌, ◌+◌, ◌≤◌, length, IfOk,
 ghost use Rattle.uring_threads.specs.Kept.{now};
 ghost use Rattle.uring_threads.specs.Taking.{TakesIn, intake_after};
 ghost use Rattle.uring_threads.specs.Turns.{ClosesOnce, Tied};
+ghost use Rattle.uring_threads.specs.Turns as turns;
 ghost use Rattle.uring_threads.specs.Ports.{Put};
 ghost use Rattle.uring_threads.specs.declared.intake.Intake.TheVariants.{Ready};
 
@@ -40,6 +41,13 @@ impl Intake {
             Begun::Again => Intake::Waiting(count),
             Begun::Spent => Intake::Spent(count),
         }
+    }
+
+    /// Whether a call that was pulled waits for memory, to be begun again.
+    pub(crate) fn awaits_memory(&self) -> bool
+        ensures { result ≡ turns.awaits_memory self.now }
+    {
+        matches!(self, Intake::Waiting(_))
     }
 }
 

@@ -1,6 +1,7 @@
 use Rattle.std.proofs.Common.{length, subst, sym, refl}
 use Rattle.uring_threads.specs.Tallies.{TakesFewResults, finishes_counted, issues_counted, reaps_counted}
-use Rattle.uring_threads.specs.Turns.{AreTies}
+use Rattle.std.proofs.lemmas.Result.{IfOk-weaker}
+use Rattle.uring_threads.specs.Turns.{AreTies, Counts}
 use Rattle.uring_threads.proofs.Collecting.{on_err}
 use Rattle.uring_threads.proofs.FewResults.{few_of_none, few_behind, few_before}
 use Rattle.uring_threads.proofs.TraceSteps.{appends_none}
@@ -57,8 +58,17 @@ returns-clause-ties g c =
 
 pub returns-clause-counts : goal.returns-clause-counts
 returns-clause-counts g c =
-    counts_all c.args.kept.now c.take_in.new.kept c.collect_all.new.kept c.issue_all.new.kept c.deliver.new.kept c.in_ok-popped.popped c.in_ok-finished.finished c.in_ok-issued.issued c.in_ok-delivered.delivered
+    let counted = counts_all c.args.kept.now c.take_in.new.kept c.collect_all.new.kept c.issue_all.new.kept c.deliver.new.kept c.in_ok-popped.popped c.in_ok-finished.finished c.in_ok-issued.issued c.in_ok-delivered.delivered
     c.in_ok-popped.ensures.taken c.in_ok-finished.ensures.tally c.in_ok-finished.ensures.idle c.in_ok-issued.ensures.tally c.in_ok-issued.ensures.idle c.in_ok-delivered.ensures.tally c.in_ok-delivered.ensures.idle
+    in
+    IfOk-weaker c.unless_waiting.result _ _ (λ made same. subst (λ t. Counts c.args.kept.now c.deliver.new.kept t) (sym same) counted) c.unless_waiting.ensures.turn
+
+pub returns-clause-err : goal.returns-clause-err
+returns-clause-err g c =
+    let counted = counts_all c.args.kept.now c.take_in.new.kept c.collect_all.new.kept c.issue_all.new.kept c.deliver.new.kept c.in_ok-popped.popped c.in_ok-finished.finished c.in_ok-issued.issued c.in_ok-delivered.delivered
+    c.in_ok-popped.ensures.taken c.in_ok-finished.ensures.tally c.in_ok-finished.ensures.idle c.in_ok-issued.ensures.tally c.in_ok-issued.ensures.idle c.in_ok-delivered.ensures.tally c.in_ok-delivered.ensures.idle
+    in
+    on_err c.unless_waiting.result (_, counted.appends)
 
 pub returns-clause-lanes : goal.returns-clause-lanes
 returns-clause-lanes g c = lanes_then c.args.lanes.now c.collect_all.new.lanes c.issue_all.new.lanes c.collect_all.ensures.lanes c.issue_all.ensures.lanes
