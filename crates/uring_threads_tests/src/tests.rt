@@ -1,8 +1,8 @@
 //! The ends over lanes, on one thread.
 
 mod all_ends;
-mod growth;
 mod dropped;
+mod growth;
 mod no_ends;
 mod refusals;
 mod rests;
