@@ -6,6 +6,7 @@ mod growth;
 mod no_ends;
 mod refusals;
 mod rests;
+mod results;
 mod rounds;
 
 use uring_entry::Sqe;

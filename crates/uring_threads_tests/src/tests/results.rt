@@ -1,0 +1,63 @@
+//! Results that the dispatcher takes in, of requests of every standing.
+
+use std::alloc::{AllocError, Global};
+use std::test::Fail;
+use uring_entry::{Outcome, Setup, Sqe};
+use uring_machine::{Answer, Core, Step};
+use uring_threads::laws::take_result;
+
+type Event = (Step, Answer);
+
+/// What an operation that gave no bytes ends with.
+const DONE: Outcome = Outcome {
+    res: 0,
+    bytes: [0; 64],
+};
+
+/// Has a no-op accepted, at a slot of its own.
+fn accept(core: &mut Core, slot: u32) {
+    let entry = Sqe::nop(7, 0);
+    core.step(Step::Fill { slot, entry });
+    core.step(Step::Index { word: slot });
+    core.step(Step::StoreTail);
+    core.step(Step::Begin { count: 1 });
+    core.step(Step::Take);
+    core.step(Step::End);
+}
+
+/// Takes in a result of each of four requests: one never accepted, one that waits, one that runs, and that one once more.
+fn take_all(core: &mut Core, trace: &mut Vec<Event>) -> Result<(), AllocError> {
+    accept(core, 0);
+    accept(core, 1);
+    core.step(Step::Issue { number: 0 });
+    take_result(core, trace, 2, DONE)?;
+    take_result(core, trace, 1, DONE)?;
+    take_result(core, trace, 0, DONE)?;
+    take_result(core, trace, 0, DONE)?;
+    Ok(())
+}
+
+/// The trace of it.
+fn taken(alloc: Global) -> Result<Vec<Event>, Fail> {
+    let mut core = Core::new(alloc, &Setup::new(4, None, 1, 0)?)?;
+    let mut trace = Vec::new(alloc);
+    take_all(&mut core, &mut trace)?;
+    Ok(trace)
+}
+
+#[test]
+fn end_what_runs_and_nothing_else(rt: HostRuntime) -> Result<(), Fail> {
+    let trace = taken(rt.alloc())?;
+    let ended = Answer::Ended {
+        res: 0,
+        bytes: [0; 64],
+    };
+    let wanted = [
+        (Step::Finish { number: 2 }, Answer::NotRunning),
+        (Step::Finish { number: 1 }, Answer::NotRunning),
+        (Step::Finish { number: 0 }, ended),
+        (Step::Finish { number: 0 }, Answer::NotRunning),
+    ];
+    assert_eq!(rt; trace.as_slice(), wanted.as_slice());
+    Ok(())
+}
