@@ -1,5 +1,7 @@
 -- All ends go on to be of one set-up while threads run them.
-use Rattle.std.proofs.Common.{◌≡◌, ℕ, zero, suc, ◌<◌, List, [], ◌∷◌, length, get_or, refl, ap, ◌∙◌, arith}
+use Rattle.std.proofs.Common.{◌≡◌, ℕ, zero, suc, ◌<◌, List, [], ◌∷◌, ◌++◌, length, take, drop, map, get_or, refl, sym, subst, ap, ◌∙◌, arith}
+use Rattle.std.proofs.Math.Seq.{take-append_seam}
+use Rattle.std.proofs.lemmas.List.{length-map}
 use Rattle.uring_threads.specs.AppEnd.{AppEnd}
 use Rattle.uring_threads.specs.Kernel.{Kernel}
 use Rattle.uring_threads.specs.Report.{AreTogether}
@@ -23,3 +25,13 @@ workers_stay app kernel old new many pairing files t =
       lanes = told_same (λ (w : Worker). w.pairing) (λ (w : Worker). w.pairing) new old many (λ k d e low. pairing k d (omega (arith, low, many)) ∙ ap (λ (w : Worker). w.pairing) (any_worker old k d e (omega (arith, low, many)))) ∙ t.lanes;
       files = λ k d low. files k d (omega (arith, low, many)) ∙ t.files k d (omega (arith, low, many));
     }
+
+-- two lists of workers of one set-up are equally long
+pub same_many : (app : AppEnd) (kernel : Kernel) (old new : List Worker) → AreTogether app kernel old → AreTogether app kernel new → length new ≡ length old
+same_many app kernel old new s t =
+    sym (length-map new (λ (w : Worker). w.pairing)) ∙ ap length (t.lanes ∙ sym s.lanes) ∙ length-map old (λ (w : Worker). w.pairing)
+
+-- what was lent is written back whole
+pub written_back : (app : AppEnd) (kernel : Kernel) (old new : List Worker) (n : ℕ) → length new ≡ n → AreTogether app kernel new → AreTogether app kernel (take n (new ++ drop (length new) old))
+written_back app kernel old new n many t =
+    subst (AreTogether app kernel) (sym (ap (λ k. take k (new ++ drop (length new) old)) (sym many) ∙ take-append_seam new (drop (length new) old))) t

@@ -49,7 +49,8 @@ pub fn run_threads<R: Threads + Wait + Sync, G: Gate + Send>(
     script: &mut Script,
     flags: &Flags,
 )
-    ensures { AreTogether app.old kernel.old workers.old → AreTogether app.new kernel.new workers.new }
+    ensures together { AreTogether app.old kernel.old workers.old → AreTogether app.new kernel.new workers.new }
+    ensures many { length workers.new ≡ length workers.old }
 {
     join_mut(
         rt,
@@ -77,7 +78,8 @@ fn run_all_workers<R: Threads + Wait + Sync, G: Gate + Send>(
     stop: &AtomicBool,
     workers: &mut [Worker<G>],
 )
-    ensures { (app : _) (kernel : _) → AreTogether app kernel workers.old → AreTogether app kernel workers.new }
+    ensures together { (app : _) (kernel : _) → AreTogether app kernel workers.old → AreTogether app kernel workers.new }
+    ensures many { length workers.new ≡ length workers.old }
 {
     run_workers(rt, stop, workers);
 }
