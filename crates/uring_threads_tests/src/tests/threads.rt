@@ -2,6 +2,7 @@
 ghost use Rattle.std.specs.Prelude.{◌≡◌, ℕ, ◌<◌, length, slice_index_or};
 ghost use Rattle.uring_threads.specs.Dispatched.{numbers_of_lanes};
 ghost use Rattle.uring_threads.specs.Report.{AreTogether};
+ghost use Rattle.uring_threads_tests.specs.Workers.{lanes_of, files_of};
 
 use std::sync::Wait;
 use std::sync::atomic::{AtomicBool, Ordering};
@@ -49,37 +50,26 @@ pub fn run_threads<R: Threads + Wait + Sync, G: Gate + Send>(
     script: &mut Script,
     flags: &Flags,
 )
-    ensures together { AreTogether app.old kernel.old workers.old → AreTogether app.new kernel.new workers.new }
-    ensures many { length workers.new ≡ length workers.old }
+    ensures app { (app.new.pairing ≡ app.old.pairing) × (app.new.sizes ≡ app.old.sizes) }
+    ensures kernel { (kernel.new.pairing ≡ kernel.old.pairing) × (kernel.new.sizes ≡ kernel.old.sizes) }
+    ensures setup { kernel.new.kept.setup ≡ kernel.old.kept.setup }
+    ensures lanes { numbers_of_lanes kernel.new.lanes ≡ numbers_of_lanes kernel.old.lanes }
+    ensures workers { (lanes_of workers.new ≡ lanes_of workers.old) × (files_of workers.new ≡ files_of workers.old) }
 {
     join_mut(
         rt,
-        &mut || run_ends(rt, flags, script, app, kernel),
+        &mut || run_both(rt, flags, script, app, kernel),
         &mut || run_all_workers(rt, &flags.stop, workers),
     );
 }
 
-/// Runs the threads of application and dispatcher, which go on to be of the same set-up.
-fn run_ends<R: Threads + Wait + Sync>(
-    rt: &R,
-    flags: &Flags,
-    script: &mut Script,
-    app: &mut AppEnd<AppLanes>,
-    kernel: &mut Kernel<KernelLanes>,
-)
-    ensures { (workers : _) → AreTogether app.old kernel.old workers → AreTogether app.new kernel.new workers }
-{
-    run_both(rt, flags, script, app, kernel);
-}
-
-/// Runs the threads of the workers, which go on to be of the same set-up.
+/// Runs the threads of the workers.
 fn run_all_workers<R: Threads + Wait + Sync, G: Gate + Send>(
     rt: &R,
     stop: &AtomicBool,
     workers: &mut [Worker<G>],
 )
-    ensures together { (app : _) (kernel : _) → AreTogether app kernel workers.old → AreTogether app kernel workers.new }
-    ensures many { length workers.new ≡ length workers.old }
+    ensures { (lanes_of workers.new ≡ lanes_of workers.old) × (files_of workers.new ≡ files_of workers.old) }
 {
     run_workers(rt, stop, workers);
 }
