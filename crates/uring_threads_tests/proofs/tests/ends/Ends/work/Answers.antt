@@ -1,4 +1,4 @@
-use Rattle.std.proofs.Common.{sym, subst, ap, ◌∙◌}
+use Rattle.std.proofs.Common.{sym, subst, ◌∙◌}
 use Rattle.uring_threads.specs.Report.{AreTogether}
 use Rattle.uring_threads_tests.proofs.Staying.{same_many, written_back}
 use Rattle.uring_threads_tests.proofs.tests.ends.Ends.work.Goals as goal
