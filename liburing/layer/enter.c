@@ -112,7 +112,6 @@ static int enter_ring(struct ring *ring, uint32_t to_submit, uint32_t flags, con
     else
         result = go_on_until(ring, waiting);
     show(ring);
-    push_trace(ring);
     return submitted != 0 ? submitted : result;
 }
 

@@ -12,7 +12,6 @@
 #define _GNU_SOURCE
 #include "policy.h"
 #include "fault.h"
-#include "trace.h"
 
 #include <inttypes.h>
 #include <pthread.h>
@@ -184,13 +183,12 @@ void record_choice(uint64_t at, uint32_t count, uint32_t chosen, const char *wha
     record("%" PRIu64 " %" PRIu32 " %" PRIu32 " %s\n", at, chosen, count, what);
 }
 
-void refuse_choice(struct ring *ring, uint64_t at)
+void refuse_choice(uint64_t at)
 {
     if (chosen_by.policy != LISTED)
         return;
     if (chosen_by.is_cutting && at + 1 == chosen_by.listed_end) {
         record("duplicate\n");
-        push_trace(ring);
         _exit(1);
     }
     put_listed(at, 0);

@@ -22,8 +22,6 @@ enum policy policy(void);
 /* Whether issuing and finishing are two choices (WULGACH_CHOOSE=events, the default), or one (ends). */
 bool is_choosing_events(void);
 
-struct ring;
-
 /* Counts a choice, and returns its number. Only policies that choose make any. */
 uint64_t count_choice(void);
 
@@ -31,7 +29,7 @@ uint64_t count_choice(void);
 uint32_t choose(uint64_t at, uint32_t count);
 
 /* The core doesn't allow what was chosen: it is to be chosen again. A list then says 0. */
-void refuse_choice(struct ring *ring, uint64_t at);
+void refuse_choice(uint64_t at);
 
 /* Records a choice that was made: which of how many ways, and in words. */
 void record_choice(uint64_t at, uint32_t count, uint32_t chosen, const char *what);

@@ -191,7 +191,7 @@ static enum progress choose_way(struct ring *ring, struct request **ways, uint32
         }
         if (try_way(ring, ways[chosen], at, count, chosen))
             return WENT_ON;
-        refuse_choice(ring, at);
+        refuse_choice(at);
     }
 }
 

@@ -35,7 +35,10 @@ struct ring {
     struct completions completions;     /* posted and not reaped */
     uint64_t now;                       /* virtual time in nanoseconds: moved on by timeouts only */
     bool has_trace;                     /* whether it is known where steps and answers go: */
-    FILE *trace;                        /* there, or NULL */
+    int trace_file;                     /* there, where trace isn't NULL */
+    FILE *trace;                        /* the line that is being written, in memory; or NULL */
+    char *line;                         /* its letters, once it is flushed, */
+    size_t line_length;                 /* and their number */
 };
 
 /* The ring of a descriptor, with its lock held; NULL if it is none of this process's. */

@@ -1,14 +1,42 @@
-/* Writes the trace of a ring. */
+/* Writes the trace of a ring: each line by one write, so that no line is cut where a thread exits in the middle of
+ * another's, and none is there twice where a child is forked.
+ */
 #define _GNU_SOURCE
 #include "trace.h"
 #include "operations.h"
 #include "ring.h"
 
+#include <fcntl.h>
 #include <inttypes.h>
 #include <stdarg.h>
 #include <stdlib.h>
 #include <string.h>
 #include <unistd.h>
+
+/* A file for writing, under a high descriptor: a program that closes a low one twice doesn't close this. */
+static int open_high(const char *path)
+{
+    int low = open(path, O_WRONLY | O_CREAT | O_TRUNC | O_APPEND | O_CLOEXEC, 0666);
+    int high = low < 0 ? -1 : fcntl(low, F_DUPFD_CLOEXEC, 512);
+    if (high < 0)
+        return low;
+    close(low);
+    return high;
+}
+
+/* Hands the line to the file, and begins another. A trace that can't be written ends with the line before. */
+static void end_line(struct ring *ring)
+{
+    fputc('\n', ring->trace);
+    fflush(ring->trace);
+    ssize_t written = write(ring->trace_file, ring->line, ring->line_length);
+    if (written == (ssize_t)ring->line_length) {
+        rewind(ring->trace);
+        return;
+    }
+    perror("wulgach: the trace can't be written");
+    close_trace(ring);
+}
 
 static void open_trace(struct ring *ring)
 {
@@ -18,24 +46,25 @@ static void open_trace(struct ring *ring)
         return;
     char path[4096];
     snprintf(path, sizeof path, "%s.%d.%" PRIu32, prefix, (int)ring->process, ring->index);
-    ring->trace = fopen(path, "we");
-    if (ring->trace)
-        fprintf(ring->trace, "setup --sq %" PRIu32 " --cq %" PRIu32 " --files 1 --start 0\n", ring->memory.sq_entries, ring->memory.cq_entries);
-    else
+    ring->trace_file = open_high(path);
+    if (ring->trace_file >= 0)
+        ring->trace = open_memstream(&ring->line, &ring->line_length);
+    if (!ring->trace) {
         fprintf(stderr, "wulgach: %s can't be written\n", path);
+        return;
+    }
+    fprintf(ring->trace, "setup --sq %" PRIu32 " --cq %" PRIu32 " --files 1 --start 0", ring->memory.sq_entries, ring->memory.cq_entries);
+    end_line(ring);
 }
 
 void close_trace(struct ring *ring)
 {
-    if (ring->trace)
-        fclose(ring->trace);
+    if (!ring->trace)
+        return;
+    fclose(ring->trace);
+    free(ring->line);
+    close(ring->trace_file);
     ring->trace = NULL;
-}
-
-void push_trace(struct ring *ring)
-{
-    if (ring->trace)
-        fflush(ring->trace);
 }
 
 static void print_flags(FILE *out, uint8_t flags)
@@ -131,7 +160,7 @@ void trace_step(struct ring *ring, const struct wulgach_step *step, const struct
     print_step(ring->trace, step);
     fputs(" = ", ring->trace);
     print_answer(ring->trace, answer);
-    fputc('\n', ring->trace);
+    end_line(ring);
 }
 
 void trace_note(struct ring *ring, const char *format, ...)
@@ -142,8 +171,8 @@ void trace_note(struct ring *ring, const char *format, ...)
     va_start(arguments, format);
     fputs("# ", ring->trace);
     vfprintf(ring->trace, format, arguments);
-    fputc('\n', ring->trace);
     va_end(arguments);
+    end_line(ring);
 }
 
 void trace_request(struct ring *ring, const struct request *request)
@@ -154,7 +183,7 @@ void trace_request(struct ring *ring, const struct request *request)
     print_operation(ring->trace, request);
     fputs(", flags ", ring->trace);
     print_flags(ring->trace, request->entry.flags);
-    fputc('\n', ring->trace);
+    end_line(ring);
 }
 
 void trace_result(struct ring *ring, const struct request *request, int32_t res)

@@ -1,6 +1,7 @@
 /* The trace of a ring: a file PREFIX.PID.INDEX for each ring on which a step was made, if WULGACH_TRACE gives a PREFIX.
  * It begins with the set-up, has a line STEP = ANSWER for each step in the language of `uring trace`, and behind # what
- * a reader wants to know: what a request really asks for, its real result, and what was chosen.
+ * a reader wants to know: what a request really asks for, its real result, and what was chosen. A line is in the file as
+ * soon as it is known, so a program that dies leaves its trace.
  */
 #ifndef TRACE_H
 #define TRACE_H
@@ -17,8 +18,5 @@ void trace_result(struct ring *ring, const struct request *request, int32_t res)
 
 /* A line of its own behind #. */
 void trace_note(struct ring *ring, const char *format, ...) __attribute__((format(printf, 2, 3)));
-
-/* Hands what was written to the file: at the end of each call, so that a program that dies leaves its trace. */
-void push_trace(struct ring *ring);
 
 #endif

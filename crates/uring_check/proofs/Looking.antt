@@ -4,25 +4,25 @@ use Rattle.std.specs.Prelude.{OnOk, codes}
 use Rattle.std.specs.declared.alloc.Global.{Global}
 use Rattle.std.specs.declared.vec.Vec.{Vec}
 use Rattle.std.proofs.lemmas.List.{append-nil}
-use Rattle.uring_entry.specs.Setup.{Setup}
 use Rattle.uring_entry.specs.declared.why.Why.{Why}
-use Rattle.uring_machine.specs.CalledFor.{CalledFor}
 use Rattle.uring_machine.specs.Histories.{History, world}
-use Rattle.uring_machine.specs.Machine.{Machine, Fits}
 use Rattle.uring_machine.specs.World.{World}
 use Rattle.uring_machine.specs.declared.step.Step.{Step}
 use Rattle.uring_machine.specs.declared.wanted.Wanted.{Wanted}
 use Rattle.uring_trace.specs.Explanations.{line_number}
 use Rattle.uring_trace.specs.Lines.{ended}
 use Rattle.uring_trace.specs.Remarks.{is_remark}
-use Rattle.uring_check.specs.Checking.{Judges, Looks, Looked, LooksAt}
+use Rattle.uring_check.specs.Checking.{FitsBy, Judges, Looks, Looked, LooksAt, rules_of}
 use Rattle.uring_check.specs.Findings.{Found, Finding, IsFinding, IsFindingBehind, first_fault, has_stopped, history_behind, judged, stops, with_finding}
 use Rattle.uring_check.specs.Findings as finding
 use Rattle.uring_check.specs.Records.{IsRecord, IsNoRecord}
 use Rattle.uring_check.specs.Reports.{counted_with, line_text, told_of, told_of_all, wanted_text, why_asked, why_told}
+use Rattle.uring_check.specs.Rules.{Rules, IsCalled}
 use Rattle.uring_check.specs.declared.checker.Checker.{Checker}
+use Rattle.uring_check.specs.declared.follower.Follower.{Follower}
 use Rattle.uring_check.specs.declared.verdict.Verdict.{Verdict}
 use Rattle.uring_check.specs.declared.verdict.Verdict.TheVariants as verdict
+use Rattle.uring_check.proofs.WantedAnswers.{fits_called}
 
 -- a fact of a call that went well, whatever it returned
 pub on_ok_map : {T E : Type 0} (r : Result T E) (P Q : Type 0) → (P → Q) → OnOk r P → OnOk r Q
@@ -39,7 +39,7 @@ or_false false = refl
 
 -- ---- one line
 
-pub looked_passed : (c : Checker) (line : List ℕ) (h : History) → IsNoRecord line → is_remark line ≡ true → c.is_over ≡ false → Fits c.machine h → Looked c c line h
+pub looked_passed : (c : Checker) (line : List ℕ) (h : History) → IsNoRecord line → is_remark line ≡ true → c.is_over ≡ false → FitsBy c.machine h → Looked c c line h
 looked_passed c line h none remark over fits = record {
   finding = finding.Passed;
   is_so = (none, remark);
@@ -66,7 +66,7 @@ wrong_told w n line items s wanted = regroup items (line_text n) (ended line) (c
 abbrev pub found_bad : Checker → Vec ℕ Global → Checker
 found_bad c report = record c { is_over = true; report = report }
 
-pub looked_bad : (old mid : Checker) (report : Vec ℕ Global) (line : List ℕ) (h : History) → mid ≡ record old { verdict = first_fault old.verdict verdict.Bad } → IsNoRecord line → is_remark line ≡ false → Fits old.machine h
+pub looked_bad : (old mid : Checker) (report : Vec ℕ Global) (line : List ℕ) (h : History) → mid ≡ record old { verdict = first_fault old.verdict verdict.Bad } → IsNoRecord line → is_remark line ≡ false → FitsBy old.machine h
     → report.items ≡ mid.report.items ++ line_text mid.number ++ ended (codes "bad line") → Looked old (found_bad mid report) line h
 looked_bad old mid report line h is none remark fits =
     subst (λ (m : Checker). report.items ≡ m.report.items ++ line_text m.number ++ ended (codes "bad line") → Looked old (found_bad m report) line h) (sym is)
@@ -80,22 +80,22 @@ looked_bad old mid report line h is none remark fits =
       counted = refl;
       decided = refl;
       stopped = refl;
-      told = told ∙ bad_told (world old.machine.core.setup h) old.number line old.report.items;
+      told = told ∙ bad_told (world (rules_of old.machine).setup h) old.number line old.report.items;
     })
 
 -- a checker whose machine made a step
-abbrev pub with_machine : Checker → Machine → Checker
+abbrev pub with_machine : Checker → Follower → Checker
 with_machine c m = record c { machine = m }
 
-pub looked_right : (old : Checker) (m : Machine) (steps : ℕ) (s : Step) (text line : List ℕ) → steps ≡ min (old.steps + 1) (2 ^ 64 - 1) → m.core.setup ≡ old.machine.core.setup → old.is_over ≡ false → Judges old.machine m s text None → IsRecord line s text
+pub looked_right : (old : Checker) (m : Follower) (steps : ℕ) (s : Step) (text line : List ℕ) → steps ≡ min (old.steps + 1) (2 ^ 64 - 1) → rules_of m ≡ rules_of old.machine → old.is_over ≡ false → Judges old.machine m s text None → IsRecord line s text
     → LooksAt old (record old { machine = m; steps = steps }) line
 looked_right old m steps s text line counted same over judges is = λ h f.
     let j = judges h f in
     record {
       finding = finding.Right s j.0;
-      is_so = (subst (λ (t : List ℕ). IsRecord line s t) (sym j.1) is, subst (λ (g : Setup). CalledFor g (world g h) s j.0) same j.2.lawful.0);
+      is_so = (subst (λ (t : List ℕ). IsRecord line s t) (sym j.1) is, j.2, subst (λ (g : Rules). IsCalled g h s j.0) same (fits_called m s j.0 h j.3));
       same = same;
-      fits = j.2;
+      fits = j.3;
       is_all = refl;
       numbered = refl;
       counted = counted;
@@ -108,8 +108,8 @@ looked_right old m steps s text line counted same over judges is = λ h f.
 abbrev pub found_wrong : Checker → Vec ℕ Global → Checker
 found_wrong c report = record c { verdict = first_fault c.verdict verdict.Wrong; is_over = not c.is_all; report = report }
 
-pub looked_wrong : (old new : Checker) (m : Machine) (s : Step) (text line shown : List ℕ) (why : Option (ℕ × Why)) → m.core.setup ≡ old.machine.core.setup
-    → ((h : History) → Fits old.machine h → why ≡ why_asked (world old.machine.core.setup h).requests s) → (wanted : Wanted) × (shown ≡ wanted_text wanted) × Judges old.machine m s text (Some wanted) → new ≡ found_wrong (with_machine old m) new.report
+pub looked_wrong : (old new : Checker) (m : Follower) (s : Step) (text line shown : List ℕ) (why : Option (ℕ × Why)) → rules_of m ≡ rules_of old.machine
+    → ((h : History) → FitsBy old.machine h → why ≡ why_asked (world (rules_of old.machine).setup h).requests s) → (wanted : Wanted) × (shown ≡ wanted_text wanted) × Judges old.machine m s text (Some wanted) → new ≡ found_wrong (with_machine old m) new.report
     → new.report.items ≡ old.report.items ++ line_text old.number ++ ended line ++ codes "wanted: " ++ ended shown ++ why_told why → IsRecord line s text → LooksAt old new line
 looked_wrong old new m s text line shown why same asked judges is told rec = λ h f.
     let j = judges.2 h f in
@@ -117,8 +117,8 @@ looked_wrong old new m s text line shown why same asked judges is told rec = λ 
     record {
       finding = finding.Wrong s wanted;
       is_so = (text, rec, j.0);
-      same = ap (λ (c : Checker). c.machine.core.setup) is ∙ same;
-      fits = subst (λ (c : Machine). Fits c (with_finding (finding.Wrong s wanted) h)) (sym (ap (λ (c : Checker). c.machine) is)) j.1;
+      same = ap (λ (c : Checker). rules_of c.machine) is ∙ same;
+      fits = subst (λ (c : Follower). FitsBy c (with_finding (finding.Wrong s wanted) h)) (sym (ap (λ (c : Checker). c.machine) is)) j.1;
       is_all = ap (λ (c : Checker). c.is_all) is;
       numbered = ap (λ (c : Checker). c.number) is;
       counted = ap (λ (c : Checker). c.steps) is;
@@ -128,13 +128,13 @@ looked_wrong old new m s text line shown why same asked judges is told rec = λ 
           told
           ∙ ap (λ (t : List ℕ). old.report.items ++ line_text old.number ++ ended line ++ codes "wanted: " ++ ended t ++ why_told why) judges.1
           ∙ ap (λ (w : Option (ℕ × Why)). old.report.items ++ line_text old.number ++ ended line ++ codes "wanted: " ++ ended (wanted_text wanted) ++ why_told w) (asked h f)
-          ∙ wrong_told (world old.machine.core.setup h) old.number line old.report.items s wanted;
+          ∙ wrong_told (world (rules_of old.machine).setup h) old.number line old.report.items s wanted;
     }
 
 -- ---- all lines
 
 -- a line that was looked at
-pub took_looked : (g : Setup) (all : Bool) (lines : List (List ℕ)) (old mid : Checker) (n : ℕ) (line : List ℕ) → n ≡ min (mid.number + 1) (2 ^ 64 - 1) → old.is_over ≡ false → LooksAt old mid line → Looks g all lines old → Looks g all (line ∷ lines) (record mid { number = n })
+pub took_looked : (g : Rules) (all : Bool) (lines : List (List ℕ)) (old mid : Checker) (n : ℕ) (line : List ℕ) → n ≡ min (mid.number + 1) (2 ^ 64 - 1) → old.is_over ≡ false → LooksAt old mid line → Looks g all lines old → Looks g all (line ∷ lines) (record mid { number = n })
 took_looked g all lines old mid n line next over looks k =
     let l = looks (history_behind k.found) k.fits in
     let past : History = history_behind k.found in
@@ -142,7 +142,7 @@ took_looked g all lines old mid n line next over looks k =
     let number : mid.number ≡ line_number (length k.found) = l.numbered ∙ k.numbered in
     record {
       found = record { line = line; finding = l.finding } ∷ k.found;
-      are = (subst (λ (b : Bool). IsFindingBehind b g past line l.finding) (sym none) (subst (λ (x : Setup). IsFinding x past line l.finding) k.same l.is_so), k.are);
+      are = (subst (λ (b : Bool). IsFindingBehind b g past line l.finding) (sym none) (subst (λ (x : Rules). IsFinding x past line l.finding) k.same l.is_so), k.are);
       lines_are = ap (λ (ls : List (List ℕ)). line ∷ ls) k.lines_are;
       is_all = l.is_all ∙ k.is_all;
       same = l.same ∙ k.same;
@@ -155,13 +155,13 @@ took_looked g all lines old mid n line next over looks k =
           ∙ or_false (stops all l.finding)
           ∙ ap (λ (b : Bool). stops all l.finding || b) (sym none);
       told =
-          l.told ∙ ap (λ (t : List ℕ). t ++ told_of (world old.machine.core.setup past) old.number line l.finding) k.told
-          ∙ ap (λ (x : Setup). told_of_all g k.found ++ told_of (world x past) old.number line l.finding) k.same
-          ∙ ap (λ (x : ℕ). told_of_all g k.found ++ told_of (world g past) x line l.finding) k.numbered;
+          l.told ∙ ap (λ (t : List ℕ). t ++ told_of (world (rules_of old.machine).setup past) old.number line l.finding) k.told
+          ∙ ap (λ (x : Rules). told_of_all g k.found ++ told_of (world x.setup past) old.number line l.finding) k.same
+          ∙ ap (λ (x : ℕ). told_of_all g k.found ++ told_of (world g.setup past) x line l.finding) k.numbered;
     }
 
 -- a line behind one at which the check stopped
-pub took_skipped : (g : Setup) (all : Bool) (lines : List (List ℕ)) (old : Checker) (n : ℕ) (line : List ℕ) → n ≡ min (old.number + 1) (2 ^ 64 - 1) → old.is_over ≡ true → Looks g all lines old → Looks g all (line ∷ lines) (record old { number = n })
+pub took_skipped : (g : Rules) (all : Bool) (lines : List (List ℕ)) (old : Checker) (n : ℕ) (line : List ℕ) → n ≡ min (old.number + 1) (2 ^ 64 - 1) → old.is_over ≡ true → Looks g all lines old → Looks g all (line ∷ lines) (record old { number = n })
 took_skipped g all lines old n line next over k =
     let past : History = history_behind k.found in
     let stopped : has_stopped all k.found ≡ true = sym k.stopped ∙ over in

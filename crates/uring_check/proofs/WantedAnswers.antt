@@ -1,11 +1,11 @@
 -- What a text says of the answers that are called for.
-use Rattle.std.proofs.Common.{◌≡◌, ◌∷◌, ℕ, ℤ, neg_ℤ, List, Option, Some, None, refl, sym, ap, subst, ◌∙◌, inl, inr}
-use Rattle.uring_entry.specs.Requests.{no_bytes}
+use Rattle.std.proofs.Common.{◌≡◌, ◌∷◌, ℕ, ℤ, neg_ℤ, Bool, true, false, List, [], Option, Some, None, refl, sym, ap, subst, ◌∙◌, inl, inr}
+use Rattle.uring_entry.specs.Requests.{is_running, no_bytes}
 use Rattle.uring_entry.specs.Setup.{Setup}
 use Rattle.uring_entry.specs.declared.errno.TheConstants.{ENOMEM}
-use Rattle.uring_machine.specs.CalledFor.{CalledFor}
+use Rattle.uring_machine.specs.Core.{IsNoFinish}
 use Rattle.uring_machine.specs.Histories.{History, world}
-use Rattle.uring_machine.specs.Machine.{Machine, Fits}
+use Rattle.uring_machine.specs.StepAnswers.{CalledForApart, FinishesApart, IsEnded}
 use Rattle.uring_machine.specs.World.{World}
 use Rattle.uring_machine.specs.declared.answer.Answer.{Answer}
 use Rattle.uring_machine.specs.declared.answer.Answer.TheVariants as answer
@@ -14,52 +14,115 @@ use Rattle.uring_machine.specs.declared.step.Step.TheVariants as step
 use Rattle.uring_machine.specs.Recorded.{IsWrong, resumed}
 use Rattle.uring_machine.specs.declared.wanted.Refusal.TheVariants as refusal
 use Rattle.uring_machine.specs.declared.wanted.Wanted.{Wanted}
-use Rattle.uring_machine.specs.declared.wanted.Wanted.TheVariants.{Only, CallOrAgain, EndOrNoMemory}
+use Rattle.uring_machine.specs.declared.wanted.Wanted.TheVariants.{Only, CallOrAgain, AnyEnd, EndOrNoMemory}
+use Rattle.uring_trace.specs.Spelling.{IsFile}
 use Rattle.uring_trace.specs.Text.{text_of}
-use Rattle.uring_check.specs.Checking.{HasOneAnswer, IsEither, IsJudged, IsOneJudged, IsWanted, Judges}
+use Rattle.uring_check.specs.Checking.{FitsBy, HasOneAnswer, IsEither, IsJudged, IsOneJudged, IsWanted, Judges, rules_of}
 use Rattle.uring_check.specs.Findings.{IsWrongText}
+use Rattle.uring_check.specs.Rules.{Rules, CalledIn, IsCalled, IsPlain}
+use Rattle.uring_check.specs.declared.follower.Follower.{Follower}
+use Rattle.uring_check.specs.declared.follower.Follower.TheVariants.{Whole, Apart}
 
 -- one answer alone is called for, but to Begin and Finish
-pub one_answer : (g : Setup) (w : World) (s : Step) (a b : Answer) → HasOneAnswer s → CalledFor g w s a → CalledFor g w s b → a ≡ b
-one_answer g w (step.Fill slot entry) a b h p q = p ∙ sym q
-one_answer g w (step.Index word) a b h p q = p ∙ sym q
-one_answer g w step.StoreTail a b h p q = p ∙ sym q
-one_answer g w step.LoadHead a b h p q = p ∙ sym q
-one_answer g w (step.Begin count) a b h p q = absurd h
-one_answer g w step.Take a b h p q = p ∙ sym q
-one_answer g w step.End a b h p q = p ∙ sym q
-one_answer g w (step.Issue n) a b h p q = p ∙ sym q
-one_answer g w (step.Finish n) a b h p q = absurd h
-one_answer g w step.Flush a b h p q = p ∙ sym q
-one_answer g w step.LoadCqTail a b h p q = p ∙ sym q
-one_answer g w step.Reap a b h p q = p ∙ sym q
-one_answer g w step.StoreCqHead a b h p q = p ∙ sym q
-one_answer g w step.Close a b h p q = p ∙ sym q
-one_answer g w step.Next a b h p q = p ∙ sym q
+one_apart : (g : Setup) (w : World) (s : Step) (a b : Answer) → HasOneAnswer s → CalledForApart g w s a → CalledForApart g w s b → a ≡ b
+one_apart g w (step.Fill slot entry) a b h p q = p ∙ sym q
+one_apart g w (step.Index word) a b h p q = p ∙ sym q
+one_apart g w step.StoreTail a b h p q = p ∙ sym q
+one_apart g w step.LoadHead a b h p q = p ∙ sym q
+one_apart g w (step.Begin count) a b h p q = absurd h
+one_apart g w step.Take a b h p q = p ∙ sym q
+one_apart g w step.End a b h p q = p ∙ sym q
+one_apart g w (step.Issue n) a b h p q = p ∙ sym q
+one_apart g w (step.Finish n) a b h p q = absurd h
+one_apart g w step.Flush a b h p q = p ∙ sym q
+one_apart g w step.LoadCqTail a b h p q = p ∙ sym q
+one_apart g w step.Reap a b h p q = p ∙ sym q
+one_apart g w step.StoreCqHead a b h p q = p ∙ sym q
+one_apart g w step.Close a b h p q = p ∙ sym q
+one_apart g w step.Next a b h p q = p ∙ sym q
+
+-- with files nothing else is called for to such a step
+as_apart : (apart : Bool) (g : Setup) (w : World) (s : Step) (a : Answer) → HasOneAnswer s → CalledIn apart g w s a → CalledForApart g w s a
+as_apart true g w s a h p = p
+as_apart false g w (step.Fill slot entry) a h p = p
+as_apart false g w (step.Index word) a h p = p
+as_apart false g w step.StoreTail a h p = p
+as_apart false g w step.LoadHead a h p = p
+as_apart false g w (step.Begin count) a h p = absurd h
+as_apart false g w step.Take a h p = p
+as_apart false g w step.End a h p = p
+as_apart false g w (step.Issue n) a h p = p
+as_apart false g w (step.Finish n) a h p = absurd h
+as_apart false g w step.Flush a h p = p
+as_apart false g w step.LoadCqTail a h p = p
+as_apart false g w step.Reap a h p = p
+as_apart false g w step.StoreCqHead a h p = p
+as_apart false g w step.Close a h p = p
+as_apart false g w step.Next a h p = p
+
+one_answer : (g : Rules) (h : History) (s : Step) (a b : Answer) → HasOneAnswer s → IsCalled g h s a → IsCalled g h s b → a ≡ b
+one_answer g h s a b one p q =
+    let w : World = world g.setup h in
+    one_apart g.setup w s a b one (as_apart g.is_apart g.setup w s a one p) (as_apart g.is_apart g.setup w s b one q)
+
+-- such a step is no Finish
+pub no_finish : (s : Step) → HasOneAnswer s → IsNoFinish s
+no_finish (step.Finish n) one = one
+no_finish _ one = tt
+
+-- an answer to such a step is told by its text
+plain_one : (a : Answer) (apart : Bool) (s : Step) → HasOneAnswer s → IsPlain a apart s
+plain_one (answer.Ended res bytes) true (step.Finish n) one = absurd one
+plain_one (answer.Ended res bytes) true _ one = tt
+plain_one (answer.Ended res bytes) false s one = tt
+plain_one _ apart s one = tt
 
 -- the one answer that is called for has another text
-one_wrong : (Called : Answer → Type 0) (x : Answer) (text : List ℕ) → ((a : Answer) → Called a → a ≡ x) → Called x → (text_of x ≡ text → ⊥) → IsWrongText Called text (Only x)
-one_wrong Called x text one called other = record {
-  not_called = λ a c same. other (ap text_of (sym (one a c)) ∙ same);
+one_wrong : (g : Rules) (h : History) (s : Step) (x : Answer) (text : List ℕ) → ((a : Answer) → IsCalled g h s a → a ≡ x) → IsCalled g h s x → (text_of x ≡ text → ⊥) → IsWrongText g h s text (Only x)
+one_wrong g h s x text one called other = record {
+  not_called = λ a c same plain. other (ap text_of (sym (one a c)) ∙ same);
   called = one;
-  only = λ a is. subst Called (sym is) called;
+  only = λ a is. subst (λ (b : Answer). IsCalled g h s b) (sym is) called;
 }
 
+-- what a follower fits is called for
+pub fits_called : (m : Follower) (s : Step) (a : Answer) (h : History) → FitsBy m ((s, a) ∷ h) → IsCalled (rules_of m) h s a
+fits_called (Whole m) s a h f = f.lawful.0
+fits_called (Apart c) s a h f = f.lawful.0
+
 -- a step was made with the one answer that was called for
-pub sure_judged : (old new : Machine) (s : Step) (text : List ℕ) (x : Answer) (found : Option Wanted) → HasOneAnswer s → ((h : History) → Fits old h → Fits new ((s, x) ∷ h))
-    → ((h : History) → Fits old h → CalledFor old.core.setup (world old.core.setup h) s x) → IsOneJudged x text found → Judges old new s text found
-sure_judged old new s text x None one fits called same = λ h f. (x, same, fits h f)
-sure_judged old new s text x (Some wanted) one fits called judged = λ h f.
-    let w = world old.core.setup h in
-    subst (λ (v : Wanted). IsJudged old.core.setup h new s text (Some v)) (sym judged.0)
-    (one_wrong (CalledFor old.core.setup w s) x text (λ a c. one_answer old.core.setup w s a x one c (called h f)) (called h f) judged.1, fits h f)
+pub sure_judged : (old new : Follower) (s : Step) (text : List ℕ) (x : Answer) (found : Option Wanted) → HasOneAnswer s → rules_of new ≡ rules_of old → ((h : History) → FitsBy old h → FitsBy new ((s, x) ∷ h)) → IsOneJudged x text found
+    → Judges old new s text found
+sure_judged old new s text x None one rules fits same = λ h f. (x, same, plain_one x (rules_of old).is_apart s one, fits h f)
+sure_judged old new s text x (Some wanted) one rules fits judged = λ h f.
+    let g : Rules = rules_of old in
+    let called : IsCalled g h s x = subst (λ (r : Rules). IsCalled r h s x) rules (fits_called new s x h (fits h f)) in
+    subst (λ (v : Wanted). IsJudged g h new s text (Some v)) (sym judged.0)
+    (one_wrong g h s x text (λ a c. one_answer g h s a x one c called) called judged.1, fits h f)
+
+-- without files no one end is called for alone
+only_end : (running : Bool) (res : ℤ) (bytes : List ℕ) → ((a : Answer) → FinishesApart running a → a ≡ answer.Ended res bytes) → FinishesApart running (answer.Ended res bytes) → ⊥
+only_end true res bytes called is =
+    let two : answer.Ended res [] ≡ answer.Ended res (0 ∷ []) = called (answer.Ended res []) tt ∙ sym (called (answer.Ended res (0 ∷ [])) tt) in
+    absurd cc
+only_end false res bytes called is = absurd cc
+
+-- an answer that alone is called for is told by its text
+only_plain : (g : Rules) (h : History) (s : Step) (x : Answer) → IsWrong (IsCalled g h s) answer.Filled (Only x) → IsPlain x g.is_apart s
+only_plain g h s x w = go x g.is_apart s w
+  where
+    go : (y : Answer) (apart : Bool) (t : Step) → IsWrong (CalledIn apart g.setup (world g.setup h) t) answer.Filled (Only y) → IsPlain y apart t
+    go (answer.Ended res bytes) true (step.Finish n) w = absurd (only_end (is_running (world g.setup h).requests n) res bytes w.called (w.only (answer.Ended res bytes) refl))
+    go (answer.Ended res bytes) true _ w = tt
+    go (answer.Ended res bytes) false t w = tt
+    go _ apart t w = tt
 
 -- the one answer that is wanted was compared
-pub only_judged : (h : History) (m : Machine) (s : Step) (text : List ℕ) (x : Answer) (found : Option Wanted) → IsOneJudged x text found → IsWanted h m s (Only x) → IsJudged m.core.setup h m s text found
-only_judged h m s text x None same is = (x, same, is.1)
+pub only_judged : (h : History) (m : Follower) (s : Step) (text : List ℕ) (x : Answer) (found : Option Wanted) → IsOneJudged x text found → IsWanted h m s (Only x) → IsJudged (rules_of m) h m s text found
+only_judged h m s text x None same is = (x, same, only_plain (rules_of m) h s x is.0, is.1)
 only_judged h m s text x (Some wanted) judged is =
-    subst (λ (v : Wanted). IsJudged m.core.setup h m s text (Some v)) (sym judged.0)
-    (one_wrong (CalledFor m.core.setup (world m.core.setup h) s) x text is.0.called (is.0.only x refl) judged.1, is.1)
+    subst (λ (v : Wanted). IsJudged (rules_of m) h m s text (Some v)) (sym judged.0)
+    (one_wrong (rules_of m) h s x text is.0.called (is.0.only x refl) judged.1, is.1)
 
 -- ---- either of two answers
 
@@ -69,17 +132,18 @@ either_call length = record { meets = λ a h. h; one_meets = inl refl; other_mee
 pub either_end : (res : ℤ) → IsEither (EndOrNoMemory res) (answer.Ended res no_bytes) (answer.Ended (neg_ℤ ENOMEM) no_bytes)
 either_end res = record { meets = λ a h. h; one_meets = inl refl; other_meets = inr refl; nothing = λ s h. refl }
 
--- what a machine fits before either is made
-either_fits : (wanted : Wanted) (one other : Answer) (h : History) (m : Machine) (s : Step) → IsEither wanted one other → IsWanted h m s wanted → Fits m h
-either_fits wanted one other h m s e is = subst (λ (k : History). Fits m k) (e.nothing s h) is.1
+-- what a follower fits before either is made
+either_fits : (wanted : Wanted) (one other : Answer) (h : History) (m : Follower) (s : Step) → IsEither wanted one other → IsWanted h m s wanted → FitsBy m h
+either_fits wanted one other h m s e is = subst (λ (k : History). FitsBy m k) (e.nothing s h) is.1
 
-pub either_made : (wanted : Wanted) (one other x : Answer) (m m' : Machine) (s : Step) (text : List ℕ) → IsEither wanted one other → text_of x ≡ text → ((h : History) → Fits m h → Fits m' ((s, x) ∷ h)) → (h : History) → IsWanted h m s wanted → IsJudged m.core.setup h m' s text None
-either_made wanted one other x m m' s text e same made = λ h is. (x, same, made h (either_fits wanted one other h m s e is))
+pub either_made : (wanted : Wanted) (one other x : Answer) (m m' : Follower) (s : Step) (text : List ℕ) → IsEither wanted one other → text_of x ≡ text → IsPlain x (rules_of m).is_apart s → ((h : History) → FitsBy m h → FitsBy m' ((s, x) ∷ h)) → (h : History) → IsWanted h m s wanted
+    → IsJudged (rules_of m) h m' s text None
+either_made wanted one other x m m' s text e same plain made = λ h is. (x, same, plain, made h (either_fits wanted one other h m s e is))
 
-pub either_wrong : (wanted : Wanted) (one other : Answer) (m : Machine) (s : Step) (text : List ℕ) → IsEither wanted one other → (text_of one ≡ text → ⊥) → (text_of other ≡ text → ⊥) → (h : History) → IsWanted h m s wanted → IsJudged m.core.setup h m s text (Some wanted)
+pub either_wrong : (wanted : Wanted) (one other : Answer) (m : Follower) (s : Step) (text : List ℕ) → IsEither wanted one other → (text_of one ≡ text → ⊥) → (text_of other ≡ text → ⊥) → (h : History) → IsWanted h m s wanted → IsJudged (rules_of m) h m s text (Some wanted)
 either_wrong wanted one other m s text e not_one not_other = λ h is. (
   record {
-    not_called = λ a c same. elim (e.meets a (is.0.called a c)) [
+    not_called = λ a c same plain. elim (e.meets a (is.0.called a c)) [
       | inl is_one ↦ not_one (ap text_of (sym is_one) ∙ same)
       | inr is_other ↦ not_other (ap text_of (sym is_other) ∙ same)
     ];
@@ -89,11 +153,36 @@ either_wrong wanted one other m s text e not_one not_other = λ h is. (
   is.1,
 )
 
+-- ---- any end, apart from what operations give
+
+plain_end : (n : ℕ) (apart : Bool) (res : ℤ) → IsFile res → IsPlain (answer.Ended res no_bytes) apart (step.Finish n)
+plain_end n true res short = (short, refl)
+plain_end n false res short = tt
+
+pub end_made : (m m' : Follower) (n : ℕ) (text : List ℕ) (res : ℤ) → text_of (answer.Ended res no_bytes) ≡ text → IsFile res → ((h : History) → FitsBy m h → FitsBy m' ((step.Finish n, answer.Ended res no_bytes) ∷ h))
+    → (h : History) → IsWanted h m (step.Finish n) AnyEnd → IsJudged (rules_of m) h m' (step.Finish n) text None
+end_made m m' n text res same short made = λ h is. (answer.Ended res no_bytes, same, plain_end n (rules_of m).is_apart res short, made h is.1)
+
+no_end : (n : ℕ) (text : List ℕ) (a : Answer) → ((res : ℤ) → IsFile res → text_of (answer.Ended res no_bytes) ≡ text → ⊥) → IsEnded a → text_of a ≡ text → IsPlain a true (step.Finish n) → ⊥
+no_end n text (answer.Ended res bytes) none ended same plain = none res plain.0 same
+no_end n text _ none ended same plain = ended
+
+pub end_wrong : (m : Follower) (n : ℕ) (text : List ℕ) → (rules_of m).is_apart ≡ true → ((res : ℤ) → IsFile res → text_of (answer.Ended res no_bytes) ≡ text → ⊥)
+    → (h : History) → IsWanted h m (step.Finish n) AnyEnd → IsJudged (rules_of m) h m (step.Finish n) text (Some AnyEnd)
+end_wrong m n text apart none = λ h is. (
+  record {
+    not_called = λ a c same plain. no_end n text a none (is.0.called a c) same (subst (λ (b : Bool). IsPlain a b (step.Finish n)) apart plain);
+    called = is.0.called;
+    only = is.0.only;
+  },
+  is.1,
+)
+
 -- ---- a step to which more than one answer may be called for
 
-pub open_judged : (old mid new : Machine) (s : Step) (text : List ℕ) (wanted : Wanted) (found : Option Wanted) → mid.core.setup ≡ old.core.setup
-    → ((h : History) → Fits old h → IsWrong (CalledFor old.core.setup (world old.core.setup h) s) answer.Filled wanted) → ((h : History) → Fits old h → Fits mid (resumed s (refusal.Wrong wanted) h))
-    → ((h : History) → IsWanted h mid s wanted → IsJudged mid.core.setup h new s text found) → Judges old new s text found
+pub open_judged : (old mid new : Follower) (s : Step) (text : List ℕ) (wanted : Wanted) (found : Option Wanted) → rules_of mid ≡ rules_of old
+    → ((h : History) → FitsBy old h → IsWrong (IsCalled (rules_of old) h s) answer.Filled wanted) → ((h : History) → FitsBy old h → FitsBy mid (resumed s (refusal.Wrong wanted) h))
+    → ((h : History) → IsWanted h mid s wanted → IsJudged (rules_of mid) h new s text found) → Judges old new s text found
 open_judged old mid new s text wanted found same wrong fits judged = λ h f.
-    subst (λ (g : Setup). IsJudged g h new s text found) same
-    (judged h (subst (λ (g : Setup). IsWrong (CalledFor g (world g h) s) answer.Filled wanted) (sym same) (wrong h f), fits h f))
+    subst (λ (g : Rules). IsJudged g h new s text found) same
+    (judged h (subst (λ (g : Rules). IsWrong (IsCalled g h s) answer.Filled wanted) (sym same) (wrong h f), fits h f))

@@ -1,13 +1,12 @@
 -- Glue. What a checker keeps of the lines that it took in.
-use Rattle.std.specs.Prelude.{◌≡◌, ◌≢◌, ℕ, Bool, List, ◌∷◌, ◌++◌, length, ◌⊎◌, Option, Some, None, Result, Ok, Err}
+use Rattle.std.specs.Prelude.{◌≡◌, ◌≢◌, ℕ, Bool, true, false, List, ◌∷◌, ◌++◌, length, ◌⊎◌, Option, Some, None, Result, Ok, Err}
 use Rattle.std.specs.Io.KnownBytes.{Consumes, IsAtEnd}
 use Rattle.std.specs.List.{AllByRecursion}
 use Rattle.std.specs.declared.alloc.Global.{Global}
 use Rattle.std.specs.declared.vec.Vec.{Vec}
-use Rattle.uring_entry.specs.Setup.{Setup}
-use Rattle.uring_machine.specs.CalledFor.{CalledFor}
+use Rattle.uring_machine.specs.Core.{FitsApart}
 use Rattle.uring_machine.specs.Histories.{History, world}
-use Rattle.uring_machine.specs.Machine.{Machine, Fits}
+use Rattle.uring_machine.specs.Machine.{Fits}
 use Rattle.uring_machine.specs.Recorded.{IsWrong, Meets, resumed}
 use Rattle.uring_machine.specs.declared.answer.Answer.{Answer}
 use Rattle.uring_machine.specs.declared.answer.Answer.TheVariants as answer
@@ -24,7 +23,10 @@ use Rattle.uring_trace.specs.declared.trace_fault.TraceFault.{TraceFault}
 use Rattle.uring_trace.specs.declared.trace_fault.TraceFault.TheVariants as fault
 use Rattle.uring_check.specs.Findings.{Found, Finding, IsWrongText, IsFinding, AreFound, lines_of, history_behind, has_stopped, stops, judged, with_finding, verdict_of}
 use Rattle.uring_check.specs.Reports.{report, told_of, told_of_all, counted_with, steps_of, wanted_text}
+use Rattle.uring_check.specs.Rules.{Rules, IsCalled, IsPlain}
 use Rattle.uring_check.specs.declared.checker.Checker.{Checker}
+use Rattle.uring_check.specs.declared.follower.Follower.{Follower}
+use Rattle.uring_check.specs.declared.follower.Follower.TheVariants.{Whole, Apart}
 use Rattle.uring_check.specs.declared.reading.Reading.{Reading}
 use Rattle.uring_check.specs.declared.verdict.Verdict.{Verdict}
 
@@ -43,10 +45,20 @@ HasOneAnswer (step.Begin count) = ⊥
 HasOneAnswer (step.Finish n) = ⊥
 HasOneAnswer _ = Unit {0}
 
+-- by what a follower judges
+abbrev pub rules_of : Follower → Rules
+rules_of (Whole m) = record { setup = m.core.setup; is_apart = false }
+rules_of (Apart c) = record { setup = c.setup; is_apart = true }
+
+-- the follower fits a history: its machine does, or its core apart from what operations gave
+abbrev pub FitsBy : Follower → History → Type 0
+FitsBy (Whole m) h = Fits m h
+FitsBy (Apart c) h = FitsApart c h
+
 -- What is found behind a history of a step with the text of an answer, and what the machine then fits: `None` where the text is that of an answer that is called for.
-abbrev pub IsJudged : Setup → History → Machine → Step → List ℕ → Option Wanted → Type 0
-IsJudged g h m s text None = (a : Answer) × (text_of a ≡ text) × Fits m ((s, a) ∷ h)
-IsJudged g h m s text (Some wanted) = IsWrongText (CalledFor g (world g h) s) text wanted × Fits m (resumed s (refusal.Wrong wanted) h)
+abbrev pub IsJudged : Rules → History → Follower → Step → List ℕ → Option Wanted → Type 0
+IsJudged g h m s text None = (a : Answer) × (text_of a ≡ text) × IsPlain a g.is_apart s × FitsBy m ((s, a) ∷ h)
+IsJudged g h m s text (Some wanted) = IsWrongText g h s text wanted × FitsBy m (resumed s (refusal.Wrong wanted) h)
 
 -- the text is that of the one answer that is called for, or isn't
 abbrev pub IsOneJudged : Answer → List ℕ → Option Wanted → Type 0
@@ -54,17 +66,17 @@ IsOneJudged x text None = text_of x ≡ text
 IsOneJudged x text (Some wanted) = (wanted ≡ Only x) × (text_of x ≡ text → ⊥)
 
 -- a machine judges, whatever the history that it fits
-abbrev pub Judges : Machine → Machine → Step → List ℕ → Option Wanted → Type 0
-Judges old new s text found = (h : History) → Fits old h → IsJudged old.core.setup h new s text found
+abbrev pub Judges : Follower → Follower → Step → List ℕ → Option Wanted → Type 0
+Judges old new s text found = (h : History) → FitsBy old h → IsJudged (rules_of old) h new s text found
 
 -- the same, with the text of the answers that are called for
-abbrev pub JudgesTold : Machine → Machine → Step → List ℕ → Option (Vec ℕ Global) → Type 0
+abbrev pub JudgesTold : Follower → Follower → Step → List ℕ → Option (Vec ℕ Global) → Type 0
 JudgesTold old new s text None = Judges old new s text None
 JudgesTold old new s text (Some told) = (wanted : Wanted) × (told.items ≡ wanted_text wanted) × Judges old new s text (Some wanted)
 
 -- a refusal told that these answers are wanted, and the machine goes on from there
-abbrev pub IsWanted : History → Machine → Step → Wanted → Type 0
-IsWanted h m s wanted = IsWrong (CalledFor m.core.setup (world m.core.setup h) s) answer.Filled wanted × Fits m (resumed s (refusal.Wrong wanted) h)
+abbrev pub IsWanted : History → Follower → Step → Wanted → Type 0
+IsWanted h m s wanted = IsWrong (IsCalled (rules_of m) h s) answer.Filled wanted × FitsBy m (resumed s (refusal.Wrong wanted) h)
 
 -- either of two answers is wanted, and so a refusal makes nothing
 pub record IsEither (wanted : Wanted) (one other : Answer) : Type 0 where
@@ -74,13 +86,13 @@ pub record IsEither (wanted : Wanted) (one other : Answer) : Type 0 where
   pub nothing : (s : Step) (h : History) → resumed s (refusal.Wrong wanted) h ≡ h
 
 -- The checker has looked at these lines, the newest first.
-pub record Looks (g : Setup) (all : Bool) (lines : List (List ℕ)) (c : Checker) : Type 0 where
+pub record Looks (g : Rules) (all : Bool) (lines : List (List ℕ)) (c : Checker) : Type 0 where
   pub found : List Found
   pub are : AreFound g all found
   pub lines_are : lines_of found ≡ lines
   pub is_all : c.is_all ≡ all
-  pub same : c.machine.core.setup ≡ g
-  pub fits : Fits c.machine (history_behind found)
+  pub same : rules_of c.machine ≡ g
+  pub fits : FitsBy c.machine (history_behind found)
   pub numbered : c.number ≡ line_number (length found)
   pub counted : c.steps ≡ steps_of found
   pub decided : c.verdict ≡ verdict_of found
@@ -88,7 +100,7 @@ pub record Looks (g : Setup) (all : Bool) (lines : List (List ℕ)) (c : Checker
   pub told : c.report.items ≡ told_of_all g found
 
 -- the verdict on lines, the newest first, and the report
-pub record IsTold (g : Setup) (all : Bool) (lines : List (List ℕ)) (v : Verdict) (text : List ℕ) : Type 0 where
+pub record IsTold (g : Rules) (all : Bool) (lines : List (List ℕ)) (v : Verdict) (text : List ℕ) : Type 0 where
   pub found : List Found
   pub are : AreFound g all found
   pub lines_are : lines_of found ≡ lines
@@ -98,22 +110,22 @@ pub record IsTold (g : Setup) (all : Bool) (lines : List (List ℕ)) (v : Verdic
 -- What a checker makes of a line that it looks at: the line has a finding, of which it keeps what it needs.
 pub record Looked (old new : Checker) (line : List ℕ) (h : History) : Type 0 where
   pub finding : Finding
-  pub is_so : IsFinding old.machine.core.setup h line finding
-  pub same : new.machine.core.setup ≡ old.machine.core.setup
-  pub fits : Fits new.machine (with_finding finding h)
+  pub is_so : IsFinding (rules_of old.machine) h line finding
+  pub same : rules_of new.machine ≡ rules_of old.machine
+  pub fits : FitsBy new.machine (with_finding finding h)
   pub is_all : new.is_all ≡ old.is_all
   pub numbered : new.number ≡ old.number
   pub counted : new.steps ≡ counted_with finding old.steps
   pub decided : new.verdict ≡ judged old.verdict finding
   pub stopped : new.is_over ≡ stops old.is_all finding
-  pub told : new.report.items ≡ old.report.items ++ told_of (world old.machine.core.setup h) old.number line finding
+  pub told : new.report.items ≡ old.report.items ++ told_of (world (rules_of old.machine).setup h) old.number line finding
 
 -- a line was looked at, whatever the history
 abbrev pub LooksAt : Checker → Checker → List ℕ → Type 0
-LooksAt old new line = (h : History) → Fits old.machine h → Looked old new line h
+LooksAt old new line = (h : History) → FitsBy old.machine h → Looked old new line h
 
 -- The checker has looked at the lines of the bytes that have their ends, and this is what is kept of the unfinished one.
-pub record Holds (g : Setup) (all : Bool) (kept : KeptLine) (c : Checker) (bytes : List ℕ) : Type 0 where
+pub record Holds (g : Rules) (all : Bool) (kept : KeptLine) (c : Checker) (bytes : List ℕ) : Type 0 where
   pub whole : List (List ℕ)
   pub line : List ℕ
   pub splits : Splits bytes whole line
@@ -121,14 +133,14 @@ pub record Holds (g : Setup) (all : Bool) (kept : KeptLine) (c : Checker) (bytes
   pub looks : Looks g all whole c
 
 -- The reading has taken in these bytes.
-abbrev pub Has : Setup → Bool → Reading → List ℕ → Type 0
+abbrev pub Has : Rules → Bool → Reading → List ℕ → Type 0
 Has g all r bytes = Holds g all r.line r.checker bytes
 
 -- all bytes are taken in, or a fault came before
-abbrev pub TakesIn : Setup → Bool → Result (Unit {0}) TraceFault → Option (List ℕ) → Reading → List ℕ → Type 0
+abbrev pub TakesIn : Rules → Bool → Result (Unit {0}) TraceFault → Option (List ℕ) → Reading → List ℕ → Type 0
 TakesIn g all (Ok done) left r bytes = Has g all r bytes × IsAtEnd left
 TakesIn g all (Err e) left r bytes = e ≢ fault.Write
 
 -- what was read and taken in: the reader had `left_before` left and has `left_after`
-abbrev pub ReadsIn : Setup → Bool → Result (Unit {0}) TraceFault → Option (List ℕ) → Option (List ℕ) → Reading → Type 0
+abbrev pub ReadsIn : Rules → Bool → Result (Unit {0}) TraceFault → Option (List ℕ) → Option (List ℕ) → Reading → Type 0
 ReadsIn g all answer left_before left_after r = (bytes : List ℕ) × Consumes left_before left_after bytes × TakesIn g all answer left_after r bytes

@@ -1,13 +1,13 @@
 -- What a check reads, returns and writes.
 use Rattle.std.specs.Prelude.{◌≡◌, ℕ, ◌<◌, Bool, List, [], ◌++◌, length, Option, Result, Ok, Err}
 use Rattle.std.specs.Io.KnownBytes.{Consumes, Appends, IsAtEnd}
-use Rattle.uring_entry.specs.Setup.{Setup}
 use Rattle.uring_trace.specs.Lines.{Splits, with_last}
 use Rattle.uring_trace.specs.declared.trace_fault.TraceFault.{TraceFault}
 use Rattle.uring_trace.specs.declared.trace_fault.TraceFault.TheVariants as fault
 use Rattle.uring_check.specs.Findings.{Found, AreFound, lines_of, verdict_of}
 use Rattle.uring_check.specs.Records.{IsLawfulText}
 use Rattle.uring_check.specs.Reports.{report}
+use Rattle.uring_check.specs.Rules.{Rules}
 use Rattle.uring_check.specs.declared.verdict.Verdict.{Verdict}
 use Rattle.uring_check.specs.declared.verdict.Verdict.TheVariants as verdict
 
@@ -16,12 +16,12 @@ abbrev pub AreLinesOf : List ℕ → List (List ℕ) → Type 0
 AreLinesOf bytes lines = (whole : List (List ℕ)) × (rest : List ℕ) × Splits bytes whole rest × (lines ≡ with_last whole rest)
 
 -- What a verdict says of lines as a whole: that they are the text of a lawful history, or that they are that of none.
-abbrev pub Says : Setup → List (List ℕ) → Verdict → Type 0
+abbrev pub Says : Rules → List (List ℕ) → Verdict → Type 0
 Says g lines verdict.Lawful = IsLawfulText g lines
 Says g lines _ = IsLawfulText g lines → ⊥
 
 -- The verdict on bytes and the report: every line of the bytes has its finding, of which the first wrong or bad one decides.
-pub record IsVerdict (g : Setup) (all : Bool) (bytes text : List ℕ) (v : Verdict) : Type 0 where
+pub record IsVerdict (g : Rules) (all : Bool) (bytes text : List ℕ) (v : Verdict) : Type 0 where
   pub found : List Found
   pub are : AreFound g all found
   pub lines : AreLinesOf bytes (lines_of found)
@@ -30,7 +30,7 @@ pub record IsVerdict (g : Setup) (all : Bool) (bytes text : List ℕ) (v : Verdi
   pub says : Says g (lines_of found) v
 
 -- what is written, by what a check returns: nothing where it failed before
-abbrev pub Writes : Setup → Bool → Result Verdict TraceFault → List ℕ → List ℕ → Type 0
+abbrev pub Writes : Rules → Bool → Result Verdict TraceFault → List ℕ → List ℕ → Type 0
 Writes g all (Ok v) bytes text = IsVerdict g all bytes text v
 Writes g all (Err fault.Read) bytes text = text ≡ []
 Writes g all (Err fault.Memory) bytes text = text ≡ []
@@ -43,8 +43,8 @@ ReadsAll (Err fault.Write) left = IsAtEnd left
 ReadsAll (Err fault.Read) left = Unit {0}
 ReadsAll (Err fault.Memory) left = Unit {0}
 
--- What a check over this set-up read and wrote: the reader had `left_before` left and has `left_after`, the writer held `held_before` and holds `held_after`.
-pub record IsChecked (g : Setup) (all : Bool) (result : Result Verdict TraceFault) (left_before left_after held_before held_after : Option (List ℕ)) : Type 0 where
+-- What a check by these rules read and wrote: the reader had `left_before` left and has `left_after`, the writer held `held_before` and holds `held_after`.
+pub record IsChecked (g : Rules) (all : Bool) (result : Result Verdict TraceFault) (left_before left_after held_before held_after : Option (List ℕ)) : Type 0 where
   pub bytes : List ℕ
   pub text : List ℕ
   pub consumed : Consumes left_before left_after bytes

@@ -1,9 +1,7 @@
 -- What a check finds of the lines of a recorded trace. That a check goes on behind a wrong line, and stops at a bad one, is our own rule.
 use Rattle.std.specs.Prelude.{◌≡◌, ℕ, Bool, true, false, not, List, [], ◌∷◌}
 use Rattle.std.specs.List.{list_any}
-use Rattle.uring_entry.specs.Setup.{Setup}
-use Rattle.uring_machine.specs.CalledFor.{CalledFor}
-use Rattle.uring_machine.specs.Histories.{History, world}
+use Rattle.uring_machine.specs.Histories.{History}
 use Rattle.uring_machine.specs.Recorded.{Meets, resumed}
 use Rattle.uring_machine.specs.declared.answer.Answer.{Answer}
 use Rattle.uring_machine.specs.declared.step.Step.{Step}
@@ -12,6 +10,7 @@ use Rattle.uring_machine.specs.declared.wanted.Wanted.{Wanted}
 use Rattle.uring_trace.specs.Remarks.{is_remark}
 use Rattle.uring_trace.specs.Text.{text_of}
 use Rattle.uring_check.specs.Records.{IsRecord, IsNoRecord, IsPassed}
+use Rattle.uring_check.specs.Rules.{Rules, IsCalled, IsPlain}
 use Rattle.uring_check.specs.declared.verdict.Verdict.{Verdict}
 use Rattle.uring_check.specs.declared.verdict.Verdict.TheVariants as verdict
 
@@ -29,10 +28,10 @@ pub record Found : Type 0 where
   pub finding : Finding
 
 -- No answer with this text is called for, and exactly these are.
-pub record IsWrongText (Called : Answer → Type 0) (text : List ℕ) (wanted : Wanted) : Type 0 where
-  pub not_called : (a : Answer) → Called a → text_of a ≡ text → ⊥
-  pub called : (a : Answer) → Called a → Meets wanted a
-  pub only : (a : Answer) → Meets wanted a → Called a
+pub record IsWrongText (g : Rules) (h : History) (s : Step) (text : List ℕ) (wanted : Wanted) : Type 0 where
+  pub not_called : (a : Answer) → IsCalled g h s a → text_of a ≡ text → IsPlain a g.is_apart s → ⊥
+  pub called : (a : Answer) → IsCalled g h s a → Meets wanted a
+  pub only : (a : Answer) → Meets wanted a → IsCalled g h s a
 
 -- what goes before, with this finding: a right event, and of a wrong one the one answer that was called for counts as given; else the step counts as not made
 abbrev pub with_finding : Finding → History → History
@@ -57,15 +56,15 @@ stops all (Wrong s wanted) = not all
 stops all _ = false
 
 -- the finding is so in a world
-abbrev pub IsFinding : Setup → History → List ℕ → Finding → Type 0
+abbrev pub IsFinding : Rules → History → List ℕ → Finding → Type 0
 IsFinding g h line Passed = IsPassed line
-IsFinding g h line (Right s a) = IsRecord line s (text_of a) × CalledFor g (world g h) s a
-IsFinding g h line (Wrong s wanted) = (text : List ℕ) × IsRecord line s text × IsWrongText (CalledFor g (world g h) s) text wanted
+IsFinding g h line (Right s a) = IsRecord line s (text_of a) × IsPlain a g.is_apart s × IsCalled g h s a
+IsFinding g h line (Wrong s wanted) = (text : List ℕ) × IsRecord line s text × IsWrongText g h s text wanted
 IsFinding g h line Bad = IsNoRecord line × (is_remark line ≡ false)
 IsFinding g h line Skipped = ⊥
 
 -- behind a line at which the check stopped, none is looked at
-abbrev pub IsFindingBehind : Bool → Setup → History → List ℕ → Finding → Type 0
+abbrev pub IsFindingBehind : Bool → Rules → History → List ℕ → Finding → Type 0
 IsFindingBehind true g h line finding = finding ≡ Skipped
 IsFindingBehind false g h line finding = IsFinding g h line finding
 
@@ -73,7 +72,7 @@ abbrev pub has_stopped : Bool → List Found → Bool
 has_stopped all xs = list_any (λ x. stops all x.finding) xs
 
 -- Each line, the newest first, with what is found of it behind those before.
-abbrev pub AreFound : Setup → Bool → List Found → Type 0
+abbrev pub AreFound : Rules → Bool → List Found → Type 0
 AreFound g all [] = Unit {0}
 AreFound g all (x ∷ before) = IsFindingBehind (has_stopped all before) g (history_behind before) x.line x.finding × AreFound g all before
 

@@ -1,3 +1,4 @@
+pub mod Rules
 pub mod Records
 pub mod Findings
 pub mod Reports

@@ -1,13 +1,12 @@
 -- The lines of a recorded trace: each a step with the text of its answer. The form is our own rule.
 use Rattle.std.specs.Prelude.{◌≡◌, ◌≢◌, ℕ, ◌≤◌, ◌⊎◌, true, List, [], ◌∷◌, ◌++◌, length}
 use Rattle.std.specs.List.{AllByRecursion}
-use Rattle.uring_entry.specs.Setup.{Setup}
-use Rattle.uring_machine.specs.CalledFor.{IsLawful}
 use Rattle.uring_machine.specs.Histories.{Event, History}
 use Rattle.uring_machine.specs.declared.step.Step.{Step}
 use Rattle.uring_trace.specs.Remarks.{is_remark}
 use Rattle.uring_trace.specs.Spelling.{IsStep}
 use Rattle.uring_trace.specs.Text.{text_of}
+use Rattle.uring_check.specs.Rules.{Rules, IsLawfulBy, IsPlain}
 
 -- The line is a step and a text for its answer, with ` = ` between them. It has at most 300 bytes, and its first `=` is this one.
 pub record IsRecord (line : List ℕ) (s : Step) (text : List ℕ) : Type 0 where
@@ -22,19 +21,19 @@ abbrev pub IsNoRecord : List ℕ → Type 0
 IsNoRecord line = (s : Step) (text : List ℕ) → IsRecord line s text → ⊥
 
 -- the line records the event: its step, and the text of its answer
-abbrev pub Records : List ℕ → Event → Type 0
-Records line event = IsRecord line event.0 (text_of event.1)
+abbrev pub Records : Rules → List ℕ → Event → Type 0
+Records g line event = IsRecord line event.0 (text_of event.1) × IsPlain event.1 g.is_apart event.0
 
 -- a line that is passed over
 abbrev pub IsPassed : List ℕ → Type 0
 IsPassed line = IsNoRecord line × (is_remark line ≡ true)
 
 -- The lines, the newest first, record the events of a history, one each; those that are passed over record none.
-abbrev pub AreRecorded : List (List ℕ) → History → Type 0
-AreRecorded [] h = h ≡ []
-AreRecorded (line ∷ before) h =
-    (IsPassed line × AreRecorded before h) ⊎ ((event : Event) × (past : History) × (h ≡ event ∷ past) × Records line event × AreRecorded before past)
+abbrev pub AreRecorded : Rules → List (List ℕ) → History → Type 0
+AreRecorded g [] h = h ≡ []
+AreRecorded g (line ∷ before) h =
+    (IsPassed line × AreRecorded g before h) ⊎ ((event : Event) × (past : History) × (h ≡ event ∷ past) × Records g line event × AreRecorded g before past)
 
 -- The lines are the text of a lawful history.
-abbrev pub IsLawfulText : Setup → List (List ℕ) → Type 0
-IsLawfulText g lines = (h : History) × IsLawful g h × AreRecorded lines h
+abbrev pub IsLawfulText : Rules → List (List ℕ) → Type 0
+IsLawfulText g lines = (h : History) × IsLawfulBy g h × AreRecorded g lines h

@@ -2,7 +2,6 @@
 use Rattle.std.specs.Prelude.{ℕ, ◌+◌, ◌-◌, ◌^◌, min, List, [], ◌∷◌, ◌++◌, length, codes, Option, Some, None}
 use Rattle.std.specs.Fmt.{decimal, signed_decimal}
 use Rattle.uring_entry.specs.Requests.{Requests}
-use Rattle.uring_entry.specs.Setup.{Setup}
 use Rattle.uring_entry.specs.Why.{why_of}
 use Rattle.uring_entry.specs.declared.why.Why.{Why}
 use Rattle.uring_machine.specs.Histories.{world}
@@ -17,6 +16,7 @@ use Rattle.uring_trace.specs.Reasons.{why_text}
 use Rattle.uring_trace.specs.Text.{text_of}
 use Rattle.uring_check.specs.Findings.{Found, Finding, history_behind, verdict_of}
 use Rattle.uring_check.specs.Findings as finding
+use Rattle.uring_check.specs.Rules.{Rules}
 use Rattle.uring_check.specs.declared.verdict.Verdict.{Verdict}
 use Rattle.uring_check.specs.declared.verdict.Verdict.TheVariants as verdict
 
@@ -59,9 +59,9 @@ steps_of [] = 0
 steps_of (x ∷ before) = counted_with x.finding (steps_of before)
 
 -- what is told of all of them
-abbrev pub told_of_all : Setup → List Found → List ℕ
+abbrev pub told_of_all : Rules → List Found → List ℕ
 told_of_all g [] = []
-told_of_all g (x ∷ before) = told_of_all g before ++ told_of (world g (history_behind before)) (line_number (length before)) x.line x.finding
+told_of_all g (x ∷ before) = told_of_all g before ++ told_of (world g.setup (history_behind before)) (line_number (length before)) x.line x.finding
 
 -- the last line, where all is lawful: how many steps there were
 abbrev pub closing : Verdict → ℕ → List ℕ
@@ -69,5 +69,5 @@ closing verdict.Lawful steps = codes "lawful: " ++ decimal steps ++ ended (codes
 closing v steps = []
 
 -- The report.
-abbrev pub report : Setup → List Found → List ℕ
+abbrev pub report : Rules → List Found → List ℕ
 report g xs = told_of_all g xs ++ closing (verdict_of xs) (steps_of xs)

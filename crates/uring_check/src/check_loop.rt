@@ -14,6 +14,8 @@ use uring_trace::{Calls, TraceFault, write_all};
 ///
 /// `Lawful` is returned exactly if there is such a history; there is one at most. A line that is empty or begins with `#` is passed over. `Wrong`: `line K: STEP = ANSWER`, then `wanted: ` with the answers that are called for there, and of an issue or a finish `why: ` with how its request stands. With `is_all` the lines behind it are looked at too, as though the one answer that was called for had been given, or, if there is more than one, as though the step hadn't been made. `Bad`: `line K: bad line`, if the line is no step with ` = ` and a text behind it, or has more than 300 bytes; no line behind it is looked at.
 ///
+/// With `is_apart` the trace is judged apart from what operations give, as that of a ring without files: a running request may end with any result of 32 bits with a sign, and gives no bytes, so that the data of each completion is `-`. That is our own rule.
+///
 /// An interrupted read or write is made again. Nothing is written before the end of the input.
 ///
 /// - `Read`: a read failed, or 2^64 - 1 reads were made. Nothing is written.
@@ -25,10 +27,11 @@ pub fn check<R: Read, W: Write>(
     writer: &mut W,
     setup: &Setup,
     is_all: bool,
+    is_apart: bool,
 ) -> Result<Verdict, TraceFault>
-    ensures { IsChecked setup.now is_all result (R.remaining reader.old) (R.remaining reader.new) (W.contents writer.old) (W.contents writer.new) }
+    ensures { IsChecked (record { setup = setup.now; is_apart = is_apart }) is_all result (R.remaining reader.old) (R.remaining reader.new) (W.contents writer.old) (W.contents writer.new) }
 {
-    let mut reading = Reading::new(alloc, setup, is_all)?;
+    let mut reading = Reading::new(alloc, setup, is_all, is_apart)?;
     read_all(reader, &mut reading, &mut Calls::new())?;
     let (verdict, report) = reading.end()?;
     write_all(writer, report.as_slice(), &mut Calls::new())?;

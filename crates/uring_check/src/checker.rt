@@ -1,31 +1,31 @@
 //! What a check makes of lines, one by one.
 
 ghost use Rattle.std.specs.Prelude.{◌≡◌, ◌∷◌, ◌++◌, [], false, not, ℕ, List, Bool, IfOk, OnOk, codes};
-ghost use Rattle.uring_entry.specs.Setup.{Setup};
 ghost use Rattle.uring_machine.specs.Histories.{History, world};
-ghost use Rattle.uring_machine.specs.Machine.{Fits};
 ghost use Rattle.uring_trace.specs.KeptLine.{kept_of};
 ghost use Rattle.uring_trace.specs.Lines.{ended};
-ghost use Rattle.uring_check.specs.Checking.{Looks, LooksAt, IsTold};
+ghost use Rattle.uring_check.specs.Checking.{FitsBy, rules_of, Looks, LooksAt, IsTold};
 ghost use Rattle.uring_check.specs.Findings.{first_fault};
+ghost use Rattle.uring_check.specs.Rules.{Rules};
 ghost use Rattle.uring_check.specs.Reports.{line_text, why_asked, why_told};
 ghost use Rattle.uring_check.specs.Records.{IsRecord, IsNoRecord};
 
+use crate::follower::Follower;
 use crate::judging::judge_told;
 use crate::record_line::split_record;
 use crate::telling::{tell_bad, tell_end, tell_wrong};
 use crate::verdict::Verdict;
 use std::alloc::{AllocError, Global};
-use uring_machine::{Machine, Setup, Step, Why};
+use uring_machine::{Setup, Step, Why};
 use uring_trace::{KeptLine, read_step};
 
-/// A machine that goes along with the lines, and what they came to so far.
+/// A follower that goes along with the lines, and what they came to so far.
 #[derive(Drop)]
 pub(crate) struct Checker {
     alloc: Global,
     // Whether the lines behind a wrong one are looked at too.
     is_all: bool,
-    machine: Machine,
+    machine: Follower,
     // The number of the next line, from 1 on; 2^64 - 1 stands for every greater one.
     number: u64,
     // How many lines were steps with an answer that was called for; 2^64 - 1 stands for every greater number.
@@ -38,13 +38,18 @@ pub(crate) struct Checker {
 
 impl Checker {
     /// A new machine, before the first line.
-    pub(crate) fn new(alloc: Global, setup: &Setup, is_all: bool) -> Result<Checker, AllocError>
-        ensures { IfOk result (Looks setup.now is_all []) }
+    pub(crate) fn new(
+        alloc: Global,
+        setup: &Setup,
+        is_all: bool,
+        is_apart: bool,
+    ) -> Result<Checker, AllocError>
+        ensures { IfOk result (Looks (record { setup = setup.now; is_apart = is_apart }) is_all []) }
     {
         Ok(Checker {
             alloc,
             is_all,
-            machine: Machine::new(alloc, setup)?,
+            machine: Follower::new(alloc, setup, is_apart)?,
             number: 1,
             steps: 0,
             verdict: Verdict::Lawful,
@@ -55,7 +60,7 @@ impl Checker {
 
     /// Takes in the next line.
     pub(crate) fn take_line(&mut self, line: &KeptLine) -> Result<(), AllocError>
-        ensures { OnOk result ((g : Setup) (all : Bool) (lines : List (List ℕ)) (text : List ℕ) → line.now ≡ kept_of text → Looks g all lines self.old → Looks g all (text ∷ lines) self.new) }
+        ensures { OnOk result ((g : Rules) (all : Bool) (lines : List (List ℕ)) (text : List ℕ) → line.now ≡ kept_of text → Looks g all lines self.old → Looks g all (text ∷ lines) self.new) }
     {
         if !self.is_over {
             self.look(line)?;
@@ -66,7 +71,7 @@ impl Checker {
 
     /// The verdict on all lines, and the report.
     pub(crate) fn end(mut self) -> Result<(Verdict, Vec<u8>), AllocError>
-        ensures { IfOk result (λ told. (g : Setup) (all : Bool) (lines : List (List ℕ)) → Looks g all lines self → IsTold g all lines told.0 told.1.items) }
+        ensures { IfOk result (λ told. (g : Rules) (all : Bool) (lines : List (List ℕ)) → Looks g all lines self → IsTold g all lines told.0 told.1.items) }
     {
         tell_end(self.alloc, &mut self.report, self.verdict, self.steps)?;
         Ok((self.verdict, self.report))
@@ -144,8 +149,8 @@ impl Checker {
 }
 
 /// Why the request that a step issues or finishes stands as it does, with its number, asked before the step.
-fn ask(machine: &Machine, step: &Step) -> Option<(u64, Why)>
-    ensures { (h : History) → Fits machine.now h → result ≡ why_asked (world machine.now.core.setup h).requests step.now }
+fn ask(machine: &Follower, step: &Step) -> Option<(u64, Why)>
+    ensures { (h : History) → FitsBy machine.now h → result ≡ why_asked (world (rules_of machine.now).setup h).requests step.now }
 {
     match step {
         Step::Issue { number } => Some((*number, machine.why(*number))),

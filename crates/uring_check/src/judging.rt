@@ -1,29 +1,31 @@
 //! Whether the text of an answer is that of one that is called for.
 
-ghost use Rattle.std.specs.Prelude.{◌≡◌, ◌∷◌, IfOk, OnOk};
+ghost use Rattle.std.specs.Prelude.{◌≡◌, ◌∷◌, ℤ, IfOk, MatchOption, OnOk};
 ghost use Rattle.std.specs.Bool.{Decides};
 ghost use Rattle.uring_entry.specs.Requests.{no_bytes};
 ghost use Rattle.uring_machine.specs.Histories.{History};
-ghost use Rattle.uring_machine.specs.Machine.{Fits};
 ghost use Rattle.uring_machine.specs.declared.answer.Answer.TheVariants as answer;
+ghost use Rattle.uring_trace.specs.Spelling.{IsFile};
 ghost use Rattle.uring_trace.specs.Text.{text_of};
+ghost use Rattle.uring_check.specs.Rules.{IsPlain};
 ghost use Rattle.uring_check.specs.Reports.{wanted_text};
-ghost use Rattle.uring_check.specs.Checking.{Judges, JudgesTold, IsJudged, IsOneJudged, HasOneAnswer, IsWanted, IsEither};
+ghost use Rattle.uring_check.specs.Checking.{FitsBy, rules_of, Judges, JudgesTold, IsJudged, IsOneJudged, HasOneAnswer, IsWanted, IsEither};
 
+use crate::follower::Follower;
 use crate::telling::push_wanted;
 use std::alloc::{AllocError, Global};
 use uring_entry::errno;
-use uring_machine::{Answer, Machine, Refusal, Step, Wanted};
-use uring_trace::push_answer;
+use uring_machine::{Answer, Refusal, Step, Wanted};
+use uring_trace::{push_answer, spelled_signed};
 
 /// Makes a step with an answer of this text, if one is called for: `None`. Else it tells which answers are; if that is one alone, the machine goes on as though it had been given, and else as though the step hadn't been made. `AllocError`: memory was refused, to the step or to a text.
 fn judge(
     alloc: Global,
-    machine: &mut Machine,
+    machine: &mut Follower,
     step: &Step,
     text: &[u8],
 ) -> Result<Option<Wanted>, AllocError>
-    ensures setup { machine.new.core.setup ≡ machine.old.core.setup }
+    ensures rules { rules_of machine.new ≡ rules_of machine.old }
     ensures judges { IfOk result (Judges machine.old machine.new step.now text.now) }
 {
     match step {
@@ -35,11 +37,11 @@ fn judge(
 /// Judges a step, and gives the text of the answers that are called for if the text isn't that of one.
 pub(crate) fn judge_told(
     alloc: Global,
-    machine: &mut Machine,
+    machine: &mut Follower,
     step: &Step,
     text: &[u8],
 ) -> Result<Option<Vec<u8>>, AllocError>
-    ensures setup { machine.new.core.setup ≡ machine.old.core.setup }
+    ensures rules { rules_of machine.new ≡ rules_of machine.old }
     ensures judges { IfOk result (JudgesTold machine.old machine.new step.now text.now) }
 {
     match judge(alloc, machine, step, text) {
@@ -63,29 +65,29 @@ fn wanted_bytes(alloc: Global, wanted: &Wanted) -> Result<Vec<u8>, AllocError>
 /// Judges a step to which one answer alone is called for, and makes it with that.
 fn judge_sure(
     alloc: Global,
-    machine: &mut Machine,
+    machine: &mut Follower,
     step: &Step,
     text: &[u8],
 ) -> Result<Option<Wanted>, AllocError>
     requires { HasOneAnswer step.now }
-    ensures setup { machine.new.core.setup ≡ machine.old.core.setup }
+    ensures rules { rules_of machine.new ≡ rules_of machine.old }
     ensures judges { IfOk result (Judges machine.old machine.new step.now text.now) }
 {
-    let answer = machine.step(*step);
+    let answer = machine.step(step);
     judge_one(alloc, answer, text)
 }
 
 /// Judges a Begin or a Finish, to which two answers may be called for. It follows an answer that neither is ever given, and so is told those that are.
 fn judge_open(
     alloc: Global,
-    machine: &mut Machine,
+    machine: &mut Follower,
     step: &Step,
     text: &[u8],
 ) -> Result<Option<Wanted>, AllocError>
-    ensures setup { machine.new.core.setup ≡ machine.old.core.setup }
+    ensures rules { rules_of machine.new ≡ rules_of machine.old }
     ensures judges { IfOk result (Judges machine.old machine.new step.now text.now) }
 {
-    match machine.follow(*step, Answer::Filled) {
+    match machine.follow(step, &Answer::Filled) {
         Err(Refusal::Wrong(wanted)) => judge_wanted(alloc, machine, step, wanted, text),
         _ => Err(AllocError),
     }
@@ -95,13 +97,13 @@ fn judge_open(
 #[tactic(auto, using(crate::proofs::WantedAnswers::either_call, crate::proofs::WantedAnswers::either_end))]
 fn judge_wanted(
     alloc: Global,
-    machine: &mut Machine,
+    machine: &mut Follower,
     step: &Step,
     wanted: Wanted,
     text: &[u8],
 ) -> Result<Option<Wanted>, AllocError>
-    ensures setup { machine.new.core.setup ≡ machine.old.core.setup }
-    ensures judges { IfOk result (λ found. (h : History) → IsWanted h machine.old step.now wanted → IsJudged machine.old.core.setup h machine.new step.now text.now found) }
+    ensures rules { rules_of machine.new ≡ rules_of machine.old }
+    ensures judges { IfOk result (λ found. (h : History) → IsWanted h machine.old step.now wanted → IsJudged (rules_of machine.old) h machine.new step.now text.now found) }
 {
     match wanted {
         Wanted::Only(answer) => judge_one(alloc, answer, text),
@@ -114,6 +116,8 @@ fn judge_wanted(
             &Answer::Again,
             text,
         ),
+        // A follower without files knows no file's length.
+        Wanted::EndOrNoMemory(_) if machine.is_apart() => Err(AllocError),
         Wanted::EndOrNoMemory(res) => judge_either(
             alloc,
             machine,
@@ -123,8 +127,7 @@ fn judge_wanted(
             &ended(-errno::ENOMEM),
             text,
         ),
-        // A machine with files knows each end.
-        Wanted::AnyEnd => Err(AllocError),
+        Wanted::AnyEnd => judge_end(machine, step, text),
     }
 }
 
@@ -142,16 +145,18 @@ fn judge_one(alloc: Global, answer: Answer, text: &[u8]) -> Result<Option<Wanted
 /// Judges a step to which either of two answers is called for.
 fn judge_either(
     alloc: Global,
-    machine: &mut Machine,
+    machine: &mut Follower,
     step: &Step,
     wanted: Wanted,
     one: &Answer,
     other: &Answer,
     text: &[u8],
 ) -> Result<Option<Wanted>, AllocError>
-    requires { IsEither wanted one.now other.now }
-    ensures setup { machine.new.core.setup ≡ machine.old.core.setup }
-    ensures judges { IfOk result (λ found. (h : History) → IsWanted h machine.old step.now wanted → IsJudged machine.old.core.setup h machine.new step.now text.now found) }
+    requires either { IsEither wanted one.now other.now }
+    requires plain { IsPlain one.now (rules_of machine.old).is_apart step.now }
+    requires other_plain { IsPlain other.now (rules_of machine.old).is_apart step.now }
+    ensures rules { rules_of machine.new ≡ rules_of machine.old }
+    ensures judges { IfOk result (λ found. (h : History) → IsWanted h machine.old step.now wanted → IsJudged (rules_of machine.old) h machine.new step.now text.now found) }
 {
     if is_text(alloc, one, text)? {
         make(machine, step, one)?;
@@ -164,12 +169,37 @@ fn judge_either(
     Ok(Some(wanted))
 }
 
-/// Makes a step with an answer that is called for.
-fn make(machine: &mut Machine, step: &Step, answer: &Answer) -> Result<(), AllocError>
-    ensures setup { machine.new.core.setup ≡ machine.old.core.setup }
-    ensures made { OnOk result ((h : History) → Fits machine.old h → Fits machine.new ((step.now, answer.now) ∷ h)) }
+/// Judges a Finish of a running request, which may end with any result. A follower with files knows each end, and never comes here.
+fn judge_end(machine: &mut Follower, step: &Step, text: &[u8]) -> Result<Option<Wanted>, AllocError>
+    ensures rules { rules_of machine.new ≡ rules_of machine.old }
+    ensures judges { IfOk result (λ found. (h : History) → IsWanted h machine.old step.now Wanted.AnyEnd → IsJudged (rules_of machine.old) h machine.new step.now text.now found) }
 {
-    match machine.follow(*step, *answer) {
+    let Step::Finish { number } = step else {
+        return Err(AllocError);
+    };
+    if !machine.is_apart() {
+        return Err(AllocError);
+    }
+    let Some(res) = end_of(text) else {
+        return Ok(Some(Wanted::AnyEnd));
+    };
+    make(machine, &Step::Finish { number: *number }, &ended(res))?;
+    Ok(None)
+}
+
+/// The result of the end that has this text, if it is that of one.
+fn end_of(text: &[u8]) -> Option<i32>
+    ensures { MatchOption result ((res : ℤ) → IsFile res → text_of (answer.Ended res no_bytes) ≡ text.now → ⊥) (λ res. (text_of (answer.Ended res no_bytes) ≡ text.now) × IsFile res) }
+{
+    spelled_signed(text.strip_prefix(b"ended ")?)
+}
+
+/// Makes a step with an answer that is called for.
+fn make(machine: &mut Follower, step: &Step, answer: &Answer) -> Result<(), AllocError>
+    ensures rules { rules_of machine.new ≡ rules_of machine.old }
+    ensures made { OnOk result ((h : History) → FitsBy machine.old h → FitsBy machine.new ((step.now, answer.now) ∷ h)) }
+{
+    match machine.follow(step, answer) {
         Ok(()) => Ok(()),
         Err(_) => Err(AllocError),
     }

@@ -3,6 +3,7 @@
 
 mod check_loop;
 mod checker;
+mod follower;
 mod judging;
 pub mod laws;
 mod reading;

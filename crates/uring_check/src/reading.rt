@@ -1,10 +1,10 @@
 //! The lines of bytes, given to a checker one by one.
 
 ghost use Rattle.std.specs.Prelude.{◌≡◌, ◌≢◌, ℕ, List, [], ◌∷◌, ◌++◌, Bool, Err, IfErr, IfOk, OnOk};
-ghost use Rattle.uring_entry.specs.Setup.{Setup};
 ghost use Rattle.uring_trace.specs.Streams.{AreOver};
 ghost use Rattle.uring_check.specs.Checking.{Has, ReadsIn};
 ghost use Rattle.uring_check.specs.Checks.{IsVerdict};
+ghost use Rattle.uring_check.specs.Rules.{Rules};
 
 use crate::checker::Checker;
 use crate::verdict::Verdict;
@@ -22,7 +22,7 @@ pub(crate) fn read_all<R: Read>(
     reading: &mut Reading,
     reads: &mut Calls,
 ) -> Result<(), TraceFault>
-    ensures bytes { (g : Setup) (all : Bool) → Has g all reading.old [] → ReadsIn g all result (R.remaining reader.old) (R.remaining reader.new) reading.new }
+    ensures bytes { (g : Rules) (all : Bool) → Has g all reading.old [] → ReadsIn g all result (R.remaining reader.old) (R.remaining reader.new) reading.new }
 
     // The reader is blamed only if it gave up.
     ensures read { result ≡ Err TraceFault.Read → AreOver reads.new }
@@ -48,18 +48,23 @@ pub(crate) struct Reading {
 
 impl Reading {
     /// No byte yet.
-    pub(crate) fn new(alloc: Global, setup: &Setup, is_all: bool) -> Result<Reading, AllocError>
-        ensures { IfOk result (λ r. Has setup.now is_all r []) }
+    pub(crate) fn new(
+        alloc: Global,
+        setup: &Setup,
+        is_all: bool,
+        is_apart: bool,
+    ) -> Result<Reading, AllocError>
+        ensures { IfOk result (λ r. Has (record { setup = setup.now; is_apart = is_apart }) is_all r []) }
     {
         Ok(Reading {
             line: KeptLine::new(alloc)?,
-            checker: Checker::new(alloc, setup, is_all)?,
+            checker: Checker::new(alloc, setup, is_all, is_apart)?,
         })
     }
 
     /// Takes in the next bytes.
     fn feed(&mut self, bytes: &[u8]) -> Result<(), TraceFault>
-        ensures ok { OnOk result ((g : Setup) (all : Bool) (before : List ℕ) → Has g all self.old before → Has g all self.new (before ++ bytes.now)) }
+        ensures ok { OnOk result ((g : Rules) (all : Bool) (before : List ℕ) → Has g all self.old before → Has g all self.new (before ++ bytes.now)) }
         ensures err { IfErr result (λ e. e ≡ TraceFault.Memory) }
     {
         for byte in bytes {
@@ -70,7 +75,7 @@ impl Reading {
 
     /// Ends the input. A last line without an end counts if it has some byte.
     pub(crate) fn end(mut self) -> Result<(Verdict, Vec<u8>), AllocError>
-        ensures { IfOk result (λ told. (g : Setup) (all : Bool) (bytes : List ℕ) → Has g all self bytes → IsVerdict g all bytes told.1.items told.0) }
+        ensures { IfOk result (λ told. (g : Rules) (all : Bool) (bytes : List ℕ) → Has g all self bytes → IsVerdict g all bytes told.1.items told.0) }
     {
         if self.line.is_empty() {
             return self.checker.end();
@@ -81,7 +86,7 @@ impl Reading {
 
     /// Takes in one byte.
     fn take(&mut self, byte: u8) -> Result<(), TraceFault>
-        ensures ok { OnOk result ((g : Setup) (all : Bool) (before : List ℕ) → Has g all self.old before → Has g all self.new (before ++ byte ∷ [])) }
+        ensures ok { OnOk result ((g : Rules) (all : Bool) (before : List ℕ) → Has g all self.old before → Has g all self.new (before ++ byte ∷ [])) }
         ensures err { IfErr result (λ e. e ≡ TraceFault.Memory) }
     {
         if byte == b'\n' {
@@ -95,14 +100,14 @@ impl Reading {
     /// Takes in one byte of a line, which isn't its end.
     fn keep(&mut self, byte: u8)
         requires { byte ≢ 10 }
-        ensures { (g : Setup) (all : Bool) (before : List ℕ) → Has g all self.old before → Has g all self.new (before ++ byte ∷ []) }
+        ensures { (g : Rules) (all : Bool) (before : List ℕ) → Has g all self.old before → Has g all self.new (before ++ byte ∷ []) }
     {
         self.line.push(byte);
     }
 
     /// Gives the line to the checker, and begins the next line.
     fn end_line(&mut self) -> Result<(), AllocError>
-        ensures { OnOk result ((g : Setup) (all : Bool) (before : List ℕ) → Has g all self.old before → Has g all self.new (before ++ 10 ∷ [])) }
+        ensures { OnOk result ((g : Rules) (all : Bool) (before : List ℕ) → Has g all self.old before → Has g all self.new (before ++ 10 ∷ [])) }
     {
         self.checker.take_line(&self.line)?;
         self.line.clear();

@@ -50,12 +50,17 @@ fn run<R: Threads + Wait + Copy + Send + 'static>(
             play(threads, alloc, &mut stdin, &mut stdout, &setup, workers)?;
             Ok(DONE)
         }
-        Options::Trace(setup) => {
-            trace(alloc, &mut rt.stdin(), &mut rt.stdout(), &setup)?;
+        Options::Trace { setup, is_echo } => {
+            trace(alloc, &mut rt.stdin(), &mut rt.stdout(), &setup, is_echo)?;
             Ok(DONE)
         }
-        Options::Check(setup) => {
-            let verdict = check(alloc, &mut rt.stdin(), &mut rt.stdout(), &setup, false)?;
+        Options::Check {
+            setup,
+            is_all,
+            is_apart,
+        } => {
+            let (mut input, mut output) = (rt.stdin(), rt.stdout());
+            let verdict = check(alloc, &mut input, &mut output, &setup, is_all, is_apart)?;
             Ok(status_of(verdict))
         }
         Options::Explain(setup) => {

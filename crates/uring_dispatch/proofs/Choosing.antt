@@ -1,6 +1,6 @@
 -- What cancels make of the lists: the end of a request as it is issued, with those that it dooms, and the search for all targets of a cancel.
-use Rattle.std.proofs.Common.{◌≡◌, ℕ, suc, ◌+◌, ◌<◌, ◌≤◌, ℤ, pos, negsuc, List, [], ◌∷◌, ◌++◌, length, length-append, Bool, true, false, not, ◌&&◌, ◌||◌, ◌==◌, Option, Some, None, is_some, cond, refl, sym, ◌∙◌, ap, subst, arith, inl, inr}
-use Rattle.std.specs.Prelude.{if◌then◌else◌, min, ◌-◌, ◌^◌}
+use Rattle.std.proofs.Common.{◌≡◌, ℕ, suc, ◌+◌, ◌<◌, ◌≤◌, pos, negsuc, List, [], ◌∷◌, ◌++◌, length, length-append, Bool, true, false, not, ◌&&◌, ◌||◌, ◌==◌, Option, Some, None, is_some, cond, refl, sym, ◌∙◌, ap, subst, arith, inl, inr}
+use Rattle.std.specs.Prelude.{if◌then◌else◌, int_le}
 use Rattle.std.specs.List.{list_any}
 use Rattle.std.specs.Option.{option_to_list}
 use Rattle.std.proofs.lemmas.List.{append-nil, append_assoc}
@@ -10,7 +10,7 @@ use Rattle.uring_entry.specs.Layout.{Sqe, addr_of, user_data_of}
 use Rattle.uring_entry.specs.Preparation.{is_cancel, is_cancel_all}
 use Rattle.uring_entry.specs.Success.{is_success}
 use Rattle.uring_entry.specs.Below.{all_below}
-use Rattle.uring_entry.specs.Requests.{Requests, entry_of, is_joined, some_member, is_in_faulty_group, is_behind_failure, is_cancelled, is_doomed, is_running, is_outstanding, is_target, target_of, targets_of, choices_of, count_result, chosen_by, no_bytes, with_cancelled, with_ended, with_issued_end}
+use Rattle.uring_entry.specs.Requests.{Requests, entry_of, is_joined, some_member, is_in_faulty_group, is_behind_failure, is_cancelled, is_doomed, is_running, is_outstanding, is_target, target_of, targets_of, choices_of, count_result, chosen_by, cancel_result, result_for, no_bytes, with_cancelled, with_ended, with_issued_end}
 use Rattle.uring_entry.proofs.BelowLemmas.{all_below-past, all_below-none}
 use Rattle.uring_entry.proofs.RequestLemmas.{one_success, all_success, never_success}
 use Rattle.uring_dispatch.specs.declared.request.Request.{Request}
@@ -18,29 +18,34 @@ use Rattle.uring_dispatch.specs.Window.{Window, at, runs, Changes, chosen, IsAsB
 use Rattle.uring_dispatch.specs.Groups.{Groups}
 use Rattle.uring_dispatch.specs.Held.{AreHeld, IsSound}
 use Rattle.uring_dispatch.specs.Waiting.{IsListed, HasMemory}
+use Rattle.uring_dispatch.specs.Choosing.{HasChosen}
 use Rattle.uring_dispatch.specs.declared.waiting.Waiting.{Waiting}
 use Rattle.uring_dispatch.proofs.HeldLemmas.{running-none, running-some, candidate-none}
 
--- A request ends as it is issued.
-
--- one that dooms these
-pub ends-choosing : (v : Window) (h : Groups) (r : Requests) (n : ℕ) (res : ℤ) (these : List ℕ) → chosen_by r n res ≡ these → AreHeld v h (with_ended (with_cancelled r these) n res no_bytes) → AreHeld v h (with_issued_end r n res)
-ends-choosing v h r n res these are held = subst (λ xs. AreHeld v h (with_ended (with_cancelled r xs) n res no_bytes)) (sym are) held
+-- What the end of a request as it is issued dooms.
 
 none-cancelled : (r : Requests) → with_cancelled r [] ≡ r
 none-cancelled r = ap (λ all. record r { cancelled = all }) (append-nil r.cancelled)
 
 -- one that fails dooms nobody
-pub ends-failing : (v : Window) (h : Groups) (r : Requests) (n below : ℕ) → AreHeld v h (with_ended r n (negsuc below) no_bytes) → AreHeld v h (with_issued_end r n (negsuc below))
-ends-failing v h r n below held =
-    ends-choosing v h r n (negsuc below) []
-    (ap (λ b. if is_cancel (entry_of r n) && b then choices_of r n else []) (never_success (entry_of r n) below)
-    ∙ and-none (is_cancel (entry_of r n)) (choices_of r n))
-    (subst (λ q. AreHeld v h (with_ended q n (negsuc below) no_bytes)) (sym (none-cancelled r)) held)
+pub failing-chooses : (r : Requests) (n below : ℕ) → chosen_by r n (negsuc below) ≡ []
+failing-chooses r n below =
+    ap (λ b. if is_cancel (entry_of r n) && b then choices_of r n else []) (never_success (entry_of r n) below)
+    ∙ and-none (is_cancel (entry_of r n)) (choices_of r n)
   where
     and-none : (b : Bool) (these : List ℕ) → (if b && false then these else []) ≡ []
     and-none true these = refl
     and-none false these = refl
+
+pub held-failing : (v : Window) (h : Groups) (r : Requests) (n below : ℕ) → AreHeld v h r → AreHeld v h (with_cancelled r (chosen_by r n (negsuc below)))
+held-failing v h r n below held =
+    subst (λ xs. AreHeld v h (with_cancelled r xs)) (sym (failing-chooses r n below))
+    (subst (λ q. AreHeld v h q) (sym (none-cancelled r)) held)
+
+pub ends-failing : (v : Window) (h : Groups) (r : Requests) (n below : ℕ) → AreHeld v h (with_ended r n (negsuc below) no_bytes) → AreHeld v h (with_issued_end r n (negsuc below))
+ends-failing v h r n below held =
+    subst (λ q. AreHeld v h (with_ended q n (negsuc below) no_bytes))
+    (sym (none-cancelled r) ∙ sym (ap (with_cancelled r) (failing-chooses r n below))) held
 
 -- a cancel of one that ends with 0 dooms what it chose
 pub one_chosen : (r : Requests) (n m : ℕ) → is_cancel (entry_of r n) ≡ true → is_cancel_all (entry_of r n) ≡ false → target_of r n ≡ Some m → chosen_by r n (pos 0) ≡ m ∷ []
@@ -58,17 +63,27 @@ all_chosen r n count all =
     ∙ ap (λ b. if b then choices_of r n else []) (all_success (entry_of r n) (pos count) all ∙ le-leb 0 count (omega arith))
     ∙ ap (λ b. if b then targets_of r n else option_to_list (target_of r n)) all
 
-pub all_succeeds : (e : Sqe) (count : ℕ) → is_cancel_all e ≡ true → true ≡ is_success e (pos count)
-all_succeeds e count all = sym (all_success e (pos count) all ∙ le-leb 0 count (omega arith))
+-- a cancel succeeds with a number
+pub cancel_succeeds : (r : Requests) (n : ℕ) → is_cancel (entry_of r n) ≡ true → is_success (entry_of r n) (cancel_result r n) ≡ int_le (pos 0) (cancel_result r n)
+cancel_succeeds r n is = by_all (is_cancel_all (entry_of r n)) refl
+  where
+    e : Sqe
+    e = entry_of r n
 
-pub one_succeeds : (e : Sqe) → is_cancel e ≡ true → is_cancel_all e ≡ false → true ≡ is_success e (pos 0)
-one_succeeds e is one = sym (one_success e (pos 0) is one)
+    for_one : is_cancel_all e ≡ false → (m : Option ℕ) → is_success e (result_for r m) ≡ int_le (pos 0) (result_for r m)
+    for_one one None = never_success e 1
+    for_one one (Some m) = by_run (is_running r m)
+      where
+        by_run : (b : Bool) → is_success e (if b then negsuc 113 else pos 0) ≡ int_le (pos 0) (if b then negsuc 113 else pos 0)
+        by_run true = never_success e 113
+        by_run false = one_success e (pos 0) is one
 
--- the end of a cancel of all
-pub ends-all : (v : Window) (h : Groups) (r : Requests) (n count : ℕ) (res : ℤ) → is_cancel_all (entry_of r n) ≡ true → res ≡ count_result count → AreHeld v h (with_ended (with_cancelled r (targets_of r n)) n (count_result count) no_bytes) → AreHeld v h (with_issued_end r n res)
-ends-all v h r n count res all is held =
-    subst (λ x. AreHeld v h (with_issued_end r n x)) (sym is)
-    (ends-choosing v h r n (count_result count) (targets_of r n) (all_chosen r n (min count (2 ^ 31 - 1)) all) held)
+    by_all : (b : Bool) → is_cancel_all e ≡ b → is_success e (cancel_result r n) ≡ int_le (pos 0) (cancel_result r n)
+    by_all true all = all_success e (cancel_result r n) all
+    by_all false one =
+        subst (λ x. is_success e x ≡ int_le (pos 0) x)
+        (sym (ap (λ b. if b then count_result (length (targets_of r n)) else result_for r (target_of r n)) one))
+        (for_one one (target_of r n))
 
 -- A cancel chooses one.
 
@@ -94,10 +109,10 @@ choose-same w v m p there c as_before running = record {
   runs_on = λ k. runs-still w v m k p there c;
 }
 
-pub same-none : (w : Window) → HasSameRequests w w
+same-none : (w : Window) → HasSameRequests w w
 same-none w = record { as_before = record { end = refl; outstanding = refl; room = refl }; running = refl; there = λ k. refl; runs_on = λ k. refl }
 
-pub same-both : (u v w : Window) → HasSameRequests u v → HasSameRequests v w → HasSameRequests u w
+same-both : (u v w : Window) → HasSameRequests u v → HasSameRequests v w → HasSameRequests u w
 same-both u v w a b = record {
   as_before = record { end = b.as_before.end ∙ a.as_before.end; outstanding = b.as_before.outstanding ∙ a.as_before.outstanding; room = b.as_before.room ∙ a.as_before.room };
   running = b.running ∙ a.running;
@@ -105,13 +120,19 @@ same-both u v w a b = record {
   runs_on = λ k. b.runs_on k ∙ a.runs_on k;
 }
 
-pub memory-both : (s t u : Waiting) → HasMemory s t → HasMemory t u → HasMemory s u
+memory-both : (s t u : Waiting) → HasMemory s t → HasMemory t u → HasMemory s u
 memory-both s t u a b =
     let x = a.heads in
     let y = a.doomed in
     let z = b.heads in
     let v = b.doomed in
     record { heads = omega arith; doomed = omega arith }
+
+pub chosen-nobody : (w : Window) (g : Groups) (s : Waiting) → IsSound w g → IsListed w g s → HasChosen w w g s s
+chosen-nobody w g s sound listed = record { sound = sound; listed = listed; memory = record { heads = omega arith; doomed = omega arith }; same = same-none w }
+
+chosen-both : (u v w : Window) (g : Groups) (s t x : Waiting) → HasChosen u v g s t → HasChosen v w g t x → HasChosen u w g s x
+chosen-both u v w g s t x a b = record { sound = b.sound; listed = b.listed; memory = memory-both s t x a.memory b.memory; same = same-both u v w a.same b.same }
 
 -- Targets.
 
@@ -143,10 +164,7 @@ target-next r n m =
 
 -- the targets of the cancel n before the number m are chosen, so many
 pub record AreChosen (w v : Window) (g : Groups) (s t : Waiting) (n user_data m count : ℕ) : Type 0 where
-  pub sound : IsSound v g
-  pub listed : IsListed v g t
-  pub memory : HasMemory s t
-  pub same : HasSameRequests w v
+  pub chosen : HasChosen w v g s t
   pub few : count ≤ m
   pub count_is : (r : Requests) → AreHeld w g r → user_data ≡ addr_of (entry_of r n) → count ≡ length (all_below (is_target r n) m)
   pub held : (r : Requests) → AreHeld w g r → user_data ≡ addr_of (entry_of r n) → AreHeld v g (with_cancelled r (all_below (is_target r n) m))
@@ -157,10 +175,7 @@ chosen-none w g s n user_data m sound listed none =
     λ r h. all_below-none (is_target r n) m (λ k lt. and_left _ _ (candidate-none w g r n k h (none k lt)))
     in
     record {
-      sound = sound;
-      listed = listed;
-      memory = record { heads = omega arith; doomed = omega arith };
-      same = same-none w;
+      chosen = chosen-nobody w g s sound listed;
       few = omega arith;
       count_is = λ r h named. sym (ap (λ (xs : List ℕ). length xs) (nobody r h));
       held = λ r h named. subst (λ xs. AreHeld w g (with_cancelled r xs)) (sym (nobody r h)) (subst (λ q. AreHeld w g q) (sym (none-cancelled r)) h);
@@ -178,17 +193,14 @@ target-tested w v g s t n user_data m count tested c test r h named =
     sym (test (with_cancelled r (all_below (is_target r n) m)) (c.held r h named) named ∙ target-next r n m)
 
 -- the next number is a target, and was chosen
-pub chosen-more : (w v x : Window) (g : Groups) (s t u : Waiting) (n user_data m count : ℕ) → AreChosen w v g s t n user_data m count → ((r : Requests) → AreHeld v g r → user_data ≡ addr_of (entry_of r n) → true ≡ is_target r n m) → IsSound x g → IsListed x g u → HasMemory t u → HasSameRequests v x → ((r : Requests) → AreHeld v g r → AreHeld x g (with_cancelled r (m ∷ []))) → AreChosen w x g s u n user_data (m + 1) (count + 1)
-chosen-more w v x g s t u n user_data m count c test sound listed memory same held =
+pub chosen-more : (w v x : Window) (g : Groups) (s t u : Waiting) (n user_data m count : ℕ) → AreChosen w v g s t n user_data m count → ((r : Requests) → AreHeld v g r → user_data ≡ addr_of (entry_of r n) → true ≡ is_target r n m) → HasChosen v x g t u → ((r : Requests) → AreHeld v g r → AreHeld x g (with_cancelled r (m ∷ []))) → AreChosen w x g s u n user_data (m + 1) (count + 1)
+chosen-more w v x g s t u n user_data m count c test chosen held =
     let few = c.few in
     let more : (r : Requests) → AreHeld w g r → user_data ≡ addr_of (entry_of r n) → all_below (is_target r n) (m + 1) ≡ all_below (is_target r n) m ++ m ∷ [] =
     λ r h named. one-more (is_target r n) m (target-tested w v g s t n user_data m count true c test r h named)
     in
     record {
-      sound = sound;
-      listed = listed;
-      memory = memory-both s t u c.memory memory;
-      same = same-both w v x c.same same;
+      chosen = chosen-both w v x g s t u c.chosen chosen;
       few = omega arith;
       count_is = λ r h named.
           ap (λ k. k + 1) (c.count_is r h named) ∙ sym (length-append (all_below (is_target r n) m) (m ∷ []))
@@ -207,10 +219,7 @@ chosen-past w v g s t n user_data m count c test =
     λ r h named. none-more (is_target r n) m (target-tested w v g s t n user_data m count false c test r h named)
     in
     record {
-      sound = c.sound;
-      listed = c.listed;
-      memory = c.memory;
-      same = c.same;
+      chosen = c.chosen;
       few = omega arith;
       count_is = λ r h named. c.count_is r h named ∙ ap (λ (xs : List ℕ). length xs) (sym (same_ones r h named));
       held = λ r h named. subst (λ xs. AreHeld v g (with_cancelled r xs)) (sym (same_ones r h named)) (c.held r h named);

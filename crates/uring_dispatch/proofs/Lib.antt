@@ -9,6 +9,7 @@ pub mod BarrierLemmas
 pub mod GroupsKept
 pub mod HeldLemmas
 pub mod WhyHeld
+pub mod Finding
 pub mod EndLemmas
 pub mod EndsHeld
 pub mod Issues

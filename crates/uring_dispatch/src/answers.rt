@@ -30,3 +30,16 @@ pub enum Finished {
     /// It isn't running.
     NotRunning,
 }
+
+/// What a cancel of one request finds. io_uring_enter(2), IORING_OP_ASYNC_CANCEL. Which request it may choose is our own rule.
+#[derive(Clone, Copy, Debug, PartialEq, Eq)]
+pub enum Found {
+    /// No request that it may choose. It ends with -2 (ENOENT).
+    Nobody,
+
+    /// This request, which runs and goes on. It ends with -114 (EALREADY).
+    Running(u64),
+
+    /// This request, which it dooms. It ends with 0.
+    Chosen(u64),
+}

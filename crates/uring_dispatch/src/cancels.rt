@@ -1,13 +1,14 @@
 //! What a cancel makes of the outstanding requests. io_uring_enter(2), IORING_OP_ASYNC_CANCEL, and io_uring_prep_cancel(3), IORING_ASYNC_CANCEL_ALL.
 
 ghost use Rattle.std.specs.Prelude.{◌≡◌, [], ◌∷◌, length, true, false, None, is_some};
-ghost use Rattle.uring_entry.specs.Requests.{Requests, entry_of, with_cancelled, with_issued_end, targets_of};
+ghost use Rattle.uring_entry.specs.Requests.{Requests, entry_of, with_cancelled, with_issued_end, chosen_by, target_of, targets_of, result_for};
 ghost use Rattle.uring_entry.specs.Requests as spec;
 ghost use Rattle.uring_entry.specs.Preparation.{is_cancel, is_cancel_all};
 ghost use Rattle.uring_entry.specs.Layout.{addr_of};
-ghost use Rattle.uring_dispatch.specs.Window.{at, runs, HasSameRequests};
+ghost use Rattle.uring_dispatch.specs.Window.{at, runs};
 ghost use Rattle.uring_dispatch.specs.Held.{AreHeld, IsSound, HasLost};
 ghost use Rattle.uring_dispatch.specs.Waiting.{IsListed, HasMemory};
+ghost use Rattle.uring_dispatch.specs.Choosing.{HasChosen};
 
 use crate::events::end;
 use crate::groups::Groups;
@@ -39,73 +40,55 @@ pub(crate) fn cancel(
     ensures held { (r : Requests) → AreHeld window.old groups.old r → user_data ≡ addr_of (entry_of r n) → is_cancel (entry_of r n) ≡ true → all ≡ is_cancel_all (entry_of r n) → AreHeld window.new groups.new (with_issued_end r n result) }
     ensures counts { HasLost window.old window.new 0 }
 {
+    let res = make_choices(window, groups, waiting, n, user_data, all);
+    end(window, groups, waiting, n, res >= 0);
+    res
+}
+
+/// Notes whom the cancel `n` of these user data chooses, and gives its result.
+fn make_choices(
+    window: &mut Window,
+    groups: &Groups,
+    waiting: &mut Waiting,
+    n: u64,
+    user_data: u64,
+    all: bool,
+) -> i32
+    requires sound { IsSound window.old groups.now }
+    requires listed { IsListed window.old groups.now waiting.old }
+    ensures chosen { HasChosen window.old window.new groups.now waiting.old waiting.new }
+    ensures answer { (r : Requests) → AreHeld window.old groups.now r → user_data ≡ addr_of (entry_of r n) → all ≡ is_cancel_all (entry_of r n) → result ≡ spec.cancel_result r n }
+    ensures held { (r : Requests) → AreHeld window.old groups.now r → user_data ≡ addr_of (entry_of r n) → is_cancel (entry_of r n) ≡ true → all ≡ is_cancel_all (entry_of r n) → AreHeld window.new groups.now (with_cancelled r (chosen_by r n result)) }
+{
     if all {
-        cancel_all(window, groups, waiting, n, user_data)
+        count_result(choose_targets(window, groups, waiting, n, user_data))
     } else {
-        cancel_one(window, groups, waiting, n, user_data)
+        choose_target(window, groups, waiting, n, user_data)
     }
 }
 
-/// Carries out the cancel `n` of one request with these user data, and gives its result: ENOENT if there is no request to choose, EALREADY if the one chosen is running, else 0.
-fn cancel_one(
+/// Notes whom the cancel `n` of one request with these user data chooses, and gives its result: ENOENT if there is no request to choose, EALREADY if the one chosen is running, else 0.
+fn choose_target(
     window: &mut Window,
-    groups: &mut Groups,
+    groups: &Groups,
     waiting: &mut Waiting,
     n: u64,
     user_data: u64,
 ) -> i32
-    requires sound { IsSound window.old groups.old }
-    requires closed { groups.old.last ≡ None }
-    requires listed { IsListed window.old groups.old waiting.old }
-    requires there { is_some (at window.old n) ≡ true }
-    requires waits { runs (at window.old n) ≡ false }
-    ensures sound { IsSound window.new groups.new }
-    ensures closed { groups.new.last ≡ None }
-    ensures groups_room { groups.new.room ≡ groups.old.room }
-    ensures listed { IsListed window.new groups.new waiting.new }
-    ensures waiting_room { HasMemory waiting.old waiting.new }
-    ensures answer { (r : Requests) → AreHeld window.old groups.old r → user_data ≡ addr_of (entry_of r n) → is_cancel_all (entry_of r n) ≡ false → result ≡ spec.cancel_result r n }
-    ensures held { (r : Requests) → AreHeld window.old groups.old r → user_data ≡ addr_of (entry_of r n) → is_cancel (entry_of r n) ≡ true → is_cancel_all (entry_of r n) ≡ false → AreHeld window.new groups.new (with_issued_end r n result) }
-    ensures counts { HasLost window.old window.new 0 }
+    requires sound { IsSound window.old groups.now }
+    requires listed { IsListed window.old groups.now waiting.old }
+    ensures chosen { HasChosen window.old window.new groups.now waiting.old waiting.new }
+    ensures answer { (r : Requests) → AreHeld window.old groups.now r → user_data ≡ addr_of (entry_of r n) → result ≡ result_for r (target_of r n) }
+    ensures held { (r : Requests) → AreHeld window.old groups.now r → user_data ≡ addr_of (entry_of r n) → is_cancel (entry_of r n) ≡ true → is_cancel_all (entry_of r n) ≡ false → AreHeld window.new groups.now (with_cancelled r (chosen_by r n result)) }
 {
     let Some(m) = target(window, groups, n, user_data) else {
-        end(window, groups, waiting, n, false);
         return -errno::ENOENT;
     };
     if window.is_running(m) {
-        end(window, groups, waiting, n, false);
         return -errno::EALREADY;
     }
     choose(window, groups, waiting, m);
-    end(window, groups, waiting, n, true);
     0
-}
-
-/// Carries out the cancel `n` of all requests with these user data, and gives its result: how many it chose, and no more than 2^31 - 1.
-fn cancel_all(
-    window: &mut Window,
-    groups: &mut Groups,
-    waiting: &mut Waiting,
-    n: u64,
-    user_data: u64,
-) -> i32
-    requires sound { IsSound window.old groups.old }
-    requires closed { groups.old.last ≡ None }
-    requires listed { IsListed window.old groups.old waiting.old }
-    requires there { is_some (at window.old n) ≡ true }
-    requires waits { runs (at window.old n) ≡ false }
-    ensures sound { IsSound window.new groups.new }
-    ensures closed { groups.new.last ≡ None }
-    ensures groups_room { groups.new.room ≡ groups.old.room }
-    ensures listed { IsListed window.new groups.new waiting.new }
-    ensures waiting_room { HasMemory waiting.old waiting.new }
-    ensures answer { (r : Requests) → AreHeld window.old groups.old r → user_data ≡ addr_of (entry_of r n) → is_cancel_all (entry_of r n) ≡ true → result ≡ spec.cancel_result r n }
-    ensures held { (r : Requests) → AreHeld window.old groups.old r → user_data ≡ addr_of (entry_of r n) → is_cancel_all (entry_of r n) ≡ true → AreHeld window.new groups.new (with_issued_end r n result) }
-    ensures counts { HasLost window.old window.new 0 }
-{
-    let count = choose_targets(window, groups, waiting, n, user_data);
-    end(window, groups, waiting, n, true);
-    count_result(count)
 }
 
 /// Notes that the cancel `n` of all requests with these user data chose each of its targets, and gives their number.
@@ -118,10 +101,7 @@ fn choose_targets(
 ) -> u64
     requires sound { IsSound window.old groups.now }
     requires listed { IsListed window.old groups.now waiting.old }
-    ensures sound { IsSound window.new groups.now }
-    ensures listed { IsListed window.new groups.now waiting.new }
-    ensures waiting_room { HasMemory waiting.old waiting.new }
-    ensures same { HasSameRequests window.old window.new }
+    ensures chosen { HasChosen window.old window.new groups.now waiting.old waiting.new }
     ensures count { (r : Requests) → AreHeld window.old groups.now r → user_data ≡ addr_of (entry_of r n) → result ≡ length (targets_of r n) }
     ensures held { (r : Requests) → AreHeld window.old groups.now r → user_data ≡ addr_of (entry_of r n) → AreHeld window.new groups.now (with_cancelled r (targets_of r n)) }
 {
@@ -147,10 +127,7 @@ fn choose(window: &mut Window, groups: &Groups, waiting: &mut Waiting, m: u64)
     requires sound { IsSound window.old groups.now }
     requires listed { IsListed window.old groups.now waiting.old }
     requires there { is_some (at window.old m) ≡ true }
-    ensures sound { IsSound window.new groups.now }
-    ensures listed { IsListed window.new groups.now waiting.new }
-    ensures waiting_room { HasMemory waiting.old waiting.new }
-    ensures same { HasSameRequests window.old window.new }
+    ensures chosen { HasChosen window.old window.new groups.now waiting.old waiting.new }
     ensures held { (r : Requests) → AreHeld window.old groups.now r → AreHeld window.new groups.now (with_cancelled r (m ∷ [])) }
 {
     window.choose(m);

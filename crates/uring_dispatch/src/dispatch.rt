@@ -1,15 +1,16 @@
 ghost use Rattle.std.specs.Prelude.{◌≡◌, ◌+◌, ◌-◌, ◌^◌, ◌<◌, ◌≤◌, ◌↔◌, IsTrue, true, false, OnOk, OnErr, IsOk, IsErrOf};
 ghost use Rattle.uring_entry.specs.Requests.{Requests, no_request, with_accepted, with_cut, next_of, least_of, operation_running, entry_outstanding, outstanding_in, running_in};
 ghost use Rattle.uring_entry.specs.Why.{why_of};
+ghost use Rattle.uring_dispatch.specs.Cancels.{found_by};
 ghost use Rattle.uring_dispatch.specs.IssueAndFinish.{issued, after_issue, finished, after_finish};
 
-use crate::answers::{Finished, Issued};
+use crate::answers::{Finished, Found, Issued};
 use crate::errors::ReserveError;
 use crate::groups::Groups;
 use crate::request::Request;
 use crate::waiting::Waiting;
 use crate::window::Window;
-use crate::{events, next, why};
+use crate::{events, found, next, why};
 use std::alloc::Global;
 use std::marker::Model;
 use uring_entry::{Op, Outcome, Sqe, Why, prepare};
@@ -195,6 +196,14 @@ impl Dispatch {
         ensures { (r : Requests) → ShowsRequests self.now r → result ≡ why_of r n }
     {
         why::why(&self.window, &self.groups, n)
+    }
+
+    /// What request `n`, any number, would find if it were carried out now: `Some` exactly if it is an outstanding cancel of one request, without a fault. Our own rule.
+    pub fn would_find(&self, n: u64) -> Option<Found>
+        requires { IsTrue self.now.is_between_calls }
+        ensures { (r : Requests) → ShowsRequests self.now r → result ≡ found_by r n }
+    {
+        found::would_find(&self.window, &self.groups, n)
     }
 
     /// How many requests were accepted: at most `MAX_ACCEPTED`.

@@ -7,6 +7,7 @@ mod cancels;
 mod dispatch;
 mod errors;
 mod events;
+mod found;
 mod group;
 mod groups;
 pub mod laws;
@@ -18,7 +19,7 @@ mod waiting;
 mod why;
 mod window;
 
-pub use answers::{Finished, Issued};
+pub use answers::{Finished, Found, Issued};
 pub use dispatch::Dispatch;
 pub use errors::ReserveError;
 pub use uring_entry::{BadSetup, Cqe, Doom, Fault, Op, Outcome, Setup, Since, Sqe, SqeFlags, Why};

@@ -40,6 +40,7 @@ pub mod PublishedItems
 pub mod Standing
 pub mod WholeCalls
 pub mod ReasonLaws
+pub mod FoundLaws
 pub mod SameAnswers
 pub mod RecordedAnswers
 pub mod RecordedEnds

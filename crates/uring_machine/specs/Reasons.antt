@@ -1,8 +1,12 @@
 -- What it says of a request why it stands as it does: laws of any requests.
-use Rattle.std.specs.Prelude.{◌≡◌, ◌↔◌, ℕ, ◌<◌, Bool, true, false, length, Some, ◌⊎◌}
-use Rattle.uring_entry.specs.Requests.{Requests, entry_of, is_outstanding, is_running, is_issuable, is_doomed, is_ready, is_in_faulty_group, is_behind_failure, is_cancelled, is_joined, is_draining, holds_back}
-use Rattle.uring_entry.specs.Preparation.{fault_of, is_faulty}
+use Rattle.std.specs.Prelude.{◌≡◌, ◌↔◌, ℕ, ◌<◌, ℤ, pos, neg_ℤ, Bool, true, false, length, Some, ◌⊎◌}
+use Rattle.uring_entry.specs.Requests.{Requests, entry_of, is_outstanding, is_running, is_candidate, cancel_result, is_issuable, is_doomed, is_ready, is_in_faulty_group, is_behind_failure, is_cancelled, is_joined, is_draining, holds_back}
+use Rattle.uring_entry.specs.Preparation.{fault_of, is_faulty, is_cancel, is_cancel_all}
+use Rattle.uring_entry.specs.declared.errno.TheConstants.{ENOENT, EALREADY}
 use Rattle.uring_entry.specs.Why.{is_faulty_member, is_failure_before, why_of}
+use Rattle.uring_dispatch.specs.Cancels.{found_by}
+use Rattle.uring_dispatch.specs.declared.answers.Found.{Found}
+use Rattle.uring_dispatch.specs.declared.answers.Found.TheVariants as found
 use Rattle.uring_machine.specs.World.{World}
 use Rattle.uring_machine.specs.StepAnswers.{IsEnded, issue_answer}
 use Rattle.uring_machine.specs.declared.answer.Answer.{Answer}
@@ -93,3 +97,28 @@ AgreesWith a MayStart = (a ≡ answer.Run) ⊎ IsEnded a
 -- The answer called for by an Issue agrees with what is told just before.
 abbrev pub AnswerAgrees : Type 0
 AnswerAgrees = (w : World) (n : ℕ) → AgreesWith (issue_answer w n) (why_of w.requests n)
+
+-- What a cancel of one request finds.
+
+-- the cancel n finds this: the least request that it may choose, running or not, or that there is none
+abbrev pub IsFound : Requests → ℕ → Found → Type 0
+IsFound r n found.Nobody = (m : ℕ) → m < length r.accepted → is_candidate r n m ≡ false
+IsFound r n (found.Running m) = IsLeastOf (is_candidate r n) (length r.accepted) m × (is_running r m ≡ true)
+IsFound r n (found.Chosen m) = IsLeastOf (is_candidate r n) (length r.accepted) m × (is_running r m ≡ false)
+
+-- what a cancel that finds this ends with, if it is carried out. io_uring_enter(2), IORING_OP_ASYNC_CANCEL
+abbrev pub ends_with : Found → ℤ
+ends_with found.Nobody = neg_ℤ ENOENT
+ends_with (found.Running m) = neg_ℤ EALREADY
+ends_with (found.Chosen m) = pos 0
+
+-- n is an outstanding cancel of one request, and finds this.
+pub record Finds (r : Requests) (n : ℕ) (f : Found) : Type 0 where
+  pub outstanding : is_outstanding r n ≡ true
+  pub cancels : is_cancel (entry_of r n) ≡ true
+  pub one : is_cancel_all (entry_of r n) ≡ false
+  pub found : IsFound r n f
+  pub result : cancel_result r n ≡ ends_with f
+
+abbrev pub FoundIsSaid : Type 0
+FoundIsSaid = (r : Requests) (n : ℕ) (f : Found) → found_by r n ≡ Some f → Finds r n f

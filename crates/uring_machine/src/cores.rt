@@ -6,6 +6,7 @@ ghost use Rattle.uring_entry.specs.Requests.{Requests, least_of, operation_runni
 ghost use Rattle.uring_entry.specs.Why.{why_of};
 ghost use Rattle.uring_rings.specs.Cq.{ShowsCompletions};
 ghost use Rattle.uring_rings.specs.Sq.{ShowsSubmission};
+ghost use Rattle.uring_dispatch.specs.Cancels.{found_by};
 ghost use Rattle.uring_dispatch.specs.Dispatch.{ShowsRequests};
 ghost use Rattle.uring_files.specs.Operations.{IsForFiles};
 ghost use Rattle.uring_machine.specs.Histories.{History, world};
@@ -18,7 +19,7 @@ use crate::conversions::{ended, next_answer, reaped};
 use crate::step::Step;
 use std::alloc::{AllocError, Global};
 use std::marker::Model;
-use uring_dispatch::{Dispatch, Finished, Issued, ReserveError};
+use uring_dispatch::{Dispatch, Finished, Found, Issued, ReserveError};
 use uring_entry::{Cqe, Op, Outcome, Setup, Sqe, Why, posts_completion, prepare};
 use uring_rings::{Cq, EndAnswer, Sq, TakeAnswer};
 
@@ -159,6 +160,13 @@ impl Core {
         ensures { (h : History) → FitsApart self.now h → result ≡ why_of (world self.now.setup h).requests number }
     {
         self.dispatch.why(number)
+    }
+
+    /// What the request of this number, any number, would find if it were carried out now: `Some` exactly if it is an outstanding cancel of one request, without a fault. It is no step, and so not part of a history.
+    pub fn would_find(&self, number: u64) -> Option<Found>
+        ensures { (h : History) → FitsApart self.now h → result ≡ found_by (world self.now.setup h).requests number }
+    {
+        self.dispatch.would_find(number)
     }
 
     /// The set-up of the rings.

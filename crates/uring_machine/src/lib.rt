@@ -18,6 +18,7 @@ pub use cores::{Core, Counts};
 pub use machine::Machine;
 pub use runs::run;
 pub use step::Step;
+pub use uring_dispatch::Found;
 pub use uring_entry::{BadSetup, Cqe, Doom, Fault, Op, Outcome, Setup, Since, Sqe, SqeFlags, Why};
 pub use uring_files::FileState;
 pub use wanted::{Refusal, Wanted};

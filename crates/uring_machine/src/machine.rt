@@ -3,6 +3,7 @@ ghost use Rattle.uring_entry.specs.Setup.{IsWithinLimits};
 ghost use Rattle.uring_entry.specs.Completions.{unreaped};
 ghost use Rattle.uring_entry.specs.Requests.{operation_running, next_of, least_of};
 ghost use Rattle.uring_entry.specs.Why.{why_of};
+ghost use Rattle.uring_dispatch.specs.Cancels.{found_by};
 ghost use Rattle.uring_files.specs.Contents.{FileContents};
 ghost use Rattle.uring_files.specs.Operations.{IsForFiles, ended_with, is_lengthening, result_of, state_of, byte_of};
 ghost use Rattle.uring_machine.specs.CalledFor.{CalledFor, files_of};
@@ -22,6 +23,7 @@ use crate::step::Step;
 use crate::wanted::{Refusal, Wanted};
 use std::alloc::{AllocError, Global};
 use std::marker::Model;
+use uring_dispatch::Found;
 use uring_entry::{Cqe, Op, Outcome, Setup, Why, errno};
 use uring_files::{FileState, Files};
 
@@ -158,6 +160,13 @@ impl Machine {
         ensures { (h : History) → Fits self.now h → result ≡ why_of (world self.now.core.setup h).requests number }
     {
         self.core.why(number)
+    }
+
+    /// What the request of this number, any number, would find if it were carried out now: `Some` exactly if it is an outstanding cancel of one request, without a fault. It is no step, and so not part of a history.
+    pub fn would_find(&self, number: u64) -> Option<Found>
+        ensures { (h : History) → Fits self.now h → result ≡ found_by (world self.now.core.setup h).requests number }
+    {
+        self.core.would_find(number)
     }
 
     /// The set-up of the rings and files.

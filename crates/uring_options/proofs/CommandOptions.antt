@@ -60,19 +60,25 @@ record AreRules (rules : List Rule) : Type 0 where
   workers : HasParser (codes "workers") (Signed (pos 1) (pos 8)) rules
   graph : HasParser (codes "graph") vp.Bool rules
   timeline : HasParser (codes "timeline") vp.Bool rules
+  echo : HasParser (codes "echo") vp.Bool rules
+  every : HasParser (codes "all") vp.Bool rules
+  apart : HasParser (codes "apart") vp.Bool rules
 
 trace_rules : AreRules trace_shape.rules
 trace_rules = record {
-  plain = (refl, (refl, (refl, (refl, (refl, (refl, tt))))));
-  defaults = (refl, (refl, (refl, (refl, (refl, (refl, tt))))));
-  sq = ((λ _. refl), ((λ e. other_name e), ((λ e. other_name e), ((λ e. other_name e), ((λ e. other_name e), ((λ e. other_name e), tt))))));
-  cq = ((λ e. other_name e), ((λ _. refl), ((λ e. other_name e), ((λ e. other_name e), ((λ e. other_name e), ((λ e. other_name e), tt))))));
-  files = ((λ e. other_name e), ((λ e. other_name e), ((λ _. refl), ((λ e. other_name e), ((λ e. other_name e), ((λ e. other_name e), tt))))));
-  start = ((λ e. other_name e), ((λ e. other_name e), ((λ e. other_name e), ((λ _. refl), ((λ e. other_name e), ((λ e. other_name e), tt))))));
-  stop = ((λ e. other_name e), ((λ e. other_name e), ((λ e. other_name e), ((λ e. other_name e), ((λ _. refl), ((λ e. other_name e), tt))))));
-  workers = ((λ e. other_name e), ((λ e. other_name e), ((λ e. other_name e), ((λ e. other_name e), ((λ e. other_name e), ((λ e. other_name e), tt))))));
-  graph = ((λ e. other_name e), ((λ e. other_name e), ((λ e. other_name e), ((λ e. other_name e), ((λ e. other_name e), ((λ e. other_name e), tt))))));
-  timeline = ((λ e. other_name e), ((λ e. other_name e), ((λ e. other_name e), ((λ e. other_name e), ((λ e. other_name e), ((λ e. other_name e), tt))))));
+  plain = (refl, (refl, (refl, (refl, (refl, (refl, (refl, tt)))))));
+  defaults = (refl, (refl, (refl, (refl, (refl, (refl, (refl, tt)))))));
+  sq = ((λ _. refl), ((λ e. other_name e), ((λ e. other_name e), ((λ e. other_name e), ((λ e. other_name e), ((λ e. other_name e), ((λ e. other_name e), tt)))))));
+  cq = ((λ e. other_name e), ((λ _. refl), ((λ e. other_name e), ((λ e. other_name e), ((λ e. other_name e), ((λ e. other_name e), ((λ e. other_name e), tt)))))));
+  files = ((λ e. other_name e), ((λ e. other_name e), ((λ _. refl), ((λ e. other_name e), ((λ e. other_name e), ((λ e. other_name e), ((λ e. other_name e), tt)))))));
+  start = ((λ e. other_name e), ((λ e. other_name e), ((λ e. other_name e), ((λ _. refl), ((λ e. other_name e), ((λ e. other_name e), ((λ e. other_name e), tt)))))));
+  stop = ((λ e. other_name e), ((λ e. other_name e), ((λ e. other_name e), ((λ e. other_name e), ((λ _. refl), ((λ e. other_name e), ((λ e. other_name e), tt)))))));
+  workers = ((λ e. other_name e), ((λ e. other_name e), ((λ e. other_name e), ((λ e. other_name e), ((λ e. other_name e), ((λ e. other_name e), ((λ e. other_name e), tt)))))));
+  graph = ((λ e. other_name e), ((λ e. other_name e), ((λ e. other_name e), ((λ e. other_name e), ((λ e. other_name e), ((λ e. other_name e), ((λ e. other_name e), tt)))))));
+  timeline = ((λ e. other_name e), ((λ e. other_name e), ((λ e. other_name e), ((λ e. other_name e), ((λ e. other_name e), ((λ e. other_name e), ((λ e. other_name e), tt)))))));
+  echo = ((λ e. other_name e), ((λ e. other_name e), ((λ e. other_name e), ((λ e. other_name e), ((λ e. other_name e), ((λ _. refl), ((λ e. other_name e), tt)))))));
+  every = ((λ e. other_name e), ((λ e. other_name e), ((λ e. other_name e), ((λ e. other_name e), ((λ e. other_name e), ((λ e. other_name e), ((λ e. other_name e), tt)))))));
+  apart = ((λ e. other_name e), ((λ e. other_name e), ((λ e. other_name e), ((λ e. other_name e), ((λ e. other_name e), ((λ e. other_name e), ((λ e. other_name e), tt)))))));
 }
 
 explain_rules : AreRules explain_shape.rules
@@ -87,6 +93,26 @@ explain_rules = record {
   workers = ((λ e. other_name e), ((λ e. other_name e), ((λ e. other_name e), ((λ e. other_name e), ((λ e. other_name e), ((λ e. other_name e), ((λ e. other_name e), ((λ e. other_name e), tt))))))));
   graph = ((λ e. other_name e), ((λ e. other_name e), ((λ e. other_name e), ((λ e. other_name e), ((λ e. other_name e), ((λ _. refl), ((λ e. other_name e), ((λ e. other_name e), tt))))))));
   timeline = ((λ e. other_name e), ((λ e. other_name e), ((λ e. other_name e), ((λ e. other_name e), ((λ e. other_name e), ((λ e. other_name e), ((λ _. refl), ((λ e. other_name e), tt))))))));
+  echo = ((λ e. other_name e), ((λ e. other_name e), ((λ e. other_name e), ((λ e. other_name e), ((λ e. other_name e), ((λ e. other_name e), ((λ e. other_name e), ((λ e. other_name e), tt))))))));
+  every = ((λ e. other_name e), ((λ e. other_name e), ((λ e. other_name e), ((λ e. other_name e), ((λ e. other_name e), ((λ e. other_name e), ((λ e. other_name e), ((λ e. other_name e), tt))))))));
+  apart = ((λ e. other_name e), ((λ e. other_name e), ((λ e. other_name e), ((λ e. other_name e), ((λ e. other_name e), ((λ e. other_name e), ((λ e. other_name e), ((λ e. other_name e), tt))))))));
+}
+
+check_rules : AreRules check_shape.rules
+check_rules = record {
+  plain = (refl, (refl, (refl, (refl, (refl, (refl, (refl, (refl, tt))))))));
+  defaults = (refl, (refl, (refl, (refl, (refl, (refl, (refl, (refl, tt))))))));
+  sq = ((λ _. refl), ((λ e. other_name e), ((λ e. other_name e), ((λ e. other_name e), ((λ e. other_name e), ((λ e. other_name e), ((λ e. other_name e), ((λ e. other_name e), tt))))))));
+  cq = ((λ e. other_name e), ((λ _. refl), ((λ e. other_name e), ((λ e. other_name e), ((λ e. other_name e), ((λ e. other_name e), ((λ e. other_name e), ((λ e. other_name e), tt))))))));
+  files = ((λ e. other_name e), ((λ e. other_name e), ((λ _. refl), ((λ e. other_name e), ((λ e. other_name e), ((λ e. other_name e), ((λ e. other_name e), ((λ e. other_name e), tt))))))));
+  start = ((λ e. other_name e), ((λ e. other_name e), ((λ e. other_name e), ((λ _. refl), ((λ e. other_name e), ((λ e. other_name e), ((λ e. other_name e), ((λ e. other_name e), tt))))))));
+  stop = ((λ e. other_name e), ((λ e. other_name e), ((λ e. other_name e), ((λ e. other_name e), ((λ _. refl), ((λ e. other_name e), ((λ e. other_name e), ((λ e. other_name e), tt))))))));
+  workers = ((λ e. other_name e), ((λ e. other_name e), ((λ e. other_name e), ((λ e. other_name e), ((λ e. other_name e), ((λ e. other_name e), ((λ e. other_name e), ((λ e. other_name e), tt))))))));
+  graph = ((λ e. other_name e), ((λ e. other_name e), ((λ e. other_name e), ((λ e. other_name e), ((λ e. other_name e), ((λ e. other_name e), ((λ e. other_name e), ((λ e. other_name e), tt))))))));
+  timeline = ((λ e. other_name e), ((λ e. other_name e), ((λ e. other_name e), ((λ e. other_name e), ((λ e. other_name e), ((λ e. other_name e), ((λ e. other_name e), ((λ e. other_name e), tt))))))));
+  echo = ((λ e. other_name e), ((λ e. other_name e), ((λ e. other_name e), ((λ e. other_name e), ((λ e. other_name e), ((λ e. other_name e), ((λ e. other_name e), ((λ e. other_name e), tt))))))));
+  every = ((λ e. other_name e), ((λ e. other_name e), ((λ e. other_name e), ((λ e. other_name e), ((λ e. other_name e), ((λ _. refl), ((λ e. other_name e), ((λ e. other_name e), tt))))))));
+  apart = ((λ e. other_name e), ((λ e. other_name e), ((λ e. other_name e), ((λ e. other_name e), ((λ e. other_name e), ((λ e. other_name e), ((λ _. refl), ((λ e. other_name e), tt))))))));
 }
 
 play_rules : AreRules play_shape.rules
@@ -101,6 +127,9 @@ play_rules = record {
   workers = ((λ e. other_name e), ((λ e. other_name e), ((λ e. other_name e), ((λ e. other_name e), ((λ _. refl), ((λ e. other_name e), tt))))));
   graph = ((λ e. other_name e), ((λ e. other_name e), ((λ e. other_name e), ((λ e. other_name e), ((λ e. other_name e), ((λ e. other_name e), tt))))));
   timeline = ((λ e. other_name e), ((λ e. other_name e), ((λ e. other_name e), ((λ e. other_name e), ((λ e. other_name e), ((λ e. other_name e), tt))))));
+  echo = ((λ e. other_name e), ((λ e. other_name e), ((λ e. other_name e), ((λ e. other_name e), ((λ e. other_name e), ((λ e. other_name e), tt))))));
+  every = ((λ e. other_name e), ((λ e. other_name e), ((λ e. other_name e), ((λ e. other_name e), ((λ e. other_name e), ((λ e. other_name e), tt))))));
+  apart = ((λ e. other_name e), ((λ e. other_name e), ((λ e. other_name e), ((λ e. other_name e), ((λ e. other_name e), ((λ e. other_name e), tt))))));
 }
 
 -- ---- what rows give
@@ -117,6 +146,12 @@ pub record HasNumbers (rows : List Row) : Type 0 where
   pub graph_given : IsGiven rows (codes "graph") draws
   pub times : Bool
   pub timeline_given : IsGiven rows (codes "timeline") times
+  pub echoes : Bool
+  pub echo_given : IsGiven rows (codes "echo") echoes
+  pub is_all : Bool
+  pub all_given : IsGiven rows (codes "all") is_all
+  pub is_apart : Bool
+  pub apart_given : IsGiven rows (codes "apart") is_apart
 
 -- no option, no number
 abbrev pub no_numbers : HasNumbers []
@@ -131,6 +166,12 @@ no_numbers = record {
   graph_given = inl refl;
   times = false;
   timeline_given = inl refl;
+  echoes = false;
+  echo_given = inl refl;
+  is_all = false;
+  all_given = inl refl;
+  is_apart = false;
+  apart_given = inl refl;
 }
 
 rows_numbers : (rules : List Rule) (rows : List Row) → AreRules rules → Each (IsRowOf rules) rows → HasNumbers rows
@@ -142,6 +183,9 @@ rows_numbers rules rows are each =
     let stop = flag_given rules rows (codes "stop") are.stop each in
     let graph = flag_given rules rows (codes "graph") are.graph each in
     let timeline = flag_given rules rows (codes "timeline") are.timeline each in
+    let echo = flag_given rules rows (codes "echo") are.echo each in
+    let every = flag_given rules rows (codes "all") are.every each in
+    let apart = flag_given rules rows (codes "apart") are.apart each in
     let workers = option_given rules rows (codes "workers") 1 8 are.workers each in
     record {
       numbers = record { sq = sq.0; cq = cq.0; files = files.0; start = start.0 };
@@ -161,6 +205,12 @@ rows_numbers rules rows are each =
       graph_given = graph.1;
       times = timeline.0;
       timeline_given = timeline.1;
+      echoes = echo.0;
+      echo_given = echo.1;
+      is_all = every.0;
+      all_given = every.1;
+      is_apart = apart.0;
+      apart_given = apart.1;
     }
 
 trace_numbers : (words : List Text) → level_fault trace_shape [] nothing_held words false [] ≡ [] → HasNumbers (rows_after trace_shape.rules [] words)
@@ -170,7 +220,7 @@ explain_numbers : (words : List Text) → level_fault explain_shape [] nothing_h
 explain_numbers words passes = rows_numbers explain_shape.rules (rows_after explain_shape.rules [] words) explain_rules (rows_of_rules explain_shape.rules explain_rules.plain explain_shape words refl refl explain_rules.defaults passes)
 
 check_numbers : (words : List Text) → level_fault check_shape [] nothing_held words false [] ≡ [] → HasNumbers (rows_after check_shape.rules [] words)
-check_numbers words passes = rows_numbers trace_shape.rules (rows_after check_shape.rules [] words) trace_rules (rows_of_rules trace_shape.rules trace_rules.plain check_shape words refl refl trace_rules.defaults passes)
+check_numbers words passes = rows_numbers check_shape.rules (rows_after check_shape.rules [] words) check_rules (rows_of_rules check_shape.rules check_rules.plain check_shape words refl refl check_rules.defaults passes)
 
 play_numbers : (words : List Text) → level_fault play_shape [] nothing_held words false [] ≡ [] → HasNumbers (rows_after play_shape.rules [] words)
 play_numbers words passes = rows_numbers play_shape.rules (rows_after play_shape.rules [] words) play_rules (rows_of_rules play_shape.rules play_rules.plain play_shape words refl refl play_rules.defaults passes)

@@ -43,12 +43,17 @@ with_set_up_of app = with_rule (with_numbers_of app) (flag_rule (codes "stop"))
 abbrev pub with_pictures_of : App → App
 with_pictures_of app = with_rule (with_rule app (flag_rule (codes "graph"))) (flag_rule (codes "timeline"))
 
--- `uring trace`, and `uring check` with the same options
-abbrev pub trace_app : App
-trace_app = with_set_up_of (new_app (codes "trace"))
+-- a command with the options of a check
+abbrev pub with_checks_of : App → App
+with_checks_of app = with_rule (with_rule app (flag_rule (codes "all"))) (flag_rule (codes "apart"))
 
+-- `uring trace`, with the option by which steps are written too
+abbrev pub trace_app : App
+trace_app = with_rule (with_set_up_of (new_app (codes "trace"))) (flag_rule (codes "echo"))
+
+-- `uring check`
 abbrev pub check_app : App
-check_app = with_set_up_of (new_app (codes "check"))
+check_app = with_checks_of (with_set_up_of (new_app (codes "check")))
 
 -- `uring explain`, which has the options of the pictures as well
 abbrev pub explain_app : App
@@ -153,11 +158,11 @@ IsTracedOver rows n s = IsSetupOver n (record s { stops = false }) × IsGiven ro
 
 -- what a command runs, over the set-up that these rows and numbers give: `uring explain` the graph where `--graph` is given, else the timeline where `--timeline` is, and else the answers
 abbrev pub IsRunOver : Run → List Row → Numbers → Options → Type 0
-IsRunOver run rows n (Trace s) = (run ≡ Traces) × IsTracedOver rows n s
+IsRunOver run rows n (Trace s echo) = (run ≡ Traces) × IsTracedOver rows n s × IsGiven rows (codes "echo") echo
 IsRunOver run rows n (Explain s) = (run ≡ Explains) × IsTracedOver rows n s × IsGiven rows (codes "graph") false × IsGiven rows (codes "timeline") false
 IsRunOver run rows n (Graph s) = (run ≡ Explains) × IsTracedOver rows n s × IsGiven rows (codes "graph") true
 IsRunOver run rows n (Timeline s) = (run ≡ Explains) × IsTracedOver rows n s × IsGiven rows (codes "graph") false × IsGiven rows (codes "timeline") true
-IsRunOver run rows n (Check s) = (run ≡ Checks) × IsTracedOver rows n s
+IsRunOver run rows n (Check s all apart) = (run ≡ Checks) × IsTracedOver rows n s × IsGiven rows (codes "all") all × IsGiven rows (codes "apart") apart
 IsRunOver run rows n (Play s workers) = (run ≡ Plays) × IsSetupOver n s × AreWorkers rows workers
 
 -- a completion ring is given, and is smaller after rounding than the submission ring

@@ -8,7 +8,11 @@ use uring_entry::Setup;
 #[derive(Clone, Copy, Debug, Drop, PartialEq, Eq)]
 pub enum Options {
     /// `uring trace`, or `uring` alone: a trace over this set-up.
-    Trace(Setup),
+    Trace {
+        setup: Setup,
+        /// Whether each answer follows its step on a line (`--echo`).
+        is_echo: bool,
+    },
 
     /// `uring explain`: an explained trace over this set-up.
     Explain(Setup),
@@ -20,7 +24,13 @@ pub enum Options {
     Timeline(Setup),
 
     /// `uring check`: the check of a recorded trace over this set-up.
-    Check(Setup),
+    Check {
+        setup: Setup,
+        /// Whether the lines behind a wrong one are looked at too (`--all`).
+        is_all: bool,
+        /// Whether a running request may end with any result, and gives no bytes (`--apart`).
+        is_apart: bool,
+    },
 
     /// `uring play`: a play over this set-up, with so many workers, 1 to 8.
     Play(Setup, u32),

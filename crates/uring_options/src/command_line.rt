@@ -3,7 +3,7 @@
 ghost use Rattle.std.specs.Prelude.{◌≡◌, ◌↔◌, ℕ, Bool, Option, codes, [], ◌∷◌, IfOk, IfErr, IsErrOf, IsErrAnd, false, if◌then◌else◌};
 ghost use Rattle.clap.specs.Words.{FailsBy, HasMatchesOf, fault_of, found_of, kind_of, rows_of};
 ghost use Rattle.clap.specs.Walk.{texts};
-ghost use Rattle.uring_options.specs.CommandLine.{uring, Gives, IsWithin, Numbers, AreInRange, GivesNumbers, GivesWorkers, AreWorkers, IsSetupOver, IsGiven, IsTracedOver, IsRunOver, Explains, IsTooSmall, AskFor, AskForTooSmall, IsWords, IsMemory, IsFaultOf};
+ghost use Rattle.uring_options.specs.CommandLine.{uring, Gives, IsWithin, Numbers, AreInRange, GivesNumbers, GivesWorkers, AreWorkers, IsSetupOver, IsGiven, IsTracedOver, IsRunOver, Traces, Explains, Checks, IsTooSmall, AskFor, AskForTooSmall, IsWords, IsMemory, IsFaultOf};
 
 use crate::answers::{Options, OptionsFault};
 use crate::commands::uring_command;
@@ -24,7 +24,7 @@ const DEFAULT_START: u32 = 0;
 /// Workers of a play if the command line doesn't say.
 const DEFAULT_WORKERS: u32 = 2;
 
-/// Reads a command line, whose first word is the program's name: `uring`, or `uring trace`, `uring explain`, `uring check` or `uring play` with options for the entries of the submission ring (`--sq`, 1 to 4,096, else 4) and of the completion ring (`--cq`, 1 to 8,192, else twice as many), for the files (`--files`, 1 to 64, else 2) and for the word at which both rings begin (`--start`, 32 bits, else 0). A play takes one more for its workers (`--workers`, 1 to 8, else 2), and the others one by which submission calls stop behind an entry with a fault (`--stop`, else they go on). An explained trace takes two for pictures in place of the answers (`--graph`, which goes before `--timeline`). Our own rule.
+/// Reads a command line, whose first word is the program's name: `uring`, or `uring trace`, `uring explain`, `uring check` or `uring play` with options for the entries of the submission ring (`--sq`, 1 to 4,096, else 4) and of the completion ring (`--cq`, 1 to 8,192, else twice as many), for the files (`--files`, 1 to 64, else 2) and for the word at which both rings begin (`--start`, 32 bits, else 0). A play takes one more for its workers (`--workers`, 1 to 8, else 2), and the others one by which submission calls stop behind an entry with a fault (`--stop`, else they go on). A trace takes one by which its steps are written too (`--echo`), an explained trace two for pictures in place of the answers (`--graph`, which goes before `--timeline`), and a check one by which all wrong lines are told (`--all`) and one by which ends may be any (`--apart`). Our own rule.
 ///
 /// `Small` comes if the options give a completion ring that is smaller after rounding than the submission ring. `Words` comes for any other fault of the words, a number out of its range among them, for a call for help, and where memory is refused. Numbers may have a leading `+` or leading zeros.
 pub fn options<'a>(alloc: Global, args: &'a [&'a str]) -> Result<Options, OptionsFault>
@@ -43,14 +43,17 @@ pub fn options<'a>(alloc: Global, args: &'a [&'a str]) -> Result<Options, Option
         return explained(matches);
     }
     if let Some(matches) = matches.subcommand_matches("check") {
-        return Ok(Options::Check(traced_setup_of(matches)?));
+        return checked(matches);
     }
     if let Some(matches) = matches.subcommand_matches("play") {
         return Ok(Options::Play(setup_of(matches)?, workers_of(matches)));
     }
     match matches.subcommand_matches("trace") {
-        Some(matches) => Ok(Options::Trace(traced_setup_of(matches)?)),
-        None => Ok(Options::Trace(setup_over(None, None, None, None)?)),
+        Some(matches) => traced(matches),
+        None => Ok(Options::Trace {
+            setup: setup_over(None, None, None, None)?,
+            is_echo: false,
+        }),
     }
 }
 
@@ -60,6 +63,38 @@ fn matches_of<'a>(alloc: Global, args: &'a [&'a str]) -> Result<ArgMatches<'a>, 
     ensures kinds { FailsBy (fault_of uring (texts args.now)) result }
 {
     uring_command(alloc)?.try_get_matches_from(args)
+}
+
+/// What the options of `uring trace` ask for.
+fn traced(matches: &ArgMatches<'_>) -> Result<Options, OptionsFault>
+    requires numbers { (n : Numbers) × GivesNumbers (rows_of (found_of matches.now)) n }
+    requires stop { (stops : Bool) × IsGiven (rows_of (found_of matches.now)) (codes "stop") stops }
+    requires echo { (given : Bool) × IsGiven (rows_of (found_of matches.now)) (codes "echo") given }
+    ensures ok { IfOk result (λ o. (n : Numbers) × GivesNumbers (rows_of (found_of matches.now)) n × IsRunOver Traces (rows_of (found_of matches.now)) n o) }
+    ensures err { IfErr result (λ e. (e ≡ OptionsFault.Small) × ((n : Numbers) × GivesNumbers (rows_of (found_of matches.now)) n × IsTooSmall n)) }
+{
+    let setup = traced_setup_of(matches)?;
+    let is_echo = is_given(matches, "echo");
+    Ok(Options::Trace { setup, is_echo })
+}
+
+/// What the options of `uring check` ask for.
+fn checked(matches: &ArgMatches<'_>) -> Result<Options, OptionsFault>
+    requires numbers { (n : Numbers) × GivesNumbers (rows_of (found_of matches.now)) n }
+    requires stop { (stops : Bool) × IsGiven (rows_of (found_of matches.now)) (codes "stop") stops }
+    requires every { (given : Bool) × IsGiven (rows_of (found_of matches.now)) (codes "all") given }
+    requires apart { (given : Bool) × IsGiven (rows_of (found_of matches.now)) (codes "apart") given }
+    ensures ok { IfOk result (λ o. (n : Numbers) × GivesNumbers (rows_of (found_of matches.now)) n × IsRunOver Checks (rows_of (found_of matches.now)) n o) }
+    ensures err { IfErr result (λ e. (e ≡ OptionsFault.Small) × ((n : Numbers) × GivesNumbers (rows_of (found_of matches.now)) n × IsTooSmall n)) }
+{
+    let setup = traced_setup_of(matches)?;
+    let is_all = is_given(matches, "all");
+    let is_apart = is_given(matches, "apart");
+    Ok(Options::Check {
+        setup,
+        is_all,
+        is_apart,
+    })
 }
 
 /// What the options of `uring explain` ask for.

@@ -4,7 +4,7 @@ ghost use Rattle.std.specs.Prelude.{◌≡◌, codes, IfOk, false};
 ghost use Rattle.clap.specs.Words.{app_of, rule_of, with_rule};
 ghost use Rattle.clap.specs.Simple.{with_subcommand};
 ghost use Rattle.clap.specs.declared.builder.command.Command.TheViews.{out-Command};
-ghost use Rattle.uring_options.specs.CommandLine.{option_rule, flag_rule, with_numbers_of, with_set_up_of, with_pictures_of, trace_app, explain_app, check_app, play_app, uring};
+ghost use Rattle.uring_options.specs.CommandLine.{option_rule, flag_rule, with_numbers_of, with_set_up_of, with_pictures_of, with_checks_of, trace_app, explain_app, check_app, play_app, uring};
 
 use crate::helps::{ITEMS, REASONS, RECORDS, STEPS};
 use clap::builder::ValueParser;
@@ -41,7 +41,12 @@ fn trace_command<'a>(alloc: Global) -> Result<Command<'a>, AllocError>
     let command = Command::new(alloc, "trace")
         .about("Read steps from standard input, a line each, and write the answer to each")
         .after_help(STEPS);
-    with_set_up(alloc, command)
+    with_flag(
+        alloc,
+        with_set_up(alloc, command)?,
+        "echo",
+        "Write each step before its answer, as check reads them",
+    )
 }
 
 /// The command line of `uring explain`.
@@ -65,7 +70,7 @@ fn check_command<'a>(alloc: Global) -> Result<Command<'a>, AllocError>
             "Read a recorded trace, a step with its answer on each line, and tell whether it is lawful",
         )
         .after_help(RECORDS);
-    with_set_up(alloc, command)
+    with_checks(alloc, with_set_up(alloc, command)?)
 }
 
 /// The command line of `uring play`.
@@ -102,6 +107,25 @@ fn with_pictures<'a>(alloc: Global, command: Command<'a>) -> Result<Command<'a>,
         command,
         "timeline",
         "Write no answers, but a row for each request, with the lines at which it moved",
+    )
+}
+
+/// The command with the options of a check.
+fn with_checks<'a>(alloc: Global, command: Command<'a>) -> Result<Command<'a>, AllocError>
+    ensures app { IfOk result (λ more. app_of more ≡ with_checks_of (app_of command.entry)) }
+    ensures local { IfOk result (λ more. (out-Command more).has_globals ≡ (out-Command command.entry).has_globals) }
+{
+    let command = with_flag(
+        alloc,
+        command,
+        "all",
+        "Go on behind a wrong line, as though the one answer that was called for had been given",
+    )?;
+    with_flag(
+        alloc,
+        command,
+        "apart",
+        "Let a running request end with any result, and give no data: ended RES",
     )
 }
 

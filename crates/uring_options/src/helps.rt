@@ -25,7 +25,8 @@ Steps, a line each, and their answers:
   cqhead         store the completion ring's head: head N
   close          close the ring: ok, in call
   next           name the request to be issued next: next N, none
-Any other line is answered bad line, and is no step.
+Any other line is answered bad line, and is no step. With --echo a step is
+written before its answer, STEP = ANSWER, so that check reads what is written.
 
 Requests are numbered from 0 on, in the order in which they are accepted, over
 all calls: NUM is that number. A dropped word has none, a faulty entry has one.
@@ -47,6 +48,7 @@ not running, stand two spaces, # and the reason:
   doomed: M of its group has a fault
   doomed: M failed before it
   doomed: a cancel chose it
+  of a cancel of one: chose M, M is running, found none
 A line that is empty or begins with # is passed over. Any other that is no step
 is answered bad line, and told on standard error with its number; the status at
 the end is then 4.
@@ -76,7 +78,15 @@ passed over. All input is read before anything is written:
   why: NUM REASON    of an issue or a finish, how its request stands, in the
                      words of explain
   line K: bad line   before any such line, this one is no step with an answer
-The status is 0, 3 and 4 in this order.";
+The status is 0, 3 and 4 in this order.
+
+With --all the lines behind a wrong one are looked at too, and each wrong one is
+told: the one answer that was called for counts as given, and if there are more
+than one, the step counts as not made. A bad line ends the check even so.
+
+With --apart the trace is that of a ring without files: a running request may
+end with any result, ended RES, and no data is given: reap = cqe UD RES -. What
+is wanted there is: an end.";
 
 /// The lines of a play, for its help.
 pub(crate) const ITEMS: &str = "\

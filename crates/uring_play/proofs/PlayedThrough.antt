@@ -18,9 +18,8 @@ use Rattle.uring_threads.specs.Items.{all_published_as}
 use Rattle.uring_threads.specs.Kept.{now}
 use Rattle.uring_threads.specs.Kernel.{Kernel, IsIdle}
 use Rattle.uring_threads.specs.Ports.{Put, items_of_calls}
-use Rattle.uring_threads.specs.Report.{Report, AreTogether, left_by, FinishesAll, PublishesItems, ClosesOnlyAllTaken, DeliversReaped, ReapsPosted}
+use Rattle.uring_threads.specs.Report.{Report, AreTogether, left_by, FinishesAll, PublishesItems, ClosesOnlyAllTaken, DeliversReaped, ReapsPosted, all_waiting}
 use Rattle.uring_threads.specs.Settled.{finish_of}
-use Rattle.uring_threads.specs.SettledWorker.{all_waiting}
 use Rattle.uring_threads.specs.Worker.{Worker}
 use Rattle.uring_threads.specs.declared.item.Item.{Item}
 use Rattle.uring_threads.specs.declared.job.JobResult.{JobResult}

@@ -1,12 +1,16 @@
--- What each thread of a play leaves of the end that it was given. All of it is our own rule.
-use Rattle.std.specs.Prelude.{◌≡◌, ℕ, true, List, length, map}
+-- What each thread of a play leaves of the end that it was given, and a play that is whole. All of it is our own rule.
+use Rattle.std.specs.Prelude.{◌≡◌, ℕ, Bool, true, List, [], ◌++◌, length, map}
 use Rattle.std.specs.declared.thread.PromisedHandle.{PromisedHandle}
+use Rattle.uring_entry.specs.Layout.{Cqe}
+use Rattle.uring_entry.specs.Requests.{outstanding_in}
 use Rattle.uring_threads.specs.AppEnd.{AppEnd}
 use Rattle.uring_threads.specs.Dispatched.{numbers_of_lanes}
 use Rattle.uring_threads.specs.Kernel.{Kernel}
+use Rattle.uring_threads.specs.Report.{Report, left_by}
 use Rattle.uring_threads.specs.Worker.{Worker}
 use Rattle.uring_threads.specs.declared.item.Item.{Item}
 use Rattle.uring_play.specs.declared.application.Applied.{Applied}
+use Rattle.uring_play.specs.declared.drive.Played.{Played}
 use Rattle.uring_play.specs.declared.promises.GivesWorker.{GivesWorker}
 
 -- The application's end is still of its pair of ports, and all that it reaped is at hand. If all is done, these calls were submitted, and the end was closed.
@@ -48,3 +52,11 @@ worker_of thread = thread.promise.0.value
 
 abbrev pub workers_of : List WorkerThread → List Worker
 workers_of threads = map worker_of threads
+
+-- The threads did all that was to be done, and settling has left nothing outstanding and nothing that waits: the play has this report, and behind the completions that were received those that weren't.
+pub record IsWhole (is_over : Bool) (report : Report) (received : List Cqe) (played : Played) : Type 0 where
+  pub over : is_over ≡ true
+  pub none_outstanding : outstanding_in (left_by report).requests ≡ 0
+  pub none_waits : report.waiting ≡ []
+  pub report_is : played.report ≡ report
+  pub completions : played.completions.items ≡ received ++ report.undelivered

@@ -3,6 +3,7 @@ ghost use Rattle.std.specs.Prelude.{◌≡◌, ◌<◌, ◌≤◌, ℕ, List, tr
 ghost use Rattle.uring_entry.specs.Requests.{outstanding_in};
 ghost use Rattle.uring_play.specs.Inputs.{lists_of};
 ghost use Rattle.uring_play.specs.Plays.{IsPlay};
+ghost use Rattle.uring_play.specs.Threads.{IsWhole};
 ghost use Rattle.uring_threads.specs.Kept.{now};
 ghost use Rattle.uring_threads.specs.Kernel.{IsIdle};
 ghost use Rattle.uring_threads.specs.Report.{AreTogether, left_by};
@@ -70,13 +71,21 @@ fn settle_all(alloc: Global, ended: Ended) -> Result<Played, AllocError>
         workers,
     } = ended;
     let is_over = are_done(&applied, &kernel);
-    let mut completions = applied.completions;
+    let completions = applied.completions;
     let Ok(report) = settle(alloc, applied.app, kernel, workers) else {
         return Err(AllocError);
     };
+    whole_play(is_over, report, completions)
+}
+
+/// The play of this report, if the threads did all that was to be done, with the completions that weren't received behind these, which were. `AllocError`: they didn't; or out of memory.
+fn whole_play(is_over: bool, report: Report<Open>, received: Vec<Cqe>) -> Result<Played, AllocError>
+    ensures { IfOk result (λ played. IsWhole is_over report received.items played) }
+{
     if !is_over || !is_empty(&report) {
         return Err(AllocError);
     }
+    let mut completions = received;
     completions.extend_from_slice(report.undelivered())?;
     Ok(Played {
         report,

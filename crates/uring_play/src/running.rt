@@ -37,9 +37,59 @@ pub(crate) fn run_threads<R: Threads + Wait + Copy + Send + 'static>(
     ensures dispatcher { IfOk result (λ ended. StaysKernel kernel ended.kernel) }
     ensures workers { IfOk result (λ ended. StayWorkers workers.items ended.workers.items) }
 {
-    let stop = Arc::new(alloc, AtomicBool::new(false))?;
-    let mut started = Vec::with_capacity(alloc, workers.len())?;
-    let back = Vec::with_capacity(alloc, workers.len())?;
+    let rooms = make_rooms(alloc, workers.len())?;
+    run_within(rt, rooms, app, kernel, workers, calls, completions)
+}
+
+/// What the threads of a play need beside its ends.
+#[derive(Drop)]
+struct Rooms {
+    // The workers are to end once they have nothing to do.
+    stop: Arc<AtomicBool>,
+    started: Vec<WorkerThread>,
+    // For the workers that come back.
+    back: Vec<Worker<Open>>,
+}
+
+/// Rooms for so many workers. `AllocError`: out of memory.
+fn make_rooms(alloc: Global, workers: usize) -> Result<Rooms, AllocError>
+    ensures started { IfOk result (λ rooms. rooms.started.items ≡ []) }
+    ensures started_room { IfOk result (λ rooms. workers ≤ vec_capacity rooms.started) }
+    ensures back { IfOk result (λ rooms. rooms.back.items ≡ []) }
+    ensures back_room { IfOk result (λ rooms. workers ≤ vec_capacity rooms.back) }
+{
+    Ok(Rooms {
+        stop: Arc::new(alloc, AtomicBool::new(false))?,
+        started: Vec::with_capacity(alloc, workers)?,
+        back: Vec::with_capacity(alloc, workers)?,
+    })
+}
+
+/// Runs all threads within these rooms, until all have ended.
+fn run_within<R: Threads + Wait + Copy + Send + 'static>(
+    rt: R,
+    rooms: Rooms,
+    app: AppEnd<AppLanes>,
+    kernel: Kernel<KernelLanes>,
+    workers: Vec<Worker<Open>>,
+    calls: Vec<Vec<Item>>,
+    completions: Vec<Cqe>,
+) -> Result<Ended, AllocError>
+    requires submitted { app.submitted ≡ nothing_put }
+    requires reaped { app.received ≡ completions.items }
+    requires started { rooms.started.items ≡ [] }
+    requires started_room { length workers.items ≤ vec_capacity rooms.started }
+    requires back { rooms.back.items ≡ [] }
+    requires back_room { length workers.items ≤ vec_capacity rooms.back }
+    ensures application { IfOk result (λ ended. Applies app (lists_of calls.items) ended.applied) }
+    ensures dispatcher { IfOk result (λ ended. StaysKernel kernel ended.kernel) }
+    ensures workers { IfOk result (λ ended. StayWorkers workers.items ended.workers.items) }
+{
+    let Rooms {
+        stop,
+        mut started,
+        back,
+    } = rooms;
     let ran = run_with_workers(
         rt,
         app,

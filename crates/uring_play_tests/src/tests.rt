@@ -1,3 +1,5 @@
+mod growth;
 mod playing;
 mod reading;
+mod streams;
 mod writing;

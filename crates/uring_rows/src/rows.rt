@@ -28,7 +28,7 @@ pub(crate) fn judge(alloc: Global, setup: &str, steps: &str, wanted: &str) -> Ve
         return Verdict::BadSetup;
     };
     let mut answers = Vec::new(alloc);
-    match trace(alloc, &mut steps.as_bytes(), &mut answers, &setup) {
+    match trace(alloc, &mut steps.as_bytes(), &mut answers, &setup, false) {
         Ok(()) => compare(answers.as_slice(), wanted.as_bytes()),
         Err(fault) => Verdict::Stopped(fault),
     }

@@ -1,5 +1,5 @@
 -- What the lanes of the workers have carried, as the trace goes on.
-use Rattle.std.proofs.Common.{◌≡◌, ◌≢◌, ℕ, ◌<◌, ◌==◌, Bool, cond, List, [], ◌∷◌, ◌++◌, length, get_or, count_by, Some, None, ℤ, refl, sym, subst, ap, ap₂, ◌∙◌, inl, inr, arith, append-nil}
+use Rattle.std.proofs.Common.{◌≡◌, ◌≢◌, ℕ, ◌<◌, ◌≤◌, ◌==◌, Bool, cond, List, [], ◌∷◌, ◌++◌, length, get_or, count_by, Some, None, ℤ, refl, sym, subst, ap, ap₂, ◌∙◌, inl, inr, arith, append-nil}
 use Rattle.std.specs.List.{filter}
 use Rattle.std.proofs.lemmas.Bool.{eq-eqb, ne_eqb, cases_eq}
 use Rattle.std.proofs.lemmas.List.Elements.{filter-append}
@@ -18,18 +18,18 @@ use Rattle.uring_machine.specs.declared.answer.Answer.TheVariants as answer
 use Rattle.uring_machine.proofs.Following.{history_of-cons, history_of-append}
 use Rattle.uring_threads.specs.declared.job.Job.{Job}
 use Rattle.uring_threads.specs.declared.work_lanes.WorkLanes.{WorkLanes}
-use Rattle.uring_threads.specs.Collected.{history, AreTakenIn, Collects, CollectsSeen}
+use Rattle.uring_threads.specs.Collected.{Collects, CollectsSeen}
 use Rattle.uring_threads.specs.declared.job.JobResult.{JobResult}
 use Rattle.std.specs.Prelude.{Result, Ok, Err, IfOk, OnErr}
 use Rattle.std.proofs.Math.ListN.{set}
 use Rattle.std.proofs.lemmas.List.{length-set, get_or-set_same, get_or-set_other}
-use Rattle.uring_threads.specs.Dispatched.{HaveCarried, IsSent}
+use Rattle.uring_threads.specs.Dispatched.{HaveCarried, IsSent, AreTakenIn}
 use Rattle.uring_threads.specs.Issued.{IssuedAs}
 use Rattle.uring_threads.specs.Delivered.{OnlyPosts}
 use Rattle.uring_threads.proofs.Posting.{end_posts}
 use Rattle.uring_threads.proofs.TraceSteps.{grown}
-use Rattle.uring_threads.specs.Kept.{Kept, now, Grows}
-use Rattle.uring_threads.specs.Tallies.{Tally, Appends, issues_request, takes_result}
+use Rattle.uring_threads.specs.Kept.{Kept, now, Grows, history}
+use Rattle.uring_threads.specs.Tallies.{Tally, Appends, issues_request, most_results, takes_result}
 use Rattle.uring_threads.specs.Work.{place_of, job_by, jobs_in, jobs_at, jobs_to, done_by_worker, results_of}
 use Rattle.rtrb.specs.Ring.{sent, received}
 use Rattle.uring_threads.proofs.Collecting.{grown_history}
@@ -160,9 +160,9 @@ carried_collected a b n place old new carried p many here others = λ k d within
     ]
 
 -- so some were, also where memory was refused
-pub some_collected : {E : Type 0} (r : Result ℕ E) (a b : Kept) (workers place : ℕ) (seen : List JobResult) → IfOk r (λ n. CollectsSeen a b workers place n seen) → OnErr r ((n : ℕ) × Collects a b workers place n) → (n : ℕ) × Collects a b workers place n
+pub some_collected : {E : Type 0} (r : Result ℕ E) (a b : Kept) (workers place : ℕ) (seen : List JobResult) → IfOk r (λ n. CollectsSeen a b workers place n seen) → OnErr r ((n : ℕ) × (n ≤ most_results) × Collects a b workers place n) → (n : ℕ) × Collects a b workers place n
 some_collected (Ok n) a b workers place seen ok err = (n, ok.collected)
-some_collected (Err e) a b workers place seen ok err = err
+some_collected (Err e) a b workers place seen ok (n, most, collected) = (n, collected)
 
 -- with these lanes in their place
 pub carried_set : (a b : Kept) (n place : ℕ) (old : List WorkLanes) (y d : WorkLanes) → HaveCarried a old → place < length old → Collects a b (length old) place n → y.jobs ≡ (get_or old place d).jobs → AreTakenIn b (length old) place (received y.results)

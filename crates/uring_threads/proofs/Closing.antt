@@ -5,7 +5,8 @@ use Rattle.uring_machine.specs.Histories.{Event}
 use Rattle.uring_machine.specs.declared.step.Step.TheVariants as step
 use Rattle.uring_machine.specs.declared.answer.Answer.{Answer}
 use Rattle.uring_threads.specs.Kept.{Kept, Grows, IsUnmoved}
-use Rattle.uring_threads.specs.Taking.{ClosesOnce, intake_after}
+use Rattle.uring_threads.specs.Taking.{intake_after}
+use Rattle.uring_threads.specs.Turns.{ClosesOnce}
 use Rattle.uring_threads.specs.Tallies.{Tally, Appends, closes_ring}
 use Rattle.uring_threads.specs.declared.calls.Begun.{Begun}
 use Rattle.uring_threads.specs.declared.calls.Begun.TheVariants as begun

@@ -1,8 +1,8 @@
 -- What is sent and taken in, as a result is taken in: the operation is the last of its worker's, and all else stays.
-use Rattle.std.proofs.Common.{◌≡◌, ℕ, ◌+◌, ◌<◌, arith, Bool, true, false, List, [], ◌∷◌, ◌++◌, if◌then◌else◌, refl, sym, subst, ap, ap₂, ◌∙◌}
+use Rattle.std.proofs.Common.{◌≡◌, ℕ, ◌+◌, ◌<◌, arith, Bool, true, false, List, [], ◌∷◌, ◌++◌, length, if◌then◌else◌, refl, sym, subst, ap, ap₂, ◌∙◌}
 use Rattle.std.specs.Prelude.{slice_index_or, Result, Ok, Err, OnErr}
 use mathlib.Core.List.{IsPrefix}
-use Rattle.std.proofs.lemmas.List.{map-append}
+use Rattle.std.proofs.lemmas.List.{map-append, length_push}
 use Rattle.uring_entry.specs.Preparation.{operation_of}
 use Rattle.uring_entry.specs.Requests.{entry_of, is_running}
 use Rattle.uring_entry.specs.declared.operation.Outcome.{Outcome}
@@ -14,12 +14,13 @@ use Rattle.uring_machine.specs.declared.answer.Answer.{Answer}
 use Rattle.uring_machine.specs.declared.answer.Answer.TheVariants as answer
 use Rattle.uring_machine.proofs.Following.{history_of-snoc}
 use Rattle.uring_threads.specs.declared.job.JobResult.{JobResult}
-use Rattle.uring_threads.specs.Collected.{history, CanBeTaken, OthersStay, AreTakenIn, Collects, CollectsNext, CollectsSeen, NextStays, TakesNext, Wait}
+use Rattle.uring_threads.specs.Collected.{CanBeTaken, OthersStay, Collects, CollectsNext, CollectsSeen, NextStays, TakesNext, Wait}
+use Rattle.uring_threads.specs.Dispatched.{AreTakenIn}
 use Rattle.uring_threads.specs.Delivered.{OnlyPosts}
-use Rattle.uring_threads.specs.Kept.{Kept, now, Grows, IsUnmoved}
+use Rattle.uring_threads.specs.Kept.{Kept, now, Grows, IsUnmoved, history}
 use Rattle.uring_threads.specs.Settled.{IsWork, IsTakenIn, finish_of}
 use Rattle.uring_threads.specs.Work.{place_of, jobs_to, done_by_worker, result_of, results_of}
-use Rattle.uring_threads.specs.Tallies.{finishes_counted}
+use Rattle.uring_threads.specs.Tallies.{finishes_counted, results_taken_in}
 use Rattle.uring_threads.proofs.LeftAt.{done-own, done-other}
 use Rattle.uring_threads.proofs.Posting.{posts_none, posts_then, end_posts}
 use Rattle.uring_threads.proofs.Settling.{results_run}
@@ -49,6 +50,13 @@ module _ (a b : Kept) (workers place : ℕ) (r : JobResult) (can : CanBeTaken a 
       ∙ sym (map-append result_of (done_by_worker a.setup workers place (history a)) (end ∷ []))
       ∙ ap results_of (sym (ap₂ (λ g h. done_by_worker g workers place h) grows.setup (grown_history a b (finish_of r) grows) ∙ done-own (place_of workers a.setup.files) place (done_in a.setup (history a)) end can.own))
 
+  -- so this worker's are one more
+  pub one_taken_in : results_taken_in workers place b ≡ results_taken_in workers place a + 1
+  unfolding end
+  one_taken_in =
+      ap length (ap₂ (λ g h. done_by_worker g workers place h) grows.setup (grown_history a b (finish_of r) grows) ∙ done-own (place_of workers a.setup.files) place (done_in a.setup (history a)) end can.own)
+      ∙ length_push (done_by_worker a.setup workers place (history a)) end
+
   pub others_stay : OthersStay a b workers place
   unfolding end
   others_stay =
@@ -74,6 +82,9 @@ same_others a b workers place u =
 pub then_others : (a b c : Kept) (workers place : ℕ) → OthersStay a b workers place → OthersStay b c workers place → OthersStay a c workers place
 then_others a b c workers place p q = record { jobs = λ k. q.jobs k ∙ p.jobs k; results = λ k other. q.results k other ∙ p.results k other }
 
+pub same_taken_in : (a b : Kept) (workers k : ℕ) → IsUnmoved a b → results_taken_in workers k b ≡ results_taken_in workers k a
+same_taken_in a b workers k u = ap₂ (λ g es. length (done_by_worker g workers k (history_of es))) u.setup u.trace
+
 -- what was taken in was taken in also where nothing happened
 pub same_taken : (a b : Kept) (workers place : ℕ) (results : List JobResult) → IsUnmoved a b → AreTakenIn a workers place results → AreTakenIn b workers place results
 same_taken a b workers place results u taken = taken ∙ sym (ap₂ (λ g es. results_of (done_by_worker g workers place (history_of es))) u.setup u.trace)
@@ -86,7 +97,14 @@ posts_end a b r g =
 
 -- none, and one more
 pub collects_none : (a b : Kept) (workers place : ℕ) → IsUnmoved a b → Collects a b workers place 0
-collects_none a b workers place u = record { tally = appends_none a b u; posts = subst (OnlyPosts (now a)) (sym (unmoved_now a b u)) (posts_none (now a)); idle = λ none. u.trace; others = same_others a b workers place u }
+collects_none a b workers place u =
+    record {
+      tally = appends_none a b u;
+      posts = subst (OnlyPosts (now a)) (sym (unmoved_now a b u)) (posts_none (now a));
+      idle = λ none. u.trace;
+      own = let same : results_taken_in workers place b ≡ results_taken_in workers place a = same_taken_in a b workers place u in omega (arith, same);
+      others = same_others a b workers place u;
+    }
 
 pub collects_then : (a b c : Kept) (workers place n m sum : ℕ) → n + m ≡ sum → Collects a b workers place n → Collects b c workers place m → Collects a c workers place sum
 collects_then a b c workers place n m sum e p q =
@@ -94,13 +112,21 @@ collects_then a b c workers place n m sum e p q =
       tally = appends_then a b c (finishes_counted n) (finishes_counted m) (finishes_counted sum) p.tally q.tally (ap finishes_counted e);
       posts = posts_then (now a) (now b) (now c) p.posts q.posts;
       idle = λ none. q.idle (omega (arith, none, e)) ∙ p.idle (omega (arith, none, e));
+      own = omega (arith, p.own, q.own, e);
       others = then_others a b c workers place p.others q.others;
     }
 
 -- the next one, after more room was asked for
 pub collects_one : (a b c : Kept) (workers place : ℕ) (before after seen : List JobResult) (more : Bool) → IsUnmoved a b → OthersStay b c workers place → TakesNext b c workers place before after seen more → CollectsNext a c workers place seen more
-collects_one a b c workers place before after seen true u others (r, _, _, grows) =
-    collects_then a b c workers place 0 1 1 refl (collects_none a b workers place u) (record { tally = appends_one b c (finish_of r) (finishes_counted 1) grows refl; posts = posts_end b c r grows; idle = λ none. absurd (omega (arith, none)); others = others })
+collects_one a b c workers place before after seen true u others (r, _, can, grows) =
+    collects_then a b c workers place 0 1 1 refl (collects_none a b workers place u)
+    (record {
+      tally = appends_one b c (finish_of r) (finishes_counted 1) grows refl;
+      posts = posts_end b c r grows;
+      idle = λ none. absurd (omega (arith, none));
+      own = one_taken_in b c workers place r can grows;
+      others = others;
+    })
 collects_one a b c workers place before after seen false u others (same, _, stays) = (
   subst (λ k. Collects a k workers place 0) (sym same) (collects_none a b workers place u),
   subst (λ k. NextStays k workers place seen) (sym same) stays,

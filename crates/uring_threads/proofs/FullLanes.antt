@@ -12,9 +12,8 @@ use Rattle.uring_machine.specs.World.{World}
 use Rattle.uring_machine.specs.declared.step.Step.TheVariants as step
 use Rattle.uring_machine.specs.declared.answer.Answer.TheVariants as answer
 use Rattle.uring_machine.proofs.Following.{history_of-cons}
-use Rattle.uring_threads.specs.Collected.{history}
 use Rattle.uring_threads.specs.Dispatched.{HaveCarried, HoldJobs, AreSameLanes, SomeIsFull}
-use Rattle.uring_threads.specs.Kept.{Kept, now}
+use Rattle.uring_threads.specs.Kept.{Kept, now, history}
 use Rattle.uring_threads.specs.Tallies.{Tally, Appends, starts_request}
 use Rattle.uring_threads.specs.Turns.{Counts}
 use Rattle.uring_threads.specs.Work.{place_of, job_in, job_by, jobs_in}

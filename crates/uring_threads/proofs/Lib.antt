@@ -18,6 +18,7 @@ mod Draining
 mod SettledWork
 mod SettledWorkers
 pub mod Carrying
+mod FewResults
 pub mod Posting
 mod WorkerFiles
 pub mod Turning

@@ -9,7 +9,8 @@ use Rattle.uring_threads.specs.Kernel.{Kernel, IsKernel}
 use Rattle.uring_threads.specs.AppEnd.{AppEnd}
 use Rattle.uring_threads.specs.Pairings.{pairing_of}
 use Rattle.uring_threads.specs.Report.{AreTogether, IsSameKernel}
-use Rattle.uring_threads.specs.SettledWorker.{AreLanesOf, HaveFiles, HaveLooked}
+use Rattle.uring_threads.specs.SettledWorker.{HaveFiles, HaveLooked}
+use Rattle.uring_threads.specs.Opening.{AreLanesOf}
 use Rattle.uring_threads.specs.Worker.{Worker}
 use Rattle.uring_threads.specs.declared.work_lanes.WorkLanes.{WorkLanes}
 use Rattle.uring_threads.proofs.Working.{same_ring}

@@ -7,10 +7,10 @@ use Rattle.uring_threads.specs.declared.job.Job.{Job}
 use Rattle.uring_threads.specs.declared.job.JobResult.{JobResult}
 use Rattle.rtrb.specs.Ring.{sent, received}
 use Rattle.uring_threads.specs.declared.work_lanes.WorkLanes.{WorkLanes}
-use Rattle.uring_threads.specs.Collected.{history, TakesAll}
+use Rattle.uring_threads.specs.Collected.{TakesAll}
 use Rattle.uring_threads.specs.Dispatched.{HasCarried}
 use Rattle.uring_threads.specs.SettledWorker.{IsSettledAt}
-use Rattle.uring_threads.specs.Kept.{Kept}
+use Rattle.uring_threads.specs.Kept.{Kept, history}
 use Rattle.uring_threads.specs.Settled.{IsWork, finish_of, with_taken_in}
 use Rattle.uring_threads.specs.Work.{jobs_to, done_by_worker, jobs_of, results_of}
 use Rattle.uring_machine.proofs.Following.{history_of-cons, history_of-append}

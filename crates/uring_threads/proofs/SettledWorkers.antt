@@ -8,11 +8,13 @@ use Rattle.uring_machine.specs.Finishes.{AreDone}
 use Rattle.uring_machine.specs.Histories.{IsLawfulApart}
 use Rattle.uring_threads.specs.declared.job.JobResult.{JobResult}
 use Rattle.uring_threads.specs.declared.work_lanes.WorkLanes.{WorkLanes}
-use Rattle.uring_threads.specs.Collected.{history, OthersStay, TakesAll}
+use Rattle.uring_threads.specs.Collected.{OthersStay, TakesAll}
 use Rattle.uring_threads.specs.Dispatched.{HasCarried, HaveCarried}
-use Rattle.uring_threads.specs.Kept.{Kept}
+use Rattle.uring_threads.specs.Kept.{Kept, history}
 use Rattle.uring_threads.specs.Settled.{Work, IsWork, IsSettled, finish_of}
-use Rattle.uring_threads.specs.SettledWorker.{AreLanesOf, HaveSeenAll, IsSettledAt, waiting_at, all_waiting, settled_work, works_of}
+use Rattle.uring_threads.specs.SettledWorker.{HaveSeenAll, IsSettledAt, settled_work, works_of}
+use Rattle.uring_threads.specs.Opening.{AreLanesOf}
+use Rattle.uring_threads.specs.Report.{waiting_at, all_waiting}
 use Rattle.uring_threads.specs.Work.{jobs_to, results_of}
 use Rattle.uring_threads.specs.Worker.{Worker, IsRight, Looks, empty_files}
 use Rattle.uring_threads.proofs.SettledWork.{jobs_keep, longer_history}

@@ -7,13 +7,13 @@ use Rattle.uring_entry.specs.Layout.{Cqe}
 use Rattle.uring_entry.specs.Submission.{Submission}
 use Rattle.uring_machine.specs.Published.{published_items}
 use Rattle.uring_machine.specs.Standing.{Stands}
-use Rattle.uring_threads.specs.Delivered.{IsDelivered, KeepsAllBut, OnlyPosts}
+use Rattle.uring_threads.specs.Delivered.{KeepsAllBut, OnlyPosts}
 use Rattle.uring_threads.specs.Dispatched.{HaveCarried, AreSameLanes, SomeIsFull}
 use Rattle.uring_threads.specs.Kept.{Kept, now, IsUnmoved}
 use Rattle.uring_threads.specs.Ports.{Put}
-use Rattle.uring_threads.specs.Taking.{Tied, ClosesOnce, TakesIn, waiting_in}
+use Rattle.uring_threads.specs.Taking.{TakesIn}
 use Rattle.uring_threads.specs.Tallies.{Tally, Appends, both, none_counted, issues_counted, finishes_counted, reaps_counted}
-use Rattle.uring_threads.specs.Turns.{AreTies, Counts}
+use Rattle.uring_threads.specs.Turns.{AreTies, Counts, IsDelivered, Tied, ClosesOnce, waiting_in}
 use Rattle.uring_threads.specs.declared.intake.Intake.{Intake}
 use Rattle.uring_threads.specs.declared.work_lanes.WorkLanes.{WorkLanes}
 use Rattle.uring_threads.proofs.Carrying.{quiet_stays, carried_stays}

@@ -8,7 +8,8 @@ use Rattle.uring_machine.specs.Standing.{Stands}
 use Rattle.uring_threads.specs.Items.{all_published_as}
 use Rattle.uring_threads.specs.Ports.{Put, items_of_calls}
 use Rattle.uring_threads.specs.Rows.{with_begun_as}
-use Rattle.uring_threads.specs.Taking.{Tied, intake_after}
+use Rattle.uring_threads.specs.Taking.{intake_after}
+use Rattle.uring_threads.specs.Turns.{Tied}
 use Rattle.uring_threads.specs.Items.{published_as}
 use Rattle.uring_entry.specs.Setup.{Setup}
 use Rattle.uring_machine.specs.declared.step.Step.TheVariants as step

@@ -1,20 +1,15 @@
--- Taking in the results that came back from a worker. All of it is our own rule.
-use Rattle.std.specs.Prelude.{◌≡◌, ◌≢◌, ℕ, ◌<◌, ◌≤◌, Bool, true, false, List, [], ◌∷◌, ◌++◌, map}
+-- Glue. Taking in the results that came back from a worker. All of it is our own rule.
+use Rattle.std.specs.Prelude.{◌≡◌, ◌≢◌, ℕ, ◌<◌, ◌≤◌, Bool, true, false, List, [], ◌∷◌, ◌++◌, map, ◌+◌}
 use Rattle.uring_entry.specs.Preparation.{operation_of}
 use Rattle.uring_entry.specs.Requests.{entry_of, is_running}
-use Rattle.uring_machine.specs.Histories.{History, history_of}
 use Rattle.uring_machine.specs.Finishes.{Done}
 use Rattle.uring_threads.specs.declared.job.Job.{Job}
 use Rattle.uring_threads.specs.declared.job.JobResult.{JobResult}
-use Rattle.uring_threads.specs.Kept.{Kept, now, Grows}
+use Rattle.uring_threads.specs.Kept.{Kept, now, Grows, history}
 use Rattle.uring_threads.specs.Delivered.{OnlyPosts}
-use Rattle.uring_threads.specs.Tallies.{Appends, finishes_counted}
-use Rattle.uring_threads.specs.Work.{place_of, jobs_to, done_by_worker, results_of}
+use Rattle.uring_threads.specs.Tallies.{Appends, finishes_counted, most_results, results_taken_in}
+use Rattle.uring_threads.specs.Work.{place_of, jobs_to, done_by_worker}
 use Rattle.uring_threads.specs.Settled.{IsWork, finish_of}
-
--- the history of the trace
-abbrev pub history : Kept → History
-history k = history_of k.trace
 
 -- The result of a request can be taken in from a worker: the request runs, and is that worker's.
 pub record CanBeTaken (kept : Kept) (workers place number : ℕ) : Type 0 where
@@ -26,10 +21,6 @@ pub record OthersStay (old new : Kept) (workers place : ℕ) : Type 0 where
   pub jobs : (k : ℕ) → jobs_to new.setup workers k (history new) ≡ jobs_to old.setup workers k (history old)
   pub results : (k : ℕ) → k ≢ place → done_by_worker new.setup workers k (history new) ≡ done_by_worker old.setup workers k (history old)
 
--- the results received from a worker are those that the trace has taken in of it
-abbrev pub AreTakenIn : Kept → ℕ → ℕ → List JobResult → Type 0
-AreTakenIn kept workers place results = results ≡ results_of (done_by_worker kept.setup workers place (history kept))
-
 -- the next of these results can't be taken in, if there is one
 abbrev pub NextStays : Kept → ℕ → ℕ → List JobResult → Type 0
 NextStays kept workers place [] = Unit {0}
@@ -40,15 +31,12 @@ abbrev pub TakesNext : Kept → Kept → ℕ → ℕ → List JobResult → List
 TakesNext old new workers place before after seen true = (r : JobResult) × (after ≡ before ++ r ∷ []) × CanBeTaken old workers place r.number × Grows old new (finish_of r)
 TakesNext old new workers place before after seen false = (new ≡ old) × (after ≡ before) × NextStays old workers place seen
 
--- how many results of a worker a turn takes in at most
-abbrev pub most_results : ℕ
-most_results = 64
-
 -- so many results of a worker were taken in, and recorded as Finishes
 pub record Collects (old new : Kept) (workers place count : ℕ) : Type 0 where
   pub tally : Appends old new (finishes_counted count)
   pub posts : OnlyPosts (now old) (now new)
   pub idle : count ≡ 0 → new.trace ≡ old.trace
+  pub own : results_taken_in workers place new ≡ results_taken_in workers place old + count
   pub others : OthersStay old new workers place
 
 -- one more result was taken in, or none, where none is seen or the next can't be taken in
@@ -61,6 +49,11 @@ pub record CollectsSeen (old new : Kept) (workers place count : ℕ) (seen : Lis
   pub collected : Collects old new workers place count
   pub most : count ≤ most_results
   pub rest : count < most_results → NextStays new workers place seen
+
+-- results of this worker alone were taken in, at most 64
+pub record CollectsFew (old new : Kept) (workers place : ℕ) : Type 0 where
+  pub own : results_taken_in workers place new ≤ results_taken_in workers place old + most_results
+  pub others : (k : ℕ) → k ≢ place → results_taken_in workers k new ≡ results_taken_in workers k old
 
 -- these results are all that wait at some worker
 abbrev pub Wait : Kept → List JobResult → Type 0

@@ -1,13 +1,8 @@
--- What a delivery makes of the completion ring.
-use Rattle.std.specs.Prelude.{◌≡◌, List, length}
+-- Glue. What a delivery makes of the completion ring.
+use Rattle.std.specs.Prelude.{◌≡◌, List}
 use Rattle.uring_entry.specs.Layout.{Cqe}
 use Rattle.uring_entry.specs.Completions.{Completions}
 use Rattle.uring_machine.specs.World.{World}
-
--- The dispatcher has delivered what was reaped, and the head tells how many that are.
-pub record IsDelivered (l : Completions) (delivered : List Cqe) : Type 0 where
-  pub reaped : l.reaped ≡ delivered
-  pub head : l.head ≡ length delivered
 
 -- the world with another completion ring
 abbrev pub on_completions : World → Completions → World

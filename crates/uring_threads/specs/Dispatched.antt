@@ -1,12 +1,16 @@
 -- What went through the lanes between the dispatcher and the workers. All of it is our own rule.
 use Rattle.std.specs.Prelude.{◌≡◌, ℕ, ◌<◌, ◌≤◌, List, [], ◌∷◌, ◌++◌, length, map, get_or}
 use Rattle.rtrb.specs.Ring.{sent, known_free, producer_capacity, received, consumer_capacity, SameProducer, SameConsumer}
-use Rattle.uring_threads.specs.Kept.{Kept}
-use Rattle.uring_threads.specs.Collected.{history, AreTakenIn}
+use Rattle.uring_threads.specs.declared.job.JobResult.{JobResult}
+use Rattle.uring_threads.specs.Kept.{Kept, history}
 use Rattle.uring_threads.specs.Pairings.{pairing_of}
-use Rattle.uring_threads.specs.Work.{jobs_to}
+use Rattle.uring_threads.specs.Work.{jobs_to, done_by_worker, results_of}
 use Rattle.uring_threads.specs.declared.job.Job.{Job}
 use Rattle.uring_threads.specs.declared.work_lanes.WorkLanes.{WorkLanes}
+
+-- the results received from a worker are those that the trace has taken in of it
+abbrev pub AreTakenIn : Kept → ℕ → ℕ → List JobResult → Type 0
+AreTakenIn kept workers place results = results ≡ results_of (done_by_worker kept.setup workers place (history kept))
 
 -- A worker's lanes have carried what the trace has of this worker: the jobs of its requests that run, and the results that were taken in.
 pub record HasCarried (kept : Kept) (workers k : ℕ) (lanes : WorkLanes) : Type 0 where

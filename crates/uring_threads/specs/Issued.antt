@@ -1,4 +1,4 @@
--- What came of a request that the dispatcher issued.
+-- Glue. What came of a request that the dispatcher issued.
 use Rattle.std.specs.Prelude.{◌≡◌, ℕ, Option, Some, None}
 use Rattle.uring_entry.specs.Preparation.{operation_of}
 use Rattle.uring_entry.specs.Requests.{entry_of}

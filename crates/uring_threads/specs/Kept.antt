@@ -2,7 +2,7 @@
 use Rattle.std.specs.Prelude.{◌≡◌, ℕ, ◌≤◌, List, [], ◌∷◌, ◌++◌}
 use Rattle.uring_entry.specs.Setup.{Setup}
 use Rattle.uring_machine.specs.World.{World}
-use Rattle.uring_machine.specs.Histories.{Event, world, history_of}
+use Rattle.uring_machine.specs.Histories.{Event, History, world, history_of}
 
 -- A core with its trace: the events, the oldest first; for how many events the trace has memory; and the set-up.
 pub record Kept : Type 0 where
@@ -10,9 +10,13 @@ pub record Kept : Type 0 where
   pub room : ℕ
   pub setup : Setup
 
+-- the history of the trace
+abbrev pub history : Kept → History
+history k = history_of k.trace
+
 -- what the events of the trace have made
 abbrev pub now : Kept → World
-now k = world k.setup (history_of k.trace)
+now k = world k.setup (history k)
 
 -- The trace has this event more, behind all others.
 pub record Grows (old new : Kept) (event : Event) : Type 0 where

@@ -1,4 +1,4 @@
--- What callers see of the two ports over lanes.
+-- Glue. What callers see of the two ports over lanes.
 use Rattle.std.specs.Prelude.{ℕ, List, [], ◌∷◌, ◌++◌}
 use denote.RawPtr.{Ptr, block_ptr, null_ptr}
 use Rattle.rtrb.specs.declared.end.End.{End}

@@ -1,4 +1,4 @@
--- The messages that calls and the close mark are sent as, and what messages were sent for.
+-- Glue. The messages that calls and the close mark are sent as, and what messages were sent for.
 use Rattle.std.specs.Prelude.{◌≡◌, ℕ, zero, suc, ◌+◌, Bool, true, false, ◌||◌, if◌then◌else◌, List, [], ◌∷◌, ◌++◌, length}
 use Rattle.std.specs.List.{flat_map}
 use Rattle.uring_threads.specs.declared.item.Item.{Item}

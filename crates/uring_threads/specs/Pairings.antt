@@ -1,4 +1,4 @@
--- Which lanes are a worker's, as numbers: the two ends of a lane have the same ones.
+-- Glue. Which lanes are a worker's, as numbers: the two ends of a lane have the same ones.
 use Rattle.std.specs.Prelude.{ℕ, List, [], ◌∷◌}
 use Rattle.rtrb.specs.declared.producer.Producer.{Producer}
 use Rattle.rtrb.specs.declared.consumer.Consumer.{Consumer}

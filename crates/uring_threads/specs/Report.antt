@@ -2,7 +2,7 @@
 use Rattle.std.specs.Prelude.{◌≡◌, ◌↔◌, ℕ, ◌==◌, Bool, true, List, [], ◌∷◌, ◌++◌, length, map, drop, count_by, All, if◌then◌else◌}
 use Rattle.std.specs.List.{list_any}
 use mathlib.Core.List.{IsPrefix}
-use Rattle.rtrb.specs.Ring.{sent}
+use Rattle.rtrb.specs.Ring.{sent, received}
 use Rattle.uring_entry.specs.Layout.{Cqe}
 use Rattle.uring_entry.specs.Setup.{Setup}
 use Rattle.uring_entry.specs.Submission.{taken}
@@ -10,6 +10,8 @@ use Rattle.uring_entry.specs.Requests.{is_running}
 use Rattle.uring_machine.specs.Histories.{Event, world, history_of}
 use Rattle.uring_machine.specs.Published.{published_items}
 use Rattle.uring_machine.specs.World.{World}
+use Rattle.uring_threads.specs.Work.{results_of}
+use Rattle.uring_threads.specs.declared.job.JobResult.{JobResult}
 use Rattle.uring_threads.specs.AppEnd.{AppEnd}
 use Rattle.uring_threads.specs.Dispatched.{numbers_of_lanes}
 use Rattle.uring_threads.specs.Items.{all_published_as}
@@ -17,7 +19,6 @@ use Rattle.uring_threads.specs.Kept.{IsUnmoved}
 use Rattle.uring_threads.specs.Kernel.{Kernel}
 use Rattle.uring_threads.specs.Ports.{Put, items_of_calls}
 use Rattle.uring_threads.specs.Settled.{finish_of}
-use Rattle.uring_threads.specs.SettledWorker.{all_waiting}
 use Rattle.uring_threads.specs.Tallies.{closes_ring}
 use Rattle.uring_threads.specs.Worker.{Worker}
 use Rattle.uring_threads.specs.declared.item.Item.{Item}
@@ -42,6 +43,14 @@ pub record Report : Type 0 where
 -- what the trace of a report has made
 abbrev pub left_by : Report → World
 left_by r = world r.setup (history_of r.trace)
+
+-- the results of a worker that weren't received, and those of all workers, worker 0's first
+abbrev pub waiting_at : WorkLanes → Worker → List JobResult
+waiting_at lanes worker = drop (length (received lanes.results)) (results_of worker.done)
+
+abbrev pub all_waiting : List WorkLanes → List Worker → List JobResult
+all_waiting (l ∷ lanes) (w ∷ workers) = waiting_at l w ++ all_waiting lanes workers
+all_waiting lanes workers = []
 
 -- The trace is this one, and then one Finish for each result that waited on these lanes of these workers, worker 0's first.
 abbrev pub FinishesAll : List Event → List WorkLanes → List Worker → Report → Type 0

@@ -1,4 +1,4 @@
--- What the dispatcher's rows of steps make of the world.
+-- Glue. What the dispatcher's rows of steps make of the world.
 use Rattle.std.specs.Prelude.{ℕ, List}
 use Rattle.uring_entry.specs.Submission.{Submission, with_published}
 use Rattle.uring_machine.specs.World.{World}

@@ -1,20 +1,18 @@
--- Settling a worker: all its results are taken in. Our own rule.
-use Rattle.std.specs.Prelude.{◌≡◌, ℕ, ℤ, Option, ◌<◌, ◌≤◌, List, [], ◌∷◌, ◌++◌, length, drop, get_or}
-use Rattle.rtrb.specs.Ring.{sent, received, consumer_capacity}
+-- Glue. Settling a worker: all its results are taken in. Our own rule.
+use Rattle.std.specs.Prelude.{◌≡◌, ℕ, ℤ, Option, ◌<◌, List, [], ◌++◌, length, get_or}
+use Rattle.rtrb.specs.Ring.{sent}
 use Rattle.uring_machine.specs.Finishes.{Done}
 use Rattle.uring_threads.specs.declared.job.Job.{Job}
 use Rattle.uring_threads.specs.declared.work_lanes.WorkLanes.{WorkLanes}
-use Rattle.uring_threads.specs.Collected.{history, OthersStay}
+use Rattle.uring_threads.specs.Collected.{OthersStay}
 use Rattle.uring_threads.specs.Dispatched.{HasCarried}
 use Rattle.uring_files.specs.Operations.{state_of, byte_of}
 use Rattle.uring_files.specs.declared.file.FileState.{FileState}
 use Rattle.uring_machine.specs.CalledFor.{files_of}
-use Rattle.uring_threads.specs.Kept.{Kept, now}
+use Rattle.uring_threads.specs.Kept.{Kept, now, history}
 use Rattle.uring_threads.specs.Settled.{Work, IsWork, IsSettled}
-use Rattle.uring_threads.specs.Pairings.{pairing_of}
-use Rattle.uring_threads.specs.Work.{jobs_of, results_of}
+use Rattle.uring_threads.specs.Work.{jobs_of}
 use Rattle.uring_threads.specs.Worker.{Worker, Looks}
-use Rattle.uring_threads.specs.declared.job.JobResult.{JobResult}
 
 -- All results of a worker were taken in, and of no other worker any: of the jobs that its lane has carried these are done, and these it hasn't taken.
 pub record IsSettledAt (old new : Kept) (workers k : ℕ) (lanes : WorkLanes) (done : List Done) (untaken : List Job) : Type 0 where
@@ -23,21 +21,6 @@ pub record IsSettledAt (old new : Kept) (workers k : ℕ) (lanes : WorkLanes) (d
   pub others : OthersStay old new workers k
 
 -- All workers.
-
--- the dispatcher's ends of the lanes of these workers, worker 0's first: each holds at most 64 results
-pub record AreLanesOf (files : ℕ) (lanes : List WorkLanes) (workers : List Worker) : Type 0 where
-  pub many : length workers ≡ length lanes
-  pub pairing : (k : ℕ) (d : WorkLanes) (e : Worker) → k < length lanes → (get_or workers k e).pairing ≡ pairing_of (get_or lanes k d).jobs (get_or lanes k d).results
-  pub short : (k : ℕ) (d : WorkLanes) → k < length lanes → consumer_capacity (get_or lanes k d).results ≤ 64
-  pub have : (k : ℕ) (e : Worker) → k < length lanes → length (get_or workers k e).files ≡ files
-
--- the results of a worker that weren't received, and those of all workers, worker 0's first
-abbrev pub waiting_at : WorkLanes → Worker → List JobResult
-waiting_at lanes worker = drop (length (received lanes.results)) (results_of worker.done)
-
-abbrev pub all_waiting : List WorkLanes → List Worker → List JobResult
-all_waiting (l ∷ lanes) (w ∷ workers) = waiting_at l w ++ all_waiting lanes workers
-all_waiting lanes workers = []
 
 -- the work of workers whose results were all taken in
 abbrev pub settled_work : Worker → Work

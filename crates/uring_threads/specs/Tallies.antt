@@ -1,9 +1,10 @@
 -- What is counted of the events that the dispatcher appends to its trace.
-use Rattle.std.specs.Prelude.{◌≡◌, ℕ, ◌+◌, ◌≤◌, Bool, true, false, List, ◌++◌, count_by}
-use Rattle.uring_machine.specs.Histories.{Event}
+use Rattle.std.specs.Prelude.{◌≡◌, ℕ, ◌+◌, ◌≤◌, Bool, true, false, List, ◌++◌, length, count_by}
+use Rattle.uring_machine.specs.Histories.{Event, history_of}
 use Rattle.uring_machine.specs.declared.step.Step.TheVariants as step
 use Rattle.uring_machine.specs.declared.answer.Answer.TheVariants as answer
 use Rattle.uring_threads.specs.Kept.{Kept}
+use Rattle.uring_threads.specs.Work.{done_by_worker}
 
 -- an item was staged: each has one word
 abbrev pub stages_item : Event → Bool
@@ -105,3 +106,17 @@ pub record Appends (old new : Kept) (t : Tally) : Type 0 where
   pub tally : tally_of events ≡ t
   pub room : old.room ≤ new.room
   pub setup : new.setup ≡ old.setup
+
+-- Results of one worker.
+
+-- how many of them the dispatcher takes in at most in a turn: our own rule
+abbrev pub most_results : ℕ
+most_results = 64
+
+-- how many the trace has taken in of this one, where there are so many workers
+abbrev pub results_taken_in : ℕ → ℕ → Kept → ℕ
+results_taken_in workers k kept = length (done_by_worker kept.setup workers k (history_of kept.trace))
+
+-- Of each of so many workers at most 64 results more were taken in.
+abbrev pub TakesFewResults : ℕ → Kept → Kept → Type 0
+TakesFewResults workers old new = (k : ℕ) → results_taken_in workers k new ≤ results_taken_in workers k old + most_results

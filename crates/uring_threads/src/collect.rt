@@ -1,11 +1,11 @@
 //! Results that came back from workers.
 ghost use Rattle.std.specs.Prelude.{◌≡◌, ℕ, ◌+◌, ◌<◌, ◌≤◌, ◌↔◌, [], ◌∷◌, ◌++◌, length, IsTrue, IfOk, OnErr};
 ghost use Rattle.uring_threads.specs.Delivered.{OnlyPosts};
-ghost use Rattle.uring_threads.specs.Dispatched.{HaveCarried, AreSameLanes};
+ghost use Rattle.uring_threads.specs.Dispatched.{HaveCarried, AreSameLanes, AreTakenIn};
 ghost use Rattle.uring_threads.specs.Kept.{now};
-ghost use Rattle.uring_threads.specs.Tallies.{Appends, finishes_counted};
+ghost use Rattle.uring_threads.specs.Tallies.{Appends, TakesFewResults, finishes_counted, most_results};
 ghost use Rattle.rtrb.specs.Ring.{received, known_items, SameConsumer};
-ghost use Rattle.uring_threads.specs.Collected.{AreTakenIn, CanBeTaken, Collects, CollectsNext, CollectsSeen, OthersStay, TakesAll, TakesNext, Wait};
+ghost use Rattle.uring_threads.specs.Collected.{CanBeTaken, Collects, CollectsFew, CollectsNext, CollectsSeen, OthersStay, TakesAll, TakesNext, Wait};
 ghost use Rattle.uring_threads.specs.Kept.{Grows};
 ghost use Rattle.uring_threads.specs.Settled.{finish_of};
 ghost use Rattle.uring_threads.specs.declared.job.JobResult.{JobResult};
@@ -25,6 +25,7 @@ pub fn collect_all(kept: &mut Kept, lanes: &mut [WorkLanes]) -> Result<u64, Allo
     ensures carried { HaveCarried kept.new lanes.new }
     ensures lanes { AreSameLanes lanes.old lanes.new }
     ensures posts { OnlyPosts (now kept.old) (now kept.new) }
+    ensures few { TakesFewResults (length lanes.old) kept.old kept.new }
     ensures tally { IfOk result (λ count. Appends kept.old kept.new (finishes_counted count)) }
     ensures idle { IfOk result (λ count. count ≡ 0 → kept.new.trace ≡ kept.old.trace) }
     ensures err { OnErr result ((count : ℕ) × Appends kept.old kept.new (finishes_counted count)) }
@@ -44,6 +45,7 @@ fn collect_at(kept: &mut Kept, lanes: &mut [WorkLanes], place: u32) -> Result<u6
     ensures carried { HaveCarried kept.new lanes.new }
     ensures lanes { AreSameLanes lanes.old lanes.new }
     ensures posts { OnlyPosts (now kept.old) (now kept.new) }
+    ensures few { CollectsFew kept.old kept.new (length lanes.old) place }
     ensures tally { IfOk result (λ count. Appends kept.old kept.new (finishes_counted count)) }
     ensures most { IfOk result (λ count. count ≤ 64) }
     ensures idle { IfOk result (λ count. count ≡ 0 → kept.new.trace ≡ kept.old.trace) }
@@ -64,7 +66,7 @@ pub fn collect(
     requires taken { AreTakenIn kept.old workers place (received results.old) }
     ensures taken { AreTakenIn kept.new workers place (received results.new) }
     ensures ok { IfOk result (λ count. CollectsSeen kept.old kept.new workers place count (known_items results.new)) }
-    ensures err { OnErr result ((count : ℕ) × Collects kept.old kept.new workers place count) }
+    ensures err { OnErr result ((count : ℕ) × (count ≤ most_results) × Collects kept.old kept.new workers place count) }
     ensures ring { SameConsumer results.old results.new }
 {
     for count in 0..LANE_LENGTH {

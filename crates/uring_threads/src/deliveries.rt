@@ -1,6 +1,7 @@
 //! Completions that the dispatcher delivers: the application reaps them as they are handed to its port.
 ghost use Rattle.std.specs.Prelude.{◌≡◌, ◌+◌, ◌≤◌, length, IfOk, OnErr};
-ghost use Rattle.uring_threads.specs.Delivered.{IsDelivered, KeepsAllBut, on_completions, with_reaped_all};
+ghost use Rattle.uring_threads.specs.Delivered.{KeepsAllBut, on_completions, with_reaped_all};
+ghost use Rattle.uring_threads.specs.Turns.{IsDelivered};
 ghost use Rattle.uring_threads.specs.Kept.{now, IsUnmoved};
 ghost use Rattle.uring_threads.specs.Tallies.{Appends, reaps_counted};
 

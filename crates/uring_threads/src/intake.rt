@@ -1,7 +1,9 @@
 //! Calls that the dispatcher takes in from its port, and the close mark.
 ghost use Rattle.std.specs.Prelude.{◌≡◌, ◌+◌, ◌≤◌, length, IfOk, OnErr, vec_capacity};
 ghost use Rattle.uring_threads.specs.Kept.{now};
-ghost use Rattle.uring_threads.specs.Taking.{ClosesOnce, TakesIn, Tied, intake_after};
+ghost use Rattle.uring_threads.specs.Taking.{TakesIn, intake_after};
+ghost use Rattle.uring_threads.specs.Turns.{ClosesOnce, Tied};
+ghost use Rattle.uring_threads.specs.Turns as turns;
 ghost use Rattle.uring_threads.specs.Ports.{Put};
 ghost use Rattle.uring_threads.specs.declared.intake.Intake.TheVariants.{Ready};
 
@@ -39,6 +41,13 @@ impl Intake {
             Begun::Again => Intake::Waiting(count),
             Begun::Spent => Intake::Spent(count),
         }
+    }
+
+    /// Whether a call that was pulled waits for memory, to be begun again.
+    pub(crate) fn awaits_memory(&self) -> bool
+        ensures { result ≡ turns.awaits_memory self.now }
+    {
+        matches!(self, Intake::Waiting(_))
     }
 }
 

@@ -1,13 +1,13 @@
 //! The dispatcher's end.
-ghost use Rattle.std.specs.Prelude.{◌≡◌, ◌↔◌, ◌+◌, ◌*◌, ◌<◌, ◌≤◌, ◌⊎◌, [], length, count_by, None, IsTrue, IfOk, IfErr, OnErr, OnOk, vec_capacity};
+ghost use Rattle.std.specs.Prelude.{◌≡◌, ◌↔◌, ◌+◌, ◌*◌, ◌<◌, ◌≤◌, ◌⊎◌, [], length, count_by, false, None, IsTrue, IfOk, IfErr, OnErr, OnOk, vec_capacity};
 ghost use Rattle.uring_entry.specs.Completions.{unreaped};
 ghost use Rattle.uring_entry.specs.Requests.{next_of};
 ghost use Rattle.uring_threads.specs.Dispatched.{AreSameLanes, HaveCarriedNone, HoldJobs, HoldResults, SomeIsFull, numbers_of_lanes};
 ghost use Rattle.uring_threads.specs.Items.{AreItems};
 ghost use Rattle.uring_threads.specs.Kept.{now};
 ghost use Rattle.uring_threads.specs.Ports.{nothing_put, sizes_of, items_of_calls, LeavesItems, LeavesCompletions};
-ghost use Rattle.uring_threads.specs.Tallies.{Tally, Appends, starts_request};
-ghost use Rattle.uring_threads.specs.Turns.{Counts};
+ghost use Rattle.uring_threads.specs.Tallies.{Tally, Appends, TakesFewResults, starts_request};
+ghost use Rattle.uring_threads.specs.Turns.{Counts, awaits_memory};
 ghost use Rattle.uring_threads.specs.declared.intake.Intake.TheVariants.{Ready};
 
 use crate::app_end::AppEnd;
@@ -77,9 +77,12 @@ impl<P: KernelPort> Kernel<P> {
 
     /// One turn: begins the call that waits once more, if one does, and pulls one call or the close mark; takes in at most 64 results of each worker; issues what can be issued while each worker's lane shows room; and delivers what is posted while the port shows room. Without such work it records nothing.
     ///
-    /// `AllocError`: the system is out of memory. All events made until then are recorded, nothing that was pulled or received is lost, and a later turn goes on.
+    /// `AllocError`: the system is out of memory, for the trace or for a call, which then waits. All events made until then are recorded, nothing that was pulled or received is lost, and a later turn goes on.
     pub fn turn(&mut self) -> Result<Turn, AllocError>
         ensures counts { IfOk result (λ turn. Counts self.old.kept self.new.kept turn) }
+
+        // No call waits for memory.
+        ensures begun { OnOk result (awaits_memory self.new.intake ≡ false) }
 
         // No request is left that can be issued, but where some worker's lane shows no room.
         ensures none_left { IfOk result (λ turn. (next_of (now self.new.kept).requests ≡ None) ⊎ SomeIsFull self.new.lanes) }
@@ -90,6 +93,9 @@ impl<P: KernelPort> Kernel<P> {
         // As long as no more was posted than the completion ring holds, all of it is reaped.
         ensures all { IfOk result (λ turn. length (now self.new.kept).completions.posted ≤ self.old.kept.setup.cq → length self.new.reaped ≡ length (now self.new.kept).completions.posted) }
         ensures err { OnErr result ((t : Tally) × Appends self.old.kept self.new.kept t) }
+
+        // Of each worker at most 64 results are taken in, also if memory was refused.
+        ensures few_results { TakesFewResults (length self.old.lanes) self.old.kept self.new.kept }
 
         // Nothing else changes.
         ensures setup { self.new.kept.setup ≡ self.old.kept.setup }

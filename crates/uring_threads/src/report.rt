@@ -9,7 +9,7 @@ ghost use Rattle.uring_machine.specs.Histories.{history_of};
 ghost use Rattle.uring_threads.specs.Dispatched.{HaveCarried};
 ghost use Rattle.uring_threads.specs.Kept.{now};
 ghost use Rattle.uring_threads.specs.Report.{left_by, FinishesAll, LeavesRunning, ReapsPosted};
-ghost use Rattle.uring_threads.specs.SettledWorker.{AreLanesOf};
+ghost use Rattle.uring_threads.specs.Opening.{AreLanesOf};
 
 use crate::gate::Gate;
 use crate::item::Item;

@@ -1,10 +1,10 @@
 //! A turn of the dispatcher.
-ghost use Rattle.std.specs.Prelude.{◌≡◌, ◌+◌, ◌<◌, ◌≤◌, ◌⊎◌, length, None, IfOk, OnErr, vec_capacity};
+ghost use Rattle.std.specs.Prelude.{◌≡◌, ◌+◌, ◌<◌, ◌≤◌, ◌⊎◌, length, false, None, IfOk, OnOk, OnErr, vec_capacity};
 ghost use Rattle.uring_entry.specs.Requests.{next_of};
 ghost use Rattle.uring_threads.specs.Dispatched.{AreSameLanes, SomeIsFull};
 ghost use Rattle.uring_threads.specs.Kept.{now};
-ghost use Rattle.uring_threads.specs.Tallies.{Tally, Appends};
-ghost use Rattle.uring_threads.specs.Turns.{AreTies, Counts};
+ghost use Rattle.uring_threads.specs.Tallies.{Tally, Appends, TakesFewResults};
+ghost use Rattle.uring_threads.specs.Turns.{AreTies, Counts, awaits_memory};
 
 use crate::collect::collect_all;
 use crate::deliveries::deliver;
@@ -34,7 +34,7 @@ pub struct Turn {
 
 /// One turn: takes in a call that waits and one that is pulled, or the close mark; then results of workers; issues what can be issued; and delivers what is posted.
 ///
-/// `AllocError`: the system is out of memory. All events made until then are recorded, and nothing that was pulled or received is lost.
+/// `AllocError`: the system is out of memory, also if it was for a call that now waits. All events made until then are recorded, and nothing that was pulled or received is lost.
 pub fn make_turn<P: KernelPort>(
     kept: &mut Kept,
     port: &mut P,
@@ -50,6 +50,7 @@ pub fn make_turn<P: KernelPort>(
     requires ties { AreTies kept.old (P.pulled port.old) (P.delivered port.old) intake.old lanes.old }
     ensures ties { AreTies kept.new (P.pulled port.new) (P.delivered port.new) intake.new lanes.new }
     ensures counts { IfOk result (λ turn. Counts kept.old kept.new turn) }
+    ensures begun { OnOk result (awaits_memory intake.new ≡ false) }
 
     // No request is left that can be issued, but where some worker's lane shows no room.
     ensures none_left { IfOk result (λ turn. (next_of (now kept.new).requests ≡ None) ⊎ SomeIsFull lanes.new) }
@@ -57,6 +58,9 @@ pub fn make_turn<P: KernelPort>(
     // As long as no more was posted than the completion ring holds, all of it is reaped.
     ensures all { IfOk result (λ turn. length (now kept.new).completions.posted ≤ kept.old.setup.cq → length (P.delivered port.new) ≡ length (now kept.new).completions.posted) }
     ensures err { OnErr result ((t : Tally) × Appends kept.old kept.new t) }
+
+    // Of each worker at most 64 results are taken in, also if memory was refused.
+    ensures few_results { TakesFewResults (length lanes.old) kept.old kept.new }
 
     // Nothing else changes.
     ensures lanes { AreSameLanes lanes.old lanes.new }
@@ -68,10 +72,23 @@ pub fn make_turn<P: KernelPort>(
     let finished = collect_all(kept, lanes)?;
     let issued = issue_all(kept, lanes)?;
     let delivered = deliver(kept, port)?;
-    Ok(Turn {
+    let turn = Turn {
         popped,
         issued,
         finished,
         delivered,
-    })
+    };
+    unless_waiting(intake, turn)
+}
+
+/// The turn, unless a call waits for memory.
+fn unless_waiting(intake: &Intake, turn: Turn) -> Result<Turn, AllocError>
+    ensures turn { IfOk result (λ made. made ≡ turn) }
+    ensures begun { OnOk result (awaits_memory intake.now ≡ false) }
+{
+    if intake.awaits_memory() {
+        Err(AllocError)
+    } else {
+        Ok(turn)
+    }
 }

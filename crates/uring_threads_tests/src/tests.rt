@@ -4,6 +4,7 @@ mod all_ends;
 mod dice;
 mod dropped;
 mod ends;
+mod growth;
 mod held;
 mod moments;
 mod no_ends;

@@ -3,7 +3,7 @@ use Rattle.std.proofs.Common.{◌≡◌, ℕ, zero, suc, ◌^◌, ◌<◌, ◌�
 use Rattle.std.specs.Char.{is_ascii_digit}
 use Rattle.std.specs.List.{list_all}
 use Rattle.std.specs.Option.{option_map}
-use Rattle.std.specs.Prelude.{ℤ, pos, negsuc}
+use Rattle.std.specs.Prelude.{ℤ, pos, negsuc, MatchOption}
 use Rattle.std.specs.Str.Parse.{digits_value}
 use Rattle.std.specs.Fmt.{decimal, signed_decimal}
 use Rattle.std.proofs.lemmas.Bool.{ltb-true, lt-ltb, eqb-true, eq-eqb, ne_eqb, cases_eq}
@@ -100,3 +100,11 @@ pub file_again : (fd : ℤ) → IsFile fd → file_of (signed_decimal fd) ≡ So
 unfolding file_of
 file_again (pos n) lt = sym (file_other (decimal n) (no_minus n (omega arith))) ∙ ap (option_map (λ n. pos n)) (number_again (2 ^ 31) n (omega arith) lt)
 file_again (negsuc k) lt = rw (number_again (2 ^ 64) (suc k) (omega arith) (omega arith), lt-ltb k (2 ^ 31) lt) refl
+
+signed_other : (w : List ℕ) → file_of w ≡ None → (fd : ℤ) → IsFile fd → signed_decimal fd ≡ w → ⊥
+signed_other w none fd is same = let found : file_of w ≡ Some fd = subst (λ (l : List ℕ). file_of l ≡ Some fd) same (file_again fd is) in absurd cc
+
+-- what a token spells that is read as a signed number, or as none
+pub signed_tells : (w : List ℕ) (r : Option ℤ) → r ≡ file_of w → MatchOption r ((fd : ℤ) → IsFile fd → signed_decimal fd ≡ w → ⊥) (λ fd. (signed_decimal fd ≡ w) × IsFile fd)
+signed_tells w None is = signed_other w (sym is)
+signed_tells w (Some fd) is = let found = file_found w fd (sym is) in (sym found.0, found.1)

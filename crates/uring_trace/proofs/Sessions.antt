@@ -1,5 +1,5 @@
 -- What a session keeps, byte by byte and line by line.
-use Rattle.std.proofs.Common.{◌≡◌, ◌≢◌, ℕ, true, List, [], ◌∷◌, ◌++◌, Option, Some, None, Result, Ok, Err, refl, sym, ap, subst, ◌∙◌, append_assoc}
+use Rattle.std.proofs.Common.{◌≡◌, ◌≢◌, ℕ, Bool, true, List, [], ◌∷◌, ◌++◌, Option, Some, None, Result, Ok, Err, refl, sym, ap, subst, ◌∙◌, append_assoc}
 use Rattle.std.specs.Prelude.{IfOk, OnOk, is_ok}
 use Rattle.std.specs.List.{AllByRecursion}
 use Rattle.std.specs.Option.{option_to_list}
@@ -9,8 +9,12 @@ use Rattle.uring_machine.specs.CalledFor.{IsLawful}
 use Rattle.uring_machine.specs.Histories.{Event, History, history_of}
 use Rattle.uring_machine.proofs.Following.{history_of-snoc}
 use Rattle.uring_machine.specs.Machine.{Machine, Fits}
+use Rattle.uring_machine.specs.declared.answer.Answer.{Answer}
+use Rattle.uring_machine.specs.declared.step.Step.{Step}
+use Rattle.uring_trace.specs.Spelling.{IsStep}
+use Rattle.uring_trace.specs.Text.{text_of}
 use Rattle.uring_trace.specs.Lines.{IsUnbroken, Splits, with_last, joined, ended}
-use Rattle.uring_trace.specs.Exchanges.{Exchange, Answers, answer_text, lines_of, events_of}
+use Rattle.uring_trace.specs.Exchanges.{Exchange, Manner, Answers, answer_text, lines_of, events_of, step_text}
 use Rattle.uring_trace.specs.KeptLine.{KeptLine, kept_of}
 use Rattle.uring_trace.specs.Sessions.{AppendsAnswer, Holds, with_event}
 use Rattle.uring_trace.specs.Traces.{IsWhole, IsBeginning, IsEnded}
@@ -49,16 +53,31 @@ pub split_whole : (lines : List (List ℕ)) → AllByRecursion IsUnbroken lines 
 split_whole lines each = record { whole = sym (append-nil (joined lines)); each = each; unbroken = tt }
 
 -- one byte more of a line
-pub took_byte : (setup : Setup) (m : Machine) (kept kept' : KeptLine) (before text : List ℕ) (b : ℕ) → b ≢ 10 → ((line : List ℕ) → kept ≡ kept_of line → kept' ≡ kept_of (line ++ b ∷ []))
-    → Holds setup m kept before text → Holds setup m kept' (before ++ b ∷ []) text
-took_byte setup m kept kept' before text b ne more h = record {
+pub took_byte : (manner : Manner) (m : Machine) (is_echo : Bool) (kept kept' : KeptLine) (before text : List ℕ) (b : ℕ) → b ≢ 10 → ((line : List ℕ) → kept ≡ kept_of line → kept' ≡ kept_of (line ++ b ∷ []))
+    → Holds manner m is_echo kept before text → Holds manner m is_echo kept' (before ++ b ∷ []) text
+took_byte manner m is_echo kept kept' before text b ne more h = record {
   exchanges = h.exchanges;
   line = h.line ++ b ∷ [];
   answers = h.answers;
   splits = split_more before (lines_of h.exchanges) h.line b ne h.splits;
   keeps = more h.line h.keeps;
   same = h.same;
+  echoes = h.echoes;
   fits = h.fits;
+}
+
+-- a step was made, and its answer appended behind what stands before it
+pub told_step : (old new : Machine) (is_echo : Bool) (line before middle told after : List ℕ) (s : Step) (a : Answer) → IsStep line s → middle ≡ before ++ step_text is_echo line → told ≡ text_of a → after ≡ middle ++ told
+    → new.core.setup ≡ old.core.setup → ((h : History) → Fits old h → Fits new ((s, a) ∷ h)) → AppendsAnswer old new is_echo line before after
+told_step old new is_echo line before middle told after s a read m t e same fits = record {
+  event = Some (s, a);
+  read = read;
+  appended =
+      e ∙ ap (λ (l : List ℕ). l ++ told) m
+      ∙ ap (λ (l : List ℕ). (before ++ step_text is_echo line) ++ l) t
+      ∙ append_assoc before (step_text is_echo line) (text_of a);
+  same = same;
+  fits = fits;
 }
 
 -- the history of one exchange more
@@ -67,28 +86,29 @@ one_more None events = ap (λ (es : List Event). history_of es) (sym (append-nil
 one_more (Some event) events = sym (history_of-snoc events event)
 
 -- one exchange more
-answered : (setup : Setup) (m m' : Machine) (xs : List Exchange) (line text before after : List ℕ) → Answers setup xs (text ++ before) → m.core.setup ≡ setup → Fits m (history_of (events_of xs)) → (a : AppendsAnswer m m' line before after)
-    → Answers setup (record { line = line; event = a.event } ∷ xs) (text ++ (after ++ 10 ∷ []))
-answered setup m m' xs line text before after h same fits a = record {
+answered : (manner : Manner) (m m' : Machine) (is_echo : Bool) (xs : List Exchange) (line text before after : List ℕ) → Answers manner xs (text ++ before) → m.core.setup ≡ manner.setup → is_echo ≡ manner.is_echo → Fits m (history_of (events_of xs)) → (a : AppendsAnswer m m' is_echo line before after)
+    → Answers manner (record { line = line; event = a.event } ∷ xs) (text ++ (after ++ 10 ∷ []))
+answered manner m m' is_echo xs line text before after h same echoes fits a = record {
   lawful =
-      subst (λ (k : History). IsLawful setup k) (one_more a.event (events_of xs))
+      subst (λ (k : History). IsLawful manner.setup k) (one_more a.event (events_of xs))
       (subst (λ (g : Setup). IsLawful g (with_event a.event (history_of (events_of xs)))) (a.same ∙ same) (a.fits (history_of (events_of xs)) fits).lawful);
   each = (a.read, h.each);
-  all = ap (λ (t : List ℕ). text ++ (t ++ 10 ∷ [])) a.appended ∙ simp append_assoc (refl) ∙ ap (λ (t : List ℕ). t ++ ended (answer_text a.event)) h.all;
+  all = ap (λ (t : List ℕ). text ++ (t ++ 10 ∷ [])) (a.appended ∙ ap (λ (e : Bool). before ++ answer_text e line a.event) echoes) ∙ simp append_assoc (refl) ∙ ap (λ (t : List ℕ). t ++ ended (answer_text manner.is_echo line a.event)) h.all;
 }
 
 -- the answer to a line that has its end
-pub ended_line : (setup : Setup) (m m' : Machine) (kept : KeptLine) (bytes text before after : List ℕ) → ((line : List ℕ) → kept ≡ kept_of line → AppendsAnswer m m' line before after)
-    → Holds setup m kept bytes (text ++ before) → Holds setup m' (kept_of []) (bytes ++ 10 ∷ []) (text ++ (after ++ 10 ∷ []))
-ended_line setup m m' kept bytes text before after answer h =
+pub ended_line : (manner : Manner) (m m' : Machine) (is_echo : Bool) (kept : KeptLine) (bytes text before after : List ℕ) → ((line : List ℕ) → kept ≡ kept_of line → AppendsAnswer m m' is_echo line before after)
+    → Holds manner m is_echo kept bytes (text ++ before) → Holds manner m' is_echo (kept_of []) (bytes ++ 10 ∷ []) (text ++ (after ++ 10 ∷ []))
+ended_line manner m m' is_echo kept bytes text before after answer h =
     let a = answer h.line h.keeps in
     record {
       exchanges = record { line = h.line; event = a.event } ∷ h.exchanges;
       line = [];
-      answers = answered setup m m' h.exchanges h.line text before after h.answers h.same h.fits a;
+      answers = answered manner m m' is_echo h.exchanges h.line text before after h.answers h.same h.echoes h.fits a;
       splits = split_end bytes (lines_of h.exchanges) h.line h.splits;
       keeps = refl;
       same = a.same ∙ h.same;
+      echoes = h.echoes;
       fits = subst (λ (k : History). Fits m' k) (one_more a.event (events_of h.exchanges)) (a.fits (history_of (events_of h.exchanges)) h.fits);
     }
 
@@ -97,22 +117,22 @@ last_some lines [] some = absurd (some refl)
 last_some lines (b ∷ rest) some = refl
 
 -- the answer to a last line that has begun
-pub ended_last : (setup : Setup) (m m' : Machine) (kept : KeptLine) (bytes text before after : List ℕ) → ((line : List ℕ) → kept ≡ kept_of line → line ≡ [] → ⊥) → ((line : List ℕ) → kept ≡ kept_of line → AppendsAnswer m m' line before after)
-    → Holds setup m kept bytes (text ++ before) → IsWhole setup bytes (text ++ (after ++ 10 ∷ []))
-ended_last setup m m' kept bytes text before after some answer h =
+pub ended_last : (manner : Manner) (m m' : Machine) (is_echo : Bool) (kept : KeptLine) (bytes text before after : List ℕ) → ((line : List ℕ) → kept ≡ kept_of line → line ≡ [] → ⊥) → ((line : List ℕ) → kept ≡ kept_of line → AppendsAnswer m m' is_echo line before after)
+    → Holds manner m is_echo kept bytes (text ++ before) → IsWhole manner bytes (text ++ (after ++ 10 ∷ []))
+ended_last manner m m' is_echo kept bytes text before after some answer h =
     let a = answer h.line h.keeps in
-    (record { line = h.line; event = a.event } ∷ h.exchanges, lines_of h.exchanges, h.line, answered setup m m' h.exchanges h.line text before after h.answers h.same h.fits a, h.splits, sym (last_some (lines_of h.exchanges) h.line (some h.line h.keeps)))
+    (record { line = h.line; event = a.event } ∷ h.exchanges, lines_of h.exchanges, h.line, answered manner m m' is_echo h.exchanges h.line text before after h.answers h.same h.echoes h.fits a, h.splits, sym (last_some (lines_of h.exchanges) h.line (some h.line h.keeps)))
 
 -- no last line has begun
-pub ended_none : (setup : Setup) (m : Machine) (kept : KeptLine) (bytes text : List ℕ) → ((line : List ℕ) → kept ≡ kept_of line → line ≡ []) → Holds setup m kept bytes text → IsWhole setup bytes text
-ended_none setup m kept bytes text none h =
+pub ended_none : (manner : Manner) (m : Machine) (is_echo : Bool) (kept : KeptLine) (bytes text : List ℕ) → ((line : List ℕ) → kept ≡ kept_of line → line ≡ []) → Holds manner m is_echo kept bytes text → IsWhole manner bytes text
+ended_none manner m is_echo kept bytes text none h =
     (h.exchanges, lines_of h.exchanges, h.line, h.answers, h.splits, sym (ap (with_last (lines_of h.exchanges)) (none h.line h.keeps)))
 
 -- what a session holds, for the outcomes that end a trace early
-pub held_ended : (setup : Setup) (m : Machine) (kept : KeptLine) (bytes text : List ℕ) → Holds setup m kept bytes text → IsEnded setup bytes text
-held_ended setup m kept bytes text h = (h.exchanges, h.line, h.answers, h.splits)
+pub held_ended : (manner : Manner) (m : Machine) (is_echo : Bool) (kept : KeptLine) (bytes text : List ℕ) → Holds manner m is_echo kept bytes text → IsEnded manner bytes text
+held_ended manner m is_echo kept bytes text h = (h.exchanges, h.line, h.answers, h.splits)
 
-pub held_beginning : (setup : Setup) (m : Machine) (kept : KeptLine) (bytes text more : List ℕ) → Holds setup m kept bytes text → IsBeginning setup (bytes ++ more) text
-held_beginning setup m kept bytes text more h =
+pub held_beginning : (manner : Manner) (m : Machine) (is_echo : Bool) (kept : KeptLine) (bytes text more : List ℕ) → Holds manner m is_echo kept bytes text → IsBeginning manner (bytes ++ more) text
+held_beginning manner m is_echo kept bytes text more h =
     let lines = lines_of h.exchanges in
     (joined lines, h.line ++ more, h.exchanges, h.answers, split_whole lines h.splits.each, ap (λ (l : List ℕ). l ++ more) h.splits.whole ∙ append_assoc (joined lines) h.line more)

@@ -10,11 +10,16 @@ use Rattle.uring_entry.specs.declared.why.Doom.{Doom}
 use Rattle.uring_entry.specs.declared.why.Doom.TheVariants.{OwnFault, FaultOf, FailureOf, Cancel}
 use Rattle.uring_entry.specs.declared.why.Since.{Since}
 use Rattle.uring_entry.specs.declared.why.Since.TheVariants.{SameGroup, ItDrains, OwnDrains}
+use Rattle.uring_dispatch.specs.Cancels.{found_by}
+use Rattle.uring_dispatch.specs.declared.answers.Found.{Found}
+use Rattle.uring_dispatch.specs.declared.answers.Found.TheVariants.{Nobody, Running, Chosen}
 use Rattle.uring_machine.specs.World.{World}
 use Rattle.uring_machine.specs.declared.step.Step.{Step}
 use Rattle.uring_machine.specs.declared.step.Step.TheVariants as step
 use Rattle.uring_machine.specs.declared.answer.Answer.{Answer}
 use Rattle.uring_machine.specs.declared.answer.Answer.TheVariants as answer
+use Rattle.uring_trace.specs.declared.reason_text.Reason.{Reason}
+use Rattle.uring_trace.specs.declared.reason_text.Reason.TheVariants.{Stands, Finds}
 
 -- why the request that a step issues or finishes stands as it does
 abbrev pub asked : Requests → Step → Option Why
@@ -22,20 +27,33 @@ asked r (step.Issue n) = Some (why_of r n)
 asked r (step.Finish n) = Some (why_of r n)
 asked r _ = None
 
--- what doomed the request, if something did
-abbrev pub doom_alone : Option Why → Option Why
-doom_alone (Some (IsDoomed doom)) = Some (IsDoomed doom)
-doom_alone _ = None
+-- what the request that a step issues would find
+abbrev pub sought : Requests → Step → Option Found
+sought r (step.Issue n) = found_by r n
+sought r _ = None
 
--- what of it is told behind this answer: of an end only what doomed the request, and of one that runs already nothing
-abbrev pub kept_reason : Answer → Option Why → Option Why
-kept_reason (answer.Ended res bytes) why = doom_alone why
-kept_reason answer.Running why = None
-kept_reason _ why = why
+abbrev pub standing : Option Why → Option Reason
+standing (Some why) = Some (Stands why)
+standing None = None
+
+abbrev pub finding : Option Found → Option Reason
+finding (Some found) = Some (Finds found)
+finding None = None
+
+-- what is told of an end: what doomed the request, or else what the cancel of one request found
+abbrev pub end_reason : Option Why → Option Found → Option Reason
+end_reason (Some (IsDoomed doom)) found = Some (Stands (IsDoomed doom))
+end_reason _ found = finding found
+
+-- what of these is told behind this answer: of one that runs already nothing
+abbrev pub kept_reason : Answer → Option Why → Option Found → Option Reason
+kept_reason (answer.Ended res bytes) why found = end_reason why found
+kept_reason answer.Running why found = None
+kept_reason _ why found = standing why
 
 -- the reason of the answer to a step, by the world before the step
-abbrev pub reason_of : World → Step → Answer → Option Why
-reason_of w s a = kept_reason a (asked w.requests s)
+abbrev pub reason_of : World → Step → Answer → Option Reason
+reason_of w s a = kept_reason a (asked w.requests s) (sought w.requests s)
 
 -- The text of a reason.
 
@@ -62,7 +80,13 @@ why_text (IsDoomed doom) = codes "doomed: " ++ doom_text doom
 why_text (Waits m since) = codes "waits for " ++ decimal m ++ codes ": " ++ since_text m since
 why_text MayStart = codes "waits for nobody"
 
+abbrev pub found_text : Found → List ℕ
+found_text Nobody = codes "found none"
+found_text (Running m) = numbered m (codes " is running")
+found_text (Chosen m) = codes "chose " ++ decimal m
+
 -- what stands behind an answer
-abbrev pub reason_text : Option Why → List ℕ
+abbrev pub reason_text : Option Reason → List ℕ
 reason_text None = []
-reason_text (Some why) = codes "  # " ++ why_text why
+reason_text (Some (Stands why)) = codes "  # " ++ why_text why
+reason_text (Some (Finds found)) = codes "  # " ++ found_text found

@@ -1,12 +1,11 @@
 -- Glue. What a session keeps of the lines that it took in.
-use Rattle.std.specs.Prelude.{◌≡◌, ℕ, List, ◌∷◌, ◌++◌, Option, Some, None, Result, Ok, Err}
+use Rattle.std.specs.Prelude.{◌≡◌, ℕ, Bool, List, ◌∷◌, ◌++◌, Option, Some, None, Result, Ok, Err}
 use Rattle.uring_trace.specs.declared.session.Session.{Session}
 use Rattle.uring_trace.specs.declared.trace_fault.TraceFault.{TraceFault}
-use Rattle.uring_entry.specs.Setup.{Setup}
 use Rattle.uring_machine.specs.Histories.{Event, History, history_of}
 use Rattle.uring_machine.specs.Machine.{Machine, Fits}
 use Rattle.uring_trace.specs.Lines.{Splits}
-use Rattle.uring_trace.specs.Exchanges.{Exchange, Answers, IsReadAs, answer_text, lines_of, events_of}
+use Rattle.uring_trace.specs.Exchanges.{Exchange, Manner, Answers, IsReadAs, answer_text, lines_of, events_of}
 use Rattle.uring_trace.specs.KeptLine.{KeptLine, kept_of}
 use Rattle.uring_trace.specs.Traces.{Writes}
 
@@ -16,28 +15,29 @@ with_event None before = before
 with_event (Some event) before = event ∷ before
 
 -- the answer to a line is appended, and a step is made where the line is one
-pub record AppendsAnswer (old new : Machine) (line before after : List ℕ) : Type 0 where
+pub record AppendsAnswer (old new : Machine) (is_echo : Bool) (line before after : List ℕ) : Type 0 where
   pub event : Option Event
   pub read : IsReadAs line event
-  pub appended : after ≡ before ++ answer_text event
+  pub appended : after ≡ before ++ answer_text is_echo line event
   pub same : new.core.setup ≡ old.core.setup
   pub fits : (h : History) → Fits old h → Fits new (with_event event h)
 
 -- The session's invariant, over its fields: these bytes have been taken in, the text is the answers so far, and this is what is kept of the unfinished line.
-pub record Holds (setup : Setup) (machine : Machine) (kept : KeptLine) (bytes text : List ℕ) : Type 0 where
+pub record Holds (manner : Manner) (machine : Machine) (is_echo : Bool) (kept : KeptLine) (bytes text : List ℕ) : Type 0 where
   pub exchanges : List Exchange
   pub line : List ℕ
-  pub answers : Answers setup exchanges text
+  pub answers : Answers manner exchanges text
   pub splits : Splits bytes (lines_of exchanges) line
   pub keeps : kept ≡ kept_of line
-  pub same : machine.core.setup ≡ setup
+  pub same : machine.core.setup ≡ manner.setup
+  pub echoes : is_echo ≡ manner.is_echo
   pub fits : Fits machine (history_of (events_of exchanges))
 
 -- The session has taken in these bytes, and its answers so far are this text.
-abbrev pub Has : Setup → Session → List ℕ → List ℕ → Type 0
-Has setup s bytes text = Holds setup s.machine s.line bytes text
+abbrev pub Has : Manner → Session → List ℕ → List ℕ → Type 0
+Has manner s bytes text = Holds manner s.machine s.is_echo s.line bytes text
 
 -- These bytes were to be taken in, and this text is what has been written: all answers so far, or what a fault allows.
-abbrev pub TookIn : Setup → Result (Unit {0}) TraceFault → Session → List ℕ → List ℕ → Type 0
-TookIn setup (Ok done) s bytes text = Has setup s bytes text
-TookIn setup (Err e) s bytes text = Writes setup (Err e) bytes text
+abbrev pub TookIn : Manner → Result (Unit {0}) TraceFault → Session → List ℕ → List ℕ → Type 0
+TookIn manner (Ok done) s bytes text = Has manner s bytes text
+TookIn manner (Err e) s bytes text = Writes manner (Err e) bytes text

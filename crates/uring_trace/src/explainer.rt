@@ -10,7 +10,7 @@ ghost use Rattle.uring_trace.specs.Explaining.{TellsStep, TellsShown};
 use crate::answer_text::push_answer;
 use crate::kept_line::KeptLine;
 use crate::questions::{Question, read_question};
-use crate::reason_text::{ask, keep, push_reason};
+use crate::reason_text::{ask, keep, push_reason, seek};
 use crate::shown_text::push_shown;
 use crate::step_lines::read_line;
 use crate::trace_fault::TraceFault;
@@ -160,9 +160,10 @@ fn tell_step(
     ensures { OnOk result (TellsStep machine.old machine.new step.now (string_bytes text.old) (string_bytes text.new)) }
 {
     let why = ask(machine, step);
+    let found = seek(machine, step);
     let answer = machine.step(*step);
     push_answer(alloc, text, &answer)?;
-    push_reason(text, keep(&answer, why))?;
+    push_reason(text, keep(&answer, why, found))?;
     text.push_str("\n")
 }
 

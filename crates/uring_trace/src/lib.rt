@@ -24,7 +24,7 @@ pub use entry_tokens::spelled_entry;
 pub use explain_loop::explain;
 pub use explainer::Explainer;
 pub use kept_line::KeptLine;
-pub use number_tokens::spelled_number;
+pub use number_tokens::{spelled_number, spelled_signed};
 pub use reason_text::{push_since, push_why};
 pub use step_lines::{read_step, split_tokens};
 pub use streams::{Calls, read_once};

@@ -3,7 +3,8 @@
 ghost use Rattle.std.specs.Prelude.{◌≡◌, ◌^◌, ◌<◌, ℤ, pos, option_map, IfSome, MatchOption};
 ghost use Rattle.std.specs.Char.{is_ascii_digit};
 ghost use Rattle.std.specs.List.{list_all};
-ghost use Rattle.uring_trace.specs.Spelling.{SpellsNumber, IsNoNumber};
+ghost use Rattle.std.specs.Fmt.{signed_decimal};
+ghost use Rattle.uring_trace.specs.Spelling.{SpellsNumber, IsNoNumber, IsFile};
 ghost use Rattle.uring_trace.specs.Reading.{is_numeral, number_of, negative_of, file_of};
 
 use std::str;
@@ -27,6 +28,13 @@ pub fn spelled_number(token: &[u8]) -> Option<u32>
     ensures { MatchOption result (IsNoNumber (2 ^ 32) token.now) (λ n. SpellsNumber (2 ^ 32) token.now n) }
 {
     small_number(token)
+}
+
+/// The number of 32 bits with a sign that a token is, if it is one: a number up to 2^31 - 1, or `-` and a number from 1 to 2^31.
+pub fn spelled_signed(token: &[u8]) -> Option<i32>
+    ensures { MatchOption result ((z : ℤ) → IsFile z → signed_decimal z ≡ token.now → ⊥) (λ z. (signed_decimal z ≡ token.now) × IsFile z) }
+{
+    file(token)
 }
 
 /// A number up to 2^32 - 1.

@@ -4,11 +4,21 @@ ghost use Rattle.std.specs.Prelude.{◌≡◌, ◌++◌, OnOk, string_bytes, cod
 ghost use Rattle.uring_entry.specs.Texts.{fault_text};
 ghost use Rattle.uring_machine.specs.Histories.{History, world};
 ghost use Rattle.uring_machine.specs.Machine.{Fits};
-ghost use Rattle.uring_trace.specs.Reasons.{asked, doom_alone, kept_reason, reason_text, why_text, doom_text, since_text};
+ghost use Rattle.uring_trace.specs.Reasons.{asked, sought, end_reason, finding, standing, kept_reason, reason_text, why_text, found_text, doom_text, since_text};
 
 use std::alloc::AllocError;
 use std::fmt::Write;
-use uring_machine::{Answer, Doom, Fault, Machine, Since, Step, Why};
+use uring_machine::{Answer, Doom, Fault, Found, Machine, Since, Step, Why};
+
+/// The reason of an answer.
+#[derive(Clone, Copy, Debug, PartialEq, Eq)]
+pub enum Reason {
+    /// How the request stood before the step.
+    Stands(Why),
+
+    /// What the cancel that was carried out found.
+    Finds(Found),
+}
 
 /// Why the request that a step issues or finishes stands as it does, asked before the step.
 pub(crate) fn ask(machine: &Machine, step: &Step) -> Option<Why>
@@ -21,36 +31,80 @@ pub(crate) fn ask(machine: &Machine, step: &Step) -> Option<Why>
     }
 }
 
-/// What of it is told behind an answer.
-pub(crate) fn keep(answer: &Answer, why: Option<Why>) -> Option<Why>
-    ensures { result ≡ kept_reason answer.now why }
+/// What the request that a step issues would find, asked before the step.
+pub(crate) fn seek(machine: &Machine, step: &Step) -> Option<Found>
+    ensures { (h : History) → Fits machine.now h → result ≡ sought (world machine.now.core.setup h).requests step.now }
 {
-    match answer {
-        Answer::Ended { .. } => doomed(why),
-        Answer::Running => None,
-        _ => why,
-    }
-}
-
-/// What doomed a request, if something did.
-fn doomed(why: Option<Why>) -> Option<Why>
-    ensures { result ≡ doom_alone why }
-{
-    match why {
-        Some(Why::IsDoomed(doom)) => Some(Why::IsDoomed(doom)),
+    match step {
+        Step::Issue { number } => machine.would_find(*number),
         _ => None,
     }
 }
 
+/// What of these is told behind an answer.
+pub(crate) fn keep(answer: &Answer, why: Option<Why>, found: Option<Found>) -> Option<Reason>
+    ensures { result ≡ kept_reason answer.now why found }
+{
+    match answer {
+        Answer::Ended { .. } => at_end(why, found),
+        Answer::Running => None,
+        _ => stands(why),
+    }
+}
+
+/// What is told of an end: what doomed the request, or else what the cancel found.
+fn at_end(why: Option<Why>, found: Option<Found>) -> Option<Reason>
+    ensures { result ≡ end_reason why found }
+{
+    match why {
+        Some(Why::IsDoomed(doom)) => Some(Reason::Stands(Why::IsDoomed(doom))),
+        _ => finds(found),
+    }
+}
+
+/// What a cancel found, as a reason.
+fn finds(found: Option<Found>) -> Option<Reason>
+    ensures { result ≡ finding found }
+{
+    match found {
+        Some(found) => Some(Reason::Finds(found)),
+        None => None,
+    }
+}
+
+/// Why a request stands as it does, as a reason.
+fn stands(why: Option<Why>) -> Option<Reason>
+    ensures { result ≡ standing why }
+{
+    match why {
+        Some(why) => Some(Reason::Stands(why)),
+        None => None,
+    }
+}
+
 /// Appends what stands behind an answer.
-pub(crate) fn push_reason(text: &mut String, reason: Option<Why>) -> Result<(), AllocError>
+pub(crate) fn push_reason(text: &mut String, reason: Option<Reason>) -> Result<(), AllocError>
     ensures { OnOk result (string_bytes text.new ≡ string_bytes text.old ++ reason_text reason) }
 {
-    let Some(why) = reason else {
+    let Some(reason) = reason else {
         return Ok(());
     };
     text.push_str("  # ")?;
-    push_why(text, why)
+    match reason {
+        Reason::Stands(why) => push_why(text, why),
+        Reason::Finds(found) => push_found(text, found),
+    }
+}
+
+/// Appends what a cancel found.
+fn push_found(text: &mut String, found: Found) -> Result<(), AllocError>
+    ensures { OnOk result (string_bytes text.new ≡ string_bytes text.old ++ found_text found) }
+{
+    match found {
+        Found::Nobody => text.push_str("found none"),
+        Found::Running(m) => write!(text, "{m} is running"),
+        Found::Chosen(m) => write!(text, "chose {m}"),
+    }
 }
 
 /// Appends why a request stands as it does, as behind an answer of `explain`.

@@ -1,7 +1,7 @@
 //! Feeds bytes to a machine: gathers them into lines, makes the step that a line is, and appends the answer.
 
-ghost use Rattle.std.specs.Prelude.{◌≡◌, ◌≢◌, ℕ, List, [], ◌∷◌, ◌++◌, IfOk, IfErr, OnOk, string_bytes};
-ghost use Rattle.uring_entry.specs.Setup.{Setup};
+ghost use Rattle.std.specs.Prelude.{◌≡◌, ◌≢◌, ℕ, List, [], ◌∷◌, ◌++◌, IfOk, IfErr, OnOk, length, ◌≤◌};
+ghost use Rattle.uring_trace.specs.Exchanges.{Manner, step_text};
 ghost use Rattle.uring_trace.specs.KeptLine.{kept_of};
 ghost use Rattle.uring_trace.specs.Traces.{IsWhole};
 
@@ -17,29 +17,35 @@ use uring_machine::{Machine, Setup};
 pub(crate) struct Session {
     alloc: Global,
     machine: Machine,
+    // Whether a step is written before its answer.
+    is_echo: bool,
     // The unfinished line.
     line: KeptLine,
+    // The text of the last answer, whose memory is used again.
+    answer: String,
 }
 
 impl Session {
     ghost use Rattle.uring_trace.specs.Sessions.{Has, AppendsAnswer};
 
     /// A new machine, before the first line.
-    pub(crate) fn new(alloc: Global, setup: &Setup) -> Result<Session, TraceFault>
-        ensures ok { IfOk result (λ s. Has setup.now s [] []) }
+    pub(crate) fn new(alloc: Global, setup: &Setup, is_echo: bool) -> Result<Session, TraceFault>
+        ensures ok { IfOk result (λ s. Has (record { setup = setup.now; is_echo = is_echo }) s [] []) }
         ensures err { IfErr result (λ e. e ≡ TraceFault.Memory) }
     {
         let line = KeptLine::new(alloc)?;
         Ok(Session {
             alloc,
             machine: Machine::new(alloc, setup)?,
+            is_echo,
             line,
+            answer: String::new(alloc),
         })
     }
 
     /// Takes in the next bytes, and appends the answers to the lines that they complete.
-    pub(crate) fn feed(&mut self, bytes: &[u8], text: &mut String) -> Result<(), TraceFault>
-        ensures ok { OnOk result ((setup : Setup) (before told : List ℕ) → Has setup self.old before (told ++ string_bytes text.old) → Has setup self.new (before ++ bytes.now) (told ++ string_bytes text.new)) }
+    pub(crate) fn feed(&mut self, bytes: &[u8], text: &mut Vec<u8>) -> Result<(), TraceFault>
+        ensures ok { OnOk result ((manner : Manner) (before told : List ℕ) → Has manner self.old before (told ++ text.old.items) → Has manner self.new (before ++ bytes.now) (told ++ text.new.items)) }
         ensures err { IfErr result (λ e. e ≡ TraceFault.Memory) }
     {
         for byte in bytes {
@@ -49,20 +55,20 @@ impl Session {
     }
 
     /// Ends the input. Appends the answer to the last line, if that line has some byte but no end.
-    pub(crate) fn finish(&mut self, text: &mut String) -> Result<(), TraceFault>
-        ensures ok { OnOk result ((setup : Setup) (before told : List ℕ) → Has setup self.old before (told ++ string_bytes text.old) → IsWhole setup before (told ++ string_bytes text.new)) }
+    pub(crate) fn finish(&mut self, text: &mut Vec<u8>) -> Result<(), TraceFault>
+        ensures ok { OnOk result ((manner : Manner) (before told : List ℕ) → Has manner self.old before (told ++ text.old.items) → IsWhole manner before (told ++ text.new.items)) }
         ensures err { IfErr result (λ e. e ≡ TraceFault.Memory) }
     {
         if self.line.is_empty() {
             return Ok(());
         }
         self.answer_line(text)?;
-        Ok(text.push_str("\n")?)
+        Ok(text.extend_from_slice(b"\n")?)
     }
 
     /// Takes in one byte, and appends the answer to the line if the byte completes it.
-    fn take(&mut self, byte: u8, text: &mut String) -> Result<(), TraceFault>
-        ensures ok { OnOk result ((setup : Setup) (before told : List ℕ) → Has setup self.old before (told ++ string_bytes text.old) → Has setup self.new (before ++ byte ∷ []) (told ++ string_bytes text.new)) }
+    fn take(&mut self, byte: u8, text: &mut Vec<u8>) -> Result<(), TraceFault>
+        ensures ok { OnOk result ((manner : Manner) (before told : List ℕ) → Has manner self.old before (told ++ text.old.items) → Has manner self.new (before ++ byte ∷ []) (told ++ text.new.items)) }
         ensures err { IfErr result (λ e. e ≡ TraceFault.Memory) }
     {
         if byte == b'\n' {
@@ -76,30 +82,46 @@ impl Session {
     /// Takes in one byte of a line, which isn't its end.
     fn keep(&mut self, byte: u8)
         requires { byte ≢ 10 }
-        ensures { (setup : Setup) (before told : List ℕ) → Has setup self.old before told → Has setup self.new (before ++ byte ∷ []) told }
+        ensures { (manner : Manner) (before told : List ℕ) → Has manner self.old before told → Has manner self.new (before ++ byte ∷ []) told }
     {
         self.line.push(byte);
     }
 
     /// Appends the answer to the line, and begins the next line.
-    fn end_line(&mut self, text: &mut String) -> Result<(), AllocError>
-        ensures { OnOk result ((setup : Setup) (before told : List ℕ) → Has setup self.old before (told ++ string_bytes text.old) → Has setup self.new (before ++ 10 ∷ []) (told ++ string_bytes text.new)) }
+    fn end_line(&mut self, text: &mut Vec<u8>) -> Result<(), AllocError>
+        ensures { OnOk result ((manner : Manner) (before told : List ℕ) → Has manner self.old before (told ++ text.old.items) → Has manner self.new (before ++ 10 ∷ []) (told ++ text.new.items)) }
     {
         self.answer_line(text)?;
         self.line.clear();
-        text.push_str("\n")
+        text.extend_from_slice(b"\n")
     }
 
-    /// Makes the step that the line is, and appends its answer without a line end. A line that is no step is answered `bad line`.
-    fn answer_line(&mut self, text: &mut String) -> Result<(), AllocError>
-        ensures { OnOk result ((line : List ℕ) → self.old.line ≡ kept_of line → AppendsAnswer self.old.machine self.new.machine line (string_bytes text.old) (string_bytes text.new)) }
+    /// Makes the step that the line is, and appends its answer without a line end, behind the line if steps are written too. A line that is no step is answered `bad line`.
+    fn answer_line(&mut self, text: &mut Vec<u8>) -> Result<(), AllocError>
+        ensures form { self.new.is_echo ≡ self.old.is_echo }
+        ensures answer { OnOk result ((line : List ℕ) → self.old.line ≡ kept_of line → AppendsAnswer self.old.machine self.new.machine self.old.is_echo line text.old.items text.new.items) }
     {
-        match read_line(self.alloc, &self.line)? {
-            Some(step) => {
-                let answer = self.machine.step(step);
-                push_answer(self.alloc, text, &answer)
-            }
-            None => text.push_str("bad line"),
-        }
+        let Some(step) = read_line(self.alloc, &self.line)? else {
+            return text.extend_from_slice(b"bad line");
+        };
+        let answer = self.machine.step(step);
+        self.answer.clear();
+        push_answer(self.alloc, &mut self.answer, &answer)?;
+        push_step(&self.line, self.is_echo, text)?;
+        text.extend_from_slice(self.answer.as_bytes())
     }
+}
+
+/// Appends a line, which has at most 300 bytes, and ` = `, if steps are written too.
+fn push_step(line: &KeptLine, is_echo: bool, text: &mut Vec<u8>) -> Result<(), AllocError>
+    ensures { OnOk result ((bytes : List ℕ) → line.now ≡ kept_of bytes → length bytes ≤ 300 → text.new.items ≡ text.old.items ++ step_text is_echo bytes) }
+{
+    if !is_echo {
+        return Ok(());
+    }
+    let Some(bytes) = line.whole() else {
+        return Ok(());
+    };
+    text.extend_from_slice(bytes)?;
+    text.extend_from_slice(b" = ")
 }

@@ -2,7 +2,7 @@
 
 ghost use Rattle.std.specs.Prelude.{◌≡◌, ◌≢◌, ℕ, List, [], ◌++◌, Err, IfErr};
 ghost use Rattle.std.specs.Io.KnownBytes.{Appends};
-ghost use Rattle.uring_entry.specs.Setup.{Setup};
+ghost use Rattle.uring_trace.specs.Exchanges.{Manner};
 ghost use Rattle.uring_trace.specs.Sessions.{Has, TookIn};
 ghost use Rattle.uring_trace.specs.Streams.{AreOver};
 ghost use Rattle.uring_trace.specs.Traces.{Traces, Writes, WritesText};
@@ -17,7 +17,7 @@ use uring_machine::Setup;
 /// Most bytes that are read at once.
 pub(crate) const CHUNK: usize = 512;
 
-/// Reads steps from `reader`, one a line, makes them on a new machine of this set-up, and writes the answers to `writer`, one a line, until the input ends. A line that is no step is answered `bad line`.
+/// Reads steps from `reader`, one a line, makes them on a new machine of this set-up, and writes the answers to `writer`, one a line, until the input ends. A line that is no step is answered `bad line`. With `is_echo` a step is written before its answer, with ` = ` between them, so that what is written is a recorded trace.
 ///
 /// Whatever has been read is answered before the next read, so a terminal sees the answer to each line at once. An interrupted read or write is made again.
 ///
@@ -29,10 +29,11 @@ pub fn trace<R: Read, W: Write>(
     reader: &mut R,
     writer: &mut W,
     setup: &Setup,
+    is_echo: bool,
 ) -> Result<(), TraceFault>
-    ensures { Traces setup.now result (R.remaining reader.old) (R.remaining reader.new) (W.contents writer.old) (W.contents writer.new) }
+    ensures { Traces (record { setup = setup.now; is_echo = is_echo }) result (R.remaining reader.old) (R.remaining reader.new) (W.contents writer.old) (W.contents writer.new) }
 {
-    let mut session = Session::new(alloc, setup)?;
+    let mut session = Session::new(alloc, setup, is_echo)?;
     answer_all(
         alloc,
         &mut session,
@@ -52,7 +53,7 @@ fn answer_all<R: Read, W: Write>(
     reads: &mut Calls,
     writes: &mut Calls,
 ) -> Result<(), TraceFault>
-    ensures lines { (setup : Setup) → Has setup session.old [] [] → Traces setup result (R.remaining reader.old) (R.remaining reader.new) (W.contents writer.old) (W.contents writer.new) }
+    ensures lines { (manner : Manner) → Has manner session.old [] [] → Traces manner result (R.remaining reader.old) (R.remaining reader.new) (W.contents writer.old) (W.contents writer.new) }
 
     // A stream is blamed only if it gave up.
     ensures read { result ≡ Err TraceFault.Read → AreOver reads.new }
@@ -77,13 +78,13 @@ fn answer<W: Write>(
     writer: &mut W,
     writes: &mut Calls,
 ) -> Result<(), TraceFault>
-    ensures lines { (setup : Setup) (before told : List ℕ) → Has setup session.old before told → (written : List ℕ) × Appends (W.contents writer.old) (W.contents writer.new) written × TookIn setup result session.new (before ++ bytes.now) (told ++ written) }
+    ensures lines { (manner : Manner) (before told : List ℕ) → Has manner session.old before told → (written : List ℕ) × Appends (W.contents writer.old) (W.contents writer.new) written × TookIn manner result session.new (before ++ bytes.now) (told ++ written) }
     ensures read { IfErr result (λ fault. fault ≢ TraceFault.Read) }
     ensures write { result ≡ Err TraceFault.Write → AreOver writes.new }
 {
-    let mut text = String::new(alloc);
+    let mut text = Vec::new(alloc);
     session.feed(bytes, &mut text)?;
-    write_all(writer, text.as_bytes(), writes)
+    write_all(writer, text.as_slice(), writes)
 }
 
 /// Ends the input, and writes the answer to a last line without an end.
@@ -93,13 +94,13 @@ fn answer_last<W: Write>(
     writer: &mut W,
     writes: &mut Calls,
 ) -> Result<(), TraceFault>
-    ensures lines { (setup : Setup) (before told : List ℕ) → Has setup session.old before told → (written : List ℕ) × Appends (W.contents writer.old) (W.contents writer.new) written × Writes setup result before (told ++ written) }
+    ensures lines { (manner : Manner) (before told : List ℕ) → Has manner session.old before told → (written : List ℕ) × Appends (W.contents writer.old) (W.contents writer.new) written × Writes manner result before (told ++ written) }
     ensures read { IfErr result (λ fault. fault ≢ TraceFault.Read) }
     ensures write { result ≡ Err TraceFault.Write → AreOver writes.new }
 {
-    let mut text = String::new(alloc);
+    let mut text = Vec::new(alloc);
     session.finish(&mut text)?;
-    write_all(writer, text.as_bytes(), writes)
+    write_all(writer, text.as_slice(), writes)
 }
 
 /// Writes all these bytes. An interrupted write is made again. `Write`: a write failed or took no byte, or 2^64 - 1 writes were made.

@@ -1,13 +1,14 @@
 -- The application's steps keep the agreement.
-use Rattle.std.proofs.Common.{◌≡◌, ◌≢◌, ℕ, ◌+◌, ◌*◌, ◌%◌, ◌^◌, ◌<◌, ◌≤◌, Bool, true, false, List, [], ◌∷◌, ◌++◌, length, get_or, set, refl, sym, ◌∙◌, ap, subst, arith, append_assoc, append-nil, length-append, length-set, get_or-set_other, get_or-set_same}
+use Rattle.std.proofs.Common.{◌≡◌, ◌≢◌, ℕ, ◌+◌, ◌<◌, ◌≤◌, List, [], ◌∷◌, ◌++◌, length, get_or, set, refl, sym, ◌∙◌, ap, subst, arith, append_assoc, append-nil, length-append, length-set, get_or-set_other, get_or-set_same}
 use Rattle.uring_entry.specs.IndexWords.{word_of}
-use Rattle.uring_words.specs.Calls.{AreWhole}
-use Rattle.uring_words.specs.Layout.{entry_index, array_index, tail_index, head_index, place_of, IsPosition, StandsAt}
-use Rattle.uring_words.specs.Rule.{stored, AreSized, AreInOrder, Agree}
-use Rattle.uring_words.specs.Steps.{word_stored, mark_stored, tail_stored, head_loaded}
-use Rattle.uring_words.specs.declared.view.AppSide.{AppSide}
-use Rattle.uring_words.specs.declared.view.KernelSide.{KernelSide}
-use Rattle.uring_words.specs.declared.view.Position.{Position}
+use Rattle.uring_words.specs.Submission.Calls.{AreWhole}
+use Rattle.uring_words.specs.Places.{place_of}
+use Rattle.uring_words.specs.Submission.Layout.{entry_index, array_index, tail_index, head_index, IsPosition, StandsAt}
+use Rattle.uring_words.specs.Submission.Rule.{stored, AreSized, Agree}
+use Rattle.uring_words.specs.Submission.Steps.{word_stored, mark_stored, tail_stored, head_loaded}
+use Rattle.uring_words.specs.declared.submission.view.AppSide.{AppSide}
+use Rattle.uring_words.specs.declared.submission.view.KernelSide.{KernelSide}
+use Rattle.uring_words.specs.declared.submission.view.Position.{Position}
 use Rattle.uring_words.proofs.Standing.{few_words, place_below, apart, stands_elsewhere, one_more}
 
 -- the sizes of the table after a store
@@ -48,7 +49,7 @@ keeps-word_stored words a d w h room few =
           let words_of_p = few_words size (place_of a.start size k) p (h.formed k e within) in
           let there : place_of a.start size k < size = place_below a.start size k some in
           let near : n < k + size = omega arith in
-          let other : place_of a.start size k ≢ place = apart a.start size k n h.sized.power h.sized.limit within near in
+          let other : place_of a.start size k ≢ place = apart a.start size k n h.sized.power (omega (arith, h.sized.limit)) within near in
           stands_elsewhere words size (place_of a.start size k) index w p (λ is. omega arith) (λ j inside is. other (omega arith)) (h.stand k e low within);
       writing = one_more (λ k x. get_or (set words index w) (entry_index place k) 0 ≡ x) a.entry w 0
           (λ k inside. get_or-set_other words index (entry_index place k) w 0 (λ e. omega arith) ∙ h.writing k inside) (get_or-set_same words index w 0 (omega arith));
@@ -89,7 +90,7 @@ keeps-mark_stored words a d w h room new =
           let there : place_of a.start size j < size = place_below a.start size j some in
           let words_of_q = few_words size (place_of a.start size j) q (h.formed j e inside) in
           let near : n < j + size = omega arith in
-          let other : place_of a.start size j ≢ place = apart a.start size j n h.sized.power h.sized.limit inside near in
+          let other : place_of a.start size j ≢ place = apart a.start size j n h.sized.power (omega (arith, h.sized.limit)) inside near in
           stands_elsewhere words size (place_of a.start size j) index w q (λ is. other (omega arith)) (λ i within' is. omega arith) (h.stand j e low' inside))
           (λ _. record {
             mark = get_or-set_same words index w 0 (omega arith);

@@ -1,12 +1,12 @@
 -- What positions more do to the calls that positions hold.
-use Rattle.std.proofs.Common.{◌≡◌, ℕ, ◌+◌, ◌<◌, Bool, true, false, ◌||◌, not, List, [], ◌∷◌, ◌++◌, map, length, if◌then◌else◌, MatchBool, refl, sym, ◌∙◌, ap, subst, arith, append_assoc, append-nil, length-append}
+use Rattle.std.proofs.Common.{◌≡◌, ◌+◌, Bool, true, false, ◌||◌, not, List, [], ◌∷◌, ◌++◌, map, length, if◌then◌else◌, MatchBool, refl, sym, ◌∙◌, ap, subst, arith, append-nil}
 use Rattle.std.proofs.lemmas.Bool.{false≢true}
 use Rattle.uring_threads.specs.declared.item.Item.{Item}
 use Rattle.uring_threads.specs.Messages.{with_first}
 use Rattle.uring_threads.specs.Ports.{Put, items_of_calls, places_of, with_call, with_close, LeavesItems}
-use Rattle.uring_words.specs.Calls.{item_of, with_item, calls_of, has_close_mark, put_of, items_of, AreWholeFrom, AreWhole, AllGoOn}
-use Rattle.uring_words.specs.Layout.{closes, ends_call}
-use Rattle.uring_words.specs.declared.view.Position.{Position}
+use Rattle.uring_words.specs.Submission.Calls.{item_of, with_item, calls_of, has_close_mark, put_of, items_of, AreWholeFrom, AreWhole, AllGoOn}
+use Rattle.uring_words.specs.Submission.Layout.{closes, ends_call}
+use Rattle.uring_words.specs.declared.submission.view.Position.{Position}
 
 or_false : (a b : Bool) → a || b ≡ false → (a ≡ false) × (b ≡ false)
 or_false true b h = absurd (false≢true (sym h))

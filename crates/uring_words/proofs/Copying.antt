@@ -1,5 +1,5 @@
 -- Calls as they are staged, published and copied.
-use Rattle.std.proofs.Common.{◌≡◌, ℕ, ◌+◌, ◌-◌, ◌%◌, ◌^◌, ◌<◌, ◌≤◌, Bool, true, false, List, [], ◌∷◌, ◌++◌, map, length, get_or, refl, sym, ◌∙◌, ap, subst, arith, append_assoc, append-nil, length-append}
+use Rattle.std.proofs.Common.{◌≡◌, ℕ, ◌+◌, ◌<◌, ◌≤◌, true, false, List, [], ◌∷◌, ◌++◌, map, length, get_or, refl, sym, ◌∙◌, ap, subst, arith, append_assoc, append-nil, length-append}
 use Rattle.std.proofs.lemmas.List.{length-map}
 use mathlib.Core.List.{map-append}
 use Rattle.uring_threads.specs.declared.item.Item.{Item}
@@ -8,14 +8,15 @@ use Rattle.std.proofs.Math.Seq.{get_or-append_seam}
 use Rattle.uring_machine.specs.Published.{Published, IsItem}
 use Rattle.uring_threads.specs.Items.{AreItems, published_as}
 use Rattle.uring_threads.specs.Ports.{with_call, with_close}
-use Rattle.uring_words.specs.Calls.{item_of, put_of, has_close_mark, AreWhole, AreWholeFrom, AllGoOn}
-use Rattle.uring_words.specs.Ends.{StagesCall, CopiesOne, InCall, HoldsAs, copied_one}
-use Rattle.uring_words.specs.Layout.{close_mark, closes}
-use Rattle.uring_words.specs.Rule.{stored}
-use Rattle.uring_words.specs.Steps.{Holder, with_app, with_kernel, mark_stored}
-use Rattle.uring_words.specs.declared.kernel_steps.Copied.{Copied}
-use Rattle.uring_words.specs.declared.kernel_steps.Copied.TheVariants as copied
-use Rattle.uring_words.specs.declared.view.Position.{Position}
+use Rattle.uring_words.specs.Submission.Calls.{item_of, put_of, has_close_mark, AreWhole, AllGoOn}
+use Rattle.uring_words.specs.Submission.Ends.{StagesCall, CopiesOne, InCall, copied_one}
+use Rattle.uring_words.specs.Submission.Layout.{close_mark, closes}
+use Rattle.uring_words.specs.Submission.Rule.{stored}
+use Rattle.uring_words.specs.Sides.{with_app, with_kernel}
+use Rattle.uring_words.specs.Submission.Steps.{Holder, mark_stored}
+use Rattle.uring_words.specs.declared.submission.kernel_steps.Copied.{Copied}
+use Rattle.uring_words.specs.declared.submission.kernel_steps.Copied.TheVariants as copied
+use Rattle.uring_words.specs.declared.submission.view.Position.{Position}
 use Rattle.uring_words.proofs.CallLemmas.{Holding, holds_call, holds_close, goes_on-snoc, whole_rest, not_whole, no_mark_inside}
 
 -- a call was staged behind whole calls

@@ -1,19 +1,13 @@
--- A new table keeps the rule.
-use Rattle.std.proofs.Common.{◌≡◌, ℕ, zero, suc, ◌+◌, ◌<◌, ◌≤◌, ◌^◌, ◌%◌, List, [], ◌∷◌, ◌++◌, length, get_or, refl, sym, ◌∙◌, subst, arith}
-use mathlib.Core.Option.{some, some-injective, some-ne-none}
-use lib.ListN.{get_elem?}
+-- A new table of the submission ring keeps the rule.
+use Rattle.std.proofs.Common.{◌≡◌, ℕ, ◌+◌, ◌<◌, ◌≤◌, ◌^◌, ◌%◌, List, [], length, get_or, refl, ◌∙◌, arith}
 use Rattle.std.specs.Int.{IsPowerOfTwo}
 use Rattle.atomic_table.specs.Table.{opening}
-use Rattle.uring_words.specs.Layout.{tail_index, head_index, word_count}
-use Rattle.uring_words.specs.Ends.{AppRests, SawHead, KernelRests}
-use Rattle.uring_words.specs.Rule.{Agree, Knows, BothAgree, at_first}
-use Rattle.uring_words.specs.Steps.{app_part, kernel_part}
-use Rattle.uring_words.specs.declared.view.Shape.{Shape}
-use Rattle.uring_words.specs.declared.view.View.{View}
-
-only_seat : (v w : View) (seat : ℕ) → get_elem? (v ∷ []) seat ≡ some w → (seat ≡ 0) × (v ≡ w)
-only_seat v w zero e = (refl, some-injective v w e)
-only_seat v w (suc seat) e = absurd (some-ne-none w (sym e))
+use Rattle.uring_words.specs.Submission.Layout.{tail_index, head_index, word_count}
+use Rattle.uring_words.specs.Submission.Ends.{AppRests, SawHead, KernelRests}
+use Rattle.uring_words.specs.Submission.Rule.{Agree, BothAgree, at_first}
+use Rattle.uring_words.specs.Sides.{app_part, kernel_part}
+use Rattle.uring_words.specs.declared.sides.Shape.{Shape}
+use Rattle.uring_words.proofs.Seats.{opens_with}
 
 first_agree : (words : List ℕ) (key : Shape) → IsPowerOfTwo key.size → key.size ≤ 4096 → key.start < 2 ^ 32 → length words ≡ word_count key.size
     → get_or words (tail_index key.size) 0 ≡ key.start → get_or words (head_index key.size) 0 ≡ key.start → Agree words (at_first key).app (at_first key).kernel
@@ -35,19 +29,9 @@ first_agree words key power limit small many tail head =
 
 pub opens : (words : List ℕ) (key : Shape) → IsPowerOfTwo key.size → key.size ≤ 4096 → key.start < 2 ^ 32 → length words ≡ word_count key.size
     → get_or words (tail_index key.size) 0 ≡ key.start → get_or words (head_index key.size) 0 ≡ key.start → BothAgree (opening words [] (at_first key))
-opens words key power limit small many tail head = record {
-  app_seat = 0;
-  kernel_seat = 0;
-  app = (at_first key).app;
-  kernel = (at_first key).kernel;
-  agree = first_agree words key power limit small many tail head;
-  seats = λ seat v there.
-      let is = only_seat (at_first key) v seat there in
-      let P : View → Type 0 = λ w. Knows 0 0 (at_first key).app (at_first key).kernel seat w in
-      subst P is.1 (record { app = λ _. (is.0, refl); kernel = λ _. (is.0, refl) });
-}
+opens words key power limit small many tail head = opens_with words _ _ (first_agree words key power limit small many tail head)
 
-start_word : (start : ℕ) → start < 2 ^ 32 → start ≡ (start + 0) % 2 ^ 32
+pub start_word : (start : ℕ) → start < 2 ^ 32 → start ≡ (start + 0) % 2 ^ 32
 start_word start small = omega arith
 
 -- the seats of a new table are at rest

@@ -1,16 +1,14 @@
 -- The dispatcher's steps keep the agreement.
-use Rattle.std.proofs.Common.{◌≡◌, ◌≢◌, ℕ, zero, suc, eqb, ◌+◌, ◌*◌, ◌%◌, ◌^◌, ◌<◌, ◌≤◌, Bool, true, false, List, [], ◌∷◌, ◌++◌, length, get_or, set, if◌then◌else◌, refl, sym, ◌∙◌, ap, subst, arith, append_assoc, append-nil, length-append, length-set, get_or-set_other, get_or-set_same}
-use Rattle.std.proofs.lemmas.List.{get_or_append_left}
+use Rattle.std.proofs.Common.{◌≡◌, ℕ, eqb, ◌+◌, ◌<◌, ◌≤◌, Bool, true, false, List, [], ◌∷◌, ◌++◌, length, get_or, set, if◌then◌else◌, refl, sym, ◌∙◌, ap, subst, arith, append_assoc, append-nil, length-append, length-set, get_or-set_other, get_or-set_same}
 use Rattle.std.proofs.Math.Seq.{get_or-append_seam}
 use Rattle.uring_entry.specs.IndexWords.{word_of}
-use Rattle.uring_words.specs.Calls.{AreWhole}
-use Rattle.uring_words.specs.Layout.{entry_index, array_index, tail_index, head_index, place_of, IsPosition, StandsAt}
-use Rattle.uring_words.specs.Rule.{stored, tail_seen, AreSized, AreInOrder, Agree}
-use Rattle.uring_words.specs.Steps.{tail_loaded, loaded_of, word_loaded, head_stored, TailTold, MarkTold}
-use Rattle.uring_words.specs.declared.view.AppSide.{AppSide}
-use Rattle.uring_words.specs.declared.view.KernelSide.{KernelSide}
-use Rattle.uring_words.specs.declared.view.Position.{Position}
-use Rattle.uring_words.specs.declared.view.View.{View}
+use Rattle.uring_words.specs.Places.{place_of}
+use Rattle.uring_words.specs.Submission.Layout.{entry_index, tail_index, head_index, IsPosition, StandsAt}
+use Rattle.uring_words.specs.Submission.Rule.{stored, Agree}
+use Rattle.uring_words.specs.Submission.Steps.{tail_loaded, loaded_of, word_loaded, head_stored}
+use Rattle.uring_words.specs.declared.submission.view.AppSide.{AppSide}
+use Rattle.uring_words.specs.declared.submission.view.KernelSide.{KernelSide}
+use Rattle.uring_words.specs.declared.submission.view.Position.{Position}
 use Rattle.uring_words.proofs.Standing.{some_size, few_words, place_below, stands_elsewhere}
 
 -- the tail is loaded: all that was published is known

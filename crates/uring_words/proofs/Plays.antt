@@ -1,18 +1,18 @@
 -- What each step of a seat asks.
-use Rattle.std.proofs.Common.{◌≡◌, ◌≢◌, ℕ, zero, suc, eqb, ◌+◌, ◌*◌, ◌%◌, ◌^◌, ◌<◌, ◌≤◌, Bool, true, false, List, [], ◌∷◌, ◌++◌, length, get_or, set, refl, sym, ◌∙◌, ap, subst, arith, append_assoc, append-nil, length-append}
+use Rattle.std.proofs.Common.{◌≡◌, ℕ, ◌+◌, ◌<◌, true, List, [], ◌∷◌, ◌++◌, length, get_or, refl, sym, ◌∙◌, ap, subst, arith, length-append}
 use Rattle.atomic_table.specs.Table.{step, Allows}
 use mathlib.Core.Option.{none}
 use Rattle.uring_entry.specs.IndexWords.{word_of}
-use Rattle.uring_words.specs.Calls.{AreWhole}
-use Rattle.uring_words.specs.Layout.{entry_index, array_index, tail_index, head_index, place_of, IsPosition, StandsAt}
-use Rattle.uring_words.specs.Rule.{stored, tail_seen, Agree, BothAgree}
-use Rattle.uring_words.specs.Steps.{Holder, with_app, with_kernel, word_stored, mark_stored, tail_stored, head_loaded, tail_loaded, word_loaded, head_stored, StoresWord, StoresMark, StoresTail, LoadsHead, TailTold, LoadsTail, MarkTold, LoadsMark, LoadsWord, StoresHead}
-use Rattle.uring_words.specs.declared.view.AppSide.{AppSide}
-use Rattle.uring_words.specs.declared.view.KernelSide.{KernelSide}
-use Rattle.uring_words.specs.declared.view.Position.{Position}
-use Rattle.uring_words.specs.declared.view.View.{View}
-use Rattle.uring_words.proofs.AppSteps.{keeps-word_stored, keeps-mark_stored, keeps-tail_stored, keeps-head_loaded, head_below}
-use Rattle.uring_words.proofs.KernelSteps.{keeps-tail_loaded, keeps-word_loaded, known_at, known_stands, keeps-head_stored}
+use Rattle.uring_words.specs.Submission.Calls.{AreWhole}
+use Rattle.uring_words.specs.Places.{place_of}
+use Rattle.uring_words.specs.Submission.Layout.{entry_index, array_index, tail_index, head_index, IsPosition}
+use Rattle.uring_words.specs.Submission.Rule.{stored, tail_seen, Agree, BothAgree}
+use Rattle.uring_words.specs.Submission.Steps.{Holder, word_stored, mark_stored, tail_stored, head_loaded, tail_loaded, word_loaded, head_stored, StoresWord, StoresMark, StoresTail, LoadsHead, LoadsTail, LoadsMark, LoadsWord, StoresHead}
+use Rattle.uring_words.specs.declared.submission.view.AppSide.{AppSide}
+use Rattle.uring_words.specs.declared.submission.view.KernelSide.{KernelSide}
+use Rattle.uring_words.specs.declared.submission.view.Position.{Position}
+use Rattle.uring_words.proofs.AppSteps.{keeps-word_stored, keeps-mark_stored, keeps-tail_stored, keeps-head_loaded}
+use Rattle.uring_words.proofs.KernelSteps.{keeps-tail_loaded, keeps-word_loaded, known_stands, keeps-head_stored}
 use Rattle.uring_words.proofs.Seats.{set_same, app_step, kernel_step}
 
 -- an entry word is stored for the next position
@@ -21,7 +21,7 @@ pub stores_word : (slots id i : ℕ) (me : Holder) (word : ℕ) → me.0.is_app 
     → Allows BothAgree slots id me i (λ _. word) (λ _. StoresWord (step slots i word 0 none) me word)
 stores_word slots id i me word is_app room few is =
     app_step slots id i (λ _. word) me (λ _. StoresWord (step slots i word 0 none) me word) is_app
-    (λ words d h. (word_stored me.0.app word, rw is (keeps-word_stored words me.0.app d word h room few), refl))
+    (λ words d h both. (word_stored me.0.app word, rw is (keeps-word_stored words me.0.app d word h room few), refl))
 
 -- the array word of the next position is stored
 pub stores_mark : (slots id i : ℕ) (me : Holder) (word : ℕ) → me.0.is_app ≡ true → length (stored me.0.app) < me.0.app.head_seen + me.0.app.size
@@ -30,7 +30,7 @@ pub stores_mark : (slots id i : ℕ) (me : Holder) (word : ℕ) → me.0.is_app 
     → Allows BothAgree slots id me i (λ _. word) (λ _. StoresMark (step slots i word 0 none) me word)
 stores_mark slots id i me word is_app room new is =
     app_step slots id i (λ _. word) me (λ _. StoresMark (step slots i word 0 none) me word) is_app
-    (λ words d h. (mark_stored me.0.app word, rw is (keeps-mark_stored words me.0.app d word h room new), refl))
+    (λ words d h both. (mark_stored me.0.app word, rw is (keeps-mark_stored words me.0.app d word h room new), refl))
 
 -- the tail is stored
 pub stores_tail : (slots id i : ℕ) (me : Holder) (word : ℕ) → me.0.is_app ≡ true → me.0.app.entry ≡ [] → word ≡ word_of me.0.app.start (length (stored me.0.app)) → AreWhole (stored me.0.app)
@@ -38,13 +38,13 @@ pub stores_tail : (slots id i : ℕ) (me : Holder) (word : ℕ) → me.0.is_app 
     → Allows BothAgree slots id me i (λ _. word) (λ _. StoresTail (step slots i word 0 none) me word)
 stores_tail slots id i me word is_app none_written is_word whole is =
     app_step slots id i (λ _. word) me (λ _. StoresTail (step slots i word 0 none) me word) is_app
-    (λ words d h. (tail_stored me.0.app, rw is (keeps-tail_stored words me.0.app d word h none_written is_word whole), refl))
+    (λ words d h both. (tail_stored me.0.app, rw is (keeps-tail_stored words me.0.app d word h none_written is_word whole), refl))
 
 -- the head is loaded
 pub loads_head : (slots id i : ℕ) (me : Holder) → me.0.is_app ≡ true → i ≡ head_index me.0.app.size
     → Allows BothAgree slots id me i (λ n. n) (LoadsHead (step slots i 0 0 none) me)
 loads_head slots id i me is_app is =
-    app_step slots id i (λ n. n) me (LoadsHead (step slots i 0 0 none) me) is_app (λ words d h.
+    app_step slots id i (λ n. n) me (LoadsHead (step slots i 0 0 none) me) is_app (λ words d h both.
     let P : List ℕ → Type 0 = λ ws. Agree ws (head_loaded me.0.app d.taken) d in
     let o = h.ordered in (
       head_loaded me.0.app d.taken,

@@ -1,13 +1,13 @@
 -- Which words are a position's, what it holds, and what loading its words makes of what the dispatcher knows.
-use Rattle.std.proofs.Common.{◌≡◌, ℕ, zero, suc, eqb, ◌+◌, ◌%◌, ◌/◌, ◌^◌, ◌<◌, ◌≤◌, Bool, true, false, not, ◌&&◌, nat_lt, List, [], ◌∷◌, ◌++◌, length, if◌then◌else◌, refl, sym, ◌∙◌, ap, arith, eq-eqb, ne_eqb}
+use Rattle.std.proofs.Common.{◌≡◌, ℕ, eqb, ◌+◌, ◌<◌, ◌≤◌, Bool, true, false, nat_lt, List, [], ◌∷◌, length, if◌then◌else◌, refl, ◌∙◌, ap, arith, eq-eqb, ne_eqb}
 use Rattle.std.proofs.lemmas.Bool.Decides.{nat_tests}
 use Rattle.uring_threads.specs.declared.item.Item.TheVariants as item
-use Rattle.uring_words.specs.Calls.{item_from}
-use Rattle.uring_words.specs.Ends.{copied_one}
-use Rattle.uring_words.specs.Layout.{close_mark, closes, ends_call, slot_of, has_entry, IsPosition}
-use Rattle.uring_words.specs.Steps.{loaded_of, word_loaded}
-use Rattle.uring_words.specs.declared.view.KernelSide.{KernelSide}
-use Rattle.uring_words.specs.declared.view.Position.{Position}
+use Rattle.uring_words.specs.Submission.Calls.{item_from}
+use Rattle.uring_words.specs.Submission.Ends.{copied_one}
+use Rattle.uring_words.specs.Submission.Layout.{close_mark, closes, slot_of, has_entry, IsPosition}
+use Rattle.uring_words.specs.Submission.Steps.{loaded_of, word_loaded}
+use Rattle.uring_words.specs.declared.submission.view.KernelSide.{KernelSide}
+use Rattle.uring_words.specs.declared.submission.view.Position.{Position}
 
 pub entry_position : (size place mark : ℕ) (entry : List ℕ) → place < size → slot_of mark ≡ place → closes mark ≡ false → length entry ≡ 16 → IsPosition size place (record { mark = mark; entry = entry })
 entry_position size place mark entry below slot open' many =

@@ -1,5 +1,5 @@
 -- What a store leaves as it was, and lists that grow by one position.
-use Rattle.std.proofs.Common.{◌≡◌, ◌≢◌, ℕ, ◌+◌, ◌*◌, ◌%◌, ◌^◌, ◌<◌, ◌≤◌, Bool, true, false, List, [], ◌∷◌, ◌++◌, length, get_or, set, if◌then◌else◌, refl, sym, ◌∙◌, ap, subst, ⊎_elim, arith, length-append, get_or-set_other, get_or-set_same}
+use Rattle.std.proofs.Common.{◌≡◌, ◌≢◌, ℕ, ◌+◌, ◌^◌, ◌<◌, ◌≤◌, Bool, true, false, List, [], ◌∷◌, ◌++◌, length, get_or, set, if◌then◌else◌, refl, sym, ◌∙◌, subst, ⊎_elim, arith, length-append, get_or-set_other}
 use Rattle.std.proofs.lemmas.Bool.{cases_eq}
 use Rattle.std.proofs.lemmas.List.{get_or_append_left}
 use Rattle.std.proofs.Math.Seq.{get_or-append_seam}
@@ -7,8 +7,9 @@ use Rattle.std.proofs.lemmas.Nat.{mod_below, pow_pos}
 use Rattle.std.specs.Int.{IsPowerOfTwo}
 use Rattle.uring_entry.specs.IndexWords.{word_of}
 use Rattle.uring_rings.proofs.Counts.{same_cell}
-use Rattle.uring_words.specs.Layout.{entry_index, array_index, place_of, has_entry, IsPosition, StandsAt}
-use Rattle.uring_words.specs.declared.view.Position.{Position}
+use Rattle.uring_words.specs.Places.{place_of}
+use Rattle.uring_words.specs.Submission.Layout.{entry_index, array_index, has_entry, IsPosition, StandsAt}
+use Rattle.uring_words.specs.declared.submission.view.Position.{Position}
 
 few_if : (b : Bool) (n : ℕ) → n ≡ (if b then 16 else 0) → n ≤ 16
 few_if true n is = omega arith
@@ -25,9 +26,8 @@ pub place_below : (start size count : ℕ) → 0 < size → place_of start size 
 place_below start size count some = mod_below (word_of start count) size some
 
 -- two counts less than the size apart have places of their own
-pub apart : (start size j k : ℕ) → IsPowerOfTwo size → size ≤ 4096 → j < k → k < j + size → place_of start size j ≢ place_of start size k
-apart start size j k power limit before near e =
-    let fits : size ≤ 2 ^ 32 = omega arith in
+pub apart : (start size j k : ℕ) → IsPowerOfTwo size → size ≤ 2 ^ 32 → j < k → k < j + size → place_of start size j ≢ place_of start size k
+apart start size j k power fits before near e =
     let ordered : j ≤ k = omega arith in
     let one : j ≡ k = same_cell size start j k power fits ordered near e in
     omega arith
@@ -39,6 +39,10 @@ stands_elsewhere words size place i w p array entry s = record {
 }
 
 module _ {A : Type 0} where
+  pub some_first : (xs : List A) → 0 < length xs → (x : A) × (rest : List A) × (xs ≡ x ∷ rest)
+  some_first [] some = absurd (omega arith)
+  some_first (x ∷ rest) some = (x, rest, refl)
+
   -- what holds at each index, and of one element more, holds at each index of the longer list
   pub one_more : (Q : ℕ → A → Type 0) (xs : List A) (x e : A) → ((k : ℕ) → k < length xs → Q k (get_or xs k e)) → Q (length xs) x
       → (k : ℕ) → k < length (xs ++ x ∷ []) → Q k (get_or (xs ++ x ∷ []) k e)

@@ -1,6 +1,5 @@
-pub mod Layout
-pub mod Calls
-pub mod Rule
-pub mod Steps
-pub mod Ends
+pub mod Places
+pub mod Sides
+pub mod Submission
+pub mod Completion
 pub mod PortViews

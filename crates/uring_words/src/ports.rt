@@ -1,30 +1,37 @@
-//! The two ports over shared words. Submissions go through the table, completions through a lane as large as the completion ring.
-ghost use Rattle.std.specs.Prelude.{◌≡◌, [], length, IfOk};
-ghost use Rattle.uring_threads.specs.Ports.{nothing_put, sizes_of};
+//! The two ports over shared words: submissions go through one table, completions through another.
+ghost use Rattle.std.specs.Prelude.{◌≡◌, [], ◌∷◌, ◌++◌, length, IfOk, IfErr, OnOk};
+ghost use Rattle.uring_threads.specs.Ports.{nothing_put, sizes_of, LeavesItems, LeavesCompletions};
+ghost use Rattle.uring_words.specs.Completion.Dropped.{WereHad};
 
-use crate::app_calls::{put_call, put_close};
-use crate::kernel_calls::pull;
-use crate::new_table::new_table;
-use crate::rest::take_unsent;
-use crate::table::{Ring, Seat};
-use crate::view::Shape;
-use rtrb::{Consumer, Producer, RingBuffer};
+use crate::completion::app_calls::{get, load_dropped};
+use crate::completion::kernel_calls;
+use crate::completion::rest::take_undelivered;
+use crate::sides::Shape;
+use crate::submission::app_calls::{put_call, put_close};
+use crate::submission::kernel_calls::pull;
+use crate::submission::rest::take_unsent;
+use crate::{completion, submission};
 use std::alloc::{AllocError, Global};
 use std::marker::Model;
 use std::sync::Arc;
 use uring_entry::{Cqe, Setup};
-use uring_threads::{AppPort, Item, KernelPort, Pulled, Rests, take_undelivered};
+use uring_threads::{AppPort, Item, KernelPort, Pulled, Rests};
 
 /// The application's port over shared words.
 #[derive(Drop)]
 pub struct AppWords {
-    ring: Arc<Ring, Global>,
-    seat: Seat,
+    ring: Arc<submission::table::Ring, Global>,
+    seat: submission::table::Seat,
     size: u32,
     // The index words of the head that it last saw, and of the tail.
     head: u32,
     tail: u32,
-    completions: Consumer<Cqe>,
+    cq_ring: Arc<completion::table::Ring, Global>,
+    cq_seat: completion::table::Seat,
+    cq_size: u32,
+    // The index words of the tail that it last saw, and of the head.
+    cq_tail: u32,
+    cq_head: u32,
 }
 
 impl Model for AppWords {
@@ -32,32 +39,38 @@ impl Model for AppWords {
 
     ghost Value = { AppWords };
 
-    ghost use Rattle.std.specs.Prelude.{◌≡◌, ◌++◌};
+    ghost use Rattle.std.specs.Prelude.{◌≡◌};
     ghost use Rattle.std.specs.Arc.{arc_value};
-    ghost use Rattle.rtrb.specs.Ring.{received, consumer_capacity};
-    ghost use Rattle.uring_threads.specs.Lanes.{numbers_of};
-    ghost use Rattle.uring_words.specs.Calls.{put_of};
-    ghost use Rattle.uring_words.specs.Ends.{AppRests, SawHead};
-    ghost use Rattle.uring_words.specs.Layout.{word_count};
-    ghost use Rattle.uring_words.specs.PortViews.{numbers_of_table};
+    ghost use Rattle.uring_words.specs.Completion.Ends.{completions_of};
+    ghost use Rattle.uring_words.specs.Completion.Ends.{AppRests as AppCompletionsRest};
+    ghost use Rattle.uring_words.specs.Completion.Layout.{word_count as cq_word_count};
+    ghost use Rattle.uring_words.specs.PortViews.{numbers_of_tables};
+    ghost use Rattle.uring_words.specs.Submission.Calls.{put_of};
+    ghost use Rattle.uring_words.specs.Submission.Ends.{AppRests, SawHead};
+    ghost use Rattle.uring_words.specs.Submission.Layout.{word_count};
 
-    ghost view = { λ p. record { pairing = numbers_of p.completions.end ++ numbers_of_table p.seat.table_id; sizes = record { sq = p.size; cq = consumer_capacity p.completions }; put = put_of p.seat.me.0.app.published; got = received p.completions } };
+    ghost view = { λ p. record { pairing = numbers_of_tables p.seat.table_id p.cq_seat.table_id; sizes = record { sq = p.size; cq = p.cq_size }; put = put_of p.seat.me.0.app.published; got = completions_of p.cq_seat.me.0.app.got; dropped = p.cq_seat.me.0.app.dropped } };
 
-    ghost invariant = { λ p. (p.seat.table_id ≡ (arc_value p.ring).shared.table_id) × (p.seat.table_id.words ≡ word_count p.size) × AppRests p.seat.me p.size p.tail × SawHead p.seat.me.0.app p.head };
+    ghost invariant = { λ p. (p.seat.table_id ≡ (arc_value p.ring).shared.table_id) × (p.seat.table_id.words ≡ word_count p.size) × AppRests p.seat.me p.size p.tail × SawHead p.seat.me.0.app p.head × (p.cq_seat.table_id ≡ (arc_value p.cq_ring).shared.table_id) × (p.cq_seat.table_id.words ≡ cq_word_count p.cq_size) × AppCompletionsRest p.cq_seat.me p.cq_size p.cq_tail p.cq_head };
 }
 
 /// The dispatcher's port over shared words.
 #[derive(Drop)]
 pub struct KernelWords {
-    ring: Arc<Ring, Global>,
-    seat: Seat,
+    ring: Arc<submission::table::Ring, Global>,
+    seat: submission::table::Seat,
     size: u32,
     // The index words of the tail that it last saw, and of the head.
     tail: u32,
     head: u32,
     // Whether the close mark was pulled.
     closed: bool,
-    completions: Producer<Cqe>,
+    cq_ring: Arc<completion::table::Ring, Global>,
+    cq_seat: completion::table::Seat,
+    cq_size: u32,
+    // The index words of the head that it last saw, and of the tail.
+    cq_head: u32,
+    cq_tail: u32,
 }
 
 impl Model for KernelWords {
@@ -65,38 +78,54 @@ impl Model for KernelWords {
 
     ghost Value = { KernelWords };
 
-    ghost use Rattle.std.specs.Prelude.{◌≡◌, ◌++◌};
+    ghost use Rattle.std.specs.Prelude.{◌≡◌, ◌+◌, ◌-◌, length};
     ghost use Rattle.std.specs.Arc.{arc_value};
-    ghost use Rattle.rtrb.specs.Ring.{sent, known_free, producer_capacity};
-    ghost use Rattle.uring_threads.specs.Lanes.{numbers_of};
-    ghost use Rattle.uring_words.specs.Calls.{put_of, has_close_mark};
-    ghost use Rattle.uring_words.specs.Ends.{KernelRests};
-    ghost use Rattle.uring_words.specs.Layout.{word_count};
-    ghost use Rattle.uring_words.specs.PortViews.{numbers_of_table};
+    ghost use Rattle.uring_words.specs.Completion.Ends.{completions_of};
+    ghost use Rattle.uring_words.specs.Completion.Ends.{KernelRests as KernelCompletionsRest, SawHead};
+    ghost use Rattle.uring_words.specs.Completion.Layout.{word_count as cq_word_count};
+    ghost use Rattle.uring_words.specs.PortViews.{numbers_of_tables};
+    ghost use Rattle.uring_words.specs.Submission.Calls.{put_of, has_close_mark};
+    ghost use Rattle.uring_words.specs.Submission.Ends.{KernelRests};
+    ghost use Rattle.uring_words.specs.Submission.Layout.{word_count};
 
-    ghost view = { λ p. record { pairing = numbers_of p.completions.end ++ numbers_of_table p.seat.table_id; sizes = record { sq = p.size; cq = producer_capacity p.completions }; pulled = put_of p.seat.me.0.kernel.copied; delivered = sent p.completions; free = known_free p.completions } };
+    ghost view = { λ p. record { pairing = numbers_of_tables p.seat.table_id p.cq_seat.table_id; sizes = record { sq = p.size; cq = p.cq_size }; pulled = put_of p.seat.me.0.kernel.copied; delivered = completions_of p.cq_seat.me.0.kernel.put; free = p.cq_seat.me.0.kernel.head_seen + p.cq_size - length p.cq_seat.me.0.kernel.put; dropped = p.cq_seat.me.0.kernel.dropped } };
 
-    ghost invariant = { λ p. (p.seat.table_id ≡ (arc_value p.ring).shared.table_id) × (p.seat.table_id.words ≡ word_count p.size) × KernelRests p.seat.me p.size p.tail p.head × (p.closed ≡ has_close_mark p.seat.me.0.kernel.copied) };
+    ghost invariant = { λ p. (p.seat.table_id ≡ (arc_value p.ring).shared.table_id) × (p.seat.table_id.words ≡ word_count p.size) × KernelRests p.seat.me p.size p.tail p.head × (p.closed ≡ has_close_mark p.seat.me.0.kernel.copied) × (p.cq_seat.table_id ≡ (arc_value p.cq_ring).shared.table_id) × (p.cq_seat.table_id.words ≡ cq_word_count p.cq_size) × KernelCompletionsRest p.cq_seat.me p.cq_size p.cq_tail × SawHead p.cq_seat.me.0.kernel p.cq_head };
 }
 
 /// The two ports of a new pair, with the sizes of this set-up's rings. `AllocError`: out of memory.
 pub fn word_ports(alloc: Global, setup: &Setup) -> Result<(AppWords, KernelWords), AllocError>
     ensures pair { IfOk result (λ ports. ports.1.pairing ≡ ports.0.pairing) }
-    ensures app { IfOk result (λ ports. (ports.0.sizes ≡ sizes_of setup.now) × (ports.0.put ≡ nothing_put) × (ports.0.got ≡ [])) }
-    ensures kernel { IfOk result (λ ports. (ports.1.sizes ≡ sizes_of setup.now) × (ports.1.pulled ≡ nothing_put) × (ports.1.delivered ≡ []) × (ports.1.free ≡ setup.now.cq)) }
+    ensures app { IfOk result (λ ports. (ports.0.sizes ≡ sizes_of setup.now) × (ports.0.put ≡ nothing_put) × (ports.0.got ≡ []) × (ports.0.dropped ≡ [])) }
+    ensures kernel { IfOk result (λ ports. (ports.1.sizes ≡ sizes_of setup.now) × (ports.1.pulled ≡ nothing_put) × (ports.1.delivered ≡ []) × (ports.1.free ≡ setup.now.cq) × (ports.1.dropped ≡ [])) }
 {
     let start = setup.start();
     let size = setup.sq();
-    let (table, app_seat, kernel_seat) = new_table(alloc, Shape { start, size })?;
+    let cq_size = setup.cq();
+    let (table, app_seat, kernel_seat) = submission::new_table::new_table(
+        alloc,
+        Shape { start, size },
+    )?;
     let ring = Arc::new(alloc, table)?;
-    let (deliverer, getter) = RingBuffer::new(alloc, setup.cq() as usize)?;
+    let (cq_table, getter, putter) = completion::new_table::new_table(
+        alloc,
+        Shape {
+            start,
+            size: cq_size,
+        },
+    )?;
+    let cq_ring = Arc::new(alloc, cq_table)?;
     let app = AppWords {
         ring: Arc::try_clone(&ring)?,
         seat: app_seat,
         size,
         head: start,
         tail: start,
-        completions: getter,
+        cq_ring: Arc::try_clone(&cq_ring)?,
+        cq_seat: getter,
+        cq_size,
+        cq_tail: start,
+        cq_head: start,
     };
     let kernel = KernelWords {
         ring,
@@ -105,9 +134,107 @@ pub fn word_ports(alloc: Global, setup: &Setup) -> Result<(AppWords, KernelWords
         tail: start,
         head: start,
         closed: false,
-        completions: deliverer,
+        cq_ring,
+        cq_seat: putter,
+        cq_size,
+        cq_head: start,
+        cq_tail: start,
     };
     Ok((app, kernel))
+}
+
+impl AppWords {
+    /// The dropped word as it is now: how many positions the dispatcher had dropped when it last stored the word, and 0 before it first did.
+    pub fn dropped(&mut self) -> u32
+        ensures { self.new ≡ record self.old { dropped = self.old.dropped ++ result ∷ [] } }
+    {
+        load_dropped(&self.cq_ring.shared, &mut self.cq_seat, self.cq_size)
+    }
+}
+
+impl KernelWords {
+    /// Stores the dropped word.
+    pub fn store_dropped(&mut self, dropped: u32)
+        ensures { self.new ≡ record self.old { dropped = self.old.dropped ++ dropped ∷ [] } }
+    {
+        kernel_calls::store_dropped(
+            &self.cq_ring.shared,
+            &mut self.cq_seat,
+            self.cq_size,
+            dropped,
+        );
+    }
+
+    /// Ends both ports of a pair, and hands out what they still held.
+    ///
+    /// `Err` says that the system is out of memory, which is asked for first: both ports come back unchanged.
+    pub fn settle_words(
+        self,
+        alloc: Global,
+        app: AppWords,
+    ) -> Result<Rests, (AppWords, KernelWords)>
+        requires { self.pairing ≡ app.pairing }
+        ensures items { IfOk result (λ rests. LeavesItems app.put self.pulled rests.unsent.items) }
+        ensures completions { IfOk result (λ rests. LeavesCompletions self.delivered app.got rests.undelivered.items) }
+
+        // The dropped words that the application loaded are, in order, words that the dispatcher stored, or the 0 before them.
+        ensures dropped { OnOk result (WereHad (0 ∷ self.dropped) app.dropped) }
+        ensures unchanged { IfErr result (λ ports. (ports.0 ≡ app) × (ports.1 ≡ self)) }
+    {
+        let Ok(mut unsent) = Vec::with_capacity(alloc, self.size as usize) else {
+            return Err((app, self));
+        };
+        let Ok(mut undelivered) = Vec::with_capacity(alloc, app.cq_size as usize) else {
+            return Err((app, self));
+        };
+        let KernelWords {
+            ring,
+            mut seat,
+            size,
+            tail,
+            head,
+            closed: _,
+            cq_ring,
+            mut cq_seat,
+            cq_size: _,
+            cq_head: _,
+            cq_tail: _,
+        } = self;
+        let AppWords {
+            ring: _,
+            seat: app_seat,
+            size: _,
+            head: _,
+            tail: _,
+            cq_ring: _,
+            cq_seat: app_cq_seat,
+            cq_size,
+            cq_tail,
+            cq_head,
+        } = app;
+        take_unsent(
+            &ring.shared,
+            &mut seat,
+            app_seat,
+            size,
+            tail,
+            head,
+            &mut unsent,
+        );
+        take_undelivered(
+            &cq_ring.shared,
+            &mut cq_seat,
+            app_cq_seat,
+            cq_size,
+            cq_tail,
+            cq_head,
+            &mut undelivered,
+        );
+        Ok(Rests {
+            unsent,
+            undelivered,
+        })
+    }
 }
 
 impl AppPort for AppWords {
@@ -141,7 +268,13 @@ impl AppPort for AppWords {
     }
 
     fn get(&mut self) -> Option<Cqe> {
-        self.completions.pop().ok()
+        get(
+            &self.cq_ring.shared,
+            &mut self.cq_seat,
+            self.cq_size,
+            &mut self.cq_tail,
+            &mut self.cq_head,
+        )
     }
 }
 
@@ -176,50 +309,27 @@ impl KernelPort for KernelWords {
     }
 
     fn room(&mut self) -> usize {
-        self.completions.slots()
+        kernel_calls::room(
+            &self.cq_ring.shared,
+            &mut self.cq_seat,
+            self.cq_size,
+            &mut self.cq_head,
+            self.cq_tail,
+        )
     }
 
     fn deliver(&mut self, completion: Cqe) {
-        self.completions.push_reserved(completion);
+        kernel_calls::put(
+            &self.cq_ring.shared,
+            &mut self.cq_seat,
+            self.cq_size,
+            self.cq_head,
+            &mut self.cq_tail,
+            completion,
+        );
     }
 
     fn settle(self, alloc: Global, app: AppWords) -> Result<Rests, (AppWords, KernelWords)> {
-        let Ok(mut unsent) = Vec::with_capacity(alloc, self.size as usize) else {
-            return Err((app, self));
-        };
-        let Ok(mut undelivered) = Vec::with_capacity(alloc, app.completions.capacity()) else {
-            return Err((app, self));
-        };
-        let KernelWords {
-            ring,
-            mut seat,
-            size,
-            tail,
-            head,
-            closed: _,
-            completions: mut deliverer,
-        } = self;
-        let AppWords {
-            ring: _,
-            seat: app_seat,
-            size: _,
-            head: _,
-            tail: _,
-            mut completions,
-        } = app;
-        take_unsent(
-            &ring.shared,
-            &mut seat,
-            app_seat,
-            size,
-            tail,
-            head,
-            &mut unsent,
-        );
-        take_undelivered(&mut completions, &mut deliverer, &mut undelivered);
-        Ok(Rests {
-            unsent,
-            undelivered,
-        })
+        self.settle_words(alloc, app)
     }
 }

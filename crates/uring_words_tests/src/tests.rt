@@ -2,6 +2,7 @@
 
 mod across;
 mod all_ends;
+mod completions;
 mod small_rings;
 
 use uring_entry::Sqe;

@@ -12,10 +12,33 @@ fn is_told(
     verdict: Verdict,
     report: &str,
 ) -> Result<bool, Fail> {
+    is_told_by(alloc, is_all, false, trace, verdict, report)
+}
+
+/// Whether a check without files comes to this verdict and report.
+fn is_told_apart(
+    alloc: Global,
+    is_all: bool,
+    trace: &str,
+    verdict: Verdict,
+    report: &str,
+) -> Result<bool, Fail> {
+    is_told_by(alloc, is_all, true, trace, verdict, report)
+}
+
+/// Whether a check with or without files comes to this verdict and report.
+fn is_told_by(
+    alloc: Global,
+    is_all: bool,
+    is_apart: bool,
+    trace: &str,
+    verdict: Verdict,
+    report: &str,
+) -> Result<bool, Fail> {
     let setup = Setup::new(4, Some(4), 2, 0)?;
     let mut writer = Vec::new(alloc);
     let mut reader = trace.as_bytes();
-    let result = check(alloc, &mut reader, &mut writer, &setup, is_all);
+    let result = check(alloc, &mut reader, &mut writer, &setup, is_all, is_apart);
     Ok(result == Ok(verdict) && writer.as_slice() == report.as_bytes())
 }
 
@@ -112,5 +135,35 @@ fn memory_may_be_refused_to_a_write(rt: HostRuntime) -> Result<(), Fail> {
     assert!(rt; is_lawful(rt.alloc(), REFUSED_WRITE, "lawful: 9 steps\n")?);
     let told = "line 8: finish 0 = ended 1\nwanted: ended 2 or ended -12\nwhy: 0 runs\n";
     assert!(rt; is_told(rt.alloc(), true, SHORT_WRITE, Verdict::Wrong, told)?);
+    Ok(())
+}
+
+/// A chain of two reads, of which the first gives eight bytes of a file that has none.
+const READ_OF_NOTHING: &str =
+    "fill 0 read 1 L 0 0 8 = ok\nfill 1 nop 2 - = ok\nindex 0 = ok\nindex 1 = ok\ntail = tail 2\nbegin 2 = call 2\ntake = entry 1\ntake = entry 2\nend = taken 2 dropped 0 head 2\nissue 0 = run\nfinish 0 = ended 8\nissue 1 = run\nfinish 1 = ended -2147483648\ncqtail = tail 2\nreap = cqe 1 8 -\nreap = cqe 2 -2147483648 -\n";
+
+/// An end that is no number of 32 bits with a sign, one with more behind the number, and another answer. Each counts as not made.
+const NO_ENDS: &str =
+    "fill 0 nop 1 - = ok\nindex 0 = ok\ntail = tail 1\nbegin 1 = call 1\ntake = entry 1\nend = taken 1 dropped 0 head 1\nissue 0 = run\nfinish 0 = ended 2147483648\nfinish 0 = ended 1 -\nfinish 0 = not running\nfinish 0 = ended 1\nfinish 0 = ended 1\n";
+
+#[test]
+fn without_files_an_end_may_be_any(rt: HostRuntime) -> Result<(), Fail> {
+    let lawful = "lawful: 16 steps\n";
+    assert!(rt; is_told_apart(rt.alloc(), false, READ_OF_NOTHING, Verdict::Lawful, lawful)?);
+    let with_files = "line 11: finish 0 = ended 8\nwanted: ended 0\nwhy: 0 runs\n";
+    assert!(rt;
+        is_told(
+            rt.alloc(),
+            false,
+            READ_OF_NOTHING,
+            Verdict::Wrong,
+            with_files
+        )?
+    );
+    let told =
+        "line 8: finish 0 = ended 2147483648\nwanted: an end\nwhy: 0 runs\nline 9: finish 0 = ended 1 -\nwanted: an end\nwhy: 0 runs\nline 10: finish 0 = not running\nwanted: an end\nwhy: 0 runs\nline 12: finish 0 = ended 1\nwanted: not running\nwhy: 0 has ended\n";
+    assert!(rt; is_told_apart(rt.alloc(), true, NO_ENDS, Verdict::Wrong, told)?);
+    let behind = "line 10: reap = cqe 7 0 -\nwanted: cqe 7 1 -\n";
+    assert!(rt; is_told_apart(rt.alloc(), false, CHANGED, Verdict::Wrong, behind)?);
     Ok(())
 }

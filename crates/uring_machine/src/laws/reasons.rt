@@ -1,5 +1,5 @@
 //! Why a request stands as it does, and what it says: laws of any requests.
-ghost use Rattle.uring_machine.specs.Reasons.{IssuableIsSaid, MayStartIsSaid, WaitsIsSaid, DoomIsSaid, TwoSteps, AnswerAgrees};
+ghost use Rattle.uring_machine.specs.Reasons.{IssuableIsSaid, MayStartIsSaid, WaitsIsSaid, DoomIsSaid, TwoSteps, AnswerAgrees, FoundIsSaid};
 
 /// A request can be issued exactly if it is told to be doomed, or that it may start.
 pub fn issuable_is_said()
@@ -29,4 +29,9 @@ pub fn two_steps_lead_on()
 /// What is told of a request just before its `Issue` agrees with the answer called for: `Unknown` of one that was never accepted or has ended, `Running` of one that runs, an end of a doomed one, `NotReady` of one that waits, and a start or the end of a cancel of one that may start.
 pub fn answer_agrees()
     ensures { AnswerAgrees }
+{}
+
+/// What is told that a request would find is what a cancel of one request finds: the least request that it may choose, whether that one runs, or that there is none; and its result, if it is carried out, is the one that goes with it.
+pub fn found_is_said()
+    ensures { FoundIsSaid }
 {}

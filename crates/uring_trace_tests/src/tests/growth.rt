@@ -53,7 +53,13 @@ fn a_refused_growth_ends_a_trace_or_is_answered(rt: HostRuntime) -> Result<(), F
         bytes: [0; 256],
         len: 0,
     };
-    let result = trace(rt.alloc(), &mut INPUT.as_bytes(), &mut writer, &setup);
+    let result = trace(
+        rt.alloc(),
+        &mut INPUT.as_bytes(),
+        &mut writer,
+        &setup,
+        false,
+    );
     let written = &writer.bytes[..min(writer.len, 256)];
     if result == Err(TraceFault::Memory) {
         assert!(rt; AMPLE.as_bytes().starts_with(written));

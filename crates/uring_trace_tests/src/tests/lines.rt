@@ -11,7 +11,7 @@ fn is_bad(alloc: Global, length: usize) -> Result<bool, Fail> {
     let mut input = vec![in alloc; b'x'; length]?;
     input.extend_from_slice(b"\ntail\n")?;
     let mut output = Vec::new(alloc);
-    let result = trace(alloc, &mut input.as_slice(), &mut output, &setup);
+    let result = trace(alloc, &mut input.as_slice(), &mut output, &setup, false);
     Ok(result == Ok(()) && output.as_slice() == b"bad line\ntail 0\n".as_slice())
 }
 

@@ -75,7 +75,7 @@ fn goes_on(
         calls: 0,
         interrupted_at: write,
     };
-    let result = trace(alloc, &mut reader, &mut writer, &setup);
+    let result = trace(alloc, &mut reader, &mut writer, &setup, false);
     Ok(result == Ok(()) && writer.held.as_slice() == answers)
 }
 
@@ -151,7 +151,7 @@ fn fails_to_read(alloc: Global, steps: &[u8]) -> Result<bool, Fail> {
     let complete = steps.iter().filter(|byte| **byte == b'\n').count();
     let mut reader = FailingReader { rest: steps };
     let mut output = Vec::new(alloc);
-    let result = trace(alloc, &mut reader, &mut output, &setup);
+    let result = trace(alloc, &mut reader, &mut output, &setup, false);
     Ok(result == Err(TraceFault::Read) && output.as_slice() == first_lines(ANSWERS, complete))
 }
 
@@ -199,7 +199,7 @@ fn fails_to_write(alloc: Global, room: usize, takes_none: bool) -> Result<bool, 
         room,
         takes_none,
     };
-    let result = trace(alloc, &mut STEPS.as_bytes(), &mut writer, &setup);
+    let result = trace(alloc, &mut STEPS.as_bytes(), &mut writer, &setup, false);
     let wanted = ANSWERS.as_bytes().get(..room).unwrap_or_default();
     Ok(result == Err(TraceFault::Write) && writer.held.as_slice() == wanted)
 }

@@ -15,7 +15,7 @@ loop-m-preserved c =
           rw (w.window-is, w.waiting-is, w.count-is)
           (chosen-more _ _ _ _ _ _ _ c.args.n c.args.user_data c.loop-m.m c.loop-m.count c.loop-m.invariant
           (λ r h named. sym w.if-is_target.true ∙ c.is_target.ensures.target r h named)
-          w.choose.ensures.sound w.choose.ensures.listed w.choose.ensures.waiting_room w.choose.ensures.same w.choose.ensures.held)
+          w.choose.ensures.chosen w.choose.ensures.held)
       | else-is_target w ↦
           rw (w.window-is, w.waiting-is, w.count-is)
           (chosen-past _ _ _ _ _ c.args.n c.args.user_data c.loop-m.m c.loop-m.count c.loop-m.invariant

@@ -1,6 +1,6 @@
-use Rattle.std.proofs.Common.{sym, subst, refl, true≢false, inl, [], rules}
+use Rattle.std.proofs.Common.{sym, subst, refl, true≢false, inl, [], false, rules}
 use Rattle.clap.specs.Walk.{texts}
-use Rattle.uring_options.specs.declared.answers.Options.TheVariants.{Trace, Check, Play}
+use Rattle.uring_options.specs.declared.answers.Options.TheVariants.{Trace, Play}
 use Rattle.uring_options.proofs.CommandLine.{explain_asked, check_asked, play_asked, trace_asked, none_asked, untraced_over}
 use Rattle.uring_options.proofs.CommandOptions.{HasNumbers, no_numbers, numbers_written}
 use Rattle.uring_options.proofs.Refusals.{is_asked, all_asked, all_small, all_faults, refused_small, refused_by_words, small_exactly}
@@ -44,32 +44,43 @@ pub returns-in-Some-clause-words : goal.returns-in-Some-clause-words
 returns-in-Some-clause-words c =
     all_faults (texts c.args.args.now) _ c.explained.result c.explained.ensures.err
 
-pub traced_setup_of-requires-clause-numbers : goal.traced_setup_of-requires-clause-numbers
-traced_setup_of-requires-clause-numbers c =
+pub checked-requires-clause-numbers : goal.checked-requires-clause-numbers
+checked-requires-clause-numbers c =
     let asks = check_asked c.in_ok-matches.matches (texts c.args.args.now) _ c.in_ok-matches.ensures.matches c.in-Some-subcommand_matches.ensures.rows (c.in-Some-subcommand_matches.ensures.found.0 refl) in
     let has = subst HasNumbers asks.rows_are (numbers_written (texts c.args.args.now) c.in_ok-matches.ensures.kinds) in
     (has.numbers, has.given)
 
-pub traced_setup_of-requires-clause-stop : goal.traced_setup_of-requires-clause-stop
-traced_setup_of-requires-clause-stop c =
+pub checked-requires-clause-stop : goal.checked-requires-clause-stop
+checked-requires-clause-stop c =
     let asks = check_asked c.in_ok-matches.matches (texts c.args.args.now) _ c.in_ok-matches.ensures.matches c.in-Some-subcommand_matches.ensures.rows (c.in-Some-subcommand_matches.ensures.found.0 refl) in
     let has = subst HasNumbers asks.rows_are (numbers_written (texts c.args.args.now) c.in_ok-matches.ensures.kinds) in
     (has.stops, has.stop_given)
 
-pub returns-in_err-traced_setup_of-clause-small : goal.returns-in_err-traced_setup_of-clause-small
-returns-in_err-traced_setup_of-clause-small c =
+pub checked-requires-clause-every : goal.checked-requires-clause-every
+checked-requires-clause-every c =
     let asks = check_asked c.in_ok-matches.matches (texts c.args.args.now) _ c.in_ok-matches.ensures.matches c.in-Some-subcommand_matches.ensures.rows (c.in-Some-subcommand_matches.ensures.found.0 refl) in
-    refused_small (texts c.args.args.now) _ _ c.in_err-traced_setup_of.field-0.0 _ (search rules) c.in_ok-matches.ensures.kinds asks c.in_err-traced_setup_of.ensures.err
+    let has = subst HasNumbers asks.rows_are (numbers_written (texts c.args.args.now) c.in_ok-matches.ensures.kinds) in
+    (has.is_all, has.all_given)
+
+pub checked-requires-clause-apart : goal.checked-requires-clause-apart
+checked-requires-clause-apart c =
+    let asks = check_asked c.in_ok-matches.matches (texts c.args.args.now) _ c.in_ok-matches.ensures.matches c.in-Some-subcommand_matches.ensures.rows (c.in-Some-subcommand_matches.ensures.found.0 refl) in
+    let has = subst HasNumbers asks.rows_are (numbers_written (texts c.args.args.now) c.in_ok-matches.ensures.kinds) in
+    (has.is_apart, has.apart_given)
 
 pub returns-in-Some-subcommand_matches-clause-ok : goal.returns-in-Some-subcommand_matches-clause-ok
 returns-in-Some-subcommand_matches-clause-ok c =
     let asks = check_asked c.in_ok-matches.matches (texts c.args.args.now) _ c.in_ok-matches.ensures.matches c.in-Some-subcommand_matches.ensures.rows (c.in-Some-subcommand_matches.ensures.found.0 refl) in
-    is_asked (texts c.args.args.now) _ _ (Check c.in_ok-traced_setup_of.field-0) c.in_ok-matches.ensures.kinds asks (c.in_ok-traced_setup_of.ensures.ok.0, c.in_ok-traced_setup_of.ensures.ok.1, (refl, c.in_ok-traced_setup_of.ensures.ok.2))
+    all_asked (texts c.args.args.now) _ _ c.checked.result c.in_ok-matches.ensures.kinds asks c.checked.ensures.ok
 
 pub returns-in-Some-subcommand_matches-clause-small : goal.returns-in-Some-subcommand_matches-clause-small
 returns-in-Some-subcommand_matches-clause-small c =
     let asks = check_asked c.in_ok-matches.matches (texts c.args.args.now) _ c.in_ok-matches.ensures.matches c.in-Some-subcommand_matches.ensures.rows (c.in-Some-subcommand_matches.ensures.found.0 refl) in
-    small_exactly (texts c.args.args.now) _ (is_asked (texts c.args.args.now) _ _ (Check c.in_ok-traced_setup_of.field-0) c.in_ok-matches.ensures.kinds asks (c.in_ok-traced_setup_of.ensures.ok.0, c.in_ok-traced_setup_of.ensures.ok.1, (refl, c.in_ok-traced_setup_of.ensures.ok.2))) tt
+    all_small (texts c.args.args.now) _ _ c.checked.result c.in_ok-matches.ensures.kinds asks c.checked.ensures.ok c.checked.ensures.err
+
+pub returns-in-Some-subcommand_matches-clause-words : goal.returns-in-Some-subcommand_matches-clause-words
+returns-in-Some-subcommand_matches-clause-words c =
+    all_faults (texts c.args.args.now) _ c.checked.result c.checked.ensures.err
 
 pub setup_of-requires : goal.setup_of-requires
 setup_of-requires c =
@@ -98,32 +109,37 @@ returns-in-Some-subcommand_matches-2-clause-small c =
     let asks = play_asked c.in_ok-matches.matches (texts c.args.args.now) _ c.in_ok-matches.ensures.matches c.in-Some-subcommand_matches-2.ensures.rows (c.in-Some-subcommand_matches-2.ensures.found.0 refl) in
     small_exactly (texts c.args.args.now) _ (is_asked (texts c.args.args.now) _ _ (Play c.in_ok-setup_of.field-0 c.workers_of.result) c.in_ok-matches.ensures.kinds asks (c.in_ok-setup_of.ensures.ok.0, c.in_ok-setup_of.ensures.ok.1, (refl, c.in_ok-setup_of.ensures.ok.2, c.workers_of.ensures))) tt
 
-pub traced_setup_of-requires-in-Some-subcommand_matches-3-clause-numbers : goal.traced_setup_of-requires-in-Some-subcommand_matches-3-clause-numbers
-traced_setup_of-requires-in-Some-subcommand_matches-3-clause-numbers c =
+pub traced-requires-clause-numbers : goal.traced-requires-clause-numbers
+traced-requires-clause-numbers c =
     let asks = trace_asked c.in_ok-matches.matches (texts c.args.args.now) _ c.in_ok-matches.ensures.matches c.in-Some-subcommand_matches-3.ensures.rows (c.in-Some-subcommand_matches-3.ensures.found.0 refl) in
     let has = subst HasNumbers asks.rows_are (numbers_written (texts c.args.args.now) c.in_ok-matches.ensures.kinds) in
     (has.numbers, has.given)
 
-pub traced_setup_of-requires-in-Some-subcommand_matches-3-clause-stop : goal.traced_setup_of-requires-in-Some-subcommand_matches-3-clause-stop
-traced_setup_of-requires-in-Some-subcommand_matches-3-clause-stop c =
+pub traced-requires-clause-stop : goal.traced-requires-clause-stop
+traced-requires-clause-stop c =
     let asks = trace_asked c.in_ok-matches.matches (texts c.args.args.now) _ c.in_ok-matches.ensures.matches c.in-Some-subcommand_matches-3.ensures.rows (c.in-Some-subcommand_matches-3.ensures.found.0 refl) in
     let has = subst HasNumbers asks.rows_are (numbers_written (texts c.args.args.now) c.in_ok-matches.ensures.kinds) in
     (has.stops, has.stop_given)
 
-pub returns-in_err-traced_setup_of-in-Some-subcommand_matches-3-clause-small : goal.returns-in_err-traced_setup_of-in-Some-subcommand_matches-3-clause-small
-returns-in_err-traced_setup_of-in-Some-subcommand_matches-3-clause-small c =
+pub traced-requires-clause-echo : goal.traced-requires-clause-echo
+traced-requires-clause-echo c =
     let asks = trace_asked c.in_ok-matches.matches (texts c.args.args.now) _ c.in_ok-matches.ensures.matches c.in-Some-subcommand_matches-3.ensures.rows (c.in-Some-subcommand_matches-3.ensures.found.0 refl) in
-    refused_small (texts c.args.args.now) _ _ c.in_err-traced_setup_of-in-Some-subcommand_matches-3.field-0.0 _ (search rules) c.in_ok-matches.ensures.kinds asks c.in_err-traced_setup_of-in-Some-subcommand_matches-3.ensures.err
+    let has = subst HasNumbers asks.rows_are (numbers_written (texts c.args.args.now) c.in_ok-matches.ensures.kinds) in
+    (has.echoes, has.echo_given)
 
 pub returns-in-Some-subcommand_matches-3-clause-ok : goal.returns-in-Some-subcommand_matches-3-clause-ok
 returns-in-Some-subcommand_matches-3-clause-ok c =
     let asks = trace_asked c.in_ok-matches.matches (texts c.args.args.now) _ c.in_ok-matches.ensures.matches c.in-Some-subcommand_matches-3.ensures.rows (c.in-Some-subcommand_matches-3.ensures.found.0 refl) in
-    is_asked (texts c.args.args.now) _ _ (Trace c.in_ok-traced_setup_of-in-Some-subcommand_matches-3.field-0) c.in_ok-matches.ensures.kinds asks (c.in_ok-traced_setup_of-in-Some-subcommand_matches-3.ensures.ok.0, c.in_ok-traced_setup_of-in-Some-subcommand_matches-3.ensures.ok.1, (refl, c.in_ok-traced_setup_of-in-Some-subcommand_matches-3.ensures.ok.2))
+    all_asked (texts c.args.args.now) _ _ c.traced.result c.in_ok-matches.ensures.kinds asks c.traced.ensures.ok
 
 pub returns-in-Some-subcommand_matches-3-clause-small : goal.returns-in-Some-subcommand_matches-3-clause-small
 returns-in-Some-subcommand_matches-3-clause-small c =
     let asks = trace_asked c.in_ok-matches.matches (texts c.args.args.now) _ c.in_ok-matches.ensures.matches c.in-Some-subcommand_matches-3.ensures.rows (c.in-Some-subcommand_matches-3.ensures.found.0 refl) in
-    small_exactly (texts c.args.args.now) _ (is_asked (texts c.args.args.now) _ _ (Trace c.in_ok-traced_setup_of-in-Some-subcommand_matches-3.field-0) c.in_ok-matches.ensures.kinds asks (c.in_ok-traced_setup_of-in-Some-subcommand_matches-3.ensures.ok.0, c.in_ok-traced_setup_of-in-Some-subcommand_matches-3.ensures.ok.1, (refl, c.in_ok-traced_setup_of-in-Some-subcommand_matches-3.ensures.ok.2))) tt
+    all_small (texts c.args.args.now) _ _ c.traced.result c.in_ok-matches.ensures.kinds asks c.traced.ensures.ok c.traced.ensures.err
+
+pub returns-in-Some-subcommand_matches-3-clause-words : goal.returns-in-Some-subcommand_matches-3-clause-words
+returns-in-Some-subcommand_matches-3-clause-words c =
+    all_faults (texts c.args.args.now) _ c.traced.result c.traced.ensures.err
 
 pub returns-clause-ok : goal.returns-clause-ok
 returns-clause-ok c =
@@ -132,8 +148,8 @@ returns-clause-ok c =
     (λ e. true≢false (sym (c.in_default.ensures.found.1 e))) (λ e. true≢false (sym (c.in_default-subcommand_matches.ensures.found.1 e)))
     (λ e. true≢false (sym (c.in_default-subcommand_matches-2.ensures.found.1 e))) (λ e. true≢false (sym (c.in-None.ensures.found.1 e)))
     in
-    is_asked (texts c.args.args.now) [] _ (Trace c.in_ok-setup_over-in-None.field-0) c.in_ok-matches.ensures.kinds asks
-    (no_numbers.numbers, no_numbers.given, (refl, untraced_over [] no_numbers.numbers _ (inl refl) c.in_ok-setup_over-in-None.ensures.ok))
+    is_asked (texts c.args.args.now) [] _ (Trace c.in_ok-setup_over-in-None.field-0 false) c.in_ok-matches.ensures.kinds asks
+    (no_numbers.numbers, no_numbers.given, (refl, untraced_over [] no_numbers.numbers _ (inl refl) c.in_ok-setup_over-in-None.ensures.ok, inl refl))
 
 pub returns-in_err-matches-clause-small : goal.returns-in_err-matches-clause-small
 returns-in_err-matches-clause-small c =

@@ -1,13 +1,23 @@
-use Rattle.std.proofs.Common.{◌≡◌, ◌++◌, refl, rules, arith}
-use Rattle.std.proofs.lemmas.Grind.{common_steps}
+use Rattle.std.proofs.Common.{◌≡◌, sym, ap, ◌∙◌, subst, refl, rules}
+use Rattle.std.specs.Prelude.{Bool, true, ◌++◌}
+use Rattle.std.proofs.lemmas.Result.{IfOk-weaker}
+use Rattle.uring_threads.specs.Report.{Report}
+use Rattle.uring_play.specs.Plays.{IsPlay}
 use Rattle.uring_play.proofs.PlayedThrough.{over_is_play}
 use Rattle.uring_play.proofs.drive.settle_all.Goals as goal
+
+pub returns-clause-setup : goal.returns-clause-setup
+returns-clause-setup c =
+    IfOk-weaker c.whole_play.result _ _ (λ played whole. ap (λ (r : Report). r.setup) whole.report_is ∙ c.in-Ok.ensures.setup) c.whole_play.ensures
 
 pub returns-clause-play : goal.returns-clause-play
 returns-clause-play c = λ calls submitted.
     let told = c.in-Ok.ensures in
-    let all : c.extend_from_slice.new.self.items ≡ c.args.ended.applied.app.received ++ c.in-Ok.report.undelivered = first_of (search rules, grind (arith, common_steps)) in
-    over_is_play c.args.ended.kernel.kept.setup calls c.args.ended.applied.app c.args.ended.kernel c.args.ended.workers.items c.in-Ok.report c.extend_from_slice.new.self.items
+    let ended = c.args.ended in
+    IfOk-weaker c.whole_play.result _ _
+    (λ played whole.
+    subst (λ (r : Report). IsPlay ended.kernel.kept.setup calls r.trace played.completions.items) (sym whole.report_is)
+    (over_is_play ended.kernel.kept.setup calls ended.applied.app ended.kernel ended.workers.items c.in-Ok.report played.completions.items
     (record {
       setup = told.setup;
       same = refl;
@@ -17,9 +27,10 @@ returns-clause-play c = λ calls submitted.
       closed = told.closed;
       reaped = told.reaped;
       posted = told.posted;
-      idle = c.if-not-is_over.ensures.idle (search rules);
-      submitted = submitted (c.if-not-is_over.ensures.applied (search rules));
-      none_outstanding = c.if-not-is_empty.ensures.outstanding (search rules);
-      none_waits = c.if-not-is_empty.ensures.waiting (search rules);
+      idle = c.are_done-is_over.ensures.idle whole.over;
+      submitted = submitted (c.are_done-is_over.ensures.applied whole.over);
+      none_outstanding = whole.none_outstanding;
+      none_waits = whole.none_waits;
     })
-    all
+    (whole.completions ∙ ap (λ xs. xs ++ c.in-Ok.report.undelivered) (sym c.requires.reaped))))
+    c.whole_play.ensures

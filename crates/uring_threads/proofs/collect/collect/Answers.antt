@@ -5,7 +5,7 @@ use Rattle.uring_threads.proofs.collect.collect.Goals as goal
 
 pub returns-in_err-collect_next-clause-err : goal.returns-in_err-collect_next-clause-err
 returns-in_err-collect_next-clause-err c =
-    on_err c.from_residual.result (c.loop-count.count, collects_then c.args.kept.now c.loop-count.kept c.collect_next.new.kept c.args.workers c.args.place c.loop-count.count 0 c.loop-count.count (omega arith) c.loop-count.invariant.4 c.in_err-collect_next.ensures.err)
+    on_err c.from_residual.result (c.loop-count.count, omega arith, collects_then c.args.kept.now c.loop-count.kept c.collect_next.new.kept c.args.workers c.args.place c.loop-count.count 0 c.loop-count.count (omega arith) c.loop-count.invariant.4 c.in_err-collect_next.ensures.err)
 
 pub returns-then-not-branch-clause-ok : goal.returns-then-not-branch-clause-ok
 returns-then-not-branch-clause-ok c =

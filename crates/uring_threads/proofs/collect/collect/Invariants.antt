@@ -1,6 +1,7 @@
 use Rattle.std.specs.Prelude.{◌≡◌}
 use Rattle.rtrb.specs.Ring.{received, SameConsumer}
-use Rattle.uring_threads.specs.Collected.{AreTakenIn, Collects}
+use Rattle.uring_threads.specs.Collected.{Collects}
+use Rattle.uring_threads.specs.Dispatched.{AreTakenIn}
 use Rattle.uring_threads.proofs.collect.collect.Given as goal
 
 abbrev pub invariant-loop-count : goal.invariant-loop-count

@@ -1,9 +1,34 @@
-use Rattle.std.proofs.Common.{◌+◌, refl}
+use Rattle.std.proofs.Common.{◌+◌, length, refl, ◌∙◌, arith}
+use Rattle.uring_threads.specs.Kept.{now}
+use Rattle.uring_threads.specs.Tallies.{finishes_counted}
 use Rattle.uring_threads.proofs.Collecting.{on_err}
+use Rattle.uring_threads.proofs.FewResults.{few_at, few_in_all}
+use Rattle.uring_threads.proofs.Posting.{posts_then}
 use Rattle.uring_threads.proofs.TraceSteps.{appends_then}
+use Rattle.uring_threads.proofs.Turning.{lanes_then}
 use Rattle.uring_threads.proofs.collect.collect_all.Goals as goal
 
 pub returns-in_err-count-clause-err : goal.returns-in_err-count-clause-err
 returns-in_err-count-clause-err c =
     let later = c.in_err-count.ensures.err in
     on_err c.from_residual.result (c.loop-place.count + later.0, appends_then _ _ _ _ _ _ c.loop-place.invariant.tally later.1 refl)
+
+pub returns-clause-few : goal.returns-clause-few
+returns-clause-few c = few_in_all (length c.args.lanes.now) c.loop-place.place c.args.kept.now c.loop-place.kept c.loop-place.invariant.few
+
+pub returns-in_err-count-clause-few : goal.returns-in_err-count-clause-few
+returns-in_err-count-clause-few c =
+    few_in_all (length c.args.lanes.now) (c.loop-place.place + 1) c.args.kept.now c.collect_at.new.kept
+    (few_at c.args.lanes.now c.loop-place.lanes c.loop-place.place c.args.kept.now c.loop-place.kept c.collect_at.new.kept c.loop-place.invariant.lanes c.loop-place.invariant.few c.collect_at.ensures.few)
+
+pub loop-place-preserved : goal.loop-place-preserved
+loop-place-preserved c =
+    record {
+      most = omega (arith, c.loop-place.invariant.most, c.in_ok-count.ensures.most);
+      carried = c.collect_at.ensures.carried;
+      lanes = lanes_then c.args.lanes.now c.loop-place.lanes c.collect_at.new.lanes c.loop-place.invariant.lanes c.collect_at.ensures.lanes;
+      posts = posts_then (now c.args.kept.now) (now c.loop-place.kept) (now c.collect_at.new.kept) c.loop-place.invariant.posts c.collect_at.ensures.posts;
+      tally = appends_then c.args.kept.now c.loop-place.kept c.collect_at.new.kept (finishes_counted c.loop-place.count) (finishes_counted c.in_ok-count.field-0) (finishes_counted (c.loop-place.count + c.in_ok-count.field-0)) c.loop-place.invariant.tally c.in_ok-count.ensures.tally refl;
+      few = few_at c.args.lanes.now c.loop-place.lanes c.loop-place.place c.args.kept.now c.loop-place.kept c.collect_at.new.kept c.loop-place.invariant.lanes c.loop-place.invariant.few c.collect_at.ensures.few;
+      idle = λ none. c.in_ok-count.ensures.idle (omega (arith, none)) ∙ c.loop-place.invariant.idle (omega (arith, none));
+    }

@@ -1,9 +1,13 @@
 use Rattle.std.proofs.Common.{refl, length}
 use Rattle.rtrb.specs.Ring.{known_items}
 use Rattle.uring_threads.proofs.Carrying.{some_collected, carried_set}
+use Rattle.uring_threads.proofs.FewResults.{few_collected}
 use Rattle.uring_threads.proofs.collect.collect_at.Goals as goal
 
 pub returns-clause-carried : goal.returns-clause-carried
 returns-clause-carried c =
     let p = some_collected c.collect.result c.args.kept.now c.collect.new.kept (length c.args.lanes.now) c.args.place (known_items c.collect.new.results) c.collect.ensures.ok c.collect.ensures.err in
     carried_set c.args.kept.now c.collect.new.kept p.0 c.args.place c.args.lanes.now _ c.index-lanes-place.result c.requires.carried c.requires.place p.1 refl c.collect.ensures.taken
+
+pub returns-clause-few : goal.returns-clause-few
+returns-clause-few c = few_collected c.collect.result c.args.kept.now c.collect.new.kept (length c.args.lanes.now) c.args.place (known_items c.collect.new.results) c.collect.ensures.ok c.collect.ensures.err

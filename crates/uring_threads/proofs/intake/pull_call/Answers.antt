@@ -1,6 +1,7 @@
 use Rattle.std.proofs.Common.{sym, subst, arith}
 use Rattle.uring_threads.specs.Kept.{now}
-use Rattle.uring_threads.specs.Taking.{Tied, TakesIn}
+use Rattle.uring_threads.specs.Taking.{TakesIn}
+use Rattle.uring_threads.specs.Turns.{Tied}
 use Rattle.uring_threads.proofs.Tying.{on_err, takes_nothing, takes_taken, takes_shut, tied_taken}
 use Rattle.uring_threads.proofs.intake.pull_call.Goals as goal
 

@@ -1,7 +1,9 @@
-use Rattle.std.proofs.Common.{subst, sym, refl}
-use Rattle.uring_threads.specs.Tallies.{finishes_counted, issues_counted, reaps_counted}
-use Rattle.uring_threads.specs.Turns.{AreTies}
+use Rattle.std.proofs.Common.{length, subst, sym, refl}
+use Rattle.uring_threads.specs.Tallies.{TakesFewResults, finishes_counted, issues_counted, reaps_counted}
+use Rattle.std.proofs.lemmas.Result.{IfOk-weaker}
+use Rattle.uring_threads.specs.Turns.{AreTies, Counts}
 use Rattle.uring_threads.proofs.Collecting.{on_err}
+use Rattle.uring_threads.proofs.FewResults.{few_of_none, few_behind, few_before}
 use Rattle.uring_threads.proofs.TraceSteps.{appends_none}
 use Rattle.uring_threads.proofs.Turning.{ties_taken, ties_posted, ties_worked, ties_unmoved, ties_delivered, counts_all, some_then, lanes_then}
 use Rattle.uring_threads.proofs.turns.make_turn.Goals as goal
@@ -56,8 +58,17 @@ returns-clause-ties g c =
 
 pub returns-clause-counts : goal.returns-clause-counts
 returns-clause-counts g c =
-    counts_all c.args.kept.now c.take_in.new.kept c.collect_all.new.kept c.issue_all.new.kept c.deliver.new.kept c.in_ok-popped.popped c.in_ok-finished.finished c.in_ok-issued.issued c.in_ok-delivered.delivered
+    let counted = counts_all c.args.kept.now c.take_in.new.kept c.collect_all.new.kept c.issue_all.new.kept c.deliver.new.kept c.in_ok-popped.popped c.in_ok-finished.finished c.in_ok-issued.issued c.in_ok-delivered.delivered
     c.in_ok-popped.ensures.taken c.in_ok-finished.ensures.tally c.in_ok-finished.ensures.idle c.in_ok-issued.ensures.tally c.in_ok-issued.ensures.idle c.in_ok-delivered.ensures.tally c.in_ok-delivered.ensures.idle
+    in
+    IfOk-weaker c.unless_waiting.result _ _ (λ made same. subst (λ t. Counts c.args.kept.now c.deliver.new.kept t) (sym same) counted) c.unless_waiting.ensures.turn
+
+pub returns-clause-err : goal.returns-clause-err
+returns-clause-err g c =
+    let counted = counts_all c.args.kept.now c.take_in.new.kept c.collect_all.new.kept c.issue_all.new.kept c.deliver.new.kept c.in_ok-popped.popped c.in_ok-finished.finished c.in_ok-issued.issued c.in_ok-delivered.delivered
+    c.in_ok-popped.ensures.taken c.in_ok-finished.ensures.tally c.in_ok-finished.ensures.idle c.in_ok-issued.ensures.tally c.in_ok-issued.ensures.idle c.in_ok-delivered.ensures.tally c.in_ok-delivered.ensures.idle
+    in
+    on_err c.unless_waiting.result (_, counted.appends)
 
 pub returns-clause-lanes : goal.returns-clause-lanes
 returns-clause-lanes g c = lanes_then c.args.lanes.now c.collect_all.new.lanes c.issue_all.new.lanes c.collect_all.ensures.lanes c.issue_all.ensures.lanes
@@ -75,3 +86,26 @@ returns-in_err-issued-clause-ties g c =
     ties_worked c.args.kept.now c.take_in.new.kept c.collect_all.new.kept c.issue_all.new.kept (g.P.KernelPort.pulled c.args.port.now) (g.P.KernelPort.pulled c.take_in.new.port) (g.P.KernelPort.delivered c.args.port.now) (g.P.KernelPort.delivered c.take_in.new.port) c.args.intake.now c.take_in.new.intake c.args.lanes.now c.collect_all.new.lanes c.issue_all.new.lanes
     c.in_ok-popped.popped (finishes_counted c.in_ok-finished.finished) (issues_counted c.in_err-issued.ensures.err.0) c.requires.ties c.in_ok-popped.ensures.taken c.take_in.ensures.tied c.take_in.ensures.once c.take_in.ensures.completions c.take_in.ensures.delivered
     c.in_ok-finished.ensures.tally refl c.collect_all.ensures.posts c.collect_all.ensures.carried c.in_err-issued.ensures.err.1 refl c.issue_all.ensures.stays c.issue_all.ensures.carried
+
+pub returns-in_err-popped-clause-few_results : goal.returns-in_err-popped-clause-few_results
+returns-in_err-popped-clause-few_results g c = few_of_none (length c.args.lanes.now) c.args.kept.now c.take_in.new.kept _ c.in_err-popped.ensures.err.appends refl
+
+pub returns-in_err-finished-clause-few_results : goal.returns-in_err-finished-clause-few_results
+returns-in_err-finished-clause-few_results g c = few_behind (length c.args.lanes.now) c.args.kept.now c.take_in.new.kept c.collect_all.new.kept _ c.in_ok-popped.ensures.taken.appends refl c.collect_all.ensures.few
+
+pub returns-in_err-issued-clause-few_results : goal.returns-in_err-issued-clause-few_results
+returns-in_err-issued-clause-few_results g c =
+    let taken : TakesFewResults (length c.args.lanes.now) c.args.kept.now c.collect_all.new.kept = few_behind (length c.args.lanes.now) c.args.kept.now c.take_in.new.kept c.collect_all.new.kept _ c.in_ok-popped.ensures.taken.appends refl c.collect_all.ensures.few in
+    few_before (length c.args.lanes.now) c.args.kept.now c.collect_all.new.kept c.issue_all.new.kept _ taken c.in_err-issued.ensures.err.1 refl
+
+pub returns-in_err-delivered-clause-few_results : goal.returns-in_err-delivered-clause-few_results
+returns-in_err-delivered-clause-few_results g c =
+    let taken : TakesFewResults (length c.args.lanes.now) c.args.kept.now c.collect_all.new.kept = few_behind (length c.args.lanes.now) c.args.kept.now c.take_in.new.kept c.collect_all.new.kept _ c.in_ok-popped.ensures.taken.appends refl c.collect_all.ensures.few in
+    let issued : TakesFewResults (length c.args.lanes.now) c.args.kept.now c.issue_all.new.kept = few_before (length c.args.lanes.now) c.args.kept.now c.collect_all.new.kept c.issue_all.new.kept _ taken c.in_ok-issued.ensures.tally refl in
+    few_before (length c.args.lanes.now) c.args.kept.now c.issue_all.new.kept c.deliver.new.kept _ issued (appends_none c.issue_all.new.kept c.deliver.new.kept c.in_err-delivered.ensures.err) refl
+
+pub returns-clause-few_results : goal.returns-clause-few_results
+returns-clause-few_results g c =
+    let taken : TakesFewResults (length c.args.lanes.now) c.args.kept.now c.collect_all.new.kept = few_behind (length c.args.lanes.now) c.args.kept.now c.take_in.new.kept c.collect_all.new.kept _ c.in_ok-popped.ensures.taken.appends refl c.collect_all.ensures.few in
+    let issued : TakesFewResults (length c.args.lanes.now) c.args.kept.now c.issue_all.new.kept = few_before (length c.args.lanes.now) c.args.kept.now c.collect_all.new.kept c.issue_all.new.kept _ taken c.in_ok-issued.ensures.tally refl in
+    few_before (length c.args.lanes.now) c.args.kept.now c.issue_all.new.kept c.deliver.new.kept _ issued c.in_ok-delivered.ensures.tally refl

@@ -1,8 +1,8 @@
 use Rattle.std.proofs.Common.{Bool, ℕ, List, ◌++◌, take}
-use Rattle.uring_entry.specs.Setup.{Setup}
+use Rattle.uring_check.specs.Rules.{Rules}
 use Rattle.uring_check.specs.Checking.{Has}
 use Rattle.uring_check.proofs.reading.Reading.feed.Given as goal
 
 -- what was to be shown, as far as the loop has come
 abbrev pub invariant-loop-byte : goal.invariant-loop-byte
-invariant-loop-byte l = (g : Setup) (all : Bool) (before : List ℕ) → Has g all l.initial.self before → Has g all l.self (before ++ take l.byte-index l.bytes)
+invariant-loop-byte l = (g : Rules) (all : Bool) (before : List ℕ) → Has g all l.initial.self before → Has g all l.self (before ++ take l.byte-index l.bytes)

@@ -1,10 +1,9 @@
 use Rattle.std.proofs.Common.{ℕ, List, ◌++◌, take}
-use Rattle.std.specs.Prelude.{string_bytes}
-use Rattle.uring_entry.specs.Setup.{Setup}
+use Rattle.uring_trace.specs.Exchanges.{Manner}
 use Rattle.uring_trace.specs.Sessions.{Has}
 use Rattle.uring_trace.proofs.session.Session.feed.Given as goal
 
 -- what was to be shown, as far as the loop has come
 abbrev pub invariant-loop-byte : goal.invariant-loop-byte
 invariant-loop-byte l =
-    (setup : Setup) (before told : List ℕ) → Has setup l.initial.self before (told ++ string_bytes l.initial.text) → Has setup l.self (before ++ take l.byte-index l.bytes) (told ++ string_bytes l.text)
+    (manner : Manner) (before told : List ℕ) → Has manner l.initial.self before (told ++ l.initial.text.items) → Has manner l.self (before ++ take l.byte-index l.bytes) (told ++ l.text.items)

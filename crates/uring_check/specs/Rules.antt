@@ -1,0 +1,39 @@
+-- By what a recorded trace is judged.
+use Rattle.std.specs.Prelude.{◌≡◌, Bool, true, false}
+use Rattle.uring_entry.specs.Requests.{no_bytes}
+use Rattle.uring_entry.specs.Setup.{Setup}
+use Rattle.uring_machine.specs.CalledFor.{CalledFor, IsLawful}
+use Rattle.uring_machine.specs.Histories.{History, world, IsLawfulApart}
+use Rattle.uring_machine.specs.StepAnswers.{CalledForApart}
+use Rattle.uring_machine.specs.World.{World}
+use Rattle.uring_machine.specs.declared.answer.Answer.{Answer}
+use Rattle.uring_machine.specs.declared.answer.Answer.TheVariants as answer
+use Rattle.uring_machine.specs.declared.step.Step.{Step}
+use Rattle.uring_machine.specs.declared.step.Step.TheVariants as step
+use Rattle.uring_trace.specs.Spelling.{IsFile}
+
+-- A set-up, and whether a trace is judged apart from what operations give: by a ring without files, whose requests end with any result.
+pub record Rules : Type 0 where
+  pub setup : Setup
+  pub is_apart : Bool
+
+abbrev pub CalledIn : Bool → Setup → World → Step → Answer → Type 0
+CalledIn false g w s a = CalledFor g w s a
+CalledIn true g w s a = CalledForApart g w s a
+
+-- the answer is called for behind a history
+abbrev pub IsCalled : Rules → History → Step → Answer → Type 0
+IsCalled r h s a = CalledIn r.is_apart r.setup (world r.setup h) s a
+
+abbrev pub LawfulIn : Bool → Setup → History → Type 0
+LawfulIn false g h = IsLawful g h
+LawfulIn true g h = IsLawfulApart g h
+
+-- each answer of a history is called for by what came before it
+abbrev pub IsLawfulBy : Rules → History → Type 0
+IsLawfulBy r h = LawfulIn r.is_apart r.setup h
+
+-- An end without files is told by its result alone: that has 32 bits and a sign, and no bytes are given. Of any other answer nothing is asked. Our own rule
+abbrev pub IsPlain : Answer → Bool → Step → Type 0
+IsPlain (answer.Ended res bytes) true (step.Finish n) = IsFile res × (bytes ≡ no_bytes)
+IsPlain a apart s = Unit {0}

@@ -1,0 +1,23 @@
+use Rattle.std.proofs.Common.{sym, subst}
+use Rattle.uring_entry.specs.Requests.{with_cancelled}
+use Rattle.uring_dispatch.specs.Held.{AreHeld}
+use Rattle.uring_dispatch.proofs.Choosing.{held-failing, one_chosen, chosen-nobody}
+use Rattle.uring_dispatch.proofs.cancels.choose_target.Goals as goal
+
+pub returns-in_default-clause-chosen : goal.returns-in_default-clause-chosen
+returns-in_default-clause-chosen c = chosen-nobody _ _ _ c.requires.sound c.requires.listed
+
+pub returns-in_default-clause-held : goal.returns-in_default-clause-held
+returns-in_default-clause-held c = λ r h named is one. held-failing _ _ r c.args.n 1 h
+
+pub returns-then-is_running-clause-chosen : goal.returns-then-is_running-clause-chosen
+returns-then-is_running-clause-chosen c = chosen-nobody _ _ _ c.requires.sound c.requires.listed
+
+pub returns-then-is_running-clause-held : goal.returns-then-is_running-clause-held
+returns-then-is_running-clause-held c = λ r h named is one. held-failing _ _ r c.args.n 113 h
+
+pub returns-clause-held : goal.returns-clause-held
+returns-clause-held c = λ r h named is one.
+    subst (λ xs. AreHeld c.choose.new.window c.args.groups.now (with_cancelled r xs))
+    (sym (one_chosen r c.args.n c.in-Some.m is one (sym (c.in-Some.ensures.target r h named))))
+    (c.choose.ensures.held r h)

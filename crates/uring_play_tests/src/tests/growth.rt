@@ -1,0 +1,61 @@
+//! What a play writes where a growth of memory is refused.
+//!
+//! The test passes whether a growth is refused in it or none, and tells where one was; `growth/check` runs it with each growth refused in turn.
+
+use std::cmp::min;
+use std::io;
+use std::io::Write;
+use std::test::Fail;
+use uring_play::{PlayFault, Setup, play};
+
+/// A writer of at most 128 bytes, which takes no memory.
+#[derive(Drop)]
+struct FixedWriter {
+    bytes: [u8; 128],
+    len: usize,
+}
+
+impl Write for FixedWriter {
+    fn write(&mut self, buf: &[u8]) -> io::Result<usize> {
+        let rest = self.bytes.get_mut(self.len..).unwrap_or_default();
+        let count = min(rest.len(), buf.len());
+        rest[..count].copy_from_slice(&buf[..count]);
+        self.len = self.len.saturating_add(count);
+        Ok(count)
+    }
+
+    fn flush(&mut self) -> io::Result<()> {
+        Ok(())
+    }
+}
+
+/// A write that lengthens its file, with a link to a no-op, and a read of that file by the same worker.
+const INPUT: &str = "write 1 L 0 2 6162\nnop 2 -\n\nread 3 - 0 0 4\n";
+
+/// What is written with ample memory.
+const AMPLE: &str = "cqe 1 2 -\ncqe 2 0 -\ncqe 3 4 00006162\ntaken 3 dropped 0\n";
+
+/// What is written where the write is refused memory: it dooms the no-op, and leaves its file empty.
+const WRITE_REFUSED: &str = "cqe 1 -12 -\ncqe 2 -125 -\ncqe 3 0 -\ntaken 3 dropped 0\n";
+
+#[test]
+fn a_refused_growth_ends_a_play_or_is_answered(rt: HostRuntime) -> Result<(), Fail> {
+    let setup = Setup::new(4, Some(4), 2, 0)?;
+    let mut writer = FixedWriter {
+        bytes: [0; 128],
+        len: 0,
+    };
+    let mut reader = INPUT.as_bytes();
+    let end = play(rt, rt.alloc(), &mut reader, &mut writer, &setup, 2);
+    let written = &writer.bytes[..min(writer.len, 128)];
+    if end == Err(PlayFault::Memory) {
+        assert!(rt; written.is_empty());
+    } else {
+        assert_eq!(rt; end, Ok(()));
+        assert!(rt; written == AMPLE.as_bytes() || written == WRITE_REFUSED.as_bytes());
+    }
+    if written != AMPLE.as_bytes() {
+        println!(rt; "refused")?;
+    }
+    Ok(())
+}

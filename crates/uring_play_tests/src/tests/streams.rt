@@ -1,0 +1,246 @@
+//! Plays over streams that fail, that give and take one byte at a time, or that are interrupted, and over lines of a million letters.
+
+use std::alloc::Global;
+use std::cmp::min;
+use std::io;
+use std::io::{ErrorKind, Read, Write};
+use std::sync::Wait;
+use std::test::Fail;
+use std::thread::Threads;
+use uring_play::{PlayFault, Setup, play};
+
+/// A play of a hard chain of a write and a read, and a no-op.
+const INPUT: &str = "write 1 H 0 0 68656c6c6f\nread 2 - 0 0 5\nnop 3 -\n\n";
+
+/// What it writes.
+const OUTPUT: &str = "cqe 1 5 -\ncqe 2 5 68656c6c6f\ncqe 3 0 -\ntaken 3 dropped 0\n";
+
+/// A reader of some letters and then of some bytes, a few at a time, that fails behind them.
+#[derive(Drop)]
+struct FailingReader<'a> {
+    letters: usize,
+    rest: &'a [u8],
+}
+
+impl Read for FailingReader<'_> {
+    fn read(&mut self, buf: &mut [u8]) -> io::Result<usize> {
+        let letters = min(self.letters, buf.len());
+        if letters > 0 {
+            buf[..letters].fill(b'x');
+            self.letters = self.letters.saturating_sub(letters);
+            return Ok(letters);
+        }
+        if self.rest.is_empty() {
+            return Err(io::Error::from(ErrorKind::Other));
+        }
+        let count = min(min(self.rest.len(), buf.len()), 7);
+        buf[..count].copy_from_slice(&self.rest[..count]);
+        self.rest = &self.rest[count..];
+        Ok(count)
+    }
+}
+
+/// Whether a play of so many letters and then of this input gives a read fault, if its reader fails behind them, and writes nothing.
+fn fails_to_read<R: Threads + Wait + Copy + Send + 'static>(
+    rt: R,
+    alloc: Global,
+    letters: usize,
+    input: &[u8],
+) -> Result<bool, Fail> {
+    let setup = Setup::new(4, Some(4), 2, 0)?;
+    let mut reader = FailingReader {
+        letters,
+        rest: input,
+    };
+    let mut output = Vec::new(alloc);
+    let end = play(rt, alloc, &mut reader, &mut output, &setup, 2);
+    Ok(end == Err(PlayFault::Read) && output.is_empty())
+}
+
+#[test]
+fn a_failing_read_is_a_read_fault(rt: HostRuntime) -> Result<(), Fail> {
+    let input = INPUT.as_bytes();
+    for count in 0..=input.len() {
+        let fails = fails_to_read(rt, rt.alloc(), 0, &input[..count])?;
+        assert!(rt; fails, "after {count} bytes");
+    }
+    Ok(())
+}
+
+#[test]
+fn a_failing_read_comes_before_each_fault_of_a_line(rt: HostRuntime) -> Result<(), Fail> {
+    for input in [
+        "nop 1\n",
+        "nop 1 -\nbad 3\nnop 2 -\n",
+        "nop 1 -\nnop 1 -\nnop 1 -\nnop 1 -\nnop 1 -\n",
+        "\n\n\x00",
+    ] {
+        let fails = fails_to_read(rt, rt.alloc(), 0, input.as_bytes())?;
+        assert!(rt; fails, "behind {input}");
+    }
+    assert!(rt; fails_to_read(rt, rt.alloc(), 1_000_000, b"")?);
+    assert!(rt; fails_to_read(rt, rt.alloc(), 1_000_000, b"\nnop 1 -\n")?);
+    Ok(())
+}
+
+/// A writer with room for some bytes, which behind them fails, or takes none.
+#[derive(Drop)]
+struct FullWriter {
+    held: Vec<u8>,
+    room: usize,
+    takes_none: bool,
+}
+
+impl Write for FullWriter {
+    fn write(&mut self, buf: &[u8]) -> io::Result<usize> {
+        let count = min(self.room, buf.len());
+        if count == 0 && !self.takes_none {
+            return Err(io::Error::from(ErrorKind::Other));
+        }
+        self.held.extend_from_slice(&buf[..count])?;
+        self.room -= count;
+        Ok(count)
+    }
+
+    fn flush(&mut self) -> io::Result<()> {
+        Ok(())
+    }
+}
+
+/// Whether a writer with room for so many bytes gives a write fault, and holds the beginning of what is to be written.
+fn fails_to_write<R: Threads + Wait + Copy + Send + 'static>(
+    rt: R,
+    alloc: Global,
+    room: usize,
+    takes_none: bool,
+) -> Result<bool, Fail> {
+    let setup = Setup::new(4, Some(4), 2, 0)?;
+    let mut writer = FullWriter {
+        held: Vec::new(alloc),
+        room,
+        takes_none,
+    };
+    let end = play(rt, alloc, &mut INPUT.as_bytes(), &mut writer, &setup, 2);
+    let wanted = OUTPUT.as_bytes().get(..room).unwrap_or_default();
+    Ok(end == Err(PlayFault::Write) && writer.held.as_slice() == wanted)
+}
+
+#[test]
+fn a_failing_write_is_a_write_fault(rt: HostRuntime) -> Result<(), Fail> {
+    for room in 0..OUTPUT.len() {
+        let fails = fails_to_write(rt, rt.alloc(), room, false)?;
+        assert!(rt; fails, "room for {room} bytes");
+        let fails = fails_to_write(rt, rt.alloc(), room, true)?;
+        assert!(rt; fails, "room for {room} bytes");
+    }
+    Ok(())
+}
+
+/// A reader of some bytes, one at a time, that is interrupted at one call.
+#[derive(Drop)]
+struct SlowReader<'a> {
+    rest: &'a [u8],
+    calls: u64,
+    interrupted_at: u64,
+}
+
+impl Read for SlowReader<'_> {
+    fn read(&mut self, buf: &mut [u8]) -> io::Result<usize> {
+        let call = self.calls;
+        self.calls = call.wrapping_add(1);
+        if self.interrupted_at == call {
+            return Err(io::Error::from(ErrorKind::Interrupted));
+        }
+        let count = min(min(self.rest.len(), buf.len()), 1);
+        buf[..count].copy_from_slice(&self.rest[..count]);
+        self.rest = &self.rest[count..];
+        Ok(count)
+    }
+}
+
+/// A writer that takes one byte at a time, and is interrupted at one call.
+#[derive(Drop)]
+struct SlowWriter {
+    held: Vec<u8>,
+    calls: u64,
+    interrupted_at: u64,
+}
+
+impl Write for SlowWriter {
+    fn write(&mut self, buf: &[u8]) -> io::Result<usize> {
+        let call = self.calls;
+        self.calls = call.wrapping_add(1);
+        if self.interrupted_at == call {
+            return Err(io::Error::from(ErrorKind::Interrupted));
+        }
+        let count = min(buf.len(), 1);
+        self.held.extend_from_slice(&buf[..count])?;
+        Ok(count)
+    }
+
+    fn flush(&mut self) -> io::Result<()> {
+        Ok(())
+    }
+}
+
+/// Whether a play over slow streams, each interrupted at this call, writes all that is to be written.
+fn goes_on<R: Threads + Wait + Copy + Send + 'static>(
+    rt: R,
+    alloc: Global,
+    interrupted_at: u64,
+) -> Result<bool, Fail> {
+    let setup = Setup::new(4, Some(4), 2, 0)?;
+    let mut reader = SlowReader {
+        rest: INPUT.as_bytes(),
+        calls: 0,
+        interrupted_at,
+    };
+    let mut writer = SlowWriter {
+        held: Vec::new(alloc),
+        calls: 0,
+        interrupted_at,
+    };
+    let end = play(rt, alloc, &mut reader, &mut writer, &setup, 2);
+    Ok(end == Ok(()) && writer.held.as_slice() == OUTPUT.as_bytes())
+}
+
+#[test]
+fn slow_and_interrupted_streams_are_no_faults(rt: HostRuntime) -> Result<(), Fail> {
+    for call in 0..60 {
+        assert!(rt; goes_on(rt, rt.alloc(), call)?, "at call {call}");
+    }
+    Ok(())
+}
+
+/// The fault of a play of a line of so many letters, and of this behind it, and how much it writes.
+fn fault_of_letters<R: Threads + Wait + Copy + Send + 'static>(
+    rt: R,
+    alloc: Global,
+    before: &[u8],
+    letters: usize,
+    behind: &[u8],
+) -> Result<(Option<PlayFault>, usize), Fail> {
+    let setup = Setup::new(4, Some(4), 2, 0)?;
+    let mut input = Vec::new(alloc);
+    input.extend_from_slice(before)?;
+    input.extend_from_slice(vec![in alloc; b'x'; letters]?.as_slice())?;
+    input.extend_from_slice(behind)?;
+    let mut output = Vec::new(alloc);
+    let end = play(rt, alloc, &mut input.as_slice(), &mut output, &setup, 2);
+    Ok((end.err(), output.len()))
+}
+
+#[test]
+fn a_line_of_a_million_letters_is_bad(rt: HostRuntime) -> Result<(), Fail> {
+    let alloc = rt.alloc();
+    for (before, behind, line) in [
+        ("", "", 1),
+        ("", "\n", 1),
+        ("nop 1 -\n\n", "\nnop\n", 3),
+        ("nop 1 -\n\n", " nop 1 -", 3),
+    ] {
+        let fault = fault_of_letters(rt, alloc, before.as_bytes(), 1_000_000, behind.as_bytes())?;
+        assert_eq!(rt; fault, (Some(PlayFault::Line(line)), 0));
+    }
+    Ok(())
+}

@@ -1,0 +1,35 @@
+-- Numbers tell tables apart.
+use Rattle.std.proofs.Common.{◌≡◌, ℕ, List, [], ◌∷◌, ◌++◌, length, refl, arith}
+use Rattle.atomic_table.specs.Seated.{TableId}
+use Rattle.uring_words.specs.PortViews.{numbers_of_table, numbers_of_tables}
+
+same_table : (z y : TableId) → numbers_of_table z ≡ numbers_of_table y → z ≡ y
+same_table z y e =
+    let words : z.words ≡ y.words = cc in
+    let slots : z.slots ≡ y.slots = cc in
+    let views_name : z.views_name ≡ y.views_name = cc in
+    let atom : z.atom ≡ y.atom = cc in
+    let block : z.block ≡ y.block = cc in
+    let offset : z.offset ≡ y.offset = cc in
+    let slot_names : z.slot_names ≡ y.slot_names = cc in
+    λ i. record { words = words i; slots = slots i; views_name = views_name i; atom = atom i; block = block i; offset = offset i; slot_names = slot_names i }
+
+same_parts : (xs ys us vs : List ℕ) → length xs ≡ length us → xs ++ ys ≡ us ++ vs → (xs ≡ us) × (ys ≡ vs)
+same_parts [] ys [] vs many e = (refl, e)
+same_parts [] ys (u ∷ us) vs many e = absurd (omega arith)
+same_parts (x ∷ xs) ys [] vs many e = absurd (omega arith)
+same_parts (x ∷ xs) ys (u ∷ us) vs many e =
+    let first : x ≡ u = cc in
+    let others : xs ++ ys ≡ us ++ vs = cc in
+    let both = same_parts xs ys us vs (omega arith) others in
+    let xs' : xs ≡ us = both.0 in
+    let here : x ∷ xs ≡ u ∷ us = cc in
+    (here, both.1)
+
+-- the numbers of a pair of tables are those of no other
+pub same_tables : (z y u v : TableId) → numbers_of_tables z y ≡ numbers_of_tables u v → (z ≡ u) × (y ≡ v)
+same_tables z y u v e =
+    let many : length z.slot_names ≡ length u.slot_names = cc in
+    let all : numbers_of_table z ++ numbers_of_table y ≡ numbers_of_table u ++ numbers_of_table v = cc in
+    let both = same_parts (numbers_of_table z) (numbers_of_table y) (numbers_of_table u) (numbers_of_table v) (omega arith) all in
+    (same_table z u both.0, same_table y v both.1)

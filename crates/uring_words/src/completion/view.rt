@@ -1,0 +1,36 @@
+//! What the two sides of the completion ring's table know. No value of these types is made.
+
+use std::collections::LinkedList;
+
+/// What the application knows.
+pub struct AppSide {
+    pub start: u32,
+    pub size: u32,
+
+    /// The words of the completions that it got, oldest first.
+    pub got: LinkedList<LinkedList<u64>>,
+
+    /// Those behind them that it knows to be put, oldest first.
+    pub known: LinkedList<LinkedList<u64>>,
+
+    /// The dropped words that it loaded, oldest first.
+    pub dropped: LinkedList<u64>,
+}
+
+/// What the dispatcher knows.
+pub struct KernelSide {
+    pub start: u32,
+    pub size: u32,
+
+    /// The words of the completions that it put, oldest first.
+    pub put: LinkedList<LinkedList<u64>>,
+
+    /// The words that it stored of the next one.
+    pub cell: LinkedList<u64>,
+
+    /// The count at the head that it last loaded.
+    pub head_seen: u64,
+
+    /// The dropped words that it stored, oldest first.
+    pub dropped: LinkedList<u64>,
+}
