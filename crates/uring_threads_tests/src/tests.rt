@@ -1,13 +1,20 @@
-//! The ends over lanes, on one thread.
+//! The ends over lanes, on one thread and in threads of their own.
 
 mod all_ends;
+mod dice;
 mod dropped;
+mod ends;
 mod growth;
+mod held;
+mod moments;
 mod no_ends;
+mod random;
 mod refusals;
+mod replay;
 mod rests;
 mod results;
 mod rounds;
+mod threads;
 
 use uring_entry::Sqe;
 use uring_threads::{Item, Turn};

@@ -1,0 +1,128 @@
+//! What settling reports at one moment, with something on its way in each lane.
+
+use super::ends::Ends;
+use super::nop;
+use super::replay::replays;
+use std::alloc::{AllocError, Global};
+use std::test::Fail;
+use uring_entry::{Cqe, Setup, Sqe};
+use uring_threads::{Answer, Counts, FileState, Item, Open, Report, Step, Worked};
+
+/// Bytes that are nothing.
+const ZEROS: [u8; 64] = [0; 64];
+
+/// A write of one byte to the front of a file.
+fn write(user_data: u64, fd: i32, byte: u8) -> Sqe {
+    Sqe::write(user_data, 0, fd, 0, &[byte])
+}
+
+/// Three requests are started, the two writes are carried out, the first one's completion is delivered, and one more no-op is submitted. Whether each call does what it should.
+fn goes_half_way(ends: &mut Ends<Open>) -> Result<bool, AllocError> {
+    let call = [
+        Item::Entry(write(1, 0, 97)),
+        Item::Entry(write(2, 1, 98)),
+        nop(3),
+    ];
+    let submitted = ends.submit(&call);
+    let started = ends.turn()?.issued == 3;
+    let first = ends.work(0) == Some(Worked::Done(0));
+    let delivered = ends.turn()?.delivered == 1;
+    let second = ends.work(1) == Some(Worked::Done(1));
+    let more = ends.submit(&[nop(4)]);
+    Ok(submitted && started && first && delivered && second && more)
+}
+
+/// Whether the ends of two workers go half way, and what they then leave.
+fn settled(alloc: Global) -> Result<(bool, Report<Open>), Fail> {
+    let setup = Setup::new(4, Some(4), 2, 0)?;
+    let mut ends = Ends::new(alloc, &setup, vec![in alloc; Open; 2]?)?;
+    let goes = goes_half_way(&mut ends)?;
+    let report = ends.settle(alloc)?;
+    Ok((goes, report))
+}
+
+/// A write that ended with its one byte written.
+fn written() -> Answer {
+    Answer::Ended {
+        res: 1,
+        bytes: ZEROS,
+    }
+}
+
+/// An entry is filled into this slot.
+fn fill(slot: u32, entry: Sqe) -> (Step, Answer) {
+    (Step::Fill { slot, entry }, Answer::Filled)
+}
+
+/// The call is taken in, its requests are started, the first ends and is delivered; and then the second ends, whose result waited.
+fn wanted_trace() -> [(Step, Answer); 22] {
+    let taken = Answer::Taken {
+        accepted: 3,
+        dropped: 0,
+        head: 3,
+    };
+    [
+        fill(0, write(1, 0, 97)),
+        (Step::Index { word: 0 }, Answer::Staged),
+        fill(1, write(2, 1, 98)),
+        (Step::Index { word: 1 }, Answer::Staged),
+        fill(2, Sqe::nop(3, 0)),
+        (Step::Index { word: 2 }, Answer::Staged),
+        (Step::StoreTail, Answer::Tail(3)),
+        (Step::Begin { count: 3 }, Answer::Call(3)),
+        (Step::Take, Answer::Entry(write(1, 0, 97))),
+        (Step::Take, Answer::Entry(write(2, 1, 98))),
+        (Step::Take, Answer::Entry(Sqe::nop(3, 0))),
+        (Step::End, taken),
+        (Step::LoadHead, Answer::Head(3)),
+        (Step::Issue { number: 0 }, Answer::Run),
+        (Step::Issue { number: 1 }, Answer::Run),
+        (Step::Issue { number: 2 }, Answer::Run),
+        (Step::Finish { number: 0 }, written()),
+        (Step::Flush, Answer::Moved(0)),
+        (Step::LoadCqTail, Answer::Tail(1)),
+        (Step::Reap, Answer::Reaped(Cqe::new(1, 1, ZEROS))),
+        (Step::StoreCqHead, Answer::Head(1)),
+        (Step::Finish { number: 1 }, written()),
+    ]
+}
+
+#[test]
+fn all_that_is_on_its_way_is_reported(rt: HostRuntime) -> Result<(), Fail> {
+    let (goes, report) = settled(rt.alloc())?;
+    assert!(rt; goes, "each call does what it should");
+    assert!(rt; report.trace() == wanted_trace().as_slice());
+    assert_eq!(rt; report.unsent(), [nop(4)].as_slice());
+    assert_eq!(rt; report.undelivered(), [Cqe::new(1, 1, ZEROS)].as_slice());
+    assert_eq!(rt; report.waiting(), [Cqe::new(2, 1, ZEROS)].as_slice());
+    assert_eq!(rt;
+        report.counts(),
+        Counts {
+            accepted: 3,
+            outstanding: 1,
+            running: 1,
+            posted: 2,
+            reaped: 1,
+        }
+    );
+    Ok(())
+}
+
+#[test]
+fn files_are_those_of_the_workers(rt: HostRuntime) -> Result<(), Fail> {
+    let (_, report) = settled(rt.alloc())?;
+    let written = Some(FileState {
+        len: 1,
+        writes: 1,
+        synced: 0,
+    });
+    assert_eq!(rt; [report.state(0), report.state(1)], [written, written]);
+    assert_eq!(rt; [report.state(-1), report.state(2)], [None, None]);
+    assert_eq!(rt;
+        [report.byte(0, 0), report.byte(1, 0)],
+        [Some(97), Some(98)]
+    );
+    assert_eq!(rt; [report.byte(0, 1), report.byte(2, 0)], [None, None]);
+    assert!(rt; replays(rt.alloc(), &report)?);
+    Ok(())
+}
