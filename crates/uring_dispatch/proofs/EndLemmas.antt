@@ -16,6 +16,22 @@ pub record Ends (w v : Window) (g h : Groups) (n : ℕ) (request : Request) (q :
   pub group : group_at g request.group ≡ Some q
   pub exchange : Exchanges g h request.group left
 
+-- a request lies in its group
+pub in-group : (w : Window) (g : Groups) (n : ℕ) (request : Request) (q : Group) → IsSound w g → at w n ≡ Some request → group_at g request.group ≡ Some q → (q.from ≤ n) × (n < q.end)
+in-group w g n request q s there is =
+    let link = s.linked n request there in
+    let one : link.group ≡ q = same_some _ _ (sym link.found ∙ is) in
+    let P : Group → Type 0 = λ x. (x.from ≤ n) × (n < x.end) in
+    subst P one (link.from, link.to)
+
+-- and not before the group's least outstanding member
+pub least-before : (w : Window) (g : Groups) (n : ℕ) (request : Request) (q : Group) → IsSound w g → at w n ≡ Some request → group_at g request.group ≡ Some q → q.least ≤ n
+least-before w g n request q s there is =
+    elim (cases_lt n q.least) [
+      | inl low ↦ some_none request _ ((s.kept request.group q is).over n (in-group w g n request q s there is).0 low) there
+      | inr high ↦ high
+    ]
+
 -- another number keeps its request
 pub kept-request : (w v : Window) (n k : ℕ) (p : Request) → Changes w v n None → at v k ≡ Some p → (k ≢ n) × (at w k ≡ Some p)
 kept-request w v n k p c e =

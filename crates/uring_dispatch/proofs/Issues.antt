@@ -10,7 +10,9 @@ use Rattle.uring_entry.specs.Preparation.{is_faulty, is_cancel, is_cancel_all, o
 use Rattle.uring_entry.specs.Requests.{Requests, entry_of, is_outstanding, is_running, is_doomed, is_ready, doomed_result, cancel_result}
 use Rattle.uring_entry.proofs.RequestLemmas.{is_doomed-own_fault}
 use Rattle.uring_dispatch.specs.declared.answers.Issued.TheVariants.{Run, Ended, NotReady, Running, Unknown}
-use Rattle.uring_dispatch.specs.IssueAndFinish.{issued, issued_waiting}
+use Rattle.uring_dispatch.specs.declared.answers.Finished.TheVariants as finish
+use Rattle.uring_dispatch.specs.declared.answers.Posts.{Posts}
+use Rattle.uring_dispatch.specs.IssueAndFinish.{issued, issued_waiting, finished, posts_of, posted_by}
 use Rattle.uring_dispatch.specs.Held.{op_of}
 
 -- what a kept operation says of its entry
@@ -123,3 +125,26 @@ issued-else r n a b =
     sym
     (ap (λ x. if not x then Unknown else if is_running r n then Running else issued_waiting r n) a
     ∙ ap (λ x. if x then Running else issued_waiting r n) b)
+
+-- What an end posts.
+
+pub posted-none : (r : Requests) (n : ℕ) (res : ℤ) → is_running r n ≡ false → None ≡ posted_by r n res
+posted-none r n res e = sym (ap (λ b. if b then Some (posts_of (entry_of r n) res) else None) e)
+
+pub posted-some : (r : Requests) (n : ℕ) (res : ℤ) → is_running r n ≡ true → Some (posts_of (entry_of r n) res) ≡ posted_by r n res
+posted-some r n res e = sym (ap (λ b. if b then Some (posts_of (entry_of r n) res) else None) e)
+
+-- a finish is answered by whether the request was running
+pub finished-none : (r : Requests) (n : ℕ) (res : ℤ) → None ≡ posted_by r n res → finish.NotRunning ≡ finished r n
+finished-none r n res e = go (is_running r n) e
+  where
+    go : (b : Bool) → None ≡ (if b then Some (posts_of (entry_of r n) res) else None) → finish.NotRunning ≡ (if b then finish.Ended else finish.NotRunning)
+    go true x = cc
+    go false x = refl
+
+pub finished-some : (r : Requests) (n : ℕ) (res : ℤ) (posted : Posts) → Some posted ≡ posted_by r n res → finish.Ended ≡ finished r n
+finished-some r n res posted e = go (is_running r n) e
+  where
+    go : (b : Bool) → Some posted ≡ (if b then Some (posts_of (entry_of r n) res) else None) → finish.Ended ≡ (if b then finish.Ended else finish.NotRunning)
+    go true x = refl
+    go false x = cc

@@ -8,11 +8,10 @@ use Rattle.uring_dispatch.specs.declared.request.Request.{Request}
 use Rattle.uring_dispatch.specs.Window.{Window, at, end_of, IsFirst}
 use Rattle.uring_dispatch.specs.Groups.{Groups, group_at, IsBeyond}
 use Rattle.uring_dispatch.specs.Held.{IsSound, AreHeld}
-use Rattle.uring_dispatch.specs.Dispatch.{Dispatch, dispatch_of, ShowsRequests, StandsFor, IsDispatch, IssueCounts, FinishCounts}
+use Rattle.uring_dispatch.specs.Dispatch.{Dispatch, dispatch_of, ShowsRequests, StandsFor, IsDispatch, IssueCounts, EndCounts}
 use Rattle.uring_dispatch.specs.declared.answers.Issued.{Issued}
 use Rattle.uring_dispatch.specs.declared.answers.Issued.TheVariants.{Run, Ended, NotReady, Running, Unknown}
-use Rattle.uring_dispatch.specs.declared.answers.Finished.{Finished}
-use Rattle.uring_dispatch.specs.declared.answers.Finished.TheVariants as finish
+use Rattle.uring_dispatch.specs.declared.answers.Posts.{Posts}
 use Rattle.uring_dispatch.specs.declared.waiting.Waiting.{Waiting}
 use Rattle.uring_dispatch.specs.NumberSet.{HasSame}
 use Rattle.uring_dispatch.proofs.WindowFront.{at-room}
@@ -105,7 +104,7 @@ empty-sound w g none end groups beyond = record {
   last = λ key q e found. some_none q _ (groups key) found;
 }
 
--- an issue and a finish accept nothing
+-- an issue and an end accept nothing
 pub unchanged-end-issue : (answer : Issued) (old new : Dispatch) → IssueCounts answer old new → new.accepted ≡ old.accepted
 unchanged-end-issue (Run op) old new c = c.accepted
 unchanged-end-issue (Ended res) old new c = c.accepted
@@ -113,9 +112,9 @@ unchanged-end-issue NotReady old new c = ap (λ (d : Dispatch). d.accepted) c
 unchanged-end-issue Running old new c = ap (λ (d : Dispatch). d.accepted) c
 unchanged-end-issue Unknown old new c = ap (λ (d : Dispatch). d.accepted) c
 
-pub unchanged-end-finish : (answer : Finished) (old new : Dispatch) → FinishCounts answer old new → new.accepted ≡ old.accepted
-unchanged-end-finish finish.Ended old new c = c.accepted
-unchanged-end-finish finish.NotRunning old new c = ap (λ (d : Dispatch). d.accepted) c
+pub unchanged-end : (posted : Option Posts) (old new : Dispatch) → EndCounts posted old new → new.accepted ≡ old.accepted
+unchanged-end (Some posted) old new c = c.accepted
+unchanged-end None old new c = ap (λ (d : Dispatch). d.accepted) c
 
 pub on-ok : {E : Type 0} (x : Result (Unit {0}) E) (P : Type 0) → is_err x ≡ false → OnOk x P → P
 on-ok (Ok u) P e h = h

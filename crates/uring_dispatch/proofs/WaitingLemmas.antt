@@ -6,7 +6,7 @@ use Rattle.uring_entry.specs.Groups.{is_before, earlier_of}
 use Rattle.uring_dispatch.specs.declared.request.Request.{Request}
 use Rattle.uring_dispatch.specs.declared.group.Group.{Group}
 use Rattle.uring_dispatch.specs.declared.waiting.Waiting.{Waiting}
-use Rattle.uring_dispatch.specs.NumberSet.{NumberSet, Covers, HasMoved}
+use Rattle.uring_dispatch.specs.NumberSet.{NumberSet, Covers, Puts, HasMoved}
 use Rattle.uring_dispatch.specs.Window.{Window, at, end_of, Changes}
 use Rattle.uring_dispatch.specs.Groups.{Groups, group_at}
 use Rattle.uring_dispatch.specs.Held.{IsSound, IsNext}
@@ -34,6 +34,9 @@ keeps-both w g s t u a b = record {
   doomed = reach-both s.doomed t.doomed u.doomed a.doomed b.doomed;
 }
 
+pub listed-same : (w : Window) (g : Groups) (s : Waiting) (n m : ℕ) → n ≡ m → IsListedAt w g s n → IsListedAt w g s m
+listed-same w g s n m e l = let P : ℕ → Type 0 = λ j. IsListedAt w g s j in subst P e l
+
 covers-kept : (s t : NumberSet) (n : ℕ) → Covers s n → IsSameReach s t → Covers t n
 covers-kept s t n c k =
     let a = c.from in
@@ -44,6 +47,32 @@ covers-kept s t n c k =
 
 pub tell-kept : (w : Window) (g : Groups) (s t : Waiting) (n : ℕ) → CanTell s n → Keeps w g s t → CanTell t n
 tell-kept w g s t n c k = record { heads = covers-kept s.heads t.heads n c.heads k.heads; doomed = covers-kept s.doomed t.doomed n c.doomed k.doomed }
+
+-- A request that has ended doesn't wait.
+
+pub forgotten-listed : (w : Window) (g : Groups) (s t : Waiting) (n : ℕ) → at w n ≡ None → Puts s.heads t.heads n false → Puts s.doomed t.doomed n false → IsListedAt w g t n
+forgotten-listed w g s t n gone a b = record {
+  head = a.here ∙ sym (ap (λ o. waits_at_head g o n) gone);
+  doomed = b.here ∙ sym (ap (λ o. waits_doomed g o n) gone);
+}
+
+reach-put : (s t : NumberSet) (n : ℕ) (b : Bool) → Puts s t n b → IsSameReach s t
+reach-put s t n b p =
+    let start = p.start in
+    let stop = p.stop in
+    record { start = omega arith; stop = omega arith; limit = p.limit }
+
+pub forgotten-keeps : (w : Window) (g : Groups) (s t : Waiting) (n : ℕ) → at w n ≡ None → Puts s.heads t.heads n false → Puts s.doomed t.doomed n false → Keeps w g s t
+forgotten-keeps w g s t n gone a b = record {
+  told = λ k e.
+      elim (cases_eq k n) [
+        | inl same ↦
+            let P : ℕ → Type 0 = λ j. IsListedAt w g t j in subst P (sym same) (forgotten-listed w g s t n gone a b)
+        | inr other ↦ record { head = a.others k other ∙ e.head; doomed = b.others k other ∙ e.doomed }
+      ];
+  heads = reach-put s.heads t.heads n false a;
+  doomed = reach-put s.doomed t.doomed n false b;
+}
 
 -- What an event leaves as it was.
 

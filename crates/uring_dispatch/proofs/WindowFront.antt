@@ -4,6 +4,7 @@ use Rattle.std.proofs.lemmas.Bool.{cases_lt, cases_Bool, both_ways, false≢true
 use Rattle.uring_dispatch.specs.declared.request.Request.{Request}
 use Rattle.uring_dispatch.specs.Window.{Window, key_at, found_by, at, end_of, runs, one_if, IsWindow, IsTrimmed, IsFirst, HasBefore, started, chosen}
 use Rattle.std.specs.Option.{option_to_list}
+use Rattle.std.specs.Prelude.{IfSome}
 use Rattle.uring_dispatch.proofs.Counting.{count_below-some, count_below-within}
 use Rattle.uring_dispatch.proofs.WindowLemmas.{key_at-low, key_at-high, key_at-past, some_none, key_at-within, at-keyed}
 use Rattle.uring_dispatch.proofs.WindowEvents.{write-window}
@@ -58,6 +59,11 @@ keyless w n e there = both_ways _ (ap is_some (at-keyed w n None e)) there
 
 pub by_key : (w : Window) (n key : ℕ) → key_at w.first w.keys n ≡ Some key → at w n ≡ get_or w.requests key None
 by_key w n key e = at-keyed w n (Some key) e
+
+-- a key that was found has a request
+pub found-key : (w : Window) (n : ℕ) (o : Option ℕ) → IsWindow w → key_at w.first w.keys n ≡ o → IfSome o (λ key. is_some (found_by w.requests (Some key)) ≡ true)
+found-key w n None i e = tt
+found-key w n (Some key) i e = i.present n key e
 
 is_some_value : {X : Type 0} (o : Option X) → is_some o ≡ true → (q : X) × (o ≡ Some q)
 is_some_value None e = absurd (false≢true e)

@@ -1,5 +1,5 @@
 -- Glue. The dispatcher as its callers see it.
-use Rattle.std.specs.Prelude.{◌≡◌, ℕ, ◌+◌, ◌<◌, ◌≤◌, ◌^◌, Bool, true, None, length}
+use Rattle.std.specs.Prelude.{◌≡◌, ℕ, ◌+◌, ◌<◌, ◌≤◌, ◌^◌, Bool, true, Option, Some, None, length}
 use Rattle.uring_entry.specs.Requests.{Requests, outstanding_in, running_in}
 use Rattle.uring_dispatch.specs.Window.{Window, end_of}
 use Rattle.uring_dispatch.specs.Groups.{Groups}
@@ -8,6 +8,7 @@ use Rattle.uring_dispatch.specs.declared.answers.Issued.{Issued}
 use Rattle.uring_dispatch.specs.declared.answers.Issued.TheVariants.{Run, Ended}
 use Rattle.uring_dispatch.specs.declared.answers.Finished.{Finished}
 use Rattle.uring_dispatch.specs.declared.answers.Finished.TheVariants as finish
+use Rattle.uring_dispatch.specs.declared.answers.Posts.{Posts}
 use Rattle.uring_dispatch.specs.declared.waiting.Waiting.{Waiting}
 use Rattle.uring_dispatch.specs.Waiting.{IsListed}
 
@@ -111,3 +112,8 @@ IssueCounts _ old new = new ≡ old
 abbrev pub FinishCounts : Finished → Dispatch → Dispatch → Type 0
 FinishCounts finish.Ended old new = HasFinished old new
 FinishCounts finish.NotRunning old new = new ≡ old
+
+-- what an end changes in the numbers, if the request was running; else nothing changes
+abbrev pub EndCounts : Option Posts → Dispatch → Dispatch → Type 0
+EndCounts None old new = new ≡ old
+EndCounts (Some posted) old new = HasFinished old new

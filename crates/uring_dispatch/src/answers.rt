@@ -31,6 +31,16 @@ pub enum Finished {
     NotRunning,
 }
 
+/// What the end of a request posts. io_uring_enter(2), IOSQE_CQE_SKIP_SUCCESS.
+#[derive(Clone, Copy, Debug, PartialEq, Eq)]
+pub enum Posts {
+    /// A completion with this user data, which is that of its entry.
+    Completion(u64),
+
+    /// Nothing: it succeeded, and its entry asks to skip the completion.
+    Nothing,
+}
+
 /// What a cancel of one request finds. io_uring_enter(2), IORING_OP_ASYNC_CANCEL. Which request it may choose is our own rule.
 #[derive(Clone, Copy, Debug, PartialEq, Eq)]
 pub enum Found {

@@ -1,10 +1,10 @@
-ghost use Rattle.std.specs.Prelude.{◌≡◌, ◌+◌, ◌-◌, ◌^◌, ◌<◌, ◌≤◌, ◌↔◌, IsTrue, true, false, OnOk, OnErr, IsOk, IsErrOf};
+ghost use Rattle.std.specs.Prelude.{◌≡◌, ℕ, List, ◌+◌, ◌-◌, ◌^◌, ◌<◌, ◌≤◌, ◌↔◌, IsTrue, true, false, OnOk, OnErr, IsOk, IsErrOf};
 ghost use Rattle.uring_entry.specs.Requests.{Requests, no_request, with_accepted, with_cut, next_of, least_of, operation_running, entry_outstanding, outstanding_in, running_in};
 ghost use Rattle.uring_entry.specs.Why.{why_of};
 ghost use Rattle.uring_dispatch.specs.Cancels.{found_by};
-ghost use Rattle.uring_dispatch.specs.IssueAndFinish.{issued, after_issue, finished, after_finish};
+ghost use Rattle.uring_dispatch.specs.IssueAndFinish.{issued, after_issue, finished, after_finish, posted_by, after_end};
 
-use crate::answers::{Finished, Found, Issued};
+use crate::answers::{Finished, Found, Issued, Posts};
 use crate::errors::ReserveError;
 use crate::groups::Groups;
 use crate::request::Request;
@@ -40,7 +40,7 @@ impl Model for Dispatch {
 }
 
 impl Dispatch {
-    ghost use Rattle.uring_dispatch.specs.Dispatch.{ShowsRequests, IsSameCount, HasAccepted, IssueCounts, FinishCounts};
+    ghost use Rattle.uring_dispatch.specs.Dispatch.{ShowsRequests, IsSameCount, HasAccepted, IssueCounts, FinishCounts, EndCounts};
 
     /// The most requests that are ever accepted: 2^63 - 1. Our own rule.
     pub const MAX_ACCEPTED: u64 = 9_223_372_036_854_775_807;
@@ -145,12 +145,25 @@ impl Dispatch {
         ensures shows { (r : Requests) → ShowsRequests self.old r → ShowsRequests self.new (after_finish r n outcome result) }
         ensures counts { FinishCounts result self.old self.new }
     {
-        events::finish(
+        match self.end_running(n, outcome.res) {
+            Some(_) => Finished::Ended,
+            None => Finished::NotRunning,
+        }
+    }
+
+    /// Ends request `n`, any number, with this result and any bytes, which the dispatcher doesn't keep, and tells what its end posts: `Some` exactly if it was running. Otherwise nothing changes. It is `finish` for a caller that posts the completion. Our own rule.
+    pub fn end_running(&mut self, n: u64, res: i32) -> Option<Posts>
+        requires { IsTrue self.old.is_between_calls }
+        ensures answer { (r : Requests) → ShowsRequests self.old r → result ≡ posted_by r n res }
+        ensures shows { (r : Requests) (bytes : List ℕ) → ShowsRequests self.old r → ShowsRequests self.new (after_end r n res bytes result) }
+        ensures counts { EndCounts result self.old self.new }
+    {
+        events::end_running(
             &mut self.window,
             &mut self.groups,
             &mut self.waiting,
             n,
-            outcome,
+            res,
         )
     }
 

@@ -5,14 +5,14 @@ ghost use Rattle.uring_entry.specs.Requests.{Requests, entry_of, with_ended};
 ghost use Rattle.uring_entry.specs.Requests as spec;
 ghost use Rattle.uring_entry.specs.Groups.{earlier_of, is_before};
 ghost use Rattle.uring_entry.specs.Success as success;
-ghost use Rattle.uring_dispatch.specs.IssueAndFinish.{issued, issued_waiting, after_issue, finished, after_finish};
-ghost use Rattle.uring_dispatch.specs.Dispatch.{dispatch_of, HasEnded, IssueCounts, FinishCounts};
-ghost use Rattle.uring_dispatch.specs.Window.{at, end_of, runs, one_if, Changes};
+ghost use Rattle.uring_dispatch.specs.IssueAndFinish.{issued, issued_waiting, after_issue, posts_of, posted_by, after_end};
+ghost use Rattle.uring_dispatch.specs.Dispatch.{dispatch_of, HasEnded, IssueCounts, EndCounts};
+ghost use Rattle.uring_dispatch.specs.Window.{key_at, at, end_of, runs, one_if, Changes};
 ghost use Rattle.uring_dispatch.specs.Groups.{group_at};
 ghost use Rattle.uring_dispatch.specs.Held.{AreHeld, IsSound, IsNext, HasLost};
 ghost use Rattle.uring_dispatch.specs.Waiting.{IsListed, HasMemory, StandsAsBefore};
 
-use crate::answers::{Finished, Issued};
+use crate::answers::{Issued, Posts};
 use crate::cancels::cancel;
 use crate::group::{Group, earlier_of};
 use crate::groups::Groups;
@@ -20,7 +20,7 @@ use crate::request::Request;
 use crate::standing::{group_of, is_doomed, is_ready};
 use crate::waiting::Waiting;
 use crate::window::Window;
-use uring_entry::{Op, Outcome, errno, succeeded};
+use uring_entry::{Op, Sqe, SqeFlags, errno, succeeded};
 
 /// Ends request `n`, lets go what was kept of it, and tells anew who waits.
 pub(crate) fn end(
@@ -42,9 +42,37 @@ pub(crate) fn end(
     ensures held { (r : Requests) (res : ℤ) (bytes : List ℕ) → AreHeld window.old groups.old r → is_success ≡ success.is_success (entry_of r n) res → AreHeld window.new groups.new (with_ended r n res bytes) }
     ensures counts { HasLost window.old window.new (one_if (runs (at window.old n))) }
 {
-    let others = take_out(window, groups, n, is_success);
-    waiting.relist(window, groups, n);
-    waiting.relist(window, groups, others.head);
+    let Some(key) = window.key(n) else {
+        unreachable!()
+    };
+    end_by_key(window, groups, waiting, n, key, is_success);
+}
+
+/// Ends request `n`, which has this key, as `end` does.
+fn end_by_key(
+    window: &mut Window,
+    groups: &mut Groups,
+    waiting: &mut Waiting,
+    n: u64,
+    key: usize,
+    is_success: bool,
+)
+    requires sound { IsSound window.old groups.old }
+    requires closed { groups.old.last ≡ None }
+    requires listed { IsListed window.old groups.old waiting.old }
+    requires found { key_at window.old.first window.old.keys n ≡ Some key }
+    requires there { is_some (at window.old n) ≡ true }
+    ensures sound { IsSound window.new groups.new }
+    ensures closed { groups.new.last ≡ None }
+    ensures groups_room { groups.new.room ≡ groups.old.room }
+    ensures listed { IsListed window.new groups.new waiting.new }
+    ensures waiting_room { HasMemory waiting.old waiting.new }
+    ensures held { (r : Requests) (res : ℤ) (bytes : List ℕ) → AreHeld window.old groups.old r → is_success ≡ success.is_success (entry_of r n) res → AreHeld window.new groups.new (with_ended r n res bytes) }
+    ensures counts { HasLost window.old window.new (one_if (runs (at window.old n))) }
+{
+    let others = take_out(window, groups, n, key, is_success);
+    waiting.forget(n);
+    waiting.relist_other(window, groups, others.head, n);
     waiting.relist_range(window, groups, n, others.doomed_end);
     waiting.drop_before(window.first());
 }
@@ -58,10 +86,17 @@ struct Others {
     doomed_end: u64,
 }
 
-/// Ends request `n`, and lets go what was kept of it; its group goes with its last member.
-fn take_out(window: &mut Window, groups: &mut Groups, n: u64, is_success: bool) -> Others
+/// Ends request `n`, which has this key, and lets go what was kept of it; its group goes with its last member.
+fn take_out(
+    window: &mut Window,
+    groups: &mut Groups,
+    n: u64,
+    key: usize,
+    is_success: bool,
+) -> Others
     requires sound { IsSound window.old groups.old }
     requires closed { groups.old.last ≡ None }
+    requires found { key_at window.old.first window.old.keys n ≡ Some key }
     requires there { is_some (at window.old n) ≡ true }
     ensures sound { IsSound window.new groups.new }
     ensures closed { groups.new.last ≡ None }
@@ -73,9 +108,9 @@ fn take_out(window: &mut Window, groups: &mut Groups, n: u64, is_success: bool) 
     ensures doomed { result.doomed_end ≤ end_of window.old }
     ensures others { (k : ℕ) → k ≢ n → k ≢ result.head → (k < n) ⊎ (result.doomed_end ≤ k) → StandsAsBefore window.old window.new groups.old groups.new k }
 {
-    let request = window.end_one(n);
+    let request = window.end_one(n, key);
     let group = group_of(groups, &request);
-    let least = next_outstanding(window, group.least, group.end);
+    let least = least_left(window, &group, n);
     if least == group.end {
         groups.remove(request.group);
         return Others {
@@ -111,6 +146,20 @@ fn behind_failure(group: &Group, is_break: bool, n: u64) -> u64
         Some(m) if m < group.end => m + 1,
         _ => group.end,
     }
+}
+
+/// The least outstanding member of a group of which member `n` has ended, or else the number behind its last member.
+fn least_left(window: &Window, group: &Group, n: u64) -> u64
+    requires from { group.now.least ≤ n }
+    requires to { n < group.now.end }
+    requires gone { at window.now n ≡ None }
+    requires others { group.now.least ≢ n → is_some (at window.now group.now.least) ≡ true }
+    ensures { IsNext window.now group.now.least group.now.end result }
+{
+    if group.least != n {
+        return group.least;
+    }
+    next_outstanding(window, n + 1, group.end)
 }
 
 /// The least outstanding number from this one on and below the end, or else the end.
@@ -206,14 +255,14 @@ fn issue_waiting(
     Issued::Run(op)
 }
 
-/// Finishes request `n` with this outcome if it is running, and leaves it as it is otherwise.
-pub(crate) fn finish(
+/// Ends request `n` with this result if it is running, and leaves it as it is otherwise. It is looked up once, and its success tested once.
+pub(crate) fn end_running(
     window: &mut Window,
     groups: &mut Groups,
     waiting: &mut Waiting,
     n: u64,
-    outcome: Outcome,
-) -> Finished
+    res: i32,
+) -> Option<Posts>
     requires sound { IsSound window.old groups.old }
     requires closed { groups.old.last ≡ None }
     requires listed { IsListed window.old groups.old waiting.old }
@@ -222,18 +271,31 @@ pub(crate) fn finish(
     ensures groups_room { groups.new.room ≡ groups.old.room }
     ensures listed { IsListed window.new groups.new waiting.new }
     ensures waiting_room { HasMemory waiting.old waiting.new }
-    ensures answer { (r : Requests) → AreHeld window.old groups.old r → result ≡ finished r n }
-    ensures held { (r : Requests) → AreHeld window.old groups.old r → AreHeld window.new groups.new (after_finish r n outcome result) }
-    ensures counts { (room : ℕ) (between : Bool) → FinishCounts result (dispatch_of window.old groups.old room between) (dispatch_of window.new groups.new room between) }
+    ensures answer { (r : Requests) → AreHeld window.old groups.old r → result ≡ posted_by r n res }
+    ensures held { (r : Requests) (bytes : List ℕ) → AreHeld window.old groups.old r → AreHeld window.new groups.new (after_end r n res bytes result) }
+    ensures counts { (room : ℕ) (between : Bool) → EndCounts result (dispatch_of window.old groups.old room between) (dispatch_of window.new groups.new room between) }
     ensures room { window.new.room ≡ window.old.room }
 {
-    let Some(request) = window.get(n) else {
-        return Finished::NotRunning;
+    let Some(key) = window.key(n) else {
+        return None;
     };
+    let request = window.by_key(key);
     if !request.is_running {
-        return Finished::NotRunning;
+        return None;
     }
-    let is_success = succeeded(&request.entry, outcome.res);
-    end(window, groups, waiting, n, is_success);
-    Finished::Ended
+    let is_success = succeeded(&request.entry, res);
+    let posts = posts_of(&request.entry, is_success);
+    end_by_key(window, groups, waiting, n, key, is_success);
+    Some(posts)
+}
+
+/// What the end of a request of this entry posts.
+fn posts_of(entry: &Sqe, is_success: bool) -> Posts
+    ensures { (res : ℤ) → is_success ≡ success.is_success entry.now res → result ≡ posts_of entry.now res }
+{
+    if entry.has(SqeFlags::CQE_SKIP_SUCCESS) && is_success {
+        Posts::Nothing
+    } else {
+        Posts::Completion(entry.user_data())
+    }
 }

@@ -19,7 +19,7 @@ mod waiting;
 mod why;
 mod window;
 
-pub use answers::{Finished, Found, Issued};
+pub use answers::{Finished, Found, Issued, Posts};
 pub use dispatch::Dispatch;
 pub use errors::ReserveError;
 pub use uring_entry::{BadSetup, Cqe, Doom, Fault, Op, Outcome, Setup, Since, Sqe, SqeFlags, Why};

@@ -1,7 +1,7 @@
 //! Which of the outstanding requests wait at the head of their group, and which are doomed: among these is the next to be issued.
 
 ghost use Rattle.std.specs.Prelude.{◌≡◌, ℕ, ◌+◌, ◌^◌, ◌<◌, ◌≤◌, false, Some, OnOk};
-ghost use Rattle.uring_dispatch.specs.NumberSet.{holds, start_of, stop_of, HasSame, HasGrown, HasMoved};
+ghost use Rattle.uring_dispatch.specs.NumberSet.{holds, start_of, stop_of, Puts, HasSame, HasGrown, HasMoved};
 ghost use Rattle.uring_dispatch.specs.Window.{at};
 ghost use Rattle.uring_dispatch.specs.Groups.{group_at};
 ghost use Rattle.uring_dispatch.specs.Waiting.{waits_at_head, waits_doomed, dooms, IsListedAt, CanTell, Keeps, CanGrow, GrowsTo, Starts, IsFirstTold};
@@ -81,6 +81,28 @@ impl Waiting {
         let standing = standing_of(window, groups, n);
         self.heads.put(n, standing.is_head);
         self.doomed.put(n, standing.is_doomed);
+    }
+
+    /// Tells of request `n`, which has ended, that it doesn't wait.
+    pub(crate) fn forget(&mut self, n: u64)
+        requires { CanTell self.old n }
+        ensures heads { Puts self.old.heads self.new.heads n false }
+        ensures doomed { Puts self.old.doomed self.new.doomed n false }
+    {
+        self.heads.put(n, false);
+        self.doomed.put(n, false);
+    }
+
+    /// Tells anew of request `m`, unless it is `n`, of which it was told.
+    pub(crate) fn relist_other(&mut self, window: &Window, groups: &Groups, m: u64, n: u64)
+        requires { CanTell self.old m }
+        ensures here { IsListedAt window.now groups.now self.old n → IsListedAt window.now groups.now self.new m }
+        ensures keeps { Keeps window.now groups.now self.old self.new }
+    {
+        if m == n {
+            return;
+        }
+        self.relist(window, groups, m);
     }
 
     /// Tells anew of the requests from one number on and below another.

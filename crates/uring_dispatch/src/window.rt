@@ -1,9 +1,9 @@
 //! The outstanding requests by their numbers.
 
-ghost use Rattle.std.specs.Prelude.{◌≡◌, ◌≢◌, ℕ, ◌+◌, ◌-◌, ◌^◌, ◌<◌, ◌≤◌, true, false, Some, None, OnOk, OnErr, MatchOption, is_some, option_copied, length, slice_set};
+ghost use Rattle.std.specs.Prelude.{◌≡◌, ◌≢◌, ℕ, ◌+◌, ◌-◌, ◌^◌, ◌<◌, ◌≤◌, true, false, Some, None, OnOk, OnErr, IfSome, MatchOption, is_some, option_copied, length, slice_set};
 ghost use Rattle.std.specs.VecDeque.{deque_len, deque_capacity};
 ghost use Rattle.slab.specs.Slab.{get, slab_len, ContainsKey};
-ghost use Rattle.uring_dispatch.specs.Window.{key_at, at, end_of, runs, one_if, started, chosen, Changes, IsFirst, IsTrimmed, IsAsBefore, HasBefore};
+ghost use Rattle.uring_dispatch.specs.Window.{key_at, found_by, at, end_of, runs, one_if, started, chosen, Changes, IsFirst, IsTrimmed, IsAsBefore, HasBefore};
 
 use crate::request::Request;
 use slab::Slab;
@@ -128,6 +128,25 @@ impl Window {
         self.room -= 1;
     }
 
+    /// The key of request `n`, if it is outstanding. It stays until the request ends.
+    pub(crate) fn key(&self, n: u64) -> Option<usize>
+        ensures value { result ≡ key_at self.now.first self.now.keys n }
+        ensures there { IfSome result (λ key. is_some (found_by self.now.requests (Some key)) ≡ true) }
+    {
+        key_of(self.first, &self.keys, n)
+    }
+
+    /// The request of this key.
+    pub(crate) fn by_key(&self, key: usize) -> &Request
+        requires { is_some (found_by self.now.requests (Some key)) ≡ true }
+        ensures { found_by self.now.requests (Some key) ≡ Some result.now }
+    {
+        match self.requests.get(key) {
+            Some(request) => request,
+            None => unreachable!(),
+        }
+    }
+
     /// The request of this number, if it is outstanding.
     pub(crate) fn get(&self, n: u64) -> Option<&Request>
         ensures { option_copied result ≡ at self.now n }
@@ -193,9 +212,9 @@ impl Window {
         mark_cancelled(&mut self.requests, key);
     }
 
-    /// Ends request `n`, and lets go what was kept of it.
-    pub(crate) fn end_one(&mut self, n: u64) -> Request
-        requires { is_some (at self.old n) ≡ true }
+    /// Ends request `n`, which has this key, and lets go what was kept of it.
+    pub(crate) fn end_one(&mut self, n: u64, key: usize) -> Request
+        requires { key_at self.old.first self.old.keys n ≡ Some key }
         ensures request { at self.old n ≡ Some result }
         ensures changes { Changes self.old self.new n None }
         ensures end { end_of self.new ≡ end_of self.old }
@@ -203,9 +222,6 @@ impl Window {
         ensures running { self.new.running + one_if result.is_running ≡ self.old.running }
         ensures room { self.new.room ≡ self.old.room }
     {
-        let Some(key) = key_of(self.first, &self.keys, n) else {
-            unreachable!()
-        };
         let request = self.requests.remove(key);
         self.running = less_if(self.running, request.is_running);
         forget(&mut self.keys, (n - self.first) as usize);

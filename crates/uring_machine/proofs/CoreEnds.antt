@@ -1,6 +1,6 @@
 -- What a core shows as a submission call closes, as a request ends, and as the ring is closed.
 use Rattle.std.proofs.Common.{◌≡◌, ℕ, ◌+◌, ◌-◌, ◌^◌, ◌≤◌, ℤ, Bool, true, false, not, cond, eqb, nat_lt, if◌then◌else◌, List, [], ◌∷◌, ◌++◌, length, sum, Option, Some, None, is_some, refl, sym, ap, subst, ◌∙◌, arith, inl, inr, IfSome}
-use Rattle.std.proofs.lemmas.Bool.{cases_Bool, and_parts, and_from, eqb-true, eqb-false, lt-ltb, le-ltb}
+use Rattle.std.proofs.lemmas.Bool.{cases_Bool, eqb-true, eqb-false, lt-ltb, le-ltb}
 use Rattle.std.proofs.lemmas.List.{length-append}
 use Rattle.std.proofs.lemmas.Grind.{common_steps}
 use Rattle.uring_entry.specs.Setup.{Setup}
@@ -8,7 +8,7 @@ use Rattle.uring_entry.specs.IndexWords.{word_of}
 use Rattle.uring_entry.specs.Layout.{Sqe, Cqe, user_data_of}
 use Rattle.uring_entry.specs.Success.{posts_completion}
 use Rattle.uring_entry.specs.Submission.{Submission, Call, no_submission, taken, pending, entries_of, places_from, dropped, with_closed}
-use Rattle.uring_entry.specs.Requests.{Requests, no_request, entry_of, has_started, has_ended, is_outstanding, is_running, is_doomed, is_ready, doomed_result, cancel_result, no_bytes, with_call, with_ended, with_issued_end, with_started, entry_outstanding}
+use Rattle.uring_entry.specs.Requests.{Requests, no_request, entry_of, is_outstanding, is_running, is_doomed, is_ready, doomed_result, cancel_result, no_bytes, with_call, with_ended, with_issued_end, with_started, entry_outstanding}
 use Rattle.uring_entry.specs.Preparation.{is_cancel, operation_of}
 use Rattle.uring_entry.specs.Completions.{Completions, no_completion, with_end, with_posted}
 use Rattle.uring_entry.specs.declared.operation.Outcome.{Outcome}
@@ -19,10 +19,11 @@ use Rattle.uring_rings.specs.Cq.{Cq, ShowsCompletions}
 use Rattle.uring_rings.specs.declared.answers.EndAnswer.TheVariants as ended_as
 use Rattle.uring_rings.specs.declared.answers.Taken.{Taken}
 use Rattle.uring_dispatch.specs.Dispatch.{Dispatch, ShowsRequests, HasStarted, HasEnded, HasFinished}
-use Rattle.uring_dispatch.specs.IssueAndFinish.{issued, issued_waiting, finished}
+use Rattle.uring_dispatch.specs.IssueAndFinish.{issued, issued_waiting, posts_of, posted_by}
 use Rattle.uring_dispatch.specs.declared.answers.Issued.{Issued}
 use Rattle.uring_dispatch.specs.declared.answers.Issued.TheVariants as issue
-use Rattle.uring_dispatch.specs.declared.answers.Finished.TheVariants as finish
+use Rattle.uring_dispatch.specs.declared.answers.Posts.{Posts}
+use Rattle.uring_dispatch.specs.declared.answers.Posts.TheVariants as posts
 use Rattle.uring_machine.specs.World.{World, ending_of}
 use Rattle.uring_machine.specs.StepAnswers.{end_answer_in, issue_answer, FinishesApart}
 use Rattle.uring_machine.specs.Histories.{History, world}
@@ -30,7 +31,6 @@ use Rattle.uring_machine.specs.Core.{Core, ShowsWorld, FitsApart, IsFinished, he
 use Rattle.uring_machine.specs.declared.step.Step.TheVariants as step
 use Rattle.uring_machine.specs.declared.answer.Answer.{Answer}
 use Rattle.uring_machine.specs.declared.answer.Answer.TheVariants as answer
-use Rattle.uring_machine.proofs.Sound.{sound_of}
 use Rattle.uring_machine.proofs.CoreTakes.{held_within}
 
 -- End.
@@ -46,6 +46,9 @@ pub record Accepts (p : Core) (d : Dispatch) : Type 0 where
 pub record Ends (p : Core) (w : World) (q : Sq) (d : Dispatch) (a : Answer) (c : Option Call) : Type 0 where
   pub shows : ShowsWorld (record p { sq = q; dispatch = d; held = [] }) (ending_of w c)
   pub answered : a ≡ end_answer_in p.setup w c
+
+same_some : {X : Type 0} (a b : X) → Some a ≡ Some b → a ≡ b
+same_some a b e = cc
 
 sum_more : (ns : List ℕ) (n : ℕ) → sum (ns ++ n ∷ []) ≡ sum ns + n
 sum_more ns n = grind (arith, common_steps)
@@ -227,32 +230,50 @@ ended_there r n res e none =
 
 -- Finish.
 
--- a running request is outstanding
-running_there : (r : Requests) (n : ℕ) → finish.Ended ≡ finished r n → is_running r n ≡ true
-running_there r n e =
-    elim (cases_Bool (is_running r n)) [
-      | inl runs ↦ runs
-      | inr not_running ↦ absurd (let f : finish.Ended ≡ finish.NotRunning = e ∙ ap (λ b. cond b finish.Ended finish.NotRunning) not_running in cc)
-    ]
+-- what ended was running, and posts what its entry and result say
+ended_running : (r : Requests) (n : ℕ) (res : ℤ) (posted : Posts) → Some posted ≡ posted_by r n res → (is_running r n ≡ true) × (posted ≡ posts_of (entry_of r n) res)
+ended_running r n res posted e = go (is_running r n) e
+  where
+    go : (b : Bool) → Some posted ≡ cond b (Some (posts_of (entry_of r n) res)) None → (b ≡ true) × (posted ≡ posts_of (entry_of r n) res)
+    go true x = (refl, same_some posted _ x)
+    go false x = cc
 
-pub finish_goes : (p : Core) (d : Dispatch) (q : Cq) (n : ℕ) (res : ℤ) (bytes : List ℕ) (entry : Sqe)
-    → ((r : Requests) → ShowsRequests p.dispatch r → finish.Ended ≡ finished r n) → ((r : Requests) → ShowsRequests p.dispatch r → Some entry ≡ entry_outstanding r n)
-    → ((r : Requests) → ShowsRequests p.dispatch r → ShowsRequests d (with_ended r n res bytes)) → HasFinished p.dispatch d
-    → ((g : Setup) (l : Completions) → ShowsCompletions g p.cq l → ShowsCompletions g q (with_end g.cq l entry res bytes)) → p.cq.room ≤ q.room + 1 → (p.cq.room ≤ p.cq.spare → q.room ≤ q.spare)
+pub finish_goes : (p : Core) (d : Dispatch) (q : Cq) (n : ℕ) (res : ℤ) (bytes : List ℕ) (posted : Posts)
+    → ((r : Requests) → ShowsRequests p.dispatch r → Some posted ≡ posted_by r n res)
+    → ((r : Requests) (bytes : List ℕ) → ShowsRequests p.dispatch r → ShowsRequests d (with_ended r n res bytes)) → HasFinished p.dispatch d
+    → ((g : Setup) (l : Completions) (entry : Sqe) → posted ≡ posts_of entry res → ShowsCompletions g p.cq l → ShowsCompletions g q (with_end g.cq l entry res bytes)) → p.cq.room ≤ q.room + 1 → (p.cq.room ≤ p.cq.spare → q.room ≤ q.spare)
     → (h : History) → FitsApart p h → FitsApart (record p { dispatch = d; cq = q }) ((step.Finish n, answer.Ended res bytes) ∷ h)
-finish_goes p d q n res bytes entry answered there shows counts shown left promised h f =
+finish_goes p d q n res bytes posted answered shows counts shown left promised h f =
     let w = world p.setup h in
     let s = f.shows in
-    let same = entry_there w.requests n entry (there w.requests s.requests) in
+    let ended = ended_running w.requests n res posted (answered w.requests s.requests) in
     record {
-      shows = ended_shows p w d q (with_ended w.requests n res bytes) (entry_of w.requests n) res bytes s (shows w.requests s.requests) counts.accepted counts.outstanding counts.room counts.between
-          (subst (λ e. ShowsCompletions p.setup q (with_end p.setup.cq w.completions e res bytes)) same (shown p.setup w.completions s.completions)) left promised;
-      lawful = (subst (λ b. FinishesApart b (answer.Ended res bytes)) (sym (running_there w.requests n (answered w.requests s.requests))) tt, f.lawful);
+      shows = ended_shows p w d q (with_ended w.requests n res bytes) (entry_of w.requests n) res bytes s (shows w.requests bytes s.requests) counts.accepted counts.outstanding counts.room counts.between
+          (shown p.setup w.completions (entry_of w.requests n) ended.1 s.completions) left promised;
+      lawful = (subst (λ b. FinishesApart b (answer.Ended res bytes)) (sym ended.0) tt, f.lawful);
     }
 
-pub finish_told : (p : Core) (n : ℕ) (outcome : Outcome) → ((r : Requests) → ShowsRequests p.dispatch r → finish.Ended ≡ finished r n)
+pub finish_told : (p : Core) (n : ℕ) (outcome : Outcome) (posted : Posts) → ((r : Requests) → ShowsRequests p.dispatch r → Some posted ≡ posted_by r n outcome.res)
     → (h : History) → FitsApart p h → IsFinished (world p.setup h) n outcome (answer.Ended outcome.res outcome.bytes)
-finish_told p n outcome answered h f = rw (running_there (world p.setup h).requests n (answered (world p.setup h).requests f.shows.requests)) refl
+finish_told p n outcome posted answered h f = rw (ended_running (world p.setup h).requests n outcome.res posted (answered (world p.setup h).requests f.shows.requests)).0 refl
+
+-- what was posted is the end
+pub posted_end : (g : Setup) (q : Cq) (l : Completions) (entry : Sqe) (res : ℤ) (bytes : List ℕ) (user_data : ℕ) → posts.Completion user_data ≡ posts_of entry res
+    → ShowsCompletions g q (with_posted g.cq l (record { user_data = user_data; res = res; payload = bytes })) → ShowsCompletions g q (with_end g.cq l entry res bytes)
+posted_end g q l entry res bytes user_data e s = go (posts_completion entry res) e
+  where
+    go : (b : Bool) → posts.Completion user_data ≡ cond b (posts.Completion (user_data_of entry)) posts.Nothing → ShowsCompletions g q (cond b (with_posted g.cq l (record { user_data = user_data_of entry; res = res; payload = bytes })) l)
+    go true x =
+        let same : user_data ≡ user_data_of entry = let f : posts.Completion user_data ≡ posts.Completion (user_data_of entry) = x in cc in
+        subst (λ d. ShowsCompletions g q (with_posted g.cq l (record { user_data = d; res = res; payload = bytes }))) same s
+    go false x = absurd (let f : posts.Completion user_data ≡ posts.Nothing = x in cc)
+
+pub skipped_end : (g : Setup) (q : Cq) (l : Completions) (entry : Sqe) (res : ℤ) (bytes : List ℕ) → posts.Nothing ≡ posts_of entry res → ShowsCompletions g q l → ShowsCompletions g q (with_end g.cq l entry res bytes)
+skipped_end g q l entry res bytes e s = go (posts_completion entry res) e
+  where
+    go : (b : Bool) → posts.Nothing ≡ cond b (posts.Completion (user_data_of entry)) posts.Nothing → ShowsCompletions g q (cond b (with_posted g.cq l (record { user_data = user_data_of entry; res = res; payload = bytes })) l)
+    go true x = absurd (let f : posts.Nothing ≡ posts.Completion (user_data_of entry) = x in cc)
+    go false x = s
 
 -- Close.
 
@@ -272,18 +293,6 @@ accepts_held p d entries same shows accepted outstanding between = record {
   outstanding = outstanding ∙ ap (λ xs. p.dispatch.outstanding + length xs) same;
   between = between;
 }
-
--- what is running is outstanding
-pub finished_there : (p : Core) (n : ℕ) (h : History) → FitsApart p h → ((r : Requests) → ShowsRequests p.dispatch r → finish.Ended ≡ finished r n) → ((r : Requests) → ShowsRequests p.dispatch r → None ≡ entry_outstanding r n) → ⊥
-finished_there p n h f answered none =
-    let w = world p.setup h in
-    let s = f.shows.requests in
-    let sound = sound_of p.setup h f.lawful in
-    let runs = and_parts (has_started w.requests n) (not (has_ended w.requests n)) (running_there w.requests n (answered w.requests s)) in
-    let below = lt-ltb n (length w.requests.accepted) (sound.requests.started_accepted n runs.0) in
-    let there : is_outstanding w.requests n ≡ true = and_from (nat_lt n (length w.requests.accepted)) (not (has_ended w.requests n)) below runs.1 in
-    let f : ◌≡◌ {A = Option Sqe} None (Some (entry_of w.requests n)) = none w.requests s ∙ ap (λ b. cond b (Some (entry_of w.requests n)) None) there in
-    cc
 
 -- New.
 

@@ -1,6 +1,6 @@
 ghost use Rattle.std.specs.Prelude.{◌≡◌, ◌+◌, ◌<◌, ◌≤◌, ◌∷◌, [], true, drop, length, IfOk, IfSome, slice_get};
 ghost use Rattle.uring_entry.specs.Setup.{Setup, IsWithinLimits};
-ghost use Rattle.uring_entry.specs.Submission.{Submission, stops_at, with_stopped};
+ghost use Rattle.uring_entry.specs.Submission.{Submission, stops_at, with_stopped, dropped};
 ghost use Rattle.uring_entry.specs.Completions.{Completions, unreaped, with_end};
 ghost use Rattle.uring_entry.specs.Requests.{Requests, least_of, operation_running, next_of, with_call};
 ghost use Rattle.uring_entry.specs.Why.{why_of};
@@ -8,6 +8,7 @@ ghost use Rattle.uring_rings.specs.Cq.{ShowsCompletions};
 ghost use Rattle.uring_rings.specs.Sq.{ShowsSubmission};
 ghost use Rattle.uring_dispatch.specs.Cancels.{found_by};
 ghost use Rattle.uring_dispatch.specs.Dispatch.{ShowsRequests};
+ghost use Rattle.uring_dispatch.specs.IssueAndFinish.{posts_of};
 ghost use Rattle.uring_files.specs.Operations.{IsForFiles};
 ghost use Rattle.uring_machine.specs.Histories.{History, world};
 ghost use Rattle.uring_machine.specs.StepAnswers.{begin_answer};
@@ -19,7 +20,7 @@ use crate::conversions::{ended, next_answer, reaped};
 use crate::step::Step;
 use std::alloc::{AllocError, Global};
 use std::marker::Model;
-use uring_dispatch::{Dispatch, Finished, Found, Issued, ReserveError};
+use uring_dispatch::{Dispatch, Found, Issued, Posts, ReserveError};
 use uring_entry::{Cqe, Op, Outcome, Setup, Sqe, Why, posts_completion, prepare};
 use uring_rings::{Cq, EndAnswer, Sq, TakeAnswer};
 
@@ -121,15 +122,13 @@ impl Core {
         ensures memory { HasNoLessMemory self.old self.new }
         ensures outcome { (h : History) → FitsApart self.old h → IsFinished (world self.old.setup h) number outcome result }
     {
-        let entry = self.dispatch.entry(number);
-        match self.dispatch.finish(number, outcome) {
-            Finished::Ended => {
-                let Some(entry) = entry else { unreachable!() };
-                let Outcome { res, bytes } = outcome;
-                post_end(&mut self.cq, &entry, res, bytes);
+        let Outcome { res, bytes } = outcome;
+        match self.dispatch.end_running(number, res) {
+            Some(posts) => {
+                post_end(&mut self.cq, posts, res, bytes);
                 ended(res, bytes)
             }
-            Finished::NotRunning => Answer::NotRunning,
+            None => Answer::NotRunning,
         }
     }
 
@@ -209,6 +208,13 @@ impl Core {
             posted: self.cq.posted(),
             reaped: self.cq.reaped(),
         }
+    }
+
+    /// How many positions were dropped, modulo 2^32: those of closed calls whose word names no slot. io_uring_setup(2), on `dropped`.
+    pub fn dropped(&self) -> u32
+        ensures { (h : History) → FitsApart self.now h → result ≡ dropped (world self.now.setup h).submission }
+    {
+        self.sq.dropped()
     }
 
     /// The application writes an entry to a slot.
@@ -311,7 +317,8 @@ impl Core {
             Issued::Ended(res) => {
                 let Some(entry) = entry else { unreachable!() };
                 let bytes = [0; 64];
-                post_end(&mut self.cq, &entry, res, bytes);
+                let posts = posts_of(&entry, res);
+                post_end(&mut self.cq, posts, res, bytes);
                 ended(res, bytes)
             }
             Issued::NotReady => Answer::NotReady,
@@ -422,15 +429,27 @@ fn accept_call(dispatch: &mut Dispatch, entries: &[Sqe])
     dispatch.end_call();
 }
 
-/// Posts the completion of a request that ended, unless it succeeded and is to be skipped.
-fn post_end(cq: &mut Cq, entry: &Sqe, res: i32, bytes: [u8; 64])
+/// What the end of a request of this entry posts: a completion, unless it succeeded and is to be skipped.
+fn posts_of(entry: &Sqe, res: i32) -> Posts
+    ensures { result ≡ posts_of entry.now res }
+{
+    if posts_completion(entry, res) {
+        Posts::Completion(entry.user_data())
+    } else {
+        Posts::Nothing
+    }
+}
+
+/// Posts what the end of a request is to post.
+fn post_end(cq: &mut Cq, posts: Posts, res: i32, bytes: [u8; 64])
     requires { 0 < cq.old.room }
-    ensures shows { (g : Setup) (l : Completions) → ShowsCompletions g cq.old l → ShowsCompletions g cq.new (with_end g.cq l entry.now res bytes) }
+    ensures shows { (g : Setup) (l : Completions) (entry : Sqe) → posts ≡ posts_of entry res → ShowsCompletions g cq.old l → ShowsCompletions g cq.new (with_end g.cq l entry res bytes) }
     ensures room { cq.old.room ≤ cq.new.room + 1 }
     ensures promised { cq.old.room ≤ cq.old.spare → cq.new.room ≤ cq.new.spare }
     ensures kept { length cq.old.overflow + cq.old.spare ≤ length cq.new.overflow + cq.new.spare }
 {
-    if posts_completion(entry, res) {
-        cq.post(Cqe::new(entry.user_data(), res, bytes));
+    match posts {
+        Posts::Completion(user_data) => cq.post(Cqe::new(user_data, res, bytes)),
+        Posts::Nothing => {}
     }
 }

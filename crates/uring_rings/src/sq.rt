@@ -1,7 +1,7 @@
 ghost use Rattle.std.specs.Prelude.{◌≡◌, ◌≢◌, ◌%◌, ◌<◌, length, true, IfOk, is_some};
 ghost use Rattle.uring_entry.specs.Setup.{Setup};
 ghost use Rattle.uring_entry.specs.IndexWords.{word_of};
-ghost use Rattle.uring_entry.specs.Submission.{Submission, no_submission, staged, taken, pending, is_busy, with_published, with_head_loaded, with_stopped};
+ghost use Rattle.uring_entry.specs.Submission.{Submission, no_submission, staged, taken, pending, dropped, is_busy, with_published, with_head_loaded, with_stopped};
 ghost use Rattle.uring_rings.specs.Sq.{ShowsSubmission, IsOrderedSubmission};
 ghost use Rattle.uring_rings.specs.SqAnswers.{fill_answer, after_fill, index_answer, after_index, begin_answer, after_begin, take_answer, after_take, end_answer, after_end};
 
@@ -155,6 +155,13 @@ impl Sq {
         ensures ordered { (g : Setup) (l : Submission) → ShowsSubmission g self.now l → IsOrderedSubmission g.sq l }
     {
         self.published.distance(self.head)
+    }
+
+    /// How many positions were dropped since the ring was made, modulo 2^32: those of closed calls whose word names no slot. io_uring_setup(2), on `dropped`.
+    pub fn dropped(&self) -> u32
+        ensures { (g : Setup) (l : Submission) → ShowsSubmission g self.now l → result ≡ dropped l }
+    {
+        self.dropped
     }
 
     /// Whether a call is open.

@@ -8,22 +8,34 @@ use Rattle.uring_dispatch.specs.Held.{HasLost}
 use Rattle.uring_dispatch.specs.declared.group.Group.{Group}
 use Rattle.uring_dispatch.proofs.HeldLemmas.{same_some}
 use Rattle.uring_dispatch.proofs.WaitingLemmas.{within-end, stands-ended_last, stands-ended_more}
-use Rattle.uring_dispatch.proofs.EndLemmas.{Ends, end-sound_last, end-sound_more}
+use Rattle.uring_dispatch.proofs.EndLemmas.{Ends, in-group, least-before, end-sound_last, end-sound_more}
 use Rattle.uring_dispatch.proofs.EndsHeld.{end-held, shows-none, shows-more}
 use Rattle.uring_dispatch.proofs.events.take_out.Goals as goal
 
 pub group_of-group-requires : goal.group_of-group-requires
 group_of-group-requires c = let link = c.requires.sound.linked c.args.n _ c.end_one-request.ensures.request in ap is_some link.found
 
-pub next_outstanding-least-requires : goal.next_outstanding-least-requires
-next_outstanding-least-requires c = let kept = c.requires.sound.kept _ c.group_of-group.result c.group_of-group.ensures in omega (arith, kept.to)
+pub least_left-least-requires-clause-from : goal.least_left-least-requires-clause-from
+least_left-least-requires-clause-from c =
+    least-before _ _ c.args.n _ _ c.requires.sound c.end_one-request.ensures.request c.group_of-group.ensures
+
+pub least_left-least-requires-clause-to : goal.least_left-least-requires-clause-to
+least_left-least-requires-clause-to c =
+    (in-group _ _ c.args.n _ _ c.requires.sound c.end_one-request.ensures.request c.group_of-group.ensures).1
+
+pub least_left-least-requires-clause-gone : goal.least_left-least-requires-clause-gone
+least_left-least-requires-clause-gone c = c.end_one-request.ensures.changes.here
+
+pub least_left-least-requires-clause-others : goal.least_left-least-requires-clause-others
+least_left-least-requires-clause-others c = λ ne.
+    ap is_some (c.end_one-request.ensures.changes.others _ ne) ∙ (c.requires.sound.kept _ c.group_of-group.result c.group_of-group.ensures).here
 
 pub returns-then-least-group-clause-sound : goal.returns-then-least-group-clause-sound
 returns-then-least-group-clause-sound c =
     let ends : Ends c.args.window.now c.end_one-request.new.self c.args.groups.now c.remove.new.self c.args.n c.end_one-request.result c.group_of-group.result None =
     record { there = c.end_one-request.ensures.request; changes = c.end_one-request.ensures.changes; end = c.end_one-request.ensures.end; group = c.group_of-group.ensures; exchange = c.remove.ensures.changes }
     in
-    end-sound_last _ _ _ _ c.args.n _ _ c.next_outstanding-least.result c.requires.sound ends c.next_outstanding-least.ensures (omega arith) (c.remove.ensures.beyond _ c.requires.sound.beyond) c.remove.ensures.last
+    end-sound_last _ _ _ _ c.args.n _ _ c.least_left-least.result c.requires.sound ends c.least_left-least.ensures (omega arith) (c.remove.ensures.beyond _ c.requires.sound.beyond) c.remove.ensures.last
 
 pub returns-then-least-group-clause-held : goal.returns-then-least-group-clause-held
 returns-then-least-group-clause-held c = λ r res bytes h is.
@@ -41,7 +53,7 @@ returns-clause-sound c =
     record { there = c.end_one-request.ensures.request; changes = c.end_one-request.ensures.changes; end = c.end_one-request.ensures.end; group = c.group_of-group.ensures; exchange = c.update.ensures.changes }
     in
     let P : Groups → Type 0 = λ g. IsBeyond g.barriers (end_of c.args.window.now) in
-    end-sound_more _ _ _ _ c.args.n _ _ _ c.next_outstanding-least.result c.requires.sound ends c.next_outstanding-least.ensures (λ e. absurd (omega (arith, e))) refl refl refl
+    end-sound_more _ _ _ _ c.args.n _ _ _ c.least_left-least.result c.requires.sound ends c.least_left-least.ensures (λ e. absurd (omega (arith, e))) refl refl refl
     (subst P (sym c.update.ensures.same) c.requires.sound.beyond) (ap (λ (g : Groups). g.last) c.update.ensures.same ∙ c.requires.closed)
 
 pub returns-clause-held : goal.returns-clause-held
@@ -65,7 +77,7 @@ returns-then-least-group-clause-others c = λ k ne head beside.
     let ends : Ends c.args.window.now c.end_one-request.new.self c.args.groups.now c.remove.new.self c.args.n c.end_one-request.result c.group_of-group.result None =
     record { there = c.end_one-request.ensures.request; changes = c.end_one-request.ensures.changes; end = c.end_one-request.ensures.end; group = c.group_of-group.ensures; exchange = c.remove.ensures.changes }
     in
-    stands-ended_last _ _ _ _ c.args.n _ _ c.next_outstanding-least.result k c.requires.sound ends c.next_outstanding-least.ensures (omega arith) ne
+    stands-ended_last _ _ _ _ c.args.n _ _ c.least_left-least.result k c.requires.sound ends c.least_left-least.ensures (omega arith) ne
 
 pub behind_failure-doomed_end-requires : goal.behind_failure-doomed_end-requires
 behind_failure-doomed_end-requires c =
@@ -83,5 +95,5 @@ returns-clause-others c = λ k ne head beside.
     let ends : Ends c.args.window.now c.end_one-request.new.self c.args.groups.now c.update.new.self c.args.n c.end_one-request.result c.group_of-group.result (Some _) =
     record { there = c.end_one-request.ensures.request; changes = c.end_one-request.ensures.changes; end = c.end_one-request.ensures.end; group = c.group_of-group.ensures; exchange = c.update.ensures.changes }
     in
-    stands-ended_more _ _ _ _ c.args.n _ c.group_of-group.result _ c.next_outstanding-least.result k c.breaks-is_break.result c.requires.sound ends c.next_outstanding-least.ensures refl refl c.earlier_of-broken.ensures
+    stands-ended_more _ _ _ _ c.args.n _ c.group_of-group.result _ c.least_left-least.result k c.breaks-is_break.result c.requires.sound ends c.least_left-least.ensures refl refl c.earlier_of-broken.ensures
     (λ breaks lt. elim beside [ inl low ↦ inl low | inr past ↦ inr (c.behind_failure-doomed_end.ensures.doomed breaks k past lt) ]) ne head

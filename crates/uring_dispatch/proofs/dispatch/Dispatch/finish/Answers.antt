@@ -1,23 +1,20 @@
-use Rattle.std.proofs.Common.{arith}
-use Rattle.uring_dispatch.proofs.Views.{held-from, shows-held, unchanged-end-finish}
+use Rattle.std.proofs.Common.{rules}
+use Rattle.std.specs.Int.{w32}
+use Rattle.std.proofs.lemmas.Int.{to_z-of_z}
+use Rattle.uring_dispatch.proofs.Issues.{finished-none, finished-some}
 use Rattle.uring_dispatch.proofs.dispatch.Dispatch.finish.Goals as goal
 
-pub invariant_of-self : goal.invariant_of-self
-invariant_of-self c =
-    let end = unchanged-end-finish _ _ _ (c.finish.ensures.counts 0 c.self.inside.is_between_calls) in
-    record {
-      sound = c.finish.ensures.sound;
-      listed = c.finish.ensures.listed;
-      heads = omega (arith, c.self.invariant.heads, c.finish.ensures.waiting_room.heads, end);
-      doomed = omega (arith, c.self.invariant.doomed, c.finish.ensures.waiting_room.doomed, end);
-      window = omega (arith, c.self.invariant.window);
-      groups = omega (arith, c.self.invariant.groups);
-      closed = λ e. c.finish.ensures.closed;
-      fits = omega (arith, c.self.invariant.fits, end);
-    }
+pub returns-in-Some-clause-answer : goal.returns-in-Some-clause-answer
+returns-in-Some-clause-answer c = λ r s.
+    finished-some r c.args.n c.args.outcome.res _ (rw (to_z-of_z w32 c.args.outcome.res (search rules)) at (c.in-Some.ensures.answer r s))
 
-pub returns-clause-answer : goal.returns-clause-answer
-returns-clause-answer c = λ r s. c.finish.ensures.answer r (held-from _ _ c.self.inside.groups _ _ r c.self.view_is s)
+pub returns-in-Some-clause-shows : goal.returns-in-Some-clause-shows
+returns-in-Some-clause-shows c = λ r s.
+    rw (to_z-of_z w32 c.args.outcome.res (search rules)) at (c.in-Some.ensures.shows r c.args.outcome.bytes s)
 
-pub returns-clause-shows : goal.returns-clause-shows
-returns-clause-shows c = λ r s. shows-held _ _ _ _ _ (c.finish.ensures.held r (held-from _ _ c.self.inside.groups _ _ r c.self.view_is s))
+pub returns-in-None-clause-answer : goal.returns-in-None-clause-answer
+returns-in-None-clause-answer c = λ r s.
+    finished-none r c.args.n c.args.outcome.res (rw (to_z-of_z w32 c.args.outcome.res (search rules)) at (c.in-None.ensures.answer r s))
+
+pub returns-in-None-clause-shows : goal.returns-in-None-clause-shows
+returns-in-None-clause-shows c = λ r s. c.in-None.ensures.shows r c.args.outcome.bytes s

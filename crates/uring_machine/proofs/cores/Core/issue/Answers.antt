@@ -12,10 +12,10 @@ pub invariant_of-self-in-Ended : goal.invariant_of-self-in-Ended
 invariant_of-self-in-Ended c = (
   c.self.invariant.0,
   core_after _ _ _ refl (issue_ended_goes _ c.issue.new.self c.post_end.new.cq c.args.number c.in-Ended.res c.in-Some.entry c.in-Ended.ensures.answer (λ r s. sym c.in-Some.is ∙ c.entry-entry.ensures r s)
-      c.in-Ended.ensures.shows c.in-Ended.ensures.counts (simp (to_z-of_z w32 c.in-Ended.res (search rules)) at c.post_end.ensures.shows) c.post_end.ensures.room c.post_end.ensures.promised) c.self.invariant.1,
+      c.in-Ended.ensures.shows c.in-Ended.ensures.counts (λ g l. simp (to_z-of_z w32 c.in-Ended.res (search rules)) at (c.post_end.ensures.shows g l c.in-Some.entry c.posts_of-posts.ensures)) c.post_end.ensures.room c.post_end.ensures.promised) c.self.invariant.1,
 )
 
 pub returns-in-Some-clause-fits : goal.returns-in-Some-clause-fits
 returns-in-Some-clause-fits c =
     rw (simp (to_z-of_z w32 c.in-Ended.res (search rules)) at c.ended.ensures, ← c.self.view_is) (issue_ended_goes _ c.issue.new.self c.post_end.new.cq c.args.number c.in-Ended.res c.in-Some.entry c.in-Ended.ensures.answer (λ r s. sym c.in-Some.is ∙ c.entry-entry.ensures r s)
-    c.in-Ended.ensures.shows c.in-Ended.ensures.counts (simp (to_z-of_z w32 c.in-Ended.res (search rules)) at c.post_end.ensures.shows) c.post_end.ensures.room c.post_end.ensures.promised)
+    c.in-Ended.ensures.shows c.in-Ended.ensures.counts (λ g l. simp (to_z-of_z w32 c.in-Ended.res (search rules)) at (c.post_end.ensures.shows g l c.in-Some.entry c.posts_of-posts.ensures)) c.post_end.ensures.room c.post_end.ensures.promised)
