@@ -18,6 +18,7 @@ use Rattle.uring_check.specs.Findings as finding
 use Rattle.uring_check.specs.Records.{IsRecord, IsNoRecord}
 use Rattle.uring_check.specs.Reports.{counted_with, line_text, told_of, told_of_all, wanted_text, why_asked, why_told}
 use Rattle.uring_check.specs.Rules.{Rules, IsCalled}
+use Rattle.uring_check.specs.declared.answer_text.AnswerText.{AnswerText}
 use Rattle.uring_check.specs.declared.checker.Checker.{Checker}
 use Rattle.uring_check.specs.declared.follower.Follower.{Follower}
 use Rattle.uring_check.specs.declared.verdict.Verdict.{Verdict}
@@ -83,17 +84,17 @@ looked_bad old mid report line h is none remark fits =
       told = told ∙ bad_told (world (rules_of old.machine).setup h) old.number line old.report.items;
     })
 
--- a checker whose machine made a step
-abbrev pub with_machine : Checker → Follower → Checker
-with_machine c m = record c { machine = m }
+-- a checker whose machine made a step, to which this text was told
+abbrev pub with_machine : Checker → Follower → AnswerText → Checker
+with_machine c m t = record c { machine = m; told = t }
 
-pub looked_right : (old : Checker) (m : Follower) (steps : ℕ) (s : Step) (text line : List ℕ) → steps ≡ min (old.steps + 1) (2 ^ 64 - 1) → rules_of m ≡ rules_of old.machine → old.is_over ≡ false → Judges old.machine m s text None → IsRecord line s text
-    → LooksAt old (record old { machine = m; steps = steps }) line
-looked_right old m steps s text line counted same over judges is = λ h f.
+pub looked_right : (old : Checker) (m : Follower) (t : AnswerText) (steps : ℕ) (s : Step) (text line : List ℕ) → steps ≡ min (old.steps + 1) (2 ^ 64 - 1) → rules_of m ≡ rules_of old.machine → old.is_over ≡ false → Judges old.machine m s text None → IsRecord line s text
+    → LooksAt old (record old { machine = m; steps = steps; told = t }) line
+looked_right old m t steps s text line counted same over judges is = λ h f.
     let j = judges h f in
     record {
       finding = finding.Right s j.0;
-      is_so = (subst (λ (t : List ℕ). IsRecord line s t) (sym j.1) is, j.2, subst (λ (g : Rules). IsCalled g h s j.0) same (fits_called m s j.0 h j.3));
+      is_so = (subst (λ (x : List ℕ). IsRecord line s x) (sym j.1) is, j.2, subst (λ (g : Rules). IsCalled g h s j.0) same (fits_called m s j.0 h j.3));
       same = same;
       fits = j.3;
       is_all = refl;
@@ -108,10 +109,10 @@ looked_right old m steps s text line counted same over judges is = λ h f.
 abbrev pub found_wrong : Checker → Vec ℕ Global → Checker
 found_wrong c report = record c { verdict = first_fault c.verdict verdict.Wrong; is_over = not c.is_all; report = report }
 
-pub looked_wrong : (old new : Checker) (m : Follower) (s : Step) (text line shown : List ℕ) (why : Option (ℕ × Why)) → rules_of m ≡ rules_of old.machine
-    → ((h : History) → FitsBy old.machine h → why ≡ why_asked (world (rules_of old.machine).setup h).requests s) → (wanted : Wanted) × (shown ≡ wanted_text wanted) × Judges old.machine m s text (Some wanted) → new ≡ found_wrong (with_machine old m) new.report
+pub looked_wrong : (old new : Checker) (m : Follower) (t : AnswerText) (s : Step) (text line shown : List ℕ) (why : Option (ℕ × Why)) → rules_of m ≡ rules_of old.machine
+    → ((h : History) → FitsBy old.machine h → why ≡ why_asked (world (rules_of old.machine).setup h).requests s) → (wanted : Wanted) × (shown ≡ wanted_text wanted) × Judges old.machine m s text (Some wanted) → new ≡ found_wrong (with_machine old m t) new.report
     → new.report.items ≡ old.report.items ++ line_text old.number ++ ended line ++ codes "wanted: " ++ ended shown ++ why_told why → IsRecord line s text → LooksAt old new line
-looked_wrong old new m s text line shown why same asked judges is told rec = λ h f.
+looked_wrong old new m t s text line shown why same asked judges is told rec = λ h f.
     let j = judges.2 h f in
     let wanted : Wanted = judges.0 in
     record {

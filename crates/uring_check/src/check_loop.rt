@@ -1,7 +1,9 @@
 //! The check of a recorded trace over two streams.
 
-ghost use Rattle.std.specs.Prelude.{◌≡◌};
+ghost use Rattle.std.specs.Prelude.{◌≡◌, [], Bool};
+ghost use Rattle.uring_check.specs.Checking.{Has};
 ghost use Rattle.uring_check.specs.Checks.{IsChecked};
+ghost use Rattle.uring_check.specs.Rules.{Rules};
 
 use crate::reading::{Reading, read_all};
 use crate::verdict::Verdict;
@@ -32,8 +34,19 @@ pub fn check<R: Read, W: Write>(
     ensures { IsChecked (record { setup = setup.now; is_apart = is_apart }) is_all result (R.remaining reader.old) (R.remaining reader.new) (W.contents writer.old) (W.contents writer.new) }
 {
     let mut reading = Reading::new(alloc, setup, is_all, is_apart)?;
-    read_all(reader, &mut reading, &mut Calls::new())?;
-    let (verdict, report) = reading.end()?;
-    write_all(writer, report.as_slice(), &mut Calls::new())?;
+    check_all(&mut reading, reader, writer)
+}
+
+/// Takes in all that the reader has, and writes the report.
+fn check_all<R: Read, W: Write>(
+    reading: &mut Reading,
+    reader: &mut R,
+    writer: &mut W,
+) -> Result<Verdict, TraceFault>
+    ensures { (g : Rules) (all : Bool) → Has g all reading.old [] → IsChecked g all result (R.remaining reader.old) (R.remaining reader.new) (W.contents writer.old) (W.contents writer.new) }
+{
+    read_all(reader, reading, &mut Calls::new())?;
+    let verdict = reading.end()?;
+    write_all(writer, reading.report(), &mut Calls::new())?;
     Ok(verdict)
 }

@@ -10,6 +10,7 @@ ghost use Rattle.uring_check.specs.Rules.{Rules};
 ghost use Rattle.uring_check.specs.Reports.{line_text, why_asked, why_told};
 ghost use Rattle.uring_check.specs.Records.{IsRecord, IsNoRecord};
 
+use crate::answer_text::AnswerText;
 use crate::follower::Follower;
 use crate::judging::judge_told;
 use crate::record_line::split_record;
@@ -34,6 +35,7 @@ pub(crate) struct Checker {
     // Whether no further line is looked at.
     is_over: bool,
     report: Vec<u8>,
+    told: AnswerText,
 }
 
 impl Checker {
@@ -55,6 +57,7 @@ impl Checker {
             verdict: Verdict::Lawful,
             is_over: false,
             report: Vec::new(alloc),
+            told: AnswerText::new(alloc),
         })
     }
 
@@ -69,12 +72,19 @@ impl Checker {
         Ok(())
     }
 
-    /// The verdict on all lines, and the report.
-    pub(crate) fn end(mut self) -> Result<(Verdict, Vec<u8>), AllocError>
-        ensures { IfOk result (λ told. (g : Rules) (all : Bool) (lines : List (List ℕ)) → Looks g all lines self → IsTold g all lines told.0 told.1.items) }
+    /// Ends the report, and returns the verdict on all lines.
+    pub(crate) fn end(&mut self) -> Result<Verdict, AllocError>
+        ensures { IfOk result (λ verdict. (g : Rules) (all : Bool) (lines : List (List ℕ)) → Looks g all lines self.old → IsTold g all lines verdict self.new.report.items) }
     {
         tell_end(self.alloc, &mut self.report, self.verdict, self.steps)?;
-        Ok((self.verdict, self.report))
+        Ok(self.verdict)
+    }
+
+    /// The report so far.
+    pub(crate) fn report(&self) -> &[u8]
+        ensures { result.now ≡ self.now.report.items }
+    {
+        self.report.as_slice()
     }
 
     /// Looks at a line.
@@ -114,7 +124,7 @@ impl Checker {
         ensures { OnOk result (IsRecord line.now step.now text.now → LooksAt self.old self.new line.now) }
     {
         let why = ask(&self.machine, step);
-        match judge_told(self.alloc, &mut self.machine, step, text)? {
+        match judge_told(self.alloc, &mut self.told, &mut self.machine, step, text)? {
             None => {
                 self.steps = self.steps.saturating_add(1);
                 Ok(())

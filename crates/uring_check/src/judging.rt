@@ -1,7 +1,6 @@
 //! Whether the text of an answer is that of one that is called for.
 
 ghost use Rattle.std.specs.Prelude.{◌≡◌, ◌∷◌, ℤ, IfOk, MatchOption, OnOk};
-ghost use Rattle.std.specs.Bool.{Decides};
 ghost use Rattle.uring_entry.specs.Requests.{no_bytes};
 ghost use Rattle.uring_machine.specs.Histories.{History};
 ghost use Rattle.uring_machine.specs.declared.answer.Answer.TheVariants as answer;
@@ -11,16 +10,17 @@ ghost use Rattle.uring_check.specs.Rules.{IsPlain};
 ghost use Rattle.uring_check.specs.Reports.{wanted_text};
 ghost use Rattle.uring_check.specs.Checking.{FitsBy, rules_of, Judges, JudgesTold, IsJudged, IsOneJudged, HasOneAnswer, IsWanted, IsEither};
 
+use crate::answer_text::AnswerText;
 use crate::follower::Follower;
 use crate::telling::push_wanted;
 use std::alloc::{AllocError, Global};
 use uring_entry::errno;
 use uring_machine::{Answer, Refusal, Step, Wanted};
-use uring_trace::{push_answer, spelled_signed};
+use uring_trace::spelled_signed;
 
 /// Makes a step with an answer of this text, if one is called for: `None`. Else it tells which answers are; if that is one alone, the machine goes on as though it had been given, and else as though the step hadn't been made. `AllocError`: memory was refused, to the step or to a text.
 fn judge(
-    alloc: Global,
+    told: &mut AnswerText,
     machine: &mut Follower,
     step: &Step,
     text: &[u8],
@@ -29,14 +29,15 @@ fn judge(
     ensures judges { IfOk result (Judges machine.old machine.new step.now text.now) }
 {
     match step {
-        Step::Begin { .. } | Step::Finish { .. } => judge_open(alloc, machine, step, text),
-        _ => judge_sure(alloc, machine, step, text),
+        Step::Begin { .. } | Step::Finish { .. } => judge_open(told, machine, step, text),
+        _ => judge_sure(told, machine, step, text),
     }
 }
 
 /// Judges a step, and gives the text of the answers that are called for if the text isn't that of one.
 pub(crate) fn judge_told(
     alloc: Global,
+    told: &mut AnswerText,
     machine: &mut Follower,
     step: &Step,
     text: &[u8],
@@ -44,7 +45,7 @@ pub(crate) fn judge_told(
     ensures rules { rules_of machine.new ≡ rules_of machine.old }
     ensures judges { IfOk result (JudgesTold machine.old machine.new step.now text.now) }
 {
-    match judge(alloc, machine, step, text) {
+    match judge(told, machine, step, text) {
         Ok(None) => Ok(None),
         Ok(Some(wanted)) => Ok(Some(wanted_bytes(alloc, &wanted)?)),
         Err(error) => Err(error),
@@ -64,7 +65,7 @@ fn wanted_bytes(alloc: Global, wanted: &Wanted) -> Result<Vec<u8>, AllocError>
 
 /// Judges a step to which one answer alone is called for, and makes it with that.
 fn judge_sure(
-    alloc: Global,
+    told: &mut AnswerText,
     machine: &mut Follower,
     step: &Step,
     text: &[u8],
@@ -74,12 +75,12 @@ fn judge_sure(
     ensures judges { IfOk result (Judges machine.old machine.new step.now text.now) }
 {
     let answer = machine.step(step);
-    judge_one(alloc, answer, text)
+    judge_one(told, answer, text)
 }
 
 /// Judges a Begin or a Finish, to which two answers may be called for. It follows an answer that neither is ever given, and so is told those that are.
 fn judge_open(
-    alloc: Global,
+    told: &mut AnswerText,
     machine: &mut Follower,
     step: &Step,
     text: &[u8],
@@ -88,7 +89,7 @@ fn judge_open(
     ensures judges { IfOk result (Judges machine.old machine.new step.now text.now) }
 {
     match machine.follow(step, &Answer::Filled) {
-        Err(Refusal::Wrong(wanted)) => judge_wanted(alloc, machine, step, wanted, text),
+        Err(Refusal::Wrong(wanted)) => judge_wanted(told, machine, step, wanted, text),
         _ => Err(AllocError),
     }
 }
@@ -96,7 +97,7 @@ fn judge_open(
 /// Judges a step to which these answers are called for.
 #[tactic(auto, using(crate::proofs::WantedAnswers::either_call, crate::proofs::WantedAnswers::either_end))]
 fn judge_wanted(
-    alloc: Global,
+    told: &mut AnswerText,
     machine: &mut Follower,
     step: &Step,
     wanted: Wanted,
@@ -106,9 +107,9 @@ fn judge_wanted(
     ensures judges { IfOk result (λ found. (h : History) → IsWanted h machine.old step.now wanted → IsJudged (rules_of machine.old) h machine.new step.now text.now found) }
 {
     match wanted {
-        Wanted::Only(answer) => judge_one(alloc, answer, text),
+        Wanted::Only(answer) => judge_one(told, answer, text),
         Wanted::CallOrAgain(length) => judge_either(
-            alloc,
+            told,
             machine,
             step,
             wanted,
@@ -119,7 +120,7 @@ fn judge_wanted(
         // A follower without files knows no file's length.
         Wanted::EndOrNoMemory(_) if machine.is_apart() => Err(AllocError),
         Wanted::EndOrNoMemory(res) => judge_either(
-            alloc,
+            told,
             machine,
             step,
             wanted,
@@ -132,10 +133,14 @@ fn judge_wanted(
 }
 
 /// Whether the one answer that is called for has this text.
-fn judge_one(alloc: Global, answer: Answer, text: &[u8]) -> Result<Option<Wanted>, AllocError>
+fn judge_one(
+    told: &mut AnswerText,
+    answer: Answer,
+    text: &[u8],
+) -> Result<Option<Wanted>, AllocError>
     ensures { IfOk result (λ found. IsOneJudged answer text.now found) }
 {
-    if is_text(alloc, &answer, text)? {
+    if told.is(&answer, text)? {
         Ok(None)
     } else {
         Ok(Some(Wanted::Only(answer)))
@@ -144,7 +149,7 @@ fn judge_one(alloc: Global, answer: Answer, text: &[u8]) -> Result<Option<Wanted
 
 /// Judges a step to which either of two answers is called for.
 fn judge_either(
-    alloc: Global,
+    told: &mut AnswerText,
     machine: &mut Follower,
     step: &Step,
     wanted: Wanted,
@@ -158,11 +163,11 @@ fn judge_either(
     ensures rules { rules_of machine.new ≡ rules_of machine.old }
     ensures judges { IfOk result (λ found. (h : History) → IsWanted h machine.old step.now wanted → IsJudged (rules_of machine.old) h machine.new step.now text.now found) }
 {
-    if is_text(alloc, one, text)? {
+    if told.is(one, text)? {
         make(machine, step, one)?;
         return Ok(None);
     }
-    if is_text(alloc, other, text)? {
+    if told.is(other, text)? {
         make(machine, step, other)?;
         return Ok(None);
     }
@@ -213,13 +218,4 @@ fn ended(res: i32) -> Answer
         res,
         bytes: [0; 64],
     }
-}
-
-/// Whether this is the answer's text.
-fn is_text(alloc: Global, answer: &Answer, text: &[u8]) -> Result<bool, AllocError>
-    ensures { IfOk result (λ same. Decides same (text_of answer.now ≡ text.now)) }
-{
-    let mut told = String::new(alloc);
-    push_answer(alloc, &mut told, answer)?;
-    Ok(told.as_bytes() == text)
 }

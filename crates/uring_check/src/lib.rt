@@ -1,6 +1,7 @@
 //! The check of a recorded trace: lines with a step and the text of its answer each, and whether they are the text of a lawful history.
 #![tactic(auto)]
 
+mod answer_text;
 mod check_loop;
 mod checker;
 mod follower;

@@ -73,15 +73,22 @@ impl Reading {
         Ok(())
     }
 
-    /// Ends the input. A last line without an end counts if it has some byte.
-    pub(crate) fn end(mut self) -> Result<(Verdict, Vec<u8>), AllocError>
-        ensures { IfOk result (λ told. (g : Rules) (all : Bool) (bytes : List ℕ) → Has g all self bytes → IsVerdict g all bytes told.1.items told.0) }
+    /// Ends the input, and returns the verdict on it. A last line without an end counts if it has some byte.
+    pub(crate) fn end(&mut self) -> Result<Verdict, AllocError>
+        ensures { IfOk result (λ verdict. (g : Rules) (all : Bool) (bytes : List ℕ) → Has g all self.old bytes → IsVerdict g all bytes self.new.checker.report.items verdict) }
     {
         if self.line.is_empty() {
             return self.checker.end();
         }
         self.checker.take_line(&self.line)?;
         self.checker.end()
+    }
+
+    /// The report so far.
+    pub(crate) fn report(&self) -> &[u8]
+        ensures { result.now ≡ self.now.checker.report.items }
+    {
+        self.checker.report()
     }
 
     /// Takes in one byte.
