@@ -1,20 +1,22 @@
 -- The application's end, and when it refuses.
-use Rattle.std.specs.Prelude.{◌≡◌, ℕ, ◌+◌, ◌<◌, ◌≤◌, true, false, List, [], ◌∷◌, ◌++◌, length}
+use Rattle.std.specs.Prelude.{◌≡◌, ℕ, ◌+◌, ◌<◌, ◌≤◌, true, false, List, [], ◌∷◌, ◌++◌, length, Option}
 use Rattle.uring_entry.specs.Layout.{Cqe}
 use Rattle.uring_threads.specs.declared.item.Item.{Item}
 use Rattle.uring_threads.specs.declared.refusals.SubmitRefusal.{SubmitRefusal}
 use Rattle.uring_threads.specs.declared.refusals.SubmitRefusal.TheVariants as submit
 use Rattle.uring_threads.specs.declared.refusals.CloseRefusal.{CloseRefusal}
 use Rattle.uring_threads.specs.declared.refusals.CloseRefusal.TheVariants as close
+use Rattle.uring_threads.specs.Dropped.{with_word}
 use Rattle.uring_threads.specs.Items.{AreItems}
 use Rattle.uring_threads.specs.Ports.{Sizes, Put, with_call, with_close, places_of}
 
--- The application's end: the numbers of its pair of ports, the sizes of the rings, the items of each submit that returned Ok, call by call, with whether it is closed, and every completion reaped, oldest first.
+-- The application's end: the numbers of its pair of ports, the sizes of the rings, the items of each submit that returned Ok, call by call, with whether it is closed, every completion reaped, and every dropped word loaded, oldest first; without a list where no such word lies between the ends.
 pub record AppEnd : Type 0 where
   pub pairing : List ℕ
   pub sizes : Sizes
   pub submitted : Put
   pub received : List Cqe
+  pub dropped : Option (List ℕ)
 
 -- these items as a call more
 abbrev pub submits : AppEnd → List Item → AppEnd
@@ -27,6 +29,10 @@ closes a = record a { submitted = with_close a.submitted }
 -- a completion more
 abbrev pub reaps : AppEnd → Cqe → AppEnd
 reaps a completion = record a { received = a.received ++ completion ∷ [] }
+
+-- a dropped word more
+abbrev pub loads : AppEnd → ℕ → AppEnd
+loads a word = record a { dropped = with_word a.dropped word }
 
 -- these items can be a call: the end is open, and there is at least one item, at most the ring's size of them, and no bad word that is below the size
 abbrev pub IsSound : AppEnd → List Item → Type 0

@@ -50,12 +50,13 @@ kernel_at_first g pairing k = record {
   sizes = sizes_of g;
   pulled = nothing_put;
   reaped = [];
+  dropped = k.dropped;
 }
 
 -- All ends of a set-up over two ports with these numbers, before anything is done with them: one worker for each gate, in the gates' order; nothing was submitted, recorded, sent or carried out, and each file is empty.
 pub record AreEnds (g : Setup) (gates : ℕ) (numbers : List ℕ) (app : AppEnd) (kernel : Kernel) (workers : List Worker) : Type 0 where
   pub many : length workers ≡ gates
-  pub application : app ≡ record { pairing = numbers; sizes = sizes_of g; submitted = nothing_put; received = [] }
+  pub application : app ≡ record { pairing = numbers; sizes = sizes_of g; submitted = nothing_put; received = []; dropped = app.dropped }
   pub dispatcher : kernel ≡ kernel_at_first g numbers kernel
   pub opened : AreOpened g.files kernel.lanes workers
   pub together : AreTogether app kernel workers

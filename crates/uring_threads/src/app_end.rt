@@ -1,9 +1,10 @@
 //! The application's end: it submits calls, reaps completions and closes.
-ghost use Rattle.std.specs.Prelude.{◌≡◌, ◌<◌, ◌≤◌, ◌↔◌, false, [], IsTrue, length, OnOk, IfOk, IfErr, MatchOption};
+ghost use Rattle.std.specs.Prelude.{◌≡◌, ◌<◌, ◌≤◌, ◌↔◌, true, false, [], None, is_some, IsTrue, length, OnOk, IfOk, IfErr, MatchOption};
 ghost use Rattle.uring_machine.specs.Published.{IsItem};
+ghost use Rattle.uring_threads.specs.Dropped.{WereStored};
 ghost use Rattle.uring_threads.specs.Items.{AreItems, published_as};
 ghost use Rattle.uring_threads.specs.Ports.{nothing_put, items_of_calls, LeavesItems, LeavesCompletions};
-ghost use Rattle.uring_threads.specs.AppEnd.{submits, closes, reaps, IsSound, IsAmiss, RefusesCall, RefusesClose};
+ghost use Rattle.uring_threads.specs.AppEnd.{submits, closes, reaps, loads, IsSound, IsAmiss, RefusesCall, RefusesClose};
 
 use crate::item::Item;
 use crate::ports::{AppPort, KernelPort};
@@ -32,7 +33,7 @@ impl<P: AppPort> Model for AppEnd<P> {
     ghost use Rattle.uring_threads.specs.Items.{AreItems};
     ghost use Rattle.uring_threads.specs.Ports.{items_of_calls};
 
-    ghost view = { λ e. record { pairing = P.pairing e.port; sizes = P.sizes e.port; submitted = P.put e.port; received = P.got e.port } };
+    ghost view = { λ e. record { pairing = P.pairing e.port; sizes = P.sizes e.port; submitted = P.put e.port; received = P.got e.port; dropped = P.dropped e.port } };
 
     ghost invariant = { λ e. (e.size ≡ (P.sizes e.port).sq) × (e.closed ≡ (P.put e.port).closed) × AreItems e.size (items_of_calls (P.put e.port).calls) };
 }
@@ -42,7 +43,7 @@ impl<P: AppPort> AppEnd<P> {
     pub fn new(port: P, size: u32) -> AppEnd<P>
         requires fresh { P.put port ≡ nothing_put }
         requires size { size ≡ (P.sizes port).sq }
-        ensures { result ≡ record { pairing = P.pairing port; sizes = P.sizes port; submitted = nothing_put; received = P.got port } }
+        ensures { result ≡ record { pairing = P.pairing port; sizes = P.sizes port; submitted = nothing_put; received = P.got port; dropped = P.dropped port } }
     {
         AppEnd {
             port,
@@ -85,6 +86,16 @@ impl<P: AppPort> AppEnd<P> {
         self.port.get()
     }
 
+    /// The dropped word as it is now: how many positions were dropped, modulo 2^32, as of the dispatcher's last turn that returned Ok, and 0 before there was one. `None` if no such word lies between the ends: over lanes none does. io_uring_setup(2), on `dropped`.
+    pub fn dropped(&mut self) -> Option<u32>
+        ensures loaded { MatchOption result ((self.old.dropped ≡ None) × (self.new ≡ self.old)) (λ word. (is_some self.old.dropped ≡ true) × (self.new ≡ loads self.old word)) }
+        // Of one pair it stays.
+        ensures pairing { self.new.pairing ≡ self.old.pairing }
+        ensures sizes { self.new.sizes ≡ self.old.sizes }
+    {
+        self.port.load_dropped()
+    }
+
     /// Closes the end: no call comes after those submitted.
     ///
     /// It refuses with `Closed` exactly after an Ok, and else with `Full` if there is no free place for the close mark.
@@ -118,6 +129,8 @@ impl<P: AppPort> AppEnd<P> {
         // What was pulled begins what was submitted, and what was reaped begins what was delivered.
         ensures items { IfOk result (λ rests. LeavesItems self.submitted (K.pulled kernel) rests.unsent.items) }
         ensures completions { IfOk result (λ rests. LeavesCompletions (K.delivered kernel) self.received rests.undelivered.items) }
+        // The dropped words that were loaded are words that were stored, in order, or the 0 before them.
+        ensures dropped { OnOk result (WereStored (K.dropped kernel) self.dropped) }
         // No bad word that was submitted is below the submission ring's size.
         ensures submitted { OnOk result (AreItems self.sizes.sq (items_of_calls self.submitted.calls)) }
         ensures unchanged { IfErr result (λ ends. (ends.0 ≡ self) × (ends.1 ≡ kernel)) }

@@ -24,6 +24,7 @@ fn reap_all<P: KernelPort>(kept: &mut Kept, port: &mut P, count: u64)
     ensures pairing { P.pairing port.new ≡ P.pairing port.old }
     ensures sizes { P.sizes port.new ≡ P.sizes port.old }
     ensures pulled { P.pulled port.new ≡ P.pulled port.old }
+    ensures dropped { P.dropped port.new ≡ P.dropped port.old }
 {
     for _ in 0..count {
         match kept.step_reserved(Step::Reap) {
@@ -54,6 +55,7 @@ pub fn deliver<P: KernelPort>(kept: &mut Kept, port: &mut P) -> Result<u64, Allo
     ensures pairing { P.pairing port.new ≡ P.pairing port.old }
     ensures sizes { P.sizes port.new ≡ P.sizes port.old }
     ensures pulled { P.pulled port.new ≡ P.pulled port.old }
+    ensures dropped { P.dropped port.new ≡ P.dropped port.old }
 {
     let size = u64::from(kept.setup().cq());
     let counts = kept.counts();

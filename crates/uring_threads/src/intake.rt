@@ -86,6 +86,7 @@ fn pull_call<P: KernelPort>(
     ensures pairing { P.pairing port.new ≡ P.pairing port.old }
     ensures sizes { P.sizes port.new ≡ P.sizes port.old }
     ensures delivered { P.delivered port.new ≡ P.delivered port.old }
+    ensures dropped { P.dropped port.new ≡ P.dropped port.old }
 {
     let size = kept.setup().sq();
     kept.reserve(3 * size as usize + 4)?;
@@ -127,6 +128,7 @@ pub fn take_in<P: KernelPort>(
     ensures pairing { P.pairing port.new ≡ P.pairing port.old }
     ensures sizes { P.sizes port.new ≡ P.sizes port.old }
     ensures delivered { P.delivered port.new ≡ P.delivered port.old }
+    ensures dropped { P.dropped port.new ≡ P.dropped port.old }
 {
     retry(kept, intake)?;
     match *intake {

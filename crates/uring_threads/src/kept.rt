@@ -3,6 +3,7 @@ ghost use Rattle.std.specs.Prelude.{◌≡◌, ◌+◌, ◌^◌, ◌<◌, ◌≤
 ghost use Rattle.uring_entry.specs.Completions.{unreaped};
 ghost use Rattle.uring_entry.specs.Requests.{operation_running, next_of};
 ghost use Rattle.uring_entry.specs.Setup.{IsWithinLimits};
+ghost use Rattle.uring_entry.specs.Submission.{dropped};
 ghost use Rattle.uring_files.specs.Operations.{IsForFiles};
 ghost use Rattle.uring_machine.specs.Core.{IsCounts, IsFinished, IsNoFinish};
 ghost use Rattle.uring_machine.specs.Histories.{IsLawfulApart, history_of};
@@ -107,6 +108,13 @@ impl Kept {
         ensures { IsCounts (now self.now) result }
     {
         self.core.counts()
+    }
+
+    /// How many positions were dropped, modulo 2^32: those of closed calls whose word names no slot. io_uring_setup(2), on `dropped`.
+    pub fn dropped(&self) -> u32
+        ensures { result ≡ dropped (now self.now).submission }
+    {
+        self.core.dropped()
     }
 
     /// The completion at this place, from 0, among those posted and not reaped, the oldest first: `None` past the last.

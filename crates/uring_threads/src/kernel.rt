@@ -2,7 +2,9 @@
 ghost use Rattle.std.specs.Prelude.{◌≡◌, ◌↔◌, ◌+◌, ◌*◌, ◌<◌, ◌≤◌, ◌⊎◌, [], length, count_by, false, None, IsTrue, IfOk, IfErr, OnErr, OnOk, vec_capacity};
 ghost use Rattle.uring_entry.specs.Completions.{unreaped};
 ghost use Rattle.uring_entry.specs.Requests.{next_of};
+ghost use Rattle.uring_entry.specs.Submission.{dropped};
 ghost use Rattle.uring_threads.specs.Dispatched.{AreSameLanes, HaveCarriedNone, HoldJobs, HoldResults, SomeIsFull, numbers_of_lanes};
+ghost use Rattle.uring_threads.specs.Dropped.{with_word, WereStored};
 ghost use Rattle.uring_threads.specs.Items.{AreItems};
 ghost use Rattle.uring_threads.specs.Kept.{now};
 ghost use Rattle.uring_threads.specs.Ports.{nothing_put, sizes_of, items_of_calls, LeavesItems, LeavesCompletions};
@@ -43,9 +45,9 @@ impl<P: KernelPort> Model for Kernel<P> {
     ghost use Rattle.std.specs.Prelude.{◌≤◌, vec_capacity};
     ghost use Rattle.uring_threads.specs.Kernel.{IsKernel};
 
-    ghost view = { λ k. record { kept = k.kept; intake = k.intake; lanes = k.lanes.items; pairing = P.pairing k.port; sizes = P.sizes k.port; pulled = P.pulled k.port; reaped = P.delivered k.port } };
+    ghost view = { λ k. record { kept = k.kept; intake = k.intake; lanes = k.lanes.items; pairing = P.pairing k.port; sizes = P.sizes k.port; pulled = P.pulled k.port; reaped = P.delivered k.port; dropped = P.dropped k.port } };
 
-    ghost invariant = { λ k. (k.kept.setup.sq ≤ vec_capacity k.items) × IsKernel (record { kept = k.kept; intake = k.intake; lanes = k.lanes.items; pairing = P.pairing k.port; sizes = P.sizes k.port; pulled = P.pulled k.port; reaped = P.delivered k.port }) };
+    ghost invariant = { λ k. (k.kept.setup.sq ≤ vec_capacity k.items) × IsKernel (record { kept = k.kept; intake = k.intake; lanes = k.lanes.items; pairing = P.pairing k.port; sizes = P.sizes k.port; pulled = P.pulled k.port; reaped = P.delivered k.port; dropped = P.dropped k.port }) };
 }
 
 impl<P: KernelPort> Kernel<P> {
@@ -64,7 +66,7 @@ impl<P: KernelPort> Kernel<P> {
         requires hold { HoldJobs lanes.items }
         requires short { HoldResults lanes.items }
         requires carried { HaveCarriedNone lanes.items }
-        ensures { result ≡ record { kept = kept; intake = Ready; lanes = lanes.items; pairing = P.pairing port; sizes = sizes_of kept.setup; pulled = nothing_put; reaped = [] } }
+        ensures { result ≡ record { kept = kept; intake = Ready; lanes = lanes.items; pairing = P.pairing port; sizes = sizes_of kept.setup; pulled = nothing_put; reaped = []; dropped = P.dropped port } }
     {
         Kernel {
             kept,
@@ -75,7 +77,7 @@ impl<P: KernelPort> Kernel<P> {
         }
     }
 
-    /// One turn: begins the call that waits once more, if one does, and pulls one call or the close mark; takes in at most 64 results of each worker; issues what can be issued while each worker's lane shows room; and delivers what is posted while the port shows room. Without such work it records nothing.
+    /// One turn: begins the call that waits once more, if one does, and pulls one call or the close mark; takes in at most 64 results of each worker; issues what can be issued while each worker's lane shows room; and delivers what is posted while the port shows room. Without such work it records nothing. A turn that returns Ok stores the dropped word last, where such a word lies between the ends.
     ///
     /// `AllocError`: the system is out of memory, for the trace or for a call, which then waits. All events made until then are recorded, nothing that was pulled or received is lost, and a later turn goes on.
     pub fn turn(&mut self) -> Result<Turn, AllocError>
@@ -96,6 +98,10 @@ impl<P: KernelPort> Kernel<P> {
 
         // Of each worker at most 64 results are taken in, also if memory was refused.
         ensures few_results { TakesFewResults (length self.old.lanes) self.old.kept self.new.kept }
+
+        // The last dropped word is the trace's. A turn that returned an error stored none.
+        ensures stored { OnOk result (self.new.dropped ≡ with_word self.old.dropped (dropped (now self.new.kept).submission)) }
+        ensures not_stored { OnErr result (self.new.dropped ≡ self.old.dropped) }
 
         // Nothing else changes.
         ensures setup { self.new.kept.setup ≡ self.old.kept.setup }
@@ -153,6 +159,7 @@ impl<P: KernelPort> Kernel<P> {
         ensures lanes { IfOk result (λ left. left.1.items ≡ self.lanes) }
         ensures items { IfOk result (λ left. LeavesItems app.submitted self.pulled left.2.unsent.items) }
         ensures completions { IfOk result (λ left. LeavesCompletions self.reaped app.received left.2.undelivered.items) }
+        ensures dropped { OnOk result (WereStored self.dropped app.dropped) }
         ensures submitted { OnOk result (AreItems app.sizes.sq (items_of_calls app.submitted.calls)) }
         ensures unchanged { IfErr result (λ ends. (ends.0 ≡ app) × (ends.1 ≡ self)) }
     {

@@ -1,5 +1,5 @@
 //! All the ends of a set-up.
-ghost use Rattle.std.specs.Prelude.{◌≡◌, ℕ, List, ◌↔◌, ◌<◌, ◌≤◌, [], length, true, false, IfOk, IsErrOf, OnOk};
+ghost use Rattle.std.specs.Prelude.{◌≡◌, ℕ, List, ◌↔◌, ◌<◌, ◌≤◌, [], length, true, false, None, IfOk, IsErrOf, OnOk};
 ghost use Rattle.uring_threads.specs.Opening.{AreBadWorkers, AreEnds};
 ghost use Rattle.uring_threads.specs.Ports.{nothing_put, sizes_of};
 
@@ -41,6 +41,7 @@ pub fn ends<K: KernelPort, G: Gate>(
     requires app { (K.App.sizes app ≡ sizes_of setup.now) × (K.App.put app ≡ nothing_put) × (K.App.got app ≡ []) }
     requires kernel { (K.sizes kernel ≡ sizes_of setup.now) × (K.pulled kernel ≡ nothing_put) × (K.delivered kernel ≡ []) }
     ensures ok { IfOk result (λ ends. AreEnds setup.now (length gates.items) (K.pairing kernel) ends.0 ends.1 ends.2.items) }
+    ensures dropped { IfOk result (λ ends. (ends.0.dropped ≡ K.App.dropped app) × (ends.1.dropped ≡ K.dropped kernel)) }
     ensures stops { IsErrOf result LanesFault.Stops ↔ (setup.now.stops ≡ true) }
     ensures bad_workers { IsErrOf result LanesFault.BadWorkers ↔ ((setup.now.stops ≡ false) × AreBadWorkers (length gates.items)) }
 {
@@ -60,6 +61,8 @@ pub fn lanes<G: Gate>(
     gates: Vec<G>,
 ) -> Result<(AppEnd<AppLanes>, Kernel<KernelLanes>, Vec<Worker<G>>), LanesFault>
     ensures ok { IfOk result (λ ends. (numbers : List ℕ) × AreEnds setup.now (length gates.items) numbers ends.0 ends.1 ends.2.items) }
+    // No dropped word lies between them.
+    ensures dropped { IfOk result (λ ends. (ends.0.dropped ≡ None) × (ends.1.dropped ≡ None)) }
     ensures stops { IsErrOf result LanesFault.Stops ↔ (setup.now.stops ≡ true) }
     ensures bad_workers { IsErrOf result LanesFault.BadWorkers ↔ ((setup.now.stops ≡ false) × AreBadWorkers (length gates.items)) }
 {
@@ -101,6 +104,7 @@ fn make_ends<K: KernelPort, G: Gate>(
     requires app { (K.App.sizes app ≡ sizes_of setup.now) × (K.App.put app ≡ nothing_put) × (K.App.got app ≡ []) }
     requires kernel { (K.sizes kernel ≡ sizes_of setup.now) × (K.pulled kernel ≡ nothing_put) × (K.delivered kernel ≡ []) }
     ensures ok { IfOk result (λ ends. AreEnds setup.now (length gates.items) (K.pairing kernel) ends.0 ends.1 ends.2.items) }
+    ensures dropped { IfOk result (λ ends. (ends.0.dropped ≡ K.App.dropped app) × (ends.1.dropped ≡ K.dropped kernel)) }
 {
     let kept = Kept::new(alloc, setup)?;
     let items = Vec::with_capacity(alloc, setup.sq() as usize)?;

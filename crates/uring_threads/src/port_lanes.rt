@@ -1,5 +1,5 @@
 //! The two ports over lanes: one for submissions, as large as the submission ring, and one for completions, as large as the completion ring.
-ghost use Rattle.std.specs.Prelude.{◌≡◌, [], length, IfOk};
+ghost use Rattle.std.specs.Prelude.{◌≡◌, [], length, None, IfOk};
 ghost use Rattle.uring_threads.specs.Ports.{nothing_put, sizes_of};
 
 use crate::call_lane::{pull, put_call, put_close};
@@ -91,6 +91,8 @@ impl AppPort for AppLanes {
 
     ghost got = { λ p. p.got };
 
+    ghost dropped = { λ p. None };
+
     fn put(&mut self, items: &[Item]) -> bool {
         put_call(&mut self.calls, items)
     }
@@ -101,6 +103,10 @@ impl AppPort for AppLanes {
 
     fn get(&mut self) -> Option<Cqe> {
         self.completions.pop().ok()
+    }
+
+    fn load_dropped(&mut self) -> Option<u32> {
+        None
     }
 }
 
@@ -116,6 +122,8 @@ impl KernelPort for KernelLanes {
     ghost delivered = { λ p. p.delivered };
 
     ghost free = { λ p. p.free };
+
+    ghost dropped = { λ p. None };
 
     fn pull(&mut self, items: &mut Vec<Item>) -> Pulled {
         if self.closed {
@@ -134,6 +142,8 @@ impl KernelPort for KernelLanes {
     fn deliver(&mut self, completion: Cqe) {
         self.completions.push_reserved(completion);
     }
+
+    fn store_dropped(&mut self, _word: u32) {}
 
     fn settle(self, alloc: Global, app: AppLanes) -> Result<Rests, (AppLanes, KernelLanes)> {
         let Ok(mut unsent) = Vec::with_capacity(alloc, self.calls.capacity()) else {

@@ -7,8 +7,9 @@ use uring_entry::Cqe;
 
 /// The application's port: submissions go in, completions come out.
 pub trait AppPort: Drop {
-    ghost use Rattle.std.specs.Prelude.{◌≡◌, ℕ, ◌+◌, ◌<◌, Bool, true, false, List, [], ◌∷◌, ◌++◌, length, IsTrue, MatchBool, MatchOption};
+    ghost use Rattle.std.specs.Prelude.{◌≡◌, ℕ, ◌+◌, ◌<◌, Bool, true, false, List, [], ◌∷◌, ◌++◌, length, Option, None, is_some, IsTrue, MatchBool, MatchOption};
     ghost use Rattle.uring_entry.specs.Layout.{Cqe};
+    ghost use Rattle.uring_threads.specs.Dropped.{with_word};
     ghost use Rattle.uring_threads.specs.Items.{AreItems};
     ghost use Rattle.uring_threads.specs.Ports.{Sizes, Put, places_of, with_call, with_close};
 
@@ -23,6 +24,9 @@ pub trait AppPort: Drop {
     // Every completion that was ever got, oldest first.
     ghost got: { Self → List Cqe };
 
+    // Every dropped word that was ever loaded, oldest first. None: no such word lies between the ends.
+    ghost dropped: { Self → Option (List ℕ) };
+
     /// Puts the items as one call, all of them, or returns false and puts nothing.
     ///
     /// It puts them if all that was put so far and these items are at most the submission ring's size.
@@ -35,7 +39,8 @@ pub trait AppPort: Drop {
         // Nothing else changes.
         ensures pairing { pairing self.new ≡ pairing self.old }
         ensures sizes { sizes self.new ≡ sizes self.old }
-        ensures got { got self.new ≡ got self.old };
+        ensures got { got self.new ≡ got self.old }
+        ensures dropped { dropped self.new ≡ dropped self.old };
 
     /// Puts the close mark behind all calls, or returns false and puts nothing.
     ///
@@ -46,7 +51,8 @@ pub trait AppPort: Drop {
         // Nothing else changes.
         ensures pairing { pairing self.new ≡ pairing self.old }
         ensures sizes { sizes self.new ≡ sizes self.old }
-        ensures got { got self.new ≡ got self.old };
+        ensures got { got self.new ≡ got self.old }
+        ensures dropped { dropped self.new ≡ dropped self.old };
 
     /// The oldest completion that was delivered and not got. `None` says only that this end saw none.
     fn get(&mut self) -> Option<Cqe>
@@ -54,13 +60,24 @@ pub trait AppPort: Drop {
         // Nothing else changes.
         ensures pairing { pairing self.new ≡ pairing self.old }
         ensures sizes { sizes self.new ≡ sizes self.old }
-        ensures put { put self.new ≡ put self.old };
+        ensures put { put self.new ≡ put self.old }
+        ensures dropped { dropped self.new ≡ dropped self.old };
+
+    /// The dropped word as it is now: how many positions the dispatcher had dropped when it last stored it, and 0 before it first did. `None` if no such word lies between the ends.
+    fn load_dropped(&mut self) -> Option<u32>
+        ensures dropped { MatchOption result ((dropped self.old ≡ None) × (dropped self.new ≡ dropped self.old)) (λ word. (is_some (dropped self.old) ≡ true) × (dropped self.new ≡ with_word (dropped self.old) word)) }
+        // Nothing else changes.
+        ensures pairing { pairing self.new ≡ pairing self.old }
+        ensures sizes { sizes self.new ≡ sizes self.old }
+        ensures put { put self.new ≡ put self.old }
+        ensures got { got self.new ≡ got self.old };
 }
 
 /// The dispatcher's port: submissions come out, completions go in.
 pub trait KernelPort: Sized + Drop {
-    ghost use Rattle.std.specs.Prelude.{◌≡◌, ℕ, ◌+◌, ◌<◌, ◌≤◌, List, [], ◌∷◌, ◌++◌, length, vec_capacity, IfOk, IfErr};
+    ghost use Rattle.std.specs.Prelude.{◌≡◌, ℕ, ◌+◌, ◌<◌, ◌≤◌, List, [], ◌∷◌, ◌++◌, length, vec_capacity, Option, IfOk, IfErr, OnOk};
     ghost use Rattle.uring_entry.specs.Layout.{Cqe};
+    ghost use Rattle.uring_threads.specs.Dropped.{with_word, WereStored};
     ghost use Rattle.uring_threads.specs.Ports.{Sizes, Put, Pulls, LeavesItems, LeavesCompletions};
 
     /// The other port of a pair.
@@ -80,6 +97,9 @@ pub trait KernelPort: Sized + Drop {
     // How many completions there is certainly room for.
     ghost free: { Self → ℕ };
 
+    // Every dropped word that was ever stored, oldest first. None: no such word lies between the ends.
+    ghost dropped: { Self → Option (List ℕ) };
+
     /// Takes one whole call, or the close mark, or nothing. The items of the call replace what `items` held.
     ///
     /// `Nothing` says only that this end saw no whole call.
@@ -91,7 +111,8 @@ pub trait KernelPort: Sized + Drop {
         ensures pairing { pairing self.new ≡ pairing self.old }
         ensures sizes { sizes self.new ≡ sizes self.old }
         ensures delivered { delivered self.new ≡ delivered self.old }
-        ensures free { free self.new ≡ free self.old };
+        ensures free { free self.new ≡ free self.old }
+        ensures dropped { dropped self.new ≡ dropped self.old };
 
     /// How many completions there is room for. The application may make more at any time.
     ///
@@ -103,7 +124,8 @@ pub trait KernelPort: Sized + Drop {
         ensures pairing { pairing self.new ≡ pairing self.old }
         ensures sizes { sizes self.new ≡ sizes self.old }
         ensures pulled { pulled self.new ≡ pulled self.old }
-        ensures delivered { delivered self.new ≡ delivered self.old };
+        ensures delivered { delivered self.new ≡ delivered self.old }
+        ensures dropped { dropped self.new ≡ dropped self.old };
 
     /// Delivers a completion, which can't fail since there is room.
     fn deliver(&mut self, completion: Cqe)
@@ -113,7 +135,18 @@ pub trait KernelPort: Sized + Drop {
         // Nothing else changes.
         ensures pairing { pairing self.new ≡ pairing self.old }
         ensures sizes { sizes self.new ≡ sizes self.old }
-        ensures pulled { pulled self.new ≡ pulled self.old };
+        ensures pulled { pulled self.new ≡ pulled self.old }
+        ensures dropped { dropped self.new ≡ dropped self.old };
+
+    /// Stores the dropped word: how many positions were dropped, modulo 2^32. Does nothing if no such word lies between the ends.
+    fn store_dropped(&mut self, word: u32)
+        ensures dropped { dropped self.new ≡ with_word (dropped self.old) word }
+        // Nothing else changes.
+        ensures pairing { pairing self.new ≡ pairing self.old }
+        ensures sizes { sizes self.new ≡ sizes self.old }
+        ensures pulled { pulled self.new ≡ pulled self.old }
+        ensures delivered { delivered self.new ≡ delivered self.old }
+        ensures free { free self.new ≡ free self.old };
 
     /// Ends both ports of a pair, and hands out what they still held.
     ///
@@ -122,5 +155,6 @@ pub trait KernelPort: Sized + Drop {
         requires { pairing self ≡ Self.App.pairing app }
         ensures items { IfOk result (λ rests. LeavesItems (Self.App.put app) (pulled self) rests.unsent.items) }
         ensures completions { IfOk result (λ rests. LeavesCompletions (delivered self) (Self.App.got app) rests.undelivered.items) }
+        ensures dropped { OnOk result (WereStored (dropped self) (Self.App.dropped app)) }
         ensures unchanged { IfErr result (λ ports. (ports.0 ≡ app) × (ports.1 ≡ self)) };
 }

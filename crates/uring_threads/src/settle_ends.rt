@@ -1,7 +1,8 @@
 //! Settling all ends of a set-up: the one place where application, dispatcher and workers meet.
-ghost use Rattle.std.specs.Prelude.{◌≡◌, IfOk, IfErr};
+ghost use Rattle.std.specs.Prelude.{◌≡◌, IfOk, IfErr, OnOk};
 ghost use Rattle.uring_machine.specs.CalledFor.{IsLawful};
 ghost use Rattle.uring_machine.specs.Histories.{history_of};
+ghost use Rattle.uring_threads.specs.Dropped.{WereStored};
 ghost use Rattle.uring_threads.specs.Report.{AreTogether, IsSameKernel, FinishesAll, LeavesRunning, PublishesItems, BeginsCalls, HasOneClose, ClosesOnlyAllTaken, DeliversReaped, ReapsPosted};
 
 use crate::app_end::AppEnd;
@@ -44,6 +45,8 @@ pub fn settle<K: KernelPort, G: Gate>(
     // What was received begins what was reaped, and that begins what was posted.
     ensures reaped { IfOk result (λ report. DeliversReaped app.received report) }
     ensures posted { IfOk result (λ report. ReapsPosted report) }
+    // The dropped words that the application loaded are words that the dispatcher stored, in order, or the 0 before them.
+    ensures dropped { OnOk result (WereStored kernel.dropped app.dropped) }
     ensures app { IfErr result (λ ends. ends.app ≡ app) }
     ensures kernel { IfErr result (λ ends. IsSameKernel kernel ends.kernel) }
     ensures workers { IfErr result (λ ends. ends.workers.items ≡ workers.items) }

@@ -1,7 +1,9 @@
 //! A turn of the dispatcher.
 ghost use Rattle.std.specs.Prelude.{◌≡◌, ◌+◌, ◌<◌, ◌≤◌, ◌⊎◌, length, false, None, IfOk, OnOk, OnErr, vec_capacity};
 ghost use Rattle.uring_entry.specs.Requests.{next_of};
+ghost use Rattle.uring_entry.specs.Submission.{dropped};
 ghost use Rattle.uring_threads.specs.Dispatched.{AreSameLanes, SomeIsFull};
+ghost use Rattle.uring_threads.specs.Dropped.{with_word};
 ghost use Rattle.uring_threads.specs.Kept.{now};
 ghost use Rattle.uring_threads.specs.Tallies.{Tally, Appends, TakesFewResults};
 ghost use Rattle.uring_threads.specs.Turns.{AreTies, Counts, awaits_memory};
@@ -32,7 +34,7 @@ pub struct Turn {
     pub delivered: u64,
 }
 
-/// One turn: takes in a call that waits and one that is pulled, or the close mark; then results of workers; issues what can be issued; and delivers what is posted.
+/// One turn: takes in a call that waits and one that is pulled, or the close mark; then results of workers; issues what can be issued; and delivers what is posted. If it returns Ok it stores the dropped word last.
 ///
 /// `AllocError`: the system is out of memory, also if it was for a call that now waits. All events made until then are recorded, and nothing that was pulled or received is lost.
 pub fn make_turn<P: KernelPort>(
@@ -62,6 +64,10 @@ pub fn make_turn<P: KernelPort>(
     // Of each worker at most 64 results are taken in, also if memory was refused.
     ensures few_results { TakesFewResults (length lanes.old) kept.old kept.new }
 
+    // The dropped word is stored, of the trace as it is then, exactly if the turn returns Ok.
+    ensures stored { OnOk result (P.dropped port.new ≡ with_word (P.dropped port.old) (dropped (now kept.new).submission)) }
+    ensures not_stored { OnErr result (P.dropped port.new ≡ P.dropped port.old) }
+
     // Nothing else changes.
     ensures lanes { AreSameLanes lanes.old lanes.new }
     ensures items { vec_capacity items.old ≤ vec_capacity items.new }
@@ -78,17 +84,30 @@ pub fn make_turn<P: KernelPort>(
         finished,
         delivered,
     };
-    unless_waiting(intake, turn)
+    tell_dropped(kept, port, intake, turn)
 }
 
-/// The turn, unless a call waits for memory.
-fn unless_waiting(intake: &Intake, turn: Turn) -> Result<Turn, AllocError>
+/// Stores the dropped word and returns the turn, unless a call waits for memory.
+fn tell_dropped<P: KernelPort>(
+    kept: &Kept,
+    port: &mut P,
+    intake: &Intake,
+    turn: Turn,
+) -> Result<Turn, AllocError>
     ensures turn { IfOk result (λ made. made ≡ turn) }
     ensures begun { OnOk result (awaits_memory intake.now ≡ false) }
+    ensures stored { OnOk result (P.dropped port.new ≡ with_word (P.dropped port.old) (dropped (now kept.now).submission)) }
+    ensures not_stored { OnErr result (P.dropped port.new ≡ P.dropped port.old) }
+
+    // Nothing else of the port changes.
+    ensures pairing { P.pairing port.new ≡ P.pairing port.old }
+    ensures sizes { P.sizes port.new ≡ P.sizes port.old }
+    ensures pulled { P.pulled port.new ≡ P.pulled port.old }
+    ensures delivered { P.delivered port.new ≡ P.delivered port.old }
 {
     if intake.awaits_memory() {
-        Err(AllocError)
-    } else {
-        Ok(turn)
+        return Err(AllocError);
     }
+    port.store_dropped(kept.dropped());
+    Ok(turn)
 }

@@ -3,6 +3,7 @@
 mod all_ends;
 mod dice;
 mod dropped;
+mod dropped_word;
 mod ends;
 mod growth;
 mod held;

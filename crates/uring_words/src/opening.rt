@@ -1,5 +1,5 @@
 //! All the ends of a set-up over shared words.
-ghost use Rattle.std.specs.Prelude.{◌≡◌, ℕ, true, false, List, ◌↔◌, length, IfOk, IsErrOf};
+ghost use Rattle.std.specs.Prelude.{◌≡◌, ℕ, true, false, List, [], ◌↔◌, length, Some, IfOk, IsErrOf};
 ghost use Rattle.uring_threads.specs.Opening.{AreBadWorkers, AreEnds};
 
 use crate::ports::{AppWords, KernelWords, word_ports};
@@ -16,6 +16,8 @@ pub fn words<G: Gate>(
     gates: Vec<G>,
 ) -> Result<(AppEnd<AppWords>, Kernel<KernelWords>, Vec<Worker<G>>), LanesFault>
     ensures ok { IfOk result (λ ends. (numbers : List ℕ) × AreEnds setup.now (length gates.items) numbers ends.0 ends.1 ends.2.items) }
+    // No dropped word was stored or loaded.
+    ensures dropped { IfOk result (λ ends. (ends.0.dropped ≡ Some []) × (ends.1.dropped ≡ Some [])) }
     ensures stops { IsErrOf result LanesFault.Stops ↔ (setup.now.stops ≡ true) }
     ensures bad_workers { IsErrOf result LanesFault.BadWorkers ↔ ((setup.now.stops ≡ false) × AreBadWorkers (length gates.items)) }
 {

@@ -1,7 +1,7 @@
 //! The two ports over shared words: submissions go through one table, completions through another.
-ghost use Rattle.std.specs.Prelude.{◌≡◌, [], ◌∷◌, ◌++◌, length, IfOk, IfErr, OnOk};
+ghost use Rattle.std.specs.Prelude.{◌≡◌, [], ◌∷◌, ◌++◌, length, Some, IfOk, IfErr, OnOk};
+ghost use Rattle.uring_threads.specs.Dropped.{WereHad};
 ghost use Rattle.uring_threads.specs.Ports.{nothing_put, sizes_of, LeavesItems, LeavesCompletions};
-ghost use Rattle.uring_words.specs.Completion.Dropped.{WereHad};
 
 use crate::completion::app_calls::{get, load_dropped};
 use crate::completion::kernel_calls;
@@ -153,18 +153,6 @@ impl AppWords {
 }
 
 impl KernelWords {
-    /// Stores the dropped word.
-    pub fn store_dropped(&mut self, dropped: u32)
-        ensures { self.new ≡ record self.old { dropped = self.old.dropped ++ dropped ∷ [] } }
-    {
-        kernel_calls::store_dropped(
-            &self.cq_ring.shared,
-            &mut self.cq_seat,
-            self.cq_size,
-            dropped,
-        );
-    }
-
     /// Ends both ports of a pair, and hands out what they still held.
     ///
     /// `Err` says that the system is out of memory, which is asked for first: both ports come back unchanged.
@@ -246,6 +234,8 @@ impl AppPort for AppWords {
 
     ghost got = { λ p. p.got };
 
+    ghost dropped = { λ p. Some p.dropped };
+
     fn put(&mut self, items: &[Item]) -> bool {
         put_call(
             &self.ring.shared,
@@ -276,6 +266,10 @@ impl AppPort for AppWords {
             &mut self.cq_head,
         )
     }
+
+    fn load_dropped(&mut self) -> Option<u32> {
+        Some(self.dropped())
+    }
 }
 
 impl KernelPort for KernelWords {
@@ -290,6 +284,8 @@ impl KernelPort for KernelWords {
     ghost delivered = { λ p. p.delivered };
 
     ghost free = { λ p. p.free };
+
+    ghost dropped = { λ p. Some p.dropped };
 
     fn pull(&mut self, items: &mut Vec<Item>) -> Pulled {
         if self.closed {
@@ -327,6 +323,10 @@ impl KernelPort for KernelWords {
             &mut self.cq_tail,
             completion,
         );
+    }
+
+    fn store_dropped(&mut self, word: u32) {
+        kernel_calls::store_dropped(&self.cq_ring.shared, &mut self.cq_seat, self.cq_size, word);
     }
 
     fn settle(self, alloc: Global, app: AppWords) -> Result<Rests, (AppWords, KernelWords)> {

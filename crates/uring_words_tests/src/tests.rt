@@ -3,6 +3,10 @@
 mod across;
 mod all_ends;
 mod completions;
+mod dropped;
+mod ends;
+mod held;
+mod settled;
 mod small_rings;
 
 use uring_entry::Sqe;

@@ -20,6 +20,9 @@ struct Played {
     idle_at_last: bool,
 }
 
+/// All ends over lanes.
+type Ends = (AppEnd<AppLanes>, Kernel<KernelLanes>, Vec<Worker<Open>>);
+
 /// A turn of the worker at this place, if there is one.
 fn work(workers: &mut [Worker<Open>], place: usize) -> Option<Worked> {
     match workers.get_mut(place) {
@@ -54,11 +57,17 @@ fn play(
     })
 }
 
+/// Plays on these ends.
+fn play_on(ends: Ends) -> Result<Played, AllocError> {
+    let (mut app, mut kernel, mut workers) = ends;
+    play(&mut app, &mut kernel, &mut workers)
+}
+
 /// Plays with two workers.
 fn play_on_new_ends(alloc: Global) -> Result<Played, Fail> {
     let setup = Setup::new(4, Some(4), 2, 0)?;
-    let (mut app, mut kernel, mut workers) = lanes(alloc, &setup, vec![in alloc; Open; 2]?)?;
-    Ok(play(&mut app, &mut kernel, &mut workers)?)
+    let ends = lanes(alloc, &setup, vec![in alloc; Open; 2]?)?;
+    Ok(play_on(ends)?)
 }
 
 #[test]
@@ -129,11 +138,17 @@ fn first_wrong_round(
     Ok(None)
 }
 
+/// The same on these ends.
+fn first_wrong_round_on(ends: Ends) -> Result<Option<u64>, AllocError> {
+    let (mut app, mut kernel, mut workers) = ends;
+    first_wrong_round(&mut app, &mut kernel, &mut workers)
+}
+
 /// The same on the ends of so many workers.
 fn first_wrong_round_of(alloc: Global, workers: usize) -> Result<Option<u64>, Fail> {
     let setup = Setup::new(4, Some(4), 2, 0)?;
-    let (mut app, mut kernel, mut workers) = lanes(alloc, &setup, vec![in alloc; Open; workers]?)?;
-    Ok(first_wrong_round(&mut app, &mut kernel, &mut workers)?)
+    let ends = lanes(alloc, &setup, vec![in alloc; Open; workers]?)?;
+    Ok(first_wrong_round_on(ends)?)
 }
 
 #[test]

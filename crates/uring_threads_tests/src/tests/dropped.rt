@@ -9,10 +9,11 @@ use uring_threads::{
     Worker, lanes,
 };
 
+/// All ends over lanes.
+type Ends = (AppEnd<AppLanes>, Kernel<KernelLanes>, Vec<Worker<Open>>);
+
 /// All ends of a ring of four with two files and two workers.
-fn new_ends(
-    alloc: Global,
-) -> Result<(AppEnd<AppLanes>, Kernel<KernelLanes>, Vec<Worker<Open>>), Fail> {
+fn new_ends(alloc: Global) -> Result<Ends, Fail> {
     let setup = Setup::new(4, Some(4), 2, 0)?;
     Ok(lanes(alloc, &setup, vec![in alloc; Open; 2]?)?)
 }
@@ -23,10 +24,11 @@ fn three_turns(workers: &mut [Worker<Open>], place: usize) -> Option<[Worked; 3]
     Some([worker.turn(), worker.turn(), worker.turn()])
 }
 
-/// The application submits two calls, and goes. Whether it did.
-fn submit_and_go(app: AppEnd<AppLanes>) -> bool {
+/// The application submits two calls, and goes.
+fn submit_and_go(app: AppEnd<AppLanes>) {
     let mut app = app;
-    app.submit(&[nop(1)]).is_ok() && app.submit(&[nop(2), nop(3)]).is_ok()
+    let _first = app.submit(&[nop(1)]);
+    let _second = app.submit(&[nop(2), nop(3)]);
 }
 
 /// Four turns of the dispatcher, with three of worker 0 between the second and the third. Whether each of these carries out a job.
@@ -41,12 +43,16 @@ fn serve_two_calls(
     Ok(([first, second, third, fourth], done && !kernel.idle()))
 }
 
-/// The turns of a dispatcher whose application went behind two calls.
+/// The turns of a dispatcher whose application goes behind two calls.
+fn serve_without_application(ends: Ends) -> Result<([Turn; 4], bool), AllocError> {
+    let (app, mut kernel, mut workers) = ends;
+    submit_and_go(app);
+    serve_two_calls(&mut kernel, &mut workers)
+}
+
 fn turns_without_application(alloc: Global) -> Result<([Turn; 4], bool), Fail> {
-    let (app, mut kernel, mut workers) = new_ends(alloc)?;
-    let submitted = submit_and_go(app);
-    let (turns, done) = serve_two_calls(&mut kernel, &mut workers)?;
-    Ok((turns, submitted && done))
+    let ends = new_ends(alloc)?;
+    Ok(serve_without_application(ends)?)
 }
 
 #[test]
@@ -132,9 +138,14 @@ fn go_on_without_worker(
     })
 }
 
+fn lose_a_worker(ends: Ends) -> Result<WithoutWorker, AllocError> {
+    let (mut app, mut kernel, mut workers) = ends;
+    go_on_without_worker(&mut app, &mut kernel, &mut workers)
+}
+
 fn left_without_worker(alloc: Global) -> Result<WithoutWorker, Fail> {
-    let (mut app, mut kernel, mut workers) = new_ends(alloc)?;
-    Ok(go_on_without_worker(&mut app, &mut kernel, &mut workers)?)
+    let ends = new_ends(alloc)?;
+    Ok(lose_a_worker(ends)?)
 }
 
 #[test]

@@ -7,10 +7,8 @@ use uring_threads::{LanesFault, Open, lanes};
 
 /// Why there are no ends of this set-up with so many workers, if there are none.
 fn fault(alloc: Global, setup: &Setup, workers: usize) -> Result<Option<LanesFault>, Fail> {
-    match lanes(alloc, setup, vec![in alloc; Open; workers]?) {
-        Ok(_) => Ok(None),
-        Err(fault) => Ok(Some(fault)),
-    }
+    let gates = vec![in alloc; Open; workers]?;
+    Ok(lanes(alloc, setup, gates).err())
 }
 
 #[test]

@@ -38,11 +38,16 @@ fn take_all(core: &mut Core, trace: &mut Vec<Event>) -> Result<(), AllocError> {
 }
 
 /// The trace of it.
-fn taken(alloc: Global) -> Result<Vec<Event>, Fail> {
-    let mut core = Core::new(alloc, &Setup::new(4, None, 1, 0)?)?;
+fn trace_of(alloc: Global, core: &mut Core) -> Result<Vec<Event>, AllocError> {
     let mut trace = Vec::new(alloc);
-    take_all(&mut core, &mut trace)?;
+    take_all(core, &mut trace)?;
     Ok(trace)
+}
+
+fn taken(alloc: Global) -> Result<Vec<Event>, Fail> {
+    let setup = Setup::new(4, None, 1, 0)?;
+    let mut core = Core::new(alloc, &setup)?;
+    Ok(trace_of(alloc, &mut core)?)
 }
 
 #[test]

@@ -3,7 +3,7 @@ use Rattle.std.specs.Prelude.{◌≡◌, ℕ, ◌+◌, ◌^◌, ◌<◌, ◌≤�
 use Rattle.std.specs.Int.{IsPowerOfTwo}
 use Rattle.atomic_table.specs.Table.{State}
 use Rattle.uring_entry.specs.IndexWords.{word_of}
-use Rattle.uring_words.specs.Completion.Dropped.{last_of, WereHad}
+use Rattle.uring_threads.specs.Dropped.{WereHad}
 use Rattle.uring_words.specs.Completion.Layout.{cell_index, tail_index, head_index, dropped_index, word_count, StandsAt}
 use Rattle.uring_words.specs.Places.{place_of}
 use Rattle.uring_words.specs.Sides.{AgreeBy, both_know}
@@ -11,6 +11,11 @@ use Rattle.uring_words.specs.declared.completion.view.AppSide.{AppSide}
 use Rattle.uring_words.specs.declared.completion.view.KernelSide.{KernelSide}
 use Rattle.uring_words.specs.declared.sides.Shape.{Shape}
 use Rattle.uring_words.specs.declared.sides.View.{View}
+
+-- the last of these words, or the one before them
+abbrev pub last_of : ℕ → List ℕ → ℕ
+last_of w [] = w
+last_of w (x ∷ xs) = last_of x xs
 
 -- the count at the tail that the application last saw
 abbrev pub tail_seen : AppSide → ℕ

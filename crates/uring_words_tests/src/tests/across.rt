@@ -1,68 +1,142 @@
-//! Calls go from thread to thread, at every wrap of a ring of four that begins shortly before the last index word.
-ghost use Rattle.std.specs.Prelude.{◌≡◌, ◌≤◌, vec_capacity};
+//! Calls of one to four items go from thread to thread, and a completion of each item comes back, at every wrap of rings of four that begin shortly before the last index word.
+ghost use Rattle.std.specs.Prelude.{◌≡◌, ◌<◌, ◌≤◌, vec_capacity};
 
 use super::nop;
 use std::alloc::Global;
 use std::sync::Wait;
 use std::test::Fail;
 use std::thread::{join, yield_now};
-use uring_entry::Setup;
-use uring_threads::{AppEnd, Item, KernelPort, Pulled};
+use uring_entry::{Cqe, Setup};
+use uring_threads::{AppEnd, AppPort, Item, KernelPort, Pulled};
 use uring_words::{AppWords, KernelWords, word_ports};
 
-/// How many calls of two items go through.
-const CALLS: u64 = 20000;
+/// How many calls go through. Ten times as many, which are 1,000,000 items, take 2 to 10 seconds and are run by hand.
+const CALLS: u64 = 40_000;
 
-/// Submits all calls, each as soon as there is room.
-fn submit_all<R: Wait>(rt: &R, app: &mut AppEnd<AppWords>) {
-    let mut next = 0;
+/// How many items they have.
+const ITEMS: u64 = CALLS / 4 * 10;
+
+/// How many items the call with this number has: 2, 3, 4, 1, 2, and so on.
+fn count_of(number: u64) -> usize
+    ensures { (0 < result) × (result ≤ 4) }
+{
+    1 + (number.wrapping_add(1) % 4) as usize
+}
+
+/// The items of the call with this number, with others behind them.
+fn items_of(number: u64) -> [Item; 4] {
+    let word = 4 + (number % 1_000_000) as u32;
+    let user_data = number.wrapping_mul(2);
+    [
+        nop(user_data),
+        Item::Bad(word),
+        nop(user_data.wrapping_add(1)),
+        Item::Bad(u32::MAX),
+    ]
+}
+
+/// The completion with this number in each of its words.
+fn completion(number: u64) -> Cqe {
+    Cqe::from_words([number; 10])
+}
+
+/// Whether the call with this number is submitted now.
+fn submits(app: &mut AppEnd<AppWords>, number: u64) -> bool {
+    number < CALLS && app.submit(&items_of(number)[..count_of(number)]).is_ok()
+}
+
+/// Submits each call as soon as there is room, and reaps a completion of each item. Whether these come in order.
+fn apply<R: Wait>(rt: &R, app: &mut AppEnd<AppWords>) -> bool {
+    let mut in_order = true;
+    let mut call = 0;
+    let mut reaped = 0;
     for _ in rt.forever() {
-        if next >= CALLS {
+        if reaped >= ITEMS {
             break;
         }
-        match app.submit(&[nop(next), Item::Bad(4)]) {
-            Ok(()) => next += 1,
-            Err(_) => yield_now(),
+        let submitted = submits(app, call);
+        if submitted {
+            call = call.saturating_add(1);
         }
+        match app.reap() {
+            Some(got) => {
+                in_order = in_order && got == completion(reaped);
+                reaped += 1;
+            }
+            None if submitted => {}
+            None => yield_now(),
+        }
+    }
+    in_order
+}
+
+/// Pulls the next call.
+fn await_call<R: Wait>(rt: &R, kernel: &mut KernelWords, items: &mut Vec<Item>)
+    requires { kernel.old.sizes.sq ≤ vec_capacity items.old }
+    ensures { kernel.new.sizes.sq ≤ vec_capacity items.new }
+{
+    for _ in rt.forever() {
+        if kernel.pull(items) == Pulled::Call {
+            break;
+        }
+        yield_now();
     }
 }
 
-/// Whether all calls come, in order.
-fn all_come<R: Wait>(rt: &R, kernel: &mut KernelWords, items: &mut Vec<Item>) -> bool
-    requires { kernel.old.sizes.sq ≤ vec_capacity items.old }
+/// Delivers the completion with this number, once there is room.
+fn deliver<R: Wait>(rt: &R, kernel: &mut KernelWords, number: u64)
+    ensures { kernel.new.sizes ≡ kernel.old.sizes }
 {
-    let mut next = 0;
     for _ in rt.forever() {
-        if next >= CALLS {
+        if kernel.room() > 0 {
+            kernel.deliver(completion(number));
             break;
         }
-        if kernel.pull(items) == Pulled::Nothing {
-            yield_now();
-            continue;
-        }
-        if items.as_slice() != [nop(next), Item::Bad(4)].as_slice() {
-            return false;
-        }
-        next += 1;
+        yield_now();
     }
-    true
+}
+
+/// Delivers completions with the numbers from `first` up to `end`.
+fn deliver_all<R: Wait>(rt: &R, kernel: &mut KernelWords, first: u64, end: u64)
+    ensures { kernel.new.sizes ≡ kernel.old.sizes }
+{
+    for number in first..end {
+        deliver(rt, kernel, number);
+    }
+}
+
+/// Pulls each call, and delivers a completion for each of its items. Whether the calls come whole and in order.
+fn serve<R: Wait>(rt: &R, kernel: &mut KernelWords, items: &mut Vec<Item>) -> bool
+    requires { kernel.old.sizes.sq ≤ vec_capacity items.old }
+{
+    let mut in_order = true;
+    let mut delivered: u64 = 0;
+    for number in 0..CALLS {
+        await_call(rt, kernel, items);
+        in_order = in_order && items.as_slice() == &items_of(number)[..count_of(number)];
+        let end = delivered.saturating_add(items.len() as u64);
+        deliver_all(rt, kernel, delivered, end);
+        delivered = end;
+    }
+    in_order
 }
 
 #[test]
-fn calls_go_across(rt: HostRuntime) -> Result<(), Fail> {
+fn items_and_completions_go_across(rt: HostRuntime) -> Result<(), Fail> {
     let alloc = rt.alloc();
     let setup = Setup::new(4, Some(4), 1, 4294967290)?;
     let (port, mut kernel) = word_ports(alloc, &setup)?;
     let mut items = Vec::with_capacity(alloc, setup.sq() as usize)?;
     let mut app = AppEnd::new(port, setup.sq());
     let rt = &rt;
-    let ((), in_order) = join(
+    let (completions, calls) = join(
         rt,
-        || submit_all(rt, &mut app),
+        || apply(rt, &mut app),
         || -> bool
             requires { kernel.sizes.sq ≤ vec_capacity items }
-        { all_come(rt, &mut kernel, &mut items) },
+        { serve(rt, &mut kernel, &mut items) },
     );
-    assert!(rt; in_order, "each call comes whole, in its place");
+    assert!(rt; calls, "each call comes whole, in its place");
+    assert!(rt; completions, "each completion comes whole, in its place");
     Ok(())
 }

@@ -11,7 +11,7 @@ use uring_threads::{AppEnd, AppPort, Kernel, KernelPort, Open, Rests, Worked, Wo
 use uring_words::{AppWords, KernelWords, word_ports, words};
 
 /// How many completions go through.
-const COMPLETIONS: u64 = 20000;
+const COMPLETIONS: u64 = 100_000;
 
 /// The completion with this number in each of its words.
 fn completion(number: u64) -> Cqe {
@@ -99,14 +99,22 @@ fn five_rounds(
     ])
 }
 
+/// The same on these ends, by their first worker.
+fn five_rounds_on(
+    ends: (AppEnd<AppWords>, Kernel<KernelWords>, Vec<Worker<Open>>),
+) -> Result<[Option<Cqe>; 5], AllocError> {
+    let (mut app, mut kernel, mut workers) = ends;
+    match workers.first_mut() {
+        Some(worker) => five_rounds(&mut app, &mut kernel, worker),
+        None => Ok([None; 5]),
+    }
+}
+
 /// The same on new ends of one worker, with rings of two that begin at the last index word.
 fn five_rounds_at_the_wrap(alloc: Global) -> Result<[Option<Cqe>; 5], Fail> {
     let setup = Setup::new(2, Some(2), 1, 4294967295)?;
-    let (mut app, mut kernel, mut workers) = words(alloc, &setup, vec![in alloc; Open; 1]?)?;
-    match workers.first_mut() {
-        Some(worker) => Ok(five_rounds(&mut app, &mut kernel, worker)?),
-        None => Ok([None; 5]),
-    }
+    let ends = words(alloc, &setup, vec![in alloc; Open; 1]?)?;
+    Ok(five_rounds_on(ends)?)
 }
 
 #[test]

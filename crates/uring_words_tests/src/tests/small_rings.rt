@@ -1,21 +1,40 @@
 //! A ring of two that begins at the last index word, and a ring of four that is settled.
+ghost use Rattle.std.specs.Prelude.{◌≡◌, ◌≤◌, vec_capacity};
 
 use super::nop;
 use std::alloc::{AllocError, Global};
 use std::test::Fail;
 use uring_entry::Setup;
-use uring_threads::{AppEnd, Item, KernelPort, Open, Pulled, Rests, SubmitRefusal, Turn};
-use uring_words::{word_ports, words};
+use uring_threads::{
+    AppEnd, Item, Kernel, KernelPort, Open, Pulled, Rests, SubmitRefusal, Turn, Worker,
+};
+use uring_words::{AppWords, KernelWords, word_ports, words};
 
 /// What three submits return, with a turn before the last is made again.
-fn submits_at_the_wrap(alloc: Global) -> Result<([Result<(), SubmitRefusal>; 3], Turn), Fail> {
-    let setup = Setup::new(2, Some(2), 1, u32::MAX)?;
-    let (mut app, mut kernel, _workers) = words(alloc, &setup, vec![in alloc; Open; 1]?)?;
+fn submit_thrice(
+    app: &mut AppEnd<AppWords>,
+    kernel: &mut Kernel<KernelWords>,
+) -> Result<([Result<(), SubmitRefusal>; 3], Turn), AllocError> {
     let two = app.submit(&[nop(1), nop(2)]);
     let full = app.submit(&[nop(3)]);
     let popped = kernel.turn()?;
     let third = app.submit(&[nop(3)]);
     Ok(([two, full, third], popped))
+}
+
+/// The same on these ends.
+fn submit_thrice_on(
+    ends: (AppEnd<AppWords>, Kernel<KernelWords>, Vec<Worker<Open>>),
+) -> Result<([Result<(), SubmitRefusal>; 3], Turn), AllocError> {
+    let (mut app, mut kernel, _workers) = ends;
+    submit_thrice(&mut app, &mut kernel)
+}
+
+/// The same on new ends.
+fn submits_at_the_wrap(alloc: Global) -> Result<([Result<(), SubmitRefusal>; 3], Turn), Fail> {
+    let setup = Setup::new(2, Some(2), 1, u32::MAX)?;
+    let ends = words(alloc, &setup, vec![in alloc; Open; 1]?)?;
+    Ok(submit_thrice_on(ends)?)
 }
 
 #[test]
@@ -26,17 +45,30 @@ fn a_full_ring_looks_at_the_head_again(rt: HostRuntime) -> Result<(), Fail> {
     Ok(())
 }
 
+/// Submits two calls, of which the first is pulled. Whether all goes as it should.
+fn pulls_one_of_two(
+    app: &mut AppEnd<AppWords>,
+    kernel: &mut KernelWords,
+    items: &mut Vec<Item>,
+) -> bool
+    requires { kernel.old.sizes.sq ≤ vec_capacity items.old }
+    ensures app { app.new.pairing ≡ app.old.pairing }
+    ensures kernel { kernel.new.pairing ≡ kernel.old.pairing }
+{
+    let first = app.submit(&[nop(1)]).is_ok();
+    let second = app.submit(&[Item::Bad(9), nop(2)]).is_ok();
+    first && second && kernel.pull(items) == Pulled::Call
+}
+
 /// Settles behind two calls, of which the first is pulled.
 fn settled(alloc: Global) -> Result<(bool, Rests), Fail> {
     let setup = Setup::new(4, Some(4), 1, 0)?;
-    let (port, mut kernel) = word_ports(alloc, &setup)?;
     let mut items = Vec::with_capacity(alloc, setup.sq() as usize)?;
+    let (port, mut kernel) = word_ports(alloc, &setup)?;
     let mut app = AppEnd::new(port, setup.sq());
-    let first = app.submit(&[nop(1)]).is_ok();
-    let second = app.submit(&[Item::Bad(9), nop(2)]).is_ok();
-    let pulled = kernel.pull(&mut items) == Pulled::Call;
+    let goes = pulls_one_of_two(&mut app, &mut kernel, &mut items);
     match app.settle(alloc, kernel) {
-        Ok(rests) => Ok((first && second && pulled, rests)),
+        Ok(rests) => Ok((goes, rests)),
         Err(_) => Err(AllocError)?,
     }
 }

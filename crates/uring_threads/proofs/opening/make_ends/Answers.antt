@@ -17,4 +17,5 @@ returns g c =
             opened_together c.args.setup.now.files c.new-app.result c.new-2.result c.in_ok-lanes.workers.items (first_of (search rules, grind (arith, common_steps))) (first_of (search rules, grind (arith, common_steps)))
             (first_of (search rules, grind (arith, common_steps))) opened.pairs;
       };
+      dropped = (first_of (search rules, grind (arith, common_steps)), first_of (search rules, grind (arith, common_steps)));
     }

@@ -1,4 +1,4 @@
-use Rattle.std.proofs.Common.{length, subst, sym, refl}
+use Rattle.std.proofs.Common.{length, subst, sym, refl, ◌∙◌}
 use Rattle.uring_threads.specs.Tallies.{TakesFewResults, finishes_counted, issues_counted, reaps_counted}
 use Rattle.std.proofs.lemmas.Result.{IfOk-weaker}
 use Rattle.uring_threads.specs.Turns.{AreTies, Counts}
@@ -53,22 +53,23 @@ returns-clause-ties g c =
     let t = ties_worked c.args.kept.now c.take_in.new.kept c.collect_all.new.kept c.issue_all.new.kept (g.P.KernelPort.pulled c.args.port.now) (g.P.KernelPort.pulled c.take_in.new.port) (g.P.KernelPort.delivered c.args.port.now) (g.P.KernelPort.delivered c.take_in.new.port) c.args.intake.now c.take_in.new.intake c.args.lanes.now c.collect_all.new.lanes c.issue_all.new.lanes
     c.in_ok-popped.popped (finishes_counted c.in_ok-finished.finished) (issues_counted c.in_ok-issued.issued) c.requires.ties c.in_ok-popped.ensures.taken c.take_in.ensures.tied c.take_in.ensures.once c.take_in.ensures.completions c.take_in.ensures.delivered
     c.in_ok-finished.ensures.tally refl c.collect_all.ensures.posts c.collect_all.ensures.carried c.in_ok-issued.ensures.tally refl c.issue_all.ensures.stays c.issue_all.ensures.carried in
-    subst (λ p. AreTies c.deliver.new.kept p (g.P.KernelPort.delivered c.deliver.new.port) c.take_in.new.intake c.issue_all.new.lanes) (sym c.deliver.ensures.pulled)
-    (ties_delivered c.issue_all.new.kept c.deliver.new.kept (g.P.KernelPort.pulled c.take_in.new.port) (g.P.KernelPort.delivered c.take_in.new.port) (g.P.KernelPort.delivered c.deliver.new.port) c.take_in.new.intake c.issue_all.new.lanes (reaps_counted c.in_ok-delivered.delivered) t c.in_ok-delivered.ensures.tally refl refl refl c.deliver.ensures.keeps c.deliver.ensures.delivered)
+    subst (λ p. AreTies c.deliver.new.kept p (g.P.KernelPort.delivered c.tell_dropped.new.port) c.take_in.new.intake c.issue_all.new.lanes) (sym (c.tell_dropped.ensures.pulled ∙ c.deliver.ensures.pulled))
+    (subst (λ d. AreTies c.deliver.new.kept (g.P.KernelPort.pulled c.take_in.new.port) d c.take_in.new.intake c.issue_all.new.lanes) (sym c.tell_dropped.ensures.delivered)
+    (ties_delivered c.issue_all.new.kept c.deliver.new.kept (g.P.KernelPort.pulled c.take_in.new.port) (g.P.KernelPort.delivered c.take_in.new.port) (g.P.KernelPort.delivered c.deliver.new.port) c.take_in.new.intake c.issue_all.new.lanes (reaps_counted c.in_ok-delivered.delivered) t c.in_ok-delivered.ensures.tally refl refl refl c.deliver.ensures.keeps c.deliver.ensures.delivered))
 
 pub returns-clause-counts : goal.returns-clause-counts
 returns-clause-counts g c =
     let counted = counts_all c.args.kept.now c.take_in.new.kept c.collect_all.new.kept c.issue_all.new.kept c.deliver.new.kept c.in_ok-popped.popped c.in_ok-finished.finished c.in_ok-issued.issued c.in_ok-delivered.delivered
     c.in_ok-popped.ensures.taken c.in_ok-finished.ensures.tally c.in_ok-finished.ensures.idle c.in_ok-issued.ensures.tally c.in_ok-issued.ensures.idle c.in_ok-delivered.ensures.tally c.in_ok-delivered.ensures.idle
     in
-    IfOk-weaker c.unless_waiting.result _ _ (λ made same. subst (λ t. Counts c.args.kept.now c.deliver.new.kept t) (sym same) counted) c.unless_waiting.ensures.turn
+    IfOk-weaker c.tell_dropped.result _ _ (λ made same. subst (λ t. Counts c.args.kept.now c.deliver.new.kept t) (sym same) counted) c.tell_dropped.ensures.turn
 
 pub returns-clause-err : goal.returns-clause-err
 returns-clause-err g c =
     let counted = counts_all c.args.kept.now c.take_in.new.kept c.collect_all.new.kept c.issue_all.new.kept c.deliver.new.kept c.in_ok-popped.popped c.in_ok-finished.finished c.in_ok-issued.issued c.in_ok-delivered.delivered
     c.in_ok-popped.ensures.taken c.in_ok-finished.ensures.tally c.in_ok-finished.ensures.idle c.in_ok-issued.ensures.tally c.in_ok-issued.ensures.idle c.in_ok-delivered.ensures.tally c.in_ok-delivered.ensures.idle
     in
-    on_err c.unless_waiting.result (_, counted.appends)
+    on_err c.tell_dropped.result (_, counted.appends)
 
 pub returns-clause-lanes : goal.returns-clause-lanes
 returns-clause-lanes g c = lanes_then c.args.lanes.now c.collect_all.new.lanes c.issue_all.new.lanes c.collect_all.ensures.lanes c.issue_all.ensures.lanes
