@@ -14,7 +14,7 @@ use std::thread::Threads;
 use uring_check::{Verdict, check};
 use uring_options::{Options, Setup, not_text, options};
 use uring_pictures::{graph, timeline};
-use uring_play::play;
+use uring_play::{play, play_shared};
 use uring_trace::{TraceFault, explain, trace};
 
 /// The exit status if all went well.
@@ -48,6 +48,11 @@ fn run<R: Threads + Wait + Copy + Send + 'static>(
         Options::Play(setup, workers) => {
             let (mut stdin, mut stdout) = (rt.stdin(), rt.stdout());
             play(threads, alloc, &mut stdin, &mut stdout, &setup, workers)?;
+            Ok(DONE)
+        }
+        Options::Shared(setup, workers) => {
+            let (mut stdin, mut stdout) = (rt.stdin(), rt.stdout());
+            play_shared(threads, alloc, &mut stdin, &mut stdout, &setup, workers)?;
             Ok(DONE)
         }
         Options::Trace { setup, is_echo } => {

@@ -15,9 +15,9 @@ use Rattle.std.specs.Str.Parse.{ParsesUnsigned}
 use Rattle.std.specs.Prelude.{◌^◌, ◌<◌, ◌≤◌, Err}
 use Rattle.clap.specs.Matches.{ReadsOne}
 use Rattle.uring_options.specs.declared.answers.Options.{Options}
-use Rattle.uring_options.specs.declared.answers.Options.TheVariants.{Explain, Graph, Timeline}
+use Rattle.uring_options.specs.declared.answers.Options.TheVariants.{Explain, Graph, Timeline, Play, Shared}
 use Rattle.uring_options.specs.CommandLine.{Traces, Explains, Checks, Plays}
-use Rattle.uring_options.specs.CommandLine.{uring, Run, run_of, command_rows, Gives, IsWithin, Numbers, GivesNumbers, IsGiven, IsSetupOver, IsTracedOver, IsRunOver}
+use Rattle.uring_options.specs.CommandLine.{uring, Run, run_of, command_rows, Gives, IsWithin, Numbers, GivesNumbers, IsGiven, AreWorkers, IsSetupOver, IsTracedOver, IsRunOver}
 use Rattle.uring_entry.specs.Setup.{Setup}
 use Rattle.uring_options.proofs.CommandOptions.{uring_is_simple}
 
@@ -185,3 +185,11 @@ pub explained_over : (rows : List Row) (n : Numbers) (s : Setup) (o : Options) (
 explained_over rows n s o true times over graph timeline is = subst (IsRunOver Explains rows n) (sym is) (refl, over, graph)
 explained_over rows n s o false true over graph timeline is = subst (IsRunOver Explains rows n) (sym is) (refl, over, graph, timeline)
 explained_over rows n s o false false over graph timeline is = subst (IsRunOver Explains rows n) (sym is) (refl, over, graph, timeline)
+
+-- ---- the options of a play
+
+-- what is played over a set-up, as the option for shared words says
+pub played_over : (rows : List Row) (n : Numbers) (s : Setup) (workers : ℕ) (o : Options) (shared : Bool) → IsSetupOver n s → AreWorkers rows workers → IsGiven rows (codes "shared") shared
+    → o ≡ (if shared then Shared s workers else Play s workers) → IsRunOver Plays rows n o
+played_over rows n s workers o true over count given is = subst (IsRunOver Plays rows n) (sym is) (refl, over, count, given)
+played_over rows n s workers o false over count given is = subst (IsRunOver Plays rows n) (sym is) (refl, over, count, given)

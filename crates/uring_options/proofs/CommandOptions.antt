@@ -63,6 +63,7 @@ record AreRules (rules : List Rule) : Type 0 where
   echo : HasParser (codes "echo") vp.Bool rules
   every : HasParser (codes "all") vp.Bool rules
   apart : HasParser (codes "apart") vp.Bool rules
+  shared : HasParser (codes "shared") vp.Bool rules
 
 trace_rules : AreRules trace_shape.rules
 trace_rules = record {
@@ -79,6 +80,7 @@ trace_rules = record {
   echo = ((λ e. other_name e), ((λ e. other_name e), ((λ e. other_name e), ((λ e. other_name e), ((λ e. other_name e), ((λ _. refl), ((λ e. other_name e), tt)))))));
   every = ((λ e. other_name e), ((λ e. other_name e), ((λ e. other_name e), ((λ e. other_name e), ((λ e. other_name e), ((λ e. other_name e), ((λ e. other_name e), tt)))))));
   apart = ((λ e. other_name e), ((λ e. other_name e), ((λ e. other_name e), ((λ e. other_name e), ((λ e. other_name e), ((λ e. other_name e), ((λ e. other_name e), tt)))))));
+  shared = ((λ e. other_name e), ((λ e. other_name e), ((λ e. other_name e), ((λ e. other_name e), ((λ e. other_name e), ((λ e. other_name e), ((λ e. other_name e), tt)))))));
 }
 
 explain_rules : AreRules explain_shape.rules
@@ -96,6 +98,7 @@ explain_rules = record {
   echo = ((λ e. other_name e), ((λ e. other_name e), ((λ e. other_name e), ((λ e. other_name e), ((λ e. other_name e), ((λ e. other_name e), ((λ e. other_name e), ((λ e. other_name e), tt))))))));
   every = ((λ e. other_name e), ((λ e. other_name e), ((λ e. other_name e), ((λ e. other_name e), ((λ e. other_name e), ((λ e. other_name e), ((λ e. other_name e), ((λ e. other_name e), tt))))))));
   apart = ((λ e. other_name e), ((λ e. other_name e), ((λ e. other_name e), ((λ e. other_name e), ((λ e. other_name e), ((λ e. other_name e), ((λ e. other_name e), ((λ e. other_name e), tt))))))));
+  shared = ((λ e. other_name e), ((λ e. other_name e), ((λ e. other_name e), ((λ e. other_name e), ((λ e. other_name e), ((λ e. other_name e), ((λ e. other_name e), ((λ e. other_name e), tt))))))));
 }
 
 check_rules : AreRules check_shape.rules
@@ -113,23 +116,25 @@ check_rules = record {
   echo = ((λ e. other_name e), ((λ e. other_name e), ((λ e. other_name e), ((λ e. other_name e), ((λ e. other_name e), ((λ e. other_name e), ((λ e. other_name e), ((λ e. other_name e), tt))))))));
   every = ((λ e. other_name e), ((λ e. other_name e), ((λ e. other_name e), ((λ e. other_name e), ((λ e. other_name e), ((λ _. refl), ((λ e. other_name e), ((λ e. other_name e), tt))))))));
   apart = ((λ e. other_name e), ((λ e. other_name e), ((λ e. other_name e), ((λ e. other_name e), ((λ e. other_name e), ((λ e. other_name e), ((λ _. refl), ((λ e. other_name e), tt))))))));
+  shared = ((λ e. other_name e), ((λ e. other_name e), ((λ e. other_name e), ((λ e. other_name e), ((λ e. other_name e), ((λ e. other_name e), ((λ e. other_name e), ((λ e. other_name e), tt))))))));
 }
 
 play_rules : AreRules play_shape.rules
 play_rules = record {
-  plain = (refl, (refl, (refl, (refl, (refl, (refl, tt))))));
-  defaults = (refl, (refl, (refl, (refl, (refl, (refl, tt))))));
-  sq = ((λ _. refl), ((λ e. other_name e), ((λ e. other_name e), ((λ e. other_name e), ((λ e. other_name e), ((λ e. other_name e), tt))))));
-  cq = ((λ e. other_name e), ((λ _. refl), ((λ e. other_name e), ((λ e. other_name e), ((λ e. other_name e), ((λ e. other_name e), tt))))));
-  files = ((λ e. other_name e), ((λ e. other_name e), ((λ _. refl), ((λ e. other_name e), ((λ e. other_name e), ((λ e. other_name e), tt))))));
-  start = ((λ e. other_name e), ((λ e. other_name e), ((λ e. other_name e), ((λ _. refl), ((λ e. other_name e), ((λ e. other_name e), tt))))));
-  stop = ((λ e. other_name e), ((λ e. other_name e), ((λ e. other_name e), ((λ e. other_name e), ((λ e. other_name e), ((λ e. other_name e), tt))))));
-  workers = ((λ e. other_name e), ((λ e. other_name e), ((λ e. other_name e), ((λ e. other_name e), ((λ _. refl), ((λ e. other_name e), tt))))));
-  graph = ((λ e. other_name e), ((λ e. other_name e), ((λ e. other_name e), ((λ e. other_name e), ((λ e. other_name e), ((λ e. other_name e), tt))))));
-  timeline = ((λ e. other_name e), ((λ e. other_name e), ((λ e. other_name e), ((λ e. other_name e), ((λ e. other_name e), ((λ e. other_name e), tt))))));
-  echo = ((λ e. other_name e), ((λ e. other_name e), ((λ e. other_name e), ((λ e. other_name e), ((λ e. other_name e), ((λ e. other_name e), tt))))));
-  every = ((λ e. other_name e), ((λ e. other_name e), ((λ e. other_name e), ((λ e. other_name e), ((λ e. other_name e), ((λ e. other_name e), tt))))));
-  apart = ((λ e. other_name e), ((λ e. other_name e), ((λ e. other_name e), ((λ e. other_name e), ((λ e. other_name e), ((λ e. other_name e), tt))))));
+  plain = (refl, (refl, (refl, (refl, (refl, (refl, (refl, tt)))))));
+  defaults = (refl, (refl, (refl, (refl, (refl, (refl, (refl, tt)))))));
+  sq = ((λ _. refl), ((λ e. other_name e), ((λ e. other_name e), ((λ e. other_name e), ((λ e. other_name e), ((λ e. other_name e), ((λ e. other_name e), tt)))))));
+  cq = ((λ e. other_name e), ((λ _. refl), ((λ e. other_name e), ((λ e. other_name e), ((λ e. other_name e), ((λ e. other_name e), ((λ e. other_name e), tt)))))));
+  files = ((λ e. other_name e), ((λ e. other_name e), ((λ _. refl), ((λ e. other_name e), ((λ e. other_name e), ((λ e. other_name e), ((λ e. other_name e), tt)))))));
+  start = ((λ e. other_name e), ((λ e. other_name e), ((λ e. other_name e), ((λ _. refl), ((λ e. other_name e), ((λ e. other_name e), ((λ e. other_name e), tt)))))));
+  stop = ((λ e. other_name e), ((λ e. other_name e), ((λ e. other_name e), ((λ e. other_name e), ((λ e. other_name e), ((λ e. other_name e), ((λ e. other_name e), tt)))))));
+  workers = ((λ e. other_name e), ((λ e. other_name e), ((λ e. other_name e), ((λ e. other_name e), ((λ _. refl), ((λ e. other_name e), ((λ e. other_name e), tt)))))));
+  graph = ((λ e. other_name e), ((λ e. other_name e), ((λ e. other_name e), ((λ e. other_name e), ((λ e. other_name e), ((λ e. other_name e), ((λ e. other_name e), tt)))))));
+  timeline = ((λ e. other_name e), ((λ e. other_name e), ((λ e. other_name e), ((λ e. other_name e), ((λ e. other_name e), ((λ e. other_name e), ((λ e. other_name e), tt)))))));
+  echo = ((λ e. other_name e), ((λ e. other_name e), ((λ e. other_name e), ((λ e. other_name e), ((λ e. other_name e), ((λ e. other_name e), ((λ e. other_name e), tt)))))));
+  every = ((λ e. other_name e), ((λ e. other_name e), ((λ e. other_name e), ((λ e. other_name e), ((λ e. other_name e), ((λ e. other_name e), ((λ e. other_name e), tt)))))));
+  apart = ((λ e. other_name e), ((λ e. other_name e), ((λ e. other_name e), ((λ e. other_name e), ((λ e. other_name e), ((λ e. other_name e), ((λ e. other_name e), tt)))))));
+  shared = ((λ e. other_name e), ((λ e. other_name e), ((λ e. other_name e), ((λ e. other_name e), ((λ e. other_name e), ((λ _. refl), ((λ e. other_name e), tt)))))));
 }
 
 -- ---- what rows give
@@ -152,6 +157,8 @@ pub record HasNumbers (rows : List Row) : Type 0 where
   pub all_given : IsGiven rows (codes "all") is_all
   pub is_apart : Bool
   pub apart_given : IsGiven rows (codes "apart") is_apart
+  pub is_shared : Bool
+  pub shared_given : IsGiven rows (codes "shared") is_shared
 
 -- no option, no number
 abbrev pub no_numbers : HasNumbers []
@@ -172,6 +179,8 @@ no_numbers = record {
   all_given = inl refl;
   is_apart = false;
   apart_given = inl refl;
+  is_shared = false;
+  shared_given = inl refl;
 }
 
 rows_numbers : (rules : List Rule) (rows : List Row) → AreRules rules → Each (IsRowOf rules) rows → HasNumbers rows
@@ -186,6 +195,7 @@ rows_numbers rules rows are each =
     let echo = flag_given rules rows (codes "echo") are.echo each in
     let every = flag_given rules rows (codes "all") are.every each in
     let apart = flag_given rules rows (codes "apart") are.apart each in
+    let shared = flag_given rules rows (codes "shared") are.shared each in
     let workers = option_given rules rows (codes "workers") 1 8 are.workers each in
     record {
       numbers = record { sq = sq.0; cq = cq.0; files = files.0; start = start.0 };
@@ -211,6 +221,8 @@ rows_numbers rules rows are each =
       all_given = every.1;
       is_apart = apart.0;
       apart_given = apart.1;
+      is_shared = shared.0;
+      shared_given = shared.1;
     }
 
 trace_numbers : (words : List Text) → level_fault trace_shape [] nothing_held words false [] ≡ [] → HasNumbers (rows_after trace_shape.rules [] words)

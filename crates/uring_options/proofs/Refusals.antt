@@ -18,7 +18,7 @@ use Rattle.uring_entry.proofs.Powers.{rounded_once}
 use Rattle.uring_options.specs.CommandLine.{uring, Run, run_of, command_rows, Gives, Numbers, AreInRange, GivesNumbers, IsWithin, IsSetupOver, IsRunOver, Writes, IsTooSmall, AskFor, AskForTooSmall, IsMemory, IsFaultOf}
 use Rattle.uring_options.proofs.CommandLine.{Asks}
 use Rattle.uring_options.specs.declared.answers.Options.{Options}
-use Rattle.uring_options.specs.declared.answers.Options.TheVariants.{Trace, Explain, Graph, Timeline, Check, Play}
+use Rattle.uring_options.specs.declared.answers.Options.TheVariants.{Trace, Explain, Graph, Timeline, Check, Play, Shared}
 use Rattle.uring_options.specs.declared.answers.OptionsFault.{OptionsFault}
 use Rattle.uring_options.specs.declared.answers.OptionsFault.TheVariants.{Small, Words}
 
@@ -86,6 +86,7 @@ not_both words (Graph s) (n, writes, over) small = not_over words n (record s { 
 not_both words (Timeline s) (n, writes, over) small = not_over words n (record s { stops = false }) writes over.1.0 small
 not_both words (Check s all apart) (n, writes, over) small = not_over words n (record s { stops = false }) writes over.1.0 small
 not_both words (Play s workers) (n, writes, over) small = not_over words n s writes over.1 small
+not_both words (Shared s workers) (n, writes, over) small = not_over words n s writes over.1 small
 
 -- words without a fault fail by memory alone
 memory_alone : (kinds : Kinds) (e : Error) → kinds ≡ [] → HasKind kinds e → kind_of e ≡ OutOfMemory
@@ -120,27 +121,25 @@ is_asked words rows run o no_fault asks (n, gives, over) =
 abbrev pub IsSmallBy : List Row → OptionsFault → Type 0
 IsSmallBy rows e = (e ≡ Small) × ((n : Numbers) × GivesNumbers rows n × IsTooSmall n)
 
-refused : (words : List Text) (rows : List Row) (e : OptionsFault) (run : Run) → fault_of uring words ≡ [] → Asks words rows run → IsSmallBy rows e → IsRefusal words e
-refused words rows e run no_fault asks (small, (n, gives, too)) = subst (IsRefusal words) (sym small) (n, written words rows n run no_fault asks gives, too)
-
 -- a small ring alone refuses such words
-pub refused_small : (words : List Text) (rows : List Row) (r : Result Options OptionsFault) (e : OptionsFault) (run : Run) → r ≡ Err e → fault_of uring words ≡ [] → Asks words rows run → IsSmallBy rows e
-    → IsErrOf r Small ↔ (AskForTooSmall words × ¬ IsErrAnd r IsMemory)
-refused_small words rows r e run is no_fault asks small =
-    subst (λ (x : Result Options OptionsFault). IsErrOf x Small ↔ (AskForTooSmall words × ¬ IsErrAnd x IsMemory)) (sym is)
-    (small_exactly words (Err e) tt (refused words rows e run no_fault asks small))
+abbrev pub IsSmallFor : List Text → OptionsFault → Type 0
+IsSmallFor words e = (e ≡ Small) × AskForTooSmall words
+
+too_small_for : (words : List Text) (rows : List Row) (e : OptionsFault) (run : Run) → fault_of uring words ≡ [] → Asks words rows run → IsSmallBy rows e → IsSmallFor words e
+too_small_for words rows e run no_fault asks (small, (n, gives, too)) = (small, (n, written words rows n run no_fault asks gives, too))
 
 -- what such words lead to, of a call that fails for a small ring alone
 pub all_asked : (words : List Text) (rows : List Row) (run : Run) (r : Result Options OptionsFault) → fault_of uring words ≡ [] → Asks words rows run → IfOk r (RunsOver run rows) → IfOk r (AskFor words)
 all_asked words rows run r no_fault asks over = IfOk-weaker r _ _ (λ o h. is_asked words rows run o no_fault asks h) over
 
-pub all_small : (words : List Text) (rows : List Row) (run : Run) (r : Result Options OptionsFault) → fault_of uring words ≡ [] → Asks words rows run → IfOk r (RunsOver run rows) → IfErr r (IsSmallBy rows)
-    → IsErrOf r Small ↔ (AskForTooSmall words × ¬ IsErrAnd r IsMemory)
-all_small words rows run r no_fault asks over small =
-    small_exactly words r (all_asked words rows run r no_fault asks over) (IfErr-weaker r _ _ (λ e h. refused words rows e run no_fault asks h) small)
+pub all_too_small : (words : List Text) (rows : List Row) (run : Run) (r : Result Options OptionsFault) → fault_of uring words ≡ [] → Asks words rows run → IfErr r (IsSmallBy rows) → IfErr r (IsSmallFor words)
+all_too_small words rows run r no_fault asks small = IfErr-weaker r _ _ (λ e h. too_small_for words rows e run no_fault asks h) small
 
-pub all_faults : (words : List Text) (rows : List Row) (r : Result Options OptionsFault) → IfErr r (IsSmallBy rows) → IfErr r (IsFaultOf words)
-all_faults words rows r small = IfErr-weaker r _ _ (λ e h. subst (IsFaultOf words) (sym h.0) tt) small
+pub all_small : (words : List Text) (r : Result Options OptionsFault) → IfOk r (AskFor words) → IfErr r (IsSmallFor words) → IsErrOf r Small ↔ (AskForTooSmall words × ¬ IsErrAnd r IsMemory)
+all_small words r asked small = small_exactly words r asked (IfErr-weaker r _ _ (λ e h. subst (IsRefusal words) (sym h.0) h.1) small)
+
+pub all_faults : (words : List Text) (r : Result Options OptionsFault) → IfErr r (IsSmallFor words) → IfErr r (IsFaultOf words)
+all_faults words r small = IfErr-weaker r _ _ (λ e h. subst (IsFaultOf words) (sym h.0) tt) small
 
 pub refused_by_words : (words : List Text) (r : Result Options OptionsFault) (e : Error) → IsErrAnd r (λ f. f ≡ Words e) → HasKind (fault_of uring words) e → IsErrOf r Small ↔ (AskForTooSmall words × ¬ IsErrAnd r IsMemory)
 refused_by_words words (Ok o) e is kind = absurd is

@@ -14,7 +14,7 @@ use Rattle.clap.specs.declared.builder.value_parser.ValueParser.TheVariants.{Sig
 use Rattle.clap.specs.declared.error.kind.ErrorKind.TheVariants.{OutOfMemory}
 use Rattle.uring_entry.specs.Setup.{Setup, IsSetupFor}
 use Rattle.uring_options.specs.declared.answers.Options.{Options}
-use Rattle.uring_options.specs.declared.answers.Options.TheVariants.{Trace, Explain, Graph, Timeline, Check, Play}
+use Rattle.uring_options.specs.declared.answers.Options.TheVariants.{Trace, Explain, Graph, Timeline, Check, Play, Shared}
 use Rattle.uring_options.specs.declared.answers.OptionsFault.{OptionsFault}
 use Rattle.uring_options.specs.declared.answers.OptionsFault.TheVariants.{Small, Words}
 
@@ -47,6 +47,10 @@ with_pictures_of app = with_rule (with_rule app (flag_rule (codes "graph"))) (fl
 abbrev pub with_checks_of : App → App
 with_checks_of app = with_rule (with_rule app (flag_rule (codes "all"))) (flag_rule (codes "apart"))
 
+-- a command with the options of a play
+abbrev pub with_plays_of : App → App
+with_plays_of app = with_rule (with_rule app (option_rule (codes "workers") (Signed (pos 1) (pos 8)))) (flag_rule (codes "shared"))
+
 -- `uring trace`, with the option by which steps are written too
 abbrev pub trace_app : App
 trace_app = with_rule (with_set_up_of (new_app (codes "trace"))) (flag_rule (codes "echo"))
@@ -59,9 +63,9 @@ check_app = with_checks_of (with_set_up_of (new_app (codes "check")))
 abbrev pub explain_app : App
 explain_app = with_pictures_of (with_set_up_of (new_app (codes "explain")))
 
--- `uring play`, whose calls go on, with an option for its workers
+-- `uring play`, whose calls go on
 abbrev pub play_app : App
-play_app = with_rule (with_numbers_of (new_app (codes "play"))) (option_rule (codes "workers") (Signed (pos 1) (pos 8)))
+play_app = with_plays_of (with_numbers_of (new_app (codes "play")))
 
 -- the program's command line, as clap sees a command
 abbrev pub uring : App
@@ -156,14 +160,15 @@ IsGiven rows id false = (one_of id rows ≡ None) ⊎ (one_of id rows ≡ Some (
 abbrev pub IsTracedOver : List Row → Numbers → Setup → Type 0
 IsTracedOver rows n s = IsSetupOver n (record s { stops = false }) × IsGiven rows (codes "stop") s.stops
 
--- what a command runs, over the set-up that these rows and numbers give: `uring explain` the graph where `--graph` is given, else the timeline where `--timeline` is, and else the answers
+-- what a command runs, over the set-up that these rows and numbers give: `uring explain` the graph where `--graph` is given, else the timeline where `--timeline` is, and else the answers; `uring play` a play over shared words where `--shared` is given, and else one over lanes
 abbrev pub IsRunOver : Run → List Row → Numbers → Options → Type 0
 IsRunOver run rows n (Trace s echo) = (run ≡ Traces) × IsTracedOver rows n s × IsGiven rows (codes "echo") echo
 IsRunOver run rows n (Explain s) = (run ≡ Explains) × IsTracedOver rows n s × IsGiven rows (codes "graph") false × IsGiven rows (codes "timeline") false
 IsRunOver run rows n (Graph s) = (run ≡ Explains) × IsTracedOver rows n s × IsGiven rows (codes "graph") true
 IsRunOver run rows n (Timeline s) = (run ≡ Explains) × IsTracedOver rows n s × IsGiven rows (codes "graph") false × IsGiven rows (codes "timeline") true
 IsRunOver run rows n (Check s all apart) = (run ≡ Checks) × IsTracedOver rows n s × IsGiven rows (codes "all") all × IsGiven rows (codes "apart") apart
-IsRunOver run rows n (Play s workers) = (run ≡ Plays) × IsSetupOver n s × AreWorkers rows workers
+IsRunOver run rows n (Play s workers) = (run ≡ Plays) × IsSetupOver n s × AreWorkers rows workers × IsGiven rows (codes "shared") false
+IsRunOver run rows n (Shared s workers) = (run ≡ Plays) × IsSetupOver n s × AreWorkers rows workers × IsGiven rows (codes "shared") true
 
 -- a completion ring is given, and is smaller after rounding than the submission ring
 pub record IsTooSmall (n : Numbers) : Type 0 where

@@ -34,6 +34,9 @@ pub enum Options {
 
     /// `uring play`: a play over this set-up, with so many workers, 1 to 8.
     Play(Setup, u32),
+
+    /// `uring play --shared`: the same play, whose application and dispatcher share words in place of lanes.
+    Shared(Setup, u32),
 }
 
 /// Why a command line is refused.

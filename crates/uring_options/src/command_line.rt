@@ -1,9 +1,9 @@
 //! The command line.
 
-ghost use Rattle.std.specs.Prelude.{◌≡◌, ◌↔◌, ℕ, Bool, Option, codes, [], ◌∷◌, IfOk, IfErr, IsErrOf, IsErrAnd, false, if◌then◌else◌};
+ghost use Rattle.std.specs.Prelude.{◌≡◌, ◌↔◌, ℕ, Bool, List, Option, codes, [], ◌∷◌, IfOk, IfErr, IsErrOf, IsErrAnd, false, if◌then◌else◌};
 ghost use Rattle.clap.specs.Words.{FailsBy, HasMatchesOf, fault_of, found_of, kind_of, rows_of};
-ghost use Rattle.clap.specs.Walk.{texts};
-ghost use Rattle.uring_options.specs.CommandLine.{uring, Gives, IsWithin, Numbers, AreInRange, GivesNumbers, GivesWorkers, AreWorkers, IsSetupOver, IsGiven, IsTracedOver, IsRunOver, Traces, Explains, Checks, IsTooSmall, AskFor, AskForTooSmall, IsWords, IsMemory, IsFaultOf};
+ghost use Rattle.clap.specs.Walk.{Text, texts};
+ghost use Rattle.uring_options.specs.CommandLine.{uring, Gives, IsWithin, Numbers, AreInRange, GivesNumbers, GivesWorkers, AreWorkers, IsSetupOver, IsGiven, IsTracedOver, IsRunOver, Traces, Explains, Checks, Plays, IsTooSmall, AskFor, AskForTooSmall, IsWords, IsMemory, IsFaultOf};
 
 use crate::answers::{Options, OptionsFault};
 use crate::commands::uring_command;
@@ -24,7 +24,7 @@ const DEFAULT_START: u32 = 0;
 /// Workers of a play if the command line doesn't say.
 const DEFAULT_WORKERS: u32 = 2;
 
-/// Reads a command line, whose first word is the program's name: `uring`, or `uring trace`, `uring explain`, `uring check` or `uring play` with options for the entries of the submission ring (`--sq`, 1 to 4,096, else 4) and of the completion ring (`--cq`, 1 to 8,192, else twice as many), for the files (`--files`, 1 to 64, else 2) and for the word at which both rings begin (`--start`, 32 bits, else 0). A play takes one more for its workers (`--workers`, 1 to 8, else 2), and the others one by which submission calls stop behind an entry with a fault (`--stop`, else they go on). A trace takes one by which its steps are written too (`--echo`), an explained trace two for pictures in place of the answers (`--graph`, which goes before `--timeline`), and a check one by which all wrong lines are told (`--all`) and one by which ends may be any (`--apart`). Our own rule.
+/// Reads a command line, whose first word is the program's name: `uring`, or `uring trace`, `uring explain`, `uring check` or `uring play` with options for the entries of the submission ring (`--sq`, 1 to 4,096, else 4) and of the completion ring (`--cq`, 1 to 8,192, else twice as many), for the files (`--files`, 1 to 64, else 2) and for the word at which both rings begin (`--start`, 32 bits, else 0). A play takes one more for its workers (`--workers`, 1 to 8, else 2) and one by which its application and dispatcher share words (`--shared`, else they have lanes), and the others one by which submission calls stop behind an entry with a fault (`--stop`, else they go on). A trace takes one by which its steps are written too (`--echo`), an explained trace two for pictures in place of the answers (`--graph`, which goes before `--timeline`), and a check one by which all wrong lines are told (`--all`) and one by which ends may be any (`--apart`). Our own rule.
 ///
 /// `Small` comes if the options give a completion ring that is smaller after rounding than the submission ring. `Words` comes for any other fault of the words, a number out of its range among them, for a call for help, and where memory is refused. Numbers may have a leading `+` or leading zeros.
 pub fn options<'a>(alloc: Global, args: &'a [&'a str]) -> Result<Options, OptionsFault>
@@ -38,7 +38,15 @@ pub fn options<'a>(alloc: Global, args: &'a [&'a str]) -> Result<Options, Option
     // Words comes only for a fault that clap finds in them, or if memory was refused.
     ensures words { IfErr result (IsFaultOf (texts args.now)) }
 {
-    let matches = matches_of(alloc, args)?;
+    asked(&matches_of(alloc, args)?)
+}
+
+/// What the words ask for of which clap has these matches.
+fn asked(matches: &ArgMatches<'_>) -> Result<Options, OptionsFault>
+    requires { (words : List Text) × HasMatchesOf uring words matches.now × (fault_of uring words ≡ []) }
+    ensures ok { (words : List Text) → HasMatchesOf uring words matches.now → fault_of uring words ≡ [] → IfOk result (AskFor words) }
+    ensures err { (words : List Text) → HasMatchesOf uring words matches.now → fault_of uring words ≡ [] → IfErr result (λ e. (e ≡ OptionsFault.Small) × AskForTooSmall words) }
+{
     if let Some(matches) = matches.subcommand_matches("explain") {
         return explained(matches);
     }
@@ -46,7 +54,7 @@ pub fn options<'a>(alloc: Global, args: &'a [&'a str]) -> Result<Options, Option
         return checked(matches);
     }
     if let Some(matches) = matches.subcommand_matches("play") {
-        return Ok(Options::Play(setup_of(matches)?, workers_of(matches)));
+        return played(matches);
     }
     match matches.subcommand_matches("trace") {
         Some(matches) => traced(matches),
@@ -122,6 +130,31 @@ fn explained_over(setup: Setup, graph: bool, timeline: bool) -> Options
         Options::Timeline(setup)
     } else {
         Options::Explain(setup)
+    }
+}
+
+/// What the options of `uring play` ask for.
+fn played(matches: &ArgMatches<'_>) -> Result<Options, OptionsFault>
+    requires numbers { (n : Numbers) × GivesNumbers (rows_of (found_of matches.now)) n }
+    requires workers { (n : Option ℕ) × GivesWorkers (rows_of (found_of matches.now)) n }
+    requires shared { (given : Bool) × IsGiven (rows_of (found_of matches.now)) (codes "shared") given }
+    ensures ok { IfOk result (λ o. (n : Numbers) × GivesNumbers (rows_of (found_of matches.now)) n × IsRunOver Plays (rows_of (found_of matches.now)) n o) }
+    ensures err { IfErr result (λ e. (e ≡ OptionsFault.Small) × ((n : Numbers) × GivesNumbers (rows_of (found_of matches.now)) n × IsTooSmall n)) }
+{
+    let setup = setup_of(matches)?;
+    let workers = workers_of(matches);
+    let shared = is_given(matches, "shared");
+    Ok(played_over(setup, workers, shared))
+}
+
+/// The play over the set-up, with so many workers: over shared words if that is asked for, and else over lanes.
+fn played_over(setup: Setup, workers: u32, shared: bool) -> Options
+    ensures { result ≡ (if shared then Options.Shared setup workers else Options.Play setup workers) }
+{
+    if shared {
+        Options::Shared(setup, workers)
+    } else {
+        Options::Play(setup, workers)
     }
 }
 

@@ -2,9 +2,9 @@
 
 ghost use Rattle.std.specs.Prelude.{◌≡◌, codes, IfOk, false};
 ghost use Rattle.clap.specs.Words.{app_of, rule_of, with_rule};
-ghost use Rattle.clap.specs.Simple.{with_subcommand};
+ghost use Rattle.clap.specs.Simple.{App, with_subcommand};
 ghost use Rattle.clap.specs.declared.builder.command.Command.TheViews.{out-Command};
-ghost use Rattle.uring_options.specs.CommandLine.{option_rule, flag_rule, with_numbers_of, with_set_up_of, with_pictures_of, with_checks_of, trace_app, explain_app, check_app, play_app, uring};
+ghost use Rattle.uring_options.specs.CommandLine.{option_rule, flag_rule, with_numbers_of, with_set_up_of, with_pictures_of, with_checks_of, with_plays_of, trace_app, explain_app, check_app, play_app, uring};
 
 use crate::helps::{ITEMS, REASONS, RECORDS, STEPS};
 use clap::builder::ValueParser;
@@ -20,17 +20,22 @@ pub(crate) fn uring_command<'a>(alloc: Global) -> Result<Command<'a>, AllocError
         .long_about(
             "The rings of io_uring, step by step. Without a command it does `trace` with the defaults.",
         );
-    with_traces(alloc, command)?.subcommand(play_command(alloc)?)
+    let command = with_command(command, trace_command(alloc))?;
+    let command = with_command(command, explain_command(alloc))?;
+    let command = with_command(command, check_command(alloc))?;
+    with_command(command, play_command(alloc))
 }
 
-/// The command with the commands that do the steps of a trace.
-fn with_traces<'a>(alloc: Global, command: Command<'a>) -> Result<Command<'a>, AllocError>
-    ensures { IfOk result (λ more. app_of more ≡ with_subcommand (with_subcommand (with_subcommand (app_of command.entry) trace_app.top) explain_app.top) check_app.top) }
+/// The command with one command more, if that one could be made.
+fn with_command<'a>(
+    command: Command<'a>,
+    made: Result<Command<'a>, AllocError>,
+) -> Result<Command<'a>, AllocError>
+    requires { IfOk made (λ sub. (out-Command sub).has_globals ≡ false) }
+    ensures { IfOk result (λ more. (app : App) → IfOk made.entry (λ sub. app_of sub ≡ app) → app_of more ≡ with_subcommand (app_of command.entry) app.top) }
 {
-    command
-        .subcommand(trace_command(alloc)?)?
-        .subcommand(explain_command(alloc)?)?
-        .subcommand(check_command(alloc)?)
+    let sub = made?;
+    command.subcommand(sub)
 }
 
 /// The command line of `uring trace`.
@@ -81,14 +86,7 @@ fn play_command<'a>(alloc: Global) -> Result<Command<'a>, AllocError>
     let command = Command::new(alloc, "play")
         .about("Read calls from standard input, play them in threads, and write their completions")
         .after_help(ITEMS);
-    let command = with_numbers(alloc, command)?;
-    with_number(
-        alloc,
-        command,
-        "workers",
-        "Workers, 1 to 8, each with a thread and files of its own [default: 2]",
-        value_parser!(u32).range(1..=8),
-    )
+    with_plays(alloc, with_numbers(alloc, command)?)
 }
 
 /// The command with the options of the pictures.
@@ -126,6 +124,26 @@ fn with_checks<'a>(alloc: Global, command: Command<'a>) -> Result<Command<'a>, A
         command,
         "apart",
         "Let a running request end with any result, and give no data: ended RES",
+    )
+}
+
+/// The command with the options of a play.
+fn with_plays<'a>(alloc: Global, command: Command<'a>) -> Result<Command<'a>, AllocError>
+    ensures app { IfOk result (λ more. app_of more ≡ with_plays_of (app_of command.entry)) }
+    ensures local { IfOk result (λ more. (out-Command more).has_globals ≡ (out-Command command.entry).has_globals) }
+{
+    let command = with_number(
+        alloc,
+        command,
+        "workers",
+        "Workers, 1 to 8, each with a thread and files of its own [default: 2]",
+        value_parser!(u32).range(1..=8),
+    )?;
+    with_flag(
+        alloc,
+        command,
+        "shared",
+        "Let application and dispatcher share the words of the rings in place of lanes",
     )
 }
 

@@ -103,9 +103,11 @@ call, as the end of the input does. A call without items is passed over. Items:
 The tokens of an entry are those of trace. WORD has 32 bits and isn't below the
 entries of the submission ring, which are the most items of a call.
 
-The application, the dispatcher and each worker have a thread of their own. The
-calls are submitted in order and the ring is closed; once nothing is left to do,
-the completions are written, sorted by user data, result and bytes:
+The application, the dispatcher and each worker have a thread of their own.
+Between application and dispatcher are lanes, or with --shared the words of the
+rings, which both of them load and store. The calls are submitted in order and
+the ring is closed; once nothing is left to do, the completions are written,
+sorted by user data, result and bytes:
   cqe UD RES DATA
 and then how many requests were accepted, and how many words were dropped:
   taken N dropped N

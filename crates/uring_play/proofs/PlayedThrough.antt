@@ -115,7 +115,7 @@ accepted_total g trace lawful =
 -- ---- the ends behind their threads
 
 -- the ends are still all of one set-up
-pub still_together : (app : AppEnd) (kernel : Kernel) (workers : List Worker) (calls : List (List Item)) (applied : Applied) (kernel_after : Kernel) (workers_after : List Worker) → AreTogether app kernel workers
+pub still_together : {P : Type 0} (app : AppEnd) (kernel : Kernel) (workers : List Worker) (calls : List (List Item)) (applied : Applied P) (kernel_after : Kernel) (workers_after : List Worker) → AreTogether app kernel workers
     → Applies app calls applied → StaysKernel kernel kernel_after → StayWorkers workers workers_after → AreTogether applied.app kernel_after workers_after
 still_together app kernel workers calls applied kernel_after workers_after t applies stays so =
     let count : Worker → ℕ = λ w. length w.files in

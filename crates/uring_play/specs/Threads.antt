@@ -14,7 +14,7 @@ use Rattle.uring_play.specs.declared.drive.Played.{Played}
 use Rattle.uring_play.specs.declared.promises.GivesWorker.{GivesWorker}
 
 -- The application's end is still of its pair of ports, and all that it reaped is at hand. If all is done, these calls were submitted, and the end was closed.
-pub record Applies (before : AppEnd) (calls : List (List Item)) (applied : Applied) : Type 0 where
+pub record Applies {P : Type 0} (before : AppEnd) (calls : List (List Item)) (applied : Applied P) : Type 0 where
   pub pairing : applied.app.pairing ≡ before.pairing
   pub sizes : applied.app.sizes ≡ before.sizes
   pub reaped : applied.app.received ≡ applied.completions.items

@@ -8,12 +8,12 @@ use std::sync::Wait;
 use std::sync::atomic::{AtomicBool, Ordering};
 use std::thread;
 use uring_machine::Cqe;
-use uring_threads::{AppEnd, AppLanes, CloseRefusal, Item, SubmitRefusal};
+use uring_threads::{AppEnd, AppPort, CloseRefusal, Item, SubmitRefusal};
 
 /// What the application's thread leaves.
 #[derive(Drop)]
-pub(crate) struct Applied {
-    pub app: AppEnd<AppLanes>,
+pub(crate) struct Applied<P: AppPort> {
+    pub app: AppEnd<P>,
 
     /// The completions that it reaped, in order.
     pub completions: Vec<Cqe>,
@@ -23,13 +23,13 @@ pub(crate) struct Applied {
 }
 
 /// Submits each call in order and closes, while the threads run; a call that finds no room is submitted once more. Reaps in between, and then until the threads are to stop, for as many completions as there is memory for.
-pub(crate) fn apply<R: Wait>(
+pub(crate) fn apply<R: Wait, P: AppPort>(
     rt: &R,
-    app: AppEnd<AppLanes>,
+    app: AppEnd<P>,
     calls: Vec<Vec<Item>>,
     completions: Vec<Cqe>,
     stop: &AtomicBool,
-) -> Applied
+) -> Applied<P>
     requires submitted { app.submitted ≡ nothing_put }
     requires reaped { app.received ≡ completions.items }
     ensures { Applies app (lists_of calls.items) result }
@@ -47,9 +47,9 @@ pub(crate) fn apply<R: Wait>(
 }
 
 /// Submits each call in order. False if the threads are to stop before, or a call can't be submitted.
-fn submit_all<R: Wait>(
+fn submit_all<R: Wait, P: AppPort>(
     rt: &R,
-    app: &mut AppEnd<AppLanes>,
+    app: &mut AppEnd<P>,
     calls: &[Vec<Item>],
     completions: &mut Vec<Cqe>,
     stop: &AtomicBool,
@@ -69,9 +69,9 @@ fn submit_all<R: Wait>(
 }
 
 /// Submits a call, once more wherever the end is full. False if the threads are to stop before, or the call can't be submitted.
-fn submit<R: Wait>(
+fn submit<R: Wait, P: AppPort>(
     rt: &R,
-    app: &mut AppEnd<AppLanes>,
+    app: &mut AppEnd<P>,
     call: &[Item],
     completions: &mut Vec<Cqe>,
     stop: &AtomicBool,
@@ -96,9 +96,9 @@ fn submit<R: Wait>(
 }
 
 /// Closes the end, once more wherever it is full. False if the threads are to stop before.
-fn close<R: Wait>(
+fn close<R: Wait, P: AppPort>(
     rt: &R,
-    app: &mut AppEnd<AppLanes>,
+    app: &mut AppEnd<P>,
     completions: &mut Vec<Cqe>,
     stop: &AtomicBool,
 ) -> bool
@@ -122,9 +122,9 @@ fn close<R: Wait>(
 }
 
 /// Reaps until the threads are to stop.
-fn reap_until<R: Wait>(
+fn reap_until<R: Wait, P: AppPort>(
     rt: &R,
-    app: &mut AppEnd<AppLanes>,
+    app: &mut AppEnd<P>,
     completions: &mut Vec<Cqe>,
     stop: &AtomicBool,
 )
@@ -142,7 +142,7 @@ fn reap_until<R: Wait>(
 }
 
 /// Reaps a completion, or lets other threads run. False, and nothing is done, if the threads are to stop.
-fn goes_on(app: &mut AppEnd<AppLanes>, completions: &mut Vec<Cqe>, stop: &AtomicBool) -> bool
+fn goes_on<P: AppPort>(app: &mut AppEnd<P>, completions: &mut Vec<Cqe>, stop: &AtomicBool) -> bool
     requires { app.old.received ≡ completions.old.items }
     ensures submitted { app.new.submitted ≡ app.old.submitted }
     ensures pairing { app.new.pairing ≡ app.old.pairing }
@@ -159,7 +159,7 @@ fn goes_on(app: &mut AppEnd<AppLanes>, completions: &mut Vec<Cqe>, stop: &Atomic
 }
 
 /// Reaps a completion, if there is memory for it and this end sees one. Whether it did.
-fn reap(app: &mut AppEnd<AppLanes>, completions: &mut Vec<Cqe>) -> bool
+fn reap<P: AppPort>(app: &mut AppEnd<P>, completions: &mut Vec<Cqe>) -> bool
     requires { app.old.received ≡ completions.old.items }
     ensures submitted { app.new.submitted ≡ app.old.submitted }
     ensures pairing { app.new.pairing ≡ app.old.pairing }

@@ -1,11 +1,12 @@
 //! A play of calls: all ends are made, run in threads, and settled.
-ghost use Rattle.std.specs.Prelude.{◌≡◌, ◌<◌, ◌≤◌, ℕ, List, true, false, [], IfOk, IsTrue};
+ghost use Rattle.std.specs.Prelude.{◌≡◌, ◌<◌, ◌≤◌, ◌++◌, ℕ, List, true, false, [], IfOk, IsTrue, OnOk};
 ghost use Rattle.uring_entry.specs.Requests.{outstanding_in};
 ghost use Rattle.uring_play.specs.Inputs.{lists_of};
 ghost use Rattle.uring_play.specs.Plays.{IsPlay};
 ghost use Rattle.uring_play.specs.Threads.{IsWhole};
 ghost use Rattle.uring_threads.specs.Kept.{now};
 ghost use Rattle.uring_threads.specs.Kernel.{IsIdle};
+ghost use Rattle.uring_threads.specs.Ports.{nothing_put};
 ghost use Rattle.uring_threads.specs.Report.{AreTogether, left_by};
 ghost use Rattle.uring_threads.specs.declared.item.Item.{Item};
 
@@ -15,7 +16,8 @@ use std::alloc::{AllocError, Global};
 use std::sync::Wait;
 use std::thread::Threads;
 use uring_machine::Cqe;
-use uring_threads::{Item, Kernel, KernelLanes, Open, Report, Setup, lanes, settle};
+use uring_threads::{AppEnd, Item, Kernel, KernelPort, Open, Report, Setup, Worker, lanes, settle};
+use uring_words::words;
 
 /// What a play leaves.
 #[derive(Drop)]
@@ -26,8 +28,8 @@ pub(crate) struct Played {
     pub completions: Vec<Cqe>,
 }
 
-/// Plays calls over this set-up with so many workers: application, dispatcher and each worker have a thread. Conditions: there are 1 to 8 workers, and calls of the set-up go on. `AllocError`: out of memory, or a thread can't be started.
-pub(crate) fn drive<R: Threads + Wait + Copy + Send + 'static>(
+/// Plays calls over lanes of this set-up with so many workers. Conditions: there are 1 to 8 workers, and calls of the set-up go on. `AllocError`: as of `drive`.
+pub(crate) fn drive_lanes<R: Threads + Wait + Copy + Send + 'static>(
     rt: R,
     alloc: Global,
     setup: &Setup,
@@ -40,26 +42,57 @@ pub(crate) fn drive<R: Threads + Wait + Copy + Send + 'static>(
     ensures setup { IfOk result (λ played. played.report.setup ≡ setup.now) }
     ensures play { IfOk result (λ played. IsPlay setup.now (lists_of calls.items) played.report.trace played.completions.items) }
 {
-    let completions = Vec::with_capacity(alloc, count_items(calls.as_slice()))?;
     let gates = vec![in alloc; Open; workers as usize]?;
-    let Ok((app, kernel, workers)) = lanes(alloc, setup, gates) else {
-        return Err(AllocError);
-    };
-    let ended = run_threads(rt, alloc, app, kernel, workers, calls, completions)?;
+    match lanes(alloc, setup, gates) {
+        Ok((app, kernel, workers)) => drive(rt, alloc, app, kernel, workers, calls),
+        Err(_) => Err(AllocError),
+    }
+}
+
+/// Plays calls over words that both sides of each ring of this set-up share, with so many workers. Conditions and `AllocError`: as of `drive_lanes`.
+pub(crate) fn drive_words<R: Threads + Wait + Copy + Send + 'static>(
+    rt: R,
+    alloc: Global,
+    setup: &Setup,
+    workers: u32,
+    calls: Vec<Vec<Item>>,
+) -> Result<Played, AllocError>
+    requires some { 0 < workers }
+    requires few { workers ≤ 8 }
+    requires goes_on { setup.now.stops ≡ false }
+    ensures setup { IfOk result (λ played. played.report.setup ≡ setup.now) }
+    ensures play { IfOk result (λ played. IsPlay setup.now (lists_of calls.items) played.report.trace played.completions.items) }
+{
+    let gates = vec![in alloc; Open; workers as usize]?;
+    match words(alloc, setup, gates) {
+        Ok((app, kernel, workers)) => drive(rt, alloc, app, kernel, workers, calls),
+        Err(_) => Err(AllocError),
+    }
+}
+
+/// Plays calls through these ends of one set-up: application, dispatcher and each worker have a thread. Conditions: nothing was submitted or reaped. `AllocError`: out of memory, or a thread can't be started.
+fn drive<R: Threads + Wait + Copy + Send + 'static, K: KernelPort + Send + 'static>(
+    rt: R,
+    alloc: Global,
+    app: AppEnd<K::App>,
+    kernel: Kernel<K>,
+    workers: Vec<Worker<Open>>,
+    calls: Vec<Vec<Item>>,
+) -> Result<Played, AllocError>
+where
+    K::App: Send + 'static,
+    requires submitted { app.submitted ≡ nothing_put }
+    requires reaped { app.received ≡ [] }
+    requires together { AreTogether app kernel workers.items }
+    ensures setup { IfOk result (λ played. played.report.setup ≡ kernel.kept.setup) }
+    ensures play { IfOk result (λ played. IsPlay kernel.kept.setup (lists_of calls.items) played.report.trace played.completions.items) }
+{
+    let ended = run_threads(rt, alloc, app, kernel, workers, calls)?;
     settle_all(alloc, ended)
 }
 
-/// How many items there are, or the greatest number if they are more.
-fn count_items(calls: &[Vec<Item>]) -> usize {
-    let mut count = 0usize;
-    for call in calls {
-        count = count.saturating_add(call.len());
-    }
-    count
-}
-
 /// Settles all ends, and takes the completions that weren't received behind those that were. `AllocError`: out of memory; or one of the threads was, and so left something undone.
-fn settle_all(alloc: Global, ended: Ended) -> Result<Played, AllocError>
+fn settle_all<K: KernelPort>(alloc: Global, ended: Ended<K>) -> Result<Played, AllocError>
     requires together { AreTogether ended.applied.app ended.kernel ended.workers.items }
     requires reaped { ended.applied.app.received ≡ ended.applied.completions.items }
     ensures setup { IfOk result (λ played. played.report.setup ≡ ended.kernel.kept.setup) }
@@ -82,19 +115,34 @@ fn settle_all(alloc: Global, ended: Ended) -> Result<Played, AllocError>
 fn whole_play(is_over: bool, report: Report<Open>, received: Vec<Cqe>) -> Result<Played, AllocError>
     ensures { IfOk result (λ played. IsWhole is_over report received.items played) }
 {
-    if !is_over || !is_empty(&report) {
-        return Err(AllocError);
-    }
     let mut completions = received;
-    completions.extend_from_slice(report.undelivered())?;
+    add_undelivered(is_over, &report, &mut completions)?;
     Ok(Played {
         report,
         completions,
     })
 }
 
+/// Appends the completions that weren't received, if the threads did all that was to be done. `AllocError`: they didn't; or out of memory.
+fn add_undelivered(
+    is_over: bool,
+    report: &Report<Open>,
+    completions: &mut Vec<Cqe>,
+) -> Result<(), AllocError>
+    ensures over { OnOk result (is_over ≡ true) }
+    ensures none_outstanding { OnOk result (outstanding_in (left_by report.now).requests ≡ 0) }
+    ensures none_waits { OnOk result (report.now.waiting ≡ []) }
+    ensures completions { OnOk result (completions.new.items ≡ completions.old.items ++ report.now.undelivered) }
+{
+    if !is_over || !is_empty(report) {
+        return Err(AllocError);
+    }
+    completions.extend_from_slice(report.undelivered())?;
+    Ok(())
+}
+
 /// Whether the application submitted all calls and closed, and nothing is left to the dispatcher.
-fn are_done(applied: &Applied, kernel: &Kernel<KernelLanes>) -> bool
+fn are_done<K: KernelPort>(applied: &Applied<K::App>, kernel: &Kernel<K>) -> bool
     ensures applied { IsTrue result → applied.now.done ≡ true }
     ensures idle { IsTrue result → IsIdle (now kernel.now.kept) }
 {

@@ -16,7 +16,7 @@ mod totals;
 mod writing;
 
 pub use play_fault::PlayFault;
-pub use playing::play;
+pub use playing::{play, play_shared};
 pub use reading::read_calls;
 pub use totals::dropped_last;
 pub use uring_machine::Cqe;

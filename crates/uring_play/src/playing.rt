@@ -2,7 +2,7 @@
 ghost use Rattle.std.specs.Prelude.{◌≡◌, ◌<◌, ◌≤◌, false};
 ghost use Rattle.uring_play.specs.Plays.{Plays, WritesPlay};
 
-use crate::drive::{Played, drive};
+use crate::drive::{Played, drive_lanes, drive_words};
 use crate::play_fault::PlayFault;
 use crate::reading::read_calls;
 use crate::totals::dropped_last;
@@ -34,7 +34,28 @@ pub fn play<R: Threads + Wait + Copy + Send + 'static, I: Read, O: Write>(
     ensures { Plays setup.now result (I.remaining reader.old) (I.remaining reader.new) (O.contents writer.old) (O.contents writer.new) }
 {
     let calls = read_calls(alloc, reader, setup)?;
-    let played = drive(rt, alloc, setup, workers, calls)?;
+    let played = drive_lanes(rt, alloc, setup, workers, calls)?;
+    write_played(alloc, writer, played)
+}
+
+/// Plays as `play` does, over words that the two sides of each ring share in place of lanes. Conditions: there are 1 to 8 workers, and calls of the set-up go on behind an entry with a fault. Our own rule.
+///
+/// What is written, and when `Read`, `Line`, `Long`, `Memory` and `Write` come, is as `play` says.
+pub fn play_shared<R: Threads + Wait + Copy + Send + 'static, I: Read, O: Write>(
+    rt: R,
+    alloc: Global,
+    reader: &mut I,
+    writer: &mut O,
+    setup: &Setup,
+    workers: u32,
+) -> Result<(), PlayFault>
+    requires some { 0 < workers }
+    requires few { workers ≤ 8 }
+    requires goes_on { setup.now.stops ≡ false }
+    ensures { Plays setup.now result (I.remaining reader.old) (I.remaining reader.new) (O.contents writer.old) (O.contents writer.new) }
+{
+    let calls = read_calls(alloc, reader, setup)?;
+    let played = drive_words(rt, alloc, setup, workers, calls)?;
     write_played(alloc, writer, played)
 }
 

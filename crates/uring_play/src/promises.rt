@@ -13,16 +13,16 @@ use std::sync::{Arc, Wait};
 use std::thread;
 use std::thread::{Promise, PromisedHandle, Threads};
 use uring_machine::Cqe;
-use uring_threads::{AppEnd, AppLanes, Item, Kernel, KernelLanes, Open, Worker};
+use uring_threads::{AppEnd, AppPort, Item, Kernel, KernelPort, Open, Worker};
 
 /// The application's thread submits these calls through this end.
 #[derive(Drop)]
-pub(crate) struct AppliesAll {
-    before: Snapshot<AppEnd<AppLanes>>,
+pub(crate) struct AppliesAll<P: AppPort> {
+    before: Snapshot<AppEnd<P>>,
     calls: Snapshot<Vec<Vec<Item>>>,
 }
 
-impl Promise<Applied> for AppliesAll {
+impl<P: AppPort> Promise<Applied<P>> for AppliesAll<P> {
     ghost use Rattle.uring_play.specs.Inputs.{lists_of};
     ghost use Rattle.uring_play.specs.Threads.{Applies};
 
@@ -31,9 +31,9 @@ impl Promise<Applied> for AppliesAll {
 
 /// The dispatcher's thread gives this end back.
 #[derive(Drop)]
-pub(crate) struct GivesKernel(Snapshot<Kernel<KernelLanes>>);
+pub(crate) struct GivesKernel<K: KernelPort>(Snapshot<Kernel<K>>);
 
-impl Promise<Kernel<KernelLanes>> for GivesKernel {
+impl<K: KernelPort> Promise<Kernel<K>> for GivesKernel<K> {
     ghost use Rattle.uring_play.specs.Threads.{StaysKernel};
 
     ghost kept_by = { λ p kernel. StaysKernel p.0.value kernel };
@@ -53,13 +53,16 @@ impl Promise<Worker<Open>> for GivesWorker {
 pub(crate) type WorkerThread = PromisedHandle<Worker<Open>, GivesWorker>;
 
 /// Starts the application's thread. `AllocError`: it can't be started.
-pub(crate) fn start_application<R: Threads + Wait + Copy + Send + 'static>(
+pub(crate) fn start_application<
+    R: Threads + Wait + Copy + Send + 'static,
+    P: AppPort + Send + 'static,
+>(
     rt: R,
-    app: AppEnd<AppLanes>,
+    app: AppEnd<P>,
     calls: Vec<Vec<Item>>,
     completions: Vec<Cqe>,
     stop: &Arc<AtomicBool>,
-) -> Result<PromisedHandle<Applied, AppliesAll>, AllocError>
+) -> Result<PromisedHandle<Applied<P>, AppliesAll<P>>, AllocError>
     requires submitted { app.submitted ≡ nothing_put }
     requires reaped { app.received ≡ completions.items }
     ensures before { IfOk result (λ thread. thread.promise.before.value ≡ app) }
@@ -70,7 +73,7 @@ pub(crate) fn start_application<R: Threads + Wait + Copy + Send + 'static>(
         before: Snapshot::of(&app),
         calls: Snapshot::of(&calls),
     };
-    let body = move || -> Applied
+    let body = move || -> Applied<P>
         requires submitted { app.submitted ≡ nothing_put }
         requires reaped { app.received ≡ completions.items }
         ensures { Applies app (lists_of calls.items) result }
@@ -79,16 +82,21 @@ pub(crate) fn start_application<R: Threads + Wait + Copy + Send + 'static>(
 }
 
 /// Starts the dispatcher's thread. `AllocError`: it can't be started.
-pub(crate) fn start_dispatcher<R: Threads + Wait + Copy + Send + 'static>(
+pub(crate) fn start_dispatcher<
+    R: Threads + Wait + Copy + Send + 'static,
+    K: KernelPort + Send + 'static,
+>(
     rt: R,
-    kernel: Kernel<KernelLanes>,
+    kernel: Kernel<K>,
     stop: &Arc<AtomicBool>,
-) -> Result<PromisedHandle<Kernel<KernelLanes>, GivesKernel>, AllocError>
+) -> Result<PromisedHandle<Kernel<K>, GivesKernel<K>>, AllocError>
+where
+    K::App: Send + 'static,
     ensures { IfOk result (λ thread. thread.promise.0.value ≡ kernel) }
 {
     let stop = Arc::try_clone(stop)?;
     let promise = GivesKernel(Snapshot::of(&kernel));
-    let body = move || -> Kernel<KernelLanes>
+    let body = move || -> Kernel<K>
         ensures { StaysKernel kernel result }
     { dispatch(&rt, kernel, &stop) };
     Ok(thread::spawn_with(&rt, promise, body)?)

@@ -11,34 +11,38 @@ use std::sync::atomic::{AtomicBool, Ordering};
 use std::sync::{Arc, Wait};
 use std::thread::Threads;
 use uring_machine::Cqe;
-use uring_threads::{AppEnd, AppLanes, Item, Kernel, KernelLanes, Open, Worker};
+use uring_threads::{AppEnd, Item, Kernel, KernelPort, Open, Worker};
 
 /// The ends of a play, behind its threads.
 #[derive(Drop)]
-pub(crate) struct Ended {
-    pub applied: Applied,
-    pub kernel: Kernel<KernelLanes>,
+pub(crate) struct Ended<K: KernelPort> {
+    pub applied: Applied<K::App>,
+    pub kernel: Kernel<K>,
     pub workers: Vec<Worker<Open>>,
 }
 
-/// Runs the application, the dispatcher and each worker in a thread of its own, until all have ended. `AllocError`: out of memory, or a thread can't be started; those that were started have ended.
-pub(crate) fn run_threads<R: Threads + Wait + Copy + Send + 'static>(
+/// Runs the application, the dispatcher and each worker in a thread of its own, until all have ended. Conditions: nothing was submitted or reaped. `AllocError`: out of memory, or a thread can't be started; those that were started have ended.
+pub(crate) fn run_threads<
+    R: Threads + Wait + Copy + Send + 'static,
+    K: KernelPort + Send + 'static,
+>(
     rt: R,
     alloc: Global,
-    app: AppEnd<AppLanes>,
-    kernel: Kernel<KernelLanes>,
+    app: AppEnd<K::App>,
+    kernel: Kernel<K>,
     workers: Vec<Worker<Open>>,
     calls: Vec<Vec<Item>>,
-    completions: Vec<Cqe>,
-) -> Result<Ended, AllocError>
+) -> Result<Ended<K>, AllocError>
+where
+    K::App: Send + 'static,
     requires submitted { app.submitted ≡ nothing_put }
-    requires reaped { app.received ≡ completions.items }
+    requires reaped { app.received ≡ [] }
     ensures application { IfOk result (λ ended. Applies app (lists_of calls.items) ended.applied) }
     ensures dispatcher { IfOk result (λ ended. StaysKernel kernel ended.kernel) }
     ensures workers { IfOk result (λ ended. StayWorkers workers.items ended.workers.items) }
 {
-    let rooms = make_rooms(alloc, workers.len())?;
-    run_within(rt, rooms, app, kernel, workers, calls, completions)
+    let rooms = make_rooms(alloc, workers.len(), calls.as_slice())?;
+    run_within(rt, rooms, app, kernel, workers, calls)
 }
 
 /// What the threads of a play need beside its ends.
@@ -49,34 +53,48 @@ struct Rooms {
     started: Vec<WorkerThread>,
     // For the workers that come back.
     back: Vec<Worker<Open>>,
+    // For a completion of each item.
+    completions: Vec<Cqe>,
 }
 
-/// Rooms for so many workers. `AllocError`: out of memory.
-fn make_rooms(alloc: Global, workers: usize) -> Result<Rooms, AllocError>
+/// Rooms for so many workers and these calls. `AllocError`: out of memory.
+fn make_rooms(alloc: Global, workers: usize, calls: &[Vec<Item>]) -> Result<Rooms, AllocError>
     ensures started { IfOk result (λ rooms. rooms.started.items ≡ []) }
     ensures started_room { IfOk result (λ rooms. workers ≤ vec_capacity rooms.started) }
     ensures back { IfOk result (λ rooms. rooms.back.items ≡ []) }
     ensures back_room { IfOk result (λ rooms. workers ≤ vec_capacity rooms.back) }
+    ensures reaped { IfOk result (λ rooms. rooms.completions.items ≡ []) }
 {
     Ok(Rooms {
         stop: Arc::new(alloc, AtomicBool::new(false))?,
         started: Vec::with_capacity(alloc, workers)?,
         back: Vec::with_capacity(alloc, workers)?,
+        completions: Vec::with_capacity(alloc, count_items(calls))?,
     })
 }
 
+/// How many items there are, or the greatest number if they are more.
+fn count_items(calls: &[Vec<Item>]) -> usize {
+    let mut count = 0usize;
+    for call in calls {
+        count = count.saturating_add(call.len());
+    }
+    count
+}
+
 /// Runs all threads within these rooms, until all have ended.
-fn run_within<R: Threads + Wait + Copy + Send + 'static>(
+fn run_within<R: Threads + Wait + Copy + Send + 'static, K: KernelPort + Send + 'static>(
     rt: R,
     rooms: Rooms,
-    app: AppEnd<AppLanes>,
-    kernel: Kernel<KernelLanes>,
+    app: AppEnd<K::App>,
+    kernel: Kernel<K>,
     workers: Vec<Worker<Open>>,
     calls: Vec<Vec<Item>>,
-    completions: Vec<Cqe>,
-) -> Result<Ended, AllocError>
+) -> Result<Ended<K>, AllocError>
+where
+    K::App: Send + 'static,
     requires submitted { app.submitted ≡ nothing_put }
-    requires reaped { app.received ≡ completions.items }
+    requires reaped { app.received ≡ rooms.completions.items }
     requires started { rooms.started.items ≡ [] }
     requires started_room { length workers.items ≤ vec_capacity rooms.started }
     requires back { rooms.back.items ≡ [] }
@@ -89,6 +107,7 @@ fn run_within<R: Threads + Wait + Copy + Send + 'static>(
         stop,
         mut started,
         back,
+        completions,
     } = rooms;
     let ran = run_with_workers(
         rt,
@@ -111,16 +130,18 @@ fn run_within<R: Threads + Wait + Copy + Send + 'static>(
 }
 
 /// Starts all threads, and runs those of application and dispatcher until they have ended. The workers' threads run on.
-fn run_with_workers<R: Threads + Wait + Copy + Send + 'static>(
+fn run_with_workers<R: Threads + Wait + Copy + Send + 'static, K: KernelPort + Send + 'static>(
     rt: R,
-    app: AppEnd<AppLanes>,
-    kernel: Kernel<KernelLanes>,
+    app: AppEnd<K::App>,
+    kernel: Kernel<K>,
     workers: Vec<Worker<Open>>,
     calls: Vec<Vec<Item>>,
     completions: Vec<Cqe>,
     stop: &Arc<AtomicBool>,
     started: &mut Vec<WorkerThread>,
-) -> Result<(Applied, Kernel<KernelLanes>), AllocError>
+) -> Result<(Applied<K::App>, Kernel<K>), AllocError>
+where
+    K::App: Send + 'static,
     requires submitted { app.submitted ≡ nothing_put }
     requires reaped { app.received ≡ completions.items }
     requires none { started.old.items ≡ [] }
@@ -135,14 +156,16 @@ fn run_with_workers<R: Threads + Wait + Copy + Send + 'static>(
 }
 
 /// Runs the threads of application and dispatcher until they have ended.
-fn run_both<R: Threads + Wait + Copy + Send + 'static>(
+fn run_both<R: Threads + Wait + Copy + Send + 'static, K: KernelPort + Send + 'static>(
     rt: R,
-    app: AppEnd<AppLanes>,
-    kernel: Kernel<KernelLanes>,
+    app: AppEnd<K::App>,
+    kernel: Kernel<K>,
     calls: Vec<Vec<Item>>,
     completions: Vec<Cqe>,
     stop: &Arc<AtomicBool>,
-) -> Result<(Applied, Kernel<KernelLanes>), AllocError>
+) -> Result<(Applied<K::App>, Kernel<K>), AllocError>
+where
+    K::App: Send + 'static,
     requires submitted { app.submitted ≡ nothing_put }
     requires reaped { app.received ≡ completions.items }
     ensures application { IfOk result (λ ends. Applies app (lists_of calls.items) ends.0) }

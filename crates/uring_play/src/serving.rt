@@ -5,14 +5,14 @@ ghost use Rattle.uring_play.specs.Threads.{StaysKernel, StaysWorker};
 use std::sync::Wait;
 use std::sync::atomic::{AtomicBool, Ordering};
 use std::thread;
-use uring_threads::{Kernel, KernelLanes, Open, Turn, Worked, Worker};
+use uring_threads::{Kernel, KernelPort, Open, Turn, Worked, Worker};
 
 /// Turns the dispatcher until it is idle or out of memory, or the threads are to stop, and then tells all threads to stop.
-pub(crate) fn dispatch<R: Wait>(
+pub(crate) fn dispatch<R: Wait, K: KernelPort>(
     rt: &R,
-    kernel: Kernel<KernelLanes>,
+    kernel: Kernel<K>,
     stop: &AtomicBool,
-) -> Kernel<KernelLanes>
+) -> Kernel<K>
     ensures { StaysKernel kernel result }
 {
     let mut kernel = kernel;
@@ -21,7 +21,7 @@ pub(crate) fn dispatch<R: Wait>(
     kernel
 }
 
-fn turn_until<R: Wait>(rt: &R, kernel: &mut Kernel<KernelLanes>, stop: &AtomicBool)
+fn turn_until<R: Wait, K: KernelPort>(rt: &R, kernel: &mut Kernel<K>, stop: &AtomicBool)
     ensures { StaysKernel kernel.old kernel.new }
 {
     for _ in rt.forever() {

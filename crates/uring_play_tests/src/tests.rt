@@ -1,5 +1,6 @@
 mod growth;
 mod playing;
+mod ports;
 mod reading;
 mod streams;
 mod writing;

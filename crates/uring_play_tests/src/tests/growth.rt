@@ -1,12 +1,16 @@
 //! What a play writes where a growth of memory is refused.
 //!
-//! The test passes whether a growth is refused in it or none, and tells where one was; `growth/check` runs it with each growth refused in turn.
+//! Each test passes whether a growth is refused in it or none, and tells where one was; `growth/check` runs it with each growth refused in turn.
 
+use super::ports::{Ports, play_over};
+use std::alloc::Global;
 use std::cmp::min;
 use std::io;
 use std::io::Write;
+use std::sync::Wait;
 use std::test::Fail;
-use uring_play::{PlayFault, Setup, play};
+use std::thread::Threads;
+use uring_play::{PlayFault, Setup};
 
 /// A writer of at most 128 bytes, which takes no memory.
 #[derive(Drop)]
@@ -38,23 +42,56 @@ const AMPLE: &str = "cqe 1 2 -\ncqe 2 0 -\ncqe 3 4 00006162\ntaken 3 dropped 0\n
 /// What is written where the write is refused memory: it dooms the no-op, and leaves its file empty.
 const WRITE_REFUSED: &str = "cqe 1 -12 -\ncqe 2 -125 -\ncqe 3 0 -\ntaken 3 dropped 0\n";
 
-#[test]
-fn a_refused_growth_ends_a_play_or_is_answered(rt: HostRuntime) -> Result<(), Fail> {
+/// What came of a play.
+#[derive(Clone, Copy, PartialEq, Eq)]
+enum Ending {
+    Ample,
+    Refused,
+    Wrong,
+}
+
+/// What comes of a play over these ports.
+fn played<R: Threads + Wait + Copy + Send + 'static>(
+    ports: Ports,
+    rt: R,
+    alloc: Global,
+) -> Result<Ending, Fail> {
     let setup = Setup::new(4, Some(4), 2, 0)?;
     let mut writer = FixedWriter {
         bytes: [0; 128],
         len: 0,
     };
     let mut reader = INPUT.as_bytes();
-    let end = play(rt, rt.alloc(), &mut reader, &mut writer, &setup, 2);
+    let end = play_over(ports, rt, alloc, &mut reader, &mut writer, &setup, 2);
     let written = &writer.bytes[..min(writer.len, 128)];
-    if end == Err(PlayFault::Memory) {
-        assert!(rt; written.is_empty());
-    } else {
-        assert_eq!(rt; end, Ok(()));
-        assert!(rt; written == AMPLE.as_bytes() || written == WRITE_REFUSED.as_bytes());
+    Ok(judged(end, written))
+}
+
+/// What came of a play that ended so and wrote this.
+fn judged(end: Result<(), PlayFault>, written: &[u8]) -> Ending {
+    match end {
+        Ok(()) if written == AMPLE.as_bytes() => Ending::Ample,
+        Ok(()) if written == WRITE_REFUSED.as_bytes() => Ending::Refused,
+        Err(PlayFault::Memory) if written.is_empty() => Ending::Refused,
+        _ => Ending::Wrong,
     }
-    if written != AMPLE.as_bytes() {
+}
+
+#[test]
+fn a_refused_growth_ends_a_play_or_is_answered(rt: HostRuntime) -> Result<(), Fail> {
+    let ending = played(Ports::Lanes, rt, rt.alloc())?;
+    assert!(rt; ending != Ending::Wrong);
+    if ending == Ending::Refused {
+        println!(rt; "refused")?;
+    }
+    Ok(())
+}
+
+#[test]
+fn a_refused_growth_ends_a_shared_play_or_is_answered(rt: HostRuntime) -> Result<(), Fail> {
+    let ending = played(Ports::Words, rt, rt.alloc())?;
+    assert!(rt; ending != Ending::Wrong);
+    if ending == Ending::Refused {
         println!(rt; "refused")?;
     }
     Ok(())

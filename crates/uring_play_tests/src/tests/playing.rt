@@ -1,17 +1,19 @@
-//! Worked rows of plays, in threads, with 1, 2 and 8 workers.
+//! Worked rows of plays, in threads, with 1, 2 and 8 workers, over lanes and over shared words.
 
 ghost use Rattle.std.specs.Prelude.{◌<◌, ◌≤◌};
 
+use super::ports::{BOTH, Ports, play_over};
 use std::alloc::Global;
 use std::io;
 use std::io::{ErrorKind, Read, Write};
 use std::sync::Wait;
 use std::test::Fail;
 use std::thread::Threads;
-use uring_play::{PlayFault, Setup, play};
+use uring_play::{PlayFault, Setup};
 
 /// What a play of this input over a ring of four writes, and how it ends.
 fn played<R: Threads + Wait + Copy + Send + 'static>(
+    ports: Ports,
     rt: R,
     alloc: Global,
     input: &[u8],
@@ -22,20 +24,33 @@ fn played<R: Threads + Wait + Copy + Send + 'static>(
     let setup = Setup::new(4, Some(4), 2, 0)?;
     let mut rest = input;
     let mut output = Vec::new(alloc);
-    let end = play(rt, alloc, &mut rest, &mut output, &setup, workers);
+    let end = play_over(ports, rt, alloc, &mut rest, &mut output, &setup, workers);
     Ok((output, end))
 }
 
-/// Whether a play of this input writes this with 1, 2 and 8 workers.
+/// Whether a play of this input writes this with 1, 2 and 8 workers, over lanes and over words.
 fn plays<R: Threads + Wait + Copy + Send + 'static>(
     rt: R,
     alloc: Global,
     input: &[u8],
     wanted: &[u8],
 ) -> Result<bool, Fail> {
-    let one = played(rt, alloc, input, 1)?;
-    let two = played(rt, alloc, input, 2)?;
-    let eight = played(rt, alloc, input, 8)?;
+    let over_lanes = plays_over(Ports::Lanes, rt, alloc, input, wanted)?;
+    let over_words = plays_over(Ports::Words, rt, alloc, input, wanted)?;
+    Ok(over_lanes && over_words)
+}
+
+/// Whether a play of this input over these ports writes this with 1, 2 and 8 workers.
+fn plays_over<R: Threads + Wait + Copy + Send + 'static>(
+    ports: Ports,
+    rt: R,
+    alloc: Global,
+    input: &[u8],
+    wanted: &[u8],
+) -> Result<bool, Fail> {
+    let one = played(ports, rt, alloc, input, 1)?;
+    let two = played(ports, rt, alloc, input, 2)?;
+    let eight = played(ports, rt, alloc, input, 8)?;
     Ok(is_done(&one, wanted) && is_done(&two, wanted) && is_done(&eight, wanted))
 }
 
@@ -44,16 +59,29 @@ fn is_done(end: &(Vec<u8>, Result<(), PlayFault>), wanted: &[u8]) -> bool {
     end.1.is_ok() && end.0.as_slice() == wanted
 }
 
-/// Whether a play of this input ends with this fault and writes nothing, with 1, 2 and 8 workers.
+/// Whether a play of this input ends with this fault and writes nothing, with 1, 2 and 8 workers, over lanes and over words.
 fn is_refused<R: Threads + Wait + Copy + Send + 'static>(
     rt: R,
     alloc: Global,
     input: &[u8],
     fault: PlayFault,
 ) -> Result<bool, Fail> {
-    let one = played(rt, alloc, input, 1)?;
-    let two = played(rt, alloc, input, 2)?;
-    let eight = played(rt, alloc, input, 8)?;
+    let over_lanes = is_refused_over(Ports::Lanes, rt, alloc, input, fault)?;
+    let over_words = is_refused_over(Ports::Words, rt, alloc, input, fault)?;
+    Ok(over_lanes && over_words)
+}
+
+/// Whether a play of this input over these ports ends with this fault and writes nothing, with 1, 2 and 8 workers.
+fn is_refused_over<R: Threads + Wait + Copy + Send + 'static>(
+    ports: Ports,
+    rt: R,
+    alloc: Global,
+    input: &[u8],
+    fault: PlayFault,
+) -> Result<bool, Fail> {
+    let one = played(ports, rt, alloc, input, 1)?;
+    let two = played(ports, rt, alloc, input, 2)?;
+    let eight = played(ports, rt, alloc, input, 8)?;
     Ok(is_fault(&one, fault) && is_fault(&two, fault) && is_fault(&eight, fault))
 }
 
@@ -145,20 +173,33 @@ impl Write for ShortWriter {
     }
 }
 
+/// Whether a play over these ports gives a write fault, if its writer takes so many bytes, which are the beginning of this.
+fn fails_to_write<R: Threads + Wait + Copy + Send + 'static>(
+    ports: Ports,
+    rt: R,
+    alloc: Global,
+    left: usize,
+    wanted: &[u8],
+) -> Result<bool, Fail> {
+    let setup = Setup::new(4, Some(4), 2, 0)?;
+    let mut rest = b"nop 1 -\n".as_slice();
+    let mut writer = ShortWriter {
+        written: Vec::new(alloc),
+        left,
+    };
+    let end = play_over(ports, rt, alloc, &mut rest, &mut writer, &setup, 2);
+    let beginning = wanted.get(..left).unwrap_or_default();
+    Ok(end == Err(PlayFault::Write) && writer.written.as_slice() == beginning)
+}
+
 #[test]
 fn a_failing_write_leaves_the_beginning(rt: HostRuntime) -> Result<(), Fail> {
-    let alloc = rt.alloc();
-    let setup = Setup::new(4, Some(4), 2, 0)?;
-    let wanted = b"cqe 1 0 -\ntaken 1 dropped 0\n";
-    for left in 0..28usize {
-        let mut rest = b"nop 1 -\n".as_slice();
-        let mut writer = ShortWriter {
-            written: Vec::new(alloc),
-            left,
-        };
-        let end = play(rt, alloc, &mut rest, &mut writer, &setup, 2);
-        assert!(rt; end == Err(PlayFault::Write));
-        assert!(rt; writer.written.as_slice() == &wanted[..left]);
+    let wanted = b"cqe 1 0 -\ntaken 1 dropped 0\n".as_slice();
+    for ports in BOTH {
+        for left in 0..28usize {
+            let fails = fails_to_write(ports, rt, rt.alloc(), left, wanted)?;
+            assert!(rt; fails, "{ports:?}, behind {left} bytes");
+        }
     }
     Ok(())
 }

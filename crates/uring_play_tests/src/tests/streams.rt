@@ -1,5 +1,6 @@
 //! Plays over streams that fail, that give and take one byte at a time, or that are interrupted, and over lines of a million letters.
 
+use super::ports::{BOTH, Ports, play_over};
 use std::alloc::Global;
 use std::cmp::min;
 use std::io;
@@ -7,7 +8,7 @@ use std::io::{ErrorKind, Read, Write};
 use std::sync::Wait;
 use std::test::Fail;
 use std::thread::Threads;
-use uring_play::{PlayFault, Setup, play};
+use uring_play::{PlayFault, Setup};
 
 /// A play of a hard chain of a write and a read, and a no-op.
 const INPUT: &str = "write 1 H 0 0 68656c6c6f\nread 2 - 0 0 5\nnop 3 -\n\n";
@@ -42,6 +43,7 @@ impl Read for FailingReader<'_> {
 
 /// Whether a play of so many letters and then of this input gives a read fault, if its reader fails behind them, and writes nothing.
 fn fails_to_read<R: Threads + Wait + Copy + Send + 'static>(
+    ports: Ports,
     rt: R,
     alloc: Global,
     letters: usize,
@@ -53,33 +55,37 @@ fn fails_to_read<R: Threads + Wait + Copy + Send + 'static>(
         rest: input,
     };
     let mut output = Vec::new(alloc);
-    let end = play(rt, alloc, &mut reader, &mut output, &setup, 2);
+    let end = play_over(ports, rt, alloc, &mut reader, &mut output, &setup, 2);
     Ok(end == Err(PlayFault::Read) && output.is_empty())
 }
 
 #[test]
 fn a_failing_read_is_a_read_fault(rt: HostRuntime) -> Result<(), Fail> {
     let input = INPUT.as_bytes();
-    for count in 0..=input.len() {
-        let fails = fails_to_read(rt, rt.alloc(), 0, &input[..count])?;
-        assert!(rt; fails, "after {count} bytes");
+    for ports in BOTH {
+        for count in 0..=input.len() {
+            let fails = fails_to_read(ports, rt, rt.alloc(), 0, &input[..count])?;
+            assert!(rt; fails, "{ports:?}, after {count} bytes");
+        }
     }
     Ok(())
 }
 
 #[test]
 fn a_failing_read_comes_before_each_fault_of_a_line(rt: HostRuntime) -> Result<(), Fail> {
-    for input in [
-        "nop 1\n",
-        "nop 1 -\nbad 3\nnop 2 -\n",
-        "nop 1 -\nnop 1 -\nnop 1 -\nnop 1 -\nnop 1 -\n",
-        "\n\n\x00",
-    ] {
-        let fails = fails_to_read(rt, rt.alloc(), 0, input.as_bytes())?;
-        assert!(rt; fails, "behind {input}");
+    for ports in BOTH {
+        for (letters, input) in [
+            (0, "nop 1\n"),
+            (0, "nop 1 -\nbad 3\nnop 2 -\n"),
+            (0, "nop 1 -\nnop 1 -\nnop 1 -\nnop 1 -\nnop 1 -\n"),
+            (0, "\n\n\x00"),
+            (1_000_000, ""),
+            (1_000_000, "\nnop 1 -\n"),
+        ] {
+            let fails = fails_to_read(ports, rt, rt.alloc(), letters, input.as_bytes())?;
+            assert!(rt; fails, "{ports:?}, behind {letters} letters and {input}");
+        }
     }
-    assert!(rt; fails_to_read(rt, rt.alloc(), 1_000_000, b"")?);
-    assert!(rt; fails_to_read(rt, rt.alloc(), 1_000_000, b"\nnop 1 -\n")?);
     Ok(())
 }
 
@@ -109,6 +115,7 @@ impl Write for FullWriter {
 
 /// Whether a writer with room for so many bytes gives a write fault, and holds the beginning of what is to be written.
 fn fails_to_write<R: Threads + Wait + Copy + Send + 'static>(
+    ports: Ports,
     rt: R,
     alloc: Global,
     room: usize,
@@ -120,18 +127,28 @@ fn fails_to_write<R: Threads + Wait + Copy + Send + 'static>(
         room,
         takes_none,
     };
-    let end = play(rt, alloc, &mut INPUT.as_bytes(), &mut writer, &setup, 2);
+    let end = play_over(
+        ports,
+        rt,
+        alloc,
+        &mut INPUT.as_bytes(),
+        &mut writer,
+        &setup,
+        2,
+    );
     let wanted = OUTPUT.as_bytes().get(..room).unwrap_or_default();
     Ok(end == Err(PlayFault::Write) && writer.held.as_slice() == wanted)
 }
 
 #[test]
 fn a_failing_write_is_a_write_fault(rt: HostRuntime) -> Result<(), Fail> {
-    for room in 0..OUTPUT.len() {
-        let fails = fails_to_write(rt, rt.alloc(), room, false)?;
-        assert!(rt; fails, "room for {room} bytes");
-        let fails = fails_to_write(rt, rt.alloc(), room, true)?;
-        assert!(rt; fails, "room for {room} bytes");
+    for ports in BOTH {
+        for room in 0..OUTPUT.len() {
+            let fails = fails_to_write(ports, rt, rt.alloc(), room, false)?;
+            assert!(rt; fails, "{ports:?}, room for {room} bytes");
+            let fails = fails_to_write(ports, rt, rt.alloc(), room, true)?;
+            assert!(rt; fails, "{ports:?}, room for {room} bytes");
+        }
     }
     Ok(())
 }
@@ -185,6 +202,7 @@ impl Write for SlowWriter {
 
 /// Whether a play over slow streams, each interrupted at this call, writes all that is to be written.
 fn goes_on<R: Threads + Wait + Copy + Send + 'static>(
+    ports: Ports,
     rt: R,
     alloc: Global,
     interrupted_at: u64,
@@ -200,20 +218,26 @@ fn goes_on<R: Threads + Wait + Copy + Send + 'static>(
         calls: 0,
         interrupted_at,
     };
-    let end = play(rt, alloc, &mut reader, &mut writer, &setup, 2);
+    let end = play_over(ports, rt, alloc, &mut reader, &mut writer, &setup, 2);
     Ok(end == Ok(()) && writer.held.as_slice() == OUTPUT.as_bytes())
 }
 
 #[test]
 fn slow_and_interrupted_streams_are_no_faults(rt: HostRuntime) -> Result<(), Fail> {
-    for call in 0..60 {
-        assert!(rt; goes_on(rt, rt.alloc(), call)?, "at call {call}");
+    for ports in BOTH {
+        for call in 0..60 {
+            assert!(rt;
+                goes_on(ports, rt, rt.alloc(), call)?,
+                "{ports:?}, at call {call}"
+            );
+        }
     }
     Ok(())
 }
 
 /// The fault of a play of a line of so many letters, and of this behind it, and how much it writes.
 fn fault_of_letters<R: Threads + Wait + Copy + Send + 'static>(
+    ports: Ports,
     rt: R,
     alloc: Global,
     before: &[u8],
@@ -226,21 +250,32 @@ fn fault_of_letters<R: Threads + Wait + Copy + Send + 'static>(
     input.extend_from_slice(vec![in alloc; b'x'; letters]?.as_slice())?;
     input.extend_from_slice(behind)?;
     let mut output = Vec::new(alloc);
-    let end = play(rt, alloc, &mut input.as_slice(), &mut output, &setup, 2);
+    let end = play_over(
+        ports,
+        rt,
+        alloc,
+        &mut input.as_slice(),
+        &mut output,
+        &setup,
+        2,
+    );
     Ok((end.err(), output.len()))
 }
 
 #[test]
 fn a_line_of_a_million_letters_is_bad(rt: HostRuntime) -> Result<(), Fail> {
     let alloc = rt.alloc();
-    for (before, behind, line) in [
-        ("", "", 1),
-        ("", "\n", 1),
-        ("nop 1 -\n\n", "\nnop\n", 3),
-        ("nop 1 -\n\n", " nop 1 -", 3),
-    ] {
-        let fault = fault_of_letters(rt, alloc, before.as_bytes(), 1_000_000, behind.as_bytes())?;
-        assert_eq!(rt; fault, (Some(PlayFault::Line(line)), 0));
+    for ports in BOTH {
+        for (before, behind, line) in [
+            ("", "", 1),
+            ("", "\n", 1),
+            ("nop 1 -\n\n", "\nnop\n", 3),
+            ("nop 1 -\n\n", " nop 1 -", 3),
+        ] {
+            let (before, behind) = (before.as_bytes(), behind.as_bytes());
+            let fault = fault_of_letters(ports, rt, alloc, before, 1_000_000, behind)?;
+            assert_eq!(rt; fault, (Some(PlayFault::Line(line)), 0));
+        }
     }
     Ok(())
 }

@@ -7,11 +7,11 @@ use Rattle.uring_play.proofs.PlayedThrough.{over_is_play}
 use Rattle.uring_play.proofs.drive.settle_all.Goals as goal
 
 pub returns-clause-setup : goal.returns-clause-setup
-returns-clause-setup c =
+returns-clause-setup g c =
     IfOk-weaker c.whole_play.result _ _ (λ played whole. ap (λ (r : Report). r.setup) whole.report_is ∙ c.in-Ok.ensures.setup) c.whole_play.ensures
 
 pub returns-clause-play : goal.returns-clause-play
-returns-clause-play c = λ calls submitted.
+returns-clause-play g c = λ calls submitted.
     let told = c.in-Ok.ensures in
     let ended = c.args.ended in
     IfOk-weaker c.whole_play.result _ _

@@ -1,0 +1,14 @@
+use Rattle.std.proofs.Common.{◌≡◌, ◌∙◌, ap, rules}
+use Rattle.std.proofs.lemmas.Result.{IfOk-weaker}
+use Rattle.std.specs.Prelude.{codes}
+use Rattle.clap.specs.Simple.{App, app_of, new_app, with_subcommand}
+use Rattle.uring_options.specs.CommandLine.{trace_app, explain_app, check_app, play_app}
+use Rattle.uring_options.proofs.commands.uring_command.Goals as goal
+
+pub returns : goal.returns
+returns c =
+    let start : app_of c.long_about-command.result ≡ new_app (codes "uring") = search rules in
+    let trace = c.in_ok-command.ensures trace_app c.trace_command.ensures.app ∙ ap (λ (a : App). with_subcommand a trace_app.top) start in
+    let explain = c.in_ok-command-2.ensures explain_app c.explain_command.ensures.app ∙ ap (λ (a : App). with_subcommand a explain_app.top) trace in
+    let check = c.in_ok-command-3.ensures check_app c.check_command.ensures.app ∙ ap (λ (a : App). with_subcommand a check_app.top) explain in
+    IfOk-weaker c.with_command-4.result _ _ (λ more h. h play_app c.play_command.ensures.app ∙ ap (λ (a : App). with_subcommand a play_app.top) check) c.with_command-4.ensures
