@@ -7,7 +7,7 @@ use crate::setup::Setup;
 use std::io::{self, Write};
 use std::time::{Duration, Instant};
 
-const SIZES: [u32; 4] = [1, 8, 64, 4096];
+const SIZES: [u32; 6] = [1, 8, 32, 64, 128, 4096];
 const ACCEPTED: [u32; 5] = [1024, 4096, 16_384, 65_536, 1_000_000];
 const OUTSTANDING: [u32; 3] = [16, 256, 4096];
 const WAITING: [u32; 2] = [16, 4096];
