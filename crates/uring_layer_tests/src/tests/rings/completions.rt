@@ -71,47 +71,58 @@ fn first_wrong(ring: &mut Cq, events: &[Event]) -> Option<usize> {
     None
 }
 
+/// The same, on a new ring of this size that begins at this word.
+fn first_wrong_from(
+    alloc: Global,
+    size: u32,
+    start: u32,
+    events: &[Event],
+) -> Result<Option<usize>, Fail> {
+    let mut ring = ring_of(alloc, size, start)?;
+    Ok(first_wrong(&mut ring, events))
+}
+
+static TWO_ACROSS_THE_WRAP: [Event; 8] = [
+    Post(1),
+    LoadTail(0),
+    Post(2),
+    LoadTail(1),
+    Reap(Some(1)),
+    Reap(Some(2)),
+    Reap(None),
+    StoreHead(1),
+];
+
 #[test]
 fn two_completions_across_the_wrap(rt: HostRuntime) -> Result<(), Fail> {
-    let mut ring = ring_of(rt.alloc(), 2, u32::MAX)?;
-    let events = [
-        Post(1),
-        LoadTail(0),
-        Post(2),
-        LoadTail(1),
-        Reap(Some(1)),
-        Reap(Some(2)),
-        Reap(None),
-        StoreHead(1),
-    ];
-    let wrong = first_wrong(&mut ring, &events);
+    let wrong = first_wrong_from(rt.alloc(), 2, u32::MAX, &TWO_ACROSS_THE_WRAP)?;
     assert_eq!(rt; wrong, None);
     Ok(())
 }
 
+static POST_BEHIND_OTHERS: [Event; 17] = [
+    Post(1),
+    Post(2),
+    Post(3),
+    LoadTail(2),
+    Reap(Some(1)),
+    StoreHead(1),
+    Post(4),
+    LoadTail(2),
+    Rest(&[2, 3, 4]),
+    Flush(1),
+    Post(5),
+    Rest(&[2, 3, 4, 5]),
+    Reap(Some(2)),
+    Reap(None),
+    LoadTail(3),
+    Reap(Some(3)),
+    Counts(5, 3),
+];
+
 #[test]
 fn a_post_stays_behind_those_that_wait(rt: HostRuntime) -> Result<(), Fail> {
-    let mut ring = ring_of(rt.alloc(), 2, 0)?;
-    let events = [
-        Post(1),
-        Post(2),
-        Post(3),
-        LoadTail(2),
-        Reap(Some(1)),
-        StoreHead(1),
-        Post(4),
-        LoadTail(2),
-        Rest(&[2, 3, 4]),
-        Flush(1),
-        Post(5),
-        Rest(&[2, 3, 4, 5]),
-        Reap(Some(2)),
-        Reap(None),
-        LoadTail(3),
-        Reap(Some(3)),
-        Counts(5, 3),
-    ];
-    let wrong = first_wrong(&mut ring, &events);
+    let wrong = first_wrong_from(rt.alloc(), 2, 0, &POST_BEHIND_OTHERS)?;
     assert_eq!(rt; wrong, None);
     Ok(())
 }
@@ -157,13 +168,18 @@ fn rounds(ring: &mut Cq, start: u32) -> [Option<usize>; 3] {
     wrong
 }
 
+/// Whether three rounds go as wanted on a new ring of four that begins at this word.
+fn are_rounds_right(alloc: Global, start: u32) -> Result<bool, Fail> {
+    let mut ring = ring_of(alloc, 4, start)?;
+    Ok(rounds(&mut ring, start) == [None, None, None])
+}
+
 #[test]
 fn rounds_across_every_wrap(rt: HostRuntime) -> Result<(), Fail> {
-    for start in [0, u32::MAX, u32::MAX - 1] {
-        let mut ring = ring_of(rt.alloc(), 4, start)?;
-        let wrong = rounds(&mut ring, start);
-        assert_eq!(rt; wrong, [None, None, None], "from {start}");
-    }
+    let from_zero = are_rounds_right(rt.alloc(), 0)?;
+    let from_last = are_rounds_right(rt.alloc(), u32::MAX)?;
+    let from_last_but_one = are_rounds_right(rt.alloc(), u32::MAX - 1)?;
+    assert_eq!(rt; [from_zero, from_last, from_last_but_one], [true; 3]);
     Ok(())
 }
 
@@ -179,11 +195,16 @@ fn is_refused(ring: &mut Cq) -> Result<bool, AllocError> {
     Ok(true)
 }
 
+/// Whether the promise is refused on a new ring of one, and all three posts are there.
+fn refused_promise(alloc: Global) -> Result<[bool; 2], Fail> {
+    let mut ring = ring_of(alloc, 1, 0)?;
+    let is_refused = is_refused(&mut ring)?;
+    Ok([is_refused, is_rest(&ring, &[1, 2, 3])])
+}
+
 #[test]
 fn a_refused_promise_leaves_the_last(rt: HostRuntime) -> Result<(), Fail> {
-    let mut ring = ring_of(rt.alloc(), 1, 0)?;
-    let is_refused = is_refused(&mut ring)?;
-    let has_all = is_rest(&ring, &[1, 2, 3]);
-    assert!(rt; is_refused && has_all);
+    let right = refused_promise(rt.alloc())?;
+    assert_eq!(rt; right, [true; 2]);
     Ok(())
 }
