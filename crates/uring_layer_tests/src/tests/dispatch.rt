@@ -2,13 +2,14 @@
 
 ghost use Rattle.std.specs.Prelude.{◌≤◌, IsTrue};
 
+use super::{check, check_done, first_false};
 use std::alloc::Global;
 use std::test::Fail;
 use uring_dispatch::{Dispatch, Finished, Issued, ReserveError};
 use uring_entry::{Op, Outcome, Sqe};
 
 /// What is told of the dispatcher's only request.
-#[derive(Drop)]
+#[derive(Clone, Copy)]
 struct Told {
     counts: [u64; 3],
     entry: Option<Sqe>,
@@ -34,7 +35,7 @@ fn all_told(dispatch: &Dispatch) -> Told
 }
 
 /// What is told of a request once it is accepted, started and finished, and what the calls answered.
-#[derive(Drop)]
+#[derive(Clone, Copy)]
 struct EachCall {
     accepted: Told,
     started: Told,
@@ -143,19 +144,24 @@ impl EachCall {
     }
 }
 
-/// The same of a new dispatcher.
-fn each_call_of_new(alloc: Global) -> Result<[bool; 5], ReserveError> {
-    let mut dispatch = Dispatch::new(alloc);
+/// What is first wrong of a call of one entry and all that comes behind.
+fn first_wrong_of_one(dispatch: &mut Dispatch) -> Result<Option<usize>, Fail>
+    requires { IsTrue dispatch.old.is_between_calls }
+{
     let entry = Sqe::fsync(7, 0, 1);
-    accept_one(&mut dispatch, entry)?;
-    Ok(each_call_of(&mut dispatch).are_right(entry))
+    accept_one(dispatch, entry)?;
+    Ok(first_false(&each_call_of(dispatch).are_right(entry)))
+}
+
+/// The same of a new dispatcher.
+fn each_call_of_new(alloc: Global) -> Result<Option<usize>, Fail> {
+    let mut dispatch = Dispatch::new(alloc);
+    first_wrong_of_one(&mut dispatch)
 }
 
 #[test]
 fn each_call(rt: HostRuntime) -> Result<(), Fail> {
-    let right = each_call_of_new(rt.alloc())?;
-    assert_eq!(rt; right, [true; 5]);
-    Ok(())
+    check_done(&rt, each_call_of_new(rt.alloc()))
 }
 
 /// Whether reserves are answered right of more than all numbers, of all of them, and of none, and whether nothing was accepted.
@@ -181,8 +187,7 @@ fn reserves(alloc: Global) -> [bool; 4] {
 
 #[test]
 fn refused_reserves(rt: HostRuntime) {
-    let right = reserves(rt.alloc());
-    assert_eq!(rt; right, [true; 4]);
+    check(&rt, first_false(&reserves(rt.alloc())));
 }
 
 /// Reserves memory for 5,000 requests at once, and accepts as many in one call.
@@ -199,7 +204,7 @@ fn accept_5_000(dispatch: &mut Dispatch) -> Result<(), ReserveError>
 }
 
 /// Accepts twice as many, and makes room for as many again. Whether they are counted right, and the last is there.
-fn accept_thousands(dispatch: &mut Dispatch) -> Result<[bool; 2], ReserveError>
+fn accept_thousands(dispatch: &mut Dispatch) -> Result<Option<usize>, Fail>
     requires { IsTrue dispatch.old.is_between_calls }
 {
     accept_5_000(dispatch)?;
@@ -211,14 +216,12 @@ fn accept_thousands(dispatch: &mut Dispatch) -> Result<[bool; 2], ReserveError>
         dispatch.running(),
     ];
     let last = dispatch.entry(9_999);
-    Ok([
-        counts == [10_000, 10_000, 0],
-        last == Some(Sqe::nop(4_999, 0)),
-    ])
+    let is_last = last == Some(Sqe::nop(4_999, 0));
+    Ok(first_false(&[counts == [10_000, 10_000, 0], is_last]))
 }
 
 /// The same of a new dispatcher.
-fn thousands(alloc: Global) -> Result<[bool; 2], ReserveError> {
+fn thousands(alloc: Global) -> Result<Option<usize>, Fail> {
     let mut dispatch = Dispatch::new(alloc);
     accept_thousands(&mut dispatch)
 }
@@ -226,7 +229,5 @@ fn thousands(alloc: Global) -> Result<[bool; 2], ReserveError> {
 /// With ample memory room is made for 5,000 requests at once, behind as many that were accepted.
 #[test]
 fn thousands_are_accepted(rt: HostRuntime) -> Result<(), Fail> {
-    let right = thousands(rt.alloc())?;
-    assert_eq!(rt; right, [true; 2]);
-    Ok(())
+    check_done(&rt, thousands(rt.alloc()))
 }

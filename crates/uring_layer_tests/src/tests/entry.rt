@@ -1,5 +1,6 @@
 //! Entries, completions, preparation and set-ups.
 
+use super::{check, first_false};
 use bitflags::Flags;
 use uring_entry::{BadSetup, Cqe, Fault, Op, Setup, Sqe, SqeFlags, prepare, succeeded};
 
@@ -49,8 +50,7 @@ fn first_with_other_words(rows: &[(Sqe, [u64; 9])]) -> Option<usize> {
 
 #[test]
 fn makers_give_these_words(rt: HostRuntime) {
-    let wrong = first_with_other_words(&made());
-    assert_eq!(rt; wrong, None);
+    check(&rt, first_with_other_words(&made()));
 }
 
 /// Whether the fields of these words are right, and the data.
@@ -63,16 +63,16 @@ fn are_fields_right(entry: &Sqe) -> [bool; 3] {
     ]
 }
 
-/// Which of the flags are set.
-fn flags_of(entry: &Sqe) -> [bool; 6] {
+/// Whether the right flags are set and no others.
+fn are_flags_right(entry: &Sqe) -> [bool; 6] {
     let flags = SqeFlags::from_bits_retain(entry.flags());
     [
         flags.contains(SqeFlags::IO_DRAIN),
         flags.contains(SqeFlags::CQE_SKIP_SUCCESS),
-        flags.contains(SqeFlags::IO_LINK),
-        flags.contains(SqeFlags::IO_HARDLINK),
-        flags.contains(SqeFlags::ASYNC),
-        flags.intersects(SqeFlags::REFUSED),
+        !flags.contains(SqeFlags::IO_LINK),
+        !flags.contains(SqeFlags::IO_HARDLINK),
+        !flags.contains(SqeFlags::ASYNC),
+        !flags.intersects(SqeFlags::REFUSED),
     ]
 }
 
@@ -96,10 +96,8 @@ fn fields_are_read_from_the_words(rt: HostRuntime) {
         0,
         0xaa00_0000_0000_0000,
     ]);
-    let right = are_fields_right(&entry);
-    let flags = flags_of(&entry);
-    assert_eq!(rt; right, [true; 3]);
-    assert_eq!(rt; flags, [true, true, false, false, false, false]);
+    check(&rt, first_false(&are_fields_right(&entry)));
+    check(&rt, first_false(&are_flags_right(&entry)));
 }
 
 /// A completion with 64 bytes of data, of which the first and the last aren't zero.
@@ -124,8 +122,7 @@ fn are_completions_right() -> [bool; 3] {
 
 #[test]
 fn a_completion_has_these_words(rt: HostRuntime) {
-    let right = are_completions_right();
-    assert_eq!(rt; right, [true; 3]);
+    check(&rt, first_false(&are_completions_right()));
 }
 
 /// The second word of a completion with this data, and the result that it has.
@@ -145,8 +142,7 @@ fn first_with_another_result() -> Option<usize> {
 
 #[test]
 fn a_completion_is_read_from_its_words(rt: HostRuntime) {
-    let wrong = first_with_another_result();
-    assert_eq!(rt; wrong, None);
+    check(&rt, first_with_another_result());
 }
 
 /// Entries with a result, and whether that is success.
@@ -181,8 +177,7 @@ fn first_wrong_success(rows: &[(Sqe, i32, bool)]) -> Option<usize> {
 
 #[test]
 fn success_is_all_bytes_or_zero(rt: HostRuntime) {
-    let wrong = first_wrong_success(&successes());
-    assert_eq!(rt; wrong, None);
+    check(&rt, first_wrong_success(&successes()));
 }
 
 /// The entry with these words, 0 to 7, and no data.
@@ -272,8 +267,8 @@ fn first_not_refused(rows: &[(Sqe, Fault)]) -> Option<usize> {
 
 #[test]
 fn entries_are_prepared_or_refused(rt: HostRuntime) {
-    let wrong = [first_not_served(&served()), first_not_refused(&refused())];
-    assert_eq!(rt; wrong, [None, None]);
+    check(&rt, first_not_served(&served()));
+    check(&rt, first_not_refused(&refused()));
 }
 
 /// Of the no-ops with all flag bytes, how many are served; none if one is served or refused wrongly.
@@ -342,8 +337,7 @@ fn first_wrong_set_up() -> Option<usize> {
 
 #[test]
 fn sizes_are_rounded_and_limits_kept(rt: HostRuntime) {
-    let wrong = first_wrong_set_up();
-    assert_eq!(rt; wrong, None);
+    check(&rt, first_wrong_set_up());
 }
 
 /// Whether a set-up of one slot is told as it was asked for, also once it is to stop.
@@ -367,5 +361,5 @@ fn a_set_up_keeps_files_and_start(rt: HostRuntime) {
         Ok(set_up) => is_kept(&set_up),
         Err(_) => [false; 3],
     };
-    assert_eq!(rt; right, [true; 3]);
+    check(&rt, first_false(&right));
 }

@@ -1,3 +1,4 @@
+use crate::tests::{check_done, first_false};
 use std::alloc::{AllocError, Global};
 use std::test::Fail;
 use uring_entry::{Cqe, Setup};
@@ -95,9 +96,10 @@ static TWO_ACROSS_THE_WRAP: [Event; 8] = [
 
 #[test]
 fn two_completions_across_the_wrap(rt: HostRuntime) -> Result<(), Fail> {
-    let wrong = first_wrong_from(rt.alloc(), 2, u32::MAX, &TWO_ACROSS_THE_WRAP)?;
-    assert_eq!(rt; wrong, None);
-    Ok(())
+    check_done(
+        &rt,
+        first_wrong_from(rt.alloc(), 2, u32::MAX, &TWO_ACROSS_THE_WRAP),
+    )
 }
 
 static POST_BEHIND_OTHERS: [Event; 17] = [
@@ -122,9 +124,7 @@ static POST_BEHIND_OTHERS: [Event; 17] = [
 
 #[test]
 fn a_post_stays_behind_those_that_wait(rt: HostRuntime) -> Result<(), Fail> {
-    let wrong = first_wrong_from(rt.alloc(), 2, 0, &POST_BEHIND_OTHERS)?;
-    assert_eq!(rt; wrong, None);
-    Ok(())
+    check_done(&rt, first_wrong_from(rt.alloc(), 2, 0, &POST_BEHIND_OTHERS))
 }
 
 /// A round: six are posted to an empty ring of four, of which two wait.
@@ -174,13 +174,17 @@ fn are_rounds_right(alloc: Global, start: u32) -> Result<bool, Fail> {
     Ok(rounds(&mut ring, start) == [None, None, None])
 }
 
+/// The place of the first of three words from which they don't.
+fn first_wrong_rounds(alloc: Global) -> Result<Option<usize>, Fail> {
+    let from_zero = are_rounds_right(alloc, 0)?;
+    let from_last = are_rounds_right(alloc, u32::MAX)?;
+    let from_last_but_one = are_rounds_right(alloc, u32::MAX - 1)?;
+    Ok(first_false(&[from_zero, from_last, from_last_but_one]))
+}
+
 #[test]
 fn rounds_across_every_wrap(rt: HostRuntime) -> Result<(), Fail> {
-    let from_zero = are_rounds_right(rt.alloc(), 0)?;
-    let from_last = are_rounds_right(rt.alloc(), u32::MAX)?;
-    let from_last_but_one = are_rounds_right(rt.alloc(), u32::MAX - 1)?;
-    assert_eq!(rt; [from_zero, from_last, from_last_but_one], [true; 3]);
-    Ok(())
+    check_done(&rt, first_wrong_rounds(rt.alloc()))
 }
 
 /// Three posts are promised, and more than memory holds is asked for behind the first of them. Whether that was refused.
@@ -196,15 +200,13 @@ fn is_refused(ring: &mut Cq) -> Result<bool, AllocError> {
 }
 
 /// Whether the promise is refused on a new ring of one, and all three posts are there.
-fn refused_promise(alloc: Global) -> Result<[bool; 2], Fail> {
+fn refused_promise(alloc: Global) -> Result<Option<usize>, Fail> {
     let mut ring = ring_of(alloc, 1, 0)?;
     let is_refused = is_refused(&mut ring)?;
-    Ok([is_refused, is_rest(&ring, &[1, 2, 3])])
+    Ok(first_false(&[is_refused, is_rest(&ring, &[1, 2, 3])]))
 }
 
 #[test]
 fn a_refused_promise_leaves_the_last(rt: HostRuntime) -> Result<(), Fail> {
-    let right = refused_promise(rt.alloc())?;
-    assert_eq!(rt; right, [true; 2]);
-    Ok(())
+    check_done(&rt, refused_promise(rt.alloc()))
 }

@@ -1,3 +1,4 @@
+use crate::tests::{check_done, first_false};
 use std::alloc::Global;
 use std::test::Fail;
 use uring_entry::{Setup, Sqe};
@@ -50,6 +51,16 @@ fn ring_of_four(alloc: Global, start: u32) -> Result<Sq, Fail> {
     Ok(Sq::new(alloc, &setup)?)
 }
 
+/// Takes a position. Whether it was answered so.
+fn takes(ring: &mut Sq, wanted: TakeAnswer) -> bool {
+    ring.take() == wanted
+}
+
+/// Ends a call. Whether it was answered so.
+fn ends(ring: &mut Sq, wanted: EndAnswer) -> bool {
+    ring.end() == wanted
+}
+
 /// Makes an event happen. Whether it went as wanted.
 fn goes(ring: &mut Sq, event: Event) -> bool {
     match event {
@@ -58,16 +69,16 @@ fn goes(ring: &mut Sq, event: Event) -> bool {
         StoreTail(wanted) => ring.store_tail() == wanted,
         LoadHead(wanted) => ring.load_head() == wanted,
         Begin(n, wanted) => ring.begin(n) == wanted,
-        TakeEntry(user_data) => ring.take() == entry(user_data),
-        TakeDropped => ring.take() == TakeAnswer::Dropped,
-        TakeNoMore => ring.take() == TakeAnswer::NoMore,
-        TakeNoCall => ring.take() == TakeAnswer::NoCall,
+        TakeEntry(user_data) => takes(ring, entry(user_data)),
+        TakeDropped => takes(ring, TakeAnswer::Dropped),
+        TakeNoMore => takes(ring, TakeAnswer::NoMore),
+        TakeNoCall => takes(ring, TakeAnswer::NoCall),
         Stop => {
             ring.stop();
             true
         }
-        End(wanted) => ring.end() == wanted,
-        EndTaken(accepted, dropped, head) => ring.end() == taken(accepted, dropped, head),
+        End(wanted) => ends(ring, wanted),
+        EndTaken(accepted, dropped, head) => ends(ring, taken(accepted, dropped, head)),
         Pending(wanted) => ring.pending() == wanted,
         InCall(wanted) => ring.in_call() == wanted,
     }
@@ -110,9 +121,10 @@ static FULL_ACROSS_THE_WRAP: [Event; 16] = [
 
 #[test]
 fn full_across_the_wrap(rt: HostRuntime) -> Result<(), Fail> {
-    let wrong = first_wrong_from(rt.alloc(), u32::MAX - 1, &FULL_ACROSS_THE_WRAP)?;
-    assert_eq!(rt; wrong, None);
-    Ok(())
+    check_done(
+        &rt,
+        first_wrong_from(rt.alloc(), u32::MAX - 1, &FULL_ACROSS_THE_WRAP),
+    )
 }
 
 static EMPTY_CALLS: [Event; 6] = [
@@ -126,9 +138,7 @@ static EMPTY_CALLS: [Event; 6] = [
 
 #[test]
 fn empty_calls(rt: HostRuntime) -> Result<(), Fail> {
-    let wrong = first_wrong_from(rt.alloc(), 0, &EMPTY_CALLS)?;
-    assert_eq!(rt; wrong, None);
-    Ok(())
+    check_done(&rt, first_wrong_from(rt.alloc(), 0, &EMPTY_CALLS))
 }
 
 static BAD_WORD: [Event; 10] = [
@@ -146,9 +156,7 @@ static BAD_WORD: [Event; 10] = [
 
 #[test]
 fn bad_word_is_dropped(rt: HostRuntime) -> Result<(), Fail> {
-    let wrong = first_wrong_from(rt.alloc(), 0, &BAD_WORD)?;
-    assert_eq!(rt; wrong, None);
-    Ok(())
+    check_done(&rt, first_wrong_from(rt.alloc(), 0, &BAD_WORD))
 }
 
 static STOPPED_CALL: [Event; 21] = [
@@ -177,9 +185,10 @@ static STOPPED_CALL: [Event; 21] = [
 
 #[test]
 fn stopped_call_leaves_the_rest(rt: HostRuntime) -> Result<(), Fail> {
-    let wrong = first_wrong_from(rt.alloc(), u32::MAX - 1, &STOPPED_CALL)?;
-    assert_eq!(rt; wrong, None);
-    Ok(())
+    check_done(
+        &rt,
+        first_wrong_from(rt.alloc(), u32::MAX - 1, &STOPPED_CALL),
+    )
 }
 
 static SLOT_NAMED_TWICE: [Event; 9] = [
@@ -196,9 +205,7 @@ static SLOT_NAMED_TWICE: [Event; 9] = [
 
 #[test]
 fn slot_named_twice(rt: HostRuntime) -> Result<(), Fail> {
-    let wrong = first_wrong_from(rt.alloc(), 0, &SLOT_NAMED_TWICE)?;
-    assert_eq!(rt; wrong, None);
-    Ok(())
+    check_done(&rt, first_wrong_from(rt.alloc(), 0, &SLOT_NAMED_TWICE))
 }
 
 static REFILLED_SLOTS: [Event; 12] = [
@@ -218,9 +225,7 @@ static REFILLED_SLOTS: [Event; 12] = [
 
 #[test]
 fn refilled_slots(rt: HostRuntime) -> Result<(), Fail> {
-    let wrong = first_wrong_from(rt.alloc(), 0, &REFILLED_SLOTS)?;
-    assert_eq!(rt; wrong, None);
-    Ok(())
+    check_done(&rt, first_wrong_from(rt.alloc(), 0, &REFILLED_SLOTS))
 }
 
 /// The user data of the entry that a slot holds in a round.
@@ -286,11 +291,15 @@ fn are_rounds_right(alloc: Global, start: u32) -> Result<bool, Fail> {
     Ok(rounds(&mut ring, start) == [6, 6, 6])
 }
 
+/// The place of the first of three words from which they don't.
+fn first_wrong_rounds(alloc: Global) -> Result<Option<usize>, Fail> {
+    let from_zero = are_rounds_right(alloc, 0)?;
+    let from_last = are_rounds_right(alloc, u32::MAX)?;
+    let from_last_but_one = are_rounds_right(alloc, u32::MAX - 1)?;
+    Ok(first_false(&[from_zero, from_last, from_last_but_one]))
+}
+
 #[test]
 fn rounds_across_every_wrap(rt: HostRuntime) -> Result<(), Fail> {
-    let from_zero = are_rounds_right(rt.alloc(), 0)?;
-    let from_last = are_rounds_right(rt.alloc(), u32::MAX)?;
-    let from_last_but_one = are_rounds_right(rt.alloc(), u32::MAX - 1)?;
-    assert_eq!(rt; [from_zero, from_last, from_last_but_one], [true; 3]);
-    Ok(())
+    check_done(&rt, first_wrong_rounds(rt.alloc()))
 }
