@@ -203,27 +203,44 @@ fn accept_5_000(dispatch: &mut Dispatch) -> Result<(), ReserveError>
     Ok(())
 }
 
-/// Accepts twice as many, and makes room for as many again. Whether they are counted right, and the last is there.
-fn accept_thousands(dispatch: &mut Dispatch) -> Result<Option<usize>, Fail>
+/// Accepts twice as many, and makes room for as many again.
+fn accept_thousands(dispatch: &mut Dispatch) -> Result<(), ReserveError>
     requires { IsTrue dispatch.old.is_between_calls }
+    ensures { IsTrue dispatch.new.is_between_calls }
 {
     accept_5_000(dispatch)?;
     accept_5_000(dispatch)?;
-    dispatch.reserve(5_000)?;
+    dispatch.reserve(5_000)
+}
+
+/// Whether all are counted, and the last is there.
+fn are_thousands_there(dispatch: &Dispatch) -> [bool; 2]
+    requires { IsTrue dispatch.now.is_between_calls }
+{
     let counts = [
         dispatch.accepted(),
         dispatch.outstanding(),
         dispatch.running(),
     ];
     let last = dispatch.entry(9_999);
-    let is_last = last == Some(Sqe::nop(4_999, 0));
-    Ok(first_false(&[counts == [10_000, 10_000, 0], is_last]))
+    [
+        counts == [10_000, 10_000, 0],
+        last == Some(Sqe::nop(4_999, 0)),
+    ]
+}
+
+/// What is first wrong of thousands that are accepted.
+fn first_wrong_of_thousands(dispatch: &mut Dispatch) -> Result<Option<usize>, Fail>
+    requires { IsTrue dispatch.old.is_between_calls }
+{
+    accept_thousands(dispatch)?;
+    Ok(first_false(&are_thousands_there(dispatch)))
 }
 
 /// The same of a new dispatcher.
 fn thousands(alloc: Global) -> Result<Option<usize>, Fail> {
     let mut dispatch = Dispatch::new(alloc);
-    accept_thousands(&mut dispatch)
+    first_wrong_of_thousands(&mut dispatch)
 }
 
 /// With ample memory room is made for 5,000 requests at once, behind as many that were accepted.

@@ -36,11 +36,16 @@ fn made() -> [(Sqe, [u64; 9]); 8] {
     ]
 }
 
+/// All words of an entry that begins with these.
+fn words_from(first: [u64; 9]) -> [u64; 16] {
+    let [a, b, c, d, e, f, g, h, i] = first;
+    [a, b, c, d, e, f, g, h, i, 0, 0, 0, 0, 0, 0, 0]
+}
+
 /// The place of the first entry that has other words, or isn't read from them.
 fn first_with_other_words(rows: &[(Sqe, [u64; 9])]) -> Option<usize> {
     for (place, (entry, first)) in rows.iter().enumerate() {
-        let [a, b, c, d, e, f, g, h, i] = *first;
-        let words = [a, b, c, d, e, f, g, h, i, 0, 0, 0, 0, 0, 0, 0];
+        let words = words_from(*first);
         if entry.words() != words || Sqe::from_words(words) != *entry {
             return Some(place);
         }
@@ -183,7 +188,7 @@ fn success_is_all_bytes_or_zero(rt: HostRuntime) {
 /// The entry with these words, 0 to 7, and no data.
 fn entry(words: [u64; 8]) -> Sqe {
     let [a, b, c, d, e, f, g, h] = words;
-    Sqe::from_words([a, b, c, d, e, f, g, h, 0, 0, 0, 0, 0, 0, 0, 0])
+    Sqe::from_words(words_from([a, b, c, d, e, f, g, h, 0]))
 }
 
 /// A cancel of these user data.

@@ -329,6 +329,11 @@ impl Grown {
         self.is((2, -12), stands, [Some(97), Some(98), None, None])
     }
 
+    /// Whether both wrote, or one of them where memory was refused to the other.
+    fn is_right(&self) -> bool {
+        self.is_whole() || self.lacks_the_first() || self.lacks_the_second()
+    }
+
     /// Whether both wrote.
     fn is_whole(&self) -> bool {
         let stands = [standing(2, 1, 0), standing(5_002, 2, 0)];
@@ -339,9 +344,7 @@ impl Grown {
 /// Whether a new file grew by both writes, or by one of them where memory was refused to the other.
 fn grows_or_stays(alloc: Global) -> Result<Option<usize>, Fail> {
     let mut files = Files::new(alloc, 1)?;
-    let went = grow_twice(&mut files);
-    let is_right = went.is_whole() || went.lacks_the_first() || went.lacks_the_second();
-    Ok(first_false(&[is_right]))
+    Ok(first_false(&[grow_twice(&mut files).is_right()]))
 }
 
 /// With ample memory the writes grow the file. Run with one allocation refused, one of them ends with -12 and leaves the file as before.

@@ -199,11 +199,16 @@ fn is_refused(ring: &mut Cq) -> Result<bool, AllocError> {
     Ok(true)
 }
 
-/// Whether the promise is refused on a new ring of one, and all three posts are there.
+/// Whether the promise is refused, and all three posts are there.
+fn are_all_posted(ring: &mut Cq) -> Result<Option<usize>, Fail> {
+    let is_refused = is_refused(ring)?;
+    Ok(first_false(&[is_refused, is_rest(ring, &[1, 2, 3])]))
+}
+
+/// The same of a new ring of one.
 fn refused_promise(alloc: Global) -> Result<Option<usize>, Fail> {
     let mut ring = ring_of(alloc, 1, 0)?;
-    let is_refused = is_refused(&mut ring)?;
-    Ok(first_false(&[is_refused, is_rest(&ring, &[1, 2, 3])]))
+    are_all_posted(&mut ring)
 }
 
 #[test]
