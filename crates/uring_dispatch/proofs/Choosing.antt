@@ -143,6 +143,10 @@ runs-held w g r m h = go (at w m) refl
     go None e = running-none w g r m h e
     go (Some q) e = running-some w g r m q h e
 
+-- what a cancel ends with that chose m, by whether m is running
+pub result-some : (r : Requests) (m : ℕ) (o : Option ℕ) (b : Bool) → Some m ≡ o → is_running r m ≡ b → (if b then negsuc 113 else pos 0) ≡ result_for r o
+result-some r m o b e runs = ap (λ x. if x then negsuc 113 else pos 0) (sym runs) ∙ ap (result_for r) e
+
 or-false : (b : Bool) → (b || false) ≡ b
 or-false true = refl
 or-false false = refl

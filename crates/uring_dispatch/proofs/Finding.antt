@@ -1,12 +1,10 @@
 -- What a cancel of one request finds, from what is held.
 use Rattle.std.proofs.Common.{◌≡◌, ℕ, Bool, true, false, not, ◌&&◌, Option, Some, None, refl, sym, ◌∙◌, ap}
 use Rattle.std.specs.Prelude.{if◌then◌else◌}
-use Rattle.uring_entry.specs.Layout.{Sqe}
 use Rattle.uring_entry.specs.declared.operation.Op.{Op}
 use Rattle.uring_entry.specs.declared.operation.Op.TheVariants.{Nop, Read, Write, Fsync, Cancel}
 use Rattle.uring_entry.specs.Preparation.{is_faulty, operation_of}
-use Rattle.uring_entry.specs.Requests.{Requests, entry_of, is_outstanding, is_running, target_of}
-use Rattle.uring_dispatch.specs.declared.answers.Found.{Found}
+use Rattle.uring_entry.specs.Requests.{Requests, entry_of, is_running, target_of}
 use Rattle.uring_dispatch.specs.declared.answers.Found.TheVariants.{Nobody, Running, Chosen}
 use Rattle.uring_dispatch.specs.declared.request.Request.{Request}
 use Rattle.uring_dispatch.specs.Window.{Window, at}

@@ -91,25 +91,28 @@ not-least w g r n request q s h e is ne =
     in
     ready-not_member r q.from q.end n q.least i.shown.group i.to kept.from low (least-open w g r request.group q s h is)
 
--- A group that drains from a number before this group on has an outstanding member before it.
-pub behind-barrier : (w : Window) (g : Groups) (r : Requests) (n : ℕ) (request : Request) (q : Group) → IsSound w g → AreHeld w g r → at w n ≡ Some request → group_at g request.group ≡ Some q → HasBarrierBefore g q.from → is_ready r n ≡ false
-behind-barrier w g r n request q s h e is b =
+-- A request waits if a kept group, this one, drains from a number before its group on.
+behind-group : (w : Window) (g : Groups) (r : Requests) (n : ℕ) (request : Request) (q : Group) (key number : ℕ) (p : Group) → IsSound w g → AreHeld w g r → at w n ≡ Some request → group_at g request.group ≡ Some q → group_at g key ≡ Some p → p.drain ≡ Some number → number < q.from → is_ready r n ≡ false
+behind-group w g r n request q key number p s h e is found drains before =
     let i = in-group w g r n request q s h e is in
-    let other = drain-group (group_at g b.key) b.number b.drains in
-    let p : Group = other.0 in
-    let kept = s.kept b.key p other.1 in
-    let shown = h.groups b.key p other.1 in
-    let member = first_member-inside _ p.from p.end b.number (sym shown.drain ∙ other.2) in
-    let before = b.before in
+    let kept = s.kept key p found in
+    let shown = h.groups key p found in
+    let member = first_member-inside _ p.from p.end number (sym shown.drain ∙ drains) in
     let low : p.least < q.from =
     elim (cases_lt p.least q.from) [
       | inl lt ↦ lt
-      | inr le ↦ absurd (groups-apart r p.from p.end q.from q.end b.number shown.group i.shown.group member.0 member.1 before (omega (arith, kept.to)))
+      | inr le ↦ absurd (groups-apart r p.from p.end q.from q.end number shown.group i.shown.group member.0 member.1 before (omega (arith, kept.to)))
     ]
     in
     let from = i.from in
-    ready-not_behind r n p.least (omega arith) (least-open w g r b.key p s h other.1)
-    (draining-is r p.from p.end p.least shown.group kept.from kept.to ∙ ap is_some (sym shown.drain ∙ other.2))
+    ready-not_behind r n p.least (omega arith) (least-open w g r key p s h found)
+    (draining-is r p.from p.end p.least shown.group kept.from kept.to ∙ ap is_some (sym shown.drain ∙ drains))
+
+-- A group that drains from a number before this group on has an outstanding member before it.
+pub behind-barrier : (w : Window) (g : Groups) (r : Requests) (n : ℕ) (request : Request) (q : Group) → IsSound w g → AreHeld w g r → at w n ≡ Some request → group_at g request.group ≡ Some q → HasBarrierBefore g q.from → is_ready r n ≡ false
+behind-barrier w g r n request q s h e is b =
+    let other = drain-group (group_at g b.key) b.number b.drains in
+    behind-group w g r n request q b.key b.number other.0 s h e is other.1 other.2 b.before
   where
     drain-group : (o : Option Group) (d : ℕ) → drain_of o ≡ Some d → (p : Group) × (o ≡ Some p) × (p.drain ≡ Some d)
     drain-group None d e = let f : None ≡ Some d = e in cc

@@ -1,17 +1,18 @@
 -- Why an outstanding request stands as it does, from what is held.
-use Rattle.std.proofs.Common.{◌≡◌, ◌≢◌, ℕ, ◌<◌, ◌≤◌, Bool, true, false, not, ◌&&◌, ◌||◌, Option, Some, None, is_some, refl, sym, ◌∙◌, ap, subst, arith, inl, inr}
+use Rattle.std.proofs.Common.{◌≡◌, ◌≢◌, ℕ, ◌<◌, ◌≤◌, length, Bool, true, false, not, ◌&&◌, ◌||◌, Option, Some, None, is_some, refl, sym, ◌∙◌, ap, subst, arith, inl, inr}
 use Rattle.std.specs.Prelude.{if◌then◌else◌}
-use Rattle.std.proofs.lemmas.Bool.{cases_lt, lt-leb, le-leb}
-use Rattle.uring_entry.specs.Requests.{Requests, entry_of, has_ended, is_joined, is_draining, holds_back}
+use Rattle.std.proofs.lemmas.Bool.{cases_lt, lt-leb, le-leb, lt-ltb}
+use Rattle.uring_entry.specs.Requests.{Requests, entry_of, has_ended, is_running, is_doomed, is_joined, is_draining, holds_back}
 use Rattle.uring_entry.specs.Groups.{is_before}
-use Rattle.uring_entry.specs.Why.{first_doom, faulty_member_of, failed_member_of, doom_of, since_of, holder_of, waiting_for}
+use Rattle.uring_entry.specs.Why.{first_doom, faulty_member_of, failed_member_of, doom_of, since_of, holder_of, waiting_for, why_of}
 use Rattle.uring_entry.specs.Preparation.{fault_of}
 use Rattle.uring_entry.specs.declared.fault.Fault.{Fault}
 use Rattle.uring_entry.specs.declared.why.Doom.TheVariants.{OwnFault, FaultOf, FailureOf, Cancel}
 use Rattle.uring_entry.specs.declared.why.Since.{Since}
 use Rattle.uring_entry.specs.declared.why.Since.TheVariants.{SameGroup, ItDrains, OwnDrains}
 use Rattle.uring_entry.proofs.GroupLemmas.{joined-member}
-use Rattle.uring_entry.specs.declared.why.Why.TheVariants.{Waits, MayStart}
+use Rattle.uring_entry.specs.declared.why.Why.{Why}
+use Rattle.uring_entry.specs.declared.why.Why.TheVariants.{NeverAccepted, HasEnded, Runs, IsDoomed, Waits, MayStart}
 use Rattle.uring_entry.proofs.BelowLemmas.{least_below-none, least_below-some}
 use Rattle.uring_entry.proofs.WhyLemmas.{StillWaits, faulty_member-is, failed_member-before, failed_member-none}
 use Rattle.uring_dispatch.specs.declared.request.Request.{Request}
@@ -134,3 +135,15 @@ waits-for r n m since low e before =
 
 pub waits-for_none : (r : Requests) (n : ℕ) → ((k : ℕ) → k < n → holds_back r n k ≡ false) → MayStart ≡ waiting_for r n (holder_of r n)
 waits-for_none r n none = sym (ap (waiting_for r n) (least_below-none (holds_back r n) n none))
+
+-- What has ended.
+
+-- how n stands if it hasn't ended
+abbrev unended : Requests → ℕ → Why
+unended r n = if is_running r n then Runs else if is_doomed r n then IsDoomed (doom_of r n) else waiting_for r n (holder_of r n)
+
+pub why-ended : (r : Requests) (n : ℕ) → n < length r.accepted → has_ended r n ≡ true → HasEnded ≡ why_of r n
+why-ended r n lt ended =
+    sym
+    (ap (λ b. if not b then NeverAccepted else if has_ended r n then HasEnded else unended r n) (lt-ltb n (length r.accepted) lt)
+    ∙ ap (λ b. if b then HasEnded else unended r n) ended)

@@ -17,7 +17,9 @@ pub(crate) fn next(window: &Window, groups: &Groups, waiting: &Waiting) -> Optio
     requires listed { IsListed window.now groups.now waiting.now }
     ensures { (r : Requests) → AreHeld window.now groups.now r → result ≡ next_of r }
 {
-    lesser_of(waiting.doomed.least(), ready_head(window, groups, waiting))
+    let doomed = waiting.doomed.least();
+    let ready = ready_head(window, groups, waiting);
+    lesser_of(doomed, ready)
 }
 
 /// The first request that waits at the head of its group, if it is ready.

@@ -2,3 +2,27 @@ mod dispatch;
 mod entry;
 mod files;
 mod rings;
+
+use std::process::Abort;
+use std::test::Fail;
+
+/// Asserts that nothing went wrong: what did goes by its place.
+fn check(rt: &impl Abort, wrong: Option<usize>) {
+    assert_eq!(rt; wrong, None);
+}
+
+/// The same, where what was done could be refused memory.
+fn check_done(rt: &impl Abort, wrong: Result<Option<usize>, Fail>) -> Result<(), Fail> {
+    check(rt, wrong?);
+    Ok(())
+}
+
+/// The place of the first that doesn't hold.
+fn first_false(holds: &[bool]) -> Option<usize> {
+    for (place, holds) in holds.iter().enumerate() {
+        if !*holds {
+            return Some(place);
+        }
+    }
+    None
+}

@@ -2,14 +2,14 @@
 
 ghost use Rattle.std.specs.Prelude.{◌≤◌, IsTrue};
 
+use super::{check, check_done, first_false};
 use std::alloc::Global;
-use std::process::Abort;
 use std::test::Fail;
 use uring_dispatch::{Dispatch, Finished, Issued, ReserveError};
 use uring_entry::{Op, Outcome, Sqe};
 
 /// What is told of the dispatcher's only request.
-#[derive(Drop)]
+#[derive(Clone, Copy)]
 struct Told {
     counts: [u64; 3],
     entry: Option<Sqe>,
@@ -35,7 +35,7 @@ fn all_told(dispatch: &Dispatch) -> Told
 }
 
 /// What is told of a request once it is accepted, started and finished, and what the calls answered.
-#[derive(Drop)]
+#[derive(Clone, Copy)]
 struct EachCall {
     accepted: Told,
     started: Told,
@@ -101,58 +101,93 @@ fn each_call_of(dispatch: &mut Dispatch) -> EachCall
     }
 }
 
-fn check_told(rt: &impl Abort, told: &Told, counts: [u64; 3], entry: Option<Sqe>, op: Option<Op>) {
-    assert_eq!(rt; told.counts, counts);
-    assert_eq!(rt; told.entry, entry);
-    assert_eq!(rt; told.op, op);
+/// Whether this is told: these counts, this entry, this running operation, the next and the least request.
+fn tells(
+    told: &Told,
+    counts: [u64; 3],
+    entry: Option<Sqe>,
+    op: Option<Op>,
+    next: Option<u64>,
+    least: Option<u64>,
+) -> bool {
+    told.counts == counts
+        && told.entry == entry
+        && told.op == op
+        && (told.next, told.least) == (next, least)
 }
 
-fn check_each_call(rt: &impl Abort, went: &EachCall, entry: Sqe) {
-    let op = Op::Fsync { fd: 1 };
-    check_told(rt, &went.accepted, [1, 1, 0], Some(entry), None);
-    check_told(rt, &went.started, [1, 1, 1], Some(entry), Some(op));
-    check_told(rt, &went.ended, [1, 0, 0], None, None);
-    assert_eq!(rt; went.absent, None);
-    assert_eq!(rt;
-        (went.accepted.next, went.accepted.least),
-        (Some(0), Some(0))
-    );
-    assert_eq!(rt; (went.started.next, went.started.least), (None, Some(0)));
-    assert_eq!(rt; (went.ended.next, went.ended.least), (None, None));
-    assert_eq!(rt;
-        went.issues,
-        [Issued::Run(op), Issued::Running, Issued::Unknown]
-    );
-    assert_eq!(rt; went.finishes, [Finished::Ended, Finished::NotRunning]);
+impl EachCall {
+    /// Whether it is told right once it is accepted, started and finished, and whether the calls answered right.
+    fn are_right(&self, entry: Sqe) -> [bool; 5] {
+        let op = Op::Fsync { fd: 1 };
+        [
+            tells(
+                &self.accepted,
+                [1, 1, 0],
+                Some(entry),
+                None,
+                Some(0),
+                Some(0),
+            ),
+            tells(
+                &self.started,
+                [1, 1, 1],
+                Some(entry),
+                Some(op),
+                None,
+                Some(0),
+            ),
+            tells(&self.ended, [1, 0, 0], None, None, None, None),
+            self.issues == [Issued::Run(op), Issued::Running, Issued::Unknown],
+            self.absent == None && self.finishes == [Finished::Ended, Finished::NotRunning],
+        ]
+    }
+}
+
+/// What is first wrong of a call of one entry and all that comes behind.
+fn first_wrong_of_one(dispatch: &mut Dispatch) -> Result<Option<usize>, Fail>
+    requires { IsTrue dispatch.old.is_between_calls }
+{
+    let entry = Sqe::fsync(7, 0, 1);
+    accept_one(dispatch, entry)?;
+    Ok(first_false(&each_call_of(dispatch).are_right(entry)))
+}
+
+/// The same of a new dispatcher.
+fn each_call_of_new(alloc: Global) -> Result<Option<usize>, Fail> {
+    let mut dispatch = Dispatch::new(alloc);
+    first_wrong_of_one(&mut dispatch)
 }
 
 #[test]
 fn each_call(rt: HostRuntime) -> Result<(), Fail> {
-    let mut dispatch = Dispatch::new(rt.alloc());
-    let entry = Sqe::fsync(7, 0, 1);
-    accept_one(&mut dispatch, entry)?;
-    let went = each_call_of(&mut dispatch);
-    check_each_call(&rt, &went, entry);
-    Ok(())
+    check_done(&rt, each_call_of_new(rt.alloc()))
 }
 
-/// What a new dispatcher answers to reserves of more than all numbers, of all of them, and of none, and how many it accepted.
-fn reserves(alloc: Global) -> ([Result<(), ReserveError>; 3], u64) {
+/// Whether reserves are answered right of more than all numbers, of all of them, and of none, and whether nothing was accepted.
+fn are_reserves_right(dispatch: &mut Dispatch) -> [bool; 4]
+    requires { IsTrue dispatch.old.is_between_calls }
+{
+    let beyond = dispatch.reserve(Dispatch::MAX_ACCEPTED + 1);
+    let all = dispatch.reserve(Dispatch::MAX_ACCEPTED);
+    let none = dispatch.reserve(0);
+    [
+        beyond == Err(ReserveError::Spent),
+        all == Err(ReserveError::NoMemory),
+        none == Ok(()),
+        dispatch.accepted() == 0,
+    ]
+}
+
+/// The same of a new dispatcher.
+fn reserves(alloc: Global) -> [bool; 4] {
     let mut dispatch = Dispatch::new(alloc);
-    let answers = [
-        dispatch.reserve(Dispatch::MAX_ACCEPTED + 1),
-        dispatch.reserve(Dispatch::MAX_ACCEPTED),
-        dispatch.reserve(0),
-    ];
-    (answers, dispatch.accepted())
+    are_reserves_right(&mut dispatch)
 }
 
 #[test]
 fn refused_reserves(rt: HostRuntime) {
-    let (answers, accepted) = reserves(rt.alloc());
-    assert!(rt; answers[0] == Err(ReserveError::Spent));
-    assert!(rt; answers[1] == Err(ReserveError::NoMemory));
-    assert!(rt; answers[2] == Ok(()) && accepted == 0);
+    check(&rt, first_false(&reserves(rt.alloc())));
 }
 
 /// Reserves memory for 5,000 requests at once, and accepts as many in one call.
@@ -168,32 +203,48 @@ fn accept_5_000(dispatch: &mut Dispatch) -> Result<(), ReserveError>
     Ok(())
 }
 
-/// Accepts twice as many, and makes room for as many again. What is told then.
-fn accept_thousands(dispatch: &mut Dispatch) -> Result<([u64; 3], Option<Sqe>), ReserveError>
+/// Accepts twice as many, and makes room for as many again.
+fn accept_thousands(dispatch: &mut Dispatch) -> Result<(), ReserveError>
     requires { IsTrue dispatch.old.is_between_calls }
+    ensures { IsTrue dispatch.new.is_between_calls }
 {
     accept_5_000(dispatch)?;
     accept_5_000(dispatch)?;
-    dispatch.reserve(5_000)?;
+    dispatch.reserve(5_000)
+}
+
+/// Whether all are counted, and the last is there.
+fn are_thousands_there(dispatch: &Dispatch) -> [bool; 2]
+    requires { IsTrue dispatch.now.is_between_calls }
+{
     let counts = [
         dispatch.accepted(),
         dispatch.outstanding(),
         dispatch.running(),
     ];
-    Ok((counts, dispatch.entry(9_999)))
+    let last = dispatch.entry(9_999);
+    [
+        counts == [10_000, 10_000, 0],
+        last == Some(Sqe::nop(4_999, 0)),
+    ]
+}
+
+/// What is first wrong of thousands that are accepted.
+fn first_wrong_of_thousands(dispatch: &mut Dispatch) -> Result<Option<usize>, Fail>
+    requires { IsTrue dispatch.old.is_between_calls }
+{
+    accept_thousands(dispatch)?;
+    Ok(first_false(&are_thousands_there(dispatch)))
 }
 
 /// The same of a new dispatcher.
-fn thousands(alloc: Global) -> Result<([u64; 3], Option<Sqe>), ReserveError> {
+fn thousands(alloc: Global) -> Result<Option<usize>, Fail> {
     let mut dispatch = Dispatch::new(alloc);
-    accept_thousands(&mut dispatch)
+    first_wrong_of_thousands(&mut dispatch)
 }
 
 /// With ample memory room is made for 5,000 requests at once, behind as many that were accepted.
 #[test]
 fn thousands_are_accepted(rt: HostRuntime) -> Result<(), Fail> {
-    let (counts, last) = thousands(rt.alloc())?;
-    assert_eq!(rt; counts, [10_000, 10_000, 0]);
-    assert!(rt; last == Some(Sqe::nop(4_999, 0)));
-    Ok(())
+    check_done(&rt, thousands(rt.alloc()))
 }

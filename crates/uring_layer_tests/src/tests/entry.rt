@@ -1,5 +1,6 @@
 //! Entries, completions, preparation and set-ups.
 
+use super::{check, first_false};
 use bitflags::Flags;
 use uring_entry::{BadSetup, Cqe, Fault, Op, Setup, Sqe, SqeFlags, prepare, succeeded};
 
@@ -35,14 +36,49 @@ fn made() -> [(Sqe, [u64; 9]); 8] {
     ]
 }
 
+/// All words of an entry that begins with these.
+fn words_from(first: [u64; 9]) -> [u64; 16] {
+    let [a, b, c, d, e, f, g, h, i] = first;
+    [a, b, c, d, e, f, g, h, i, 0, 0, 0, 0, 0, 0, 0]
+}
+
+/// The place of the first entry that has other words, or isn't read from them.
+fn first_with_other_words(rows: &[(Sqe, [u64; 9])]) -> Option<usize> {
+    for (place, (entry, first)) in rows.iter().enumerate() {
+        let words = words_from(*first);
+        if entry.words() != words || Sqe::from_words(words) != *entry {
+            return Some(place);
+        }
+    }
+    None
+}
+
 #[test]
 fn makers_give_these_words(rt: HostRuntime) {
-    for (entry, first) in made() {
-        let [a, b, c, d, e, f, g, h, i] = first;
-        let words = [a, b, c, d, e, f, g, h, i, 0, 0, 0, 0, 0, 0, 0];
-        assert_eq!(rt; entry.words(), words, "in {entry:?}");
-        assert_eq!(rt; Sqe::from_words(words), entry);
-    }
+    check(&rt, first_with_other_words(&made()));
+}
+
+/// Whether the fields of these words are right, and the data.
+fn are_fields_right(entry: &Sqe) -> [bool; 3] {
+    let payload = entry.payload();
+    [
+        (entry.opcode(), entry.flags(), entry.fd()) == (22, 0x42, -2_147_483_647),
+        (entry.off(), entry.addr(), entry.len(), entry.user_data()) == (2, 3, 4, 5),
+        payload[..8] == [8, 7, 6, 5, 4, 3, 2, 1][..] && payload[63] == 0xaa,
+    ]
+}
+
+/// Whether the right flags are set and no others.
+fn are_flags_right(entry: &Sqe) -> [bool; 6] {
+    let flags = SqeFlags::from_bits_retain(entry.flags());
+    [
+        flags.contains(SqeFlags::IO_DRAIN),
+        flags.contains(SqeFlags::CQE_SKIP_SUCCESS),
+        !flags.contains(SqeFlags::IO_LINK),
+        !flags.contains(SqeFlags::IO_HARDLINK),
+        !flags.contains(SqeFlags::ASYNC),
+        !flags.intersects(SqeFlags::REFUSED),
+    ]
 }
 
 #[test]
@@ -65,57 +101,60 @@ fn fields_are_read_from_the_words(rt: HostRuntime) {
         0,
         0xaa00_0000_0000_0000,
     ]);
-    assert_eq!(rt;
-        (entry.opcode(), entry.flags(), entry.fd()),
-        (22, 0x42, -2_147_483_647)
-    );
-    assert_eq!(rt; (entry.off(), entry.addr(), entry.len()), (2, 3, 4));
-    assert_eq!(rt; entry.user_data(), 5);
-    let payload = entry.payload();
-    assert_eq!(rt; payload[..8], [8, 7, 6, 5, 4, 3, 2, 1][..]);
-    assert_eq!(rt; payload[63], 0xaa);
-    let flags = SqeFlags::from_bits_retain(entry.flags());
-    assert!(rt; flags.contains(SqeFlags::IO_DRAIN) && flags.contains(SqeFlags::CQE_SKIP_SUCCESS));
-    assert!(rt; !flags.contains(SqeFlags::IO_LINK) && !flags.contains(SqeFlags::IO_HARDLINK));
-    assert!(rt; !flags.contains(SqeFlags::ASYNC) && !flags.intersects(SqeFlags::REFUSED));
+    check(&rt, first_false(&are_fields_right(&entry)));
+    check(&rt, first_false(&are_flags_right(&entry)));
+}
+
+/// A completion with 64 bytes of data, of which the first and the last aren't zero.
+fn with_data() -> Cqe {
+    let mut payload = [0; 64];
+    payload[0] = 0x61;
+    payload[63] = 0x62;
+    Cqe::new(1, 64, payload)
+}
+
+/// Whether the words of a completion without data are right, those of one with data, and its fields.
+fn are_completions_right() -> [bool; 3] {
+    let empty = Cqe::new(7, -125, [0; 64]).words();
+    let full = with_data();
+    let words = full.words();
+    [
+        empty == [7, 4_294_967_171, 0, 0, 0, 0, 0, 0, 0, 0],
+        (words[1], words[2], words[9]) == (64, 0x61, 0x6200_0000_0000_0000),
+        (full.user_data(), full.res(), full.payload()[63]) == (1, 64, 0x62),
+    ]
 }
 
 #[test]
 fn a_completion_has_these_words(rt: HostRuntime) {
-    let completion = Cqe::new(7, -125, [0; 64]);
-    assert_eq!(rt;
-        completion.words(),
-        [7, 4_294_967_171, 0, 0, 0, 0, 0, 0, 0, 0]
-    );
-    let mut payload = [0; 64];
-    payload[0] = 0x61;
-    payload[63] = 0x62;
-    let completion = Cqe::new(1, 64, payload);
-    let words = completion.words();
-    assert_eq!(rt;
-        (words[1], words[2], words[9]),
-        (64, 0x61, 0x6200_0000_0000_0000)
-    );
-    assert_eq!(rt; (completion.user_data(), completion.res()), (1, 64));
-    assert_eq!(rt; completion.payload()[63], 0x62);
+    check(&rt, first_false(&are_completions_right()));
+}
+
+/// The second word of a completion with this data, and the result that it has.
+static RESULTS: [(u64, i32); 3] = [(4_294_967_171, -125), (64, 64), (0xffff_ffff_0000_0040, 64)];
+
+/// The place of the first second word that is read otherwise.
+fn first_with_another_result() -> Option<usize> {
+    let payload = with_data().payload();
+    for (place, (second, res)) in RESULTS.iter().enumerate() {
+        let words = [1, *second, 0x61, 0, 0, 0, 0, 0, 0, 0x6200_0000_0000_0000];
+        if Cqe::from_words(words) != Cqe::new(1, *res, payload) {
+            return Some(place);
+        }
+    }
+    None
 }
 
 #[test]
 fn a_completion_is_read_from_its_words(rt: HostRuntime) {
-    let mut payload = [0; 64];
-    payload[0] = 0x61;
-    payload[63] = 0x62;
-    for (second, res) in [(4_294_967_171, -125), (64, 64), (0xffff_ffff_0000_0040, 64)] {
-        let words = [1, second, 0x61, 0, 0, 0, 0, 0, 0, 0x6200_0000_0000_0000];
-        assert_eq!(rt; Cqe::from_words(words), Cqe::new(1, res, payload));
-    }
+    check(&rt, first_with_another_result());
 }
 
-#[test]
-fn success_is_all_bytes_or_zero(rt: HostRuntime) {
+/// Entries with a result, and whether that is success.
+fn successes() -> [(Sqe, i32, bool); 12] {
     let read = Sqe::read(0, 0, 0, 0, 4);
     let long = Sqe::read(0, 0, 0, 0, 4_294_967_274);
-    for (entry, res, wanted) in [
+    [
         (read, 4, true),
         (read, 3, false),
         (read, 0, false),
@@ -128,15 +167,28 @@ fn success_is_all_bytes_or_zero(rt: HostRuntime) {
         (Sqe::cancel_all(0, 0, 0), 2, true),
         (Sqe::cancel_all(0, 0, 0), -125, false),
         (long, -22, false),
-    ] {
-        assert_eq!(rt; succeeded(&entry, res), wanted, "{res} of {entry:?}");
+    ]
+}
+
+/// The place of the first that is told otherwise.
+fn first_wrong_success(rows: &[(Sqe, i32, bool)]) -> Option<usize> {
+    for (place, (entry, res, wanted)) in rows.iter().enumerate() {
+        if succeeded(entry, *res) != *wanted {
+            return Some(place);
+        }
     }
+    None
+}
+
+#[test]
+fn success_is_all_bytes_or_zero(rt: HostRuntime) {
+    check(&rt, first_wrong_success(&successes()));
 }
 
 /// The entry with these words, 0 to 7, and no data.
 fn entry(words: [u64; 8]) -> Sqe {
     let [a, b, c, d, e, f, g, h] = words;
-    Sqe::from_words([a, b, c, d, e, f, g, h, 0, 0, 0, 0, 0, 0, 0, 0])
+    Sqe::from_words(words_from([a, b, c, d, e, f, g, h, 0]))
 }
 
 /// A cancel of these user data.
@@ -151,80 +203,119 @@ fn with_flags(code: u8, flags: u8) -> Sqe {
 
 const LAST: u64 = u64::MAX;
 
-#[test]
-fn entries_are_prepared_or_refused(rt: HostRuntime) {
+/// Entries that are served, and the operations that they ask for.
+fn served() -> [(Sqe, Op); 8] {
     let read = Op::Read {
         fd: 0,
         off: LAST - 1,
         len: 64,
     };
+    let mut bytes = [0; 64];
+    bytes[0] = b'a';
     let write = Op::Write {
         fd: -1,
         off: 5,
         len: 1,
-        bytes: {
-            let mut bytes = [0; 64];
-            bytes[0] = b'a';
-            bytes
-        },
+        bytes,
     };
+    [
+        (entry([0; 8]), Op::Nop),
+        (with_flags(0, 16), Op::Nop),
+        (Sqe::read(0, 0, 0, LAST - 1, 64), read),
+        (Sqe::write(0, 0, -1, 5, b"a"), write),
+        (entry([3, LAST, 0, 0, 0, 0, 0, 0]), Op::Fsync { fd: 0 }),
+        (entry([14, 0, 9, 1 << 32, 0, 0, 0, 0]), cancel(9, true)),
+        (Sqe::cancel(1, 0, 9), cancel(9, false)),
+        (Sqe::cancel_all(1, 0, 9), cancel(9, true)),
+    ]
+}
+
+/// Entries that are refused, and their faults.
+fn refused() -> [(Sqe, Fault); 13] {
     let high_byte = 0x0100_0000_0000_0000;
-    for (entry, wanted) in [
-        (entry([0; 8]), Ok(Op::Nop)),
-        (with_flags(99, 0), Err(Fault::Opcode)),
-        (with_flags(99, 1), Err(Fault::Flags)),
-        (with_flags(0, 128), Err(Fault::Flags)),
-        (with_flags(0, 32), Err(Fault::Flags)),
-        (with_flags(0, 16), Ok(Op::Nop)),
-        (Sqe::read(0, 0, 0, LAST - 1, 64), Ok(read)),
-        (Sqe::read(0, 0, 0, LAST, 65), Err(Fault::Len)),
-        (Sqe::read(0, 0, 0, LAST, 64), Err(Fault::Off)),
-        (Sqe::write(0, 0, 0, LAST, b""), Err(Fault::Off)),
-        (Sqe::write(0, 0, -1, 5, b"a"), Ok(write)),
-        (entry([3, LAST, 0, 0, 0, 0, 0, 0]), Ok(Op::Fsync { fd: 0 })),
-        (entry([14, 0, 9, 1 << 32, 0, 0, 0, 0]), Ok(cancel(9, true))),
-        (entry([14, 0, 9, 2 << 32, 0, 0, 0, 0]), Err(Fault::OpFlags)),
-        (entry([14, 0, 9, 3 << 32, 0, 0, 0, 0]), Err(Fault::OpFlags)),
-        (entry([3, 0, 0, 1 << 32, 0, 0, 0, 0]), Err(Fault::OpFlags)),
-        (Sqe::cancel(1, 0, 9), Ok(cancel(9, false))),
-        (Sqe::cancel_all(1, 0, 9), Ok(cancel(9, true))),
-        (
-            entry([0, 0, 0, 0, 0, 0, 0, high_byte]),
-            Err(Fault::Reserved),
-        ),
-        (entry([0, 0, 0, 0, 0, 1, 0, 0]), Err(Fault::Reserved)),
-        (entry([0x1_0000, 0, 0, 65, 0, 0, 0, 0]), Err(Fault::Ioprio)),
-    ] {
-        assert_eq!(rt; prepare(&entry), wanted, "in {entry:?}");
+    [
+        (with_flags(99, 0), Fault::Opcode),
+        (with_flags(99, 1), Fault::Flags),
+        (with_flags(0, 128), Fault::Flags),
+        (with_flags(0, 32), Fault::Flags),
+        (Sqe::read(0, 0, 0, LAST, 65), Fault::Len),
+        (Sqe::read(0, 0, 0, LAST, 64), Fault::Off),
+        (Sqe::write(0, 0, 0, LAST, b""), Fault::Off),
+        (entry([14, 0, 9, 2 << 32, 0, 0, 0, 0]), Fault::OpFlags),
+        (entry([14, 0, 9, 3 << 32, 0, 0, 0, 0]), Fault::OpFlags),
+        (entry([3, 0, 0, 1 << 32, 0, 0, 0, 0]), Fault::OpFlags),
+        (entry([0, 0, 0, 0, 0, 0, 0, high_byte]), Fault::Reserved),
+        (entry([0, 0, 0, 0, 0, 1, 0, 0]), Fault::Reserved),
+        (entry([0x1_0000, 0, 0, 65, 0, 0, 0, 0]), Fault::Ioprio),
+    ]
+}
+
+/// The place of the first entry that isn't served, or asks for something else.
+fn first_not_served(rows: &[(Sqe, Op)]) -> Option<usize> {
+    for (place, (entry, op)) in rows.iter().enumerate() {
+        if prepare(entry) != Ok(*op) {
+            return Some(place);
+        }
     }
+    None
+}
+
+/// The place of the first entry that isn't refused, or for another fault.
+fn first_not_refused(rows: &[(Sqe, Fault)]) -> Option<usize> {
+    for (place, (entry, fault)) in rows.iter().enumerate() {
+        if prepare(entry) != Err(*fault) {
+            return Some(place);
+        }
+    }
+    None
 }
 
 #[test]
-fn of_all_flag_bytes_32_are_served(rt: HostRuntime) {
+fn entries_are_prepared_or_refused(rt: HostRuntime) {
+    check(&rt, first_not_served(&served()));
+    check(&rt, first_not_refused(&refused()));
+}
+
+/// Of the no-ops with all flag bytes, how many are served; none if one is served or refused wrongly.
+fn served_by_flags() -> Option<u32> {
     let mut served = 0;
     for flags in 0..=255u8 {
         let is_served = prepare(&with_flags(0, flags)).is_ok();
-        assert_eq!(rt; is_served, flags & (1 | 32 | 128) == 0, "at {flags}");
+        if is_served != (flags & (1 | 32 | 128) == 0) {
+            return None;
+        }
         if is_served {
             served = u32::wrapping_add(served, 1);
         }
     }
-    assert_eq!(rt; served, 32);
+    Some(served)
 }
 
 #[test]
-fn of_all_operations_5_are_served(rt: HostRuntime) {
+fn of_all_flag_bytes_32_are_served(rt: HostRuntime) {
+    let served = served_by_flags();
+    assert_eq!(rt; served, Some(32));
+}
+
+/// How many operations are served without flags.
+fn served_by_operation() -> u32 {
     let mut served = 0;
     for code in 0..=255u8 {
         if prepare(&with_flags(code, 0)).is_ok() {
             served = u32::wrapping_add(served, 1);
         }
     }
+    served
+}
+
+#[test]
+fn of_all_operations_5_are_served(rt: HostRuntime) {
+    let served = served_by_operation();
     assert_eq!(rt; served, 5);
 }
 
 /// What is asked for, and the sizes after rounding or the refusal.
-const SET_UPS: [((u32, Option<u32>, u32, u32), Result<(u32, u32), BadSetup>); 8] = [
+static SET_UPS: [((u32, Option<u32>, u32, u32), Result<(u32, u32), BadSetup>); 8] = [
     ((3, None, 2, 0), Ok((4, 8))),
     ((5, Some(5), 1, 0), Ok((8, 8))),
     ((4096, Some(8192), 64, u32::MAX), Ok((4096, 8192))),
@@ -235,31 +326,45 @@ const SET_UPS: [((u32, Option<u32>, u32, u32), Result<(u32, u32), BadSetup>); 8]
     ((1, None, 65, 0), Err(BadSetup::BadFiles)),
 ];
 
-#[test]
-fn sizes_are_rounded_and_limits_kept(rt: HostRuntime) {
-    for ((sq, cq, files, start), wanted) in SET_UPS {
-        let made = Setup::new(sq, cq, files, start);
-        let sizes = made.map(|s| (s.sq(), s.cq()));
-        assert_eq!(rt; sizes, wanted, "at {sq} {files}");
+/// The place of the first set-up that is made or refused otherwise.
+fn first_wrong_set_up() -> Option<usize> {
+    for (place, ((sq, cq, files, start), wanted)) in SET_UPS.iter().enumerate() {
+        let sizes = match Setup::new(*sq, *cq, *files, *start) {
+            Ok(set_up) => Ok((set_up.sq(), set_up.cq())),
+            Err(fault) => Err(fault),
+        };
+        if sizes != *wanted {
+            return Some(place);
+        }
     }
+    None
 }
 
 #[test]
-fn a_set_up_keeps_files_and_start(rt: HostRuntime) {
-    let Ok(set_up) = Setup::new(1, None, 64, u32::MAX) else {
-        assert!(rt; false, "refused");
-        return;
-    };
-    assert_eq!(rt; (set_up.files(), set_up.start()), (64, u32::MAX));
+fn sizes_are_rounded_and_limits_kept(rt: HostRuntime) {
+    check(&rt, first_wrong_set_up());
+}
+
+/// Whether a set-up of one slot is told as it was asked for, also once it is to stop.
+fn is_kept(set_up: &Setup) -> [bool; 3] {
     let stopping = set_up.stopping();
-    assert_eq!(rt; (set_up.stops(), stopping.stops()), (false, true));
-    assert_eq!(rt;
+    [
+        (set_up.files(), set_up.start()) == (64, u32::MAX),
+        (set_up.stops(), stopping.stops()) == (false, true),
         (
             stopping.sq(),
             stopping.cq(),
             stopping.files(),
-            stopping.start()
-        ),
-        (1, 2, 64, u32::MAX)
-    );
+            stopping.start(),
+        ) == (1, 2, 64, u32::MAX),
+    ]
+}
+
+#[test]
+fn a_set_up_keeps_files_and_start(rt: HostRuntime) {
+    let right = match Setup::new(1, None, 64, u32::MAX) {
+        Ok(set_up) => is_kept(&set_up),
+        Err(_) => [false; 3],
+    };
+    check(&rt, first_false(&right));
 }

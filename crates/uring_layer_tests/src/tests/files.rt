@@ -2,7 +2,8 @@
 
 ghost use Rattle.std.specs.Prelude.{◌≤◌, length};
 
-use std::alloc::{AllocError, Global};
+use super::{check_done, first_false};
+use std::alloc::Global;
 use std::test::Fail;
 use uring_entry::{Op, Outcome};
 use uring_files::{FileState, Files};
@@ -39,7 +40,7 @@ fn standing(len: u32, writes: u64, synced: u64) -> Option<FileState> {
 }
 
 /// What operations in turn answered, and how two files stood after the first ones and in the end.
-#[derive(Drop)]
+#[derive(Clone, Copy)]
 struct InTurn {
     results: [i32; 6],
     read: Outcome,
@@ -86,16 +87,14 @@ impl InTurn {
 }
 
 /// The same of two new files.
-fn in_turn_on_new_files(alloc: Global) -> Result<[bool; 3], AllocError> {
+fn in_turn_on_new_files(alloc: Global) -> Result<Option<usize>, Fail> {
     let mut files = Files::new(alloc, 2)?;
-    Ok(in_turn(&mut files).are_right())
+    Ok(first_false(&in_turn(&mut files).are_right()))
 }
 
 #[test]
 fn operations_in_turn(rt: HostRuntime) -> Result<(), Fail> {
-    let right = in_turn_on_new_files(rt.alloc())?;
-    assert_eq!(rt; right, [true; 3]);
-    Ok(())
+    check_done(&rt, in_turn_on_new_files(rt.alloc()))
 }
 
 /// A transfer of up to 64 bytes: its descriptor, its offset, its length, and the result that is wanted.
@@ -157,16 +156,14 @@ fn are_right_at_the_edges(files: &mut Files) -> [bool; 3] {
 }
 
 /// The same of 64 new files.
-fn edges(alloc: Global) -> Result<[bool; 3], AllocError> {
+fn edges(alloc: Global) -> Result<Option<usize>, Fail> {
     let mut files = Files::new(alloc, 64)?;
-    Ok(are_right_at_the_edges(&mut files))
+    Ok(first_false(&are_right_at_the_edges(&mut files)))
 }
 
 #[test]
 fn writes_at_the_edges(rt: HostRuntime) -> Result<(), Fail> {
-    let right = edges(rt.alloc())?;
-    assert_eq!(rt; right, [true; 3]);
-    Ok(())
+    check_done(&rt, edges(rt.alloc()))
 }
 
 /// Fills file 0 by whole lines of 64 bytes. How many ended otherwise than with 64.
@@ -208,16 +205,14 @@ fn are_right_of_a_full_file(files: &mut Files) -> [bool; 4] {
 }
 
 /// The same of a new file.
-fn full_file(alloc: Global) -> Result<[bool; 4], AllocError> {
+fn full_file(alloc: Global) -> Result<Option<usize>, Fail> {
     let mut files = Files::new(alloc, 1)?;
-    Ok(are_right_of_a_full_file(&mut files))
+    Ok(first_false(&are_right_of_a_full_file(&mut files)))
 }
 
 #[test]
 fn reads_of_a_full_file(rt: HostRuntime) -> Result<(), Fail> {
-    let right = full_file(rt.alloc())?;
-    assert_eq!(rt; right, [true; 4]);
-    Ok(())
+    check_done(&rt, full_file(rt.alloc()))
 }
 
 /// Writes behind gaps in a file that isn't empty, up to its largest size.
@@ -263,30 +258,32 @@ fn are_right_behind_gaps(file: &mut Files) -> [bool; 3] {
 }
 
 /// The same of a new file.
-fn gaps_in_one(alloc: Global) -> Result<[bool; 3], AllocError> {
+fn gaps_in_one(alloc: Global) -> Result<Option<usize>, Fail> {
     let mut file = Files::new(alloc, 1)?;
-    Ok(are_right_behind_gaps(&mut file))
+    Ok(first_false(&are_right_behind_gaps(&mut file)))
 }
 
-/// How many writes to 64 new files end otherwise, and how the last file stands then.
-fn gaps_in_many(alloc: Global) -> Result<(usize, Option<FileState>), AllocError> {
+/// Whether all the writes to 64 files end as they should, and how the last file stands then.
+fn are_right_in_many(files: &mut Files) -> [bool; 2] {
+    let failures = failures_behind_gaps(files);
+    [failures == 0, files.state(63) == standing(63_006, 2, 0)]
+}
+
+/// The same of 64 new files.
+fn gaps_in_many(alloc: Global) -> Result<Option<usize>, Fail> {
     let mut files = Files::new(alloc, 64)?;
-    let failures = failures_behind_gaps(&mut files);
-    Ok((failures, files.state(63)))
+    Ok(first_false(&are_right_in_many(&mut files)))
 }
 
 /// With ample memory no write is out of memory, however many files there are and however far it lies behind a file's end.
 #[test]
 fn gaps_in_files_that_are_not_empty(rt: HostRuntime) -> Result<(), Fail> {
-    let right = gaps_in_one(rt.alloc())?;
-    let (failures, last) = gaps_in_many(rt.alloc())?;
-    assert_eq!(rt; right, [true; 3]);
-    assert!(rt; failures == 0 && last == standing(63_006, 2, 0));
-    Ok(())
+    check_done(&rt, gaps_in_one(rt.alloc()))?;
+    check_done(&rt, gaps_in_many(rt.alloc()))
 }
 
 /// Two writes of one file, the second behind a gap: their results, how the file stood after each, and three of its bytes.
-#[derive(Drop)]
+#[derive(Clone, Copy)]
 struct Grown {
     results: (i32, i32),
     stands: [Option<FileState>; 2],
@@ -332,6 +329,11 @@ impl Grown {
         self.is((2, -12), stands, [Some(97), Some(98), None, None])
     }
 
+    /// Whether both wrote, or one of them where memory was refused to the other.
+    fn is_right(&self) -> bool {
+        self.is_whole() || self.lacks_the_first() || self.lacks_the_second()
+    }
+
     /// Whether both wrote.
     fn is_whole(&self) -> bool {
         let stands = [standing(2, 1, 0), standing(5_002, 2, 0)];
@@ -340,16 +342,13 @@ impl Grown {
 }
 
 /// Whether a new file grew by both writes, or by one of them where memory was refused to the other.
-fn grows_or_stays(alloc: Global) -> Result<bool, AllocError> {
+fn grows_or_stays(alloc: Global) -> Result<Option<usize>, Fail> {
     let mut files = Files::new(alloc, 1)?;
-    let went = grow_twice(&mut files);
-    Ok(went.is_whole() || went.lacks_the_first() || went.lacks_the_second())
+    Ok(first_false(&[grow_twice(&mut files).is_right()]))
 }
 
 /// With ample memory the writes grow the file. Run with one allocation refused, one of them ends with -12 and leaves the file as before.
 #[test]
 fn a_file_grows_or_stays(rt: HostRuntime) -> Result<(), Fail> {
-    let is_right = grows_or_stays(rt.alloc())?;
-    assert!(rt; is_right);
-    Ok(())
+    check_done(&rt, grows_or_stays(rt.alloc()))
 }

@@ -1,7 +1,7 @@
-use Rattle.std.proofs.Common.{sym, subst}
+use Rattle.std.proofs.Common.{sym, ◌∙◌, subst, true, false}
 use Rattle.uring_entry.specs.Requests.{with_cancelled}
 use Rattle.uring_dispatch.specs.Held.{AreHeld}
-use Rattle.uring_dispatch.proofs.Choosing.{held-failing, one_chosen, chosen-nobody}
+use Rattle.uring_dispatch.proofs.Choosing.{held-failing, one_chosen, chosen-nobody, runs-held, result-some}
 use Rattle.uring_dispatch.proofs.cancels.choose_target.Goals as goal
 
 pub returns-in_default-clause-chosen : goal.returns-in_default-clause-chosen
@@ -13,8 +13,16 @@ returns-in_default-clause-held c = λ r h named is one. held-failing _ _ r c.arg
 pub returns-then-is_running-clause-chosen : goal.returns-then-is_running-clause-chosen
 returns-then-is_running-clause-chosen c = chosen-nobody _ _ _ c.requires.sound c.requires.listed
 
+pub returns-then-is_running-clause-answer : goal.returns-then-is_running-clause-answer
+returns-then-is_running-clause-answer c = λ r h named.
+    result-some r c.in-Some.m _ true (c.in-Some.ensures.target r h named) (runs-held _ _ r c.in-Some.m h ∙ sym c.is_running.ensures ∙ c.if-is_running.true)
+
 pub returns-then-is_running-clause-held : goal.returns-then-is_running-clause-held
 returns-then-is_running-clause-held c = λ r h named is one. held-failing _ _ r c.args.n 113 h
+
+pub returns-clause-answer : goal.returns-clause-answer
+returns-clause-answer c = λ r h named.
+    result-some r c.in-Some.m _ false (c.in-Some.ensures.target r h named) (runs-held _ _ r c.in-Some.m h ∙ sym c.is_running.ensures ∙ c.if-is_running.false)
 
 pub returns-clause-held : goal.returns-clause-held
 returns-clause-held c = λ r h named is one.

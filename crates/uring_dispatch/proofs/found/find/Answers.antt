@@ -1,6 +1,5 @@
 use Rattle.std.proofs.Common.{sym, ◌∙◌}
-use Rattle.uring_dispatch.proofs.Choosing.{runs-held}
-use Rattle.uring_dispatch.proofs.Finding.{found-none, found-some}
+use Rattle.uring_dispatch.proofs.Finding.{found-none}
 use Rattle.uring_dispatch.proofs.found.find.Goals as goal
 
 pub returns-in_default : goal.returns-in_default

@@ -1,7 +1,6 @@
-use Rattle.std.proofs.Common.{Some, None, true, false, sym, ◌∙◌, ap, subst}
+use Rattle.std.proofs.Common.{Some, None, true, false, sym, ◌∙◌, ap}
 use Rattle.uring_entry.specs.Layout.{addr_of}
 use Rattle.uring_entry.specs.declared.operation.Op.TheVariants.{Cancel}
-use Rattle.uring_dispatch.specs.Cancels.{found_for}
 use Rattle.uring_dispatch.proofs.Finding.{finds-gone, finds-by, finds-other}
 use Rattle.uring_dispatch.proofs.found.would_find.Goals as goal
 

@@ -1,3 +1,4 @@
+use crate::tests::{check_done, first_false};
 use std::alloc::{AllocError, Global};
 use std::test::Fail;
 use uring_entry::{Cqe, Setup};
@@ -71,49 +72,59 @@ fn first_wrong(ring: &mut Cq, events: &[Event]) -> Option<usize> {
     None
 }
 
+/// The same, on a new ring of this size that begins at this word.
+fn first_wrong_from(
+    alloc: Global,
+    size: u32,
+    start: u32,
+    events: &[Event],
+) -> Result<Option<usize>, Fail> {
+    let mut ring = ring_of(alloc, size, start)?;
+    Ok(first_wrong(&mut ring, events))
+}
+
+static TWO_ACROSS_THE_WRAP: [Event; 8] = [
+    Post(1),
+    LoadTail(0),
+    Post(2),
+    LoadTail(1),
+    Reap(Some(1)),
+    Reap(Some(2)),
+    Reap(None),
+    StoreHead(1),
+];
+
 #[test]
 fn two_completions_across_the_wrap(rt: HostRuntime) -> Result<(), Fail> {
-    let mut ring = ring_of(rt.alloc(), 2, u32::MAX)?;
-    let events = [
-        Post(1),
-        LoadTail(0),
-        Post(2),
-        LoadTail(1),
-        Reap(Some(1)),
-        Reap(Some(2)),
-        Reap(None),
-        StoreHead(1),
-    ];
-    let wrong = first_wrong(&mut ring, &events);
-    assert_eq!(rt; wrong, None);
-    Ok(())
+    check_done(
+        &rt,
+        first_wrong_from(rt.alloc(), 2, u32::MAX, &TWO_ACROSS_THE_WRAP),
+    )
 }
+
+static POST_BEHIND_OTHERS: [Event; 17] = [
+    Post(1),
+    Post(2),
+    Post(3),
+    LoadTail(2),
+    Reap(Some(1)),
+    StoreHead(1),
+    Post(4),
+    LoadTail(2),
+    Rest(&[2, 3, 4]),
+    Flush(1),
+    Post(5),
+    Rest(&[2, 3, 4, 5]),
+    Reap(Some(2)),
+    Reap(None),
+    LoadTail(3),
+    Reap(Some(3)),
+    Counts(5, 3),
+];
 
 #[test]
 fn a_post_stays_behind_those_that_wait(rt: HostRuntime) -> Result<(), Fail> {
-    let mut ring = ring_of(rt.alloc(), 2, 0)?;
-    let events = [
-        Post(1),
-        Post(2),
-        Post(3),
-        LoadTail(2),
-        Reap(Some(1)),
-        StoreHead(1),
-        Post(4),
-        LoadTail(2),
-        Rest(&[2, 3, 4]),
-        Flush(1),
-        Post(5),
-        Rest(&[2, 3, 4, 5]),
-        Reap(Some(2)),
-        Reap(None),
-        LoadTail(3),
-        Reap(Some(3)),
-        Counts(5, 3),
-    ];
-    let wrong = first_wrong(&mut ring, &events);
-    assert_eq!(rt; wrong, None);
-    Ok(())
+    check_done(&rt, first_wrong_from(rt.alloc(), 2, 0, &POST_BEHIND_OTHERS))
 }
 
 /// A round: six are posted to an empty ring of four, of which two wait.
@@ -157,14 +168,23 @@ fn rounds(ring: &mut Cq, start: u32) -> [Option<usize>; 3] {
     wrong
 }
 
+/// Whether three rounds go as wanted on a new ring of four that begins at this word.
+fn are_rounds_right(alloc: Global, start: u32) -> Result<bool, Fail> {
+    let mut ring = ring_of(alloc, 4, start)?;
+    Ok(rounds(&mut ring, start) == [None, None, None])
+}
+
+/// The place of the first of three words from which they don't.
+fn first_wrong_rounds(alloc: Global) -> Result<Option<usize>, Fail> {
+    let from_zero = are_rounds_right(alloc, 0)?;
+    let from_last = are_rounds_right(alloc, u32::MAX)?;
+    let from_last_but_one = are_rounds_right(alloc, u32::MAX - 1)?;
+    Ok(first_false(&[from_zero, from_last, from_last_but_one]))
+}
+
 #[test]
 fn rounds_across_every_wrap(rt: HostRuntime) -> Result<(), Fail> {
-    for start in [0, u32::MAX, u32::MAX - 1] {
-        let mut ring = ring_of(rt.alloc(), 4, start)?;
-        let wrong = rounds(&mut ring, start);
-        assert_eq!(rt; wrong, [None, None, None], "from {start}");
-    }
-    Ok(())
+    check_done(&rt, first_wrong_rounds(rt.alloc()))
 }
 
 /// Three posts are promised, and more than memory holds is asked for behind the first of them. Whether that was refused.
@@ -179,11 +199,19 @@ fn is_refused(ring: &mut Cq) -> Result<bool, AllocError> {
     Ok(true)
 }
 
+/// Whether the promise is refused, and all three posts are there.
+fn are_all_posted(ring: &mut Cq) -> Result<Option<usize>, Fail> {
+    let is_refused = is_refused(ring)?;
+    Ok(first_false(&[is_refused, is_rest(ring, &[1, 2, 3])]))
+}
+
+/// The same of a new ring of one.
+fn refused_promise(alloc: Global) -> Result<Option<usize>, Fail> {
+    let mut ring = ring_of(alloc, 1, 0)?;
+    are_all_posted(&mut ring)
+}
+
 #[test]
 fn a_refused_promise_leaves_the_last(rt: HostRuntime) -> Result<(), Fail> {
-    let mut ring = ring_of(rt.alloc(), 1, 0)?;
-    let is_refused = is_refused(&mut ring)?;
-    let has_all = is_rest(&ring, &[1, 2, 3]);
-    assert!(rt; is_refused && has_all);
-    Ok(())
+    check_done(&rt, refused_promise(rt.alloc()))
 }

@@ -1,3 +1,4 @@
+use crate::tests::{check_done, first_false};
 use std::alloc::Global;
 use std::test::Fail;
 use uring_entry::{Setup, Sqe};
@@ -12,14 +13,23 @@ enum Event {
     StoreTail(u32),
     LoadHead(u32),
     Begin(u32, BeginAnswer),
-    Take(TakeAnswer),
+    /// A position is taken: a no-op with this user data, a word that is dropped, nothing for want of more, or of a call.
+    TakeEntry(u64),
+    TakeDropped,
+    TakeNoMore,
+    TakeNoCall,
     Stop,
     End(EndAnswer),
+    /// The call ends with so many accepted and dropped, and this head.
+    EndTaken(u32, u32, u32),
     Pending(u32),
     InCall(bool),
 }
 
-use Event::{Begin, End, Fill, InCall, Index, LoadHead, Pending, Stop, StoreTail, Take};
+use Event::{
+    Begin, End, EndTaken, Fill, InCall, Index, LoadHead, Pending, Stop, StoreTail, TakeDropped,
+    TakeEntry, TakeNoCall, TakeNoMore,
+};
 
 /// The answer to a position with a no-op.
 fn entry(user_data: u64) -> TakeAnswer {
@@ -41,6 +51,16 @@ fn ring_of_four(alloc: Global, start: u32) -> Result<Sq, Fail> {
     Ok(Sq::new(alloc, &setup)?)
 }
 
+/// Takes a position. Whether it was answered so.
+fn takes(ring: &mut Sq, wanted: TakeAnswer) -> bool {
+    ring.take() == wanted
+}
+
+/// Ends a call. Whether it was answered so.
+fn ends(ring: &mut Sq, wanted: EndAnswer) -> bool {
+    ring.end() == wanted
+}
+
 /// Makes an event happen. Whether it went as wanted.
 fn goes(ring: &mut Sq, event: Event) -> bool {
     match event {
@@ -49,12 +69,16 @@ fn goes(ring: &mut Sq, event: Event) -> bool {
         StoreTail(wanted) => ring.store_tail() == wanted,
         LoadHead(wanted) => ring.load_head() == wanted,
         Begin(n, wanted) => ring.begin(n) == wanted,
-        Take(wanted) => ring.take() == wanted,
+        TakeEntry(user_data) => takes(ring, entry(user_data)),
+        TakeDropped => takes(ring, TakeAnswer::Dropped),
+        TakeNoMore => takes(ring, TakeAnswer::NoMore),
+        TakeNoCall => takes(ring, TakeAnswer::NoCall),
         Stop => {
             ring.stop();
             true
         }
-        End(wanted) => ring.end() == wanted,
+        End(wanted) => ends(ring, wanted),
+        EndTaken(accepted, dropped, head) => ends(ring, taken(accepted, dropped, head)),
         Pending(wanted) => ring.pending() == wanted,
         InCall(wanted) => ring.in_call() == wanted,
     }
@@ -76,132 +100,132 @@ fn first_wrong_from(alloc: Global, start: u32, events: &[Event]) -> Result<Optio
     Ok(first_wrong(&mut ring, events))
 }
 
+static FULL_ACROSS_THE_WRAP: [Event; 16] = [
+    Index(0, IndexAnswer::Staged),
+    Index(0, IndexAnswer::Staged),
+    Index(0, IndexAnswer::Staged),
+    Index(0, IndexAnswer::Staged),
+    Index(0, IndexAnswer::Full),
+    StoreTail(2),
+    Index(0, IndexAnswer::Full),
+    Begin(4, BeginAnswer::Call(4)),
+    TakeEntry(0),
+    TakeEntry(0),
+    TakeEntry(0),
+    TakeEntry(0),
+    EndTaken(4, 0, 2),
+    Index(0, IndexAnswer::Full),
+    LoadHead(2),
+    Index(0, IndexAnswer::Staged),
+];
+
 #[test]
 fn full_across_the_wrap(rt: HostRuntime) -> Result<(), Fail> {
-    let events = [
-        Index(0, IndexAnswer::Staged),
-        Index(0, IndexAnswer::Staged),
-        Index(0, IndexAnswer::Staged),
-        Index(0, IndexAnswer::Staged),
-        Index(0, IndexAnswer::Full),
-        StoreTail(2),
-        Index(0, IndexAnswer::Full),
-        Begin(4, BeginAnswer::Call(4)),
-        Take(entry(0)),
-        Take(entry(0)),
-        Take(entry(0)),
-        Take(entry(0)),
-        End(taken(4, 0, 2)),
-        Index(0, IndexAnswer::Full),
-        LoadHead(2),
-        Index(0, IndexAnswer::Staged),
-    ];
-    let wrong = first_wrong_from(rt.alloc(), u32::MAX - 1, &events)?;
-    assert_eq!(rt; wrong, None);
-    Ok(())
+    check_done(
+        &rt,
+        first_wrong_from(rt.alloc(), u32::MAX - 1, &FULL_ACROSS_THE_WRAP),
+    )
 }
+
+static EMPTY_CALLS: [Event; 6] = [
+    Begin(9, BeginAnswer::Call(0)),
+    Begin(9, BeginAnswer::InCall),
+    TakeNoMore,
+    EndTaken(0, 0, 0),
+    TakeNoCall,
+    End(EndAnswer::NoCall),
+];
 
 #[test]
 fn empty_calls(rt: HostRuntime) -> Result<(), Fail> {
-    let events = [
-        Begin(9, BeginAnswer::Call(0)),
-        Begin(9, BeginAnswer::InCall),
-        Take(TakeAnswer::NoMore),
-        End(taken(0, 0, 0)),
-        Take(TakeAnswer::NoCall),
-        End(EndAnswer::NoCall),
-    ];
-    let wrong = first_wrong_from(rt.alloc(), 0, &events)?;
-    assert_eq!(rt; wrong, None);
-    Ok(())
+    check_done(&rt, first_wrong_from(rt.alloc(), 0, &EMPTY_CALLS))
 }
+
+static BAD_WORD: [Event; 10] = [
+    Fill(0, 5, FillAnswer::Filled),
+    Index(9, IndexAnswer::Staged),
+    Index(0, IndexAnswer::Staged),
+    StoreTail(2),
+    Begin(2, BeginAnswer::Call(2)),
+    End(EndAnswer::NotAll),
+    TakeDropped,
+    TakeEntry(5),
+    TakeNoMore,
+    EndTaken(1, 1, 2),
+];
 
 #[test]
 fn bad_word_is_dropped(rt: HostRuntime) -> Result<(), Fail> {
-    let events = [
-        Fill(0, 5, FillAnswer::Filled),
-        Index(9, IndexAnswer::Staged),
-        Index(0, IndexAnswer::Staged),
-        StoreTail(2),
-        Begin(2, BeginAnswer::Call(2)),
-        End(EndAnswer::NotAll),
-        Take(TakeAnswer::Dropped),
-        Take(entry(5)),
-        Take(TakeAnswer::NoMore),
-        End(taken(1, 1, 2)),
-    ];
-    let wrong = first_wrong_from(rt.alloc(), 0, &events)?;
-    assert_eq!(rt; wrong, None);
-    Ok(())
+    check_done(&rt, first_wrong_from(rt.alloc(), 0, &BAD_WORD))
 }
+
+static STOPPED_CALL: [Event; 21] = [
+    Stop,
+    Fill(0, 1, FillAnswer::Filled),
+    Fill(1, 2, FillAnswer::Filled),
+    Index(9, IndexAnswer::Staged),
+    Index(0, IndexAnswer::Staged),
+    Index(1, IndexAnswer::Staged),
+    StoreTail(1),
+    Begin(3, BeginAnswer::Call(3)),
+    TakeDropped,
+    TakeEntry(1),
+    End(EndAnswer::NotAll),
+    Stop,
+    TakeNoMore,
+    Stop,
+    Pending(3),
+    EndTaken(1, 1, 0),
+    Pending(1),
+    LoadHead(0),
+    Begin(3, BeginAnswer::Call(1)),
+    TakeEntry(2),
+    EndTaken(1, 1, 1),
+];
 
 #[test]
 fn stopped_call_leaves_the_rest(rt: HostRuntime) -> Result<(), Fail> {
-    let events = [
-        Stop,
-        Fill(0, 1, FillAnswer::Filled),
-        Fill(1, 2, FillAnswer::Filled),
-        Index(9, IndexAnswer::Staged),
-        Index(0, IndexAnswer::Staged),
-        Index(1, IndexAnswer::Staged),
-        StoreTail(1),
-        Begin(3, BeginAnswer::Call(3)),
-        Take(TakeAnswer::Dropped),
-        Take(entry(1)),
-        End(EndAnswer::NotAll),
-        Stop,
-        Take(TakeAnswer::NoMore),
-        Stop,
-        Pending(3),
-        End(taken(1, 1, 0)),
-        Pending(1),
-        LoadHead(0),
-        Begin(3, BeginAnswer::Call(1)),
-        Take(entry(2)),
-        End(taken(1, 1, 1)),
-    ];
-    let wrong = first_wrong_from(rt.alloc(), u32::MAX - 1, &events)?;
-    assert_eq!(rt; wrong, None);
-    Ok(())
+    check_done(
+        &rt,
+        first_wrong_from(rt.alloc(), u32::MAX - 1, &STOPPED_CALL),
+    )
 }
+
+static SLOT_NAMED_TWICE: [Event; 9] = [
+    Fill(0, 6, FillAnswer::Filled),
+    Index(0, IndexAnswer::Staged),
+    Index(0, IndexAnswer::Staged),
+    StoreTail(2),
+    Begin(2, BeginAnswer::Call(2)),
+    TakeEntry(6),
+    TakeEntry(6),
+    EndTaken(2, 0, 2),
+    LoadHead(2),
+];
 
 #[test]
 fn slot_named_twice(rt: HostRuntime) -> Result<(), Fail> {
-    let events = [
-        Fill(0, 6, FillAnswer::Filled),
-        Index(0, IndexAnswer::Staged),
-        Index(0, IndexAnswer::Staged),
-        StoreTail(2),
-        Begin(2, BeginAnswer::Call(2)),
-        Take(entry(6)),
-        Take(entry(6)),
-        End(taken(2, 0, 2)),
-        LoadHead(2),
-    ];
-    let wrong = first_wrong_from(rt.alloc(), 0, &events)?;
-    assert_eq!(rt; wrong, None);
-    Ok(())
+    check_done(&rt, first_wrong_from(rt.alloc(), 0, &SLOT_NAMED_TWICE))
 }
+
+static REFILLED_SLOTS: [Event; 12] = [
+    Fill(0, 1, FillAnswer::Filled),
+    Index(0, IndexAnswer::Staged),
+    Fill(0, 2, FillAnswer::Filled),
+    StoreTail(1),
+    Fill(0, 3, FillAnswer::Busy),
+    Begin(1, BeginAnswer::Call(1)),
+    TakeEntry(2),
+    EndTaken(1, 0, 1),
+    Fill(0, 3, FillAnswer::Busy),
+    LoadHead(1),
+    Fill(0, 3, FillAnswer::Filled),
+    Fill(4, 1, FillAnswer::NoSlot),
+];
 
 #[test]
 fn refilled_slots(rt: HostRuntime) -> Result<(), Fail> {
-    let events = [
-        Fill(0, 1, FillAnswer::Filled),
-        Index(0, IndexAnswer::Staged),
-        Fill(0, 2, FillAnswer::Filled),
-        StoreTail(1),
-        Fill(0, 3, FillAnswer::Busy),
-        Begin(1, BeginAnswer::Call(1)),
-        Take(entry(2)),
-        End(taken(1, 0, 1)),
-        Fill(0, 3, FillAnswer::Busy),
-        LoadHead(1),
-        Fill(0, 3, FillAnswer::Filled),
-        Fill(4, 1, FillAnswer::NoSlot),
-    ];
-    let wrong = first_wrong_from(rt.alloc(), 0, &events)?;
-    assert_eq!(rt; wrong, None);
-    Ok(())
+    check_done(&rt, first_wrong_from(rt.alloc(), 0, &REFILLED_SLOTS))
 }
 
 /// The user data of the entry that a slot holds in a round.
@@ -226,12 +250,12 @@ fn take_four(round: u8, after: u32) -> [Event; 14] {
         Pending(4),
         Begin(9, BeginAnswer::Call(4)),
         InCall(true),
-        Take(entry(user_data(round, 0))),
-        Take(entry(user_data(round, 1))),
-        Take(entry(user_data(round, 2))),
-        Take(entry(user_data(round, 3))),
-        Take(TakeAnswer::NoMore),
-        End(taken(4, 0, after)),
+        TakeEntry(user_data(round, 0)),
+        TakeEntry(user_data(round, 1)),
+        TakeEntry(user_data(round, 2)),
+        TakeEntry(user_data(round, 3)),
+        TakeNoMore,
+        EndTaken(4, 0, after),
         Pending(0),
         Index(0, IndexAnswer::Full),
     ]
@@ -261,12 +285,21 @@ fn rounds(ring: &mut Sq, start: u32) -> [usize; 3] {
     parts
 }
 
+/// Whether all parts of three rounds go as wanted on a new ring that begins at this word.
+fn are_rounds_right(alloc: Global, start: u32) -> Result<bool, Fail> {
+    let mut ring = ring_of_four(alloc, start)?;
+    Ok(rounds(&mut ring, start) == [6, 6, 6])
+}
+
+/// The place of the first of three words from which they don't.
+fn first_wrong_rounds(alloc: Global) -> Result<Option<usize>, Fail> {
+    let from_zero = are_rounds_right(alloc, 0)?;
+    let from_last = are_rounds_right(alloc, u32::MAX)?;
+    let from_last_but_one = are_rounds_right(alloc, u32::MAX - 1)?;
+    Ok(first_false(&[from_zero, from_last, from_last_but_one]))
+}
+
 #[test]
 fn rounds_across_every_wrap(rt: HostRuntime) -> Result<(), Fail> {
-    for start in [0, u32::MAX, u32::MAX - 1] {
-        let mut ring = ring_of_four(rt.alloc(), start)?;
-        let parts = rounds(&mut ring, start);
-        assert_eq!(rt; parts, [6, 6, 6], "from {start}");
-    }
-    Ok(())
+    check_done(&rt, first_wrong_rounds(rt.alloc()))
 }

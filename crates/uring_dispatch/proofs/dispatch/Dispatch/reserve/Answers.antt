@@ -1,7 +1,12 @@
-use Rattle.std.proofs.Common.{arith, ap, ◌∙◌, sym}
+use Rattle.std.proofs.Common.{arith, ap, ◌∙◌, sym, refl}
 use Rattle.uring_dispatch.specs.Dispatch.{Dispatch}
 use Rattle.uring_dispatch.proofs.Views.{on-ok, on-err, dispatcher-window, dispatcher-both}
 use Rattle.uring_dispatch.proofs.dispatch.Dispatch.reserve.Goals as goal
+
+pub returns-then-count-accepted-clause-spent : goal.returns-then-count-accepted-clause-spent
+returns-then-count-accepted-clause-spent c =
+    let accepted = ap (λ (d : Dispatch). d.accepted) c.self.view_is in
+    (λ is. omega arith, λ lt. refl)
 
 pub invariant_of-self-then-is_err-2 : goal.invariant_of-self-then-is_err-2
 invariant_of-self-then-is_err-2 c =
