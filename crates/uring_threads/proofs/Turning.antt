@@ -112,11 +112,11 @@ kernel_unmoved k kept u is =
       hold = is.hold;
       short = is.short;
       ties = record {
-          tied = subst (λ (g : Setup). Tied g.sq (now kept) k.pulled k.intake) (sym sizes) (subst (λ w. Tied k.kept.setup.sq w k.pulled k.intake) (sym same) is.ties.tied);
-          once = once_unmoved k.kept kept k.intake u is.ties.once;
-          delivered = subst (λ (w : World). IsDelivered w.completions k.reaped) (sym same) is.ties.delivered;
-          carried = carried_stays k.kept kept k.lanes (quiet_stays k.kept kept none_counted (appends_none k.kept kept u) refl refl) is.ties.carried;
-        };
+        tied = subst (λ (g : Setup). Tied g.sq (now kept) k.pulled k.intake) (sym sizes) (subst (λ w. Tied k.kept.setup.sq w k.pulled k.intake) (sym same) is.ties.tied);
+        once = once_unmoved k.kept kept k.intake u is.ties.once;
+        delivered = subst (λ (w : World). IsDelivered w.completions k.reaped) (sym same) is.ties.delivered;
+        carried = carried_stays k.kept kept k.lanes (quiet_stays k.kept kept none_counted (appends_none k.kept kept u) refl refl) is.ties.carried;
+      };
     }
 
 -- some events, and then some

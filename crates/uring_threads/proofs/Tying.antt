@@ -1,5 +1,5 @@
 -- What was pulled stays tied to the submission ring.
-use Rattle.std.proofs.Common.{◌≡◌, ℕ, ◌+◌, ◌<◌, ◌≤◌, true, false, List, [], ◌∷◌, ◌++◌, length, refl, sym, subst, ap, ap₂, ◌∙◌, arith, append_assoc, append-nil}
+use Rattle.std.proofs.Common.{◌≡◌, ℕ, ◌+◌, ◌<◌, ◌≤◌, true, false, List, [], ◌∷◌, ◌++◌, length, refl, sym, subst, ap, ◌∙◌, arith, append_assoc, append-nil}
 use Rattle.std.proofs.lemmas.List.{map-append}
 use Rattle.std.proofs.lemmas.List.Sums.{sum_by_push}
 use Rattle.uring_entry.specs.Submission.{Submission}
@@ -153,9 +153,10 @@ again_completions a r b count x u e = completions_behind a r b u (ap (λ (w : Wo
 -- what was pulled
 pub pulled_at : (a r : Kept) (before after : Put) (size : ℕ) (x : Pulled) (items taken : List Item) (i : Intake) → IsUnmoved a r → size ≡ a.setup.sq → taken ≡ items → Tied a.setup.sq (now a) before i → Pulls size before x items after
     → Tied r.setup.sq (now r) before i × Pulls r.setup.sq before x taken after
-pulled_at a r before after size x items taken i u sizes same t p =
-    (subst (λ (g : Setup). Tied g.sq (now r) before i) (sym u.setup) (tied_still a r before i u t),
-    subst (λ n. Pulls n before x taken after) (sizes ∙ ap (λ (g : Setup). g.sq) (sym u.setup)) (subst (λ xs. Pulls size before x xs after) (sym same) p))
+pulled_at a r before after size x items taken i u sizes same t p = (
+  subst (λ (g : Setup). Tied g.sq (now r) before i) (sym u.setup) (tied_still a r before i u t),
+  subst (λ n. Pulls n before x taken after) (sizes ∙ ap (λ (g : Setup). g.sq) (sym u.setup)) (subst (λ xs. Pulls size before x xs after) (sym same) p),
+)
 
 -- What was pulled is taken.
 

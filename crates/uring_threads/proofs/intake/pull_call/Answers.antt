@@ -1,4 +1,4 @@
-use Rattle.std.proofs.Common.{subst, arith}
+use Rattle.std.proofs.Common.{subst}
 use Rattle.uring_entry.specs.Setup.{Setup}
 use Rattle.uring_threads.specs.Kept.{now}
 use Rattle.uring_threads.specs.Taking.{TakesIn}
