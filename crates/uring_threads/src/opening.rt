@@ -114,7 +114,7 @@ fn open_trace(alloc: Global, setup: &Setup) -> Result<(Kept, Vec<Item>), AllocEr
     Ok((kept, items))
 }
 
-/// What this set-up has beside its ports, with a worker behind each gate. Conditions: its calls don't stop, and there are 1 to 8 gates.
+/// What this set-up has beside its ports, with a worker behind each gate. Conditions: its calls don't stop, and there are at most 8 gates.
 fn open_inner<G: Gate>(alloc: Global, setup: &Setup, gates: Vec<G>) -> Result<Inner<G>, AllocError>
     requires goes_on { setup.now.stops ≡ false }
     requires few { length gates.items ≤ 8 }
