@@ -1,5 +1,5 @@
 -- A worker's lane for jobs that shows no room has carried as many jobs as it holds, so as many requests were started.
-use Rattle.std.proofs.Common.{◌≡◌, ◌+◌, ◌<◌, ◌≤◌, ◌==◌, List, [], ◌∷◌, length, get_or, cond, count_by, inl, inr, refl, ap, ◌∙◌, arith}
+use Rattle.std.proofs.Common.{◌≡◌, ◌+◌, ◌<◌, ◌≤◌, ◌==◌, List, [], ◌∷◌, length, get_or, cond, count_by, inl, inr, refl, sym, subst, ap, ◌∙◌, arith}
 use Rattle.std.specs.Prelude.{◌⊎◌, None, Result, Ok, Err, IfOk, OnErr, Bool}
 use Rattle.std.proofs.lemmas.List.{length-append}
 use Rattle.std.proofs.lemmas.List.Sums.{length-filter, count_by-le-length}
@@ -12,7 +12,7 @@ use Rattle.uring_machine.specs.World.{World}
 use Rattle.uring_machine.specs.declared.step.Step.TheVariants as step
 use Rattle.uring_machine.specs.declared.answer.Answer.TheVariants as answer
 use Rattle.uring_machine.proofs.Following.{history_of-cons}
-use Rattle.uring_threads.specs.Dispatched.{HaveCarried, HoldJobs, AreSameLanes, SomeIsFull}
+use Rattle.uring_threads.specs.Dispatched.{HaveCarried, HoldJobs, HoldResults, AreSameLanes, SomeIsFull}
 use Rattle.uring_threads.specs.Kept.{Kept, now, history}
 use Rattle.uring_threads.specs.Tallies.{Tally, Appends, starts_request}
 use Rattle.uring_threads.specs.Turns.{Counts}
@@ -60,6 +60,12 @@ pub hold_stays : (old new : List WorkLanes) → AreSameLanes old new → HoldJob
 hold_stays old new same hold = λ k d low.
     let before : k < length old = omega (arith, low, same.many) in
     (same.jobs k d before).1 ∙ hold k d before
+
+-- and as many results
+pub short_stays : (old new : List WorkLanes) → AreSameLanes old new → HoldResults old → HoldResults new
+short_stays old new same short = λ k d low.
+    let before : k < length old = omega (arith, low, same.many) in
+    subst (λ n. n ≤ 64) (sym (same.results k d before).1) (short k d before)
 
 -- so as long as fewer requests were started, no lane keeps one from being issued
 pub next_is_none : {X E : Type 0} (r : Result X E) (k : Kept) (lanes : List WorkLanes) → IfOk r (λ turn. (next_of (now k).requests ≡ None) ⊎ SomeIsFull lanes) → HaveCarried k lanes → HoldJobs lanes

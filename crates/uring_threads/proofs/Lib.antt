@@ -22,6 +22,8 @@ mod FewResults
 pub mod Posting
 mod WorkerFiles
 pub mod Turning
+mod Issuing
+mod Delivering
 mod FreshWorkers
 mod FullLanes
 mod Closing

@@ -12,6 +12,7 @@ use Rattle.uring_entry.specs.Success.{posts_completion}
 use Rattle.uring_machine.specs.CalledFor.{IsLawful}
 use Rattle.uring_machine.specs.Laws.{ReapedBeginPosted, in_ring, in_overflow}
 use Rattle.uring_threads.specs.Collected.{TakesAll}
+use Rattle.uring_threads.specs.Dispatched.{AreSameLanes}
 use Rattle.std.proofs.lemmas.List.Folds.{list_any-append}
 use Rattle.uring_entry.specs.Layout.{Cqe, Sqe}
 use Rattle.uring_entry.specs.Requests.{entry_of, is_running}
@@ -214,6 +215,10 @@ take_whole n xs others same = subst (λ m. take m (xs ++ others) ≡ xs) same (w
   whole : {X : Type 0} (xs others : List X) → take (length xs) (xs ++ others) ≡ xs
   whole [] others = refl
   whole (x ∷ xs) others = ap (λ ys. x ∷ ys) (whole xs others)
+
+-- lanes that are lent are written back whole
+pub lanes_back : (n : ℕ) (old lent new : List WorkLanes) → lent ≡ old → AreSameLanes lent new → length old ≡ n → take n (new ++ drop (length new) old) ≡ new
+lanes_back n old lent new same lanes many = take_whole n new (drop (length new) old) (omega (arith, lanes.many, ap length same, many))
 
 -- The history is lawful.
 

@@ -2,7 +2,7 @@
 use Rattle.std.proofs.Common.{◌≡◌, ◌≢◌, ℕ, zero, suc, ◌+◌, ◌*◌, ◌<◌, ◌≤◌, List, [], ◌∷◌, ◌++◌, length, map, take, drop, get_or, refl, sym, subst, ap, ap₂, ◌∙◌, arith, inl, inr, append_assoc, append-nil}
 use Rattle.std.specs.Prelude.{slice_set}
 use Rattle.std.proofs.lemmas.Bool.{cases_eq}
-use Rattle.std.proofs.lemmas.List.{map-append, length-set, get_or-set_same, get_or-set_other, take_more, length-take-le}
+use Rattle.std.proofs.lemmas.List.{map-append, length-set, get_or-set_same, get_or-set_other, take_all, take_more, length-take-le}
 use Rattle.rtrb.specs.Ring.{received, consumer_capacity}
 use Rattle.uring_machine.specs.Finishes.{AreDone}
 use Rattle.uring_machine.specs.Histories.{IsLawfulApart}
@@ -15,6 +15,7 @@ use Rattle.uring_threads.specs.Settled.{Work, IsWork, IsSettled, finish_of}
 use Rattle.uring_threads.specs.SettledWorker.{HaveSeenAll, IsSettledAt, settled_work, works_of}
 use Rattle.uring_threads.specs.Opening.{AreLanesOf}
 use Rattle.uring_threads.specs.Report.{waiting_at, all_waiting}
+use Rattle.uring_threads.specs.Pairings.{pairing_of}
 use Rattle.uring_threads.specs.Work.{jobs_to, results_of}
 use Rattle.uring_threads.specs.Worker.{Worker, IsRight, Looks, empty_files}
 use Rattle.uring_threads.proofs.SettledWork.{jobs_keep, longer_history}
@@ -95,6 +96,17 @@ none_so_far a ls ws carried =
       few = omega arith;
     }
 
+-- The next worker: its lanes are still those of these ends, and there is room for its results.
+module _ (a b : Kept) (ls ms : List WorkLanes) (ws vs : List Worker) (count files : ℕ) (d : WorkLanes) (e : Worker) (s : SoFar a b ls ms ws vs count) (lt : count < length ls) (of : AreLanesOf files ls ws) where
+  pub next_paired : (get_or vs count e).pairing ≡ pairing_of (get_or ms count d).jobs (get_or ms count d).results
+  next_paired = ap (λ w. w.pairing) (s.workers_stay count e (omega arith)) ∙ of.pairing count d e lt ∙ sym (ap (λ (l : WorkLanes). pairing_of l.jobs l.results) (s.lanes_stay count d (omega arith)))
+
+  pub next_short : consumer_capacity (get_or ms count d).results ≤ 64
+  next_short = subst (λ l. consumer_capacity l.results ≤ 64) (sym (s.lanes_stay count d (omega arith))) (of.short count d lt)
+
+  pub next_fits : length a.trace + 64 * length ls ≤ a.room → length b.trace + consumer_capacity (get_or ms count d).results ≤ b.room
+  next_fits room = omega (arith, room, s.few, s.recorded.room, next_short, lt)
+
 -- what settling one worker ensures
 pub record SettlesOne (b c : Kept) (m now : WorkLanes) (v after : Worker) : Type 0 where
   pub trace : (waiting : List JobResult) × (results_of v.done ≡ received m.results ++ waiting) × TakesAll b c waiting
@@ -139,9 +151,6 @@ module _ (a b c : Kept) (ls ms : List WorkLanes) (ws vs : List Worker) (count fi
       subst (TakesAll a c) (ap (λ rs. all_waiting (take count ls) (take count ws) ++ rs) (sym waits) ∙ sym (waiting_more ls ws d e count of.many lt))
       (takes_then a b c (all_waiting (take count ls) (take count ws)) one.trace.0 s.recorded one.trace.2)
 
-  short : consumer_capacity (get_or ms count d).results ≤ 64
-  short = subst (λ l. consumer_capacity l.results ≤ 64) (sym (s.lanes_stay count d (omega arith))) (of.short count d lt)
-
   pub one_more : SoFar a c ls (slice_set ms count now) ws (slice_set vs count after) (count + 1)
   one_more =
       record {
@@ -166,10 +175,13 @@ module _ (a b c : Kept) (ls ms : List WorkLanes) (ws vs : List Worker) (count fi
           | inr other ↦ subst IsRight (sym (workers_at k f other)) (s.right k f (omega (arith, other, below)))
         ];
         recorded = took;
-        few = omega (arith, s.few, one.few, short);
+        few = omega (arith, s.few, one.few, next_short a b ls ms ws vs count files d e s lt of);
       }
 
 -- All are settled.
+
+pub all_recorded : (a b : Kept) (ls ms : List WorkLanes) (ws vs : List Worker) → SoFar a b ls ms ws vs (length ls) → length ws ≡ length ls → TakesAll a b (all_waiting ls ws)
+all_recorded a b ls ms ws vs s many = subst (TakesAll a b) (ap₂ all_waiting (take_all (length ls) ls (omega arith)) (take_all (length ls) ws (omega (arith, many)))) s.recorded
 
 pub all_settled : (a b : Kept) (ls ms : List WorkLanes) (ws vs : List Worker) (e : Worker) → SoFar a b ls ms ws vs (length ls) → 0 < length ls → AreLanesOf a.setup.files ls ws → IsLawfulApart b.setup (history b) → IsSettled b.setup (length vs) (history b) (works_of vs e)
 all_settled a b ls ms ws vs e s some of lawful =

@@ -9,7 +9,9 @@ use Rattle.uring_machine.specs.Published.{published_items}
 use Rattle.uring_machine.specs.Standing.{Stands}
 use Rattle.uring_threads.specs.Delivered.{KeepsAllBut, OnlyPosts}
 use Rattle.uring_threads.specs.Dispatched.{HaveCarried, AreSameLanes, SomeIsFull}
+use Rattle.uring_machine.specs.World.{World}
 use Rattle.uring_threads.specs.Kept.{Kept, now, IsUnmoved}
+use Rattle.uring_threads.specs.Kernel.{Kernel, IsKernel}
 use Rattle.uring_threads.specs.Ports.{Put}
 use Rattle.uring_threads.specs.Taking.{TakesIn}
 use Rattle.uring_threads.specs.Tallies.{Tally, Appends, both, none_counted, issues_counted, finishes_counted, reaps_counted}
@@ -17,8 +19,8 @@ use Rattle.uring_threads.specs.Turns.{AreTies, Counts, IsDelivered, Tied, Closes
 use Rattle.uring_threads.specs.declared.intake.Intake.{Intake}
 use Rattle.uring_threads.specs.declared.work_lanes.WorkLanes.{WorkLanes}
 use Rattle.uring_threads.proofs.Carrying.{quiet_stays, carried_stays}
-use Rattle.uring_threads.proofs.Closing.{once_stays}
-use Rattle.uring_threads.proofs.TraceSteps.{appends_none, appends_then}
+use Rattle.uring_threads.proofs.Closing.{once_stays, once_unmoved}
+use Rattle.uring_threads.proofs.TraceSteps.{unmoved_now, appends_none, appends_then}
 
 -- a call or the close mark was taken in
 pub ties_taken : (a b : Kept) (pulled later : Put) (delivered : List Cqe) (i j : Intake) (lanes : List WorkLanes) (n : ℕ) → AreTies a pulled delivered i lanes → TakesIn a b n → Tied a.setup.sq (now b) later j → (ClosesOnce a i → ClosesOnce b j) → (now b).completions ≡ (now a).completions
@@ -96,6 +98,26 @@ ties_worked a b c d pulled later before delivered i j lanes collected issued n t
 -- where nothing was delivered
 pub ties_unmoved : (a b : Kept) (pulled : Put) (before delivered : List Cqe) (i : Intake) (lanes : List WorkLanes) → AreTies a pulled before i lanes → IsUnmoved a b → KeepsAllBut (now a) (now b) → IsDelivered (now b).completions delivered → AreTies b pulled delivered i lanes
 ties_unmoved a b pulled before delivered i lanes s u keeps reaped = ties_delivered a b pulled before delivered i lanes none_counted s (appends_none a b u) refl refl refl keeps reaped
+
+-- The dispatcher's end where nothing happened but that its trace may have more memory.
+pub kernel_unmoved : (k : Kernel) (kept : Kept) → IsUnmoved k.kept kept → IsKernel k → IsKernel (record k { kept = kept })
+kernel_unmoved k kept u is =
+    let sizes : kept.setup ≡ k.kept.setup = u.setup in
+    let same : now kept ≡ now k.kept = unmoved_now k.kept kept u in
+    record {
+      sq = is.sq ∙ ap (λ (g : Setup). g.sq) (sym sizes);
+      cq = is.cq ∙ ap (λ (g : Setup). g.cq) (sym sizes);
+      some = is.some;
+      few = is.few;
+      hold = is.hold;
+      short = is.short;
+      ties = record {
+        tied = subst (λ (g : Setup). Tied g.sq (now kept) k.pulled k.intake) (sym sizes) (subst (λ w. Tied k.kept.setup.sq w k.pulled k.intake) (sym same) is.ties.tied);
+        once = once_unmoved k.kept kept k.intake u is.ties.once;
+        delivered = subst (λ (w : World). IsDelivered w.completions k.reaped) (sym same) is.ties.delivered;
+        carried = carried_stays k.kept kept k.lanes (quiet_stays k.kept kept none_counted (appends_none k.kept kept u) refl refl) is.ties.carried;
+      };
+    }
 
 -- some events, and then some
 pub some_then : (a b c : Kept) (t u : Tally) → Appends a b t → Appends b c u → (x : Tally) × Appends a c x

@@ -1,9 +1,10 @@
 -- What was pulled stays tied to the submission ring.
-use Rattle.std.proofs.Common.{◌≡◌, ℕ, ◌+◌, ◌<◌, ◌≤◌, false, List, [], ◌∷◌, ◌++◌, length, refl, sym, subst, ap, ap₂, ◌∙◌, arith, append_assoc, append-nil}
+use Rattle.std.proofs.Common.{◌≡◌, ℕ, ◌+◌, ◌<◌, ◌≤◌, true, false, List, [], ◌∷◌, ◌++◌, length, refl, sym, subst, ap, ◌∙◌, arith, append_assoc, append-nil}
 use Rattle.std.proofs.lemmas.List.{map-append}
 use Rattle.std.proofs.lemmas.List.Sums.{sum_by_push}
 use Rattle.uring_entry.specs.Submission.{Submission}
-use Rattle.uring_machine.specs.World.{World}
+use Rattle.uring_machine.specs.World.{World, closing}
+use Rattle.uring_machine.specs.StepAnswers.{close_answer}
 use Rattle.uring_machine.specs.Standing.{Stands}
 use Rattle.uring_threads.specs.Items.{all_published_as}
 use Rattle.uring_threads.specs.Ports.{Put, items_of_calls}
@@ -14,18 +15,20 @@ use Rattle.uring_threads.specs.Items.{published_as}
 use Rattle.uring_entry.specs.Setup.{Setup}
 use Rattle.uring_machine.specs.declared.step.Step.TheVariants as step
 use Rattle.uring_machine.specs.declared.answer.Answer.{Answer}
+use Rattle.uring_machine.specs.declared.answer.Answer.TheVariants as answer
 use Rattle.uring_threads.specs.Kept.{Kept, IsUnmoved, Grows, now}
-use Rattle.uring_threads.specs.Ports.{with_call}
+use Rattle.uring_threads.specs.Ports.{Pulls, with_call, with_close}
+use Rattle.uring_threads.specs.declared.pulled.Pulled.{Pulled}
 use Rattle.uring_threads.specs.Rows.{with_items_published}
 use Rattle.uring_threads.specs.Taking.{TakesIn}
 use Rattle.uring_threads.specs.Tallies.{Appends, call_counted, whole_call_counted, close_counted}
 use Rattle.uring_threads.proofs.ItemSteps.{items_stand}
-use Rattle.uring_threads.proofs.TraceSteps.{unmoved_now, appends_none, appends_one, appends_then, appends_behind}
+use Rattle.uring_threads.proofs.TraceSteps.{grown, unmoved_now, appends_none, appends_one, appends_then}
 use Rattle.uring_machine.specs.Published.{Published, with_entry, bad_word, IsItem}
 use Rattle.uring_machine.specs.Standing.{with_item, with_items}
 use Rattle.uring_machine.proofs.Standing.{items_published, tail_publishes}
 use Rattle.uring_threads.specs.declared.item.Item.{Item}
-use Rattle.std.specs.Prelude.{All, Result, Ok, Err, IfOk, OnErr}
+use Rattle.std.specs.Prelude.{All, Result, Ok, Err, IfOk, OnErr, None, is_some, if◌then◌else◌}
 use Rattle.std.proofs.lemmas.List.{length-map, length-append, get_or_append_left}
 use Rattle.std.proofs.lemmas.List.Elements.{All-tail}
 use Rattle.uring_threads.specs.declared.calls.Begun.{Begun}
@@ -118,24 +121,65 @@ takes_then a b c n m k p q sums =
       idle = λ none. q.idle (omega (arith, none, sums)) ∙ p.idle (omega (arith, none, sums));
     }
 
--- so it stands once room was asked for, a call pulled, and its items taken
-pub tied_taken : (a r b : Kept) (size n : ℕ) (put after : Put) (items taken : List Item) (i : Intake) (x : Begun) → IsUnmoved a r → Tied a.setup.sq (now a) put i → i ≡ intake.Ready → size ≡ a.setup.sq
-    → (0 < length items) × (length items ≤ size) × (put.closed ≡ false) × (after ≡ with_call put items) → taken ≡ items → n ≡ length items
-    → now b ≡ with_begun_as (with_items_published r.setup.sq (now r) (all_published_as taken)) (length taken) x → Tied a.setup.sq (now b) after (intake_after n x)
-tied_taken a r b size n put after items taken i x u t ready sizes pulled same many e =
-    subst (λ m. Tied a.setup.sq (now b) after (intake_after m x)) (sym many)
-    (tied_pulled a.setup.sq (now a) (now b) put after items x (subst (Tied a.setup.sq (now a) put) ready t) pulled.2 (omega (arith, pulled.1, sizes)) pulled.3
-    (e ∙ ap₂ (λ (w : World) (xs : List Item). with_begun_as (with_items_published r.setup.sq w (all_published_as xs)) (length xs) x) (unmoved_now a r u) same
-    ∙ ap (λ (g : Setup). with_begun_as (with_items_published g.sq (now a) (all_published_as items)) (length items) x) u.setup))
+-- A row of the intake where nothing happened before but that room was asked for.
+
+pub tied_still : (a r : Kept) (put : Put) (i : Intake) → IsUnmoved a r → Tied a.setup.sq (now a) put i → Tied a.setup.sq (now r) put i
+tied_still a r put i u t = subst (λ w. Tied a.setup.sq w put i) (sym (unmoved_now a r u)) t
+
+pub takes_behind : (a r b : Kept) (n : ℕ) → IsUnmoved a r → TakesIn r b n → TakesIn a b n
+takes_behind a r b n u p = takes_then a r b 0 n n (takes_nothing a r u) p (omega arith)
+
+pub completions_behind : (a r b : Kept) → IsUnmoved a r → (now b).completions ≡ (now r).completions → (now b).completions ≡ (now a).completions
+completions_behind a r b u same = same ∙ ap (λ (w : World). w.completions) (unmoved_now a r u)
+
+-- the call that waits, as it stands then
+pub call_waits : (a r : Kept) (put : Put) (count : ℕ) (i : Intake) → IsUnmoved a r → i ≡ intake.Waiting count → Tied a.setup.sq (now a) put i → ((now r).is_closed ≡ false) × Stands (now r).submission [] count
+call_waits a r put count i u waits t =
+    let s : Tied a.setup.sq (now a) put (intake.Waiting count) = subst (Tied a.setup.sq (now a) put) waits t in
+    subst (λ (w : World). (w.is_closed ≡ false) × Stands w.submission [] count) (sym (unmoved_now a r u)) (s.closed ∙ sym s.shut, subst (Stands (now a).submission []) (omega arith) s.stands)
+
+-- and once it was begun again
+pub tied_again : (a r b : Kept) (put : Put) (count : ℕ) (i : Intake) (x : Begun) → IsUnmoved a r → i ≡ intake.Waiting count → now b ≡ with_begun_as (now r) count x → Tied a.setup.sq (now a) put i → Tied a.setup.sq (now b) put (intake_after count x)
+tied_again a r b put count i x u waits e t = tied_begun a.setup.sq (now a) (now b) put count x (subst (Tied a.setup.sq (now a) put) waits t) (e ∙ ap (λ w. with_begun_as w count x) (unmoved_now a r u))
+
+pub begun_completions : (w : World) (count : ℕ) (x : Begun) → (with_begun_as w count x).completions ≡ w.completions
+begun_completions w count begun.Taken = refl
+begun_completions w count begun.Again = refl
+begun_completions w count begun.Spent = refl
+
+pub again_completions : (a r b : Kept) (count : ℕ) (x : Begun) → IsUnmoved a r → now b ≡ with_begun_as (now r) count x → (now b).completions ≡ (now a).completions
+again_completions a r b count x u e = completions_behind a r b u (ap (λ (w : World). w.completions) e ∙ begun_completions (now r) count x)
+
+-- what was pulled
+pub pulled_at : (a r : Kept) (before after : Put) (size : ℕ) (x : Pulled) (items taken : List Item) (i : Intake) → IsUnmoved a r → size ≡ a.setup.sq → taken ≡ items → Tied a.setup.sq (now a) before i → Pulls size before x items after
+    → Tied r.setup.sq (now r) before i × Pulls r.setup.sq before x taken after
+pulled_at a r before after size x items taken i u sizes same t p = (
+  subst (λ (g : Setup). Tied g.sq (now r) before i) (sym u.setup) (tied_still a r before i u t),
+  subst (λ n. Pulls n before x taken after) (sizes ∙ ap (λ (g : Setup). g.sq) (sym u.setup)) (subst (λ xs. Pulls size before x xs after) (sym same) p),
+)
+
+-- What was pulled is taken.
+
+pub tied_taken : (a b : Kept) (before after : Put) (items : List Item) (i : Intake) (x : Begun) → i ≡ intake.Ready → now b ≡ with_begun_as (with_items_published a.setup.sq (now a) (all_published_as items)) (length items) x → Tied a.setup.sq (now a) before i
+    → (0 < length items) × (length items ≤ a.setup.sq) × (before.closed ≡ false) × (after ≡ with_call before items) → Tied a.setup.sq (now b) after (intake_after (length items) x)
+tied_taken a b before after items i x ready e t pulled = tied_pulled a.setup.sq (now a) (now b) before after items x (subst (Tied a.setup.sq (now a) before) ready t) pulled.2 pulled.1 pulled.3 e
+
+pub taken_completions : (a b : Kept) (items : List Item) (x : Begun) → now b ≡ with_begun_as (with_items_published a.setup.sq (now a) (all_published_as items)) (length items) x → (now b).completions ≡ (now a).completions
+taken_completions a b items x e = ap (λ (w : World). w.completions) e ∙ begun_completions (with_items_published a.setup.sq (now a) (all_published_as items)) (length items) x
+
+-- the close mark, of a ring that is in no call
+pub closed_world : (a b : Kept) (x : Answer) → Grows a b (step.Close, x) → x ≡ close_answer (now a) → (now a).submission.call ≡ None → now b ≡ record (now a) { is_closed = true }
+closed_world a b x g called between = grown a b step.Close x g ∙ ap (closing (now a)) (called ∙ ap (λ c. if is_some c then answer.InCall else answer.Shut) between)
+
+pub tied_shut : (a b : Kept) (x : Answer) (before after : Put) (i : Intake) → i ≡ intake.Ready → Grows a b (step.Close, x) → x ≡ close_answer (now a) → Tied a.setup.sq (now a) before i → after ≡ with_close before → Tied a.setup.sq (now b) after intake.Closed
+tied_shut a b x before after i ready g called tied pulled =
+    let t : Tied a.setup.sq (now a) before intake.Ready = subst (Tied a.setup.sq (now a) before) ready tied in
+    subst (λ w. Tied a.setup.sq w after intake.Closed) (sym (closed_world a b x g called t.stands.call))
+    (subst (λ p. Tied a.setup.sq (record (now a) { is_closed = true }) p intake.Closed) (sym pulled) (record { published = t.published; calls = t.calls; stands = t.stands; closed = refl; shut = refl }))
 
 -- what that appended
-pub takes_taken : (a r b : Kept) (n : ℕ) (items taken : List Item) → IsUnmoved a r → taken ≡ items → n ≡ length items → Appends r b (whole_call_counted (length taken)) → TakesIn a b n
-takes_taken a r b n items taken u same many p =
-    takes_call a b n (appends_behind a r b _ u (subst (λ m. Appends r b (whole_call_counted m)) (ap length same ∙ sym many) p))
-
--- what a close appended
-pub takes_shut : (a r b : Kept) (x : Answer) → IsUnmoved a r → Grows r b (step.Close, x) → TakesIn a b 0
-takes_shut a r b x u g = takes_close a b (appends_behind a r b _ u (appends_one r b (step.Close, x) close_counted g refl))
+pub takes_shut : (a b : Kept) (x : Answer) → Grows a b (step.Close, x) → TakesIn a b 0
+takes_shut a b x g = takes_close a b (appends_one a b (step.Close, x) close_counted g refl)
 
 -- what holds in any case holds of an error
 pub on_err : {A E : Type 0} (r : Result A E) (P : Type 0) → P → OnErr r P

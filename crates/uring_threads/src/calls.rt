@@ -13,7 +13,7 @@ use crate::put_items::put_items;
 use uring_machine::{Answer, Step};
 
 /// How a call was begun.
-#[derive(Clone, Copy, Debug, PartialEq, Eq)]
+#[derive(Clone, Copy)]
 pub enum Begun {
     /// It took all positions that waited, and closed.
     Taken,

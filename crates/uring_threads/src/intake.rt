@@ -1,10 +1,10 @@
 //! Calls that the dispatcher takes in from its port, and the close mark.
-ghost use Rattle.std.specs.Prelude.{◌≡◌, ◌+◌, ◌≤◌, length, IfOk, OnErr, vec_capacity};
+ghost use Rattle.std.specs.Prelude.{◌≡◌, ◌+◌, ◌*◌, ◌≤◌, length, IfOk, OnErr, vec_capacity};
 ghost use Rattle.uring_threads.specs.Kept.{now};
 ghost use Rattle.uring_threads.specs.Taking.{TakesIn, intake_after};
 ghost use Rattle.uring_threads.specs.Turns.{ClosesOnce, Tied};
 ghost use Rattle.uring_threads.specs.Turns as turns;
-ghost use Rattle.uring_threads.specs.Ports.{Put};
+ghost use Rattle.uring_threads.specs.Ports.{Put, Pulls};
 ghost use Rattle.uring_threads.specs.declared.intake.Intake.TheVariants.{Ready};
 
 use crate::calls::{Begun, begin_call, take_call};
@@ -16,7 +16,7 @@ use std::alloc::AllocError;
 use uring_machine::Step;
 
 /// How the dispatcher stands with what it pulls.
-#[derive(Clone, Copy, Debug, PartialEq, Eq)]
+#[derive(Clone, Copy, PartialEq, Eq)]
 pub enum Intake {
     /// All that was pulled is taken: the next call may come.
     Ready,
@@ -66,6 +66,32 @@ fn retry(kept: &mut Kept, intake: &mut Intake) -> Result<(), AllocError>
     Ok(())
 }
 
+/// Takes what was pulled: publishes and begins the call, or closes the ring. Returns how many items it took. Conditions: no call waits, these are the items of the call that was pulled, and the trace has room for a call of a whole ring.
+fn take_pulled(kept: &mut Kept, items: &[Item], intake: &mut Intake, pulled: Pulled) -> u64
+    requires room { length kept.old.trace + 3 * kept.old.setup.sq + 4 ≤ kept.old.room }
+    requires ready { intake.old ≡ Ready }
+    requires tied { (before : Put) × (after : Put) × Tied kept.old.setup.sq (now kept.old) before intake.old × Pulls kept.old.setup.sq before pulled items.now after }
+    ensures tied { (before after : Put) → Tied kept.old.setup.sq (now kept.old) before intake.old → Pulls kept.old.setup.sq before pulled items.now after → Tied kept.old.setup.sq (now kept.new) after intake.new }
+    ensures completions { (now kept.new).completions ≡ (now kept.old).completions }
+    ensures taken { TakesIn kept.old kept.new result }
+    ensures once { ClosesOnce kept.old intake.old → ClosesOnce kept.new intake.new }
+{
+    kept.is_lawful();
+    match pulled {
+        Pulled::Call => {
+            let begun = take_call(kept, items);
+            *intake = Intake::after(items.len() as u32, begun);
+            items.len() as u64
+        }
+        Pulled::Close => {
+            kept.step_reserved(Step::Close);
+            *intake = Intake::Closed;
+            0
+        }
+        Pulled::Nothing => 0,
+    }
+}
+
 /// Pulls one call, or the close mark, or nothing: publishes and begins the call, or closes the ring. Returns how many items it pulled. `AllocError`: the trace had no room, and nothing was done.
 fn pull_call<P: KernelPort>(
     kept: &mut Kept,
@@ -90,19 +116,8 @@ fn pull_call<P: KernelPort>(
 {
     let size = kept.setup().sq();
     kept.reserve(3 * size as usize + 4)?;
-    match port.pull(items) {
-        Pulled::Call => {
-            let begun = take_call(kept, items);
-            *intake = Intake::after(items.len() as u32, begun);
-            Ok(items.len() as u64)
-        }
-        Pulled::Close => {
-            kept.step_reserved(Step::Close);
-            *intake = Intake::Closed;
-            Ok(0)
-        }
-        Pulled::Nothing => Ok(0),
-    }
+    let pulled = port.pull(items);
+    Ok(take_pulled(kept, items, intake, pulled))
 }
 
 /// Begins the call that waits once more, if one does, and pulls one call or the close mark, if none waits then. Returns how many items it pulled; they replace what `items` held.

@@ -148,13 +148,4 @@ impl Kept {
         // A body knows the invariant once it reads a field.
         let _core = &self.core;
     }
-
-    /// The trace alone.
-    pub fn into_trace(self) -> Vec<(Step, Answer)>
-        ensures trace { result.items ≡ self.trace }
-        ensures lawful { IsLawfulApart self.setup (history_of result.items) }
-        ensures limits { IsWithinLimits self.setup }
-    {
-        self.trace
-    }
 }

@@ -18,7 +18,7 @@ use crate::item::Item;
 use crate::kept::Kept;
 use crate::ports::KernelPort;
 use crate::pulled::Rests;
-use crate::report::list_for_waiting;
+use crate::report::room_to_settle;
 use crate::turns::{Turn, make_turn};
 use crate::work_lanes::{LANE_LENGTH, WorkLanes};
 use std::alloc::{AllocError, Global};
@@ -142,8 +142,7 @@ impl<P: KernelPort> Kernel<P> {
         ensures list { IfOk result (λ list. length (unreaped (now self.old.kept).completions) + 64 * length self.old.lanes ≤ vec_capacity list) }
     {
         let results = LANE_LENGTH * self.lanes.len();
-        self.kept.reserve(results)?;
-        list_for_waiting(alloc, &self.kept, results)
+        room_to_settle(alloc, &mut self.kept, results)
     }
 
     /// Ends both ports of the pair, and hands out the trace, the lanes, and what the ports still held.

@@ -1,15 +1,16 @@
 //! All the ends of a set-up.
-ghost use Rattle.std.specs.Prelude.{◌≡◌, ℕ, List, ◌↔◌, ◌<◌, ◌≤◌, [], length, true, false, None, IfOk, IsErrOf, OnOk};
-ghost use Rattle.uring_threads.specs.Opening.{AreBadWorkers, AreEnds};
+ghost use Rattle.std.specs.Prelude.{◌≡◌, ℕ, List, ◌↔◌, ◌<◌, ◌≤◌, [], length, true, false, None, IfOk, IsErrOf, OnOk, vec_capacity};
+ghost use Rattle.uring_threads.specs.Opening.{AreBadWorkers, AreEnds, AreOpened};
 ghost use Rattle.uring_threads.specs.Ports.{nothing_put, sizes_of};
 
 use crate::app_end::AppEnd;
 use crate::gate::Gate;
+use crate::item::Item;
 use crate::kept::Kept;
 use crate::kernel::Kernel;
 use crate::port_lanes::{AppLanes, KernelLanes, lane_ports};
 use crate::ports::{AppPort, KernelPort};
-use crate::work_lanes::open_all;
+use crate::work_lanes::{WorkLanes, open_all};
 use crate::worker::Worker;
 use std::alloc::{AllocError, Global};
 use uring_entry::Setup;
@@ -46,8 +47,8 @@ pub fn ends<K: KernelPort, G: Gate>(
     ensures bad_workers { IsErrOf result LanesFault.BadWorkers ↔ ((setup.now.stops ≡ false) × AreBadWorkers (length gates.items)) }
 {
     check_ends(setup, gates.len())?;
-    match make_ends(alloc, setup, gates, app, kernel) {
-        Ok(ends) => Ok(ends),
+    match open_inner(alloc, setup, gates) {
+        Ok(inner) => Ok(join_ends(inner, app, kernel)),
         Err(AllocError) => Err(LanesFault::NoMemory),
     }
 }
@@ -89,26 +90,75 @@ pub fn check_ends(setup: &Setup, count: usize) -> Result<(), LanesFault>
     Ok(())
 }
 
-// The same where calls don't stop and there are 1 to 8 gates.
-fn make_ends<K: KernelPort, G: Gate>(
-    alloc: Global,
-    setup: &Setup,
-    gates: Vec<G>,
+/// What a set-up has beside its ports, before anything is done with it: nothing is recorded, sent or carried out.
+#[derive(Drop)]
+struct Inner<G: Gate> {
+    kept: Kept,
+    // Empty, with room for the items of a whole ring.
+    items: Vec<Item>,
+    lanes: Vec<WorkLanes>,
+    workers: Vec<Worker<G>>,
+}
+
+/// An empty trace of this set-up, and an empty list with room for the items of a whole ring. Condition: its calls don't stop.
+fn open_trace(alloc: Global, setup: &Setup) -> Result<(Kept, Vec<Item>), AllocError>
+    requires { setup.now.stops ≡ false }
+    ensures trace { IfOk result (λ r. r.0.trace ≡ []) }
+    ensures setup { IfOk result (λ r. r.0.setup ≡ setup.now) }
+    ensures items { IfOk result (λ r. setup.now.sq ≤ vec_capacity r.1) }
+{
+    let items = Vec::with_capacity(alloc, setup.sq() as usize)?;
+    let Ok(kept) = Kept::new(alloc, setup) else {
+        return Err(AllocError);
+    };
+    Ok((kept, items))
+}
+
+/// What this set-up has beside its ports, with a worker behind each gate. Conditions: its calls don't stop, and there are at most 8 gates.
+fn open_inner<G: Gate>(alloc: Global, setup: &Setup, gates: Vec<G>) -> Result<Inner<G>, AllocError>
+    requires goes_on { setup.now.stops ≡ false }
+    requires few { length gates.items ≤ 8 }
+    ensures trace { IfOk result (λ inner. inner.kept.trace ≡ []) }
+    ensures setup { IfOk result (λ inner. inner.kept.setup ≡ setup.now) }
+    ensures items { IfOk result (λ inner. setup.now.sq ≤ vec_capacity inner.items) }
+    ensures many { IfOk result (λ inner. length inner.lanes.items ≡ length gates.items) }
+    ensures opened { IfOk result (λ inner. AreOpened setup.now.files inner.lanes.items inner.workers.items) }
+{
+    let (lanes, workers) = open_all(alloc, setup.files(), gates)?;
+    let Ok((kept, items)) = open_trace(alloc, setup) else {
+        return Err(AllocError);
+    };
+    Ok(Inner {
+        kept,
+        items,
+        lanes,
+        workers,
+    })
+}
+
+/// The ends over two fresh ports of one pair. Condition: there are 1 to 8 workers.
+fn join_ends<K: KernelPort, G: Gate>(
+    inner: Inner<G>,
     app: K::App,
     kernel: K,
-) -> Result<(AppEnd<K::App>, Kernel<K>, Vec<Worker<G>>), AllocError>
-    requires goes_on { setup.now.stops ≡ false }
-    requires some { 0 < length gates.items }
-    requires few { length gates.items ≤ 8 }
+) -> (AppEnd<K::App>, Kernel<K>, Vec<Worker<G>>)
+    requires trace { inner.kept.trace ≡ [] }
+    requires items { inner.kept.setup.sq ≤ vec_capacity inner.items }
+    requires some { 0 < length inner.lanes.items }
+    requires few { length inner.lanes.items ≤ 8 }
+    requires opened { AreOpened inner.kept.setup.files inner.lanes.items inner.workers.items }
     requires pairing { K.pairing kernel ≡ K.App.pairing app }
-    requires app { (K.App.sizes app ≡ sizes_of setup.now) × (K.App.put app ≡ nothing_put) × (K.App.got app ≡ []) }
-    requires kernel { (K.sizes kernel ≡ sizes_of setup.now) × (K.pulled kernel ≡ nothing_put) × (K.delivered kernel ≡ []) }
-    ensures ok { IfOk result (λ ends. AreEnds setup.now (length gates.items) (K.pairing kernel) ends.0 ends.1 ends.2.items) }
-    ensures dropped { IfOk result (λ ends. (ends.0.dropped ≡ K.App.dropped app) × (ends.1.dropped ≡ K.dropped kernel)) }
+    requires app { (K.App.sizes app ≡ sizes_of inner.kept.setup) × (K.App.put app ≡ nothing_put) × (K.App.got app ≡ []) }
+    requires kernel { (K.sizes kernel ≡ sizes_of inner.kept.setup) × (K.pulled kernel ≡ nothing_put) × (K.delivered kernel ≡ []) }
+    ensures ends { AreEnds inner.kept.setup (length inner.lanes.items) (K.pairing kernel) result.0 result.1 result.2.items }
+    ensures dropped { (result.0.dropped ≡ K.App.dropped app) × (result.1.dropped ≡ K.dropped kernel) }
 {
-    let kept = Kept::new(alloc, setup)?;
-    let items = Vec::with_capacity(alloc, setup.sq() as usize)?;
-    let (lanes, workers) = open_all(alloc, setup.files(), gates)?;
-    let app = AppEnd::new(app, setup.sq());
-    Ok((app, Kernel::new(kept, kernel, items, lanes), workers))
+    let Inner {
+        kept,
+        items,
+        lanes,
+        workers,
+    } = inner;
+    let app = AppEnd::new(app, kept.setup().sq());
+    (app, Kernel::new(kept, kernel, items, lanes), workers)
 }

@@ -1,5 +1,5 @@
 //! What is left once all ends of a set-up are settled.
-ghost use Rattle.std.specs.Prelude.{◌≡◌, ◌+◌, ◌*◌, ◌<◌, ◌≤◌, ◌++◌, [], length, IfOk, vec_capacity};
+ghost use Rattle.std.specs.Prelude.{◌≡◌, ◌+◌, ◌*◌, ◌<◌, ◌≤◌, ◌++◌, [], length, IfOk, OnOk, vec_capacity};
 ghost use Rattle.uring_entry.specs.Completions.{unreaped};
 ghost use Rattle.uring_entry.specs.Setup.{IsWithinLimits};
 ghost use Rattle.uring_files.specs.Operations.{state_of, byte_of};
@@ -7,7 +7,7 @@ ghost use Rattle.uring_machine.specs.CalledFor.{IsLawful, files_of};
 ghost use Rattle.uring_machine.specs.Core.{IsCounts};
 ghost use Rattle.uring_machine.specs.Histories.{history_of};
 ghost use Rattle.uring_threads.specs.Dispatched.{HaveCarried};
-ghost use Rattle.uring_threads.specs.Kept.{now};
+ghost use Rattle.uring_threads.specs.Kept.{now, IsUnmoved};
 ghost use Rattle.uring_threads.specs.Report.{left_by, FinishesAll, LeavesRunning, ReapsPosted};
 ghost use Rattle.uring_threads.specs.Opening.{AreLanesOf};
 
@@ -158,12 +158,23 @@ impl<G: Gate> Report<G> {
     }
 }
 
-/// An empty list with room for all completions that were posted and not reaped, and for so many more.
-pub(crate) fn list_for_waiting(
+/// Makes room in the trace for so many results, and an empty list with room for all completions that may wait then. `AllocError`: the system is out of memory.
+pub(crate) fn room_to_settle(
     alloc: Global,
-    kept: &Kept,
-    more: usize,
+    kept: &mut Kept,
+    results: usize,
 ) -> Result<Vec<Cqe>, AllocError>
+    ensures unmoved { IsUnmoved kept.old kept.new }
+    ensures room { OnOk result (length kept.old.trace + results ≤ kept.new.room) }
+    ensures empty { IfOk result (λ list. list.items ≡ []) }
+    ensures list { IfOk result (λ list. length (unreaped (now kept.old).completions) + results ≤ vec_capacity list) }
+{
+    kept.reserve(results)?;
+    list_for_waiting(alloc, kept, results)
+}
+
+/// An empty list with room for all completions that were posted and not reaped, and for so many more.
+fn list_for_waiting(alloc: Global, kept: &Kept, more: usize) -> Result<Vec<Cqe>, AllocError>
     ensures empty { IfOk result (λ list. list.items ≡ []) }
     ensures room { IfOk result (λ list. length (unreaped (now kept.now).completions) + more ≤ vec_capacity list) }
 {

@@ -1,6 +1,40 @@
-use Rattle.uring_threads.proofs.CallSteps.{begun_cases}
+use Rattle.std.proofs.Common.{refl, ap, ◌∙◌}
+use Rattle.uring_machine.specs.Standing.{in_call}
+use Rattle.uring_machine.specs.World.{beginning}
+use Rattle.uring_machine.specs.declared.step.Step.TheVariants as step
+use Rattle.uring_threads.specs.Kept.{now}
+use Rattle.uring_threads.specs.Tallies.{call_counted}
+use Rattle.uring_threads.proofs.CallSteps.{begun_cases, opened_now, closed_now, call_counts}
+use Rattle.uring_threads.proofs.TraceSteps.{appends_one, grown}
 use Rattle.uring_threads.proofs.calls.begin_call.Goals as goal
 
 pub unreachable-requires : goal.unreachable-requires
 unreachable-requires c =
     begun_cases c.args.kept.now c.args.count c.step_reserved.result c.requires.stands c.requires.not_closed c.step_reserved.ensures.called c.in_default.not-Call c.in_default.not-Again c.in_default.not-Spent
+
+pub returns-in-Again-clause-world : goal.returns-in-Again-clause-world
+returns-in-Again-clause-world c = grown c.args.kept.now c.step_reserved.new.self (step.Begin c.args.count) c.step_reserved.result c.step_reserved.ensures.grows ∙ ap (beginning (now c.args.kept.now) c.args.count) c.in-Again.is
+
+pub returns-in-Again-clause-tally : goal.returns-in-Again-clause-tally
+returns-in-Again-clause-tally c = appends_one c.args.kept.now c.step_reserved.new.self (step.Begin c.args.count, c.step_reserved.result) call_counted c.step_reserved.ensures.grows refl
+
+pub returns-in-Spent-clause-world : goal.returns-in-Spent-clause-world
+returns-in-Spent-clause-world c = grown c.args.kept.now c.step_reserved.new.self (step.Begin c.args.count) c.step_reserved.result c.step_reserved.ensures.grows ∙ ap (beginning (now c.args.kept.now) c.args.count) c.in-Spent.is
+
+pub returns-in-Spent-clause-tally : goal.returns-in-Spent-clause-tally
+returns-in-Spent-clause-tally c = appends_one c.args.kept.now c.step_reserved.new.self (step.Begin c.args.count, c.step_reserved.result) call_counted c.step_reserved.ensures.grows refl
+
+pub take_all-requires-clause-in_call : goal.take_all-requires-clause-in_call
+take_all-requires-clause-in_call c =
+    (now c.args.kept.now, c.requires.stands, opened_now c.args.kept.now c.step_reserved.new.self c.args.count _ c.step_reserved.result c.requires.stands c.requires.not_closed c.in-Call.is c.step_reserved.ensures.grows c.step_reserved.ensures.called)
+
+pub returns-clause-world : goal.returns-clause-world
+returns-clause-world c =
+    let opened = opened_now c.args.kept.now c.step_reserved.new.self c.args.count _ c.step_reserved.result c.requires.stands c.requires.not_closed c.in-Call.is c.step_reserved.ensures.grows c.step_reserved.ensures.called in
+    closed_now c.args.kept.now c.take_all.new.kept c.step_reserved-2.new.self c.step_reserved-3.new.self c.args.count c.step_reserved-2.result c.step_reserved-3.result c.requires.stands
+    (c.take_all.ensures.world ∙ ap (λ w. in_call w c.args.count c.args.count) opened) c.step_reserved-2.ensures.grows c.step_reserved-2.ensures.called c.step_reserved-3.ensures.grows
+
+pub returns-clause-tally : goal.returns-clause-tally
+returns-clause-tally c =
+    call_counts c.args.kept.now c.step_reserved.new.self c.take_all.new.kept c.step_reserved-2.new.self c.step_reserved-3.new.self c.args.count c.step_reserved.result c.step_reserved-2.result c.step_reserved-3.result
+    c.step_reserved.ensures.grows c.take_all.ensures.tally c.step_reserved-2.ensures.grows c.step_reserved-3.ensures.grows

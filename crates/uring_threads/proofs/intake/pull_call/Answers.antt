@@ -1,21 +1,39 @@
-use Rattle.std.proofs.Common.{sym, subst, arith}
+use Rattle.std.proofs.Common.{subst}
+use Rattle.uring_entry.specs.Setup.{Setup}
 use Rattle.uring_threads.specs.Kept.{now}
 use Rattle.uring_threads.specs.Taking.{TakesIn}
 use Rattle.uring_threads.specs.Turns.{Tied}
-use Rattle.uring_threads.proofs.Tying.{on_err, takes_nothing, takes_taken, takes_shut, tied_taken}
+use Rattle.uring_threads.proofs.Closing.{once_unmoved}
+use Rattle.uring_threads.proofs.Tying.{completions_behind, on_err, pulled_at, takes_behind, takes_nothing, tied_still}
 use Rattle.uring_threads.proofs.intake.pull_call.Goals as goal
+
+pub returns-in_err-reserve-clause-tied : goal.returns-in_err-reserve-clause-tied
+returns-in_err-reserve-clause-tied g c = tied_still c.args.kept.now c.reserve.new.self (g.P.KernelPort.pulled c.args.port.now) c.args.intake.now c.reserve.ensures.unmoved c.requires.tied
 
 pub returns-in_err-reserve-clause-err : goal.returns-in_err-reserve-clause-err
 returns-in_err-reserve-clause-err g c = on_err c.from_residual.result (TakesIn c.args.kept.now c.reserve.new.self 0) (takes_nothing c.args.kept.now c.reserve.new.self c.reserve.ensures.unmoved)
 
-pub returns-in-Call-clause-tied : goal.returns-in-Call-clause-tied
-returns-in-Call-clause-tied g c =
-    subst (Tied c.args.kept.now.setup.sq (now c.take_call-begun.new.kept) (g.P.KernelPort.pulled c.pull.new.self)) (sym c.after.ensures)
-    (tied_taken c.args.kept.now c.reserve.new.self c.take_call-begun.new.kept _ c.len.result _ _ c.pull.new.items.items c.deref.result.now c.args.intake.now c.take_call-begun.result c.reserve.ensures.unmoved c.requires.tied c.requires.ready c.requires.sizes
-    c.in-Call.ensures.pulled c.deref.ensures.value (omega (arith, c.len.ensures, c.pull.new.items.ok.0)) c.take_call-begun.ensures.world)
+pub returns-in_err-reserve-clause-once : goal.returns-in_err-reserve-clause-once
+returns-in_err-reserve-clause-once g c = once_unmoved c.args.kept.now c.reserve.new.self c.args.intake.now c.reserve.ensures.unmoved
 
-pub returns-in-Call-clause-taken : goal.returns-in-Call-clause-taken
-returns-in-Call-clause-taken g c = takes_taken c.args.kept.now c.reserve.new.self c.take_call-begun.new.kept c.len-in-Call.result c.pull.new.items.items c.deref.result.now c.reserve.ensures.unmoved c.deref.ensures.value (omega (arith, c.len-in-Call.ensures, c.pull.new.items.ok.0)) c.take_call-begun.ensures.tally
+pub take_pulled-requires-clause-tied : goal.take_pulled-requires-clause-tied
+take_pulled-requires-clause-tied g c =
+    let at = pulled_at c.args.kept.now c.reserve.new.self (g.P.KernelPort.pulled c.args.port.now) (g.P.KernelPort.pulled c.pull-pulled.new.self) _ c.pull-pulled.result c.pull-pulled.new.items.items c.deref.result.now c.args.intake.now
+    c.reserve.ensures.unmoved c.requires.sizes c.deref.ensures.value c.requires.tied c.pull-pulled.ensures.pulled in
+    (g.P.KernelPort.pulled c.args.port.now, g.P.KernelPort.pulled c.pull-pulled.new.self, at.0, at.1)
 
-pub returns-in-Close-clause-taken : goal.returns-in-Close-clause-taken
-returns-in-Close-clause-taken g c = takes_shut c.args.kept.now c.reserve.new.self c.step_reserved.new.self c.step_reserved.result c.reserve.ensures.unmoved c.step_reserved.ensures.grows
+pub returns-clause-tied : goal.returns-clause-tied
+returns-clause-tied g c =
+    let before = g.P.KernelPort.pulled c.args.port.now in
+    let after = g.P.KernelPort.pulled c.pull-pulled.new.self in
+    let at = pulled_at c.args.kept.now c.reserve.new.self before after _ c.pull-pulled.result c.pull-pulled.new.items.items c.deref.result.now c.args.intake.now c.reserve.ensures.unmoved c.requires.sizes c.deref.ensures.value c.requires.tied c.pull-pulled.ensures.pulled in
+    subst (λ (s : Setup). Tied s.sq (now c.take_pulled.new.kept) after c.take_pulled.new.intake) c.reserve.ensures.unmoved.setup (c.take_pulled.ensures.tied before after at.0 at.1)
+
+pub returns-clause-completions : goal.returns-clause-completions
+returns-clause-completions g c = completions_behind c.args.kept.now c.reserve.new.self c.take_pulled.new.kept c.reserve.ensures.unmoved c.take_pulled.ensures.completions
+
+pub returns-clause-taken : goal.returns-clause-taken
+returns-clause-taken g c = takes_behind c.args.kept.now c.reserve.new.self c.take_pulled.new.kept c.take_pulled.result c.reserve.ensures.unmoved c.take_pulled.ensures.taken
+
+pub returns-clause-once : goal.returns-clause-once
+returns-clause-once g c = λ once. c.take_pulled.ensures.once (once_unmoved c.args.kept.now c.reserve.new.self c.args.intake.now c.reserve.ensures.unmoved once)

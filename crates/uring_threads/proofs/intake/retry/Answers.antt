@@ -1,13 +1,45 @@
-use Rattle.std.proofs.Common.{refl, arith}
+use Rattle.std.proofs.Common.{refl, sym, subst, arith}
+use Rattle.uring_threads.specs.Kept.{now}
+use Rattle.uring_threads.specs.Turns.{ClosesOnce, Tied}
+use Rattle.uring_threads.proofs.Closing.{once_begun, once_unmoved}
 use Rattle.uring_threads.proofs.TraceSteps.{appends_behind}
-use Rattle.uring_threads.proofs.Tying.{takes_nothing, takes_again}
+use Rattle.uring_threads.proofs.Tying.{again_completions, call_waits, completions_behind, takes_nothing, takes_again, tied_again, tied_still}
 use Rattle.uring_threads.proofs.intake.retry.Goals as goal
+
+pub begin_call-requires-clause-not_closed : goal.begin_call-requires-clause-not_closed
+begin_call-requires-clause-not_closed c = (call_waits c.args.kept.now c.reserve.new.self c.requires.tied.0 c.in-Waiting.count c.args.intake.now c.reserve.ensures.unmoved c.in-Waiting.is c.requires.tied.1).0
+
+pub begin_call-requires-clause-stands : goal.begin_call-requires-clause-stands
+begin_call-requires-clause-stands c = (call_waits c.args.kept.now c.reserve.new.self c.requires.tied.0 c.in-Waiting.count c.args.intake.now c.reserve.ensures.unmoved c.in-Waiting.is c.requires.tied.1).1
+
+pub returns-in_err-reserve-clause-tied : goal.returns-in_err-reserve-clause-tied
+returns-in_err-reserve-clause-tied c = λ put. tied_still c.args.kept.now c.reserve.new.self put c.args.intake.now c.reserve.ensures.unmoved
+
+pub returns-in_err-reserve-clause-completions : goal.returns-in_err-reserve-clause-completions
+returns-in_err-reserve-clause-completions c = completions_behind c.args.kept.now c.reserve.new.self c.reserve.new.self c.reserve.ensures.unmoved refl
 
 pub returns-in_err-reserve-clause-taken : goal.returns-in_err-reserve-clause-taken
 returns-in_err-reserve-clause-taken c = takes_nothing c.args.kept.now c.reserve.new.self c.reserve.ensures.unmoved
 
+pub returns-in_err-reserve-clause-once : goal.returns-in_err-reserve-clause-once
+returns-in_err-reserve-clause-once c = once_unmoved c.args.kept.now c.reserve.new.self c.args.intake.now c.reserve.ensures.unmoved
+
+pub returns-in_ok-reserve-clause-tied : goal.returns-in_ok-reserve-clause-tied
+returns-in_ok-reserve-clause-tied c = λ put tied.
+    subst (Tied c.args.kept.now.setup.sq (now c.begin_call.new.kept) put) (sym c.after.ensures)
+    (tied_again c.args.kept.now c.reserve.new.self c.begin_call.new.kept put c.in-Waiting.count c.args.intake.now c.begin_call.result c.reserve.ensures.unmoved c.in-Waiting.is c.begin_call.ensures.world tied)
+
+pub returns-in_ok-reserve-clause-completions : goal.returns-in_ok-reserve-clause-completions
+returns-in_ok-reserve-clause-completions c = again_completions c.args.kept.now c.reserve.new.self c.begin_call.new.kept c.in-Waiting.count c.begin_call.result c.reserve.ensures.unmoved c.begin_call.ensures.world
+
 pub returns-in_ok-reserve-clause-taken : goal.returns-in_ok-reserve-clause-taken
 returns-in_ok-reserve-clause-taken c = takes_again c.args.kept.now c.begin_call.new.kept (appends_behind c.args.kept.now c.reserve.new.self c.begin_call.new.kept _ c.reserve.ensures.unmoved c.begin_call.ensures.tally)
+
+pub returns-in_ok-reserve-clause-once : goal.returns-in_ok-reserve-clause-once
+returns-in_ok-reserve-clause-once c = λ once.
+    subst (ClosesOnce c.begin_call.new.kept) (sym c.after.ensures)
+    (once_begun c.args.kept.now c.begin_call.new.kept _ c.args.intake.now c.in-Waiting.count c.begin_call.result
+    (appends_behind c.args.kept.now c.reserve.new.self c.begin_call.new.kept _ c.reserve.ensures.unmoved c.begin_call.ensures.tally) refl (λ o. subst (ClosesOnce c.args.kept.now) c.in-Waiting.is o) once)
 
 pub returns-in_default : goal.returns-in_default
 returns-in_default c = record { tied = λ put t. t; completions = refl; taken = takes_nothing c.args.kept.now c.args.kept.now (record { trace = refl; room = omega arith; setup = refl }); once = λ same. same }

@@ -1,8 +1,33 @@
+use Rattle.std.proofs.Common.{◌∙◌, sym, subst}
+use Rattle.uring_entry.specs.Setup.{Setup}
+use Rattle.uring_threads.specs.Kept.{now}
+use Rattle.uring_threads.specs.Turns.{Tied}
 use Rattle.uring_threads.proofs.Tying.{ok_then, err_then}
 use Rattle.uring_threads.proofs.intake.take_in.Goals as goal
+
+pub pull_call-requires-clause-tied : goal.pull_call-requires-clause-tied
+pull_call-requires-clause-tied g c =
+    let pulled = g.P.KernelPort.pulled c.args.port.now in
+    subst (λ (s : Setup). Tied s.sq (now c.retry.new.kept) pulled c.retry.new.intake) (sym c.retry.ensures.taken.appends.setup) (c.retry.ensures.tied pulled c.requires.tied)
+
+pub returns-in_err-retry-clause-tied : goal.returns-in_err-retry-clause-tied
+returns-in_err-retry-clause-tied g c = c.retry.ensures.tied (g.P.KernelPort.pulled c.args.port.now) c.requires.tied
+
+pub returns-in_err-retry-clause-once : goal.returns-in_err-retry-clause-once
+returns-in_err-retry-clause-once g c = c.retry.ensures.once
+
+pub returns-in-Ready-clause-tied : goal.returns-in-Ready-clause-tied
+returns-in-Ready-clause-tied g c =
+    subst (λ (s : Setup). Tied s.sq (now c.pull_call.new.kept) (g.P.KernelPort.pulled c.pull_call.new.port) c.pull_call.new.intake) c.retry.ensures.taken.appends.setup c.pull_call.ensures.tied
+
+pub returns-in-Ready-clause-completions : goal.returns-in-Ready-clause-completions
+returns-in-Ready-clause-completions g c = c.pull_call.ensures.completions ∙ c.retry.ensures.completions
 
 pub returns-in-Ready-clause-taken : goal.returns-in-Ready-clause-taken
 returns-in-Ready-clause-taken g c = ok_then c.pull_call.result c.args.kept.now c.retry.new.kept c.pull_call.new.kept c.retry.ensures.taken c.pull_call.ensures.taken
 
 pub returns-in-Ready-clause-err : goal.returns-in-Ready-clause-err
 returns-in-Ready-clause-err g c = err_then c.pull_call.result c.args.kept.now c.retry.new.kept c.pull_call.new.kept c.retry.ensures.taken c.pull_call.ensures.err
+
+pub returns-in-Ready-clause-once : goal.returns-in-Ready-clause-once
+returns-in-Ready-clause-once g c = λ once. c.pull_call.ensures.once (c.retry.ensures.once once)

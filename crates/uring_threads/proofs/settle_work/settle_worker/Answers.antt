@@ -4,6 +4,18 @@ use Rattle.uring_threads.specs.Work.{jobs_of, results_of}
 use Rattle.uring_threads.proofs.SettledWork.{settled_at}
 use Rattle.uring_threads.proofs.settle_work.settle_worker.Goals as goal
 
+pub take_waiting-requires-clause-work : goal.take_waiting-requires-clause-work
+take_waiting-requires-clause-work g c =
+    let seen = c.see_all.ensures in
+    let carried = c.requires.carried in
+    let waiting = known_items c.see_all.new.lanes.results in (
+      carried.0,
+      carried.1,
+      c.see_all.new.self.done,
+      c.see_all.new.self.seen,
+      record { jobs = seen.jobs ∙ seen.dispatcher.0 ∙ carried.2.jobs; results = ap (λ rs. rs ++ waiting) (sym carried.2.results ∙ sym seen.dispatcher.1) ∙ seen.results },
+    )
+
 pub returns-clause-settled : goal.returns-clause-settled
 returns-clause-settled g c = λ workers k carried.
     let seen = c.see_all.ensures in

@@ -1,6 +1,20 @@
 use Rattle.std.proofs.Common.{rules, ◌≡◌, length, get_or, subst, arith}
-use Rattle.uring_threads.proofs.SettledWorkers.{SoFar, SettlesOne, one_more, all_settled, all_seen}
+use Rattle.uring_threads.proofs.SettledWorkers.{SoFar, SettlesOne, none_so_far, next_paired, next_fits, one_more, all_recorded, all_settled, all_seen}
 use Rattle.uring_threads.proofs.settle_work.settle_workers.Goals as goal
+
+pub loop-k-init : goal.loop-k-init
+loop-k-init g c = none_so_far c.args.kept.now c.args.lanes.now c.args.workers.now c.requires.carried
+
+pub settle_worker-requires-clause-pairing : goal.settle_worker-requires-clause-pairing
+settle_worker-requires-clause-pairing g c =
+    next_paired c.args.kept.now c.loop-k.kept c.args.lanes.now c.loop-k.lanes c.args.workers.now c.loop-k.workers c.loop-k.k c.args.kept.now.setup.files c.index-lanes-k.result c.index-workers-k.result c.loop-k.invariant c.loop-k-test.true c.requires.lanes
+
+pub settle_worker-requires-clause-room : goal.settle_worker-requires-clause-room
+settle_worker-requires-clause-room g c =
+    next_fits c.args.kept.now c.loop-k.kept c.args.lanes.now c.loop-k.lanes c.args.workers.now c.loop-k.workers c.loop-k.k c.args.kept.now.setup.files c.index-lanes-k.result c.index-workers-k.result c.loop-k.invariant c.loop-k-test.true c.requires.lanes c.requires.room
+
+pub settle_worker-requires-clause-carried : goal.settle_worker-requires-clause-carried
+settle_worker-requires-clause-carried g c = (length c.args.lanes.now, c.loop-k.k, c.loop-k.invariant.carried c.loop-k.k c.index-lanes-k.result c.loop-k-test.true)
 
 pub loop-k-preserved : goal.loop-k-preserved
 loop-k-preserved g c =
@@ -10,6 +24,12 @@ loop-k-preserved g c =
     record { trace = c.settle_worker.ensures.trace; few = c.settle_worker.ensures.few; settled = c.settle_worker.ensures.settled; looks = c.settle_worker.ensures.worker; right = c.settle_worker.ensures.right } in
     one_more c.args.kept.now c.loop-k.kept c.settle_worker.new.kept c.args.lanes.now c.loop-k.lanes c.args.workers.now c.loop-k.workers c.loop-k.k c.args.kept.now.setup.files m v c.settle_worker.new.lanes c.settle_worker.new.worker
     c.loop-k.invariant c.loop-k-test.true c.requires.lanes one
+
+pub returns-clause-trace : goal.returns-clause-trace
+returns-clause-trace g c =
+    let end : c.loop-k.k ≡ length c.args.lanes.now = search (rules, arith) in
+    all_recorded c.args.kept.now c.loop-k.kept c.args.lanes.now c.loop-k.lanes c.args.workers.now c.loop-k.workers
+    (subst (SoFar c.args.kept.now c.loop-k.kept c.args.lanes.now c.loop-k.lanes c.args.workers.now c.loop-k.workers) end c.loop-k.invariant) c.requires.lanes.many
 
 pub returns-clause-settled : goal.returns-clause-settled
 returns-clause-settled g c = λ e.

@@ -1,28 +1,57 @@
-use Rattle.std.proofs.Common.{length, ◌≡◌, rules, arith, subst, ap, ◌∙◌}
-use Rattle.std.proofs.lemmas.Grind.{common_steps}
-use Rattle.uring_threads.specs.Dispatched.{HoldJobs, numbers_of_lanes}
+use Rattle.std.proofs.Common.{length, arith, subst, sym, ap, ◌∙◌}
+use Rattle.uring_threads.specs.Dispatched.{HoldJobs, HoldResults, numbers_of_lanes}
+use Rattle.uring_entry.specs.Setup.{Setup}
+use Rattle.uring_threads.specs.Kernel.{Kernel}
+use Rattle.uring_threads.specs.Ports.{Sizes}
+use Rattle.uring_threads.specs.Turns.{AreTies}
 use Rattle.uring_threads.proofs.FewResults.{few_same}
-use Rattle.uring_threads.proofs.FullLanes.{hold_stays, next_is_none, setup_stays}
+use Rattle.uring_threads.proofs.FullLanes.{hold_stays, short_stays, next_is_none, setup_stays}
+use Rattle.uring_threads.proofs.Reporting.{lanes_back}
 use Rattle.uring_threads.proofs.SameEnds.{same_numbers}
 use Rattle.uring_threads.proofs.Turning.{left_same}
 use Rattle.uring_threads.proofs.kernel.Kernel.turn.Goals as goal
 
+pub make_turn-requires-clause-ties : goal.make_turn-requires-clause-ties
+make_turn-requires-clause-ties g c =
+    subst (AreTies c.self.inside.kept (g.P.KernelPort.pulled c.self.inside.port) (g.P.KernelPort.delivered c.self.inside.port) c.self.inside.intake) (sym c.deref_mut.ensures.value) c.self.invariant.1.ties
+
 pub returns-clause-none_left : goal.returns-clause-none_left
-returns-clause-none_left g c = left_same c.make_turn.result c.make_turn.new.kept c.make_turn.new.lanes _ c.make_turn.ensures.none_left (first_of (search rules, grind (arith, common_steps)))
+returns-clause-none_left g c = left_same c.make_turn.result c.make_turn.new.kept c.make_turn.new.lanes _ c.make_turn.ensures.none_left
+    (lanes_back c.self.inside.lanes.len c.self.inside.lanes.items c.deref_mut.result.now c.make_turn.new.lanes c.deref_mut.ensures.value c.make_turn.ensures.lanes (omega (arith, c.self.inside.lanes.ok.0)))
 
 pub returns-clause-next : goal.returns-clause-next
 returns-clause-next g c =
-    let same : c.self.inside.lanes.items ≡ c.deref_mut.result.now = first_of (search rules, grind (arith, common_steps)) in
-    let hold : HoldJobs c.make_turn.new.lanes = hold_stays c.deref_mut.result.now c.make_turn.new.lanes c.make_turn.ensures.lanes (subst HoldJobs same c.self.invariant.1.hold) in
+    let hold = hold_stays c.deref_mut.result.now c.make_turn.new.lanes c.make_turn.ensures.lanes (subst HoldJobs (sym c.deref_mut.ensures.value) c.self.invariant.1.hold) in
     next_is_none c.make_turn.result c.make_turn.new.kept c.make_turn.new.lanes c.make_turn.ensures.none_left c.make_turn.ensures.ties.carried hold
 
 pub returns-clause-setup : goal.returns-clause-setup
-returns-clause-setup g c = setup_stays c.make_turn.result c.self.inside.kept c.make_turn.new.kept c.make_turn.ensures.counts c.make_turn.ensures.err ∙ first_of (search rules, grind (arith, common_steps))
+returns-clause-setup g c = setup_stays c.make_turn.result c.self.inside.kept c.make_turn.new.kept c.make_turn.ensures.counts c.make_turn.ensures.err ∙ ap (λ (k : Kernel). k.kept.setup) c.self.view_is
 
 pub returns-clause-numbers : goal.returns-clause-numbers
 returns-clause-numbers g c =
-    ap numbers_of_lanes (first_of (search rules, grind (arith, common_steps))) ∙ same_numbers c.deref_mut.result.now c.make_turn.new.lanes c.make_turn.ensures.lanes ∙ ap numbers_of_lanes (first_of (search rules, grind (arith, common_steps)))
+    let back = lanes_back c.self.inside.lanes.len c.self.inside.lanes.items c.deref_mut.result.now c.make_turn.new.lanes c.deref_mut.ensures.value c.make_turn.ensures.lanes (omega (arith, c.self.inside.lanes.ok.0)) in
+    ap numbers_of_lanes back ∙ same_numbers c.deref_mut.result.now c.make_turn.new.lanes c.make_turn.ensures.lanes ∙ ap numbers_of_lanes (c.deref_mut.ensures.value ∙ ap (λ (k : Kernel). k.lanes) c.self.view_is)
 
 pub returns-clause-few_results : goal.returns-clause-few_results
 returns-clause-few_results g c =
-    few_same (length c.deref_mut.result.now) (length c.args.self.now.lanes) c.self.inside.kept c.args.self.now.kept c.make_turn.new.kept c.make_turn.ensures.few_results (first_of (search rules, grind (arith, common_steps))) (first_of (search rules, grind (arith, common_steps)))
+    few_same (length c.deref_mut.result.now) (length c.args.self.now.lanes) c.self.inside.kept c.args.self.now.kept c.make_turn.new.kept c.make_turn.ensures.few_results
+    (sym (ap length c.deref_mut.ensures.value ∙ ap (λ (k : Kernel). length k.lanes) c.self.view_is)) (sym (ap (λ (k : Kernel). k.kept) c.self.view_is))
+
+pub invariant_of-self : goal.invariant_of-self
+invariant_of-self g c =
+    let made = c.make_turn.ensures in
+    let is = c.self.invariant.1 in
+    let setup = setup_stays c.make_turn.result c.self.inside.kept c.make_turn.new.kept made.counts made.err in
+    let lanes = c.deref_mut.ensures.value in
+    rw (lanes_back c.self.inside.lanes.len c.self.inside.lanes.items c.deref_mut.result.now c.make_turn.new.lanes c.deref_mut.ensures.value c.make_turn.ensures.lanes (omega (arith, c.self.inside.lanes.ok.0))) (
+      omega (arith, ap (λ (s : Setup). s.sq) setup, c.self.invariant.0, made.items),
+      record {
+        sq = ap (λ (s : Sizes). s.sq) made.sizes ∙ is.sq ∙ ap (λ (s : Setup). s.sq) (sym setup);
+        cq = ap (λ (s : Sizes). s.cq) made.sizes ∙ is.cq ∙ ap (λ (s : Setup). s.cq) (sym setup);
+        some = omega (arith, is.some, made.lanes.many, ap length lanes);
+        few = omega (arith, is.few, made.lanes.many, ap length lanes);
+        hold = hold_stays c.deref_mut.result.now c.make_turn.new.lanes made.lanes (subst HoldJobs (sym lanes) is.hold);
+        short = short_stays c.deref_mut.result.now c.make_turn.new.lanes made.lanes (subst HoldResults (sym lanes) is.short);
+        ties = made.ties;
+      },
+    )

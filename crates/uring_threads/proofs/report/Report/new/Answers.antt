@@ -36,3 +36,9 @@ pub returns-clause-lawful : goal.returns-clause-lawful
 returns-clause-lawful g c =
     let settled = c.settle_workers.ensures in
     settled_lawful c.settle_workers.new.kept c.settle_workers.new.workers (omega (arith, c.requires.some, c.requires.lanes.many, ap length c.deref_mut-2.ensures.value, settled.workers.many)) settled.settled
+
+pub returns-clause-trace : goal.returns-clause-trace
+returns-clause-trace g c = cc
+
+pub returns-clause-posted : goal.returns-clause-posted
+returns-clause-posted g c = cc

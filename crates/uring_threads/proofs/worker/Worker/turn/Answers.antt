@@ -4,6 +4,9 @@ use Rattle.uring_threads.specs.Worker.{Worker}
 use Rattle.uring_threads.proofs.Working.{goes_on, done_of-snoc, many_after, done_as, same_ring, same_worker}
 use Rattle.uring_threads.proofs.worker.Worker.turn.Goals as goal
 
+pub invariant_of-self : goal.invariant_of-self
+invariant_of-self g c = rw c.is_full.ensures.looked.1 c.self.invariant
+
 pub invariant_of-self-2 : goal.invariant_of-self-2
 invariant_of-self-2 g c =
     rw (c.in-Ok.ensures.ok.0, c.push_reserved.ensures.sent.0, c.is_full.ensures.looked.1, c.apply-outcome.ensures.files)

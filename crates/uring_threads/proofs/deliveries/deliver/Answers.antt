@@ -1,0 +1,17 @@
+use Rattle.uring_threads.proofs.Delivering.{row_keeps, row_delivers, row_counts}
+use Rattle.uring_threads.proofs.deliveries.deliver.Goals as goal
+
+pub returns-clause-keeps : goal.returns-clause-keeps
+returns-clause-keeps g c =
+    row_keeps c.args.kept.now c.reserve.new.self c.step_reserved.new.self c.step_reserved-2.new.self c.reap_all.new.kept c.step_reserved-3.new.self c.step_reserved.result c.step_reserved-2.result c.step_reserved-3.result (g.P.KernelPort.delivered c.reap_all.new.port)
+    c.reserve.ensures.unmoved c.step_reserved.ensures.grows c.step_reserved-2.ensures.grows c.reap_all.ensures.world c.step_reserved-3.ensures.grows
+
+pub returns-clause-delivered : goal.returns-clause-delivered
+returns-clause-delivered g c =
+    row_delivers c.args.kept.now c.reserve.new.self c.step_reserved.new.self c.step_reserved-2.new.self c.reap_all.new.kept c.step_reserved-3.new.self c.step_reserved.result c.step_reserved-2.result c.step_reserved-3.result (g.P.KernelPort.delivered c.reap_all.new.port)
+    c.reserve.ensures.unmoved c.step_reserved.ensures.grows c.step_reserved-2.ensures.grows c.reap_all.ensures.world c.step_reserved-3.ensures.grows
+
+pub returns-clause-tally : goal.returns-clause-tally
+returns-clause-tally g c =
+    row_counts c.args.kept.now c.reserve.new.self c.step_reserved.new.self c.step_reserved-2.new.self c.reap_all.new.kept c.step_reserved-3.new.self c.step_reserved.result c.step_reserved-2.result c.step_reserved-3.result (g.P.KernelPort.delivered c.reap_all.new.port)
+    c.reserve.ensures.unmoved c.step_reserved.ensures.grows c.step_reserved-2.ensures.grows c.reap_all.ensures.world c.step_reserved-3.ensures.grows _ c.reap_all.ensures.tally
