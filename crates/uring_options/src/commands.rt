@@ -103,7 +103,7 @@ const SHARED: OptionRow = OptionRow {
 };
 
 /// `uring trace`.
-const TRACE: CommandRow = CommandRow {
+static TRACE: CommandRow = CommandRow {
     name: "trace",
     about: "Read steps from standard input, a line each, and write the answer to each",
     after_help: STEPS,
@@ -111,7 +111,7 @@ const TRACE: CommandRow = CommandRow {
 };
 
 /// `uring explain`.
-const EXPLAIN: CommandRow = CommandRow {
+static EXPLAIN: CommandRow = CommandRow {
     name: "explain",
     about: "Do as trace does, and write behind an answer its reason",
     after_help: REASONS,
@@ -119,7 +119,7 @@ const EXPLAIN: CommandRow = CommandRow {
 };
 
 /// `uring check`.
-const CHECK: CommandRow = CommandRow {
+static CHECK: CommandRow = CommandRow {
     name: "check",
     about: "Read a recorded trace, a step with its answer on each line, and tell whether it is lawful",
     after_help: RECORDS,
@@ -127,7 +127,7 @@ const CHECK: CommandRow = CommandRow {
 };
 
 /// `uring play`.
-const PLAY: CommandRow = CommandRow {
+static PLAY: CommandRow = CommandRow {
     name: "play",
     about: "Read calls from standard input, play them in threads, and write their completions",
     after_help: ITEMS,
@@ -143,27 +143,27 @@ pub(crate) fn uring_command<'a>(alloc: Global) -> Result<Command<'a>, AllocError
         .long_about(
             "The rings of io_uring, step by step. Without a command it does `trace` with the defaults.",
         );
-    let command = with_command(alloc, command, TRACE)?;
-    let command = with_command(alloc, command, EXPLAIN)?;
-    let command = with_command(alloc, command, CHECK)?;
-    with_command(alloc, command, PLAY)
+    let command = with_command(alloc, command, &TRACE)?;
+    let command = with_command(alloc, command, &EXPLAIN)?;
+    let command = with_command(alloc, command, &CHECK)?;
+    with_command(alloc, command, &PLAY)
 }
 
 /// The command with one command more.
 fn with_command<'a>(
     alloc: Global,
     command: Command<'a>,
-    row: CommandRow,
+    row: &CommandRow,
 ) -> Result<Command<'a>, AllocError>
-    ensures { IfOk result (λ more. app_of more ≡ with_subcommand (app_of command.entry) (app_of_row row).top) }
+    ensures { IfOk result (λ more. app_of more ≡ with_subcommand (app_of command.entry) (app_of_row row.now).top) }
 {
     let sub = command_of(alloc, row)?;
     command.subcommand(sub)
 }
 
 /// The command, as clap knows it.
-fn command_of<'a>(alloc: Global, row: CommandRow) -> Result<Command<'a>, AllocError>
-    ensures app { IfOk result (λ command. app_of command ≡ app_of_row row) }
+fn command_of<'a>(alloc: Global, row: &CommandRow) -> Result<Command<'a>, AllocError>
+    ensures app { IfOk result (λ command. app_of command ≡ app_of_row row.now) }
     ensures local { IfOk result (λ command. (out-Command command).has_globals ≡ false) }
 {
     let command = Command::new(alloc, row.name)
