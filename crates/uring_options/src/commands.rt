@@ -4,12 +4,135 @@ ghost use Rattle.std.specs.Prelude.{◌≡◌, codes, IfOk, false};
 ghost use Rattle.clap.specs.Words.{app_of, rule_of, with_rule};
 ghost use Rattle.clap.specs.Simple.{App, with_subcommand};
 ghost use Rattle.clap.specs.declared.builder.command.Command.TheViews.{out-Command};
-ghost use Rattle.uring_options.specs.CommandLine.{option_rule, flag_rule, with_numbers_of, with_set_up_of, with_pictures_of, with_checks_of, with_plays_of, trace_app, explain_app, check_app, play_app, uring};
+ghost use Rattle.uring_options.specs.OptionRows.{app_of_row, rule_of_row, with_rows_of};
+ghost use Rattle.uring_options.specs.CommandLine.{option_rule, flag_rule, uring};
 
 use crate::helps::{ITEMS, REASONS, RECORDS, STEPS};
 use clap::builder::ValueParser;
-use clap::{Arg, ArgAction, Command, value_parser};
+use clap::{Arg, ArgAction, Command};
 use std::alloc::{AllocError, Global};
+
+/// An option of a command.
+#[derive(Clone, Copy)]
+pub(crate) struct OptionRow {
+    id: &'static str,
+    help: &'static str,
+    /// The least and the most number that it takes, or none where it takes no value.
+    numbers: Option<(i64, i64)>,
+}
+
+/// A command under `uring`.
+#[derive(Clone, Copy)]
+pub(crate) struct CommandRow {
+    name: &'static str,
+    about: &'static str,
+    after_help: &'static str,
+    options: &'static [OptionRow],
+}
+
+const SQ: OptionRow = OptionRow {
+    id: "sq",
+    help: "Entries of the submission ring, 1 to 4096, rounded up to a power of two [default: 4]",
+    numbers: Some((1, 4_096)),
+};
+
+const CQ: OptionRow = OptionRow {
+    id: "cq",
+    help: "Entries of the completion ring, 1 to 8192, rounded up to a power of two and not fewer than the submission ring's [default: twice the submission ring]",
+    numbers: Some((1, 8_192)),
+};
+
+const FILES: OptionRow = OptionRow {
+    id: "files",
+    help: "Files, 1 to 64, each empty at first [default: 2]",
+    numbers: Some((1, 64)),
+};
+
+const START: OptionRow = OptionRow {
+    id: "start",
+    help: "The word at which both rings begin, any 32 bits [default: 0]",
+    numbers: Some((0, 4_294_967_295)),
+};
+
+const STOP: OptionRow = OptionRow {
+    id: "stop",
+    help: "End a submission call behind the first entry with a fault that it takes; the rest is left to later calls",
+    numbers: None,
+};
+
+const ECHO: OptionRow = OptionRow {
+    id: "echo",
+    help: "Write each step before its answer, as check reads them",
+    numbers: None,
+};
+
+const GRAPH: OptionRow = OptionRow {
+    id: "graph",
+    help: "Write no answers, but a graph of the requests that are outstanding at the end",
+    numbers: None,
+};
+
+const TIMELINE: OptionRow = OptionRow {
+    id: "timeline",
+    help: "Write no answers, but a row for each request, with the lines at which it moved",
+    numbers: None,
+};
+
+const ALL: OptionRow = OptionRow {
+    id: "all",
+    help: "Go on behind a wrong line, as though the one answer that was called for had been given",
+    numbers: None,
+};
+
+const APART: OptionRow = OptionRow {
+    id: "apart",
+    help: "Let a running request end with any result, and give no data: ended RES",
+    numbers: None,
+};
+
+const WORKERS: OptionRow = OptionRow {
+    id: "workers",
+    help: "Workers, 1 to 8, each with a thread and files of its own [default: 2]",
+    numbers: Some((1, 8)),
+};
+
+const SHARED: OptionRow = OptionRow {
+    id: "shared",
+    help: "Let application and dispatcher share the words of the rings in place of lanes",
+    numbers: None,
+};
+
+/// `uring trace`.
+static TRACE: CommandRow = CommandRow {
+    name: "trace",
+    about: "Read steps from standard input, a line each, and write the answer to each",
+    after_help: STEPS,
+    options: &[SQ, CQ, FILES, START, STOP, ECHO],
+};
+
+/// `uring explain`.
+static EXPLAIN: CommandRow = CommandRow {
+    name: "explain",
+    about: "Do as trace does, and write behind an answer its reason",
+    after_help: REASONS,
+    options: &[SQ, CQ, FILES, START, STOP, GRAPH, TIMELINE],
+};
+
+/// `uring check`.
+static CHECK: CommandRow = CommandRow {
+    name: "check",
+    about: "Read a recorded trace, a step with its answer on each line, and tell whether it is lawful",
+    after_help: RECORDS,
+    options: &[SQ, CQ, FILES, START, STOP, ALL, APART],
+};
+
+/// `uring play`.
+static PLAY: CommandRow = CommandRow {
+    name: "play",
+    about: "Read calls from standard input, play them in threads, and write their completions",
+    after_help: ITEMS,
+    options: &[SQ, CQ, FILES, START, WORKERS, SHARED],
+};
 
 /// The program's command line.
 pub(crate) fn uring_command<'a>(alloc: Global) -> Result<Command<'a>, AllocError>
@@ -20,194 +143,73 @@ pub(crate) fn uring_command<'a>(alloc: Global) -> Result<Command<'a>, AllocError
         .long_about(
             "The rings of io_uring, step by step. Without a command it does `trace` with the defaults.",
         );
-    let command = with_command(command, trace_command(alloc))?;
-    let command = with_command(command, explain_command(alloc))?;
-    let command = with_command(command, check_command(alloc))?;
-    with_command(command, play_command(alloc))
+    let command = with_command(alloc, command, &TRACE)?;
+    let command = with_command(alloc, command, &EXPLAIN)?;
+    let command = with_command(alloc, command, &CHECK)?;
+    with_command(alloc, command, &PLAY)
 }
 
-/// The command with one command more, if that one could be made.
+/// The command with one command more.
 fn with_command<'a>(
+    alloc: Global,
     command: Command<'a>,
-    made: Result<Command<'a>, AllocError>,
+    row: &CommandRow,
 ) -> Result<Command<'a>, AllocError>
-    requires { IfOk made (λ sub. (out-Command sub).has_globals ≡ false) }
-    ensures { IfOk result (λ more. (app : App) → IfOk made.entry (λ sub. app_of sub ≡ app) → app_of more ≡ with_subcommand (app_of command.entry) app.top) }
+    ensures { IfOk result (λ more. app_of more ≡ with_subcommand (app_of command.entry) (app_of_row row.now).top) }
 {
-    let sub = made?;
+    let sub = command_of(alloc, row)?;
     command.subcommand(sub)
 }
 
-/// The command line of `uring trace`.
-fn trace_command<'a>(alloc: Global) -> Result<Command<'a>, AllocError>
-    ensures app { IfOk result (λ command. app_of command ≡ trace_app) }
+/// The command, as clap knows it.
+fn command_of<'a>(alloc: Global, row: &CommandRow) -> Result<Command<'a>, AllocError>
+    ensures app { IfOk result (λ command. app_of command ≡ app_of_row row.now) }
     ensures local { IfOk result (λ command. (out-Command command).has_globals ≡ false) }
 {
-    let command = Command::new(alloc, "trace")
-        .about("Read steps from standard input, a line each, and write the answer to each")
-        .after_help(STEPS);
-    with_flag(
-        alloc,
-        with_set_up(alloc, command)?,
-        "echo",
-        "Write each step before its answer, as check reads them",
-    )
+    let command = Command::new(alloc, row.name)
+        .about(row.about)
+        .after_help(row.after_help);
+    with_options(alloc, command, row.options)
 }
 
-/// The command line of `uring explain`.
-fn explain_command<'a>(alloc: Global) -> Result<Command<'a>, AllocError>
-    ensures app { IfOk result (λ command. app_of command ≡ explain_app) }
-    ensures local { IfOk result (λ command. (out-Command command).has_globals ≡ false) }
-{
-    let command = Command::new(alloc, "explain")
-        .about("Do as trace does, and write behind an answer its reason")
-        .after_help(REASONS);
-    with_pictures(alloc, with_set_up(alloc, command)?)
-}
-
-/// The command line of `uring check`.
-fn check_command<'a>(alloc: Global) -> Result<Command<'a>, AllocError>
-    ensures app { IfOk result (λ command. app_of command ≡ check_app) }
-    ensures local { IfOk result (λ command. (out-Command command).has_globals ≡ false) }
-{
-    let command = Command::new(alloc, "check")
-        .about(
-            "Read a recorded trace, a step with its answer on each line, and tell whether it is lawful",
-        )
-        .after_help(RECORDS);
-    with_checks(alloc, with_set_up(alloc, command)?)
-}
-
-/// The command line of `uring play`.
-fn play_command<'a>(alloc: Global) -> Result<Command<'a>, AllocError>
-    ensures app { IfOk result (λ command. app_of command ≡ play_app) }
-    ensures local { IfOk result (λ command. (out-Command command).has_globals ≡ false) }
-{
-    let command = Command::new(alloc, "play")
-        .about("Read calls from standard input, play them in threads, and write their completions")
-        .after_help(ITEMS);
-    with_plays(alloc, with_numbers(alloc, command)?)
-}
-
-/// The command with the options of the pictures.
-fn with_pictures<'a>(alloc: Global, command: Command<'a>) -> Result<Command<'a>, AllocError>
-    ensures app { IfOk result (λ more. app_of more ≡ with_pictures_of (app_of command.entry)) }
+/// The command with these options, in their order.
+fn with_options<'a>(
+    alloc: Global,
+    mut command: Command<'a>,
+    rows: &[OptionRow],
+) -> Result<Command<'a>, AllocError>
+    ensures app { IfOk result (λ more. app_of more ≡ with_rows_of (app_of command.entry) rows.now) }
     ensures local { IfOk result (λ more. (out-Command more).has_globals ≡ (out-Command command.entry).has_globals) }
 {
-    let command = with_flag(
-        alloc,
-        command,
-        "graph",
-        "Write no answers, but a graph of the requests that are outstanding at the end",
-    )?;
-    with_flag(
-        alloc,
-        command,
-        "timeline",
-        "Write no answers, but a row for each request, with the lines at which it moved",
-    )
+    for row in rows {
+        command = with_option(alloc, command, *row)?;
+    }
+    Ok(command)
 }
 
-/// The command with the options of a check.
-fn with_checks<'a>(alloc: Global, command: Command<'a>) -> Result<Command<'a>, AllocError>
-    ensures app { IfOk result (λ more. app_of more ≡ with_checks_of (app_of command.entry)) }
-    ensures local { IfOk result (λ more. (out-Command more).has_globals ≡ (out-Command command.entry).has_globals) }
-{
-    let command = with_flag(
-        alloc,
-        command,
-        "all",
-        "Go on behind a wrong line, as though the one answer that was called for had been given",
-    )?;
-    with_flag(
-        alloc,
-        command,
-        "apart",
-        "Let a running request end with any result, and give no data: ended RES",
-    )
-}
-
-/// The command with the options of a play.
-fn with_plays<'a>(alloc: Global, command: Command<'a>) -> Result<Command<'a>, AllocError>
-    ensures app { IfOk result (λ more. app_of more ≡ with_plays_of (app_of command.entry)) }
-    ensures local { IfOk result (λ more. (out-Command more).has_globals ≡ (out-Command command.entry).has_globals) }
-{
-    let command = with_number(
-        alloc,
-        command,
-        "workers",
-        "Workers, 1 to 8, each with a thread and files of its own [default: 2]",
-        value_parser!(u32).range(1..=8),
-    )?;
-    with_flag(
-        alloc,
-        command,
-        "shared",
-        "Let application and dispatcher share the words of the rings in place of lanes",
-    )
-}
-
-/// The command with the options of a set-up, and the one by which calls stop.
-fn with_set_up<'a>(alloc: Global, command: Command<'a>) -> Result<Command<'a>, AllocError>
-    ensures app { IfOk result (λ more. app_of more ≡ with_set_up_of (app_of command.entry)) }
-    ensures local { IfOk result (λ more. (out-Command more).has_globals ≡ (out-Command command.entry).has_globals) }
-{
-    let command = with_numbers(alloc, command)?;
-    with_flag(
-        alloc,
-        command,
-        "stop",
-        "End a submission call behind the first entry with a fault that it takes; the rest is left to later calls",
-    )
-}
-
-/// The command with the options of a set-up.
-fn with_numbers<'a>(alloc: Global, command: Command<'a>) -> Result<Command<'a>, AllocError>
-    ensures app { IfOk result (λ more. app_of more ≡ with_numbers_of (app_of command.entry)) }
-    ensures local { IfOk result (λ more. (out-Command more).has_globals ≡ (out-Command command.entry).has_globals) }
-{
-    let command = with_number(
-        alloc,
-        command,
-        "sq",
-        "Entries of the submission ring, 1 to 4096, rounded up to a power of two [default: 4]",
-        value_parser!(u32).range(1..=4096),
-    )?;
-    let command = with_number(
-        alloc,
-        command,
-        "cq",
-        "Entries of the completion ring, 1 to 8192, rounded up to a power of two and not fewer than the submission ring's [default: twice the submission ring]",
-        value_parser!(u32).range(1..=8192),
-    )?;
-    let command = with_number(
-        alloc,
-        command,
-        "files",
-        "Files, 1 to 64, each empty at first [default: 2]",
-        value_parser!(u32).range(1..=64),
-    )?;
-    with_number(
-        alloc,
-        command,
-        "start",
-        "The word at which both rings begin, any 32 bits [default: 0]",
-        value_parser!(u32),
-    )
-}
-
-/// The command with one more option, which takes a number.
-fn with_number<'a>(
+/// The command with one more option.
+fn with_option<'a>(
     alloc: Global,
     command: Command<'a>,
-    id: &'a str,
-    help: &'a str,
-    parser: ValueParser<'a>,
+    row: OptionRow,
 ) -> Result<Command<'a>, AllocError>
-    ensures app { IfOk result (λ more. app_of more ≡ with_rule (app_of command.entry) (option_rule id.now parser.entry)) }
+    ensures app { IfOk result (λ more. app_of more ≡ with_rule (app_of command.entry) (rule_of_row row)) }
     ensures local { IfOk result (λ more. (out-Command more).has_globals ≡ (out-Command command.entry).has_globals) }
 {
-    command.arg(number_option(alloc, id, help, parser))
+    command.arg(option_of(alloc, row))
+}
+
+/// The option, as clap knows it.
+fn option_of<'a>(alloc: Global, row: OptionRow) -> Arg<'a>
+    ensures rule { rule_of result ≡ rule_of_row row }
+    ensures local { result.global ≡ false }
+{
+    match row.numbers {
+        Some((least, most)) => {
+            number_option(alloc, row.id, row.help, ValueParser::Signed(least, most))
+        }
+        None => flag_option(alloc, row.id, row.help),
+    }
 }
 
 /// An option that takes a number.
@@ -221,19 +223,6 @@ fn number_option<'a>(alloc: Global, id: &'a str, help: &'a str, parser: ValuePar
         .help(help)
         .value_parser(parser)
         .action(ArgAction::Set)
-}
-
-/// The command with one more option, which takes no value.
-fn with_flag<'a>(
-    alloc: Global,
-    command: Command<'a>,
-    id: &'a str,
-    help: &'a str,
-) -> Result<Command<'a>, AllocError>
-    ensures app { IfOk result (λ more. app_of more ≡ with_rule (app_of command.entry) (flag_rule id.now)) }
-    ensures local { IfOk result (λ more. (out-Command more).has_globals ≡ (out-Command command.entry).has_globals) }
-{
-    command.arg(flag_option(alloc, id, help))
 }
 
 /// An option that takes no value.

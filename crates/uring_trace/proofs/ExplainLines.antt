@@ -1,5 +1,5 @@
 -- What an explainer keeps, byte by byte and line by line.
-use Rattle.std.proofs.Common.{◌≡◌, ◌≢◌, ℕ, ◌+◌, ◌-◌, ◌^◌, min, Bool, true, false, ◌||◌, List, [], ◌∷◌, ◌++◌, length, Some, None, Result, Ok, Err, refl, sym, ap, subst, ◌∙◌, append_assoc, arith}
+use Rattle.std.proofs.Common.{◌≡◌, ◌≢◌, ℕ, ◌+◌, ◌-◌, ◌^◌, min, Bool, true, false, ◌||◌, List, [], ◌∷◌, ◌++◌, length, Option, Some, None, Result, Ok, Err, refl, sym, ap, subst, ◌∙◌, append_assoc, arith}
 use Rattle.std.specs.Prelude.{IfOk}
 use Rattle.std.specs.List.{list_any}
 use Rattle.std.proofs.lemmas.List.{append-nil}
@@ -7,7 +7,13 @@ use Rattle.uring_entry.specs.Setup.{Setup}
 use Rattle.uring_machine.specs.CalledFor.{IsLawful}
 use Rattle.uring_machine.specs.Histories.{History, history_of, world}
 use Rattle.uring_machine.specs.Machine.{Machine, Fits}
+use Rattle.uring_machine.specs.declared.answer.Answer.{Answer}
 use Rattle.uring_machine.specs.declared.step.Step.{Step}
+use Rattle.uring_entry.specs.declared.why.Why.{Why}
+use Rattle.uring_dispatch.specs.declared.answers.Found.{Found}
+use Rattle.uring_trace.specs.Reasons.{kept_reason, reason_text}
+use Rattle.uring_trace.specs.Text.{text_of}
+use Rattle.uring_trace.specs.declared.reason_text.Reason.{Reason}
 use Rattle.uring_trace.specs.Spelling.{IsStep, IsBad}
 use Rattle.uring_trace.specs.Lines.{with_last, joined, ended}
 use Rattle.uring_trace.specs.KeptLine.{KeptLine, kept_of}
@@ -32,6 +38,16 @@ or_false false = refl
 or_true : (b : Bool) → true ≡ (b || true)
 or_true true = refl
 or_true false = refl
+
+-- an answer and what is kept of its reason, with the end of the line
+pub line_reasoned : (before one two three : List ℕ) (answer : Answer) (why w : Option Why) (found f : Option Found) (kept : Option Reason)
+    → one ≡ before ++ text_of answer → two ≡ one ++ reason_text kept → three ≡ ended two → kept ≡ kept_reason answer why found → why ≡ w → found ≡ f
+    → three ≡ before ++ ended (text_of answer ++ reason_text (kept_reason answer w f))
+line_reasoned before one two three answer why w found f kept said told end is asked sought =
+    let reason : kept ≡ kept_reason answer w f = is ∙ ap (λ (x : Option Why). kept_reason answer x found) asked ∙ ap (λ (x : Option Found). kept_reason answer w x) sought in
+    let whole : two ≡ before ++ (text_of answer ++ reason_text kept) = told ∙ ap (λ (l : List ℕ). l ++ reason_text kept) said ∙ append_assoc before (text_of answer) (reason_text kept) in
+    subst (λ (r : Option Reason). three ≡ before ++ ended (text_of answer ++ reason_text r)) reason
+    (end ∙ ap ended whole ∙ append_assoc before (text_of answer ++ reason_text kept) (10 ∷ []))
 
 -- what becomes of a line: a step, a question, a remark, or a bad one
 

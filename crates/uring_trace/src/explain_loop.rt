@@ -31,7 +31,9 @@ pub fn explain<R: Read, W: Write, E: Write>(
     ensures { IsExplained setup.now result (R.remaining reader.old) (R.remaining reader.new) (W.contents writer.old) (W.contents writer.new) (E.contents errors.old) (E.contents errors.new) }
 {
     let mut explainer = Explainer::new(alloc, setup)?;
-    explain_all(alloc, &mut explainer, reader, writer, errors)
+    let explained = explain_all(alloc, &mut explainer, reader, writer, errors);
+    drop(explainer);
+    explained
 }
 
 /// Answers line by line until the input ends.

@@ -34,14 +34,16 @@ pub fn trace<R: Read, W: Write>(
     ensures { Traces (record { setup = setup.now; is_echo = is_echo }) result (R.remaining reader.old) (R.remaining reader.new) (W.contents writer.old) (W.contents writer.new) }
 {
     let mut session = Session::new(alloc, setup, is_echo)?;
-    answer_all(
+    let answered = answer_all(
         alloc,
         &mut session,
         reader,
         writer,
         &mut Calls::new(),
         &mut Calls::new(),
-    )
+    );
+    drop(session);
+    answered
 }
 
 /// Answers line by line until the input ends.

@@ -8,7 +8,7 @@ use Rattle.uring_options.proofs.commands.uring_command.Goals as goal
 pub returns : goal.returns
 returns c =
     let start : app_of c.long_about-command.result ≡ new_app (codes "uring") = search rules in
-    let trace = c.in_ok-command.ensures trace_app c.trace_command.ensures.app ∙ ap (λ (a : App). with_subcommand a trace_app.top) start in
-    let explain = c.in_ok-command-2.ensures explain_app c.explain_command.ensures.app ∙ ap (λ (a : App). with_subcommand a explain_app.top) trace in
-    let check = c.in_ok-command-3.ensures check_app c.check_command.ensures.app ∙ ap (λ (a : App). with_subcommand a check_app.top) explain in
-    IfOk-weaker c.with_command-4.result _ _ (λ more h. h play_app c.play_command.ensures.app ∙ ap (λ (a : App). with_subcommand a play_app.top) check) c.with_command-4.ensures
+    let trace = c.in_ok-command.ensures ∙ ap (λ (a : App). with_subcommand a trace_app.top) start in
+    let explain = c.in_ok-command-2.ensures ∙ ap (λ (a : App). with_subcommand a explain_app.top) trace in
+    let check = c.in_ok-command-3.ensures ∙ ap (λ (a : App). with_subcommand a check_app.top) explain in
+    IfOk-weaker c.with_command-4.result _ _ (λ more h. h ∙ ap (λ (a : App). with_subcommand a play_app.top) check) c.with_command-4.ensures

@@ -6,4 +6,4 @@ pub returns-in_err-explainer : goal.returns-in_err-explainer
 returns-in_err-explainer g c = none_read _ _ _ _ _ (search rules)
 
 pub returns : goal.returns
-returns g c = c.explain_all.ensures c.args.setup.now c.in_ok-explainer.ensures.ok
+returns g c = c.explain_all-explained.ensures c.args.setup.now c.in_ok-explainer.ensures.ok

@@ -6,4 +6,4 @@ pub returns-in_err-session : goal.returns-in_err-session
 returns-in_err-session g c = none_read _ _ _ _ (search rules)
 
 pub returns : goal.returns
-returns g c = c.answer_all.ensures.lines (record { setup = c.args.setup.now; is_echo = c.args.is_echo }) c.in_ok-session.ensures.ok
+returns g c = c.answer_all-answered.ensures.lines (record { setup = c.args.setup.now; is_echo = c.args.is_echo }) c.in_ok-session.ensures.ok
