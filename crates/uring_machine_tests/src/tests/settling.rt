@@ -27,7 +27,9 @@ fn submit(machine: &mut Machine, entries: &[Sqe]) {
 fn settled(alloc: Global, entries: &[Sqe]) -> Result<(u64, Counts), Fail> {
     let mut machine = submitted(alloc, entries)?;
     let steps = machine.settle_idle();
-    Ok((steps, machine.counts()))
+    let counts = machine.counts();
+    drop(machine);
+    Ok((steps, counts))
 }
 
 /// The counts of a machine that is idle, of whose completions none was reaped.
@@ -92,7 +94,9 @@ fn resting(alloc: Global) -> Result<[Option<u64>; 4], Fail> {
     submit(&mut machine, &[Sqe::nop(1, 0), Sqe::nop(2, 0)]);
     submit(&mut machine, &[Sqe::nop(3, 0)]);
     end_three(&mut machine);
-    Ok(user_data_of_rest(&machine))
+    let rest = user_data_of_rest(&machine);
+    drop(machine);
+    Ok(rest)
 }
 
 #[test]
@@ -140,6 +144,7 @@ fn written(alloc: Global) -> Result<(Told, [Option<FileState>; 3], [Option<u8>; 
     let told = told_of(&mut machine);
     machine.settle_idle();
     let (states, bytes) = files_of(&machine);
+    drop(machine);
     Ok((told, states, bytes))
 }
 

@@ -26,7 +26,9 @@ fn large_calls(alloc: Global) -> Result<([(Answer, Answer); 2], Counts), Fail> {
     let setup = Setup::new(4_096, Some(8_192), 1, 0)?;
     let mut machine = Machine::new(alloc, &setup)?;
     let calls = [submit(&mut machine, 1_100), submit(&mut machine, 4_096)];
-    Ok((calls, machine.counts()))
+    let counts = machine.counts();
+    drop(machine);
+    Ok((calls, counts))
 }
 
 #[test]
@@ -47,7 +49,9 @@ fn a_whole_ring_is_submitted_beside_others(rt: HostRuntime) -> Result<(), Fail> 
 fn long_run(alloc: Global, count: usize) -> Result<(usize, Option<Answer>), Fail> {
     let setup = Setup::new(1, None, 1, 0)?;
     let mut machine = Machine::new(alloc, &setup)?;
-    Ok(run_many(alloc, &mut machine, count)?)
+    let told = run_many(alloc, &mut machine, count);
+    drop(machine);
+    Ok(told?)
 }
 
 /// The same on this machine.
@@ -83,7 +87,9 @@ fn rounds(alloc: Global, count: u64) -> Result<Counts, Fail> {
     let setup = Setup::new(1, Some(1), 1, 0)?;
     let mut machine = Machine::new(alloc, &setup)?;
     make_rounds(&mut machine, count);
-    Ok(machine.counts())
+    let counts = machine.counts();
+    drop(machine);
+    Ok(counts)
 }
 
 /// Makes so many calls of one request that does nothing, each of which ends and is reaped before the next.
