@@ -305,3 +305,10 @@ new_fits p submission completions none_promised requests between held open_ring 
       shows = grind arith;
       lawful = tt;
     }
+
+-- what posts as it ends was running
+pub ended_as_posted : (w : World) (n : ℕ) (outcome : Outcome) (posts : Posts) (a : Answer) → Some posts ≡ posted_by w.requests n outcome.res → a ≡ answer.Ended outcome.res outcome.bytes → IsFinished w n outcome a
+ended_as_posted w n outcome posts a posted is = by_running (is_running w.requests n) posted where
+  by_running : (running : Bool) → Some posts ≡ (if running then Some (posts_of (entry_of w.requests n) outcome.res) else None) → a ≡ (if running then answer.Ended outcome.res outcome.bytes else answer.NotRunning)
+  by_running true e = is
+  by_running false e = absurd cc

@@ -24,7 +24,9 @@ pub fn check(
     ensures { IfOk result (λ found. MatchOption found (IsLawful setup.now (history_of events.now)) (λ at. IsFirstWrongAnswer setup.now events.now at.0 at.1)) }
 {
     let mut machine = Machine::new(alloc, setup)?;
-    first_wrong(&mut machine, events)
+    let found = first_wrong(&mut machine, events);
+    drop(machine);
+    found
 }
 
 /// As `check`, apart from what operations give: a running request may end with any result and any bytes.
@@ -36,7 +38,9 @@ pub fn check_apart(
     ensures { IfOk result (λ found. MatchOption found (IsLawfulApart setup.now (history_of events.now)) (λ at. IsFirstWrongApart setup.now events.now at.0 at.1)) }
 {
     let mut core = Core::new(alloc, setup)?;
-    first_wrong_apart(&mut core, events)
+    let found = first_wrong_apart(&mut core, events);
+    drop(core);
+    found
 }
 
 /// Follows these answers on a new machine up to the first wrong one.

@@ -57,9 +57,10 @@ impl Machine {
         ensures setup { IfOk result (λ machine. machine.core.setup ≡ setup.now) }
         ensures fits { IfOk result (λ machine. Fits machine []) }
     {
+        let files = Files::new(alloc, setup.files())?;
         Ok(Machine {
             core: Core::new(alloc, setup)?,
-            files: Files::new(alloc, setup.files())?,
+            files,
         })
     }
 

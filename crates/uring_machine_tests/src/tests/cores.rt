@@ -78,7 +78,9 @@ fn end_one(core: &mut Core) -> bool {
 fn is_right_on_a_new_core(alloc: Global) -> Result<bool, Fail> {
     let setup = Setup::new(4, Some(4), 2, 0)?;
     let mut core = Core::new(alloc, &setup)?;
-    Ok(end_one(&mut core))
+    let is_right = end_one(&mut core);
+    drop(core);
+    Ok(is_right)
 }
 
 #[test]

@@ -75,6 +75,7 @@ fn three_calls(alloc: Global) -> Result<(bool, [(Opened, u64, Counts); 3]), Fail
         one_call(&mut machine),
         one_call(&mut machine),
     ];
+    drop(machine);
     Ok((is_refused, calls))
 }
 
@@ -216,7 +217,9 @@ fn write_and_read(machine: &mut Machine, is_refused: bool) -> Seen {
 /// Both on a new machine.
 fn on_a_new_machine(alloc: Global) -> Result<Seen, Fail> {
     let (mut machine, is_refused) = new_machine(alloc)?;
-    Ok(write_and_read(&mut machine, is_refused))
+    let seen = write_and_read(&mut machine, is_refused);
+    drop(machine);
+    Ok(seen)
 }
 
 #[test]
@@ -260,7 +263,9 @@ fn first_five(answers: &[Answer]) -> [Option<Answer>; 5] {
 /// The same on a new machine.
 fn four_steps(alloc: Global) -> Result<(bool, [Option<Answer>; 5]), Fail> {
     let (mut machine, was_refused) = new_machine(alloc)?;
-    let (is_refused, given) = run_four(alloc, &mut machine)?;
+    let answered = run_four(alloc, &mut machine);
+    drop(machine);
+    let (is_refused, given) = answered?;
     Ok((was_refused || is_refused, given))
 }
 

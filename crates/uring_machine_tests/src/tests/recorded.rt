@@ -118,10 +118,12 @@ fn ends_are_any_apart_from_operations(rt: HostRuntime) -> Result<(), Fail> {
 fn after_a_wrong_answer(alloc: Global) -> Result<[Result<(), Refusal>; 2], Fail> {
     let setup = Setup::new(4, Some(4), 2, 0)?;
     let mut machine = Machine::new(alloc, &setup)?;
-    Ok([
+    let found = [
         machine.follow(Step::StoreTail, Answer::Tail(1)),
         machine.follow(Step::LoadHead, Answer::Head(0)),
-    ])
+    ];
+    drop(machine);
+    Ok(found)
 }
 
 #[test]
@@ -131,21 +133,32 @@ fn goes_on_after_a_wrong_answer(rt: HostRuntime) -> Result<(), Fail> {
     Ok(())
 }
 
-/// What Begin would be answered by a machine and by a core on which an entry is published, and by a closed core.
-fn would_begin(alloc: Global) -> Result<[Answer; 3], Fail> {
+/// What Begin would be answered by a machine on which an entry is published.
+fn would_begin(alloc: Global) -> Result<Answer, Fail> {
     let setup = Setup::new(4, Some(4), 2, 0)?;
     let mut machine = Machine::new(alloc, &setup)?;
     publish(&mut machine, &[Sqe::nop(1, 0)]);
+    let answer = machine.would_begin(3);
+    drop(machine);
+    Ok(answer)
+}
+
+/// What it would be answered by a core on which nothing is published, before it is closed and after.
+fn would_begin_around_a_close(alloc: Global) -> Result<[Answer; 2], Fail> {
+    let setup = Setup::new(4, Some(4), 2, 0)?;
     let mut core = Core::new(alloc, &setup)?;
     let empty = core.would_begin(3);
     core.step(Step::Close);
-    Ok([machine.would_begin(3), empty, core.would_begin(3)])
+    let closed = core.would_begin(3);
+    drop(core);
+    Ok([empty, closed])
 }
 
 #[test]
 fn begin_is_told_before(rt: HostRuntime) -> Result<(), Fail> {
-    let answers = [Answer::Call(1), Answer::Call(0), Answer::Closed];
-    assert_eq!(rt; would_begin(rt.alloc())?, answers);
-    assert!(rt; same_answer(&answers[0], &Answer::Call(1)));
+    let answer = would_begin(rt.alloc())?;
+    assert!(rt; same_answer(&answer, &Answer::Call(1)));
+    let around = would_begin_around_a_close(rt.alloc())?;
+    assert_eq!(rt; around, [Answer::Call(0), Answer::Closed]);
     Ok(())
 }

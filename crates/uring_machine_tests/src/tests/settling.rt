@@ -27,7 +27,9 @@ fn submit(machine: &mut Machine, entries: &[Sqe]) {
 fn settled(alloc: Global, entries: &[Sqe]) -> Result<(u64, Counts), Fail> {
     let mut machine = submitted(alloc, entries)?;
     let steps = machine.settle_idle();
-    Ok((steps, machine.counts()))
+    let counts = machine.counts();
+    drop(machine);
+    Ok((steps, counts))
 }
 
 /// The counts of a machine that is idle, of whose completions none was reaped.
@@ -48,9 +50,7 @@ fn drain_settles(rt: HostRuntime) -> Result<(), Fail> {
         Sqe::nop(2, SqeFlags::IO_DRAIN.bits()),
         Sqe::nop(3, 0),
     ];
-    let (steps, counts) = settled(rt.alloc(), &entries)?;
-    assert_eq!(rt; steps, 6);
-    assert_eq!(rt; counts, idle(3, 3));
+    assert_eq!(rt; settled(rt.alloc(), &entries)?, (6, idle(3, 3)));
     Ok(())
 }
 
@@ -60,9 +60,7 @@ fn faulty_group_settles(rt: HostRuntime) -> Result<(), Fail> {
         Sqe::nop(1, SqeFlags::IO_LINK.bits()),
         Sqe::with_opcode(99, 2, 0),
     ];
-    let (steps, counts) = settled(rt.alloc(), &entries)?;
-    assert_eq!(rt; steps, 2);
-    assert_eq!(rt; counts, idle(2, 2));
+    assert_eq!(rt; settled(rt.alloc(), &entries)?, (2, idle(2, 2)));
     Ok(())
 }
 
@@ -92,7 +90,9 @@ fn resting(alloc: Global) -> Result<[Option<u64>; 4], Fail> {
     submit(&mut machine, &[Sqe::nop(1, 0), Sqe::nop(2, 0)]);
     submit(&mut machine, &[Sqe::nop(3, 0)]);
     end_three(&mut machine);
-    Ok(user_data_of_rest(&machine))
+    let rest = user_data_of_rest(&machine);
+    drop(machine);
+    Ok(rest)
 }
 
 #[test]
@@ -109,6 +109,25 @@ struct Told {
     least: [Option<u64>; 2],
     next: [Option<u64>; 2],
     running: [Option<Op>; 2],
+}
+
+impl Told {
+    /// Whether the write stayed the least, the sync came next, and only the write ran by then.
+    fn is_right(&self) -> bool {
+        let mut bytes = [0; 64];
+        bytes[0] = b'a';
+        bytes[1] = b'b';
+        let write = Op::Write {
+            fd: 0,
+            off: 2,
+            len: 2,
+            bytes,
+        };
+        self.sq == 4
+            && self.least == [Some(0), Some(0)]
+            && self.next == [Some(0), Some(1)]
+            && self.running == [None, Some(write)]
+    }
 }
 
 /// What a machine tells as it runs a sync, which is the second of its requests.
@@ -140,33 +159,24 @@ fn written(alloc: Global) -> Result<(Told, [Option<FileState>; 3], [Option<u8>; 
     let told = told_of(&mut machine);
     machine.settle_idle();
     let (states, bytes) = files_of(&machine);
+    drop(machine);
     Ok((told, states, bytes))
+}
+
+/// How a file of this length stands after so many writes, none of them synced.
+fn state(len: u32, writes: u64) -> Option<FileState> {
+    Some(FileState {
+        len,
+        writes,
+        synced: 0,
+    })
 }
 
 #[test]
 fn write_reaches_its_file(rt: HostRuntime) -> Result<(), Fail> {
     let (told, states, bytes) = written(rt.alloc())?;
-    assert_eq!(rt; told.sq, 4);
-    assert_eq!(rt; told.least, [Some(0), Some(0)]);
-    assert_eq!(rt; told.next, [Some(0), Some(1)]);
-    let mut data = [0; 64];
-    data[0] = b'a';
-    data[1] = b'b';
-    let write = Op::Write {
-        fd: 0,
-        off: 2,
-        len: 2,
-        bytes: data,
-    };
-    assert_eq!(rt; told.running, [None, Some(write)]);
-    let state = |len, writes, synced| {
-        Some(FileState {
-            len,
-            writes,
-            synced,
-        })
-    };
-    assert_eq!(rt; states, [state(4, 1, 0), state(0, 0, 0), None]);
+    assert!(rt; told.is_right());
+    assert_eq!(rt; states, [state(4, 1), state(0, 0), None]);
     assert_eq!(rt; bytes, [Some(0), Some(0), Some(b'a'), Some(b'b'), None]);
     Ok(())
 }

@@ -26,7 +26,9 @@ fn large_calls(alloc: Global) -> Result<([(Answer, Answer); 2], Counts), Fail> {
     let setup = Setup::new(4_096, Some(8_192), 1, 0)?;
     let mut machine = Machine::new(alloc, &setup)?;
     let calls = [submit(&mut machine, 1_100), submit(&mut machine, 4_096)];
-    Ok((calls, machine.counts()))
+    let counts = machine.counts();
+    drop(machine);
+    Ok((calls, counts))
 }
 
 #[test]
@@ -37,8 +39,9 @@ fn a_whole_ring_is_submitted_beside_others(rt: HostRuntime) -> Result<(), Fail> 
         dropped: 0,
         head,
     };
-    assert!(rt; calls[0] == (Answer::Call(1_100), taken(1_100, 1_100)));
-    assert!(rt; calls[1] == (Answer::Call(4_096), taken(4_096, 5_196)));
+    let first = (Answer::Call(1_100), taken(1_100, 1_100));
+    let second = (Answer::Call(4_096), taken(4_096, 5_196));
+    assert!(rt; calls == [first, second]);
     assert_eq!(rt; (counts.accepted, counts.outstanding), (5_196, 5_196));
     Ok(())
 }
@@ -47,7 +50,9 @@ fn a_whole_ring_is_submitted_beside_others(rt: HostRuntime) -> Result<(), Fail> 
 fn long_run(alloc: Global, count: usize) -> Result<(usize, Option<Answer>), Fail> {
     let setup = Setup::new(1, None, 1, 0)?;
     let mut machine = Machine::new(alloc, &setup)?;
-    Ok(run_many(alloc, &mut machine, count)?)
+    let told = run_many(alloc, &mut machine, count);
+    drop(machine);
+    Ok(told?)
 }
 
 /// The same on this machine.
@@ -72,9 +77,8 @@ fn last_of_run(
 
 #[test]
 fn many_steps_run(rt: HostRuntime) -> Result<(), Fail> {
-    let (count, last) = long_run(rt.alloc(), 100_000)?;
-    assert_eq!(rt; count, 100_000);
-    assert_eq!(rt; last, Some(Answer::Head(0)));
+    let told = long_run(rt.alloc(), 100_000)?;
+    assert_eq!(rt; told, (100_000, Some(Answer::Head(0))));
     Ok(())
 }
 
@@ -83,7 +87,9 @@ fn rounds(alloc: Global, count: u64) -> Result<Counts, Fail> {
     let setup = Setup::new(1, Some(1), 1, 0)?;
     let mut machine = Machine::new(alloc, &setup)?;
     make_rounds(&mut machine, count);
-    Ok(machine.counts())
+    let counts = machine.counts();
+    drop(machine);
+    Ok(counts)
 }
 
 /// Makes so many calls of one request that does nothing, each of which ends and is reaped before the next.
@@ -101,10 +107,14 @@ fn make_rounds(machine: &mut Machine, count: u64) {
 
 #[test]
 fn many_requests_end(rt: HostRuntime) -> Result<(), Fail> {
-    let counts = rounds(rt.alloc(), 100_000)?;
-    assert_eq!(rt; (counts.accepted, counts.outstanding), (100_000, 0));
-    assert_eq!(rt; counts.running, 0);
-    assert_eq!(rt; (counts.posted, counts.reaped), (100_000, 100_000));
+    let wanted = Counts {
+        accepted: 100_000,
+        outstanding: 0,
+        running: 0,
+        posted: 100_000,
+        reaped: 100_000,
+    };
+    assert_eq!(rt; rounds(rt.alloc(), 100_000)?, wanted);
     Ok(())
 }
 
@@ -112,6 +122,13 @@ fn many_requests_end(rt: HostRuntime) -> Result<(), Fail> {
 fn promised(alloc: Global, count: u64) -> Result<(u64, Option<u64>), Fail> {
     let setup = Setup::new(1, Some(1), 1, 0)?;
     let mut ring = Cq::new(alloc, &setup)?;
+    let told = post_promised(&mut ring, count);
+    drop(ring);
+    Ok(told?)
+}
+
+/// The same of this ring.
+fn post_promised(ring: &mut Cq, count: u64) -> Result<(u64, Option<u64>), AllocError> {
     ring.reserve(count)?;
     ring.reserve(count)?;
     for user_data in 0..count {
