@@ -52,6 +52,14 @@ impl Promise<Worker<Open>> for GivesWorker {
 /// The thread of a worker.
 pub(crate) type WorkerThread = PromisedHandle<Worker<Open>, GivesWorker>;
 
+/// Another handle of `stop`, and this end beside it. `AllocError`: there can be no more of them.
+fn beside<T: Drop>(stop: &Arc<AtomicBool>, end: T) -> Result<(Arc<AtomicBool>, T), AllocError>
+    ensures { IfOk result (λ both. both.1 ≡ end) }
+{
+    let stop = Arc::try_clone(stop)?;
+    Ok((stop, end))
+}
+
 /// Starts the application's thread. `AllocError`: it can't be started.
 pub(crate) fn start_application<
     R: Threads + Wait + Copy + Send + 'static,
@@ -94,7 +102,7 @@ where
     K::App: Send + 'static,
     ensures { IfOk result (λ thread. thread.promise.0.value ≡ kernel) }
 {
-    let stop = Arc::try_clone(stop)?;
+    let (stop, kernel) = beside(stop, kernel)?;
     let promise = GivesKernel(Snapshot::of(&kernel));
     let body = move || -> Kernel<K>
         ensures { StaysKernel kernel result }
