@@ -76,7 +76,7 @@ pub(crate) fn start_application<
     ensures before { IfOk result (λ thread. thread.promise.before.value ≡ app) }
     ensures calls { IfOk result (λ thread. thread.promise.calls.value ≡ calls) }
 {
-    let stop = Arc::try_clone(stop)?;
+    let (stop, app) = beside(stop, app)?;
     let promise = AppliesAll {
         before: Snapshot::of(&app),
         calls: Snapshot::of(&calls),
@@ -118,7 +118,7 @@ pub(crate) fn start_worker<R: Threads + Wait + Copy + Send + 'static>(
 ) -> Result<WorkerThread, AllocError>
     ensures { IfOk result (λ thread. thread.promise.0.value ≡ worker) }
 {
-    let stop = Arc::try_clone(stop)?;
+    let (stop, worker) = beside(stop, worker)?;
     let promise = GivesWorker(Snapshot::of(&worker));
     let body = move || -> Worker<Open>
         ensures { StaysWorker worker result }
