@@ -77,8 +77,11 @@ fn unfaulted_read<R: Threads + Wait + Copy + Send + 'static>(
 
 #[test]
 fn a_failing_read_is_a_read_fault(rt: HostRuntime) {
-    assert_eq!(rt; unfaulted_read(Ports::Lanes, rt, rt.alloc()), None);
-    assert_eq!(rt; unfaulted_read(Ports::Words, rt, rt.alloc()), None);
+    let wrong = [
+        unfaulted_read(Ports::Lanes, rt, rt.alloc()),
+        unfaulted_read(Ports::Words, rt, rt.alloc()),
+    ];
+    assert_eq!(rt; wrong, [None; 2]);
 }
 
 /// Letters and faulty lines behind which a failing read isn't a read fault of a play over these ports.
@@ -178,10 +181,13 @@ fn unfaulted_room<R: Threads + Wait + Copy + Send + 'static>(
 
 #[test]
 fn a_failing_write_is_a_write_fault(rt: HostRuntime) {
-    assert_eq!(rt; unfaulted_room(Ports::Lanes, rt, rt.alloc(), false), None);
-    assert_eq!(rt; unfaulted_room(Ports::Lanes, rt, rt.alloc(), true), None);
-    assert_eq!(rt; unfaulted_room(Ports::Words, rt, rt.alloc(), false), None);
-    assert_eq!(rt; unfaulted_room(Ports::Words, rt, rt.alloc(), true), None);
+    let wrong = [
+        unfaulted_room(Ports::Lanes, rt, rt.alloc(), false),
+        unfaulted_room(Ports::Lanes, rt, rt.alloc(), true),
+        unfaulted_room(Ports::Words, rt, rt.alloc(), false),
+        unfaulted_room(Ports::Words, rt, rt.alloc(), true),
+    ];
+    assert_eq!(rt; wrong, [None; 4]);
 }
 
 /// A reader of some bytes, one at a time, that is interrupted at one call.
@@ -271,8 +277,11 @@ fn faulty_interruption<R: Threads + Wait + Copy + Send + 'static>(
 
 #[test]
 fn slow_and_interrupted_streams_are_no_faults(rt: HostRuntime) {
-    assert_eq!(rt; faulty_interruption(Ports::Lanes, rt, rt.alloc()), None);
-    assert_eq!(rt; faulty_interruption(Ports::Words, rt, rt.alloc()), None);
+    let wrong = [
+        faulty_interruption(Ports::Lanes, rt, rt.alloc()),
+        faulty_interruption(Ports::Words, rt, rt.alloc()),
+    ];
+    assert_eq!(rt; wrong, [None; 2]);
 }
 
 /// Appends a line of a million letters between these bytes.
