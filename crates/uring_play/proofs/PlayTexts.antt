@@ -23,16 +23,21 @@ nothing_written None = tt
 nothing_written (Some held) = sym (append-nil held)
 
 -- the reader failed, or has a faulty line
-pub stopped_reading : (g : Setup) (f : PlayFault) (before after held : Option (List ℕ)) → ReadsCalls g (Err f) before after → Plays g (Err f) before after held held
-stopped_reading g fault.Read before after held r = record { bytes = r.bytes; consumed = r.consumed; whole = tt; written = []; appended = nothing_written held; answers = refl }
-stopped_reading g fault.Memory before after held r = record { bytes = r.bytes; consumed = r.consumed; whole = tt; written = []; appended = nothing_written held; answers = refl }
-stopped_reading g (fault.Line k) before after held r = record { bytes = r.bytes; consumed = r.consumed; whole = r.whole; written = []; appended = nothing_written held; answers = (r.returned, refl) }
-stopped_reading g (fault.Long k) before after held r = record { bytes = r.bytes; consumed = r.consumed; whole = r.whole; written = []; appended = nothing_written held; answers = (r.returned, refl) }
-stopped_reading g fault.Write before after held r = absurd r.whole
+no_calls : (g : Setup) (f : PlayFault) (before after held : Option (List ℕ)) → ReadsCalls g (Err f) before after → Plays g (Err f) before after held held
+no_calls g fault.Read before after held r = record { bytes = r.bytes; consumed = r.consumed; whole = tt; written = []; appended = nothing_written held; answers = refl }
+no_calls g fault.Memory before after held r = record { bytes = r.bytes; consumed = r.consumed; whole = tt; written = []; appended = nothing_written held; answers = refl }
+no_calls g (fault.Line k) before after held r = record { bytes = r.bytes; consumed = r.consumed; whole = r.whole; written = []; appended = nothing_written held; answers = (r.returned, refl) }
+no_calls g (fault.Long k) before after held r = record { bytes = r.bytes; consumed = r.consumed; whole = r.whole; written = []; appended = nothing_written held; answers = (r.returned, refl) }
+no_calls g fault.Write before after held r = absurd r.whole
+
+pub stopped_reading : (g : Setup) (answer : Result (Unit {0}) PlayFault) (f : PlayFault) (before after held : Option (List ℕ)) → answer ≡ Err f → ReadsCalls g (Err f) before after → Plays g answer before after held held
+stopped_reading g answer f before after held is r = subst (λ (a : Result (Unit {0}) PlayFault). Plays g a before after held held) (sym is) (no_calls g f before after held r)
 
 -- memory was refused to the play
-pub out_of_memory : (g : Setup) (calls : Vec (Vec Item Global) Global) (before after held : Option (List ℕ)) → ReadsCalls g (Ok calls) before after → Plays g (Err fault.Memory) before after held held
-out_of_memory g calls before after held r = record { bytes = r.bytes; consumed = r.consumed; whole = tt; written = []; appended = nothing_written held; answers = refl }
+pub out_of_memory : (g : Setup) (answer : Result (Unit {0}) PlayFault) (calls : Vec (Vec Item Global) Global) (before after held : Option (List ℕ)) → answer ≡ Err fault.Memory → ReadsCalls g (Ok calls) before after → Plays g answer before after held held
+out_of_memory g answer calls before after held is r =
+    let nothing : Plays g (Err fault.Memory) before after held held = record { bytes = r.bytes; consumed = r.consumed; whole = tt; written = []; appended = nothing_written held; answers = refl } in
+    subst (λ (a : Result (Unit {0}) PlayFault). Plays g a before after held held) (sym is) nothing
 
 -- it was played
 pub played : (g : Setup) (calls : Vec (Vec Item Global) Global) (trace : List Event) (completions : List Cqe) (answer : Result (Unit {0}) PlayFault) (before after held_before held_after : Option (List ℕ)) → ReadsCalls g (Ok calls) before after

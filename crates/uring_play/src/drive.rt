@@ -105,10 +105,13 @@ fn settle_all<K: KernelPort>(alloc: Global, ended: Ended<K>) -> Result<Played, A
     } = ended;
     let is_over = are_done(&applied, &kernel);
     let completions = applied.completions;
-    let Ok(report) = settle(alloc, applied.app, kernel, workers) else {
-        return Err(AllocError);
-    };
-    whole_play(is_over, report, completions)
+    match settle(alloc, applied.app, kernel, workers) {
+        Ok(report) => whole_play(is_over, report, completions),
+        Err(ends) => {
+            drop(ends);
+            Err(AllocError)
+        }
+    }
 }
 
 /// The play of this report, if the threads did all that was to be done, with the completions that weren't received behind these, which were. `AllocError`: they didn't; or out of memory.
@@ -116,11 +119,16 @@ fn whole_play(is_over: bool, report: Report<Open>, received: Vec<Cqe>) -> Result
     ensures { IfOk result (λ played. IsWhole is_over report received.items played) }
 {
     let mut completions = received;
-    add_undelivered(is_over, &report, &mut completions)?;
-    Ok(Played {
-        report,
-        completions,
-    })
+    match add_undelivered(is_over, &report, &mut completions) {
+        Ok(()) => Ok(Played {
+            report,
+            completions,
+        }),
+        Err(error) => {
+            drop(report);
+            Err(error)
+        }
+    }
 }
 
 /// Appends the completions that weren't received, if the threads did all that was to be done. `AllocError`: they didn't; or out of memory.

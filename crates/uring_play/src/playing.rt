@@ -11,7 +11,8 @@ use std::alloc::Global;
 use std::io::{Read, Write};
 use std::sync::Wait;
 use std::thread::Threads;
-use uring_threads::Setup;
+use uring_machine::Cqe;
+use uring_threads::{Open, Report, Setup};
 
 /// Reads all of `reader` as calls of a play over this set-up, plays them with so many workers, and writes the completions of all requests to `writer`, sorted, and then how many requests were accepted and how many words dropped. Conditions: there are 1 to 8 workers, and calls of the set-up go on behind an entry with a fault. Our own rule.
 ///
@@ -67,8 +68,22 @@ fn write_played<O: Write>(alloc: Global, writer: &mut O, played: Played) -> Resu
         report,
         mut completions,
     } = played;
+    let written = write_report(alloc, writer, &report, &mut completions);
+    drop(report);
+    written
+}
+
+/// Writes these completions, and the counts of the report.
+fn write_report<O: Write>(
+    alloc: Global,
+    writer: &mut O,
+    report: &Report<Open>,
+    completions: &mut [Cqe],
+) -> Result<(), PlayFault>
+    ensures { WritesPlay result (O.contents writer.old) (O.contents writer.new) report.now.trace completions.old }
+{
     report.is_lawful();
     let taken = report.counts().accepted;
     let dropped = dropped_last(report.trace());
-    write_out(alloc, writer, &mut completions, taken, dropped)
+    write_out(alloc, writer, completions, taken, dropped)
 }

@@ -52,6 +52,14 @@ impl Promise<Worker<Open>> for GivesWorker {
 /// The thread of a worker.
 pub(crate) type WorkerThread = PromisedHandle<Worker<Open>, GivesWorker>;
 
+/// Another handle of `stop`, and this end beside it. `AllocError`: there can be no more of them.
+fn beside<T: Drop>(stop: &Arc<AtomicBool>, end: T) -> Result<(Arc<AtomicBool>, T), AllocError>
+    ensures { IfOk result (λ both. both.1 ≡ end) }
+{
+    let stop = Arc::try_clone(stop)?;
+    Ok((stop, end))
+}
+
 /// Starts the application's thread. `AllocError`: it can't be started.
 pub(crate) fn start_application<
     R: Threads + Wait + Copy + Send + 'static,
@@ -68,7 +76,7 @@ pub(crate) fn start_application<
     ensures before { IfOk result (λ thread. thread.promise.before.value ≡ app) }
     ensures calls { IfOk result (λ thread. thread.promise.calls.value ≡ calls) }
 {
-    let stop = Arc::try_clone(stop)?;
+    let (stop, app) = beside(stop, app)?;
     let promise = AppliesAll {
         before: Snapshot::of(&app),
         calls: Snapshot::of(&calls),
@@ -94,7 +102,7 @@ where
     K::App: Send + 'static,
     ensures { IfOk result (λ thread. thread.promise.0.value ≡ kernel) }
 {
-    let stop = Arc::try_clone(stop)?;
+    let (stop, kernel) = beside(stop, kernel)?;
     let promise = GivesKernel(Snapshot::of(&kernel));
     let body = move || -> Kernel<K>
         ensures { StaysKernel kernel result }
@@ -110,7 +118,7 @@ pub(crate) fn start_worker<R: Threads + Wait + Copy + Send + 'static>(
 ) -> Result<WorkerThread, AllocError>
     ensures { IfOk result (λ thread. thread.promise.0.value ≡ worker) }
 {
-    let stop = Arc::try_clone(stop)?;
+    let (stop, worker) = beside(stop, worker)?;
     let promise = GivesWorker(Snapshot::of(&worker));
     let body = move || -> Worker<Open>
         ensures { StaysWorker worker result }

@@ -41,8 +41,13 @@ where
     ensures dispatcher { IfOk result (λ ended. StaysKernel kernel ended.kernel) }
     ensures workers { IfOk result (λ ended. StayWorkers workers.items ended.workers.items) }
 {
-    let rooms = make_rooms(alloc, workers.len(), calls.as_slice())?;
-    run_within(rt, rooms, app, kernel, workers, calls)
+    match make_rooms(alloc, workers.len(), calls.as_slice()) {
+        Ok(rooms) => run_within(rt, rooms, app, kernel, workers, calls),
+        Err(error) => {
+            drop(kernel);
+            Err(error)
+        }
+    }
 }
 
 /// What the threads of a play need beside its ends.
@@ -151,8 +156,13 @@ where
     ensures dispatcher { IfOk result (λ ends. StaysKernel kernel ends.1) }
     ensures workers { OnOk result (workers_of started.new.items ≡ workers.items) }
 {
-    start_workers(rt, workers, stop, started)?;
-    run_both(rt, app, kernel, calls, completions, stop)
+    match start_workers(rt, workers, stop, started) {
+        Ok(()) => run_both(rt, app, kernel, calls, completions, stop),
+        Err(error) => {
+            drop(kernel);
+            Err(error)
+        }
+    }
 }
 
 /// Runs the threads of application and dispatcher until they have ended.
@@ -179,7 +189,7 @@ where
         }
         Err(error) => {
             stop.store(true, Ordering::SeqCst);
-            dispatcher.join(&rt);
+            drop(dispatcher.join(&rt));
             Err(error)
         }
     }

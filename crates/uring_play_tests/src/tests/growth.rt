@@ -51,12 +51,10 @@ enum Ending {
 }
 
 /// What comes of a play over these ports.
-fn played<R: Threads + Wait + Copy + Send + 'static>(
-    ports: Ports,
-    rt: R,
-    alloc: Global,
-) -> Result<Ending, Fail> {
-    let setup = Setup::new(4, Some(4), 2, 0)?;
+fn played<R: Threads + Wait + Copy + Send + 'static>(ports: Ports, rt: R, alloc: Global) -> Ending {
+    let Ok(setup) = Setup::new(4, Some(4), 2, 0) else {
+        return Ending::Wrong;
+    };
     let mut writer = FixedWriter {
         bytes: [0; 128],
         len: 0,
@@ -64,7 +62,7 @@ fn played<R: Threads + Wait + Copy + Send + 'static>(
     let mut reader = INPUT.as_bytes();
     let end = play_over(ports, rt, alloc, &mut reader, &mut writer, &setup, 2);
     let written = &writer.bytes[..min(writer.len, 128)];
-    Ok(judged(end, written))
+    judged(end, written)
 }
 
 /// What came of a play that ended so and wrote this.
@@ -77,10 +75,8 @@ fn judged(end: Result<(), PlayFault>, written: &[u8]) -> Ending {
     }
 }
 
-#[test]
-fn a_refused_growth_ends_a_play_or_is_answered(rt: HostRuntime) -> Result<(), Fail> {
-    let ending = played(Ports::Lanes, rt, rt.alloc())?;
-    assert!(rt; ending != Ending::Wrong);
+/// Tells where a growth was refused.
+fn tell(rt: HostRuntime, ending: Ending) -> Result<(), Fail> {
     if ending == Ending::Refused {
         println!(rt; "refused")?;
     }
@@ -88,11 +84,15 @@ fn a_refused_growth_ends_a_play_or_is_answered(rt: HostRuntime) -> Result<(), Fa
 }
 
 #[test]
-fn a_refused_growth_ends_a_shared_play_or_is_answered(rt: HostRuntime) -> Result<(), Fail> {
-    let ending = played(Ports::Words, rt, rt.alloc())?;
+fn a_refused_growth_ends_a_play_or_is_answered(rt: HostRuntime) -> Result<(), Fail> {
+    let ending = played(Ports::Lanes, rt, rt.alloc());
     assert!(rt; ending != Ending::Wrong);
-    if ending == Ending::Refused {
-        println!(rt; "refused")?;
-    }
-    Ok(())
+    tell(rt, ending)
+}
+
+#[test]
+fn a_refused_growth_ends_a_shared_play_or_is_answered(rt: HostRuntime) -> Result<(), Fail> {
+    let ending = played(Ports::Words, rt, rt.alloc());
+    assert!(rt; ending != Ending::Wrong);
+    tell(rt, ending)
 }

@@ -2,8 +2,8 @@
 
 ghost use Rattle.std.specs.Prelude.{◌<◌, ◌≤◌};
 
-use super::ports::{BOTH, Ports, play_over};
-use std::alloc::Global;
+use super::ports::{Ports, play_over};
+use std::alloc::{AllocError, Global};
 use std::io;
 use std::io::{ErrorKind, Read, Write};
 use std::sync::Wait;
@@ -11,21 +11,37 @@ use std::test::Fail;
 use std::thread::Threads;
 use uring_play::{PlayFault, Setup};
 
-/// What a play of this input over a ring of four writes, and how it ends.
-fn played<R: Threads + Wait + Copy + Send + 'static>(
+/// Whether a play of this input over a ring of four ends so, and writes this.
+fn ends_with<R: Threads + Wait + Copy + Send + 'static>(
     ports: Ports,
     rt: R,
     alloc: Global,
     input: &[u8],
     workers: u32,
-) -> Result<(Vec<u8>, Result<(), PlayFault>), Fail>
+    wanted: (Result<(), PlayFault>, &[u8]),
+) -> bool
     requires { (0 < workers) × (workers ≤ 8) }
 {
-    let setup = Setup::new(4, Some(4), 2, 0)?;
+    let Ok(setup) = Setup::new(4, Some(4), 2, 0) else {
+        return false;
+    };
     let mut rest = input;
     let mut output = Vec::new(alloc);
     let end = play_over(ports, rt, alloc, &mut rest, &mut output, &setup, workers);
-    Ok((output, end))
+    (end, output.as_slice()) == wanted
+}
+
+/// Whether a play of this input over these ports ends so and writes this, with 1, 2 and 8 workers.
+fn ends_over<R: Threads + Wait + Copy + Send + 'static>(
+    ports: Ports,
+    rt: R,
+    alloc: Global,
+    input: &[u8],
+    wanted: (Result<(), PlayFault>, &[u8]),
+) -> bool {
+    ends_with(ports, rt, alloc, input, 1, wanted)
+        && ends_with(ports, rt, alloc, input, 2, wanted)
+        && ends_with(ports, rt, alloc, input, 8, wanted)
 }
 
 /// Whether a play of this input writes this with 1, 2 and 8 workers, over lanes and over words.
@@ -34,29 +50,9 @@ fn plays<R: Threads + Wait + Copy + Send + 'static>(
     alloc: Global,
     input: &[u8],
     wanted: &[u8],
-) -> Result<bool, Fail> {
-    let over_lanes = plays_over(Ports::Lanes, rt, alloc, input, wanted)?;
-    let over_words = plays_over(Ports::Words, rt, alloc, input, wanted)?;
-    Ok(over_lanes && over_words)
-}
-
-/// Whether a play of this input over these ports writes this with 1, 2 and 8 workers.
-fn plays_over<R: Threads + Wait + Copy + Send + 'static>(
-    ports: Ports,
-    rt: R,
-    alloc: Global,
-    input: &[u8],
-    wanted: &[u8],
-) -> Result<bool, Fail> {
-    let one = played(ports, rt, alloc, input, 1)?;
-    let two = played(ports, rt, alloc, input, 2)?;
-    let eight = played(ports, rt, alloc, input, 8)?;
-    Ok(is_done(&one, wanted) && is_done(&two, wanted) && is_done(&eight, wanted))
-}
-
-/// Whether a play ended well, and wrote this.
-fn is_done(end: &(Vec<u8>, Result<(), PlayFault>), wanted: &[u8]) -> bool {
-    end.1.is_ok() && end.0.as_slice() == wanted
+) -> bool {
+    ends_over(Ports::Lanes, rt, alloc, input, (Ok(()), wanted))
+        && ends_over(Ports::Words, rt, alloc, input, (Ok(()), wanted))
 }
 
 /// Whether a play of this input ends with this fault and writes nothing, with 1, 2 and 8 workers, over lanes and over words.
@@ -65,89 +61,83 @@ fn is_refused<R: Threads + Wait + Copy + Send + 'static>(
     alloc: Global,
     input: &[u8],
     fault: PlayFault,
-) -> Result<bool, Fail> {
-    let over_lanes = is_refused_over(Ports::Lanes, rt, alloc, input, fault)?;
-    let over_words = is_refused_over(Ports::Words, rt, alloc, input, fault)?;
-    Ok(over_lanes && over_words)
-}
-
-/// Whether a play of this input over these ports ends with this fault and writes nothing, with 1, 2 and 8 workers.
-fn is_refused_over<R: Threads + Wait + Copy + Send + 'static>(
-    ports: Ports,
-    rt: R,
-    alloc: Global,
-    input: &[u8],
-    fault: PlayFault,
-) -> Result<bool, Fail> {
-    let one = played(ports, rt, alloc, input, 1)?;
-    let two = played(ports, rt, alloc, input, 2)?;
-    let eight = played(ports, rt, alloc, input, 8)?;
-    Ok(is_fault(&one, fault) && is_fault(&two, fault) && is_fault(&eight, fault))
-}
-
-/// Whether a play ended with this fault, and wrote nothing.
-fn is_fault(end: &(Vec<u8>, Result<(), PlayFault>), fault: PlayFault) -> bool {
-    end.0.is_empty() && end.1 == Err(fault)
+) -> bool {
+    ends_over(Ports::Lanes, rt, alloc, input, (Err(fault), b""))
+        && ends_over(Ports::Words, rt, alloc, input, (Err(fault), b""))
 }
 
 #[test]
-fn hard_chain_of_write_and_read(rt: HostRuntime) -> Result<(), Fail> {
+fn hard_chain_of_write_and_read(rt: HostRuntime) {
     let input = b"write 1 H 0 0 68656c6c6f\nread 2 - 0 0 5\nnop 3 -\n\n";
     let wanted = b"cqe 1 5 -\ncqe 2 5 68656c6c6f\ncqe 3 0 -\ntaken 3 dropped 0\n";
-    assert!(rt; plays(rt, rt.alloc(), input, wanted)?);
-    Ok(())
+    assert!(rt; plays(rt, rt.alloc(), input, wanted));
 }
 
 #[test]
-fn bad_word_and_skipped_success(rt: HostRuntime) -> Result<(), Fail> {
+fn bad_word_and_skipped_success(rt: HostRuntime) {
     let input = b"bad 9\nnop 5 S\n\nread 6 - 0 0 1\n";
     let wanted = b"cqe 6 0 -\ntaken 2 dropped 1\n";
-    assert!(rt; plays(rt, rt.alloc(), input, wanted)?);
-    Ok(())
+    assert!(rt; plays(rt, rt.alloc(), input, wanted));
 }
 
 #[test]
-fn no_input(rt: HostRuntime) -> Result<(), Fail> {
-    assert!(rt; plays(rt, rt.alloc(), b"", b"taken 0 dropped 0\n")?);
-    Ok(())
+fn no_input(rt: HostRuntime) {
+    assert!(rt; plays(rt, rt.alloc(), b"", b"taken 0 dropped 0\n"));
 }
 
 #[test]
-fn faulty_lines_are_refused(rt: HostRuntime) -> Result<(), Fail> {
+fn faulty_lines_are_refused(rt: HostRuntime) {
     let alloc = rt.alloc();
-    assert!(rt; is_refused(rt, alloc, b"nop 1 -\nnop 1\n", PlayFault::Line(2))?);
-    assert!(rt; is_refused(rt, alloc, b"bad 3\n", PlayFault::Line(1))?);
+    assert!(rt; is_refused(rt, alloc, b"nop 1 -\nnop 1\n", PlayFault::Line(2)));
+    assert!(rt; is_refused(rt, alloc, b"bad 3\n", PlayFault::Line(1)));
     let five = b"nop 1 -\nnop 1 -\nnop 1 -\nnop 1 -\nnop 1 -\n";
-    assert!(rt; is_refused(rt, alloc, five, PlayFault::Long(5))?);
+    assert!(rt; is_refused(rt, alloc, five, PlayFault::Long(5)));
+}
+
+/// Appends a part so many times.
+fn push_times(text: &mut String, part: &str, times: u64) -> Result<(), AllocError> {
+    for _ in 0..times {
+        text.push_str(part)?;
+    }
     Ok(())
 }
 
-/// Calls that fill both rings many times over: so many calls of four, each with one that skips its success.
-fn many_calls(alloc: Global, calls: u64) -> Result<String, Fail> {
+/// Calls that fill both rings many times over: 500 calls of four, each with one that skips its success.
+fn many_calls(alloc: Global) -> Result<String, AllocError> {
     let mut text = String::new(alloc);
-    for _ in 0..calls {
-        text.push_str("nop 1 -\nnop 2 S\nread 3 - 1 0 1\nfsync 4 - 1\n")?;
-        text.push_str("\n")?;
-    }
+    let call = "nop 1 -\nnop 2 S\nread 3 - 1 0 1\nfsync 4 - 1\n\n";
+    push_times(&mut text, call, 500)?;
     Ok(text)
+}
+
+/// Appends what they write.
+fn push_completions(text: &mut String) -> Result<(), AllocError> {
+    push_times(text, "cqe 1 0 -\n", 500)?;
+    push_times(text, "cqe 3 0 -\n", 500)?;
+    push_times(text, "cqe 4 0 -\n", 500)?;
+    text.push_str("taken 2000 dropped 0\n")
+}
+
+/// What they write.
+fn many_completions(alloc: Global) -> Result<String, AllocError> {
+    let mut text = String::new(alloc);
+    push_completions(&mut text)?;
+    Ok(text)
+}
+
+/// Whether they go through.
+fn many_go_through<R: Threads + Wait + Copy + Send + 'static>(
+    rt: R,
+    alloc: Global,
+) -> Result<bool, AllocError> {
+    let input = many_calls(alloc)?;
+    let wanted = many_completions(alloc)?;
+    Ok(plays(rt, alloc, input.as_bytes(), wanted.as_bytes()))
 }
 
 #[test]
 fn many_calls_go_through(rt: HostRuntime) -> Result<(), Fail> {
-    let alloc = rt.alloc();
-    let input = many_calls(alloc, 500)?;
-    let mut wanted = String::new(alloc);
-    for _ in 0..500 {
-        wanted.push_str("cqe 1 0 -\n")?;
-    }
-    for _ in 0..500 {
-        wanted.push_str("cqe 3 0 -\n")?;
-    }
-    for _ in 0..500 {
-        wanted.push_str("cqe 4 0 -\n")?;
-    }
-    wanted.push_str("taken 2000 dropped 0\n")?;
-    assert!(rt; plays(rt, alloc, input.as_bytes(), wanted.as_bytes())?);
+    assert!(rt; many_go_through(rt, rt.alloc())?);
     Ok(())
 }
 
@@ -180,8 +170,10 @@ fn fails_to_write<R: Threads + Wait + Copy + Send + 'static>(
     alloc: Global,
     left: usize,
     wanted: &[u8],
-) -> Result<bool, Fail> {
-    let setup = Setup::new(4, Some(4), 2, 0)?;
+) -> bool {
+    let Ok(setup) = Setup::new(4, Some(4), 2, 0) else {
+        return false;
+    };
     let mut rest = b"nop 1 -\n".as_slice();
     let mut writer = ShortWriter {
         written: Vec::new(alloc),
@@ -189,17 +181,26 @@ fn fails_to_write<R: Threads + Wait + Copy + Send + 'static>(
     };
     let end = play_over(ports, rt, alloc, &mut rest, &mut writer, &setup, 2);
     let beginning = wanted.get(..left).unwrap_or_default();
-    Ok(end == Err(PlayFault::Write) && writer.written.as_slice() == beginning)
+    end == Err(PlayFault::Write) && writer.written.as_slice() == beginning
+}
+
+/// The least number of bytes behind which a failing writer doesn't make this play over these ports fail so.
+fn first_wrong<R: Threads + Wait + Copy + Send + 'static>(
+    ports: Ports,
+    rt: R,
+    alloc: Global,
+) -> Option<usize> {
+    let wanted = b"cqe 1 0 -\ntaken 1 dropped 0\n".as_slice();
+    for left in 0..28usize {
+        if !fails_to_write(ports, rt, alloc, left, wanted) {
+            return Some(left);
+        }
+    }
+    None
 }
 
 #[test]
-fn a_failing_write_leaves_the_beginning(rt: HostRuntime) -> Result<(), Fail> {
-    let wanted = b"cqe 1 0 -\ntaken 1 dropped 0\n".as_slice();
-    for ports in BOTH {
-        for left in 0..28usize {
-            let fails = fails_to_write(ports, rt, rt.alloc(), left, wanted)?;
-            assert!(rt; fails, "{ports:?}, behind {left} bytes");
-        }
-    }
-    Ok(())
+fn a_failing_write_leaves_the_beginning(rt: HostRuntime) {
+    assert_eq!(rt; first_wrong(Ports::Lanes, rt, rt.alloc()), None);
+    assert_eq!(rt; first_wrong(Ports::Words, rt, rt.alloc()), None);
 }

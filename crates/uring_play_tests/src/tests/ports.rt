@@ -8,14 +8,11 @@ use std::thread::Threads;
 use uring_play::{PlayFault, Setup, play, play_shared};
 
 /// What lies between the threads of a play.
-#[derive(Clone, Copy, Debug)]
+#[derive(Clone, Copy)]
 pub enum Ports {
     Lanes,
     Words,
 }
-
-/// Both of them.
-pub const BOTH: [Ports; 2] = [Ports::Lanes, Ports::Words];
 
 /// Plays over these ports.
 pub fn play_over<R: Threads + Wait + Copy + Send + 'static, I: Read, O: Write>(

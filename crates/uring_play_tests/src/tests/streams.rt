@@ -1,12 +1,11 @@
 //! Plays over streams that fail, that give and take one byte at a time, or that are interrupted, and over lines of a million letters.
 
-use super::ports::{BOTH, Ports, play_over};
-use std::alloc::Global;
+use super::ports::{Ports, play_over};
+use std::alloc::{AllocError, Global};
 use std::cmp::min;
 use std::io;
 use std::io::{ErrorKind, Read, Write};
 use std::sync::Wait;
-use std::test::Fail;
 use std::thread::Threads;
 use uring_play::{PlayFault, Setup};
 
@@ -48,45 +47,68 @@ fn fails_to_read<R: Threads + Wait + Copy + Send + 'static>(
     alloc: Global,
     letters: usize,
     input: &[u8],
-) -> Result<bool, Fail> {
-    let setup = Setup::new(4, Some(4), 2, 0)?;
+) -> bool {
+    let Ok(setup) = Setup::new(4, Some(4), 2, 0) else {
+        return false;
+    };
     let mut reader = FailingReader {
         letters,
         rest: input,
     };
     let mut output = Vec::new(alloc);
     let end = play_over(ports, rt, alloc, &mut reader, &mut output, &setup, 2);
-    Ok(end == Err(PlayFault::Read) && output.is_empty())
+    end == Err(PlayFault::Read) && output.is_empty()
 }
 
-#[test]
-fn a_failing_read_is_a_read_fault(rt: HostRuntime) -> Result<(), Fail> {
+/// How much of the input is read where a read that then fails isn't a read fault of a play over these ports.
+fn unfaulted_read<R: Threads + Wait + Copy + Send + 'static>(
+    ports: Ports,
+    rt: R,
+    alloc: Global,
+) -> Option<usize> {
     let input = INPUT.as_bytes();
-    for ports in BOTH {
-        for count in 0..=input.len() {
-            let fails = fails_to_read(ports, rt, rt.alloc(), 0, &input[..count])?;
-            assert!(rt; fails, "{ports:?}, after {count} bytes");
+    for count in 0..=input.len() {
+        if !fails_to_read(ports, rt, alloc, 0, &input[..count]) {
+            return Some(count);
         }
     }
-    Ok(())
+    None
 }
 
 #[test]
-fn a_failing_read_comes_before_each_fault_of_a_line(rt: HostRuntime) -> Result<(), Fail> {
-    for ports in BOTH {
-        for (letters, input) in [
-            (0, "nop 1\n"),
-            (0, "nop 1 -\nbad 3\nnop 2 -\n"),
-            (0, "nop 1 -\nnop 1 -\nnop 1 -\nnop 1 -\nnop 1 -\n"),
-            (0, "\n\n\x00"),
-            (1_000_000, ""),
-            (1_000_000, "\nnop 1 -\n"),
-        ] {
-            let fails = fails_to_read(ports, rt, rt.alloc(), letters, input.as_bytes())?;
-            assert!(rt; fails, "{ports:?}, behind {letters} letters and {input}");
+fn a_failing_read_is_a_read_fault(rt: HostRuntime) {
+    let wrong = [
+        unfaulted_read(Ports::Lanes, rt, rt.alloc()),
+        unfaulted_read(Ports::Words, rt, rt.alloc()),
+    ];
+    assert_eq!(rt; wrong, [None; 2]);
+}
+
+/// Letters and faulty lines behind which a failing read isn't a read fault of a play over these ports.
+fn fault_before_read<R: Threads + Wait + Copy + Send + 'static>(
+    ports: Ports,
+    rt: R,
+    alloc: Global,
+) -> Option<(usize, &'static str)> {
+    for (letters, input) in [
+        (0, "nop 1\n"),
+        (0, "nop 1 -\nbad 3\nnop 2 -\n"),
+        (0, "nop 1 -\nnop 1 -\nnop 1 -\nnop 1 -\nnop 1 -\n"),
+        (0, "\n\n\x00"),
+        (1_000_000, ""),
+        (1_000_000, "\nnop 1 -\n"),
+    ] {
+        if !fails_to_read(ports, rt, alloc, letters, input.as_bytes()) {
+            return Some((letters, input));
         }
     }
-    Ok(())
+    None
+}
+
+#[test]
+fn a_failing_read_comes_before_each_fault_of_a_line(rt: HostRuntime) {
+    assert_eq!(rt; fault_before_read(Ports::Lanes, rt, rt.alloc()), None);
+    assert_eq!(rt; fault_before_read(Ports::Words, rt, rt.alloc()), None);
 }
 
 /// A writer with room for some bytes, which behind them fails, or takes none.
@@ -120,8 +142,10 @@ fn fails_to_write<R: Threads + Wait + Copy + Send + 'static>(
     alloc: Global,
     room: usize,
     takes_none: bool,
-) -> Result<bool, Fail> {
-    let setup = Setup::new(4, Some(4), 2, 0)?;
+) -> bool {
+    let Ok(setup) = Setup::new(4, Some(4), 2, 0) else {
+        return false;
+    };
     let mut writer = FullWriter {
         held: Vec::new(alloc),
         room,
@@ -137,20 +161,33 @@ fn fails_to_write<R: Threads + Wait + Copy + Send + 'static>(
         2,
     );
     let wanted = OUTPUT.as_bytes().get(..room).unwrap_or_default();
-    Ok(end == Err(PlayFault::Write) && writer.held.as_slice() == wanted)
+    end == Err(PlayFault::Write) && writer.held.as_slice() == wanted
+}
+
+/// The room behind which a writer that fails, or takes none, doesn't make a play over these ports fail so.
+fn unfaulted_room<R: Threads + Wait + Copy + Send + 'static>(
+    ports: Ports,
+    rt: R,
+    alloc: Global,
+    takes_none: bool,
+) -> Option<usize> {
+    for room in 0..OUTPUT.len() {
+        if !fails_to_write(ports, rt, alloc, room, takes_none) {
+            return Some(room);
+        }
+    }
+    None
 }
 
 #[test]
-fn a_failing_write_is_a_write_fault(rt: HostRuntime) -> Result<(), Fail> {
-    for ports in BOTH {
-        for room in 0..OUTPUT.len() {
-            let fails = fails_to_write(ports, rt, rt.alloc(), room, false)?;
-            assert!(rt; fails, "{ports:?}, room for {room} bytes");
-            let fails = fails_to_write(ports, rt, rt.alloc(), room, true)?;
-            assert!(rt; fails, "{ports:?}, room for {room} bytes");
-        }
-    }
-    Ok(())
+fn a_failing_write_is_a_write_fault(rt: HostRuntime) {
+    let wrong = [
+        unfaulted_room(Ports::Lanes, rt, rt.alloc(), false),
+        unfaulted_room(Ports::Lanes, rt, rt.alloc(), true),
+        unfaulted_room(Ports::Words, rt, rt.alloc(), false),
+        unfaulted_room(Ports::Words, rt, rt.alloc(), true),
+    ];
+    assert_eq!(rt; wrong, [None; 4]);
 }
 
 /// A reader of some bytes, one at a time, that is interrupted at one call.
@@ -206,8 +243,10 @@ fn goes_on<R: Threads + Wait + Copy + Send + 'static>(
     rt: R,
     alloc: Global,
     interrupted_at: u64,
-) -> Result<bool, Fail> {
-    let setup = Setup::new(4, Some(4), 2, 0)?;
+) -> bool {
+    let Ok(setup) = Setup::new(4, Some(4), 2, 0) else {
+        return false;
+    };
     let mut reader = SlowReader {
         rest: INPUT.as_bytes(),
         calls: 0,
@@ -219,36 +258,61 @@ fn goes_on<R: Threads + Wait + Copy + Send + 'static>(
         interrupted_at,
     };
     let end = play_over(ports, rt, alloc, &mut reader, &mut writer, &setup, 2);
-    Ok(end == Ok(()) && writer.held.as_slice() == OUTPUT.as_bytes())
+    end == Ok(()) && writer.held.as_slice() == OUTPUT.as_bytes()
+}
+
+/// The call at which an interruption is a fault of a play over these ports.
+fn faulty_interruption<R: Threads + Wait + Copy + Send + 'static>(
+    ports: Ports,
+    rt: R,
+    alloc: Global,
+) -> Option<u64> {
+    for call in 0..60u64 {
+        if !goes_on(ports, rt, alloc, call) {
+            return Some(call);
+        }
+    }
+    None
 }
 
 #[test]
-fn slow_and_interrupted_streams_are_no_faults(rt: HostRuntime) -> Result<(), Fail> {
-    for ports in BOTH {
-        for call in 0..60 {
-            assert!(rt;
-                goes_on(ports, rt, rt.alloc(), call)?,
-                "{ports:?}, at call {call}"
-            );
-        }
-    }
+fn slow_and_interrupted_streams_are_no_faults(rt: HostRuntime) {
+    let wrong = [
+        faulty_interruption(Ports::Lanes, rt, rt.alloc()),
+        faulty_interruption(Ports::Words, rt, rt.alloc()),
+    ];
+    assert_eq!(rt; wrong, [None; 2]);
+}
+
+/// Appends a line of a million letters between these bytes.
+fn push_letters(
+    alloc: Global,
+    input: &mut Vec<u8>,
+    before: &[u8],
+    behind: &[u8],
+) -> Result<(), AllocError> {
+    input.extend_from_slice(before)?;
+    input.extend_from_slice(vec![in alloc; b'x'; 1_000_000]?.as_slice())?;
+    input.extend_from_slice(behind)?;
     Ok(())
 }
 
-/// The fault of a play of a line of so many letters, and of this behind it, and how much it writes.
-fn fault_of_letters<R: Threads + Wait + Copy + Send + 'static>(
+/// Whether a play of a line of a million letters between these bytes finds this line bad, and writes nothing.
+fn is_bad<R: Threads + Wait + Copy + Send + 'static>(
     ports: Ports,
     rt: R,
     alloc: Global,
     before: &[u8],
-    letters: usize,
     behind: &[u8],
-) -> Result<(Option<PlayFault>, usize), Fail> {
-    let setup = Setup::new(4, Some(4), 2, 0)?;
+    line: u64,
+) -> bool {
+    let Ok(setup) = Setup::new(4, Some(4), 2, 0) else {
+        return false;
+    };
     let mut input = Vec::new(alloc);
-    input.extend_from_slice(before)?;
-    input.extend_from_slice(vec![in alloc; b'x'; letters]?.as_slice())?;
-    input.extend_from_slice(behind)?;
+    if push_letters(alloc, &mut input, before, behind).is_err() {
+        return false;
+    }
     let mut output = Vec::new(alloc);
     let end = play_over(
         ports,
@@ -259,23 +323,30 @@ fn fault_of_letters<R: Threads + Wait + Copy + Send + 'static>(
         &setup,
         2,
     );
-    Ok((end.err(), output.len()))
+    end == Err(PlayFault::Line(line)) && output.is_empty()
+}
+
+/// What stands round a million letters where a play over these ports doesn't find their line bad.
+fn good_letters<R: Threads + Wait + Copy + Send + 'static>(
+    ports: Ports,
+    rt: R,
+    alloc: Global,
+) -> Option<(&'static str, &'static str)> {
+    for (before, behind, line) in [
+        ("", "", 1),
+        ("", "\n", 1),
+        ("nop 1 -\n\n", "\nnop\n", 3),
+        ("nop 1 -\n\n", " nop 1 -", 3),
+    ] {
+        if !is_bad(ports, rt, alloc, before.as_bytes(), behind.as_bytes(), line) {
+            return Some((before, behind));
+        }
+    }
+    None
 }
 
 #[test]
-fn a_line_of_a_million_letters_is_bad(rt: HostRuntime) -> Result<(), Fail> {
-    let alloc = rt.alloc();
-    for ports in BOTH {
-        for (before, behind, line) in [
-            ("", "", 1),
-            ("", "\n", 1),
-            ("nop 1 -\n\n", "\nnop\n", 3),
-            ("nop 1 -\n\n", " nop 1 -", 3),
-        ] {
-            let (before, behind) = (before.as_bytes(), behind.as_bytes());
-            let fault = fault_of_letters(ports, rt, alloc, before, 1_000_000, behind)?;
-            assert_eq!(rt; fault, (Some(PlayFault::Line(line)), 0));
-        }
-    }
-    Ok(())
+fn a_line_of_a_million_letters_is_bad(rt: HostRuntime) {
+    assert_eq!(rt; good_letters(Ports::Lanes, rt, rt.alloc()), None);
+    assert_eq!(rt; good_letters(Ports::Words, rt, rt.alloc()), None);
 }

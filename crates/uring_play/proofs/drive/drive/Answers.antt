@@ -1,4 +1,4 @@
-use Rattle.std.proofs.Common.{subst}
+use Rattle.std.proofs.Common.{◌≡◌, subst}
 use Rattle.std.specs.Prelude.{IfOk}
 use Rattle.uring_entry.specs.Setup.{Setup}
 use Rattle.uring_play.specs.Inputs.{lists_of}
@@ -10,6 +10,14 @@ pub settle_all-requires-clause-together : goal.settle_all-requires-clause-togeth
 settle_all-requires-clause-together g c =
     let ran = c.in_ok-ended.ensures in
     still_together c.args.app c.args.kernel c.args.workers.items (lists_of c.args.calls.items) c.in_ok-ended.ended.applied c.in_ok-ended.ended.kernel c.in_ok-ended.ended.workers.items c.requires.together ran.application ran.dispatcher ran.workers
+
+pub settle_all-requires-clause-reaped : goal.settle_all-requires-clause-reaped
+settle_all-requires-clause-reaped g c = c.in_ok-ended.ensures.application.reaped
+
+pub returns-clause-setup : goal.returns-clause-setup
+returns-clause-setup g c =
+    let ran = c.in_ok-ended.ensures in
+    subst (λ (s : Setup). IfOk c.settle_all.result (λ played. played.report.setup ≡ s)) ran.dispatcher.setup c.settle_all.ensures.setup
 
 pub returns-clause-play : goal.returns-clause-play
 returns-clause-play g c =

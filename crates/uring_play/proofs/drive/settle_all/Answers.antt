@@ -6,12 +6,12 @@ use Rattle.uring_play.specs.Plays.{IsPlay}
 use Rattle.uring_play.proofs.PlayedThrough.{over_is_play}
 use Rattle.uring_play.proofs.drive.settle_all.Goals as goal
 
-pub returns-clause-setup : goal.returns-clause-setup
-returns-clause-setup g c =
+pub returns-in-Ok-clause-setup : goal.returns-in-Ok-clause-setup
+returns-in-Ok-clause-setup g c =
     IfOk-weaker c.whole_play.result _ _ (λ played whole. ap (λ (r : Report). r.setup) whole.report_is ∙ c.in-Ok.ensures.setup) c.whole_play.ensures
 
-pub returns-clause-play : goal.returns-clause-play
-returns-clause-play g c = λ calls submitted.
+pub returns-in-Ok-clause-play : goal.returns-in-Ok-clause-play
+returns-in-Ok-clause-play g c = λ calls submitted.
     let told = c.in-Ok.ensures in
     let ended = c.args.ended in
     IfOk-weaker c.whole_play.result _ _

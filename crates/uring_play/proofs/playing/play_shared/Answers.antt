@@ -1,5 +1,12 @@
-use Rattle.uring_play.proofs.PlayTexts.{played}
+use Rattle.std.proofs.Common.{rules}
+use Rattle.uring_play.proofs.PlayTexts.{stopped_reading, out_of_memory, played}
 use Rattle.uring_play.proofs.playing.play_shared.Goals as goal
+
+pub returns-in_err-calls : goal.returns-in_err-calls
+returns-in_err-calls g c = stopped_reading c.args.setup.now _ c.in_err-calls.field-0.0 _ _ _ (search rules) c.in_err-calls.ensures
+
+pub returns-in_err-played : goal.returns-in_err-played
+returns-in_err-played g c = out_of_memory c.args.setup.now _ c.in_ok-calls.calls _ _ _ (search rules) c.in_ok-calls.ensures
 
 pub returns : goal.returns
 returns g c =
