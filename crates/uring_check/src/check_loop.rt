@@ -34,7 +34,9 @@ pub fn check<R: Read, W: Write>(
     ensures { IsChecked (record { setup = setup.now; is_apart = is_apart }) is_all result (R.remaining reader.old) (R.remaining reader.new) (W.contents writer.old) (W.contents writer.new) }
 {
     let mut reading = Reading::new(alloc, setup, is_all, is_apart)?;
-    check_all(&mut reading, reader, writer)
+    let checked = check_all(&mut reading, reader, writer);
+    drop(reading);
+    checked
 }
 
 /// Takes in all that the reader has, and writes the report.

@@ -36,7 +36,9 @@ pub fn graph<R: Read, W: Write, E: Write>(
     ensures { IfOk result (λ bad. Draws last_graph setup.now bad (R.remaining reader.old) (R.remaining reader.new) (W.contents writer.old) (W.contents writer.new) (E.contents errors.old) (E.contents errors.new)) }
 {
     let mut explainer = Explainer::new(alloc, setup)?;
-    draw_all(alloc, &mut explainer, reader, writer, errors)
+    let drawn = draw_all(alloc, &mut explainer, reader, writer, errors);
+    drop(explainer);
+    drawn
 }
 
 /// Takes in all lines, and draws the graph behind the last.

@@ -24,7 +24,9 @@ pub fn timeline<R: Read, W: Write, E: Write>(
     setup: &Setup,
 ) -> Result<bool, TraceFault> {
     let mut explainer = Explainer::new(alloc, setup)?;
-    draw_all(alloc, &mut explainer, reader, writer, errors)
+    let drawn = draw_all(alloc, &mut explainer, reader, writer, errors);
+    drop(explainer);
+    drawn
 }
 
 /// Takes in all lines, and draws the timeline of their requests. Returns whether a line was bad.

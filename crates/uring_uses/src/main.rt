@@ -39,7 +39,9 @@ fn show_step(rt: &HostRuntime, setup: &Setup) -> Result<()> {
     let link = SqeFlags::IO_LINK.bits();
     let steps = submission(rt.alloc(), &[Sqe::nop(10, link), Sqe::nop(11, 0)])?;
     let mut machine = Machine::new(rt.alloc(), setup)?;
-    print_starts(rt, &mut machine, steps.as_slice())
+    let printed = print_starts(rt, &mut machine, steps.as_slice());
+    drop(machine);
+    printed
 }
 
 fn print_starts(rt: &HostRuntime, machine: &mut Machine, steps: &[Step]) -> Result<()> {
@@ -76,7 +78,9 @@ fn show_simulation(rt: &HostRuntime, setup: &Setup) -> Result<()> {
     submit(&mut core, &soft_chain());
     submit(&mut core, &hard_chain());
     simulate(&mut core, &mut disk);
-    print_simulated(rt, &core, &disk)
+    let printed = print_simulated(rt, &core, &disk);
+    drop(core);
+    printed
 }
 
 fn print_simulated(rt: &HostRuntime, core: &Core, disk: &Disk) -> Result<()> {
@@ -129,7 +133,9 @@ fn show_broken_chain(rt: &HostRuntime, setup: &Setup) -> Result<()> {
     let mut core = Core::new(rt.alloc(), setup)?;
     submit(&mut core, &soft_chain());
     core.step(Step::Issue { number: 0 });
-    print_injected(rt, break_chain(&mut core, 0))
+    let answer = break_chain(&mut core, 0);
+    drop(core);
+    print_injected(rt, answer)
 }
 
 fn print_injected(rt: &HostRuntime, answer: Answer) -> Result<()> {
@@ -144,7 +150,9 @@ fn print_injected(rt: &HostRuntime, answer: Answer) -> Result<()> {
 fn show_settling(rt: &HostRuntime, setup: &Setup) -> Result<()> {
     let steps = submission(rt.alloc(), &mixed_entries())?;
     let mut machine = Machine::new(rt.alloc(), setup)?;
-    print_left(rt, &mut machine, steps.as_slice())
+    let printed = print_left(rt, &mut machine, steps.as_slice());
+    drop(machine);
+    printed
 }
 
 fn print_left(rt: &HostRuntime, machine: &mut Machine, steps: &[Step]) -> Result<()> {
