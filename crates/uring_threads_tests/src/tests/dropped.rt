@@ -2,6 +2,7 @@
 
 use super::{nop, turn};
 use std::alloc::{AllocError, Global};
+use std::process::Abort;
 use std::test::Fail;
 use uring_entry::{Cqe, Setup, Sqe};
 use uring_threads::{
@@ -72,7 +73,7 @@ fn the_dispatcher_goes_on_without_the_application(rt: HostRuntime) -> Result<(),
 }
 
 /// What became of the others when the dispatcher went behind one of two calls: the worker's turns, the submits of four and of one, the close and the reap.
-#[derive(Debug, Drop, PartialEq)]
+#[derive(Clone, Copy)]
 struct Left {
     worked: Option<[Worked; 3]>,
     submits: [Result<(), SubmitRefusal>; 3],
@@ -80,13 +81,24 @@ struct Left {
     reaped: Option<Cqe>,
 }
 
-fn left_without_dispatcher(alloc: Global) -> Result<Left, Fail> {
-    let (mut app, mut kernel, mut workers) = new_ends(alloc)?;
+/// One call is submitted and taken in.
+fn take_one_call(
+    app: &mut AppEnd<AppLanes>,
+    kernel: &mut Kernel<KernelLanes>,
+) -> Result<Result<(), SubmitRefusal>, AllocError> {
     let first = app.submit(&[nop(1)]);
     kernel.turn()?;
-    drop(kernel);
-    Ok(Left {
-        worked: three_turns(&mut workers, 0),
+    Ok(first)
+}
+
+/// What the others do behind it.
+fn go_on_without_dispatcher(
+    first: Result<(), SubmitRefusal>,
+    app: &mut AppEnd<AppLanes>,
+    workers: &mut [Worker<Open>],
+) -> Left {
+    Left {
+        worked: three_turns(workers, 0),
         submits: [
             first,
             app.submit(&[nop(2), nop(3), nop(4), nop(5)]),
@@ -94,25 +106,41 @@ fn left_without_dispatcher(alloc: Global) -> Result<Left, Fail> {
         ],
         close: app.close(),
         reaped: app.reap(),
-    })
+    }
+}
+
+/// What they do once the dispatcher went.
+fn lose_the_dispatcher(ends: Ends) -> Result<Left, AllocError> {
+    let (mut app, mut kernel, mut workers) = ends;
+    let first = take_one_call(&mut app, &mut kernel)?;
+    drop(kernel);
+    Ok(go_on_without_dispatcher(first, &mut app, &mut workers))
+}
+
+/// The same on new ends.
+fn left_without_dispatcher(alloc: Global) -> Result<Left, Fail> {
+    let ends = new_ends(alloc)?;
+    Ok(lose_the_dispatcher(ends)?)
+}
+
+/// The job was done, the next four items were put and no more, and nothing comes back.
+fn check_left(rt: &impl Abort, alloc: Global) -> Result<(), Fail> {
+    let left = left_without_dispatcher(alloc)?;
+    let worked = [Worked::Done(0), Worked::Idle, Worked::Idle];
+    assert_eq!(rt; left.worked, Some(worked));
+    assert_eq!(rt; left.submits, [Ok(()), Ok(()), Err(SubmitRefusal::Full)]);
+    assert_eq!(rt; left.close, Err(CloseRefusal::Full));
+    assert_eq!(rt; left.reaped, None);
+    Ok(())
 }
 
 #[test]
 fn the_others_go_on_without_the_dispatcher(rt: HostRuntime) -> Result<(), Fail> {
-    assert_eq!(rt;
-        left_without_dispatcher(rt.alloc())?,
-        Left {
-            worked: Some([Worked::Done(0), Worked::Idle, Worked::Idle]),
-            submits: [Ok(()), Ok(()), Err(SubmitRefusal::Full)],
-            close: Err(CloseRefusal::Full),
-            reaped: None,
-        }
-    );
-    Ok(())
+    check_left(&rt, rt.alloc())
 }
 
 /// What the others did once worker 1 went with a job: the dispatcher's turns, those of worker 0, and what is reaped.
-#[derive(Debug, Drop, PartialEq)]
+#[derive(Clone, Copy)]
 struct WithoutWorker {
     turns: [Turn; 3],
     worked: Option<[Worked; 3]>,
@@ -148,15 +176,20 @@ fn left_without_worker(alloc: Global) -> Result<WithoutWorker, Fail> {
     Ok(lose_a_worker(ends)?)
 }
 
+/// The no-op was done by worker 0 and comes back, and the write doesn't.
+fn check_without_worker(rt: &impl Abort, alloc: Global) -> Result<(), Fail> {
+    let left = left_without_worker(alloc)?;
+    let worked = [Worked::Done(1), Worked::Idle, Worked::Idle];
+    assert_eq!(rt;
+        left.turns,
+        [turn(2, 2, 0, 0), turn(0, 0, 1, 1), turn(0, 0, 0, 0)]
+    );
+    assert_eq!(rt; left.worked, Some(worked));
+    assert_eq!(rt; left.reaped, [Some(Cqe::new(2, 0, [0; 64])), None]);
+    Ok(())
+}
+
 #[test]
 fn the_others_go_on_without_a_worker(rt: HostRuntime) -> Result<(), Fail> {
-    assert_eq!(rt;
-        left_without_worker(rt.alloc())?,
-        WithoutWorker {
-            turns: [turn(2, 2, 0, 0), turn(0, 0, 1, 1), turn(0, 0, 0, 0)],
-            worked: Some([Worked::Done(1), Worked::Idle, Worked::Idle]),
-            reaped: [Some(Cqe::new(2, 0, [0; 64])), None],
-        }
-    );
-    Ok(())
+    check_without_worker(&rt, rt.alloc())
 }

@@ -1,11 +1,12 @@
 //! Completions over shared words: at every wrap, from thread to thread, and settled.
 ghost use Rattle.std.specs.Prelude.{◌≡◌, ◌<◌};
 
-use super::{nop, turn};
+use super::super::{nop, turn};
 use std::alloc::{AllocError, Global};
+use std::process::Abort;
 use std::sync::Wait;
 use std::test::Fail;
-use std::thread::{join, yield_now};
+use std::thread::{Threads, join, yield_now};
 use uring_entry::{Cqe, Setup};
 use uring_threads::{AppEnd, AppPort, Kernel, KernelPort, Open, Rests, Worked, Worker};
 use uring_words::{AppWords, KernelWords, word_ports, words};
@@ -50,16 +51,26 @@ fn all_come<R: Wait>(rt: &R, app: &mut AppWords) -> bool {
     true
 }
 
+/// Whether they come in order from one of these ports to the other, each in a thread of its own.
+fn go_across<R: Threads + Wait + Sync>(
+    rt: &R,
+    app: &mut AppWords,
+    kernel: &mut KernelWords,
+) -> bool {
+    let ((), in_order) = join(rt, || deliver_all(rt, kernel), || all_come(rt, app));
+    in_order
+}
+
+/// The same on new ports, whose counts wrap behind the sixth completion.
+fn go_across_new_ports<R: Threads + Wait + Sync>(rt: &R, alloc: Global) -> Result<bool, Fail> {
+    let setup = Setup::new(4, Some(4), 1, 4294967290)?;
+    let (mut app, mut kernel) = word_ports(alloc, &setup)?;
+    Ok(go_across(rt, &mut app, &mut kernel))
+}
+
 #[test]
 fn completions_go_across(rt: HostRuntime) -> Result<(), Fail> {
-    let setup = Setup::new(4, Some(4), 1, 4294967290)?;
-    let (mut app, mut kernel) = word_ports(rt.alloc(), &setup)?;
-    let rt = &rt;
-    let ((), in_order) = join(
-        rt,
-        || deliver_all(rt, &mut kernel),
-        || all_come(rt, &mut app),
-    );
+    let in_order = go_across_new_ports(&rt, rt.alloc())?;
     assert!(rt; in_order, "each completion comes whole, in its place");
     Ok(())
 }
@@ -126,7 +137,7 @@ fn a_ring_of_two_goes_round(rt: HostRuntime) -> Result<(), Fail> {
 }
 
 /// What is seen of a completion ring of two: the room, and what is got.
-#[derive(Debug, Drop, PartialEq)]
+#[derive(Clone, Copy)]
 struct Seen {
     // At first, behind two completions, and once one of them is got.
     room: [usize; 3],
@@ -169,18 +180,23 @@ fn look_and_settle(alloc: Global) -> Result<(Seen, Rests), Fail> {
     }
 }
 
+/// The ring is full behind two completions, the first is got, and each dropped word is seen.
+fn check_seen(rt: &impl Abort, seen: Seen) {
+    assert_eq!(rt; seen.room, [2, 0, 1]);
+    assert_eq!(rt; seen.got, [None, Some(completion(1))]);
+    assert_eq!(rt; seen.dropped, [0, 1, 7]);
+}
+
+/// The second completion is undelivered, and nothing is unsent.
+fn check_rests(rt: &impl Abort, rests: &Rests) {
+    assert!(rt; rests.unsent.is_empty());
+    assert_eq!(rt; rests.undelivered.as_slice(), [completion(2)].as_slice());
+}
+
 #[test]
 fn what_was_not_got_is_undelivered(rt: HostRuntime) -> Result<(), Fail> {
     let (seen, rests) = look_and_settle(rt.alloc())?;
-    assert_eq!(rt;
-        seen,
-        Seen {
-            room: [2, 0, 1],
-            got: [None, Some(completion(1))],
-            dropped: [0, 1, 7],
-        }
-    );
-    assert!(rt; rests.unsent.is_empty());
-    assert_eq!(rt; rests.undelivered.as_slice(), [completion(2)].as_slice());
+    check_seen(&rt, seen);
+    check_rests(&rt, &rests);
     Ok(())
 }

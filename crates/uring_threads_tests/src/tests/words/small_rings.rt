@@ -1,8 +1,9 @@
 //! A ring of two that begins at the last index word, and a ring of four that is settled.
 ghost use Rattle.std.specs.Prelude.{◌≡◌, ◌≤◌, vec_capacity};
 
-use super::nop;
+use super::super::nop;
 use std::alloc::{AllocError, Global};
+use std::process::Abort;
 use std::test::Fail;
 use uring_entry::Setup;
 use uring_threads::{
@@ -73,11 +74,16 @@ fn settled(alloc: Global) -> Result<(bool, Rests), Fail> {
     }
 }
 
+/// The second call is unsent, and nothing else is left.
+fn check_rests(rt: &impl Abort, rests: &Rests) {
+    assert_eq!(rt; rests.unsent.as_slice(), [Item::Bad(9), nop(2)].as_slice());
+    assert!(rt; rests.undelivered.is_empty());
+}
+
 #[test]
 fn what_was_not_pulled_is_unsent(rt: HostRuntime) -> Result<(), Fail> {
     let (goes, rests) = settled(rt.alloc())?;
     assert!(rt; goes, "both calls are Ok, and the first is pulled");
-    assert_eq!(rt; rests.unsent.as_slice(), [Item::Bad(9), nop(2)].as_slice());
-    assert!(rt; rests.undelivered.is_empty());
+    check_rests(&rt, &rests);
     Ok(())
 }
