@@ -12,19 +12,18 @@ use uring_words::KernelWords;
 /// What came of one no-op and a close.
 #[derive(Clone, Copy)]
 struct Played {
-    submitted: bool,
-    turns: [Turn; 2],
+    turns: [Turn; 3],
     // Worker 1's turn, and then worker 0's.
     worked: [Option<Worked>; 2],
     reaped: Option<Cqe>,
-    idle: bool,
-    closed: bool,
-    last_turn: Turn,
-    idle_at_last: bool,
+    // Whether the submission and the close went.
+    went: [bool; 2],
+    // Whether the dispatcher is idle before the close, and behind the turn that takes it in.
+    idle: [bool; 2],
 }
 
 /// Plays one no-op and a close.
-fn play<K: KernelPort>(ends: &mut Ends<K, Open>) -> Result<Played, AllocError> {
+fn play<K: KernelPort>(ends: &mut Ends<K, Open>) -> Result<Played, Fail> {
     let submitted = ends.submit(&[nop(3)]);
     let first = ends.turn()?;
     let worked = [ends.work(1), ends.work(0)];
@@ -32,40 +31,30 @@ fn play<K: KernelPort>(ends: &mut Ends<K, Open>) -> Result<Played, AllocError> {
     let reaped = ends.reap();
     let idle = ends.idle();
     let closed = ends.close();
-    let last_turn = ends.turn()?;
+    let last = ends.turn()?;
     Ok(Played {
-        submitted,
-        turns: [first, second],
+        turns: [first, second, last],
         worked,
         reaped,
-        idle,
-        closed,
-        last_turn,
-        idle_at_last: ends.idle(),
+        went: [submitted, closed],
+        idle: [idle, ends.idle()],
     })
-}
-
-/// Plays on these ends.
-fn play_on<K: KernelPort>(ends: Ends<K, Open>) -> Result<Played, AllocError> {
-    let mut ends = ends;
-    play(&mut ends)
 }
 
 /// Plays with two workers.
 fn play_on_new_ends<K: Ports>(alloc: Global) -> Result<Played, Fail> {
-    let ends = new_ends::<K>(alloc, 2, 2)?;
-    Ok(play_on(ends)?)
+    let mut ends = new_ends::<K>(alloc, 2, 2)?;
+    play(&mut ends)
 }
 
 /// The no-op is taken in, done by worker 0 and reaped, and the ring is idle once it is closed.
 fn check_played<K: Ports>(rt: &impl Abort, alloc: Global) -> Result<(), Fail> {
     let played = play_on_new_ends::<K>(alloc)?;
-    assert!(rt; played.submitted && !played.idle);
-    assert_eq!(rt; played.turns, [turn(1, 1, 0, 0), turn(0, 0, 1, 1)]);
+    let turns = [turn(1, 1, 0, 0), turn(0, 0, 1, 1), turn(0, 0, 0, 0)];
+    assert!(rt; played.went == [true; 2] && played.idle == [false, true]);
+    assert_eq!(rt; played.turns, turns);
     assert_eq!(rt; played.worked, [Some(Worked::Idle), Some(Worked::Done(0))]);
     assert_eq!(rt; played.reaped, Some(Cqe::new(3, 0, [0; 64])));
-    assert_eq!(rt; played.last_turn, turn(0, 0, 0, 0));
-    assert!(rt; played.closed && played.idle_at_last);
     Ok(())
 }
 
@@ -112,7 +101,7 @@ fn goes_round<K: KernelPort>(ends: &mut Ends<K, Open>) -> Result<bool, AllocErro
 }
 
 /// The first of a thousand rounds that goes otherwise.
-fn first_wrong_round<K: KernelPort>(ends: &mut Ends<K, Open>) -> Result<Option<u64>, AllocError> {
+fn first_wrong_round<K: KernelPort>(ends: &mut Ends<K, Open>) -> Result<Option<u64>, Fail> {
     for round in 0..1000 {
         if !goes_round(ends)? {
             return Ok(Some(round));
@@ -121,16 +110,10 @@ fn first_wrong_round<K: KernelPort>(ends: &mut Ends<K, Open>) -> Result<Option<u
     Ok(None)
 }
 
-/// The same on these ends.
-fn first_wrong_round_on<K: KernelPort>(ends: Ends<K, Open>) -> Result<Option<u64>, AllocError> {
-    let mut ends = ends;
-    first_wrong_round(&mut ends)
-}
-
 /// The same on the ends of so many workers.
 fn first_wrong_round_of<K: Ports>(alloc: Global, workers: usize) -> Result<Option<u64>, Fail> {
-    let ends = new_ends::<K>(alloc, 2, workers)?;
-    Ok(first_wrong_round_on(ends)?)
+    let mut ends = new_ends::<K>(alloc, 2, workers)?;
+    first_wrong_round(&mut ends)
 }
 
 /// The same with 1, 2 and 8 workers.

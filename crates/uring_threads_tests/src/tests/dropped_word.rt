@@ -2,7 +2,7 @@
 
 use super::ends::{Ends, Ports, new_ends};
 use super::nop;
-use std::alloc::{AllocError, Global};
+use std::alloc::Global;
 use std::test::Fail;
 use uring_entry::Sqe;
 use uring_threads::{Item, KernelLanes, KernelPort, Open};
@@ -14,7 +14,7 @@ fn silent_nop() -> Item {
 }
 
 /// What is seen at first, behind a call with one word that names no slot, behind the turn that takes it in, and once more; then behind a turn that takes in two such words, and behind one that takes in nothing.
-fn seen<K: KernelPort>(ends: &mut Ends<K, Open>) -> Result<[Option<u32>; 6], AllocError> {
+fn seen<K: KernelPort>(ends: &mut Ends<K, Open>) -> Result<[Option<u32>; 6], Fail> {
     let first = ends.dropped();
     ends.submit(&[Item::Bad(9), silent_nop()]);
     let published = ends.dropped();
@@ -27,16 +27,10 @@ fn seen<K: KernelPort>(ends: &mut Ends<K, Open>) -> Result<[Option<u32>; 6], All
     Ok([first, published, taken, again, more, ends.dropped()])
 }
 
-/// The same on these ends.
-fn seen_on<K: KernelPort>(ends: Ends<K, Open>) -> Result<[Option<u32>; 6], AllocError> {
-    let mut ends = ends;
-    seen(&mut ends)
-}
-
 /// The same on new ends of two workers.
 fn seen_on_new_ends<K: Ports>(alloc: Global) -> Result<[Option<u32>; 6], Fail> {
-    let ends = new_ends::<K>(alloc, 2, 2)?;
-    Ok(seen_on(ends)?)
+    let mut ends = new_ends::<K>(alloc, 2, 2)?;
+    seen(&mut ends)
 }
 
 #[test]

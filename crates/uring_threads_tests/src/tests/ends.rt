@@ -8,8 +8,8 @@ use std::test::Fail;
 use std::thread::Threads;
 use uring_entry::{Cqe, Setup};
 use uring_threads::{
-    AppEnd, Gate, Item, Kernel, KernelLanes, KernelPort, LanesFault, Open, Report, Turn, Worked,
-    Worker, lanes, settle,
+    AppEnd, Gate, Item, Kernel, KernelLanes, KernelPort, LanesFault, Open, Report, SubmitRefusal,
+    Turn, Worked, Worker, lanes, settle,
 };
 use uring_words::{KernelWords, words};
 
@@ -74,6 +74,11 @@ pub fn new_ends<K: Ports>(
 }
 
 impl<K: KernelPort, G: Gate> Ends<K, G> {
+    /// Submits these items, or says why it can't.
+    pub fn try_submit(&mut self, items: &[Item]) -> Result<(), SubmitRefusal> {
+        self.app.submit(items)
+    }
+
     /// Whether the application submits these items.
     pub fn submit(&mut self, items: &[Item]) -> bool {
         self.app.submit(items).is_ok()
@@ -113,7 +118,7 @@ impl<K: KernelPort, G: Gate> Ends<K, G> {
     }
 
     /// Runs all ends in threads of their own, until the dispatcher is idle.
-    pub fn run<R: Threads + Wait + Sync>(&mut self, rt: &R, script: &mut Script, flags: &Flags)
+    fn run<R: Threads + Wait + Sync>(&mut self, rt: &R, script: &mut Script, flags: &Flags)
     where
         K: Send + 'static,
         K::App: Send + 'static,
@@ -127,6 +132,23 @@ impl<K: KernelPort, G: Gate> Ends<K, G> {
             script,
             flags,
         );
+    }
+
+    /// What all ends leave, once they ran in threads of their own. `AllocError`: out of memory.
+    pub fn run_to_the_end<R: Threads + Wait + Sync>(
+        mut self,
+        rt: &R,
+        alloc: Global,
+        script: &mut Script,
+        flags: &Flags,
+    ) -> Result<Report<G>, AllocError>
+    where
+        K: Send + 'static,
+        K::App: Send + 'static,
+        G: Send,
+    {
+        self.run(rt, script, flags);
+        self.settle(alloc)
     }
 
     /// What all ends leave, or the ends as they were: out of memory.

@@ -3,7 +3,7 @@
 use super::ends::{Ends, Ports};
 use super::replay::replays;
 use super::threads::{Flags, Script};
-use std::alloc::{AllocError, Global};
+use std::alloc::Global;
 use std::process::Abort;
 use std::sync::Wait;
 use std::sync::atomic::{AtomicBool, Ordering};
@@ -80,13 +80,11 @@ fn is_replayed<R: Threads + Wait + Sync, K: KernelPort + Send + 'static, G: Gate
     flags: &Flags,
     ends: Ends<K, G>,
     script: &mut Script,
-) -> Result<bool, AllocError>
+) -> Result<bool, Fail>
 where
     K::App: Send + 'static,
 {
-    let mut ends = ends;
-    ends.run(rt, script, flags);
-    let report = ends.settle(alloc)?;
+    let report = ends.run_to_the_end(rt, alloc, script, flags)?;
     replays(alloc, &report)
 }
 

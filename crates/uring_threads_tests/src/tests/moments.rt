@@ -36,13 +36,10 @@ fn goes_half_way<K: KernelPort>(ends: &mut Ends<K, Open>) -> Result<bool, AllocE
     Ok(submitted && started && first && delivered && second && more)
 }
 
-/// Whether these ends go half way, and what they then leave.
-fn settle_half_way<K: KernelPort>(
-    alloc: Global,
-    ends: Ends<K, Open>,
-) -> Result<(bool, Report<Open>), AllocError> {
-    let mut ends = ends;
-    let goes = goes_half_way(&mut ends)?;
+/// Whether the ends of two workers go half way, and what they then leave.
+fn settled<K: Ports>(alloc: Global) -> Result<(bool, Report<Open>), Fail> {
+    let mut ends = new_ends::<K>(alloc, 2, 2)?;
+    let goes = goes_half_way(&mut ends).unwrap_or(false);
     let report = ends.settle(alloc)?;
     Ok((goes, report))
 }
@@ -93,8 +90,8 @@ fn wanted_trace() -> [(Step, Answer); 22] {
     ]
 }
 
-/// Trace, lists and counts are those of the moment.
-fn check_lists(rt: &impl Abort, report: &Report<Open>) {
+/// Trace and counts are those of the moment.
+fn check_trace(rt: &impl Abort, report: &Report<Open>) {
     let counts = Counts {
         accepted: 3,
         outstanding: 1,
@@ -103,10 +100,14 @@ fn check_lists(rt: &impl Abort, report: &Report<Open>) {
         reaped: 1,
     };
     assert!(rt; report.trace() == wanted_trace().as_slice());
+    assert_eq!(rt; report.counts(), counts);
+}
+
+/// One item was not taken, one completion was delivered, and one waits.
+fn check_lists(rt: &impl Abort, report: &Report<Open>) {
     assert_eq!(rt; report.unsent(), [nop(4)].as_slice());
     assert_eq!(rt; report.undelivered(), [Cqe::new(1, 1, ZEROS)].as_slice());
     assert_eq!(rt; report.waiting(), [Cqe::new(2, 1, ZEROS)].as_slice());
-    assert_eq!(rt; report.counts(), counts);
 }
 
 /// The two files have what was written, and there are no others.
@@ -125,18 +126,28 @@ fn check_files(rt: &impl Abort, report: &Report<Open>) {
     assert_eq!(rt; [report.byte(0, 1), report.byte(2, 0)], [None, None]);
 }
 
-/// Settled half way, the ends of two workers report all that is on its way, and their files; and the trace is what a new machine answers.
-fn check_ends<K: Ports>(rt: &impl Abort, alloc: Global) -> Result<(), Fail> {
-    let ends = new_ends::<K>(alloc, 2, 2)?;
-    let (goes, report) = settle_half_way(alloc, ends)?;
+/// All of it is so, and the trace is what a new machine answers.
+fn check_report(
+    rt: &impl Abort,
+    alloc: Global,
+    goes: bool,
+    report: &Report<Open>,
+) -> Result<(), Fail> {
     assert!(rt; goes, "each call does what it should");
-    check_lists(rt, &report);
-    check_files(rt, &report);
+    check_trace(rt, report);
+    check_lists(rt, report);
+    check_files(rt, report);
     assert!(rt;
-        replays(alloc, &report)?,
+        replays(alloc, report)?,
         "the trace is what a new machine answers"
     );
     Ok(())
+}
+
+/// The ends of two workers over these ports report it.
+fn check_ends<K: Ports>(rt: &impl Abort, alloc: Global) -> Result<(), Fail> {
+    let (goes, report) = settled::<K>(alloc)?;
+    check_report(rt, alloc, goes, &report)
 }
 
 #[test]

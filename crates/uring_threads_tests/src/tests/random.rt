@@ -31,34 +31,23 @@ fn script(alloc: Global, seed: u64) -> Result<Script, AllocError> {
     })
 }
 
-/// What these ends leave, once they ran in threads.
-fn report_of_threads<R: Threads + Wait + Sync, K: KernelPort + Send + 'static>(
-    rt: &R,
-    alloc: Global,
-    ends: Ends<K, Open>,
-    script: &mut Script,
-) -> Result<Report<Open>, AllocError>
-where
-    K::App: Send + 'static,
-{
-    let flags = Flags::new();
-    let mut ends = ends;
-    ends.run(rt, script, &flags);
-    ends.settle(alloc)
-}
-
 /// Whether the threads of these ends end with all done and nothing on its way, and the trace is what a new machine answers.
 fn are_right_in_threads<R: Threads + Wait + Sync, K: KernelPort + Send + 'static>(
     rt: &R,
     alloc: Global,
     ends: Ends<K, Open>,
     script: &mut Script,
-) -> Result<bool, AllocError>
+) -> Result<bool, Fail>
 where
     K::App: Send + 'static,
 {
-    let report = report_of_threads(rt, alloc, ends, script)?;
-    Ok(script.done && is_over(&report, script.completions.len()) && replays(alloc, &report)?)
+    let report = ends.run_to_the_end(rt, alloc, script, &Flags::new())?;
+    is_right(alloc, script, &report)
+}
+
+/// Whether this script was done, and left this report.
+fn is_right(alloc: Global, script: &Script, report: &Report<Open>) -> Result<bool, Fail> {
+    Ok(script.done && is_over(report, script.completions.len()) && replays(alloc, report)?)
 }
 
 /// Whether they do so with the submissions of this seed.
@@ -70,9 +59,9 @@ fn is_right_in_threads<K: Ports + Send + 'static, R: Threads + Wait + Sync>(
 where
     K::App: Send + 'static,
 {
-    let ends = ends_of::<K>(alloc, seed)?;
     let mut script = script(alloc, seed)?;
-    Ok(are_right_in_threads(rt, alloc, ends, &mut script)?)
+    let ends = ends_of::<K>(alloc, seed)?;
+    are_right_in_threads(rt, alloc, ends, &mut script)
 }
 
 /// Whether nothing is on its way, and so many completions were reaped.
@@ -151,22 +140,18 @@ fn go_some_way<K: KernelPort>(
     Ok(())
 }
 
-/// What these ends leave half way.
-fn report_of_half<K: KernelPort>(
-    alloc: Global,
-    dice: &mut Dice,
-    ends: Ends<K, Open>,
-) -> Result<Report<Open>, AllocError> {
-    let mut ends = ends;
-    go_some_way(alloc, dice, &mut ends)?;
-    ends.settle(alloc)
+/// What the ends of a seed leave half way.
+fn report_of_half<K: Ports>(alloc: Global, seed: u64) -> Result<Report<Open>, Fail> {
+    let mut dice = Dice::new(seed);
+    let mut ends = ends_of::<K>(alloc, seed)?;
+    go_some_way(alloc, &mut dice, &mut ends)?;
+    Ok(ends.settle(alloc)?)
 }
 
 /// Whether the trace is what a new machine answers, with ends that are settled half way.
 fn is_right_half_way<K: Ports>(alloc: Global, seed: u64) -> Result<bool, Fail> {
-    let ends = ends_of::<K>(alloc, seed)?;
-    let report = report_of_half(alloc, &mut Dice::new(seed), ends)?;
-    Ok(replays(alloc, &report)?)
+    let report = report_of_half::<K>(alloc, seed)?;
+    replays(alloc, &report)
 }
 
 /// The first seed of which it isn't.

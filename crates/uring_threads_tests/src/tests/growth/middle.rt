@@ -2,7 +2,7 @@
 
 use super::super::nop;
 use super::{Made, make, settle};
-use std::alloc::{AllocError, Global};
+use std::alloc::Global;
 use std::process::Abort;
 use std::test::Fail;
 use uring_entry::Cqe;
@@ -57,18 +57,12 @@ fn read_report(report: &Report<Open>, was_refused: bool) -> Moment {
     }
 }
 
-/// The report of these ends, settled in the middle. Memory may have been refused to them before.
-fn settle_in_the_middle(alloc: Global, made: Made, refused: bool) -> Result<Moment, AllocError> {
-    let mut made = made;
+/// The report of new ends that are settled then.
+fn settled_moment(alloc: Global) -> Result<Moment, Fail> {
+    let (mut made, refused) = make(alloc)?;
     let refused_then = go_to_the_middle(&mut made);
     let (report, refused_last) = settle(alloc, made)?;
     Ok(read_report(&report, refused || refused_then || refused_last))
-}
-
-/// The same of new ends.
-fn settled_moment(alloc: Global) -> Result<Moment, Fail> {
-    let (made, refused) = make(alloc)?;
-    Ok(settle_in_the_middle(alloc, made, refused)?)
 }
 
 /// Nothing is lost. Whether memory was refused.

@@ -218,8 +218,7 @@ struct Played {
 }
 
 /// A play on these ends to its end, and the report of it.
-fn play_on(alloc: Global, made: Made) -> Result<Played, AllocError> {
-    let mut made = made;
+fn play_on(alloc: Global, mut made: Made) -> Result<Played, AllocError> {
     let progress = go_rounds(&mut made, 40);
     let is_idle = made.idle();
     let (report, was_refused) = settle(alloc, made)?;

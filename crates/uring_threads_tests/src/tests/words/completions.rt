@@ -1,6 +1,7 @@
 //! Completions over shared words: at every wrap, from thread to thread, and settled.
 ghost use Rattle.std.specs.Prelude.{◌≡◌, ◌<◌};
 
+use super::super::ends::{Ends, Ports};
 use super::super::{nop, turn};
 use std::alloc::{AllocError, Global};
 use std::process::Abort;
@@ -8,8 +9,8 @@ use std::sync::Wait;
 use std::test::Fail;
 use std::thread::{Threads, join, yield_now};
 use uring_entry::{Cqe, Setup};
-use uring_threads::{AppEnd, AppPort, Kernel, KernelPort, Open, Rests, Worked, Worker};
-use uring_words::{AppWords, KernelWords, word_ports, words};
+use uring_threads::{AppPort, KernelPort, Open, Rests, Worked};
+use uring_words::{AppWords, KernelWords, word_ports};
 
 /// How many completions go through.
 const COMPLETIONS: u64 = 100_000;
@@ -76,56 +77,37 @@ fn completions_go_across(rt: HostRuntime) -> Result<(), Fail> {
 }
 
 /// What one round of a no-op gives: whether all of it went as it should, and what was reaped.
-fn round(
-    app: &mut AppEnd<AppWords>,
-    kernel: &mut Kernel<KernelWords>,
-    worker: &mut Worker<Open>,
-    user_data: u64,
-) -> Result<Option<Cqe>, AllocError>
+fn round(ends: &mut Ends<KernelWords, Open>, user_data: u64) -> Result<Option<Cqe>, AllocError>
     requires { 0 < user_data }
 {
-    let submitted = app.submit(&[nop(user_data)]).is_ok();
-    let taken = kernel.turn()? == turn(1, 1, 0, 0);
-    let worked = worker.turn() == Worked::Done(user_data - 1);
-    let delivered = kernel.turn()? == turn(0, 0, 1, 1);
+    let submitted = ends.submit(&[nop(user_data)]);
+    let taken = ends.turn()? == turn(1, 1, 0, 0);
+    let worked = ends.work(0) == Some(Worked::Done(user_data - 1));
+    let delivered = ends.turn()? == turn(0, 0, 1, 1);
     if submitted && taken && worked && delivered {
-        Ok(app.reap())
+        Ok(ends.reap())
     } else {
         Ok(None)
     }
 }
 
 /// What five rounds give.
-fn five_rounds(
-    app: &mut AppEnd<AppWords>,
-    kernel: &mut Kernel<KernelWords>,
-    worker: &mut Worker<Open>,
-) -> Result<[Option<Cqe>; 5], AllocError> {
+fn five_rounds(ends: &mut Ends<KernelWords, Open>) -> Result<[Option<Cqe>; 5], Fail> {
     Ok([
-        round(app, kernel, worker, 1)?,
-        round(app, kernel, worker, 2)?,
-        round(app, kernel, worker, 3)?,
-        round(app, kernel, worker, 4)?,
-        round(app, kernel, worker, 5)?,
+        round(ends, 1)?,
+        round(ends, 2)?,
+        round(ends, 3)?,
+        round(ends, 4)?,
+        round(ends, 5)?,
     ])
-}
-
-/// The same on these ends, by their first worker.
-fn five_rounds_on(
-    ends: (AppEnd<AppWords>, Kernel<KernelWords>, Vec<Worker<Open>>),
-) -> Result<[Option<Cqe>; 5], AllocError> {
-    let (mut app, mut kernel, mut workers) = ends;
-    match workers.first_mut() {
-        Some(worker) => five_rounds(&mut app, &mut kernel, worker),
-        None => Ok([None; 5]),
-    }
 }
 
 /// The same on new ends of one worker, with rings of two that begin at the last index word.
 fn five_rounds_at_the_wrap(alloc: Global) -> Result<[Option<Cqe>; 5], Fail> {
     let setup = Setup::new(2, Some(2), 1, 4294967295)?;
-    let ends = words(alloc, &setup, vec![in alloc; Open; 1]?)?;
-    Ok(five_rounds_on(ends)?)
+    let gates = vec![in alloc; Open; 1]?;
+    let mut ends = KernelWords::ends(alloc, &setup, gates)?;
+    five_rounds(&mut ends)
 }
 
 #[test]
