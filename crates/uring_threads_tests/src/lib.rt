@@ -1,4 +1,4 @@
-//! Tests of the ports and of the application's end: what no contract says. They stand in a crate of their own, since a crate with tests is proved twice.
+//! Tests of the ports and of all ends, over lanes and over shared words: what no contract says. They stand in a crate of their own, since a crate with tests is proved twice.
 #![tactic(auto)]
 
 #[cfg(test)]

@@ -1,4 +1,4 @@
-//! The ends over lanes, on one thread and in threads of their own.
+//! The ends over lanes and over shared words, on one thread and in threads of their own.
 
 mod all_ends;
 mod dice;
@@ -15,7 +15,9 @@ mod replay;
 mod rests;
 mod results;
 mod rounds;
+mod settled;
 mod threads;
+mod words;
 
 use uring_entry::Sqe;
 use uring_threads::{Item, Turn};

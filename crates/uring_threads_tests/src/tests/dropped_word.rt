@@ -1,30 +1,49 @@
-//! No dropped word lies between ends over lanes.
+//! What the application sees of the dropped word, from turn to turn: none lies between ends over lanes.
 
-use std::alloc::{AllocError, Global};
+use super::ends::{Ends, Ports, new_ends};
+use super::nop;
+use std::alloc::Global;
 use std::test::Fail;
-use uring_entry::Setup;
-use uring_threads::{AppEnd, AppLanes, Item, Kernel, KernelLanes, Open, lanes};
+use uring_entry::Sqe;
+use uring_threads::{Item, KernelLanes, KernelPort, Open};
+use uring_words::KernelWords;
 
-/// What the application sees of it, at first and behind a turn that takes in a word that names no slot.
-fn seen(
-    app: &mut AppEnd<AppLanes>,
-    kernel: &mut Kernel<KernelLanes>,
-) -> Result<[Option<u32>; 2], AllocError> {
-    let first = app.dropped();
-    let _submitted = app.submit(&[Item::Bad(9)]);
-    kernel.turn()?;
-    Ok([first, app.dropped()])
+/// A no-op that posts no completion: its flag is IOSQE_CQE_SKIP_SUCCESS.
+fn silent_nop() -> Item {
+    Item::Entry(Sqe::nop(5, 64))
 }
 
-/// The same on new ends of one worker.
-fn seen_on_new_ends(alloc: Global) -> Result<[Option<u32>; 2], Fail> {
-    let setup = Setup::new(4, Some(4), 2, 0)?;
-    let (mut app, mut kernel, _workers) = lanes(alloc, &setup, vec![in alloc; Open; 1]?)?;
-    Ok(seen(&mut app, &mut kernel)?)
+/// What is seen at first, behind a call with one word that names no slot, behind the turn that takes it in, and once more; then behind a turn that takes in two such words, and behind one that takes in nothing.
+fn seen<K: KernelPort>(ends: &mut Ends<K, Open>) -> Result<[Option<u32>; 6], Fail> {
+    let first = ends.dropped();
+    ends.submit(&[Item::Bad(9), silent_nop()]);
+    let published = ends.dropped();
+    ends.turn()?;
+    let (taken, again) = (ends.dropped(), ends.dropped());
+    ends.submit(&[Item::Bad(4), nop(6), Item::Bad(4294967295)]);
+    ends.turn()?;
+    let more = ends.dropped();
+    ends.turn()?;
+    Ok([first, published, taken, again, more, ends.dropped()])
+}
+
+/// The same on new ends of two workers.
+fn seen_on_new_ends<K: Ports>(alloc: Global) -> Result<[Option<u32>; 6], Fail> {
+    let mut ends = new_ends::<K>(alloc, 2, 2)?;
+    seen(&mut ends)
 }
 
 #[test]
 fn lanes_have_no_dropped_word(rt: HostRuntime) -> Result<(), Fail> {
-    assert_eq!(rt; seen_on_new_ends(rt.alloc())?, [None, None]);
+    assert_eq!(rt; seen_on_new_ends::<KernelLanes>(rt.alloc())?, [None; 6]);
+    Ok(())
+}
+
+#[test]
+fn words_show_what_was_dropped(rt: HostRuntime) -> Result<(), Fail> {
+    assert_eq!(rt;
+        seen_on_new_ends::<KernelWords>(rt.alloc())?,
+        [Some(0), Some(0), Some(1), Some(1), Some(3), Some(3)]
+    );
     Ok(())
 }

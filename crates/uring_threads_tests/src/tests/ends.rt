@@ -4,25 +4,40 @@ ghost use Rattle.uring_threads.specs.Report.{AreTogether};
 use super::threads::{Flags, Script, run_threads, turn_at};
 use std::alloc::{AllocError, Global};
 use std::sync::Wait;
+use std::test::Fail;
 use std::thread::Threads;
 use uring_entry::{Cqe, Setup};
 use uring_threads::{
-    AppEnd, AppLanes, Gate, Item, Kernel, KernelLanes, LanesFault, Report, Turn, Worked, Worker,
-    lanes, settle,
+    AppEnd, Gate, Item, Kernel, KernelLanes, KernelPort, LanesFault, Open, Report, SubmitRefusal,
+    Turn, Worked, Worker, lanes, settle,
 };
+use uring_words::{KernelWords, words};
 
-/// All ends of one set-up over lanes.
+/// All ends of one set-up over ports of this kind.
 #[derive(Drop)]
-pub struct Ends<G: Gate> {
-    pub app: AppEnd<AppLanes>,
-    pub kernel: Kernel<KernelLanes>,
+pub struct Ends<K: KernelPort, G: Gate> {
+    pub app: AppEnd<K::App>,
+    pub kernel: Kernel<K>,
     pub workers: Vec<Worker<G>>,
     ghost together: { AreTogether app kernel workers.items },
 }
 
-impl<G: Gate> Ends<G> {
+/// A kind of ports that all ends are made over: lanes, or shared words.
+pub trait Ports: KernelPort {
     /// New ends, with a worker for each gate.
-    pub fn new(alloc: Global, setup: &Setup, gates: Vec<G>) -> Result<Ends<G>, LanesFault> {
+    fn ends<G: Gate>(
+        alloc: Global,
+        setup: &Setup,
+        gates: Vec<G>,
+    ) -> Result<Ends<Self, G>, LanesFault>;
+}
+
+impl Ports for KernelLanes {
+    fn ends<G: Gate>(
+        alloc: Global,
+        setup: &Setup,
+        gates: Vec<G>,
+    ) -> Result<Ends<KernelLanes, G>, LanesFault> {
         let (app, kernel, workers) = lanes(alloc, setup, gates)?;
         Ok(Ends {
             app,
@@ -30,10 +45,48 @@ impl<G: Gate> Ends<G> {
             workers,
         })
     }
+}
+
+impl Ports for KernelWords {
+    fn ends<G: Gate>(
+        alloc: Global,
+        setup: &Setup,
+        gates: Vec<G>,
+    ) -> Result<Ends<KernelWords, G>, LanesFault> {
+        let (app, kernel, workers) = words(alloc, setup, gates)?;
+        Ok(Ends {
+            app,
+            kernel,
+            workers,
+        })
+    }
+}
+
+/// All ends of rings of four with so many files, and so many workers that nothing holds up.
+pub fn new_ends<K: Ports>(
+    alloc: Global,
+    files: u32,
+    workers: usize,
+) -> Result<Ends<K, Open>, Fail> {
+    let setup = Setup::new(4, Some(4), files, 0)?;
+    let gates = vec![in alloc; Open; workers]?;
+    Ok(K::ends(alloc, &setup, gates)?)
+}
+
+impl<K: KernelPort, G: Gate> Ends<K, G> {
+    /// Submits these items, or says why it can't.
+    pub fn try_submit(&mut self, items: &[Item]) -> Result<(), SubmitRefusal> {
+        self.app.submit(items)
+    }
 
     /// Whether the application submits these items.
     pub fn submit(&mut self, items: &[Item]) -> bool {
         self.app.submit(items).is_ok()
+    }
+
+    /// Whether the application closes its end.
+    pub fn close(&mut self) -> bool {
+        self.app.close().is_ok()
     }
 
     /// What the application reaps.
@@ -41,9 +94,19 @@ impl<G: Gate> Ends<G> {
         self.app.reap()
     }
 
+    /// The dropped word as the application sees it.
+    pub fn dropped(&mut self) -> Option<u32> {
+        self.app.dropped()
+    }
+
     /// A turn of the dispatcher.
     pub fn turn(&mut self) -> Result<Turn, AllocError> {
         self.kernel.turn()
+    }
+
+    /// Whether nothing is left to the dispatcher.
+    pub fn idle(&self) -> bool {
+        self.kernel.idle()
     }
 
     /// A turn of the worker at this place, if there is one.
@@ -55,8 +118,10 @@ impl<G: Gate> Ends<G> {
     }
 
     /// Runs all ends in threads of their own, until the dispatcher is idle.
-    pub fn run<R: Threads + Wait + Sync>(&mut self, rt: &R, script: &mut Script, flags: &Flags)
+    fn run<R: Threads + Wait + Sync>(&mut self, rt: &R, script: &mut Script, flags: &Flags)
     where
+        K: Send + 'static,
+        K::App: Send + 'static,
         G: Send,
     {
         run_threads(
@@ -69,14 +134,43 @@ impl<G: Gate> Ends<G> {
         );
     }
 
-    /// What all ends leave. `AllocError`: out of memory.
-    pub fn settle(self, alloc: Global) -> Result<Report<G>, AllocError> {
+    /// What all ends leave, once they ran in threads of their own. `AllocError`: out of memory.
+    pub fn run_to_the_end<R: Threads + Wait + Sync>(
+        mut self,
+        rt: &R,
+        alloc: Global,
+        script: &mut Script,
+        flags: &Flags,
+    ) -> Result<Report<G>, AllocError>
+    where
+        K: Send + 'static,
+        K::App: Send + 'static,
+        G: Send,
+    {
+        self.run(rt, script, flags);
+        self.settle(alloc)
+    }
+
+    /// What all ends leave, or the ends as they were: out of memory.
+    pub fn try_settle(self, alloc: Global) -> Result<Report<G>, Ends<K, G>> {
         let Ends {
             app,
             kernel,
             workers,
         } = self;
         match settle(alloc, app, kernel, workers) {
+            Ok(report) => Ok(report),
+            Err(ends) => Err(Ends {
+                app: ends.app,
+                kernel: ends.kernel,
+                workers: ends.workers,
+            }),
+        }
+    }
+
+    /// What all ends leave. `AllocError`: out of memory.
+    pub fn settle(self, alloc: Global) -> Result<Report<G>, AllocError> {
+        match self.try_settle(alloc) {
             Ok(report) => Ok(report),
             Err(_) => Err(AllocError),
         }

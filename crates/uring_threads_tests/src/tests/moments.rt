@@ -1,12 +1,16 @@
-//! What settling reports at one moment, with something on its way in each lane.
+//! What settling reports at one moment, with something on its way between any two ends.
 
-use super::ends::Ends;
+use super::ends::{Ends, Ports, new_ends};
 use super::nop;
 use super::replay::replays;
 use std::alloc::{AllocError, Global};
+use std::process::Abort;
 use std::test::Fail;
-use uring_entry::{Cqe, Setup, Sqe};
-use uring_threads::{Answer, Counts, FileState, Item, Open, Report, Step, Worked};
+use uring_entry::{Cqe, Sqe};
+use uring_threads::{
+    Answer, Counts, FileState, Item, KernelLanes, KernelPort, Open, Report, Step, Worked,
+};
+use uring_words::KernelWords;
 
 /// Bytes that are nothing.
 const ZEROS: [u8; 64] = [0; 64];
@@ -17,7 +21,7 @@ fn write(user_data: u64, fd: i32, byte: u8) -> Sqe {
 }
 
 /// Three requests are started, the two writes are carried out, the first one's completion is delivered, and one more no-op is submitted. Whether each call does what it should.
-fn goes_half_way(ends: &mut Ends<Open>) -> Result<bool, AllocError> {
+fn goes_half_way<K: KernelPort>(ends: &mut Ends<K, Open>) -> Result<bool, AllocError> {
     let call = [
         Item::Entry(write(1, 0, 97)),
         Item::Entry(write(2, 1, 98)),
@@ -33,10 +37,9 @@ fn goes_half_way(ends: &mut Ends<Open>) -> Result<bool, AllocError> {
 }
 
 /// Whether the ends of two workers go half way, and what they then leave.
-fn settled(alloc: Global) -> Result<(bool, Report<Open>), Fail> {
-    let setup = Setup::new(4, Some(4), 2, 0)?;
-    let mut ends = Ends::new(alloc, &setup, vec![in alloc; Open; 2]?)?;
-    let goes = goes_half_way(&mut ends)?;
+fn settled<K: Ports>(alloc: Global) -> Result<(bool, Report<Open>), Fail> {
+    let mut ends = new_ends::<K>(alloc, 2, 2)?;
+    let goes = goes_half_way(&mut ends).unwrap_or(false);
     let report = ends.settle(alloc)?;
     Ok((goes, report))
 }
@@ -87,30 +90,28 @@ fn wanted_trace() -> [(Step, Answer); 22] {
     ]
 }
 
-#[test]
-fn all_that_is_on_its_way_is_reported(rt: HostRuntime) -> Result<(), Fail> {
-    let (goes, report) = settled(rt.alloc())?;
-    assert!(rt; goes, "each call does what it should");
+/// Trace and counts are those of the moment.
+fn check_trace(rt: &impl Abort, report: &Report<Open>) {
+    let counts = Counts {
+        accepted: 3,
+        outstanding: 1,
+        running: 1,
+        posted: 2,
+        reaped: 1,
+    };
     assert!(rt; report.trace() == wanted_trace().as_slice());
+    assert_eq!(rt; report.counts(), counts);
+}
+
+/// One item was not taken, one completion was delivered, and one waits.
+fn check_lists(rt: &impl Abort, report: &Report<Open>) {
     assert_eq!(rt; report.unsent(), [nop(4)].as_slice());
     assert_eq!(rt; report.undelivered(), [Cqe::new(1, 1, ZEROS)].as_slice());
     assert_eq!(rt; report.waiting(), [Cqe::new(2, 1, ZEROS)].as_slice());
-    assert_eq!(rt;
-        report.counts(),
-        Counts {
-            accepted: 3,
-            outstanding: 1,
-            running: 1,
-            posted: 2,
-            reaped: 1,
-        }
-    );
-    Ok(())
 }
 
-#[test]
-fn files_are_those_of_the_workers(rt: HostRuntime) -> Result<(), Fail> {
-    let (_, report) = settled(rt.alloc())?;
+/// The two files have what was written, and there are no others.
+fn check_files(rt: &impl Abort, report: &Report<Open>) {
     let written = Some(FileState {
         len: 1,
         writes: 1,
@@ -123,6 +124,38 @@ fn files_are_those_of_the_workers(rt: HostRuntime) -> Result<(), Fail> {
         [Some(97), Some(98)]
     );
     assert_eq!(rt; [report.byte(0, 1), report.byte(2, 0)], [None, None]);
-    assert!(rt; replays(rt.alloc(), &report)?);
+}
+
+/// All of it is so, and the trace is what a new machine answers.
+fn check_report(
+    rt: &impl Abort,
+    alloc: Global,
+    goes: bool,
+    report: &Report<Open>,
+) -> Result<(), Fail> {
+    assert!(rt; goes, "each call does what it should");
+    check_trace(rt, report);
+    check_lists(rt, report);
+    check_files(rt, report);
+    assert!(rt;
+        replays(alloc, report)?,
+        "the trace is what a new machine answers"
+    );
     Ok(())
+}
+
+/// The ends of two workers over these ports report it.
+fn check_ends<K: Ports>(rt: &impl Abort, alloc: Global) -> Result<(), Fail> {
+    let (goes, report) = settled::<K>(alloc)?;
+    check_report(rt, alloc, goes, &report)
+}
+
+#[test]
+fn what_is_on_its_way_is_reported_over_lanes(rt: HostRuntime) -> Result<(), Fail> {
+    check_ends::<KernelLanes>(&rt, rt.alloc())
+}
+
+#[test]
+fn what_is_on_its_way_is_reported_over_words(rt: HostRuntime) -> Result<(), Fail> {
+    check_ends::<KernelWords>(&rt, rt.alloc())
 }

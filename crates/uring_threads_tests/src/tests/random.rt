@@ -1,15 +1,15 @@
 //! Random submissions, in threads and settled at random moments: each trace is what a new machine answers, and the files are that machine's.
 
 use super::dice::Dice;
-use super::ends::Ends;
+use super::ends::{Ends, Ports, new_ends};
 use super::replay::replays;
 use super::threads::{Flags, Script};
 use std::alloc::{AllocError, Global};
 use std::sync::Wait;
 use std::test::Fail;
 use std::thread::Threads;
-use uring_entry::Setup;
-use uring_threads::{Open, Report};
+use uring_threads::{KernelLanes, KernelPort, Open, Report};
+use uring_words::KernelWords;
 
 /// How many seeds are tried.
 const SEEDS: u64 = 200;
@@ -17,11 +17,9 @@ const SEEDS: u64 = 200;
 /// How many calls each of them submits.
 const CALLS: usize = 24;
 
-/// New ends over a ring of four with three files, and 1 to 8 workers.
-fn new_ends(alloc: Global, seed: u64) -> Result<Ends<Open>, Fail> {
-    let setup = Setup::new(4, Some(4), 3, 0)?;
-    let gates = vec![in alloc; Open; (seed % 8 + 1) as usize]?;
-    Ok(Ends::new(alloc, &setup, gates)?)
+/// The ends of a seed: with three files, and 1 to 8 workers.
+fn ends_of<K: Ports>(alloc: Global, seed: u64) -> Result<Ends<K, Open>, Fail> {
+    new_ends(alloc, 3, (seed % 8 + 1) as usize)
 }
 
 /// The submissions of a seed, with room for all their completions.
@@ -33,28 +31,37 @@ fn script(alloc: Global, seed: u64) -> Result<Script, AllocError> {
     })
 }
 
-/// What all ends of a seed leave, once they ran in threads.
-fn report_of_threads<R: Threads + Wait + Sync>(
+/// Whether the threads of these ends end with all done and nothing on its way, and the trace is what a new machine answers.
+fn are_right_in_threads<R: Threads + Wait + Sync, K: KernelPort + Send + 'static>(
     rt: &R,
     alloc: Global,
-    seed: u64,
+    ends: Ends<K, Open>,
     script: &mut Script,
-) -> Result<Report<Open>, Fail> {
-    let flags = Flags::new();
-    let mut ends = new_ends(alloc, seed)?;
-    ends.run(rt, script, &flags);
-    Ok(ends.settle(alloc)?)
+) -> Result<bool, Fail>
+where
+    K::App: Send + 'static,
+{
+    let report = ends.run_to_the_end(rt, alloc, script, &Flags::new())?;
+    is_right(alloc, script, &report)
 }
 
-/// Whether the threads end with all done and nothing on its way, and the trace is what a new machine answers.
-fn is_right_in_threads<R: Threads + Wait + Sync>(
+/// Whether this script was done, and left this report.
+fn is_right(alloc: Global, script: &Script, report: &Report<Open>) -> Result<bool, Fail> {
+    Ok(script.done && is_over(report, script.completions.len()) && replays(alloc, report)?)
+}
+
+/// Whether they do so with the submissions of this seed.
+fn is_right_in_threads<K: Ports + Send + 'static, R: Threads + Wait + Sync>(
     rt: &R,
     alloc: Global,
     seed: u64,
-) -> Result<bool, Fail> {
+) -> Result<bool, Fail>
+where
+    K::App: Send + 'static,
+{
     let mut script = script(alloc, seed)?;
-    let report = report_of_threads(rt, alloc, seed, &mut script)?;
-    Ok(script.done && is_over(&report, script.completions.len()) && replays(alloc, &report)?)
+    let ends = ends_of::<K>(alloc, seed)?;
+    are_right_in_threads(rt, alloc, ends, &mut script)
 }
 
 /// Whether nothing is on its way, and so many completions were reaped.
@@ -68,12 +75,15 @@ fn is_over(report: &Report<Open>, reaped: usize) -> bool {
 }
 
 /// The first seed of which the threads go otherwise.
-fn first_wrong_in_threads<R: Threads + Wait + Sync>(
+fn first_wrong_in_threads<K: Ports + Send + 'static, R: Threads + Wait + Sync>(
     rt: &R,
     alloc: Global,
-) -> Result<Option<u64>, Fail> {
+) -> Result<Option<u64>, Fail>
+where
+    K::App: Send + 'static,
+{
     for seed in 1..SEEDS + 1 {
-        if !is_right_in_threads(rt, alloc, seed)? {
+        if !is_right_in_threads::<K, R>(rt, alloc, seed)? {
             return Ok(Some(seed));
         }
     }
@@ -81,17 +91,25 @@ fn first_wrong_in_threads<R: Threads + Wait + Sync>(
 }
 
 #[test]
-fn threads_do_what_one_machine_does(rt: HostRuntime) -> Result<(), Fail> {
-    assert_eq!(rt;
-        first_wrong_in_threads(&rt, rt.alloc())?,
-        None,
-        "the first wrong seed"
-    );
+fn threads_do_what_one_machine_does_over_lanes(rt: HostRuntime) -> Result<(), Fail> {
+    let wrong = first_wrong_in_threads::<KernelLanes, _>(&rt, rt.alloc())?;
+    assert_eq!(rt; wrong, None, "the first wrong seed");
+    Ok(())
+}
+
+#[test]
+fn threads_do_what_one_machine_does_over_words(rt: HostRuntime) -> Result<(), Fail> {
+    let wrong = first_wrong_in_threads::<KernelWords, _>(&rt, rt.alloc())?;
+    assert_eq!(rt; wrong, None, "the first wrong seed");
     Ok(())
 }
 
 /// One thing that some end does.
-fn do_something(alloc: Global, dice: &mut Dice, ends: &mut Ends<Open>) -> Result<(), AllocError> {
+fn do_something<K: KernelPort>(
+    alloc: Global,
+    dice: &mut Dice,
+    ends: &mut Ends<K, Open>,
+) -> Result<(), AllocError> {
     match dice.below(6) {
         0 => {
             let call = dice.call(alloc)?;
@@ -111,31 +129,35 @@ fn do_something(alloc: Global, dice: &mut Dice, ends: &mut Ends<Open>) -> Result
 }
 
 /// Up to some two hundred such things.
-fn go_some_way(alloc: Global, dice: &mut Dice, ends: &mut Ends<Open>) -> Result<(), AllocError> {
+fn go_some_way<K: KernelPort>(
+    alloc: Global,
+    dice: &mut Dice,
+    ends: &mut Ends<K, Open>,
+) -> Result<(), AllocError> {
     for _ in 0..dice.below(200) {
         do_something(alloc, dice, ends)?;
     }
     Ok(())
 }
 
-/// What all ends of a seed leave half way.
-fn report_of_half(alloc: Global, seed: u64) -> Result<Report<Open>, Fail> {
+/// What the ends of a seed leave half way.
+fn report_of_half<K: Ports>(alloc: Global, seed: u64) -> Result<Report<Open>, Fail> {
     let mut dice = Dice::new(seed);
-    let mut ends = new_ends(alloc, seed)?;
+    let mut ends = ends_of::<K>(alloc, seed)?;
     go_some_way(alloc, &mut dice, &mut ends)?;
     Ok(ends.settle(alloc)?)
 }
 
 /// Whether the trace is what a new machine answers, with ends that are settled half way.
-fn is_right_half_way(alloc: Global, seed: u64) -> Result<bool, Fail> {
-    let report = report_of_half(alloc, seed)?;
-    Ok(replays(alloc, &report)?)
+fn is_right_half_way<K: Ports>(alloc: Global, seed: u64) -> Result<bool, Fail> {
+    let report = report_of_half::<K>(alloc, seed)?;
+    replays(alloc, &report)
 }
 
 /// The first seed of which it isn't.
-fn first_wrong_half_way(alloc: Global) -> Result<Option<u64>, Fail> {
+fn first_wrong_half_way<K: Ports>(alloc: Global) -> Result<Option<u64>, Fail> {
     for seed in 1..SEEDS + 1 {
-        if !is_right_half_way(alloc, seed)? {
+        if !is_right_half_way::<K>(alloc, seed)? {
             return Ok(Some(seed));
         }
     }
@@ -143,11 +165,15 @@ fn first_wrong_half_way(alloc: Global) -> Result<Option<u64>, Fail> {
 }
 
 #[test]
-fn ends_settle_half_way(rt: HostRuntime) -> Result<(), Fail> {
-    assert_eq!(rt;
-        first_wrong_half_way(rt.alloc())?,
-        None,
-        "the first wrong seed"
-    );
+fn ends_settle_half_way_over_lanes(rt: HostRuntime) -> Result<(), Fail> {
+    let wrong = first_wrong_half_way::<KernelLanes>(rt.alloc())?;
+    assert_eq!(rt; wrong, None, "the first wrong seed");
+    Ok(())
+}
+
+#[test]
+fn ends_settle_half_way_over_words(rt: HostRuntime) -> Result<(), Fail> {
+    let wrong = first_wrong_half_way::<KernelWords>(rt.alloc())?;
+    assert_eq!(rt; wrong, None, "the first wrong seed");
     Ok(())
 }

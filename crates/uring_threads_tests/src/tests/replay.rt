@@ -1,15 +1,31 @@
 //! Whether a report's trace is what a new machine answers, and its files are that machine's.
 
 use std::alloc::{AllocError, Global};
+use std::test::Fail;
 use uring_machine::{Answer, Machine, Step, run};
 use uring_threads::{Gate, Report};
 
 /// Whether a new machine answers the steps of the trace as the trace says, and has the files of the report then.
-pub fn replays<G: Gate>(alloc: Global, report: &Report<G>) -> Result<bool, AllocError> {
+pub fn replays<G: Gate>(alloc: Global, report: &Report<G>) -> Result<bool, Fail> {
     let steps = steps_of(alloc, report.trace())?;
+    replays_steps(alloc, report, &steps)
+}
+
+/// The same of these steps, which are those of the trace.
+fn replays_steps<G: Gate>(alloc: Global, report: &Report<G>, steps: &[Step]) -> Result<bool, Fail> {
     let mut machine = Machine::new(alloc, &report.setup())?;
-    let answers = run(alloc, &mut machine, &steps)?;
-    Ok(are_answers_of(report.trace(), &answers) && has_files_of(&machine, report))
+    replays_on(alloc, report, steps, &mut machine)
+}
+
+/// The same on this machine, which is new.
+fn replays_on<G: Gate>(
+    alloc: Global,
+    report: &Report<G>,
+    steps: &[Step],
+    machine: &mut Machine,
+) -> Result<bool, Fail> {
+    let answers = run(alloc, machine, steps)?;
+    Ok(are_answers_of(report.trace(), &answers) && has_files_of(machine, report))
 }
 
 fn steps_of(alloc: Global, trace: &[(Step, Answer)]) -> Result<Vec<Step>, AllocError> {

@@ -4,6 +4,7 @@ ghost use Rattle.std.specs.Prelude.{◌≡◌, ◌≤◌, vec_capacity};
 
 use super::nop;
 use std::alloc::{AllocError, Global};
+use std::process::Abort;
 use std::test::Fail;
 use uring_entry::{Cqe, Setup};
 use uring_threads::{AppEnd, AppLanes, Item, KernelLanes, KernelPort, Pulled, Rests, lane_ports};
@@ -46,6 +47,15 @@ fn settled(alloc: Global) -> Result<(bool, Option<Cqe>, Rests), Fail> {
     }
 }
 
+/// The second call is unsent, and the second completion undelivered.
+fn check_rests(rt: &impl Abort, rests: &Rests) {
+    assert_eq!(rt; rests.unsent.as_slice(), [Item::Bad(9), nop(2)].as_slice());
+    assert_eq!(rt;
+        rests.undelivered.as_slice(),
+        [Cqe::new(2, -9, [0; 64])].as_slice()
+    );
+}
+
 #[test]
 fn are_what_was_not_taken(rt: HostRuntime) -> Result<(), Fail> {
     let (goes, reaped, rests) = settled(rt.alloc())?;
@@ -54,10 +64,6 @@ fn are_what_was_not_taken(rt: HostRuntime) -> Result<(), Fail> {
         "each call is Ok, one is pulled, and both completions have room"
     );
     assert_eq!(rt; reaped, Some(Cqe::new(1, 0, [0; 64])));
-    assert_eq!(rt; rests.unsent.as_slice(), [Item::Bad(9), nop(2)].as_slice());
-    assert_eq!(rt;
-        rests.undelivered.as_slice(),
-        [Cqe::new(2, -9, [0; 64])].as_slice()
-    );
+    check_rests(&rt, &rests);
     Ok(())
 }

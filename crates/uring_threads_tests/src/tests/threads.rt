@@ -9,7 +9,7 @@ use std::sync::atomic::{AtomicBool, Ordering};
 use std::thread;
 use std::thread::{Threads, join_mut};
 use uring_entry::Cqe;
-use uring_threads::{AppEnd, AppLanes, Gate, Item, Kernel, KernelLanes, Worked, Worker};
+use uring_threads::{AppEnd, AppPort, Gate, Item, Kernel, KernelPort, Worked, Worker};
 
 /// What the application's thread submits, and what it reaped.
 #[derive(Drop)]
@@ -42,14 +42,21 @@ impl Flags {
 }
 
 /// Runs all ends until the dispatcher is idle or out of memory: the application submits the script's calls, closes, and reaps as long as there is memory for completions.
-pub fn run_threads<R: Threads + Wait + Sync, G: Gate + Send>(
+pub fn run_threads<
+    R: Threads + Wait + Sync,
+    P: AppPort + Send + 'static,
+    K: KernelPort + Send + 'static,
+    G: Gate + Send,
+>(
     rt: &R,
-    app: &mut AppEnd<AppLanes>,
-    kernel: &mut Kernel<KernelLanes>,
+    app: &mut AppEnd<P>,
+    kernel: &mut Kernel<K>,
     workers: &mut [Worker<G>],
     script: &mut Script,
     flags: &Flags,
 )
+where
+    K::App: Send + 'static,
     ensures app { (app.new.pairing ≡ app.old.pairing) × (app.new.sizes ≡ app.old.sizes) }
     ensures kernel { (kernel.new.pairing ≡ kernel.old.pairing) × (kernel.new.sizes ≡ kernel.old.sizes) }
     ensures setup { kernel.new.kept.setup ≡ kernel.old.kept.setup }
@@ -83,12 +90,12 @@ pub fn turn_at<G: Gate>(workers: &mut [Worker<G>], k: usize) -> Worked
 }
 
 /// Runs the threads of application and dispatcher.
-fn run_both<R: Threads + Wait + Sync>(
+fn run_both<R: Threads + Wait + Sync, P: AppPort + Send + 'static, K: KernelPort + Send + 'static>(
     rt: &R,
     flags: &Flags,
     script: &mut Script,
-    app: &mut AppEnd<AppLanes>,
-    kernel: &mut Kernel<KernelLanes>,
+    app: &mut AppEnd<P>,
+    kernel: &mut Kernel<K>,
 )
     ensures app { (app.new.pairing ≡ app.old.pairing) × (app.new.sizes ≡ app.old.sizes) }
     ensures kernel { (kernel.new.pairing ≡ kernel.old.pairing) × (kernel.new.sizes ≡ kernel.old.sizes) }
@@ -135,7 +142,7 @@ fn work<R: Wait, G: Gate>(rt: &R, stop: &AtomicBool, worker: &mut Worker<G>)
 }
 
 /// Turns the dispatcher until it is idle or out of memory, and then has all threads stop.
-fn dispatch<R: Wait>(rt: &R, stop: &AtomicBool, kernel: &mut Kernel<KernelLanes>)
+fn dispatch<R: Wait, K: KernelPort>(rt: &R, stop: &AtomicBool, kernel: &mut Kernel<K>)
     ensures kernel { (kernel.new.pairing ≡ kernel.old.pairing) × (kernel.new.sizes ≡ kernel.old.sizes) }
     ensures setup { kernel.new.kept.setup ≡ kernel.old.kept.setup }
     ensures lanes { numbers_of_lanes kernel.new.lanes ≡ numbers_of_lanes kernel.old.lanes }
@@ -150,7 +157,7 @@ fn dispatch<R: Wait>(rt: &R, stop: &AtomicBool, kernel: &mut Kernel<KernelLanes>
 }
 
 /// Submits all calls and closes, and then reaps until all threads are to stop and nothing is left to reap.
-fn apply<R: Wait>(rt: &R, flags: &Flags, script: &mut Script, app: &mut AppEnd<AppLanes>)
+fn apply<R: Wait, P: AppPort>(rt: &R, flags: &Flags, script: &mut Script, app: &mut AppEnd<P>)
     ensures { (app.new.pairing ≡ app.old.pairing) × (app.new.sizes ≡ app.old.sizes) }
 {
     let mut next = 0;
@@ -170,7 +177,7 @@ fn apply<R: Wait>(rt: &R, flags: &Flags, script: &mut Script, app: &mut AppEnd<A
 }
 
 /// Whether the call at this place is submitted now, or behind the last one the end is closed.
-fn submits(script: &mut Script, next: usize, app: &mut AppEnd<AppLanes>) -> bool
+fn submits<P: AppPort>(script: &mut Script, next: usize, app: &mut AppEnd<P>) -> bool
     ensures { (app.new.pairing ≡ app.old.pairing) × (app.new.sizes ≡ app.old.sizes) }
 {
     match script.calls.get(next) {
@@ -185,7 +192,7 @@ fn submits(script: &mut Script, next: usize, app: &mut AppEnd<AppLanes>) -> bool
 }
 
 /// Whether a completion is reaped.
-fn reaps(flags: &Flags, completions: &mut Vec<Cqe>, app: &mut AppEnd<AppLanes>) -> bool
+fn reaps<P: AppPort>(flags: &Flags, completions: &mut Vec<Cqe>, app: &mut AppEnd<P>) -> bool
     ensures { (app.new.pairing ≡ app.old.pairing) × (app.new.sizes ≡ app.old.sizes) }
 {
     if completions.len() >= completions.capacity() {

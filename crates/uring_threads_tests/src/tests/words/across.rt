@@ -1,11 +1,11 @@
 //! Calls of one to four items go from thread to thread, and a completion of each item comes back, at every wrap of rings of four that begin shortly before the last index word.
 ghost use Rattle.std.specs.Prelude.{◌≡◌, ◌<◌, ◌≤◌, vec_capacity};
 
-use super::nop;
+use super::super::nop;
 use std::alloc::Global;
 use std::sync::Wait;
 use std::test::Fail;
-use std::thread::{join, yield_now};
+use std::thread::{Threads, join, yield_now};
 use uring_entry::{Cqe, Setup};
 use uring_threads::{AppEnd, AppPort, Item, KernelPort, Pulled};
 use uring_words::{AppWords, KernelWords, word_ports};
@@ -121,21 +121,39 @@ fn serve<R: Wait>(rt: &R, kernel: &mut KernelWords, items: &mut Vec<Item>) -> bo
     in_order
 }
 
+/// Whether all completions and all calls come in order, each end in a thread of its own.
+fn go_across<R: Threads + Wait + Sync>(
+    rt: &R,
+    app: &mut AppEnd<AppWords>,
+    kernel: &mut KernelWords,
+    items: &mut Vec<Item>,
+) -> (bool, bool)
+    requires { kernel.old.sizes.sq ≤ vec_capacity items.old }
+{
+    join(
+        rt,
+        || apply(rt, app),
+        || -> bool
+            requires { kernel.now.sizes.sq ≤ vec_capacity items.now }
+        { serve(rt, kernel, items) },
+    )
+}
+
+/// The same on new ends.
+fn go_across_new_ends<R: Threads + Wait + Sync>(
+    rt: &R,
+    alloc: Global,
+) -> Result<(bool, bool), Fail> {
+    let setup = Setup::new(4, Some(4), 1, 4294967290)?;
+    let mut items = Vec::with_capacity(alloc, setup.sq() as usize)?;
+    let (port, mut kernel) = word_ports(alloc, &setup)?;
+    let mut app = AppEnd::new(port, setup.sq());
+    Ok(go_across(rt, &mut app, &mut kernel, &mut items))
+}
+
 #[test]
 fn items_and_completions_go_across(rt: HostRuntime) -> Result<(), Fail> {
-    let alloc = rt.alloc();
-    let setup = Setup::new(4, Some(4), 1, 4294967290)?;
-    let (port, mut kernel) = word_ports(alloc, &setup)?;
-    let mut items = Vec::with_capacity(alloc, setup.sq() as usize)?;
-    let mut app = AppEnd::new(port, setup.sq());
-    let rt = &rt;
-    let (completions, calls) = join(
-        rt,
-        || apply(rt, &mut app),
-        || -> bool
-            requires { kernel.sizes.sq ≤ vec_capacity items }
-        { serve(rt, &mut kernel, &mut items) },
-    );
+    let (completions, calls) = go_across_new_ends(&rt, rt.alloc())?;
     assert!(rt; calls, "each call comes whole, in its place");
     assert!(rt; completions, "each completion comes whole, in its place");
     Ok(())

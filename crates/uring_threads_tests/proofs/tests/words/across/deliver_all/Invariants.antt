@@ -1,5 +1,5 @@
 use Rattle.std.proofs.Common.{◌≡◌}
-use Rattle.uring_words_tests.proofs.tests.across.deliver_all.Given as goal
+use Rattle.uring_threads_tests.proofs.tests.words.across.deliver_all.Given as goal
 
 abbrev pub invariant-loop-number : goal.invariant-loop-number
 invariant-loop-number g l = l.kernel.sizes ≡ l.fn.kernel.sizes

@@ -1,14 +1,16 @@
 //! Completions over shared words: at every wrap, from thread to thread, and settled.
 ghost use Rattle.std.specs.Prelude.{◌≡◌, ◌<◌};
 
-use super::{nop, turn};
+use super::super::ends::{Ends, Ports};
+use super::super::{nop, turn};
 use std::alloc::{AllocError, Global};
+use std::process::Abort;
 use std::sync::Wait;
 use std::test::Fail;
-use std::thread::{join, yield_now};
+use std::thread::{Threads, join, yield_now};
 use uring_entry::{Cqe, Setup};
-use uring_threads::{AppEnd, AppPort, Kernel, KernelPort, Open, Rests, Worked, Worker};
-use uring_words::{AppWords, KernelWords, word_ports, words};
+use uring_threads::{AppPort, KernelPort, Open, Rests, Worked};
+use uring_words::{AppWords, KernelWords, word_ports};
 
 /// How many completions go through.
 const COMPLETIONS: u64 = 100_000;
@@ -50,71 +52,62 @@ fn all_come<R: Wait>(rt: &R, app: &mut AppWords) -> bool {
     true
 }
 
+/// Whether they come in order from one of these ports to the other, each in a thread of its own.
+fn go_across<R: Threads + Wait + Sync>(
+    rt: &R,
+    app: &mut AppWords,
+    kernel: &mut KernelWords,
+) -> bool {
+    let ((), in_order) = join(rt, || deliver_all(rt, kernel), || all_come(rt, app));
+    in_order
+}
+
+/// The same on new ports, whose counts wrap behind the sixth completion.
+fn go_across_new_ports<R: Threads + Wait + Sync>(rt: &R, alloc: Global) -> Result<bool, Fail> {
+    let setup = Setup::new(4, Some(4), 1, 4294967290)?;
+    let (mut app, mut kernel) = word_ports(alloc, &setup)?;
+    Ok(go_across(rt, &mut app, &mut kernel))
+}
+
 #[test]
 fn completions_go_across(rt: HostRuntime) -> Result<(), Fail> {
-    let setup = Setup::new(4, Some(4), 1, 4294967290)?;
-    let (mut app, mut kernel) = word_ports(rt.alloc(), &setup)?;
-    let rt = &rt;
-    let ((), in_order) = join(
-        rt,
-        || deliver_all(rt, &mut kernel),
-        || all_come(rt, &mut app),
-    );
+    let in_order = go_across_new_ports(&rt, rt.alloc())?;
     assert!(rt; in_order, "each completion comes whole, in its place");
     Ok(())
 }
 
 /// What one round of a no-op gives: whether all of it went as it should, and what was reaped.
-fn round(
-    app: &mut AppEnd<AppWords>,
-    kernel: &mut Kernel<KernelWords>,
-    worker: &mut Worker<Open>,
-    user_data: u64,
-) -> Result<Option<Cqe>, AllocError>
+fn round(ends: &mut Ends<KernelWords, Open>, user_data: u64) -> Result<Option<Cqe>, AllocError>
     requires { 0 < user_data }
 {
-    let submitted = app.submit(&[nop(user_data)]).is_ok();
-    let taken = kernel.turn()? == turn(1, 1, 0, 0);
-    let worked = worker.turn() == Worked::Done(user_data - 1);
-    let delivered = kernel.turn()? == turn(0, 0, 1, 1);
+    let submitted = ends.submit(&[nop(user_data)]);
+    let taken = ends.turn()? == turn(1, 1, 0, 0);
+    let worked = ends.work(0) == Some(Worked::Done(user_data - 1));
+    let delivered = ends.turn()? == turn(0, 0, 1, 1);
     if submitted && taken && worked && delivered {
-        Ok(app.reap())
+        Ok(ends.reap())
     } else {
         Ok(None)
     }
 }
 
 /// What five rounds give.
-fn five_rounds(
-    app: &mut AppEnd<AppWords>,
-    kernel: &mut Kernel<KernelWords>,
-    worker: &mut Worker<Open>,
-) -> Result<[Option<Cqe>; 5], AllocError> {
+fn five_rounds(ends: &mut Ends<KernelWords, Open>) -> Result<[Option<Cqe>; 5], Fail> {
     Ok([
-        round(app, kernel, worker, 1)?,
-        round(app, kernel, worker, 2)?,
-        round(app, kernel, worker, 3)?,
-        round(app, kernel, worker, 4)?,
-        round(app, kernel, worker, 5)?,
+        round(ends, 1)?,
+        round(ends, 2)?,
+        round(ends, 3)?,
+        round(ends, 4)?,
+        round(ends, 5)?,
     ])
-}
-
-/// The same on these ends, by their first worker.
-fn five_rounds_on(
-    ends: (AppEnd<AppWords>, Kernel<KernelWords>, Vec<Worker<Open>>),
-) -> Result<[Option<Cqe>; 5], AllocError> {
-    let (mut app, mut kernel, mut workers) = ends;
-    match workers.first_mut() {
-        Some(worker) => five_rounds(&mut app, &mut kernel, worker),
-        None => Ok([None; 5]),
-    }
 }
 
 /// The same on new ends of one worker, with rings of two that begin at the last index word.
 fn five_rounds_at_the_wrap(alloc: Global) -> Result<[Option<Cqe>; 5], Fail> {
     let setup = Setup::new(2, Some(2), 1, 4294967295)?;
-    let ends = words(alloc, &setup, vec![in alloc; Open; 1]?)?;
-    Ok(five_rounds_on(ends)?)
+    let gates = vec![in alloc; Open; 1]?;
+    let mut ends = KernelWords::ends(alloc, &setup, gates)?;
+    five_rounds(&mut ends)
 }
 
 #[test]
@@ -126,7 +119,7 @@ fn a_ring_of_two_goes_round(rt: HostRuntime) -> Result<(), Fail> {
 }
 
 /// What is seen of a completion ring of two: the room, and what is got.
-#[derive(Debug, Drop, PartialEq)]
+#[derive(Clone, Copy)]
 struct Seen {
     // At first, behind two completions, and once one of them is got.
     room: [usize; 3],
@@ -169,18 +162,23 @@ fn look_and_settle(alloc: Global) -> Result<(Seen, Rests), Fail> {
     }
 }
 
+/// The ring is full behind two completions, the first is got, and each dropped word is seen.
+fn check_seen(rt: &impl Abort, seen: Seen) {
+    assert_eq!(rt; seen.room, [2, 0, 1]);
+    assert_eq!(rt; seen.got, [None, Some(completion(1))]);
+    assert_eq!(rt; seen.dropped, [0, 1, 7]);
+}
+
+/// The second completion is undelivered, and nothing is unsent.
+fn check_rests(rt: &impl Abort, rests: &Rests) {
+    assert!(rt; rests.unsent.is_empty());
+    assert_eq!(rt; rests.undelivered.as_slice(), [completion(2)].as_slice());
+}
+
 #[test]
 fn what_was_not_got_is_undelivered(rt: HostRuntime) -> Result<(), Fail> {
     let (seen, rests) = look_and_settle(rt.alloc())?;
-    assert_eq!(rt;
-        seen,
-        Seen {
-            room: [2, 0, 1],
-            got: [None, Some(completion(1))],
-            dropped: [0, 1, 7],
-        }
-    );
-    assert!(rt; rests.unsent.is_empty());
-    assert_eq!(rt; rests.undelivered.as_slice(), [completion(2)].as_slice());
+    check_seen(&rt, seen);
+    check_rests(&rt, &rests);
     Ok(())
 }

@@ -1,40 +1,32 @@
 //! A ring of two that begins at the last index word, and a ring of four that is settled.
 ghost use Rattle.std.specs.Prelude.{◌≡◌, ◌≤◌, vec_capacity};
 
-use super::nop;
+use super::super::ends::{Ends, Ports};
+use super::super::nop;
 use std::alloc::{AllocError, Global};
+use std::process::Abort;
 use std::test::Fail;
 use uring_entry::Setup;
-use uring_threads::{
-    AppEnd, Item, Kernel, KernelPort, Open, Pulled, Rests, SubmitRefusal, Turn, Worker,
-};
-use uring_words::{AppWords, KernelWords, word_ports, words};
+use uring_threads::{AppEnd, Item, KernelPort, Open, Pulled, Rests, SubmitRefusal, Turn};
+use uring_words::{AppWords, KernelWords, word_ports};
 
 /// What three submits return, with a turn before the last is made again.
 fn submit_thrice(
-    app: &mut AppEnd<AppWords>,
-    kernel: &mut Kernel<KernelWords>,
-) -> Result<([Result<(), SubmitRefusal>; 3], Turn), AllocError> {
-    let two = app.submit(&[nop(1), nop(2)]);
-    let full = app.submit(&[nop(3)]);
-    let popped = kernel.turn()?;
-    let third = app.submit(&[nop(3)]);
+    ends: &mut Ends<KernelWords, Open>,
+) -> Result<([Result<(), SubmitRefusal>; 3], Turn), Fail> {
+    let two = ends.try_submit(&[nop(1), nop(2)]);
+    let full = ends.try_submit(&[nop(3)]);
+    let popped = ends.turn()?;
+    let third = ends.try_submit(&[nop(3)]);
     Ok(([two, full, third], popped))
-}
-
-/// The same on these ends.
-fn submit_thrice_on(
-    ends: (AppEnd<AppWords>, Kernel<KernelWords>, Vec<Worker<Open>>),
-) -> Result<([Result<(), SubmitRefusal>; 3], Turn), AllocError> {
-    let (mut app, mut kernel, _workers) = ends;
-    submit_thrice(&mut app, &mut kernel)
 }
 
 /// The same on new ends.
 fn submits_at_the_wrap(alloc: Global) -> Result<([Result<(), SubmitRefusal>; 3], Turn), Fail> {
     let setup = Setup::new(2, Some(2), 1, u32::MAX)?;
-    let ends = words(alloc, &setup, vec![in alloc; Open; 1]?)?;
-    Ok(submit_thrice_on(ends)?)
+    let gates = vec![in alloc; Open; 1]?;
+    let mut ends = KernelWords::ends(alloc, &setup, gates)?;
+    submit_thrice(&mut ends)
 }
 
 #[test]
@@ -73,11 +65,16 @@ fn settled(alloc: Global) -> Result<(bool, Rests), Fail> {
     }
 }
 
+/// The second call is unsent, and nothing else is left.
+fn check_rests(rt: &impl Abort, rests: &Rests) {
+    assert_eq!(rt; rests.unsent.as_slice(), [Item::Bad(9), nop(2)].as_slice());
+    assert!(rt; rests.undelivered.is_empty());
+}
+
 #[test]
 fn what_was_not_pulled_is_unsent(rt: HostRuntime) -> Result<(), Fail> {
     let (goes, rests) = settled(rt.alloc())?;
     assert!(rt; goes, "both calls are Ok, and the first is pulled");
-    assert_eq!(rt; rests.unsent.as_slice(), [Item::Bad(9), nop(2)].as_slice());
-    assert!(rt; rests.undelivered.is_empty());
+    check_rests(&rt, &rests);
     Ok(())
 }
