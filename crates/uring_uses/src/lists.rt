@@ -26,7 +26,5 @@ fn answers_of(alloc: Global, setup: &Setup, steps: &[Step]) -> Result<Vec<Answer
     ensures lawful { IfOk result (λ answers. IsLawful setup.now (history_of (zip steps.now answers.items))) }
 {
     let mut machine = Machine::new(alloc, setup)?;
-    let answers = run(alloc, &mut machine, steps);
-    drop(machine);
-    answers
+    run(alloc, &mut machine, steps)
 }
