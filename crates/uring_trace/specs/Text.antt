@@ -1,5 +1,5 @@
 -- The text of an answer. The language of a trace is our own rule.
-use Rattle.std.specs.Prelude.{ℕ, zero, suc, Bool, true, false, List, [], ◌∷◌, ◌++◌, codes}
+use Rattle.std.specs.Prelude.{ℕ, zero, suc, List, [], ◌∷◌, ◌++◌, codes}
 use Rattle.std.specs.Fmt.{decimal, signed_decimal}
 use Rattle.uring_entry.specs.Layout.{Sqe, Cqe, user_data_of}
 use Rattle.uring_machine.specs.declared.answer.Answer.{Answer}
@@ -56,16 +56,3 @@ text_of (answer.Reaped completion) = completion_text completion
 text_of answer.Nothing = codes "none"
 text_of answer.Shut = codes "ok"
 text_of (answer.Next number) = codes "next " ++ decimal number
-
--- whether an answer's text has no number in it
-abbrev pub is_plain : Answer → Bool
-is_plain (answer.Tail word) = false
-is_plain (answer.Head word) = false
-is_plain (answer.Call count) = false
-is_plain (answer.Entry entry) = false
-is_plain (answer.Taken accepted dropped head) = false
-is_plain (answer.Ended res bytes) = false
-is_plain (answer.Moved count) = false
-is_plain (answer.Reaped completion) = false
-is_plain (answer.Next number) = false
-is_plain _ = true

@@ -1,9 +1,9 @@
 //! The text of an answer.
 
-ghost use Rattle.std.specs.Prelude.{◌≡◌, ◌++◌, true, OnOk, string_bytes, decimal};
+ghost use Rattle.std.specs.Prelude.{◌≡◌, ◌++◌, OnOk, string_bytes, decimal};
 ghost use Rattle.uring_machine.specs.declared.answer.Answer.TheVariants as answer;
 ghost use Rattle.uring_trace.specs.Tokens.{hex_or_dash};
-ghost use Rattle.uring_trace.specs.Text.{text_of, is_plain, completion_text, trimmed};
+ghost use Rattle.uring_trace.specs.Text.{text_of, completion_text, trimmed};
 
 use std::alloc::{AllocError, Global};
 use std::fmt::Write;
@@ -14,47 +14,37 @@ pub fn push_answer(alloc: Global, text: &mut String, answer: &Answer) -> Result<
     ensures { OnOk result (string_bytes text.new ≡ string_bytes text.old ++ text_of answer.now) }
 {
     match answer {
+        Answer::Filled | Answer::Staged | Answer::Shut => text.push_str("ok"),
+        Answer::NoSlot => text.push_str("no slot"),
+        Answer::Busy => text.push_str("busy"),
+        Answer::Full => text.push_str("full"),
         Answer::Tail(word) => push_number(text, "tail ", u64::from(*word)),
         Answer::Head(word) => push_number(text, "head ", u64::from(*word)),
         Answer::Call(count) => push_number(text, "call ", u64::from(*count)),
+        Answer::Closed => text.push_str("closed"),
+        Answer::InCall => text.push_str("in call"),
+        Answer::Spent => text.push_str("spent"),
+        Answer::Again => text.push_str("again"),
         Answer::Entry(entry) => push_number(text, "entry ", entry.user_data()),
+        Answer::Dropped => text.push_str("dropped"),
+        Answer::NoMore => text.push_str("no more"),
+        Answer::NoCall => text.push_str("no call"),
         Answer::Taken {
             accepted,
             dropped,
             head,
         } => push_taken(text, *accepted, *dropped, *head),
+        Answer::NotAll => text.push_str("not all"),
+        Answer::Run => text.push_str("run"),
         Answer::Ended { res, .. } => write!(text, "ended {res}"),
+        Answer::NotReady => text.push_str("not ready"),
+        Answer::Running => text.push_str("running"),
+        Answer::Unknown => text.push_str("unknown"),
+        Answer::NotRunning => text.push_str("not running"),
         Answer::Moved(count) => push_number(text, "moved ", u64::from(*count)),
         Answer::Reaped(completion) => push_completion(alloc, text, completion),
+        Answer::Nothing => text.push_str("none"),
         Answer::Next(number) => push_number(text, "next ", *number),
-        _ => text.push_str(plain_text(answer)),
-    }
-}
-
-/// The text of an answer that has no number in it, and nothing for any other.
-fn plain_text(answer: &Answer) -> &'static str
-    ensures { is_plain answer.now ≡ true → result.now ≡ text_of answer.now }
-{
-    match answer {
-        Answer::Filled | Answer::Staged | Answer::Shut => "ok",
-        Answer::NoSlot => "no slot",
-        Answer::Busy => "busy",
-        Answer::Full => "full",
-        Answer::Closed => "closed",
-        Answer::InCall => "in call",
-        Answer::Spent => "spent",
-        Answer::Again => "again",
-        Answer::Dropped => "dropped",
-        Answer::NoMore => "no more",
-        Answer::NoCall => "no call",
-        Answer::NotAll => "not all",
-        Answer::Run => "run",
-        Answer::NotReady => "not ready",
-        Answer::Running => "running",
-        Answer::Unknown => "unknown",
-        Answer::NotRunning => "not running",
-        Answer::Nothing => "none",
-        _ => "",
     }
 }
 
