@@ -1,6 +1,10 @@
 //! What the calls of the dispatcher return.
 
-use uring_entry::Op;
+ghost use Rattle.std.specs.Prelude.{◌≡◌, ℤ};
+ghost use Rattle.uring_entry.specs.Success as success;
+ghost use Rattle.uring_dispatch.specs.IssueAndFinish.{posts_of};
+
+use uring_entry::{Op, Sqe, posts_completion};
 
 /// What the issue of a request is answered. The refusals are our own rule.
 #[derive(Clone, Copy, Debug, PartialEq, Eq)]
@@ -39,6 +43,19 @@ pub enum Posts {
 
     /// Nothing: it succeeded, and its entry asks to skip the completion.
     Nothing,
+}
+
+impl Posts {
+    /// What the end of a request of this entry posts, if it succeeded or not as told.
+    pub fn of(entry: &Sqe, is_success: bool) -> Posts
+        ensures { (res : ℤ) → is_success ≡ success.is_success entry.now res → result ≡ posts_of entry.now res }
+    {
+        if posts_completion(entry, is_success) {
+            Posts::Completion(entry.user_data())
+        } else {
+            Posts::Nothing
+        }
+    }
 }
 
 /// What a cancel of one request finds. io_uring_enter(2), IORING_OP_ASYNC_CANCEL. Which request it may choose is our own rule.

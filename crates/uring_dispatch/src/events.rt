@@ -5,7 +5,7 @@ ghost use Rattle.uring_entry.specs.Requests.{Requests, entry_of, with_ended};
 ghost use Rattle.uring_entry.specs.Requests as spec;
 ghost use Rattle.uring_entry.specs.Groups.{earlier_of, is_before};
 ghost use Rattle.uring_entry.specs.Success as success;
-ghost use Rattle.uring_dispatch.specs.IssueAndFinish.{issued, issued_waiting, after_issue, posts_of, posted_by, after_end};
+ghost use Rattle.uring_dispatch.specs.IssueAndFinish.{issued, issued_waiting, after_issue, posted_by, after_end};
 ghost use Rattle.uring_dispatch.specs.Dispatch.{dispatch_of, HasEnded, IssueCounts, EndCounts};
 ghost use Rattle.uring_dispatch.specs.Window.{key_at, at, end_of, runs, one_if, Changes};
 ghost use Rattle.uring_dispatch.specs.Groups.{group_at};
@@ -20,7 +20,7 @@ use crate::request::Request;
 use crate::standing::{group_of, is_doomed, is_ready};
 use crate::waiting::Waiting;
 use crate::window::Window;
-use uring_entry::{Op, Sqe, SqeFlags, errno, succeeded};
+use uring_entry::{Op, errno, succeeded};
 
 /// Ends request `n`, lets go what was kept of it, and tells anew who waits.
 pub(crate) fn end(
@@ -284,18 +284,7 @@ pub(crate) fn end_running(
         return None;
     }
     let is_success = succeeded(&request.entry, res);
-    let posts = posts_of(&request.entry, is_success);
+    let posts = Posts::of(&request.entry, is_success);
     end_by_key(window, groups, waiting, n, key, is_success);
     Some(posts)
-}
-
-/// What the end of a request of this entry posts.
-fn posts_of(entry: &Sqe, is_success: bool) -> Posts
-    ensures { (res : ℤ) → is_success ≡ success.is_success entry.now res → result ≡ posts_of entry.now res }
-{
-    if entry.has(SqeFlags::CQE_SKIP_SUCCESS) && is_success {
-        Posts::Nothing
-    } else {
-        Posts::Completion(entry.user_data())
-    }
 }

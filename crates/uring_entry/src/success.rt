@@ -1,4 +1,4 @@
-ghost use Rattle.std.specs.Prelude.{◌≡◌};
+ghost use Rattle.std.specs.Prelude.{◌≡◌, ℤ};
 ghost use Rattle.uring_entry.specs.Success.{is_success};
 ghost use Rattle.uring_entry.specs.Success as spec;
 
@@ -22,9 +22,9 @@ pub fn succeeded(entry: &Sqe, res: i32) -> bool
     i64::from(res) == i64::from(wanted)
 }
 
-/// Whether the end of a request of this entry with `res` posts a completion: each does but a success that the entry asks to skip. io_uring_enter(2), IOSQE_CQE_SKIP_SUCCESS.
-pub fn posts_completion(entry: &Sqe, res: i32) -> bool
-    ensures { result ≡ spec.posts_completion entry.now res }
+/// Whether the end of a request of this entry posts a completion, if it succeeded or not as told: each does but a success that the entry asks to skip. io_uring_enter(2), IOSQE_CQE_SKIP_SUCCESS.
+pub fn posts_completion(entry: &Sqe, is_success: bool) -> bool
+    ensures { (res : ℤ) → is_success ≡ spec.is_success entry.now res → result ≡ spec.posts_completion entry.now res }
 {
-    !(entry.has(SqeFlags::CQE_SKIP_SUCCESS) && succeeded(entry, res))
+    !(entry.has(SqeFlags::CQE_SKIP_SUCCESS) && is_success)
 }

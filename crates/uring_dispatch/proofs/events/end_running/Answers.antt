@@ -27,7 +27,7 @@ returns-clause-answer c = λ r h.
     let there = at-keyed _ c.args.n _ (sym c.in-Some.ensures.value) ∙ c.by_key-request.ensures in
     let entry = (h.shown c.args.n _ there).entry in
     let success = rw (to_z-of_z w32 c.args.res (search rules)) at c.succeeded-is_success.ensures in
-    ap Some (c.posts_of-posts.ensures c.args.res success ∙ ap (λ (e : Sqe). posts_of e c.args.res) entry)
+    ap Some (c.of-posts.ensures c.args.res success ∙ ap (λ (e : Sqe). posts_of e c.args.res) entry)
     ∙ posted-some r c.args.n c.args.res (running-some _ _ r c.args.n _ h there ∙ c.if-not-request.false)
 
 pub returns-clause-held : goal.returns-clause-held
