@@ -6,6 +6,7 @@ mod telling;
 
 use crate::fault::Fault;
 use crate::telling::tell;
+use std::alloc::Global;
 use std::env;
 use std::io::ErrorKind;
 use std::process::ExitCode;
@@ -39,12 +40,12 @@ fn run<R: Threads + Wait + Copy + Send + 'static>(
     threads: R,
 ) -> Result<u8, Fault> {
     let alloc = rt.alloc();
-    let args = words(rt)?;
-    let mut words = Vec::with_capacity(alloc, args.len()).map_err(TraceFault::from)?;
-    for arg in &args {
-        words.push(arg.as_str()).map_err(TraceFault::from)?;
-    }
-    match options(alloc, words.as_slice())? {
+    let words = words(rt)?;
+    let texts = texts(alloc, words.as_slice())?;
+    let asked = options(alloc, texts.as_slice());
+    drop(texts);
+    drop(words);
+    match asked? {
         Options::Play(setup, workers) => {
             let (mut stdin, mut stdout) = (rt.stdin(), rt.stdout());
             play(threads, alloc, &mut stdin, &mut stdout, &setup, workers)?;
@@ -55,35 +56,65 @@ fn run<R: Threads + Wait + Copy + Send + 'static>(
             play_shared(threads, alloc, &mut stdin, &mut stdout, &setup, workers)?;
             Ok(DONE)
         }
-        Options::Trace { setup, is_echo } => {
-            trace(alloc, &mut rt.stdin(), &mut rt.stdout(), &setup, is_echo)?;
-            Ok(DONE)
-        }
+        Options::Trace { setup, is_echo } => run_trace(rt, &setup, is_echo),
         Options::Check {
             setup,
             is_all,
             is_apart,
-        } => {
-            let (mut input, mut output) = (rt.stdin(), rt.stdout());
-            let verdict = check(alloc, &mut input, &mut output, &setup, is_all, is_apart)?;
-            Ok(status_of(verdict))
-        }
-        Options::Explain(setup) => {
-            let (mut input, mut output, mut errors) = (rt.stdin(), rt.stdout(), rt.stderr());
-            let has_bad = explain(alloc, &mut input, &mut output, &mut errors, &setup)?;
-            Ok(status_behind(has_bad))
-        }
-        Options::Graph(setup) => {
-            let (mut input, mut output, mut errors) = (rt.stdin(), rt.stdout(), rt.stderr());
-            let has_bad = graph(alloc, &mut input, &mut output, &mut errors, &setup)?;
-            Ok(status_behind(has_bad))
-        }
-        Options::Timeline(setup) => {
-            let (mut input, mut output, mut errors) = (rt.stdin(), rt.stdout(), rt.stderr());
-            let has_bad = timeline(alloc, &mut input, &mut output, &mut errors, &setup)?;
-            Ok(status_behind(has_bad))
-        }
+        } => run_check(rt, &setup, is_all, is_apart),
+        Options::Explain(setup) => run_explain(rt, &setup),
+        Options::Graph(setup) => run_graph(rt, &setup),
+        Options::Timeline(setup) => run_timeline(rt, &setup),
     }
+}
+
+/// These words as texts.
+fn texts(alloc: Global, words: &[String]) -> Result<Vec<&str>, TraceFault> {
+    let mut texts = Vec::with_capacity(alloc, words.len())?;
+    for word in words {
+        texts.push(word.as_str())?;
+    }
+    Ok(texts)
+}
+
+/// A trace over the standard streams.
+fn run_trace(rt: &HostRuntime, setup: &Setup, is_echo: bool) -> Result<u8, Fault> {
+    trace(
+        rt.alloc(),
+        &mut rt.stdin(),
+        &mut rt.stdout(),
+        setup,
+        is_echo,
+    )?;
+    Ok(DONE)
+}
+
+/// A check of the trace that standard input has.
+fn run_check(rt: &HostRuntime, setup: &Setup, is_all: bool, is_apart: bool) -> Result<u8, Fault> {
+    let (mut input, mut output) = (rt.stdin(), rt.stdout());
+    let verdict = check(rt.alloc(), &mut input, &mut output, setup, is_all, is_apart)?;
+    Ok(status_of(verdict))
+}
+
+/// An explained trace over the standard streams.
+fn run_explain(rt: &HostRuntime, setup: &Setup) -> Result<u8, Fault> {
+    let (mut input, mut output, mut errors) = (rt.stdin(), rt.stdout(), rt.stderr());
+    let has_bad = explain(rt.alloc(), &mut input, &mut output, &mut errors, setup)?;
+    Ok(status_behind(has_bad))
+}
+
+/// The graph of the trace that standard input has.
+fn run_graph(rt: &HostRuntime, setup: &Setup) -> Result<u8, Fault> {
+    let (mut input, mut output, mut errors) = (rt.stdin(), rt.stdout(), rt.stderr());
+    let has_bad = graph(rt.alloc(), &mut input, &mut output, &mut errors, setup)?;
+    Ok(status_behind(has_bad))
+}
+
+/// The timeline of the trace that standard input has.
+fn run_timeline(rt: &HostRuntime, setup: &Setup) -> Result<u8, Fault> {
+    let (mut input, mut output, mut errors) = (rt.stdin(), rt.stdout(), rt.stderr());
+    let has_bad = timeline(rt.alloc(), &mut input, &mut output, &mut errors, setup)?;
+    Ok(status_behind(has_bad))
 }
 
 /// The exit status behind the lines of an explanation, of which some may have been bad.

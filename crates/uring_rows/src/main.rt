@@ -15,14 +15,21 @@ const USUAL_SETUP: &str = "4 4 2 0";
 fn main(rt: HostRuntime) -> io::Result<()> {
     for name in rt.lines(rt.alloc()) {
         let name = name?;
-        match run(&rt, name.as_str())? {
-            Verdict::Same => println!(rt; "{name} ok")?,
-            Verdict::Differs { lines } => println!(rt; "{name} differs after {lines} lines")?,
-            Verdict::BadSetup => println!(rt; "{name} has no set-up")?,
-            Verdict::Stopped(fault) => println!(rt; "{name} stopped: {fault}")?,
-        }
+        let told = tell(&rt, name.as_str());
+        drop(name);
+        told?;
     }
     Ok(())
+}
+
+/// Runs a row, and says what comes of it.
+fn tell(rt: &HostRuntime, name: &str) -> io::Result<()> {
+    match run(rt, name)? {
+        Verdict::Same => println!(rt; "{name} ok"),
+        Verdict::Differs { lines } => println!(rt; "{name} differs after {lines} lines"),
+        Verdict::BadSetup => println!(rt; "{name} has no set-up"),
+        Verdict::Stopped(fault) => println!(rt; "{name} stopped: {fault}"),
+    }
 }
 
 /// Reads a row's files, and runs it.
@@ -30,7 +37,11 @@ fn run(rt: &HostRuntime, name: &str) -> io::Result<Verdict> {
     let setup = setup(rt, name)?;
     let steps = file(rt, name, "trace")?;
     let wanted = file(rt, name, "answers")?;
-    Ok(judge(rt.alloc(), setup.as_str(), steps.as_str(), wanted.as_str()))
+    let verdict = judge(rt.alloc(), setup.as_str(), steps.as_str(), wanted.as_str());
+    drop(setup);
+    drop(steps);
+    drop(wanted);
+    Ok(verdict)
 }
 
 /// The set-up of a row.
@@ -46,5 +57,7 @@ fn setup(rt: &HostRuntime, name: &str) -> io::Result<String> {
 /// What a row's file of this kind holds.
 fn file(rt: &HostRuntime, name: &str, kind: &str) -> io::Result<String> {
     let path = format!(in rt.alloc(); "{name}.{kind}")?;
-    fs::read_to_string(rt, path.as_str())
+    let text = fs::read_to_string(rt, path.as_str());
+    drop(path);
+    text
 }

@@ -28,24 +28,31 @@ pub(crate) fn judge(alloc: Global, setup: &str, steps: &str, wanted: &str) -> Ve
         return Verdict::BadSetup;
     };
     let mut answers = Vec::new(alloc);
-    match trace(alloc, &mut steps.as_bytes(), &mut answers, &setup, false) {
+    let verdict = match trace(alloc, &mut steps.as_bytes(), &mut answers, &setup, false) {
         Ok(()) => compare(answers.as_slice(), wanted.as_bytes()),
         Err(fault) => Verdict::Stopped(fault),
-    }
+    };
+    drop(answers);
+    verdict
 }
 
 /// The set-up of four numbers with spaces between them, for a ring that stops if the word `stops` follows them.
 fn setup_of(text: &str) -> Option<Setup> {
     let mut numbers = text.split_whitespace();
-    let sq = numbers.next()?.parse().ok()?;
-    let cq = numbers.next()?.parse().ok()?;
-    let files = numbers.next()?.parse().ok()?;
-    let start = numbers.next()?.parse().ok()?;
+    let sq = number_of(numbers.next())?;
+    let cq = number_of(numbers.next())?;
+    let files = number_of(numbers.next())?;
+    let start = number_of(numbers.next())?;
     let setup = Setup::new(sq, Some(cq), files, start).ok()?;
     match numbers.next() {
         None => Some(setup),
         Some(word) => (word == "stops").then_some(setup.stopping()),
     }
+}
+
+/// The number that a word is.
+fn number_of(word: Option<&str>) -> Option<u32> {
+    word?.parse().ok()
 }
 
 /// Compares the answers with the wanted ones.

@@ -1,6 +1,8 @@
+mod check;
 mod explained;
 mod growth;
 mod lines;
+mod pictures;
 mod streams;
 
 /// The lines of a trace of one no-op, from its entry to its completion.

@@ -36,11 +36,12 @@ fn is_explained(
     let mut answers = Vec::new(alloc);
     let mut notes = Vec::new(alloc);
     let result = explain(alloc, &mut input, &mut answers, &mut notes, setup);
-    Ok(
-        result == Ok(true)
-            && answers.as_slice() == told.as_bytes()
-            && notes.as_slice() == noted.as_bytes(),
-    )
+    let is_so = result == Ok(true)
+        && answers.as_slice() == told.as_bytes()
+        && notes.as_slice() == noted.as_bytes();
+    drop(answers);
+    drop(notes);
+    Ok(is_so)
 }
 
 #[test]

@@ -2,6 +2,7 @@
 //!
 //! The test passes whether a growth is refused in it or none, and tells where one was; `growth/check` runs it with each growth refused in turn.
 
+use std::alloc::Global;
 use std::cmp::min;
 use std::io;
 use std::io::Write;
@@ -46,29 +47,33 @@ const BEGIN_REFUSED: &str =
 const WRITE_REFUSED: &str =
     "ok\nok\nok\nok\ntail 2\ncall 2\nin call\nentry 1\nentry 2\ntaken 2 dropped 0 head 2\nrun\nended -12\nended -125\n";
 
+/// What a trace of the input writes, and how it ends.
+fn traced(alloc: Global, writer: &mut FixedWriter) -> Result<Result<(), TraceFault>, Fail> {
+    let setup = Setup::new(4, Some(4), 2, 0)?;
+    Ok(trace(alloc, &mut INPUT.as_bytes(), writer, &setup, false))
+}
+
+/// Whether a trace may end so behind this: out of memory behind whole answers, or well with all answers.
+fn may_end(ended: &Result<(), TraceFault>, written: &[u8]) -> bool {
+    if *ended == Err(TraceFault::Memory) {
+        return AMPLE.as_bytes().starts_with(written)
+            && (written.is_empty() || written.ends_with(b"\n"));
+    }
+    *ended == Ok(())
+        && (written == AMPLE.as_bytes()
+            || written == BEGIN_REFUSED.as_bytes()
+            || written == WRITE_REFUSED.as_bytes())
+}
+
 #[test]
 fn a_refused_growth_ends_a_trace_or_is_answered(rt: HostRuntime) -> Result<(), Fail> {
-    let setup = Setup::new(4, Some(4), 2, 0)?;
     let mut writer = FixedWriter {
         bytes: [0; 256],
         len: 0,
     };
-    let result = trace(
-        rt.alloc(),
-        &mut INPUT.as_bytes(),
-        &mut writer,
-        &setup,
-        false,
-    );
+    let result = traced(rt.alloc(), &mut writer)?;
     let written = &writer.bytes[..min(writer.len, 256)];
-    if result == Err(TraceFault::Memory) {
-        assert!(rt; AMPLE.as_bytes().starts_with(written));
-        assert!(rt; written.is_empty() || written.ends_with(b"\n"));
-    } else {
-        assert_eq!(rt; result, Ok(()));
-        let texts = [AMPLE, BEGIN_REFUSED, WRITE_REFUSED];
-        assert!(rt; texts.iter().any(|text| text.as_bytes() == written));
-    }
+    assert!(rt; may_end(&result, written));
     if written != AMPLE.as_bytes() {
         println!(rt; "refused")?;
     }

@@ -76,7 +76,9 @@ fn goes_on(
         interrupted_at: write,
     };
     let result = trace(alloc, &mut reader, &mut writer, &setup, false);
-    Ok(result == Ok(()) && writer.held.as_slice() == answers)
+    let is_so = result == Ok(()) && writer.held.as_slice() == answers;
+    drop(writer);
+    Ok(is_so)
 }
 
 /// These bytes, so many times.
@@ -92,13 +94,16 @@ fn repeated(alloc: Global, bytes: &[u8], count: u64) -> Result<Vec<u8>, AllocErr
 fn goes_on_for_long(alloc: Global) -> Result<bool, Fail> {
     let steps = repeated(alloc, b"next\n", 20_000)?;
     let answers = repeated(alloc, b"none\n", 20_000)?;
-    goes_on(
+    let is_so = goes_on(
         alloc,
         steps.as_slice(),
         answers.as_slice(),
         Some(50_000),
         Some(50_000),
-    )
+    );
+    drop(steps);
+    drop(answers);
+    is_so
 }
 
 #[test]
@@ -107,14 +112,21 @@ fn slow_streams_are_no_faults(rt: HostRuntime) -> Result<(), Fail> {
     Ok(())
 }
 
+/// Whether a trace goes on through an interruption of this call of its reader, of its writer, and of both.
+fn goes_on_through(alloc: Global, call: u64) -> Result<bool, Fail> {
+    let (steps, answers) = (STEPS.as_bytes(), ANSWERS.as_bytes());
+    let call = Some(call);
+    Ok(
+        goes_on(alloc, steps, answers, call, None)?
+            && goes_on(alloc, steps, answers, None, call)?
+            && goes_on(alloc, steps, answers, call, call)?,
+    )
+}
+
 #[test]
 fn interruptions_are_no_faults(rt: HostRuntime) -> Result<(), Fail> {
-    let (steps, answers) = (STEPS.as_bytes(), ANSWERS.as_bytes());
     for call in 0..120 {
-        let call = Some(call);
-        assert!(rt; goes_on(rt.alloc(), steps, answers, call, None)?);
-        assert!(rt; goes_on(rt.alloc(), steps, answers, None, call)?);
-        assert!(rt; goes_on(rt.alloc(), steps, answers, call, call)?);
+        assert!(rt; goes_on_through(rt.alloc(), call)?, "at call {call}");
     }
     Ok(())
 }
@@ -152,7 +164,10 @@ fn fails_to_read(alloc: Global, steps: &[u8]) -> Result<bool, Fail> {
     let mut reader = FailingReader { rest: steps };
     let mut output = Vec::new(alloc);
     let result = trace(alloc, &mut reader, &mut output, &setup, false);
-    Ok(result == Err(TraceFault::Read) && output.as_slice() == first_lines(ANSWERS, complete))
+    let is_so = result == Err(TraceFault::Read)
+        && output.as_slice() == first_lines(ANSWERS, complete);
+    drop(output);
+    Ok(is_so)
 }
 
 #[test]
@@ -201,18 +216,16 @@ fn fails_to_write(alloc: Global, room: usize, takes_none: bool) -> Result<bool, 
     };
     let result = trace(alloc, &mut STEPS.as_bytes(), &mut writer, &setup, false);
     let wanted = ANSWERS.as_bytes().get(..room).unwrap_or_default();
-    Ok(result == Err(TraceFault::Write) && writer.held.as_slice() == wanted)
+    let is_so = result == Err(TraceFault::Write) && writer.held.as_slice() == wanted;
+    drop(writer);
+    Ok(is_so)
 }
 
 #[test]
 fn a_failing_write_is_a_write_fault(rt: HostRuntime) -> Result<(), Fail> {
     for room in 0..ANSWERS.len() {
         assert!(rt;
-            fails_to_write(rt.alloc(), room, false)?,
-            "room for {room} bytes"
-        );
-        assert!(rt;
-            fails_to_write(rt.alloc(), room, true)?,
+            fails_to_write(rt.alloc(), room, false)? && fails_to_write(rt.alloc(), room, true)?,
             "room for {room} bytes"
         );
     }

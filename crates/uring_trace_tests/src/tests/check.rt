@@ -39,14 +39,25 @@ fn is_told_by(
     let mut writer = Vec::new(alloc);
     let mut reader = trace.as_bytes();
     let result = check(alloc, &mut reader, &mut writer, &setup, is_all, is_apart);
-    Ok(result == Ok(verdict) && writer.as_slice() == report.as_bytes())
+    let is_so = result == Ok(verdict) && writer.as_slice() == report.as_bytes();
+    drop(writer);
+    Ok(is_so)
+}
+
+/// Whether a check of this trace comes to this verdict, with the first report up to the first wrong line and with the second up to the end.
+fn are_told(
+    alloc: Global,
+    trace: &str,
+    verdict: Verdict,
+    first: &str,
+    all: &str,
+) -> Result<bool, Fail> {
+    Ok(is_told(alloc, false, trace, verdict, first)? && is_told(alloc, true, trace, verdict, all)?)
 }
 
 /// Whether a check of this trace, with or without all wrong lines, comes to this report of a lawful one.
 fn is_lawful(alloc: Global, trace: &str, report: &str) -> Result<bool, Fail> {
-    let first = is_told(alloc, false, trace, Verdict::Lawful, report)?;
-    let all = is_told(alloc, true, trace, Verdict::Lawful, report)?;
-    Ok(first && all)
+    are_told(alloc, trace, Verdict::Lawful, report, report)
 }
 
 /// A no-op from its entry to its completion, behind a remark and an empty line. The last line has no end.
@@ -78,8 +89,15 @@ const ALL_CHANGES: &str =
 
 #[test]
 fn a_changed_answer_is_told(rt: HostRuntime) -> Result<(), Fail> {
-    assert!(rt; is_told(rt.alloc(), false, CHANGED, Verdict::Wrong, FIRST_CHANGE)?);
-    assert!(rt; is_told(rt.alloc(), true, CHANGED, Verdict::Wrong, ALL_CHANGES)?);
+    assert!(rt;
+        are_told(
+            rt.alloc(),
+            CHANGED,
+            Verdict::Wrong,
+            FIRST_CHANGE,
+            ALL_CHANGES
+        )?
+    );
     Ok(())
 }
 
@@ -93,11 +111,9 @@ const BAD_AND_WRONG: &str = "next = none\nhead  = head 0\nhead = head 5\n";
 fn a_bad_line_ends_a_check(rt: HostRuntime) -> Result<(), Fail> {
     let first = "line 2: tail = hello\nwanted: tail 0\n";
     let both = "line 2: tail = hello\nwanted: tail 0\nline 3: bad line\n";
-    assert!(rt; is_told(rt.alloc(), false, WRONG_AND_BAD, Verdict::Wrong, first)?);
-    assert!(rt; is_told(rt.alloc(), true, WRONG_AND_BAD, Verdict::Wrong, both)?);
+    assert!(rt; are_told(rt.alloc(), WRONG_AND_BAD, Verdict::Wrong, first, both)?);
     let bad = "line 2: bad line\n";
-    assert!(rt; is_told(rt.alloc(), false, BAD_AND_WRONG, Verdict::Bad, bad)?);
-    assert!(rt; is_told(rt.alloc(), true, BAD_AND_WRONG, Verdict::Bad, bad)?);
+    assert!(rt; are_told(rt.alloc(), BAD_AND_WRONG, Verdict::Bad, bad, bad)?);
     Ok(())
 }
 

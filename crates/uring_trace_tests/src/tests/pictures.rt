@@ -27,11 +27,12 @@ fn is_graph(alloc: Global) -> Result<bool, Fail> {
     let mut notes = Vec::new(alloc);
     let mut input = INPUT.as_bytes();
     let result = graph(alloc, &mut input, &mut picture, &mut notes, &setup);
-    Ok(
-        result == Ok(true)
-            && picture.as_slice() == GRAPH.as_bytes()
-            && notes.as_slice() == NOTES.as_bytes(),
-    )
+    let is_so = result == Ok(true)
+        && picture.as_slice() == GRAPH.as_bytes()
+        && notes.as_slice() == NOTES.as_bytes();
+    drop(picture);
+    drop(notes);
+    Ok(is_so)
 }
 
 /// Whether the timeline and the notes are these.
@@ -41,11 +42,12 @@ fn is_timeline(alloc: Global) -> Result<bool, Fail> {
     let mut notes = Vec::new(alloc);
     let mut input = INPUT.as_bytes();
     let result = timeline(alloc, &mut input, &mut picture, &mut notes, &setup);
-    Ok(
-        result == Ok(true)
-            && picture.as_slice() == TIMELINE.as_bytes()
-            && notes.as_slice() == NOTES.as_bytes(),
-    )
+    let is_so = result == Ok(true)
+        && picture.as_slice() == TIMELINE.as_bytes()
+        && notes.as_slice() == NOTES.as_bytes();
+    drop(picture);
+    drop(notes);
+    Ok(is_so)
 }
 
 #[test]
