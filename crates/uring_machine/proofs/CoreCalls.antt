@@ -16,9 +16,8 @@ use Rattle.uring_machine.specs.World.{World}
 use Rattle.uring_machine.specs.StepAnswers.{OrAgain, begin_answer, is_spent}
 use Rattle.uring_machine.specs.Histories.{History, world}
 use Rattle.uring_machine.specs.Told.{begin_told}
-use Rattle.uring_machine.specs.Core.{Core, ShowsWorld, FitsApart, IsShortFor, IsShortOfMemory, held_by, positions_of}
+use Rattle.uring_machine.specs.Core.{Core, ShowsWorld, FitsApart, IsShortFor, held_by}
 use Rattle.uring_machine.specs.declared.step.Step.TheVariants as step
-use Rattle.uring_machine.specs.declared.answer.Answer.{Answer}
 use Rattle.uring_machine.specs.declared.answer.Answer.TheVariants as answer
 
 -- Begin.
@@ -50,22 +49,6 @@ opens_within p count n opens h f =
     let few = ltb-false (2 ^ 63 - 1) (length w.requests.accepted + call_length w.submission count) o.unspent in
     subst (λ k. p.dispatch.accepted + k ≤ 2 ^ 63 - 1) (sym o.positions) (subst (λ k. k + call_length w.submission count ≤ 2 ^ 63 - 1) (sym f.shows.requests.accepted) few)
 
--- memory is there in the answer that a Begin would have
-never_again : {X : Type 0} (closed in_call spent : Bool) (n : ℕ) → answer.Again ≡ cond closed answer.Closed (cond in_call answer.InCall (cond spent answer.Spent (answer.Call n))) → X
-never_again true in_call spent n e = absurd cc
-never_again false true spent n e = absurd cc
-never_again false false true n e = absurd cc
-never_again false false false n e = absurd cc
-
--- a Begin that opens no call is refused
-pub refusal_goes : (p : Core) (count : ℕ) (a : Answer) → ((n : ℕ) → a ≡ answer.Call n → ⊥) → ((h : History) → FitsApart p h → a ≡ begin_answer (world p.setup h) count)
-    → (h : History) → FitsApart p h → FitsApart p ((step.Begin count, a) ∷ h)
-refusal_goes p count (answer.Call n) other is h f = absurd (other n refl)
-refusal_goes p count answer.Again other is h f =
-    let w : World = world p.setup h in
-    never_again w.is_closed (is_some w.submission.call) (is_spent w (call_length w.submission count)) (call_length w.submission count) (is h f)
-refusal_goes p count a other is h f = record { shows = f.shows; lawful = (subst (λ x. OrAgain x a) (is h f) refl, f.lawful) }
-
 -- a dispatcher with the same counts, and rings that show what they did
 same_shown : (p : Core) (w : World) (d : Dispatch) (q : Cq) → ShowsWorld p w → IsSameCount p.dispatch d → d.is_between_calls ≡ true → ShowsRequests d w.requests
     → ShowsCompletions p.setup q w.completions → p.cq.room ≤ q.room → q.room ≤ q.spare → ShowsWorld (record p { dispatch = d; cq = q }) w
@@ -75,11 +58,6 @@ same_shown p w d q s same between shows shown room promised = grind arith
 short_for_some : (p : Core) (w : World) (n : ℕ) → ShowsWorld p w → IsShortFor p n → 0 < n
 short_for_some p w n s (inl few_requests) = omega arith
 short_for_some p w n s (inr few_posts) = omega (arith, s.room_to_post, s.promised)
-
--- so a Begin that was answered Call found memory for its call, and memory isn't short for it while it is open
-pub never_short_for_open_call : (p : Core) (w : World) → ShowsWorld p w → IsShortFor p (positions_of w.submission.call) → ⊥
-never_short_for_open_call p w s (inl few_requests) = omega (arith, s.room_to_accept)
-never_short_for_open_call p w s (inr few_posts) = omega (arith, s.room_to_post, s.promised)
 
 pub again_goes : (p : Core) (d : Dispatch) (q : Cq) (count n : ℕ) → Opens p count n
     → IsSameCount p.dispatch d → d.is_between_calls ≡ true → ((r : Requests) → ShowsRequests p.dispatch r → ShowsRequests d r) → q ≡ p.cq → IsShortFor p n
@@ -124,10 +102,6 @@ call_goes p s' q d count n r opens same fits between shows kept room memory answ
       shows = begun_shows p w s' q d count n s (none_since w.submission.call o.no_call) o.positions after (kept p.setup w.completions s.completions) room memory.promised same fits between (shows w.requests s.requests) (opens_within p count n opens h f);
       lawful = (subst (λ a. OrAgain a (answer.Call n)) (sym (opens h f)) (inl refl), f.lawful);
     })
-
--- a Begin that is answered Again found memory short for its call
-pub short_for_call : (p : Core) (count n : ℕ) → Opens p count n → IsShortFor p n → (h : History) → FitsApart p h → IsShortOfMemory p (world p.setup h) (step.Begin count)
-short_for_call p count n opens short h f = subst (IsShortFor p) (opening (world p.setup h) count n (opens h f)).positions short
 
 -- what holds of a success
 pub on_success : {A E : Type 0} (r : Result A E) (P : Type 0) → is_err r ≡ false → OnOk r P → P

@@ -19,7 +19,7 @@ use Rattle.uring_rings.specs.Cq.{Cq, ShowsCompletions}
 use Rattle.uring_rings.specs.declared.answers.EndAnswer.TheVariants as ended_as
 use Rattle.uring_rings.specs.declared.answers.Taken.{Taken}
 use Rattle.uring_dispatch.specs.Dispatch.{Dispatch, ShowsRequests, HasStarted, HasEnded, HasFinished}
-use Rattle.uring_dispatch.specs.IssueAndFinish.{issued, issued_waiting, posts_of, posted_by}
+use Rattle.uring_dispatch.specs.IssueAndFinish.{issued, posts_of, posted_by}
 use Rattle.uring_dispatch.specs.declared.answers.Issued.{Issued}
 use Rattle.uring_dispatch.specs.declared.answers.Issued.TheVariants as issue
 use Rattle.uring_dispatch.specs.declared.answers.Posts.{Posts}
@@ -32,6 +32,7 @@ use Rattle.uring_machine.specs.declared.step.Step.TheVariants as step
 use Rattle.uring_machine.specs.declared.answer.Answer.{Answer}
 use Rattle.uring_machine.specs.declared.answer.Answer.TheVariants as answer
 use Rattle.uring_machine.proofs.CoreTakes.{held_within}
+use Rattle.uring_machine.proofs.CoreSteps.{told_if}
 
 -- End.
 
@@ -46,9 +47,6 @@ pub record Accepts (p : Core) (d : Dispatch) : Type 0 where
 pub record Ends (p : Core) (w : World) (q : Sq) (d : Dispatch) (a : Answer) (c : Option Call) : Type 0 where
   pub shows : ShowsWorld (record p { sq = q; dispatch = d; held = [] }) (ending_of w c)
   pub answered : a ≡ end_answer_in p.setup w c
-
-same_some : {X : Type 0} (a b : X) → Some a ≡ Some b → a ≡ b
-same_some a b e = cc
 
 sum_more : (ns : List ℕ) (n : ℕ) → sum (ns ++ n ∷ []) ≡ sum ns + n
 sum_more ns n = grind (arith, common_steps)
@@ -180,10 +178,6 @@ issue_told issue.NotReady = answer.NotReady
 issue_told issue.Running = answer.Running
 issue_told issue.Unknown = answer.Unknown
 
-told_if : {A B : Type 0} (f : A → B) (b : Bool) (x y : A) → f (cond b x y) ≡ cond b (f x) (f y)
-told_if f true x y = refl
-told_if f false x y = refl
-
 -- a chain of tests goes through
 told_chain : (a b c d e : Bool) (x y z u v t : Issued) → issue_told (cond a x (cond b y (cond c z (cond d u (cond e v t))))) ≡ cond a (issue_told x) (cond b (issue_told y) (cond c (issue_told z) (cond d (issue_told u) (cond e (issue_told v) (issue_told t)))))
 told_chain a b c d e x y z u v t =
@@ -220,14 +214,6 @@ issue_ended_goes p d q n res entry answered there shows counts shown left promis
       lawful = (ap issue_told (answered w.requests s.requests) ∙ issue_same w n, f.lawful);
     }
 
--- what ended was outstanding
-pub ended_there : (r : Requests) (n : ℕ) (res : ℤ) → issue.Ended res ≡ issued r n → None ≡ entry_outstanding r n → ⊥
-ended_there r n res e none =
-    elim (cases_Bool (is_outstanding r n)) [
-      | inl there ↦ let f : ◌≡◌ {A = Option Sqe} None (Some (entry_of r n)) = none ∙ ap (λ b. cond b (Some (entry_of r n)) None) there in cc
-      | inr gone ↦ let f : issue.Ended res ≡ issue.Unknown = e ∙ ap (λ b. cond (not b) issue.Unknown (if is_running r n then issue.Running else issued_waiting r n)) gone in cc
-    ]
-
 -- Finish.
 
 -- what ended was running, and posts what its entry and result say
@@ -235,7 +221,7 @@ ended_running : (r : Requests) (n : ℕ) (res : ℤ) (posted : Posts) → Some p
 ended_running r n res posted e = go (is_running r n) e
   where
     go : (b : Bool) → Some posted ≡ cond b (Some (posts_of (entry_of r n) res)) None → (b ≡ true) × (posted ≡ posts_of (entry_of r n) res)
-    go true x = (refl, same_some posted _ x)
+    go true x = (refl, cc)
     go false x = cc
 
 pub finish_goes : (p : Core) (d : Dispatch) (q : Cq) (n : ℕ) (res : ℤ) (bytes : List ℕ) (posted : Posts)
@@ -252,10 +238,6 @@ finish_goes p d q n res bytes posted answered shows counts shown left promised h
           (shown p.setup w.completions (entry_of w.requests n) ended.1 s.completions) left promised;
       lawful = (subst (λ b. FinishesApart b (answer.Ended res bytes)) (sym ended.0) tt, f.lawful);
     }
-
-pub finish_told : (p : Core) (n : ℕ) (outcome : Outcome) (posted : Posts) → ((r : Requests) → ShowsRequests p.dispatch r → Some posted ≡ posted_by r n outcome.res)
-    → (h : History) → FitsApart p h → IsFinished (world p.setup h) n outcome (answer.Ended outcome.res outcome.bytes)
-finish_told p n outcome posted answered h f = rw (ended_running (world p.setup h).requests n outcome.res posted (answered (world p.setup h).requests f.shows.requests)).0 refl
 
 -- what was posted is the end
 pub posted_end : (g : Setup) (q : Cq) (l : Completions) (entry : Sqe) (res : ℤ) (bytes : List ℕ) (user_data : ℕ) → posts.Completion user_data ≡ posts_of entry res

@@ -26,13 +26,6 @@ use Rattle.uring_machine.specs.declared.answer.Answer.TheVariants as answer
 pub core_after : (p q : Core) (e : Event) → q.setup ≡ p.setup → ((h : History) → FitsApart p h → FitsApart q (e ∷ h)) → IsCore p → IsCore q
 core_after p q e same goes core = (subst IsWithinLimits (sym same) core.0, e ∷ core.1, goes core.1 core.2)
 
--- a part that shows the lists
-pub submission_shown : (p : Core) (h : History) → FitsApart p h → ShowsSubmission p.setup p.sq (world p.setup h).submission
-submission_shown p h f = f.shows.submission
-
-pub completions_shown : (p : Core) (h : History) → FitsApart p h → ShowsCompletions p.setup p.cq (world p.setup h).completions
-completions_shown p h f = f.shows.completions
-
 -- A change of the submission ring alone, which leaves the open call and what it took as they were.
 pub on_submission : (p : Core) (w : World) (q : Sq) (l : Submission) → ShowsWorld p w → ShowsSubmission p.setup q l → l.call ≡ w.submission.call
     → held_by l l.call ≡ held_by w.submission w.submission.call → ShowsWorld (record p { sq = q }) (record w { submission = l })
@@ -53,7 +46,7 @@ on_completions p w q l s shows room memory posted =
 
 -- Fill.
 
-told_if : {A B : Type 0} (f : A → B) (b : Bool) (x y : A) → f (cond b x y) ≡ cond b (f x) (f y)
+pub told_if : {A B : Type 0} (f : A → B) (b : Bool) (x y : A) → f (cond b x y) ≡ cond b (f x) (f y)
 told_if f true x y = refl
 told_if f false x y = refl
 

@@ -18,7 +18,6 @@ use Rattle.uring_machine.specs.Core.{IsNoFinish}
 use Rattle.uring_machine.specs.Histories.{History, world, IsLawfulApart}
 use Rattle.uring_machine.specs.declared.step.Step.{Step}
 use Rattle.uring_machine.specs.declared.answer.Answer.{Answer}
-use Rattle.uring_machine.proofs.Changes.{change_of}
 use Rattle.uring_machine.proofs.Moves.{Move, stays, accepts, starts, ends_doomed, ends_cancel, ends_run, move_of}
 use Rattle.uring_machine.proofs.Running.{entry_stays}
 use Rattle.uring_machine.proofs.Sound.{sound_of}
@@ -82,5 +81,5 @@ move_keeps r q s a files (ends_run n res bytes running) other i = absurd other
 -- a step but a finish leaves the files as they are
 pub files_kept : (g : Setup) (s : Step) (a : Answer) (before : History) → IsLawfulApart g ((s, a) ∷ before) → IsNoFinish s → files_of g (world g ((s, a) ∷ before)) ≡ files_of g (world g before)
 files_kept g s a before lawful other =
-    move_keeps (world g before).requests _ s a _ (move_of g (world g before) s a (change_of g (world g before) s a lawful.0) lawful.0) other
+    move_keeps (world g before).requests _ s a _ (move_of g s a before lawful) other
     (sound_of g before lawful.1).requests

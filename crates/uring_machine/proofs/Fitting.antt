@@ -8,7 +8,7 @@ use Rattle.uring_entry.specs.declared.operation.Outcome.{Outcome}
 use Rattle.uring_files.specs.Contents.{FileContents}
 use Rattle.uring_files.specs.Operations.{after, IsOutcome, IsForFiles}
 use Rattle.uring_machine.specs.World.{World}
-use Rattle.uring_machine.specs.StepAnswers.{CalledForApart, FinishesApart}
+use Rattle.uring_machine.specs.StepAnswers.{CalledForApart}
 use Rattle.uring_machine.specs.CalledFor.{CalledFor, IsLawful, EndsOn, files_of}
 use Rattle.uring_machine.specs.Core.{Core, FitsApart, IsCore, IsNoFinish, IsFinished}
 use Rattle.uring_machine.specs.Histories.{History, world}
@@ -79,18 +79,6 @@ finish_fits core later files n op outcome left a h same fits is allowed leaves n
 pub not_running : {X : Type 0} (op : X) (running : Bool) → None ≡ (if running then Some op else None) → running ≡ false
 not_running op true e = absurd cc
 not_running op false e = refl
-
--- a request that doesn't run is refused
-pub refusal_fits : (core : Core) (files : List FileContents) (n : ℕ) (h : History) → Fits (record { core = core; files = files }) h → None ≡ operation_running (world core.setup h).requests n
-    → Fits (record { core = core; files = files }) ((step.Finish n, answer.NotRunning) ∷ h)
-refusal_fits core files n h fits is =
-    let w : World = world core.setup h in
-    let idle : is_running w.requests n ≡ false = not_running (operation_of (entry_of w.requests n)) (is_running w.requests n) is in
-    record {
-      core = record { shows = fits.core.shows; lawful = (subst (λ b. FinishesApart b answer.NotRunning) (sym idle) refl, fits.core.lawful) };
-      files = fits.files;
-      lawful = (subst (λ b. EndsOn (files_of core.setup w) w.requests n b answer.NotRunning) (sym idle) refl, fits.lawful);
-    }
 
 -- an event of a fitted history was called for
 pub called_for : (g : Setup) (core : Core) (files : List FileContents) (s : Step) (a : Answer) (h : History) → core.setup ≡ g → Fits (record { core = core; files = files }) ((s, a) ∷ h) → CalledFor g (world g h) s a

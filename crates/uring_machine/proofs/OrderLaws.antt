@@ -74,7 +74,7 @@ refused_no_run n a silent run = let e : started_by (step.Issue n, answer.Run) �
 
 doomed_just_before : (g : Setup) (w : World) (n : ℕ) (a : Answer) (bytes : List ℕ) → Change g w (step.Issue n) a → a ≡ answer.Ended (neg_ℤ ECANCELED) bytes → is_doomed w.requests n ≡ true
 doomed_just_before g w n a bytes (refuses _ _ same silent) is = absurd (refused_no_end n a silent (subst IsEnded (sym is) tt))
-doomed_just_before g w n a bytes (runs _ outstanding idle spared ready) is = absurd cc
+doomed_just_before g w n a bytes (runs _ outstanding idle spared ready no_cancel) is = absurd cc
 doomed_just_before g w n a bytes (dooms _ outstanding idle doomed) is = doomed
 doomed_just_before g w n a bytes (cancels _ outstanding idle spared ready cancel) is =
     let e : cancel_result w.requests n ≡ neg_ℤ ECANCELED = cc in
@@ -98,7 +98,7 @@ record Started (w : World) (n : ℕ) : Type 0 where
 started_ready : (g : Setup) (w : World) (n : ℕ) (a : Answer) → Change g w (step.Issue n) a → IsStart w.requests n a → Started w n
 started_ready g w n a (refuses _ _ same silent) (inl run) = absurd (refused_no_run n a silent run)
 started_ready g w n a (refuses _ _ same silent) (inr ended) = absurd (refused_no_end n a silent ended.0)
-started_ready g w n a (runs _ outstanding idle spared ready) start = record { accepted = (outstanding_tells w.requests n outstanding).0; ready = ready }
+started_ready g w n a (runs _ outstanding idle spared ready no_cancel) start = record { accepted = (outstanding_tells w.requests n outstanding).0; ready = ready }
 started_ready g w n a (dooms _ outstanding idle doomed) (inl run) = absurd cc
 started_ready g w n a (dooms _ outstanding idle doomed) (inr ended) = absurd (both_ways _ ended.1 doomed)
 started_ready g w n a (cancels _ outstanding idle spared ready cancel) start = record { accepted = (outstanding_tells w.requests n outstanding).0; ready = ready }

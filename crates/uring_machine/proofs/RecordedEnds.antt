@@ -28,15 +28,6 @@ use Rattle.uring_machine.specs.declared.wanted.Refusal.TheVariants.{Wrong, NoMem
 use Rattle.uring_machine.proofs.Fitting.{step_fits, finish_fits, runs_with, not_running}
 use Rattle.uring_machine.proofs.RecordedAnswers.{wrong_beside}
 
--- what holds of a refusal holds of another clause that follows
-pub if_refused : (r : Result Unit Refusal) (P Q : Refusal → Type 0) → ((refusal : Refusal) → P refusal → Q refusal) → IfErr r P → IfErr r Q
-if_refused (Ok x) P Q follows p = tt
-if_refused (Err refusal) P Q follows p = follows refusal p
-
-pub if_followed : (r : Result Unit Refusal) (P Q : Type 0) → (P → Q) → OnOk r P → OnOk r Q
-if_followed (Ok x) P Q follows p = follows p
-if_followed (Err refusal) P Q follows p = tt
-
 -- Any step but a Finish: its core follows.
 
 -- the machine with a core that fits the same history

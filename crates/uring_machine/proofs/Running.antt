@@ -15,7 +15,6 @@ use Rattle.uring_machine.specs.CalledFor.{RunsOnFiles}
 use Rattle.uring_machine.specs.Histories.{History, world, IsLawfulApart}
 use Rattle.uring_machine.specs.declared.step.Step.{Step}
 use Rattle.uring_machine.specs.declared.answer.Answer.{Answer}
-use Rattle.uring_machine.proofs.Changes.{change_of}
 use Rattle.uring_machine.proofs.Moves.{Move, accepts, starts, move_of}
 use Rattle.uring_machine.proofs.Sound.{sound_of}
 use Rattle.uring_machine.proofs.ListCounts.{any_new}
@@ -37,7 +36,7 @@ no_cancel_kept r q s a _ i none = none
 pub no_cancel : (g : Setup) (h : History) → IsLawfulApart g h → NoCancel (world g h).requests
 no_cancel g [] lawful = λ n started. absurd (let f : false ≡ true = started in cc)
 no_cancel g ((s, a) ∷ before) lawful =
-    no_cancel_kept (world g before).requests _ s a (move_of g (world g before) s a (change_of g (world g before) s a lawful.0) lawful.0)
+    no_cancel_kept (world g before).requests _ s a (move_of g s a before lawful)
     (sound_of g before lawful.1).requests (no_cancel g before lawful.1)
 
 -- no fault

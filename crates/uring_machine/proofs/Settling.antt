@@ -1,4 +1,5 @@
 -- What the steps make that settle requests.
+-- Stable: other crates may import `answer_ends` and `next_tells`.
 use Rattle.std.proofs.Common.{◌≡◌, ℕ, ◌+◌, ◌-◌, ◌^◌, ◌≤◌, ℤ, Bool, true, false, not, ◌||◌, List, [], ◌∷◌, ◌++◌, length, Option, Some, None, if◌then◌else◌, refl, sym, subst, ◌∙◌, ap, arith, inl, inr, length-append}
 use Rattle.std.proofs.lemmas.Bool.{and_parts, and_from, or_cases, both_ways, not-true}
 use Rattle.std.proofs.lemmas.List.Folds.{list_all-append}
@@ -33,7 +34,7 @@ finish_less g w n (answer.Ended res bytes) outstanding ended = ended_less w.requ
 finish_less g w n _ outstanding ended = absurd ended
 
 -- what can be issued and doesn't run then, ends
-answer_ends : (outstanding running doomed ready cancel : Bool) (as_doomed as_cancel : ℤ) (a : Answer) → outstanding ≡ true → running ≡ false → (doomed || ready) ≡ true
+pub answer_ends : (outstanding running doomed ready cancel : Bool) (as_doomed as_cancel : ℤ) (a : Answer) → outstanding ≡ true → running ≡ false → (doomed || ready) ≡ true
     → a ≡ (if not outstanding then answer.Unknown else (if running then answer.Running else (if doomed then answer.Ended as_doomed no_bytes else (if not ready then answer.NotReady else (if cancel then answer.Ended as_cancel no_bytes else answer.Run)))))
     → (a ≡ answer.Run → ⊥) → IsEnded a
 answer_ends false running doomed ready cancel as_doomed as_cancel a o r d is other = absurd cc
@@ -61,11 +62,8 @@ next_none None a is other = refl
 next_none (Some m) a is other = absurd (other m is)
 
 -- the next can be issued
-next_tells : (r : Requests) (n : ℕ) → answer.Next n ≡ next_answer_of (next_of r) → is_issuable r n ≡ true
-next_tells r n e = by_next (next_of r) refl e where
-  by_next : (next : Option ℕ) → next_of r ≡ next → answer.Next n ≡ next_answer_of next → is_issuable r n ≡ true
-  by_next None is f = absurd cc
-  by_next (Some m) is f = let same : m ≡ n = cc in subst (λ k. is_issuable r k ≡ true) same (least_below-tells (is_issuable r) (length r.accepted) m is).holds
+pub next_tells : (r : Requests) (n : ℕ) → answer.Next n ≡ next_answer_of (next_of r) → is_issuable r n ≡ true
+next_tells r n e = (least_below-tells (is_issuable r) (length r.accepted) n (next_is (next_of r) n e)).holds
 
 -- an issue not answered Run started nothing
 not_started : (n : ℕ) (a : Answer) → (a ≡ answer.Run → ⊥) → started_by (step.Issue n, a) ≡ None

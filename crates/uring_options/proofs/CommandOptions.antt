@@ -40,9 +40,6 @@ play_shape = built_leaf (inherited (with_leaf_noted (marked_built uring.top)) pl
 abbrev help_leaf : Shape
 help_leaf = built_leaf help_shape
 
-subcommands : (built uring).subs ≡ trace_shape ∷ explain_shape ∷ check_shape ∷ play_shape ∷ help_leaf ∷ []
-subcommands = refl
-
 -- ---- the rules of a command
 
 other_name : {A : Type 0} → false ≡ true → A
@@ -264,8 +261,3 @@ pub numbers_written : (words : List Text) → fault_of uring words ≡ [] → Ha
 numbers_written words passes =
     let own = neither_fails _ _ passes in
     stop_numbers (stop_after (built uring).top.rules (names_of (built uring)) (argument_words uring words)) (neither_fails (entered_fault (built uring) (stop_after (built uring).top.rules (names_of (built uring)) (argument_words uring words))) _ own.1).0
-
--- a play has 1 to 8 workers
-pub workers_within : (rows : List Row) (workers : ℕ) → AreWorkers rows workers → (0 < workers) × (workers ≤ 8)
-workers_within rows workers (None, given, is) = (omega (arith, is), omega (arith, is))
-workers_within rows workers (Some n, given, is) = let least = given.1.0 in let most = given.1.1 in (omega (arith, is, least), omega (arith, is, most))
