@@ -5,17 +5,15 @@ use Rattle.uring_entry.specs.Setup.{Setup}
 use Rattle.uring_entry.specs.declared.errno.TheConstants.{ENOMEM}
 use Rattle.uring_machine.specs.Core.{IsNoFinish}
 use Rattle.uring_machine.specs.Histories.{History, world}
-use Rattle.uring_machine.specs.StepAnswers.{CalledForApart, FinishesApart, IsEnded}
+use Rattle.uring_machine.specs.StepAnswers.{CalledForApart, FinishesApart}
 use Rattle.uring_machine.specs.World.{World}
 use Rattle.uring_machine.specs.declared.answer.Answer.{Answer}
 use Rattle.uring_machine.specs.declared.answer.Answer.TheVariants as answer
 use Rattle.uring_machine.specs.declared.step.Step.{Step}
 use Rattle.uring_machine.specs.declared.step.Step.TheVariants as step
-use Rattle.uring_machine.specs.Recorded.{IsWrong, resumed}
-use Rattle.uring_machine.specs.declared.wanted.Refusal.TheVariants as refusal
+use Rattle.uring_machine.specs.Recorded.{IsWrong}
 use Rattle.uring_machine.specs.declared.wanted.Wanted.{Wanted}
-use Rattle.uring_machine.specs.declared.wanted.Wanted.TheVariants.{Only, CallOrAgain, AnyEnd, EndOrNoMemory}
-use Rattle.uring_trace.specs.Spelling.{IsFile}
+use Rattle.uring_machine.specs.declared.wanted.Wanted.TheVariants.{Only, CallOrAgain, EndOrNoMemory}
 use Rattle.uring_trace.specs.Text.{text_of}
 use Rattle.uring_check.specs.Checking.{FitsBy, HasOneAnswer, IsEither, IsJudged, IsOneJudged, IsWanted, Judges, rules_of}
 use Rattle.uring_check.specs.Findings.{IsWrongText}

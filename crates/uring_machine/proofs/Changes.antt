@@ -61,6 +61,10 @@ pub data Change (g : Setup) (w : World) : Step → Answer → Type 0 where
   stores_head : (head : ℕ) → Change g w step.StoreCqHead (answer.Head head)
   shuts : w.submission.call ≡ None → Change g w step.Close answer.Shut
 
+pub not_some : {A : Type 0} (o : Option A) → is_some o ≡ false → o ≡ None
+not_some None e = refl
+not_some (Some x) e = cc
+
 -- A refusal tells nothing, as it computes.
 module _ (g : Setup) (w : World) where
   fill_of : (slot : ℕ) (entry : Sqe) (beyond busy : Bool) → is_busy w.submission slot ≡ busy → Change g w (step.Fill slot entry) (if beyond then answer.NoSlot else (if busy then answer.Busy else answer.Filled))
@@ -75,17 +79,11 @@ module _ (g : Setup) (w : World) where
   again : (count : ℕ) → Change g w (step.Begin count) answer.Again
   again count = refuses _ _ (λ v. refl) (search rules)
 
-  no_call : (call : Option Call) → is_some call ≡ false → call ≡ None
-  no_call None e = refl
-  no_call (Some call) e = cc
-
   begin_of : (count : ℕ) (a : Answer) (is_closed in_call spent : Bool) → w.is_closed ≡ is_closed → is_some w.submission.call ≡ in_call → is_spent w (call_length w.submission count) ≡ spent
       → OrAgain (if is_closed then answer.Closed else (if in_call then answer.InCall else (if spent then answer.Spent else answer.Call (call_length w.submission count)))) a → Change g w (step.Begin count) a
-  begin_of count a true in_call spent e f k h = subst (Change g w (step.Begin count)) (sym h) (refuses _ _ (λ v. refl) (search rules))
-  begin_of count a false true spent e f k h = subst (Change g w (step.Begin count)) (sym h) (refuses _ _ (λ v. refl) (search rules))
-  begin_of count a false false true e f k h = subst (Change g w (step.Begin count)) (sym h) (refuses _ _ (λ v. refl) (search rules))
-  begin_of count a false false false e f k (inl h) = subst (Change g w (step.Begin count)) (sym h) (begins count e (no_call w.submission.call f) k)
+  begin_of count a false false false e f k (inl h) = subst (Change g w (step.Begin count)) (sym h) (begins count e (not_some w.submission.call f) k)
   begin_of count a false false false e f k (inr h) = subst (Change g w (step.Begin count)) (sym h.0) (again count)
+  begin_of count a _ _ _ e f k h = subst (Change g w (step.Begin count)) (sym h) (refuses _ _ (λ v. refl) (search rules))
 
   place_of : (call : Call) (place : Option Place) → w.submission.call ≡ Some call → eqb call.taken call.count ≡ false → slice_get w.submission.published (taken w.submission + call.taken) ≡ place → Change g w step.Take (place_answer place)
   place_of call None e f h = refuses _ _ (λ v. refl) (search rules)
@@ -115,12 +113,10 @@ module _ (g : Setup) (w : World) where
   issue_of : (n : ℕ) (outstanding running doomed ready cancel : Bool) → is_outstanding w.requests n ≡ outstanding → is_running w.requests n ≡ running → is_doomed w.requests n ≡ doomed → is_ready w.requests n ≡ ready → is_cancel (entry_of w.requests n) ≡ cancel
       → Change g w (step.Issue n)
       (if not outstanding then answer.Unknown else (if running then answer.Running else (if doomed then answer.Ended (doomed_result w.requests n) no_bytes else (if not ready then answer.NotReady else (if cancel then answer.Ended (cancel_result w.requests n) no_bytes else answer.Run)))))
-  issue_of n false running doomed ready cancel e f h i j = refuses _ _ (λ v. refl) (search rules)
-  issue_of n true true doomed ready cancel e f h i j = refuses _ _ (λ v. refl) (search rules)
   issue_of n true false true ready cancel e f h i j = dooms n e f h
-  issue_of n true false false false cancel e f h i j = refuses _ _ (λ v. refl) (search rules)
   issue_of n true false false true true e f h i j = cancels n e f h i j
   issue_of n true false false true false e f h i j = runs n e f h i j
+  issue_of n _ _ _ _ _ e f h i j = refuses _ _ (λ v. refl) (search rules)
 
   finish_of : (n : ℕ) (running : Bool) (a : Answer) → is_running w.requests n ≡ running → FinishesApart running a → Change g w (step.Finish n) a
   finish_of n false a e h = subst (Change g w (step.Finish n)) (sym h) (refuses _ _ (λ v. refl) (search rules))
@@ -133,7 +129,7 @@ module _ (g : Setup) (w : World) where
 
   close_of : (in_call : Bool) → is_some w.submission.call ≡ in_call → Change g w step.Close (if in_call then answer.InCall else answer.Shut)
   close_of true e = refuses _ _ (λ v. refl) (search rules)
-  close_of false e = shuts (no_call w.submission.call e)
+  close_of false e = shuts (not_some w.submission.call e)
 
   next_of_answer : (n : Option ℕ) → Change g w step.Next (next_answer_of n)
   next_of_answer None = refuses _ _ (λ v. refl) (search rules)

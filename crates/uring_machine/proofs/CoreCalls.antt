@@ -1,9 +1,9 @@
 -- Submission calls, from the layers' contracts to the core's: what a core shows as one opens, takes a position, and closes.
-use Rattle.std.proofs.Common.{◌≡◌, ℕ, ◌+◌, ◌-◌, ◌^◌, ◌<◌, ◌≤◌, Bool, true, false, cond, ◌∷◌, length, Option, Some, None, is_some, refl, sym, ap, subst, ◌∙◌, arith, inl, inr}
+use Rattle.std.proofs.Common.{◌≡◌, ℕ, ◌+◌, ◌-◌, ◌^◌, ◌<◌, ◌≤◌, Bool, true, false, cond, ◌∷◌, length, None, is_some, refl, sym, ap, subst, ◌∙◌, arith, inl, inr}
 use Rattle.std.specs.Prelude.{Result, Ok, Err, is_err, OnOk}
 use Rattle.std.proofs.lemmas.Bool.{ltb-false}
 use Rattle.uring_entry.specs.Setup.{Setup}
-use Rattle.uring_entry.specs.Submission.{Submission, Call, call_length, with_begun}
+use Rattle.uring_entry.specs.Submission.{Submission, call_length, with_begun}
 use Rattle.uring_entry.specs.Requests.{Requests}
 use Rattle.uring_entry.specs.Completions.{Completions}
 use Rattle.uring_rings.specs.Sq.{Sq, ShowsSubmission}
@@ -19,6 +19,7 @@ use Rattle.uring_machine.specs.Told.{begin_told}
 use Rattle.uring_machine.specs.Core.{Core, ShowsWorld, FitsApart, IsShortFor, held_by}
 use Rattle.uring_machine.specs.declared.step.Step.TheVariants as step
 use Rattle.uring_machine.specs.declared.answer.Answer.TheVariants as answer
+use Rattle.uring_machine.proofs.Changes.{not_some}
 
 -- Begin.
 
@@ -68,12 +69,8 @@ again_goes p d q count n opens same between shows kept short h f =
       lawful = (subst (λ a. OrAgain a answer.Again) (sym (opens h f)) (inr (refl, short_for_some p (world p.setup h) n f.shows short)), f.lawful);
     })
 
-none_since : (c : Option Call) → false ≡ is_some c → c ≡ None
-none_since None e = refl
-none_since (Some call) e = cc
-
 opened : (l : Submission) (count n : ℕ) (r : BeginAnswer) → false ≡ is_some l.call → n ≡ call_length l count → r ≡ ring.begin_answer l count → r ≡ begin.Call n
-opened l count n r none length answered = answered ∙ ap (ring.begin_beside l count) (none_since l.call none) ∙ ap (λ k. begin.Call k) (sym length)
+opened l count n r none length answered = answered ∙ ap (ring.begin_beside l count) (not_some l.call (sym none)) ∙ ap (λ k. begin.Call k) (sym length)
 
 begun_shows : (p : Core) (w : World) (s' : Sq) (q : Cq) (d : Dispatch) (count n : ℕ) → ShowsWorld p w → w.submission.call ≡ None → n ≡ call_length w.submission count
     → ShowsSubmission p.setup s' (with_begun w.submission count) → ShowsCompletions p.setup q w.completions → q.room ≡ p.dispatch.outstanding + n → q.room ≤ q.spare
@@ -99,7 +96,7 @@ call_goes p s' q d count n r opens same fits between shows kept room memory answ
     let is : r ≡ begin.Call n = opened w.submission count n r o.no_call o.positions (answered p.setup w.submission s.submission) in
     let after : ShowsSubmission p.setup s' (with_begun w.submission count) = subst (λ b. ShowsSubmission p.setup s' (ring.after_begin w.submission count b)) is (shown p.setup w.submission s.submission) in
     subst (λ b. FitsApart (record p { sq = s'; cq = q; dispatch = d }) ((step.Begin count, begin_told b) ∷ h)) (sym is) (record {
-      shows = begun_shows p w s' q d count n s (none_since w.submission.call o.no_call) o.positions after (kept p.setup w.completions s.completions) room memory.promised same fits between (shows w.requests s.requests) (opens_within p count n opens h f);
+      shows = begun_shows p w s' q d count n s (not_some w.submission.call (sym o.no_call)) o.positions after (kept p.setup w.completions s.completions) room memory.promised same fits between (shows w.requests s.requests) (opens_within p count n opens h f);
       lawful = (subst (λ a. OrAgain a (answer.Call n)) (sym (opens h f)) (inl refl), f.lawful);
     })
 

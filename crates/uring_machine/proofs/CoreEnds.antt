@@ -3,6 +3,7 @@ use Rattle.std.proofs.Common.{◌≡◌, ℕ, ◌+◌, ◌-◌, ◌^◌, ◌≤�
 use Rattle.std.proofs.lemmas.Bool.{cases_Bool, eqb-true, eqb-false, lt-ltb, le-ltb}
 use Rattle.std.proofs.lemmas.List.{length-append}
 use Rattle.std.proofs.lemmas.Grind.{common_steps}
+use Rattle.std.proofs.lemmas.Option.{cond_some}
 use Rattle.uring_entry.specs.Setup.{Setup}
 use Rattle.uring_entry.specs.IndexWords.{word_of}
 use Rattle.uring_entry.specs.Layout.{Sqe, Cqe, user_data_of}
@@ -56,20 +57,10 @@ abbrev taken_by : Setup → Submission → Call → Taken
 taken_by g l call =
     record { accepted = length (entries_of (places_from l call.count)); dropped = dropped (with_closed l call); head = word_of g.start (taken (with_closed l call)) }
 
-all_taken : (g : Setup) (l : Submission) (call : Call) (t : Taken) → ended_as.Taken t ≡ ring.end_of g l (Some call) → eqb call.taken call.count ≡ true
-all_taken g l call t e =
-    elim (cases_Bool (eqb call.taken call.count)) [
-      | inl all ↦ all
-      | inr more ↦ absurd (let f : ended_as.Taken t ≡ ended_as.NotAll = e ∙ ap (λ b. cond b (ended_as.Taken (taken_by g l call)) ended_as.NotAll) more in cc)
-    ]
-
-told_taken : (g : Setup) (l : Submission) (call : Call) (t : Taken) → ended_as.Taken t ≡ ring.end_of g l (Some call)
-    → t ≡ taken_by g l call
-told_taken g l call t e =
-    let all = all_taken g l call t e in
-    let f : ended_as.Taken t ≡ ended_as.Taken (taken_by g l call) =
-    e ∙ ap (λ b. cond b (ended_as.Taken (taken_by g l call)) ended_as.NotAll) all in
-    cc
+-- a call that closes took all its positions, and this is told of it
+taken_as : (all : Bool) (t told : Taken) → ended_as.Taken t ≡ cond all (ended_as.Taken told) ended_as.NotAll → (all ≡ true) × (t ≡ told)
+taken_as true t told e = (refl, cc)
+taken_as false t told e = absurd cc
 
 closed_shows : (p : Core) (w : World) (q : Sq) (d : Dispatch) (call : Call) → ShowsWorld p w → w.submission.call ≡ Some call → call.taken ≡ call.count → Accepts p d
     → length p.held ≤ call.count → ShowsSubmission p.setup q (with_closed w.submission call) → ShowsWorld (record p { sq = q; dispatch = d; held = [] }) (ending_of w (Some call))
@@ -86,16 +77,17 @@ closed_shows p w q d call s is all accepts few shown =
 
 closed_answer : (g : Setup) (w : World) (call : Call) (t : Taken) → ended_as.Taken t ≡ ring.end_of g w.submission (Some call) → answer.Taken t.accepted t.dropped t.head ≡ end_answer_in g w (Some call)
 closed_answer g w call t e =
-    let all = eqb-true call.taken call.count (all_taken g w.submission call t e) in
+    let is = taken_as (eqb call.taken call.count) t (taken_by g w.submission call) e in
+    let all = eqb-true call.taken call.count is.0 in
     let not_less : nat_lt call.taken call.count ≡ false = le-ltb call.taken call.count (omega arith) in
-    rw (told_taken g w.submission call t e, not_less) (ap (λ n. answer.Taken (length (entries_of (places_from w.submission call.count))) (dropped (with_closed w.submission call)) (word_of g.start n)) (sum_more w.submission.calls call.count))
+    rw (is.1, not_less) (ap (λ n. answer.Taken (length (entries_of (places_from w.submission call.count))) (dropped (with_closed w.submission call)) (word_of g.start n)) (sum_more w.submission.calls call.count))
 
 end_taken : (p : Core) (w : World) (q : Sq) (d : Dispatch) (t : Taken) (c : Option Call) → ShowsWorld p w → w.submission.call ≡ c → Accepts p d
     → length p.held ≤ positions_of w.submission.call → ended_as.Taken t ≡ ring.end_of p.setup w.submission c → ShowsSubmission p.setup q (ring.closed_on w.submission c)
     → Ends p w q d (answer.Taken t.accepted t.dropped t.head) c
 end_taken p w q d t None s is accepts few e shown = absurd (let f : ended_as.Taken t ≡ ended_as.NoCall = e in cc)
 end_taken p w q d t (Some call) s is accepts few e shown = record {
-  shows = closed_shows p w q d call s is (eqb-true call.taken call.count (all_taken p.setup w.submission call t e)) accepts (subst (λ c. length p.held ≤ positions_of c) is few) shown;
+  shows = closed_shows p w q d call s is (eqb-true call.taken call.count (taken_as (eqb call.taken call.count) t (taken_by p.setup w.submission call) e).0) accepts (subst (λ c. length p.held ≤ positions_of c) is few) shown;
   answered = closed_answer p.setup w call t e;
 }
 
@@ -162,11 +154,7 @@ ended_shows p w d q r entry res bytes s shows accepted outstanding room between 
 
 -- an outstanding request's entry is there
 pub entry_there : (r : Requests) (n : ℕ) (entry : Sqe) → Some entry ≡ entry_outstanding r n → entry ≡ entry_of r n
-entry_there r n entry e =
-    elim (cases_Bool (is_outstanding r n)) [
-      | inl there ↦ let f : Some entry ≡ Some (entry_of r n) = e ∙ ap (λ b. cond b (Some (entry_of r n)) None) there in cc
-      | inr gone ↦ absurd (let f : Some entry ≡ None = e ∙ ap (λ b. cond b (Some (entry_of r n)) None) gone in cc)
-    ]
+entry_there r n entry e = sym (cond_some (is_outstanding r n) (entry_of r n) entry (sym e)).1
 
 -- Issue.
 
@@ -218,11 +206,7 @@ issue_ended_goes p d q n res entry answered there shows counts shown left promis
 
 -- what ended was running, and posts what its entry and result say
 ended_running : (r : Requests) (n : ℕ) (res : ℤ) (posted : Posts) → Some posted ≡ posted_by r n res → (is_running r n ≡ true) × (posted ≡ posts_of (entry_of r n) res)
-ended_running r n res posted e = go (is_running r n) e
-  where
-    go : (b : Bool) → Some posted ≡ cond b (Some (posts_of (entry_of r n) res)) None → (b ≡ true) × (posted ≡ posts_of (entry_of r n) res)
-    go true x = (refl, cc)
-    go false x = cc
+ended_running r n res posted e = let p = cond_some (is_running r n) (posts_of (entry_of r n) res) posted (sym e) in (p.0, sym p.1)
 
 pub finish_goes : (p : Core) (d : Dispatch) (q : Cq) (n : ℕ) (res : ℤ) (bytes : List ℕ) (posted : Posts)
     → ((r : Requests) → ShowsRequests p.dispatch r → Some posted ≡ posted_by r n res)
@@ -290,7 +274,4 @@ new_fits p submission completions none_promised requests between held open_ring 
 
 -- what posts as it ends was running
 pub ended_as_posted : (w : World) (n : ℕ) (outcome : Outcome) (posts : Posts) (a : Answer) → Some posts ≡ posted_by w.requests n outcome.res → a ≡ answer.Ended outcome.res outcome.bytes → IsFinished w n outcome a
-ended_as_posted w n outcome posts a posted is = by_running (is_running w.requests n) posted where
-  by_running : (running : Bool) → Some posts ≡ (if running then Some (posts_of (entry_of w.requests n) outcome.res) else None) → a ≡ (if running then answer.Ended outcome.res outcome.bytes else answer.NotRunning)
-  by_running true e = is
-  by_running false e = absurd cc
+ended_as_posted w n outcome posts a posted is = is ∙ ap (λ b. if b then answer.Ended outcome.res outcome.bytes else answer.NotRunning) (sym (ended_running w.requests n outcome.res posts posted).0)

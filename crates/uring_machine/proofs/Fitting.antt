@@ -1,5 +1,6 @@
 -- That a machine fits a history with one more event.
 use Rattle.std.proofs.Common.{◌≡◌, ℕ, List, ◌∷◌, Bool, true, false, Option, Some, None, IfSome, if◌then◌else◌, refl, sym, subst, ◌∙◌, ap}
+use Rattle.std.proofs.lemmas.Option.{cond_some}
 use Rattle.uring_entry.specs.Setup.{Setup}
 use Rattle.uring_entry.specs.Preparation.{operation_of}
 use Rattle.uring_entry.specs.Requests.{Requests, entry_of, is_running, operation_running}
@@ -38,10 +39,7 @@ step_fits core later files s a h same other fits next =
 
 -- what runs has this operation
 pub runs_with : (r : Requests) (n : ℕ) (op : Op) → Some op ≡ operation_running r n → (is_running r n ≡ true) × (op ≡ operation_of (entry_of r n))
-runs_with r n op e = by_running (is_running r n) e where
-  by_running : (running : Bool) → Some op ≡ (if running then Some (operation_of (entry_of r n)) else None) → (running ≡ true) × (op ≡ operation_of (entry_of r n))
-  by_running true f = (refl, cc)
-  by_running false f = absurd cc
+runs_with r n op e = let p = cond_some (is_running r n) (operation_of (entry_of r n)) op (sym e) in (p.0, sym p.1)
 
 -- what runs can be asked of files
 pub asks_files : (core : Core) (n : ℕ) (r : Option Op) → IsCore core → ((h : History) → FitsApart core h → r ≡ operation_running (world core.setup h).requests n) → IfSome r IsForFiles

@@ -3,7 +3,7 @@ use Rattle.std.proofs.Common.{◌≡◌, ◌≢◌, ℕ, ◌==◌, ◌<◌, ℤ,
 use Rattle.std.specs.List.{list_any}
 use Rattle.std.specs.Option.{option_to_list}
 use Rattle.std.specs.Ordering.{int_eq}
-use Rattle.std.proofs.lemmas.Bool.{cases_eq, cases_Bool, and_parts, and_from, and_left, and_right, or_cases, or_from, both_ways, eqb-true, eqb-false, ne_eqb, lt-ltb, not-true, not_from_true, false_from_ne_true}
+use Rattle.std.proofs.lemmas.Bool.{cases_eq, cases_Bool, and_parts, and_from, and_left, and_right, or_cases, or_from, both_ways, eqb-true, eqb-false, ne_eqb, lt-ltb, not-true, not_from_true, false_from_ne_true, cond_both}
 use Rattle.std.proofs.lemmas.Bool.Decides.{Decides-int_eq}
 use Rattle.std.proofs.lemmas.List.Folds.{list_any-append}
 use Rattle.uring_entry.specs.Success.{is_success}
@@ -157,10 +157,7 @@ finish_sound r n res bytes running s =
 
 -- no doomed request succeeds
 pub doomed_fails : (r : Requests) (n : ℕ) → is_success (entry_of r n) (doomed_result r n) ≡ false
-doomed_fails r n = by_fault (is_faulty (entry_of r n)) where
-  by_fault : (faulty : Bool) → is_success (entry_of r n) (cond faulty (neg_ℤ EINVAL) (neg_ℤ ECANCELED)) ≡ false
-  by_fault true = never_success (entry_of r n) 21
-  by_fault false = never_success (entry_of r n) 124
+doomed_fails r n = cond_both (is_faulty (entry_of r n)) (neg_ℤ EINVAL) (neg_ℤ ECANCELED) (λ res. is_success (entry_of r n) res ≡ false) (λ _. never_success (entry_of r n) 21) (λ _. never_success (entry_of r n) 124)
 
 -- a cancel that ends with 0 found its target at rest
 result_tells : (r : Requests) (m : ℕ) → int_eq (result_for r (Some m)) (pos 0) ≡ true → is_running r m ≡ false

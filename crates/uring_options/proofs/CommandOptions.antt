@@ -1,5 +1,5 @@
 -- What the commands' options give, of words that clap finds no fault in.
-use Rattle.std.proofs.Common.{◌≡◌, ◌<◌, ◌≤◌, ℕ, Bool, true, false, List, [], ◌∷◌, Option, Some, None, refl, sym, subst, inl, inr, arith, true≢false}
+use Rattle.std.proofs.Common.{◌≡◌, ℕ, Bool, true, false, List, [], ◌∷◌, Option, Some, None, refl, sym, subst, inl, inr, true≢false}
 use Rattle.std.specs.Prelude.{codes, pos, option_map}
 use Rattle.std.specs.List.{find}
 use Rattle.std.specs.Option.{option_map_or}
@@ -9,7 +9,7 @@ use Rattle.clap.specs.Walk.{Row, Rule, Text, action_of, answers_to, nothing_held
 use Rattle.clap.specs.declared.builder.value_parser.ValueParser.TheVariants.{Signed}
 use Rattle.clap.specs.declared.builder.value_parser.ValueParser.TheVariants as vp
 use Rattle.clap.proofs.OnLiterals.{clap_on_literals}
-use Rattle.uring_options.specs.CommandLine.{uring, trace_app, explain_app, check_app, play_app, command_rows, Numbers, GivesNumbers, GivesWorkers, AreWorkers, IsGiven}
+use Rattle.uring_options.specs.CommandLine.{uring, trace_app, explain_app, check_app, play_app, command_rows, Numbers, GivesNumbers, GivesWorkers, IsGiven}
 use Rattle.uring_options.proofs.Numbers.{HasParser, option_given, flag_given}
 use Rattle.uring_options.proofs.Walks.{Each, Among, found_among, IsRowOf, neither_fails, rows_of_rules, sets_or_helps}
 

@@ -8,10 +8,6 @@ use Rattle.uring_entry.proofs.CompletionWords.{same_words}
 use Rattle.uring_trace.specs.Spelling.{Form, IsEntryOf}
 use Rattle.uring_trace.specs.Spelling as form
 
--- a word is determined by its bytes
-word_once : (a b : ℕ) → a < 2 ^ 64 → b < 2 ^ 64 → to_le_bytes w64 a ≡ to_le_bytes w64 b → a ≡ b
-word_once a b ha hb e = sym (from_le_bytes-to_le_bytes_8 a ha) ∙ ap (from_le_bytes w64) e ∙ from_le_bytes-to_le_bytes_8 b hb
-
 -- the first eight words, and the bytes of the others
 data_once : (a b first bytes : List ℕ) → HasData a first bytes → HasData b first bytes → a ≡ b
 data_once a b first bytes h k =

@@ -16,7 +16,9 @@ use Rattle.uring_machine.specs.declared.step.Step.TheVariants as step
 use Rattle.uring_machine.specs.declared.answer.Answer.{Answer}
 use Rattle.uring_machine.specs.declared.answer.Answer.TheVariants as answer
 use Rattle.uring_machine.proofs.Outstanding.{ended_less, none_outstanding, count_below-zero}
-use Rattle.uring_machine.proofs.Settling.{answer_ends, next_tells}
+use Rattle.uring_machine.proofs.Settling.{next_tells}
+use Rattle.uring_machine.proofs.RequestLaws.{issue_goes, issued_ends}
+use Rattle.uring_machine.specs.Laws.{IsIssued}
 use Rattle.uring_uses.specs.Simulations.{NoneRuns, HasRun, IsIdle}
 
 -- The next request.
@@ -56,10 +58,7 @@ issuable_waits r n issuable =
 -- what is issued next and doesn't run, ends
 pub issue_ends : (w : World) (n : ℕ) (a : Answer) → is_issuable w.requests n ≡ true → a ≡ issue_answer w n → (a ≡ answer.Run → ⊥)
     → IsEnded a
-issue_ends w n a issuable is other =
-    let r : Requests = w.requests in
-    let waits = issuable_waits r n issuable in
-    answer_ends (is_outstanding r n) (is_running r n) (is_doomed r n) (is_ready r n) (is_cancel (entry_of r n)) (doomed_result r n) (cancel_result r n) a waits.outstanding waits.unstarted waits.free is other
+issue_ends w n a issuable is other = issued_ends a (subst IsIssued (sym is) (issue_goes w n issuable)) other
 
 -- Nothing runs afterwards.
 
