@@ -55,7 +55,7 @@ sends_close ms are_whole open' =
     let is : ms ++ close_mark ∷ [] ≡ messages_of (with_close (put_of ms)) = ap (λ l. l ++ close_mark ∷ []) (open_calls ms are_whole open') in
     record { put = stands _ (with_close (put_of ms)) (some-calls_of ms) is; whole = whole _ (with_close (put_of ms)) (some-calls_of ms) is }
 
-pub or_assoc : (a b c : Bool) → a || (b || c) ≡ (a || b) || c
+or_assoc : (a b c : Bool) → a || (b || c) ≡ (a || b) || c
 or_assoc true b c = refl
 or_assoc false b c = refl
 

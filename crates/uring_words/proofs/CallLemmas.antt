@@ -4,7 +4,6 @@ use Rattle.std.proofs.lemmas.Bool.{false≢true}
 use Rattle.uring_threads.specs.declared.item.Item.{Item}
 use Rattle.uring_threads.specs.Messages.{with_first}
 use Rattle.uring_threads.specs.Ports.{Put, items_of_calls, places_of, with_call, with_close, LeavesItems}
-use Rattle.uring_threads.proofs.MessageSteps.{or_assoc}
 use Rattle.uring_words.specs.Submission.Calls.{item_of, with_item, calls_of, has_close_mark, put_of, items_of, AreWholeFrom, AreWhole, AllGoOn}
 use Rattle.uring_words.specs.Submission.Layout.{closes, ends_call}
 use Rattle.uring_words.specs.declared.submission.view.Position.{Position}
@@ -12,6 +11,10 @@ use Rattle.uring_words.specs.declared.submission.view.Position.{Position}
 or_false : (a b : Bool) → a || b ≡ false → (a ≡ false) × (b ≡ false)
 or_false true b h = absurd (false≢true (sym h))
 or_false false b h = (refl, h)
+
+or_assoc : (a b c : Bool) → a || (b || c) ≡ (a || b) || c
+or_assoc true b c = refl
+or_assoc false b c = refl
 
 pub close_mark-append : (xs ys : List Position) → has_close_mark (xs ++ ys) ≡ has_close_mark xs || has_close_mark ys
 close_mark-append [] ys = refl
