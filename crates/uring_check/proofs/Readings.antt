@@ -112,10 +112,6 @@ early_end fault.Write left other = absurd (other refl)
 stopped_at : (g : Rules) (all : Bool) (e : TraceFault) (a r d : Known) (bytes : List ℕ) → e ≢ fault.Write → Consumes a r bytes → IsChecked g all (Err e) a r d d
 stopped_at g all e a r d bytes other read = record { bytes = bytes; text = []; consumed = read; appended = Appends-nil d; written = nothing_said g all e bytes other; whole = early_end e r other }
 
--- nothing was read
-pub none_checked : (g : Rules) (all : Bool) (answer : Answer) (a d : Known) → answer ≡ Err fault.Memory → IsChecked g all answer a a d d
-none_checked g all answer a d is = subst (λ (x : Answer). IsChecked g all x a a d d) (sym is) (stopped_at g all fault.Memory a a d [] (memory_alone fault.Memory refl) (Consumes-nil a))
-
 -- not all was read
 pub part_checked : (g : Rules) (all : Bool) (answer : Answer) (e : TraceFault) (a r d : Known) (s : Reading) → answer ≡ Err e → ReadsIn g all (Err e) a r s → IsChecked g all answer a r d d
 part_checked g all answer e a r d s is so = subst (λ (x : Answer). IsChecked g all x a r d d) (sym is) (stopped_at g all e a r d so.0 so.2 so.1)

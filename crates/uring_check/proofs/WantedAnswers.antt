@@ -5,17 +5,15 @@ use Rattle.uring_entry.specs.Setup.{Setup}
 use Rattle.uring_entry.specs.declared.errno.TheConstants.{ENOMEM}
 use Rattle.uring_machine.specs.Core.{IsNoFinish}
 use Rattle.uring_machine.specs.Histories.{History, world}
-use Rattle.uring_machine.specs.StepAnswers.{CalledForApart, FinishesApart, IsEnded}
+use Rattle.uring_machine.specs.StepAnswers.{CalledForApart, FinishesApart}
 use Rattle.uring_machine.specs.World.{World}
 use Rattle.uring_machine.specs.declared.answer.Answer.{Answer}
 use Rattle.uring_machine.specs.declared.answer.Answer.TheVariants as answer
 use Rattle.uring_machine.specs.declared.step.Step.{Step}
 use Rattle.uring_machine.specs.declared.step.Step.TheVariants as step
-use Rattle.uring_machine.specs.Recorded.{IsWrong, resumed}
-use Rattle.uring_machine.specs.declared.wanted.Refusal.TheVariants as refusal
+use Rattle.uring_machine.specs.Recorded.{IsWrong}
 use Rattle.uring_machine.specs.declared.wanted.Wanted.{Wanted}
-use Rattle.uring_machine.specs.declared.wanted.Wanted.TheVariants.{Only, CallOrAgain, AnyEnd, EndOrNoMemory}
-use Rattle.uring_trace.specs.Spelling.{IsFile}
+use Rattle.uring_machine.specs.declared.wanted.Wanted.TheVariants.{Only, CallOrAgain, EndOrNoMemory}
 use Rattle.uring_trace.specs.Text.{text_of}
 use Rattle.uring_check.specs.Checking.{FitsBy, HasOneAnswer, IsEither, IsJudged, IsOneJudged, IsWanted, Judges, rules_of}
 use Rattle.uring_check.specs.Findings.{IsWrongText}
@@ -131,58 +129,3 @@ either_call length = record { meets = λ a h. h; one_meets = inl refl; other_mee
 
 pub either_end : (res : ℤ) → IsEither (EndOrNoMemory res) (answer.Ended res no_bytes) (answer.Ended (neg_ℤ ENOMEM) no_bytes)
 either_end res = record { meets = λ a h. h; one_meets = inl refl; other_meets = inr refl; nothing = λ s h. refl }
-
--- what a follower fits before either is made
-either_fits : (wanted : Wanted) (one other : Answer) (h : History) (m : Follower) (s : Step) → IsEither wanted one other → IsWanted h m s wanted → FitsBy m h
-either_fits wanted one other h m s e is = subst (λ (k : History). FitsBy m k) (e.nothing s h) is.1
-
-pub either_made : (wanted : Wanted) (one other x : Answer) (m m' : Follower) (s : Step) (text : List ℕ) → IsEither wanted one other → text_of x ≡ text → IsPlain x (rules_of m).is_apart s → ((h : History) → FitsBy m h → FitsBy m' ((s, x) ∷ h)) → (h : History) → IsWanted h m s wanted
-    → IsJudged (rules_of m) h m' s text None
-either_made wanted one other x m m' s text e same plain made = λ h is. (x, same, plain, made h (either_fits wanted one other h m s e is))
-
-pub either_wrong : (wanted : Wanted) (one other : Answer) (m : Follower) (s : Step) (text : List ℕ) → IsEither wanted one other → (text_of one ≡ text → ⊥) → (text_of other ≡ text → ⊥) → (h : History) → IsWanted h m s wanted → IsJudged (rules_of m) h m s text (Some wanted)
-either_wrong wanted one other m s text e not_one not_other = λ h is. (
-  record {
-    not_called = λ a c same plain. elim (e.meets a (is.0.called a c)) [
-      | inl is_one ↦ not_one (ap text_of (sym is_one) ∙ same)
-      | inr is_other ↦ not_other (ap text_of (sym is_other) ∙ same)
-    ];
-    called = is.0.called;
-    only = is.0.only;
-  },
-  is.1,
-)
-
--- ---- any end, apart from what operations give
-
-plain_end : (n : ℕ) (apart : Bool) (res : ℤ) → IsFile res → IsPlain (answer.Ended res no_bytes) apart (step.Finish n)
-plain_end n true res short = (short, refl)
-plain_end n false res short = tt
-
-pub end_made : (m m' : Follower) (n : ℕ) (text : List ℕ) (res : ℤ) → text_of (answer.Ended res no_bytes) ≡ text → IsFile res → ((h : History) → FitsBy m h → FitsBy m' ((step.Finish n, answer.Ended res no_bytes) ∷ h))
-    → (h : History) → IsWanted h m (step.Finish n) AnyEnd → IsJudged (rules_of m) h m' (step.Finish n) text None
-end_made m m' n text res same short made = λ h is. (answer.Ended res no_bytes, same, plain_end n (rules_of m).is_apart res short, made h is.1)
-
-no_end : (n : ℕ) (text : List ℕ) (a : Answer) → ((res : ℤ) → IsFile res → text_of (answer.Ended res no_bytes) ≡ text → ⊥) → IsEnded a → text_of a ≡ text → IsPlain a true (step.Finish n) → ⊥
-no_end n text (answer.Ended res bytes) none ended same plain = none res plain.0 same
-no_end n text _ none ended same plain = ended
-
-pub end_wrong : (m : Follower) (n : ℕ) (text : List ℕ) → (rules_of m).is_apart ≡ true → ((res : ℤ) → IsFile res → text_of (answer.Ended res no_bytes) ≡ text → ⊥)
-    → (h : History) → IsWanted h m (step.Finish n) AnyEnd → IsJudged (rules_of m) h m (step.Finish n) text (Some AnyEnd)
-end_wrong m n text apart none = λ h is. (
-  record {
-    not_called = λ a c same plain. no_end n text a none (is.0.called a c) same (subst (λ (b : Bool). IsPlain a b (step.Finish n)) apart plain);
-    called = is.0.called;
-    only = is.0.only;
-  },
-  is.1,
-)
-
--- ---- a step to which more than one answer may be called for
-
-pub open_judged : (old mid new : Follower) (s : Step) (text : List ℕ) (wanted : Wanted) (found : Option Wanted) → rules_of mid ≡ rules_of old
-    → ((h : History) → FitsBy old h → IsWrong (IsCalled (rules_of old) h s) answer.Filled wanted) → ((h : History) → FitsBy old h → FitsBy mid (resumed s (refusal.Wrong wanted) h))
-    → ((h : History) → IsWanted h mid s wanted → IsJudged (rules_of mid) h new s text found) → Judges old new s text found
-open_judged old mid new s text wanted found same wrong fits judged = λ h f.
-    subst (λ (g : Rules). IsJudged g h new s text found) same
-    (judged h (subst (λ (g : Rules). IsWrong (IsCalled g h s) answer.Filled wanted) (sym same) (wrong h f), fits h f))

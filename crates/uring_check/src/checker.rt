@@ -88,7 +88,7 @@ impl Checker {
     }
 
     /// Looks at a line.
-    #[tactic(auto, using(crate::proofs::Looking::on_ok_map, crate::proofs::Splitting::long_none, crate::proofs::Splitting::unsplit_none, crate::proofs::Splitting::recorded))]
+    #[tactic(auto, using(std::proofs::lemmas::Result::on_ok_weaker, crate::proofs::Splitting::long_none, crate::proofs::Splitting::unsplit_none, crate::proofs::Splitting::recorded))]
     fn look(&mut self, line: &KeptLine) -> Result<(), AllocError>
         requires { self.old.is_over ≡ false }
         ensures { OnOk result ((text : List ℕ) → line.now ≡ kept_of text → LooksAt self.old self.new text) }

@@ -28,9 +28,6 @@ pub record Accepts (w v : Window) (g h : Groups) (entry : Sqe) (request : Reques
 older : (w v : Window) (q : Request) (k : ℕ) (x : Request) → Changes w v (end_of w) (Some q) → at v k ≡ Some x → k ≢ end_of w → at w k ≡ Some x
 older w v q k x c is ne = sym (c.others k ne) ∙ is
 
-last-some : (g : Groups) (key : ℕ) (o : Option Group) → last_group g.records g.last ≡ o → is_some o ≡ is_some g.last → (q : Group) → o ≡ Some q → (k : ℕ) × (g.last ≡ Some k)
-last-some g key o e kept q is = is_some_value g.last (sym kept ∙ ap is_some is)
-
 -- the group that was joined, or the new one
 joined-kept : (w v : Window) (g h : Groups) (entry : Sqe) (request : Request) → IsSound w g → Accepts w v g h entry request → (o : Option Group) → last_group g.records g.last ≡ o → IsKept v (with_member o (end_of w) (is_drain entry) (is_faulty entry))
 joined-kept w v g h entry request s a None e = record {

@@ -12,7 +12,7 @@ use Rattle.uring_entry.specs.declared.operation.Op.{Op}
 use Rattle.uring_entry.specs.Preparation.{fault_of, is_faulty, operation_of}
 use Rattle.uring_entry.specs.Requests.{Requests, entry_of, has_started, has_ended, is_last, is_linked, is_drain, is_outstanding, is_running, with_accepted, outstanding_in, running_in}
 use Rattle.uring_entry.specs.Groups.{IsGroup, first_fault, first_drain, first_broken}
-use Rattle.uring_entry.proofs.RequestLemmas.{entry_of-accepted_at, entry_of-accepted_other}
+use Rattle.uring_entry.proofs.RequestLemmas.{entry_of-accepted_at, entry_of-accepted_other, or-false}
 use Rattle.uring_entry.proofs.GroupEvents.{group-accepted, group-joined, group-new, first_entry-accepted, first_entry-more, first_broken-accepted, first_broken-more, first_member-none}
 use Rattle.uring_dispatch.specs.declared.request.Request.{Request}
 use Rattle.uring_dispatch.specs.declared.group.Group.{Group}
@@ -125,10 +125,6 @@ running-same r entry none =
 not-linked : (b : Bool) (key : ℕ) → not (is_some (if b then Some key else None)) ≡ not b
 not-linked true key = refl
 not-linked false key = refl
-
-or-false : (b : Bool) → (b || false) ≡ b
-or-false true = refl
-or-false false = refl
 
 pub accept-held : (w v : Window) (g h : Groups) (r : Requests) (entry : Sqe) (request : Request) → IsSound w g → AreHeld w g r → Accepts w v g h entry request → request.entry ≡ entry → request.op ≡ op_of entry → request.is_cancelled ≡ false → request.is_running ≡ false → v.outstanding ≡ w.outstanding + 1 → v.running ≡ w.running → AreHeld v h (with_accepted r entry)
 accept-held w v g h r entry request s a c is does free waits outstanding running =

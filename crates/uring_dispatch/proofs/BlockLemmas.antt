@@ -159,14 +159,6 @@ filled-none s f i h e =
       | inr other ↦ absurd (both_ways _ e (h.places i ∙ ap not (ne_eqb (block_at s i) 0 other)))
     ]
 
-pub filled-covers : (s f : NumberSet) (n : ℕ) → IsFilled s f → Covers s n → Covers f (n / 64)
-filled-covers s f n h c =
-    let a = c.from in
-    let b = c.to in
-    let x = h.start in
-    let y = h.stop in
-    record { from = omega arith; to = omega arith }
-
 -- a number is put into the set
 pub insert-filled : (s t f g : NumberSet) (n : ℕ) → IsFilled s f → Puts s t n true → Puts f g (n / 64) true → IsFilled t g
 insert-filled s t f g n h p q =
@@ -244,10 +236,6 @@ limit-puts s t n now a b p same =
 pub limit-least : (s : NumberSet) (a n : ℕ) → IsLeastIn s n → IsLeastIn (record s { limit = a }) n
 unfolding holds
 limit-least s a n l = record { here = l.here; before = l.before }
-
-pub limit-holds : (s : NumberSet) (a n : ℕ) → holds (record s { limit = a }) n ≡ holds s n
-unfolding holds
-limit-holds s a n = refl
 
 pub positive : (n : ℕ) → n ≢ 0 → 0 < n
 positive n ne = elim (cases_lt 0 n) [ inl lt ↦ lt | inr le ↦ absurd (ne (omega arith)) ]

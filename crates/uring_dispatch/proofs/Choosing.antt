@@ -5,14 +5,14 @@ use Rattle.std.specs.List.{list_any}
 use Rattle.std.specs.Option.{option_to_list}
 use Rattle.std.proofs.lemmas.List.{append-nil, append_assoc}
 use Rattle.std.proofs.lemmas.List.Folds.{list_any-append}
-use Rattle.std.proofs.lemmas.Bool.{cases_eq, and_left, and_parts, le-leb}
+use Rattle.std.proofs.lemmas.Bool.{cases_eq, and_left}
 use Rattle.uring_entry.specs.Layout.{Sqe, addr_of, user_data_of}
 use Rattle.uring_entry.specs.Preparation.{is_cancel, is_cancel_all}
 use Rattle.uring_entry.specs.Success.{is_success}
 use Rattle.uring_entry.specs.Below.{all_below}
 use Rattle.uring_entry.specs.Requests.{Requests, entry_of, is_joined, some_member, is_in_faulty_group, is_behind_failure, is_cancelled, is_doomed, is_running, is_outstanding, is_target, target_of, targets_of, choices_of, count_result, chosen_by, cancel_result, result_for, no_bytes, with_cancelled, with_ended, with_issued_end}
 use Rattle.uring_entry.proofs.BelowLemmas.{all_below-past, all_below-none}
-use Rattle.uring_entry.proofs.RequestLemmas.{one_success, all_success, never_success}
+use Rattle.uring_entry.proofs.RequestLemmas.{one_success, all_success, never_success, or-false}
 use Rattle.uring_dispatch.specs.declared.request.Request.{Request}
 use Rattle.uring_dispatch.specs.Window.{Window, at, runs, Changes, chosen, IsAsBefore, HasSameRequests}
 use Rattle.uring_dispatch.specs.Groups.{Groups}
@@ -54,14 +54,6 @@ one_chosen r n m is one chose =
     ∙ ap (λ b. if b then choices_of r n else []) (one_success (entry_of r n) (pos 0) is one)
     ∙ ap (λ b. if b then targets_of r n else option_to_list (target_of r n)) one
     ∙ ap option_to_list chose
-
--- a cancel of all that ends with a number dooms its targets
-pub all_chosen : (r : Requests) (n count : ℕ) → is_cancel_all (entry_of r n) ≡ true → chosen_by r n (pos count) ≡ targets_of r n
-all_chosen r n count all =
-    let is = (and_parts _ _ all).0 in
-    ap (λ b. if b && is_success (entry_of r n) (pos count) then choices_of r n else []) is
-    ∙ ap (λ b. if b then choices_of r n else []) (all_success (entry_of r n) (pos count) all ∙ le-leb 0 count (omega arith))
-    ∙ ap (λ b. if b then targets_of r n else option_to_list (target_of r n)) all
 
 -- a cancel succeeds with a number
 pub cancel_succeeds : (r : Requests) (n : ℕ) → is_cancel (entry_of r n) ≡ true → is_success (entry_of r n) (cancel_result r n) ≡ int_le (pos 0) (cancel_result r n)
@@ -146,10 +138,6 @@ runs-held w g r m h = go (at w m) refl
 -- what a cancel ends with that chose m, by whether m is running
 pub result-some : (r : Requests) (m : ℕ) (o : Option ℕ) (b : Bool) → Some m ≡ o → is_running r m ≡ b → (if b then negsuc 113 else pos 0) ≡ result_for r o
 result-some r m o b e runs = ap (λ x. if x then negsuc 113 else pos 0) (sym runs) ∙ ap (result_for r) e
-
-or-false : (b : Bool) → (b || false) ≡ b
-or-false true = refl
-or-false false = refl
 
 -- who isn't among those chosen stays as it was
 doomed-still : (r : Requests) (these : List ℕ) (m : ℕ) → list_any (λ k. k == m) these ≡ false → is_doomed (with_cancelled r these) m ≡ is_doomed r m

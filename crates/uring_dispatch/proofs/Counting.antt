@@ -25,13 +25,6 @@ count_below-changed p q (suc n) k lt h =
           omega arith
     ]
 
-pub count_below-none : (p : ℕ → Bool) (n : ℕ) → ((k : ℕ) → k < n → p k ≡ false) → count_below p n ≡ 0
-count_below-none p zero h = refl
-count_below-none p (suc n) h =
-    let before = count_below-none p n (λ k lt. h k (omega arith)) in
-    let here : one_if (p n) ≡ 0 = ap one_if (h n (omega arith)) in
-    omega arith
-
 pub count_below-within : (p : ℕ → Bool) (n : ℕ) → count_below p n ≤ n
 count_below-within p zero = omega arith
 count_below-within p (suc n) =

@@ -4,8 +4,8 @@ use Rattle.std.specs.Prelude.{if◌then◌else◌}
 use Rattle.uring_entry.specs.declared.operation.Op.{Op}
 use Rattle.uring_entry.specs.declared.operation.Op.TheVariants.{Nop, Read, Write, Fsync, Cancel}
 use Rattle.uring_entry.specs.Preparation.{is_faulty, operation_of}
-use Rattle.uring_entry.specs.Requests.{Requests, entry_of, is_running, target_of}
-use Rattle.uring_dispatch.specs.declared.answers.Found.TheVariants.{Nobody, Running, Chosen}
+use Rattle.uring_entry.specs.Requests.{Requests, entry_of, target_of}
+use Rattle.uring_dispatch.specs.declared.answers.Found.TheVariants.{Nobody}
 use Rattle.uring_dispatch.specs.declared.request.Request.{Request}
 use Rattle.uring_dispatch.specs.Window.{Window, at}
 use Rattle.uring_dispatch.specs.Groups.{Groups}
@@ -43,6 +43,3 @@ finds-other r n (Cancel t all) other = absurd (other t all refl)
 -- by the request that it may choose
 pub found-none : (r : Requests) (n : ℕ) → None ≡ target_of r n → Nobody ≡ found_as r (target_of r n)
 found-none r n e = ap (found_as r) e
-
-pub found-some : (r : Requests) (n m : ℕ) (b : Bool) → Some m ≡ target_of r n → is_running r m ≡ b → (if b then Running m else Chosen m) ≡ found_as r (target_of r n)
-found-some r n m b e runs = ap (λ x. if x then Running m else Chosen m) (sym runs) ∙ ap (found_as r) e

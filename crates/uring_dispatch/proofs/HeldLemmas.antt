@@ -1,10 +1,11 @@
 -- How an outstanding request stands, from what is held.
 use Rattle.std.proofs.Common.{◌≡◌, ◌≢◌, ℕ, ◌<◌, ◌≤◌, length, Bool, true, false, not, ◌&&◌, ◌||◌, Option, Some, None, is_some, refl, sym, ◌∙◌, ap, subst, arith, inl, inr}
-use Rattle.std.proofs.lemmas.Bool.{cases_lt, cases_eq, and_from, and_left, and_right, or_left, both_ways, lt-ltb, le-ltb, eq-eqb, ne_eqb, not-true, not-false, false≢true}
+use Rattle.std.proofs.lemmas.Bool.{cases_lt, cases_eq, and_from, and_left, and_right, both_ways, lt-ltb, le-ltb, eq-eqb, ne_eqb, false≢true}
 use Rattle.uring_entry.specs.Requests.{Requests, entry_of, has_started, has_ended, is_outstanding, is_running, is_cancelled, is_draining, is_doomed, is_ready, is_issuable, is_candidate}
 use Rattle.uring_entry.specs.Layout.{user_data_of, addr_of}
 use Rattle.uring_entry.specs.Groups.{is_before, first_broken}
-use Rattle.uring_entry.proofs.GroupLemmas.{draining-is, doomed-is, ready-yes, ready-not_member, ready-not_alone, ready-not_behind, groups-apart, first_member-inside}
+use Rattle.uring_entry.proofs.GroupLemmas.{draining-is, doomed-is, ready-yes, ready-not_member, ready-not_alone, ready-not_behind, groups-apart, first_member-inside, and-true}
+use Rattle.uring_entry.proofs.RequestLemmas.{or-false}
 use Rattle.uring_dispatch.specs.declared.request.Request.{Request}
 use Rattle.uring_dispatch.specs.declared.group.Group.{Group}
 use Rattle.uring_dispatch.specs.Window.{Window, at, HasBefore}
@@ -164,10 +165,6 @@ pub outstanding-some : (w : Window) (g : Groups) (r : Requests) (n : ℕ) (q : R
 outstanding-some w g r n q s h e =
     and_from _ _ (lt-ltb n (length r.accepted) (shown-within w g r n q s h e)) (ap not (h.shown n q e).unended)
 
-and-true : (b : Bool) → (b && true) ≡ b
-and-true true = refl
-and-true false = refl
-
 pub running-some : (w : Window) (g : Groups) (r : Requests) (n : ℕ) (q : Request) → AreHeld w g r → at w n ≡ Some q → is_running r n ≡ q.is_running
 running-some w g r n q h e =
     let shown = h.shown n q e in
@@ -180,32 +177,13 @@ running-none w g r n h e =
       | inr le ↦ and_left _ _ (h.untouched n le).started
     ]
 
-pub issuable-none : (w : Window) (g : Groups) (r : Requests) (n : ℕ) → AreHeld w g r → at w n ≡ None → is_issuable r n ≡ false
-issuable-none w g r n h e = and_left _ _ (and_left _ _ (outstanding-none w g r n h e))
-
 pub issuable-some : (w : Window) (g : Groups) (r : Requests) (n : ℕ) (q : Request) → IsSound w g → AreHeld w g r → at w n ≡ Some q → is_issuable r n ≡ (not q.is_running && (is_doomed r n || is_ready r n))
 issuable-some w g r n q s h e =
     ap (λ b. (b && not (is_running r n)) && (is_doomed r n || is_ready r n)) (outstanding-some w g r n q s h e)
     ∙ ap (λ b. not b && (is_doomed r n || is_ready r n)) (running-some w g r n q h e)
 
-pub issuable-doomed : (a b c : Bool) → a ≡ false → b ≡ true → (not a && (b || c)) ≡ true
-issuable-doomed a b c x y = ap (λ v. not v && (b || c)) x ∙ or_left b c y
-
-pub issuable-free : (a b c : Bool) → a ≡ false → b ≡ false → (not a && (b || c)) ≡ c
-issuable-free a b c x y = ap (λ v. not v && (b || c)) x ∙ ap (λ v. v || c) y
-
-or-false : (b : Bool) → (b || false) ≡ b
-or-false true = refl
-or-false false = refl
-
 pub doomed-rest : (a b c : Bool) → a ≡ false → c ≡ false → ((a || b) || c) ≡ b
 doomed-rest a b c x y = ap (λ v. (v || b) || c) x ∙ ap (λ v. b || v) y ∙ or-false b
-
-pub none-some : (o : Option ℕ) → not (is_some o) ≡ true → is_some o ≡ true → ⊥
-none-some o a b = both_ways _ (not-true _ a) b
-
-pub none-not : (o : Option ℕ) → not (is_some o) ≡ false → is_some o ≡ true
-none-not o a = not-false _ a
 
 -- What a cancel may choose.
 

@@ -46,17 +46,6 @@ issued-faulty r n lt faulty =
 pub issued-doomed : (r : Requests) (n : ℕ) → is_doomed r n ≡ true → is_faulty (entry_of r n) ≡ false → Ended (negsuc 124) ≡ issued_waiting r n
 issued-doomed r n doomed right = sym (doomed-answer r n doomed ∙ ap (λ b. Ended (if b then negsuc 21 else negsuc 124)) right)
 
-pub issued-waits : (r : Requests) (n : ℕ) → is_doomed r n ≡ false → is_ready r n ≡ false → NotReady ≡ issued_waiting r n
-issued-waits r n free waits =
-    sym
-    (ap
-    (λ b.
-    if b then Ended (doomed_result r n) else
-    if not (is_ready r n) then NotReady else
-    if is_cancel (entry_of r n) then Ended (cancel_result r n) else Run (operation_of (entry_of r n)))
-    free
-    ∙ ap (λ b. if not b then NotReady else if is_cancel (entry_of r n) then Ended (cancel_result r n) else Run (operation_of (entry_of r n))) waits)
-
 -- what is neither doomed nor held back
 issued-ready : (r : Requests) (n : ℕ) → is_doomed r n ≡ false → is_ready r n ≡ true → issued_waiting r n ≡ (if is_cancel (entry_of r n) then Ended (cancel_result r n) else Run (operation_of (entry_of r n)))
 issued-ready r n free ready =
@@ -110,15 +99,6 @@ issued-run r n op free ready does other =
     ]
 
 -- The order of the tests.
-
-pub issued-unknown : (r : Requests) (n : ℕ) → is_outstanding r n ≡ false → Unknown ≡ issued r n
-issued-unknown r n e = sym (ap (λ b. if not b then Unknown else if is_running r n then Running else issued_waiting r n) e)
-
-pub issued-running : (r : Requests) (n : ℕ) → is_outstanding r n ≡ true → is_running r n ≡ true → Running ≡ issued r n
-issued-running r n a b =
-    sym
-    (ap (λ x. if not x then Unknown else if is_running r n then Running else issued_waiting r n) a
-    ∙ ap (λ x. if x then Running else issued_waiting r n) b)
 
 pub issued-else : (r : Requests) (n : ℕ) → is_outstanding r n ≡ true → is_running r n ≡ false → issued_waiting r n ≡ issued r n
 issued-else r n a b =

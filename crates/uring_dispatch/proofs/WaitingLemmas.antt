@@ -84,10 +84,6 @@ stands-same w v g k e = record { head = ap (λ o. waits_at_head g o k) e; doomed
 pub told-before : (w v : Window) (g h : Groups) (s : Waiting) (k : ℕ) → IsListedAt w g s k → StandsAsBefore w v g h k → IsListedAt v h s k
 told-before w v g h s k t b = record { head = t.head ∙ sym b.head; doomed = t.doomed ∙ sym b.doomed }
 
-before-none : (o : Option ℕ) (k : ℕ) → o ≡ None → is_before o k ≡ true → ⊥
-before-none None k e is = false≢true is
-before-none (Some m) k e is = cc
-
 -- an end that fails changes who is behind a failure only among those behind it that weren't
 pub before-earlier : (o : Option ℕ) (b : Bool) (n k : ℕ) → (b ≡ true → (k < n) ⊎ (is_before o k ≡ true)) → is_before (earlier_of o b n) k ≡ is_before o k
 before-earlier None false n k h = refl

@@ -6,16 +6,14 @@ use Rattle.uring_dispatch.specs.declared.request.Request.{Request}
 use Rattle.uring_entry.specs.Below.{count_below}
 use Rattle.uring_dispatch.specs.Window.{Window, key_at, found_by, at, end_of, runs, one_if, IsWindow, Changes}
 use Rattle.uring_dispatch.proofs.Counting.{count_below-same, count_below-changed}
-use Rattle.uring_dispatch.proofs.WindowLemmas.{some_none, key_at-within, key_at-push_here, key_at-push_other, key_at-set_here, key_at-set_other, at-keyed, at-key}
+use Rattle.uring_dispatch.proofs.WindowLemmas.{key_at-within, key_at-push_here, key_at-push_other, key_at-set_here, key_at-set_other, at-keyed, at-key}
+use Rattle.uring_dispatch.proofs.HeldLemmas.{some_none, same_some}
 
 -- What the changes of the window keep.
 
 found-other : (was now : List (Option Request)) (key : ℕ) (o : Option ℕ) → ((k : ℕ) → k ≢ key → get_or now k None ≡ get_or was k None) → ((k : ℕ) → o ≡ Some k → k ≢ key) → found_by now o ≡ found_by was o
 found-other was now key None h ne = refl
 found-other was now key (Some k) h ne = h k (ne k refl)
-
-same_some : {X : Type 0} (a b : X) → Some a ≡ Some b → a ≡ b
-same_some a b e = cc
 
 -- what a request of a new key leaves as it was
 unused : (w : Window) (key n k : ℕ) → IsWindow w → get_or w.requests key None ≡ None → key_at w.first w.keys n ≡ Some k → k ≢ key

@@ -6,8 +6,9 @@ use Rattle.uring_dispatch.specs.Window.{Window, key_at, found_by, at, end_of, ru
 use Rattle.std.specs.Option.{option_to_list}
 use Rattle.std.specs.Prelude.{IfSome}
 use Rattle.uring_dispatch.proofs.Counting.{count_below-some, count_below-within}
-use Rattle.uring_dispatch.proofs.WindowLemmas.{key_at-low, key_at-high, key_at-past, some_none, key_at-within, at-keyed}
+use Rattle.uring_dispatch.proofs.WindowLemmas.{key_at-low, key_at-high, key_at-past, key_at-within, at-keyed}
 use Rattle.uring_dispatch.proofs.WindowEvents.{write-window}
+use Rattle.uring_dispatch.proofs.HeldLemmas.{some_none, is_some_value}
 
 -- The front.
 
@@ -64,10 +65,6 @@ by_key w n key e = at-keyed w n (Some key) e
 pub found-key : (w : Window) (n : ℕ) (o : Option ℕ) → IsWindow w → key_at w.first w.keys n ≡ o → IfSome o (λ key. is_some (found_by w.requests (Some key)) ≡ true)
 found-key w n None i e = tt
 found-key w n (Some key) i e = i.present n key e
-
-is_some_value : {X : Type 0} (o : Option X) → is_some o ≡ true → (q : X) × (o ≡ Some q)
-is_some_value None e = absurd (false≢true e)
-is_some_value (Some q) e = (q, refl)
 
 pub running-fits : (w : Window) → IsWindow w → w.running + 1 < 2 ^ 64
 running-fits w i = let few = count_below-within (λ n. runs (at w n)) (end_of w) in omega (arith, i.counted, i.fits)

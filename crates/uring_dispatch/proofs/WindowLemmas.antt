@@ -6,6 +6,7 @@ use Rattle.std.proofs.lemmas.List.{get_or_past, get_or-set_same, get_or-set_othe
 use Rattle.std.proofs.Math.Seq.{get_or-append_seam}
 use Rattle.uring_entry.proofs.RequestLemmas.{get_or-push_other}
 use Rattle.uring_dispatch.specs.Window.{Window, key_at, found_by, at}
+use Rattle.uring_dispatch.proofs.HeldLemmas.{some_none}
 
 pub key_at-low : (first : ℕ) (keys : List (Option ℕ)) (n : ℕ) → n < first → key_at first keys n ≡ None
 unfolding key_at
@@ -17,9 +18,6 @@ key_at-high first keys n le = ap (λ b. if b then None else get_or keys (n - fir
 
 pub key_at-past : (first : ℕ) (keys : List (Option ℕ)) (n : ℕ) → first + length keys ≤ n → key_at first keys n ≡ None
 key_at-past first keys n le = key_at-high first keys n (omega arith) ∙ get_or_past keys (n - first) None (omega arith)
-
-pub some_none : {X : Type 0} {P : Type 0} (x : X) (o : Option X) → o ≡ None → o ≡ Some x → P
-some_none x o a b = cc
 
 -- a number with a key lies in the window
 pub key_at-within : (first : ℕ) (keys : List (Option ℕ)) (n key : ℕ) → key_at first keys n ≡ Some key → (first ≤ n) × (n < first + length keys)

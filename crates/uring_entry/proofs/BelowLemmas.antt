@@ -164,10 +164,3 @@ all_below-none p (suc n) h =
 -- one at or past the bound isn't
 pub all_below-past : (p : ℕ → Bool) (n m : ℕ) → n ≤ m → list_any (λ k. k == m) (all_below p n) ≡ false
 all_below-past p n m le = false_from_ne_true _ (λ there. let lt = (all_below-in p n m there).0 in omega (arith, le))
-
--- two tests that agree below the bound
-pub all_below-same : (p q : ℕ → Bool) (n : ℕ) → ((k : ℕ) → k < n → p k ≡ q k) → all_below p n ≡ all_below q n
-all_below-same p q zero h = refl
-all_below-same p q (suc n) h =
-    ap (λ xs. xs ++ cond (p n) (n ∷ []) []) (all_below-same p q n (λ k lt. h k (omega arith)))
-    ∙ ap (λ b. all_below q n ++ cond b (n ∷ []) []) (h n (omega arith))

@@ -6,9 +6,6 @@ use Rattle.std.proofs.lemmas.Int.{of_z-to_z}
 use Rattle.std.specs.Int.{w32, w64, cast_signed, cast_unsigned, to_le_bytes, from_le_bytes}
 use Rattle.uring_entry.specs.Layout.{Cqe, AreWords, bytes_of, HasWords, completion_of, without_flags}
 
-eight_bytes : (x : ℕ) → length (to_le_bytes w64 x) ≡ 8
-eight_bytes x = refl
-
 first_eight : (x y : ℕ) (r s : List ℕ) → to_le_bytes w64 x ++ r ≡ to_le_bytes w64 y ++ s → to_le_bytes w64 x ≡ to_le_bytes w64 y
 first_eight x y r s e = cc
 

@@ -35,7 +35,7 @@ is_joined-inside r m n k joined le lt =
       | inr inside ↦ inside
     ]
 
-or-false : (b : Bool) → (b || false) ≡ b
+pub or-false : (b : Bool) → (b || false) ≡ b
 or-false true = refl
 or-false false = refl
 
@@ -52,13 +52,6 @@ is_doomed-behind r n e = or_left _ _ (or_right _ _ e)
 pub is_doomed-cancelled : (r : Requests) (n : ℕ) → is_cancelled r n ≡ true → is_doomed r n ≡ true
 unfolding is_doomed
 is_doomed-cancelled r n e = or_right _ _ e
-
-pub is_doomed-else : (r : Requests) (n : ℕ) → is_cancelled r n ≡ false → is_behind_failure r n ≡ false
-    → is_doomed r n ≡ is_in_faulty_group r n
-unfolding is_doomed
-is_doomed-else r n c b =
-    ap (λ x. (is_in_faulty_group r n || is_behind_failure r n) || x) c
-    ∙ ap (λ x. (is_in_faulty_group r n || x) || false) b ∙ or-false _ ∙ or-false _
 
 -- a request is in its own group
 pub is_in_own_group : (r : Requests) (n : ℕ) → is_in_group r n n ≡ true
@@ -151,7 +144,7 @@ least_of-goes_on r n e =
 
 -- What each event changes.
 
-list_any-push : {X : Type 0} (p : X → Bool) (xs : List X) (x : X) → list_any p (xs ++ x ∷ []) ≡ (list_any p xs || p x)
+pub list_any-push : {X : Type 0} (p : X → Bool) (xs : List X) (x : X) → list_any p (xs ++ x ∷ []) ≡ (list_any p xs || p x)
 list_any-push p xs x = list_any-append p xs (x ∷ []) ∙ ap (λ b. list_any p xs || b) (or-false (p x))
 
 -- an element is added at the end that the test at k passes, or that it doesn't

@@ -126,16 +126,6 @@ told-as r n why e = subst (IsTold r n) e (told r n)
 
 -- What is told, by what is so.
 
-pub why-never : (r : Requests) (n : ℕ) → length r.accepted ≤ n → why_of r n ≡ NeverAccepted
-why-never r n le = ap (from_given r n) (le-ltb n (length r.accepted) le)
-
-pub why-ended : (r : Requests) (n : ℕ) → n < length r.accepted → has_ended r n ≡ true → why_of r n ≡ HasEnded
-why-ended r n lt over = ap (from_given r n) (lt-ltb n (length r.accepted) lt) ∙ ap (from_ended r n) over
-
-pub why-runs : (r : Requests) (n : ℕ) → n < length r.accepted → has_ended r n ≡ false → is_running r n ≡ true → why_of r n ≡ Runs
-why-runs r n lt going runs =
-    ap (from_given r n) (lt-ltb n (length r.accepted) lt) ∙ ap (from_ended r n) going ∙ ap (from_running r n) runs
-
 why-still : (r : Requests) (n : ℕ) → StillWaits r n → why_of r n ≡ from_doomed r n (is_doomed r n)
 why-still r n s =
     ap (from_given r n) (lt-ltb n (length r.accepted) s.given) ∙ ap (from_ended r n) s.unended ∙ ap (from_running r n) s.unstarted

@@ -10,7 +10,7 @@ use Rattle.uring_entry.specs.Submission.{Call, Place, taken, is_busy, is_full, c
 use Rattle.uring_entry.specs.Requests.{entry_of, is_outstanding, is_running, is_doomed, is_ready, doomed_result, cancel_result, no_bytes}
 use Rattle.uring_entry.specs.Completions.{next_to_reap}
 use Rattle.uring_machine.specs.World.{World, happens}
-use Rattle.uring_machine.specs.StepAnswers.{CalledForApart, OrAgain, FinishesApart, entry_answer, place_answer, take_answer_in, end_answer_in, reap_answer_of, next_answer_of}
+use Rattle.uring_machine.specs.StepAnswers.{CalledForApart, OrAgain, FinishesApart, entry_answer, place_answer, take_answer_in, end_answer_in, reap_answer_of, next_answer_of, is_spent}
 use Rattle.uring_machine.specs.Histories.{Event}
 use Rattle.uring_machine.specs.Direct.{started_by, end_told_by, reaped_by, staged_by, filled_by, entry_taken_by, takes_position, opened_by, opens_call, accepted_by, closes_call, closes_ring, is_store_tail, is_load_head, is_flush, is_load_cq_tail, is_store_cq_head}
 use Rattle.uring_machine.specs.Laws.{takes_in}
@@ -47,11 +47,11 @@ pub data Change (g : Setup) (w : World) : Step → Answer → Type 0 where
   stages : (word : ℕ) → is_full g.sq w.submission ≡ false → Change g w (step.Index word) answer.Staged
   stores : (tail : ℕ) → Change g w step.StoreTail (answer.Tail tail)
   loads : (head : ℕ) → Change g w step.LoadHead (answer.Head head)
-  begins : (count : ℕ) → w.is_closed ≡ false → w.submission.call ≡ None → Change g w (step.Begin count) (answer.Call (call_length w.submission count))
+  begins : (count : ℕ) → w.is_closed ≡ false → w.submission.call ≡ None → is_spent w (call_length w.submission count) ≡ false → Change g w (step.Begin count) (answer.Call (call_length w.submission count))
   takes : (entry : Sqe) (call : Call) (place : Place) → w.submission.call ≡ Some call → eqb call.taken call.count ≡ false → slice_get w.submission.published (taken w.submission + call.taken) ≡ Some place → place.entry ≡ Some entry → Change g w step.Take (answer.Entry entry)
   drops : (call : Call) (place : Place) → w.submission.call ≡ Some call → eqb call.taken call.count ≡ false → slice_get w.submission.published (taken w.submission + call.taken) ≡ Some place → place.entry ≡ None → Change g w step.Take answer.Dropped
   closes : (accepted missed head : ℕ) (call : Call) → w.submission.call ≡ Some call → nat_lt call.taken call.count ≡ false → accepted ≡ length (entries_of (places_from w.submission call.count)) → Change g w step.End (answer.Taken accepted missed head)
-  runs : (n : ℕ) → is_outstanding w.requests n ≡ true → is_running w.requests n ≡ false → is_doomed w.requests n ≡ false → is_ready w.requests n ≡ true → Change g w (step.Issue n) answer.Run
+  runs : (n : ℕ) → is_outstanding w.requests n ≡ true → is_running w.requests n ≡ false → is_doomed w.requests n ≡ false → is_ready w.requests n ≡ true → is_cancel (entry_of w.requests n) ≡ false → Change g w (step.Issue n) answer.Run
   dooms : (n : ℕ) → is_outstanding w.requests n ≡ true → is_running w.requests n ≡ false → is_doomed w.requests n ≡ true → Change g w (step.Issue n) (answer.Ended (doomed_result w.requests n) no_bytes)
   cancels : (n : ℕ) → is_outstanding w.requests n ≡ true → is_running w.requests n ≡ false → is_doomed w.requests n ≡ false → is_ready w.requests n ≡ true → is_cancel (entry_of w.requests n) ≡ true → Change g w (step.Issue n) (answer.Ended (cancel_result w.requests n) no_bytes)
   finishes : (n : ℕ) (res : ℤ) (bytes : List ℕ) → is_running w.requests n ≡ true → Change g w (step.Finish n) (answer.Ended res bytes)
@@ -60,6 +60,10 @@ pub data Change (g : Setup) (w : World) : Step → Answer → Type 0 where
   reaps : (completion : Cqe) → next_to_reap w.completions ≡ Some completion → Change g w step.Reap (answer.Reaped completion)
   stores_head : (head : ℕ) → Change g w step.StoreCqHead (answer.Head head)
   shuts : w.submission.call ≡ None → Change g w step.Close answer.Shut
+
+pub not_some : {A : Type 0} (o : Option A) → is_some o ≡ false → o ≡ None
+not_some None e = refl
+not_some (Some x) e = cc
 
 -- A refusal tells nothing, as it computes.
 module _ (g : Setup) (w : World) where
@@ -75,17 +79,11 @@ module _ (g : Setup) (w : World) where
   again : (count : ℕ) → Change g w (step.Begin count) answer.Again
   again count = refuses _ _ (λ v. refl) (search rules)
 
-  no_call : (call : Option Call) → is_some call ≡ false → call ≡ None
-  no_call None e = refl
-  no_call (Some call) e = cc
-
-  begin_of : (count : ℕ) (a : Answer) (is_closed in_call spent : Bool) → w.is_closed ≡ is_closed → is_some w.submission.call ≡ in_call
+  begin_of : (count : ℕ) (a : Answer) (is_closed in_call spent : Bool) → w.is_closed ≡ is_closed → is_some w.submission.call ≡ in_call → is_spent w (call_length w.submission count) ≡ spent
       → OrAgain (if is_closed then answer.Closed else (if in_call then answer.InCall else (if spent then answer.Spent else answer.Call (call_length w.submission count)))) a → Change g w (step.Begin count) a
-  begin_of count a true in_call spent e f h = subst (Change g w (step.Begin count)) (sym h) (refuses _ _ (λ v. refl) (search rules))
-  begin_of count a false true spent e f h = subst (Change g w (step.Begin count)) (sym h) (refuses _ _ (λ v. refl) (search rules))
-  begin_of count a false false true e f h = subst (Change g w (step.Begin count)) (sym h) (refuses _ _ (λ v. refl) (search rules))
-  begin_of count a false false false e f (inl h) = subst (Change g w (step.Begin count)) (sym h) (begins count e (no_call w.submission.call f))
-  begin_of count a false false false e f (inr h) = subst (Change g w (step.Begin count)) (sym h.0) (again count)
+  begin_of count a false false false e f k (inl h) = subst (Change g w (step.Begin count)) (sym h) (begins count e (not_some w.submission.call f) k)
+  begin_of count a false false false e f k (inr h) = subst (Change g w (step.Begin count)) (sym h.0) (again count)
+  begin_of count a _ _ _ e f k h = subst (Change g w (step.Begin count)) (sym h) (refuses _ _ (λ v. refl) (search rules))
 
   place_of : (call : Call) (place : Option Place) → w.submission.call ≡ Some call → eqb call.taken call.count ≡ false → slice_get w.submission.published (taken w.submission + call.taken) ≡ place → Change g w step.Take (place_answer place)
   place_of call None e f h = refuses _ _ (λ v. refl) (search rules)
@@ -115,12 +113,10 @@ module _ (g : Setup) (w : World) where
   issue_of : (n : ℕ) (outstanding running doomed ready cancel : Bool) → is_outstanding w.requests n ≡ outstanding → is_running w.requests n ≡ running → is_doomed w.requests n ≡ doomed → is_ready w.requests n ≡ ready → is_cancel (entry_of w.requests n) ≡ cancel
       → Change g w (step.Issue n)
       (if not outstanding then answer.Unknown else (if running then answer.Running else (if doomed then answer.Ended (doomed_result w.requests n) no_bytes else (if not ready then answer.NotReady else (if cancel then answer.Ended (cancel_result w.requests n) no_bytes else answer.Run)))))
-  issue_of n false running doomed ready cancel e f h i j = refuses _ _ (λ v. refl) (search rules)
-  issue_of n true true doomed ready cancel e f h i j = refuses _ _ (λ v. refl) (search rules)
   issue_of n true false true ready cancel e f h i j = dooms n e f h
-  issue_of n true false false false cancel e f h i j = refuses _ _ (λ v. refl) (search rules)
   issue_of n true false false true true e f h i j = cancels n e f h i j
-  issue_of n true false false true false e f h i j = runs n e f h i
+  issue_of n true false false true false e f h i j = runs n e f h i j
+  issue_of n _ _ _ _ _ e f h i j = refuses _ _ (λ v. refl) (search rules)
 
   finish_of : (n : ℕ) (running : Bool) (a : Answer) → is_running w.requests n ≡ running → FinishesApart running a → Change g w (step.Finish n) a
   finish_of n false a e h = subst (Change g w (step.Finish n)) (sym h) (refuses _ _ (λ v. refl) (search rules))
@@ -133,7 +129,7 @@ module _ (g : Setup) (w : World) where
 
   close_of : (in_call : Bool) → is_some w.submission.call ≡ in_call → Change g w step.Close (if in_call then answer.InCall else answer.Shut)
   close_of true e = refuses _ _ (λ v. refl) (search rules)
-  close_of false e = shuts (no_call w.submission.call e)
+  close_of false e = shuts (not_some w.submission.call e)
 
   next_of_answer : (n : Option ℕ) → Change g w step.Next (next_answer_of n)
   next_of_answer None = refuses _ _ (λ v. refl) (search rules)
@@ -144,7 +140,7 @@ module _ (g : Setup) (w : World) where
   change_of (step.Index word) a e = subst (Change g w (step.Index word)) (sym e) (index_of word _ refl)
   change_of step.StoreTail a e = subst (Change g w step.StoreTail) (sym e) (stores _)
   change_of step.LoadHead a e = subst (Change g w step.LoadHead) (sym e) (loads _)
-  change_of (step.Begin count) a e = begin_of count a _ _ _ refl refl e
+  change_of (step.Begin count) a e = begin_of count a _ _ _ refl refl refl e
   change_of step.Take a e = subst (Change g w step.Take) (sym e) (take_of _ refl)
   change_of step.End a e = subst (Change g w step.End) (sym e) (end_of _ refl)
   change_of (step.Issue n) a e = subst (Change g w (step.Issue n)) (sym e) (issue_of n _ _ _ _ _ refl refl refl refl refl)

@@ -17,7 +17,6 @@ use Rattle.uring_machine.specs.declared.step.Step.{Step}
 use Rattle.uring_machine.specs.declared.step.Step.TheVariants as step
 use Rattle.uring_machine.specs.declared.answer.Answer.{Answer}
 use Rattle.uring_machine.specs.declared.answer.Answer.TheVariants as answer
-use Rattle.uring_machine.proofs.Changes.{change_of}
 use Rattle.uring_machine.proofs.Moves.{Move, ends_doomed, ends_cancel, move_of}
 use Rattle.uring_machine.proofs.RequestEnds.{doomed_fails}
 use Rattle.uring_machine.proofs.SoundRequests.{outstanding_tells}
@@ -86,7 +85,7 @@ one_later g e h m c = record { after = e ∷ c.after; before = c.before; number 
 pub chosen_in : (g : Setup) (h : History) → IsLawfulApart g h → (m : ℕ) → is_cancelled (world g h).requests m ≡ true → IsChosenIn g h m
 chosen_in g [] lawful m gone = absurd (let f : false ≡ true = gone in cc)
 chosen_in g ((s, a) ∷ before) lawful m gone =
-    elim (new_cancel (world g before) s a _ (move_of g (world g before) s a (change_of g (world g before) s a lawful.0) lawful.0) m gone) [
+    elim (new_cancel (world g before) s a _ (move_of g s a before lawful) m gone) [
       | inl old ↦ one_later g (s, a) before m (chosen_in g before lawful.1 m old)
       | inr new ↦
           record {

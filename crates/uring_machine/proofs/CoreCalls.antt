@@ -1,9 +1,9 @@
 -- Submission calls, from the layers' contracts to the core's: what a core shows as one opens, takes a position, and closes.
-use Rattle.std.proofs.Common.{◌≡◌, ℕ, ◌+◌, ◌-◌, ◌^◌, ◌<◌, ◌≤◌, Bool, true, false, cond, ◌∷◌, length, Option, Some, None, is_some, refl, sym, ap, subst, ◌∙◌, arith, inl, inr}
+use Rattle.std.proofs.Common.{◌≡◌, ℕ, ◌+◌, ◌-◌, ◌^◌, ◌<◌, ◌≤◌, Bool, true, false, cond, ◌∷◌, length, None, is_some, refl, sym, ap, subst, ◌∙◌, arith, inl, inr}
 use Rattle.std.specs.Prelude.{Result, Ok, Err, is_err, OnOk}
 use Rattle.std.proofs.lemmas.Bool.{ltb-false}
 use Rattle.uring_entry.specs.Setup.{Setup}
-use Rattle.uring_entry.specs.Submission.{Submission, Call, call_length, with_begun}
+use Rattle.uring_entry.specs.Submission.{Submission, call_length, with_begun}
 use Rattle.uring_entry.specs.Requests.{Requests}
 use Rattle.uring_entry.specs.Completions.{Completions}
 use Rattle.uring_rings.specs.Sq.{Sq, ShowsSubmission}
@@ -16,10 +16,10 @@ use Rattle.uring_machine.specs.World.{World}
 use Rattle.uring_machine.specs.StepAnswers.{OrAgain, begin_answer, is_spent}
 use Rattle.uring_machine.specs.Histories.{History, world}
 use Rattle.uring_machine.specs.Told.{begin_told}
-use Rattle.uring_machine.specs.Core.{Core, ShowsWorld, FitsApart, IsShortFor, IsShortOfMemory, held_by, positions_of}
+use Rattle.uring_machine.specs.Core.{Core, ShowsWorld, FitsApart, IsShortFor, held_by}
 use Rattle.uring_machine.specs.declared.step.Step.TheVariants as step
-use Rattle.uring_machine.specs.declared.answer.Answer.{Answer}
 use Rattle.uring_machine.specs.declared.answer.Answer.TheVariants as answer
+use Rattle.uring_machine.proofs.Changes.{not_some}
 
 -- Begin.
 
@@ -50,22 +50,6 @@ opens_within p count n opens h f =
     let few = ltb-false (2 ^ 63 - 1) (length w.requests.accepted + call_length w.submission count) o.unspent in
     subst (λ k. p.dispatch.accepted + k ≤ 2 ^ 63 - 1) (sym o.positions) (subst (λ k. k + call_length w.submission count ≤ 2 ^ 63 - 1) (sym f.shows.requests.accepted) few)
 
--- memory is there in the answer that a Begin would have
-never_again : {X : Type 0} (closed in_call spent : Bool) (n : ℕ) → answer.Again ≡ cond closed answer.Closed (cond in_call answer.InCall (cond spent answer.Spent (answer.Call n))) → X
-never_again true in_call spent n e = absurd cc
-never_again false true spent n e = absurd cc
-never_again false false true n e = absurd cc
-never_again false false false n e = absurd cc
-
--- a Begin that opens no call is refused
-pub refusal_goes : (p : Core) (count : ℕ) (a : Answer) → ((n : ℕ) → a ≡ answer.Call n → ⊥) → ((h : History) → FitsApart p h → a ≡ begin_answer (world p.setup h) count)
-    → (h : History) → FitsApart p h → FitsApart p ((step.Begin count, a) ∷ h)
-refusal_goes p count (answer.Call n) other is h f = absurd (other n refl)
-refusal_goes p count answer.Again other is h f =
-    let w : World = world p.setup h in
-    never_again w.is_closed (is_some w.submission.call) (is_spent w (call_length w.submission count)) (call_length w.submission count) (is h f)
-refusal_goes p count a other is h f = record { shows = f.shows; lawful = (subst (λ x. OrAgain x a) (is h f) refl, f.lawful) }
-
 -- a dispatcher with the same counts, and rings that show what they did
 same_shown : (p : Core) (w : World) (d : Dispatch) (q : Cq) → ShowsWorld p w → IsSameCount p.dispatch d → d.is_between_calls ≡ true → ShowsRequests d w.requests
     → ShowsCompletions p.setup q w.completions → p.cq.room ≤ q.room → q.room ≤ q.spare → ShowsWorld (record p { dispatch = d; cq = q }) w
@@ -76,11 +60,6 @@ short_for_some : (p : Core) (w : World) (n : ℕ) → ShowsWorld p w → IsShort
 short_for_some p w n s (inl few_requests) = omega arith
 short_for_some p w n s (inr few_posts) = omega (arith, s.room_to_post, s.promised)
 
--- so a Begin that was answered Call found memory for its call, and memory isn't short for it while it is open
-pub never_short_for_open_call : (p : Core) (w : World) → ShowsWorld p w → IsShortFor p (positions_of w.submission.call) → ⊥
-never_short_for_open_call p w s (inl few_requests) = omega (arith, s.room_to_accept)
-never_short_for_open_call p w s (inr few_posts) = omega (arith, s.room_to_post, s.promised)
-
 pub again_goes : (p : Core) (d : Dispatch) (q : Cq) (count n : ℕ) → Opens p count n
     → IsSameCount p.dispatch d → d.is_between_calls ≡ true → ((r : Requests) → ShowsRequests p.dispatch r → ShowsRequests d r) → q ≡ p.cq → IsShortFor p n
     → (h : History) → FitsApart p h → FitsApart (record p { dispatch = d; cq = q }) ((step.Begin count, answer.Again) ∷ h)
@@ -90,12 +69,8 @@ again_goes p d q count n opens same between shows kept short h f =
       lawful = (subst (λ a. OrAgain a answer.Again) (sym (opens h f)) (inr (refl, short_for_some p (world p.setup h) n f.shows short)), f.lawful);
     })
 
-none_since : (c : Option Call) → false ≡ is_some c → c ≡ None
-none_since None e = refl
-none_since (Some call) e = cc
-
 opened : (l : Submission) (count n : ℕ) (r : BeginAnswer) → false ≡ is_some l.call → n ≡ call_length l count → r ≡ ring.begin_answer l count → r ≡ begin.Call n
-opened l count n r none length answered = answered ∙ ap (ring.begin_beside l count) (none_since l.call none) ∙ ap (λ k. begin.Call k) (sym length)
+opened l count n r none length answered = answered ∙ ap (ring.begin_beside l count) (not_some l.call (sym none)) ∙ ap (λ k. begin.Call k) (sym length)
 
 begun_shows : (p : Core) (w : World) (s' : Sq) (q : Cq) (d : Dispatch) (count n : ℕ) → ShowsWorld p w → w.submission.call ≡ None → n ≡ call_length w.submission count
     → ShowsSubmission p.setup s' (with_begun w.submission count) → ShowsCompletions p.setup q w.completions → q.room ≡ p.dispatch.outstanding + n → q.room ≤ q.spare
@@ -121,13 +96,9 @@ call_goes p s' q d count n r opens same fits between shows kept room memory answ
     let is : r ≡ begin.Call n = opened w.submission count n r o.no_call o.positions (answered p.setup w.submission s.submission) in
     let after : ShowsSubmission p.setup s' (with_begun w.submission count) = subst (λ b. ShowsSubmission p.setup s' (ring.after_begin w.submission count b)) is (shown p.setup w.submission s.submission) in
     subst (λ b. FitsApart (record p { sq = s'; cq = q; dispatch = d }) ((step.Begin count, begin_told b) ∷ h)) (sym is) (record {
-      shows = begun_shows p w s' q d count n s (none_since w.submission.call o.no_call) o.positions after (kept p.setup w.completions s.completions) room memory.promised same fits between (shows w.requests s.requests) (opens_within p count n opens h f);
+      shows = begun_shows p w s' q d count n s (not_some w.submission.call (sym o.no_call)) o.positions after (kept p.setup w.completions s.completions) room memory.promised same fits between (shows w.requests s.requests) (opens_within p count n opens h f);
       lawful = (subst (λ a. OrAgain a (answer.Call n)) (sym (opens h f)) (inl refl), f.lawful);
     })
-
--- a Begin that is answered Again found memory short for its call
-pub short_for_call : (p : Core) (count n : ℕ) → Opens p count n → IsShortFor p n → (h : History) → FitsApart p h → IsShortOfMemory p (world p.setup h) (step.Begin count)
-short_for_call p count n opens short h f = subst (IsShortFor p) (opening (world p.setup h) count n (opens h f)).positions short
 
 -- what holds of a success
 pub on_success : {A E : Type 0} (r : Result A E) (P : Type 0) → is_err r ≡ false → OnOk r P → P

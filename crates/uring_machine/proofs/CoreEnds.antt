@@ -3,6 +3,7 @@ use Rattle.std.proofs.Common.{◌≡◌, ℕ, ◌+◌, ◌-◌, ◌^◌, ◌≤�
 use Rattle.std.proofs.lemmas.Bool.{cases_Bool, eqb-true, eqb-false, lt-ltb, le-ltb}
 use Rattle.std.proofs.lemmas.List.{length-append}
 use Rattle.std.proofs.lemmas.Grind.{common_steps}
+use Rattle.std.proofs.lemmas.Option.{cond_some}
 use Rattle.uring_entry.specs.Setup.{Setup}
 use Rattle.uring_entry.specs.IndexWords.{word_of}
 use Rattle.uring_entry.specs.Layout.{Sqe, Cqe, user_data_of}
@@ -19,7 +20,7 @@ use Rattle.uring_rings.specs.Cq.{Cq, ShowsCompletions}
 use Rattle.uring_rings.specs.declared.answers.EndAnswer.TheVariants as ended_as
 use Rattle.uring_rings.specs.declared.answers.Taken.{Taken}
 use Rattle.uring_dispatch.specs.Dispatch.{Dispatch, ShowsRequests, HasStarted, HasEnded, HasFinished}
-use Rattle.uring_dispatch.specs.IssueAndFinish.{issued, issued_waiting, posts_of, posted_by}
+use Rattle.uring_dispatch.specs.IssueAndFinish.{issued, posts_of, posted_by}
 use Rattle.uring_dispatch.specs.declared.answers.Issued.{Issued}
 use Rattle.uring_dispatch.specs.declared.answers.Issued.TheVariants as issue
 use Rattle.uring_dispatch.specs.declared.answers.Posts.{Posts}
@@ -32,6 +33,7 @@ use Rattle.uring_machine.specs.declared.step.Step.TheVariants as step
 use Rattle.uring_machine.specs.declared.answer.Answer.{Answer}
 use Rattle.uring_machine.specs.declared.answer.Answer.TheVariants as answer
 use Rattle.uring_machine.proofs.CoreTakes.{held_within}
+use Rattle.uring_machine.proofs.CoreSteps.{told_if}
 
 -- End.
 
@@ -47,9 +49,6 @@ pub record Ends (p : Core) (w : World) (q : Sq) (d : Dispatch) (a : Answer) (c :
   pub shows : ShowsWorld (record p { sq = q; dispatch = d; held = [] }) (ending_of w c)
   pub answered : a ≡ end_answer_in p.setup w c
 
-same_some : {X : Type 0} (a b : X) → Some a ≡ Some b → a ≡ b
-same_some a b e = cc
-
 sum_more : (ns : List ℕ) (n : ℕ) → sum (ns ++ n ∷ []) ≡ sum ns + n
 sum_more ns n = grind (arith, common_steps)
 
@@ -58,20 +57,10 @@ abbrev taken_by : Setup → Submission → Call → Taken
 taken_by g l call =
     record { accepted = length (entries_of (places_from l call.count)); dropped = dropped (with_closed l call); head = word_of g.start (taken (with_closed l call)) }
 
-all_taken : (g : Setup) (l : Submission) (call : Call) (t : Taken) → ended_as.Taken t ≡ ring.end_of g l (Some call) → eqb call.taken call.count ≡ true
-all_taken g l call t e =
-    elim (cases_Bool (eqb call.taken call.count)) [
-      | inl all ↦ all
-      | inr more ↦ absurd (let f : ended_as.Taken t ≡ ended_as.NotAll = e ∙ ap (λ b. cond b (ended_as.Taken (taken_by g l call)) ended_as.NotAll) more in cc)
-    ]
-
-told_taken : (g : Setup) (l : Submission) (call : Call) (t : Taken) → ended_as.Taken t ≡ ring.end_of g l (Some call)
-    → t ≡ taken_by g l call
-told_taken g l call t e =
-    let all = all_taken g l call t e in
-    let f : ended_as.Taken t ≡ ended_as.Taken (taken_by g l call) =
-    e ∙ ap (λ b. cond b (ended_as.Taken (taken_by g l call)) ended_as.NotAll) all in
-    cc
+-- a call that closes took all its positions, and this is told of it
+taken_as : (all : Bool) (t told : Taken) → ended_as.Taken t ≡ cond all (ended_as.Taken told) ended_as.NotAll → (all ≡ true) × (t ≡ told)
+taken_as true t told e = (refl, cc)
+taken_as false t told e = absurd cc
 
 closed_shows : (p : Core) (w : World) (q : Sq) (d : Dispatch) (call : Call) → ShowsWorld p w → w.submission.call ≡ Some call → call.taken ≡ call.count → Accepts p d
     → length p.held ≤ call.count → ShowsSubmission p.setup q (with_closed w.submission call) → ShowsWorld (record p { sq = q; dispatch = d; held = [] }) (ending_of w (Some call))
@@ -88,16 +77,17 @@ closed_shows p w q d call s is all accepts few shown =
 
 closed_answer : (g : Setup) (w : World) (call : Call) (t : Taken) → ended_as.Taken t ≡ ring.end_of g w.submission (Some call) → answer.Taken t.accepted t.dropped t.head ≡ end_answer_in g w (Some call)
 closed_answer g w call t e =
-    let all = eqb-true call.taken call.count (all_taken g w.submission call t e) in
+    let is = taken_as (eqb call.taken call.count) t (taken_by g w.submission call) e in
+    let all = eqb-true call.taken call.count is.0 in
     let not_less : nat_lt call.taken call.count ≡ false = le-ltb call.taken call.count (omega arith) in
-    rw (told_taken g w.submission call t e, not_less) (ap (λ n. answer.Taken (length (entries_of (places_from w.submission call.count))) (dropped (with_closed w.submission call)) (word_of g.start n)) (sum_more w.submission.calls call.count))
+    rw (is.1, not_less) (ap (λ n. answer.Taken (length (entries_of (places_from w.submission call.count))) (dropped (with_closed w.submission call)) (word_of g.start n)) (sum_more w.submission.calls call.count))
 
 end_taken : (p : Core) (w : World) (q : Sq) (d : Dispatch) (t : Taken) (c : Option Call) → ShowsWorld p w → w.submission.call ≡ c → Accepts p d
     → length p.held ≤ positions_of w.submission.call → ended_as.Taken t ≡ ring.end_of p.setup w.submission c → ShowsSubmission p.setup q (ring.closed_on w.submission c)
     → Ends p w q d (answer.Taken t.accepted t.dropped t.head) c
 end_taken p w q d t None s is accepts few e shown = absurd (let f : ended_as.Taken t ≡ ended_as.NoCall = e in cc)
 end_taken p w q d t (Some call) s is accepts few e shown = record {
-  shows = closed_shows p w q d call s is (eqb-true call.taken call.count (all_taken p.setup w.submission call t e)) accepts (subst (λ c. length p.held ≤ positions_of c) is few) shown;
+  shows = closed_shows p w q d call s is (eqb-true call.taken call.count (taken_as (eqb call.taken call.count) t (taken_by p.setup w.submission call) e).0) accepts (subst (λ c. length p.held ≤ positions_of c) is few) shown;
   answered = closed_answer p.setup w call t e;
 }
 
@@ -164,11 +154,7 @@ ended_shows p w d q r entry res bytes s shows accepted outstanding room between 
 
 -- an outstanding request's entry is there
 pub entry_there : (r : Requests) (n : ℕ) (entry : Sqe) → Some entry ≡ entry_outstanding r n → entry ≡ entry_of r n
-entry_there r n entry e =
-    elim (cases_Bool (is_outstanding r n)) [
-      | inl there ↦ let f : Some entry ≡ Some (entry_of r n) = e ∙ ap (λ b. cond b (Some (entry_of r n)) None) there in cc
-      | inr gone ↦ absurd (let f : Some entry ≡ None = e ∙ ap (λ b. cond b (Some (entry_of r n)) None) gone in cc)
-    ]
+entry_there r n entry e = sym (cond_some (is_outstanding r n) (entry_of r n) entry (sym e)).1
 
 -- Issue.
 
@@ -179,10 +165,6 @@ issue_told (issue.Ended res) = answer.Ended res no_bytes
 issue_told issue.NotReady = answer.NotReady
 issue_told issue.Running = answer.Running
 issue_told issue.Unknown = answer.Unknown
-
-told_if : {A B : Type 0} (f : A → B) (b : Bool) (x y : A) → f (cond b x y) ≡ cond b (f x) (f y)
-told_if f true x y = refl
-told_if f false x y = refl
 
 -- a chain of tests goes through
 told_chain : (a b c d e : Bool) (x y z u v t : Issued) → issue_told (cond a x (cond b y (cond c z (cond d u (cond e v t))))) ≡ cond a (issue_told x) (cond b (issue_told y) (cond c (issue_told z) (cond d (issue_told u) (cond e (issue_told v) (issue_told t)))))
@@ -220,23 +202,11 @@ issue_ended_goes p d q n res entry answered there shows counts shown left promis
       lawful = (ap issue_told (answered w.requests s.requests) ∙ issue_same w n, f.lawful);
     }
 
--- what ended was outstanding
-pub ended_there : (r : Requests) (n : ℕ) (res : ℤ) → issue.Ended res ≡ issued r n → None ≡ entry_outstanding r n → ⊥
-ended_there r n res e none =
-    elim (cases_Bool (is_outstanding r n)) [
-      | inl there ↦ let f : ◌≡◌ {A = Option Sqe} None (Some (entry_of r n)) = none ∙ ap (λ b. cond b (Some (entry_of r n)) None) there in cc
-      | inr gone ↦ let f : issue.Ended res ≡ issue.Unknown = e ∙ ap (λ b. cond (not b) issue.Unknown (if is_running r n then issue.Running else issued_waiting r n)) gone in cc
-    ]
-
 -- Finish.
 
 -- what ended was running, and posts what its entry and result say
 ended_running : (r : Requests) (n : ℕ) (res : ℤ) (posted : Posts) → Some posted ≡ posted_by r n res → (is_running r n ≡ true) × (posted ≡ posts_of (entry_of r n) res)
-ended_running r n res posted e = go (is_running r n) e
-  where
-    go : (b : Bool) → Some posted ≡ cond b (Some (posts_of (entry_of r n) res)) None → (b ≡ true) × (posted ≡ posts_of (entry_of r n) res)
-    go true x = (refl, same_some posted _ x)
-    go false x = cc
+ended_running r n res posted e = let p = cond_some (is_running r n) (posts_of (entry_of r n) res) posted (sym e) in (p.0, sym p.1)
 
 pub finish_goes : (p : Core) (d : Dispatch) (q : Cq) (n : ℕ) (res : ℤ) (bytes : List ℕ) (posted : Posts)
     → ((r : Requests) → ShowsRequests p.dispatch r → Some posted ≡ posted_by r n res)
@@ -252,10 +222,6 @@ finish_goes p d q n res bytes posted answered shows counts shown left promised h
           (shown p.setup w.completions (entry_of w.requests n) ended.1 s.completions) left promised;
       lawful = (subst (λ b. FinishesApart b (answer.Ended res bytes)) (sym ended.0) tt, f.lawful);
     }
-
-pub finish_told : (p : Core) (n : ℕ) (outcome : Outcome) (posted : Posts) → ((r : Requests) → ShowsRequests p.dispatch r → Some posted ≡ posted_by r n outcome.res)
-    → (h : History) → FitsApart p h → IsFinished (world p.setup h) n outcome (answer.Ended outcome.res outcome.bytes)
-finish_told p n outcome posted answered h f = rw (ended_running (world p.setup h).requests n outcome.res posted (answered (world p.setup h).requests f.shows.requests)).0 refl
 
 -- what was posted is the end
 pub posted_end : (g : Setup) (q : Cq) (l : Completions) (entry : Sqe) (res : ℤ) (bytes : List ℕ) (user_data : ℕ) → posts.Completion user_data ≡ posts_of entry res
@@ -308,7 +274,4 @@ new_fits p submission completions none_promised requests between held open_ring 
 
 -- what posts as it ends was running
 pub ended_as_posted : (w : World) (n : ℕ) (outcome : Outcome) (posts : Posts) (a : Answer) → Some posts ≡ posted_by w.requests n outcome.res → a ≡ answer.Ended outcome.res outcome.bytes → IsFinished w n outcome a
-ended_as_posted w n outcome posts a posted is = by_running (is_running w.requests n) posted where
-  by_running : (running : Bool) → Some posts ≡ (if running then Some (posts_of (entry_of w.requests n) outcome.res) else None) → a ≡ (if running then answer.Ended outcome.res outcome.bytes else answer.NotRunning)
-  by_running true e = is
-  by_running false e = absurd cc
+ended_as_posted w n outcome posts a posted is = is ∙ ap (λ b. if b then answer.Ended outcome.res outcome.bytes else answer.NotRunning) (sym (ended_running w.requests n outcome.res posts posted).0)

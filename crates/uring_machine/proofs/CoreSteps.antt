@@ -26,13 +26,6 @@ use Rattle.uring_machine.specs.declared.answer.Answer.TheVariants as answer
 pub core_after : (p q : Core) (e : Event) → q.setup ≡ p.setup → ((h : History) → FitsApart p h → FitsApart q (e ∷ h)) → IsCore p → IsCore q
 core_after p q e same goes core = (subst IsWithinLimits (sym same) core.0, e ∷ core.1, goes core.1 core.2)
 
--- a part that shows the lists
-pub submission_shown : (p : Core) (h : History) → FitsApart p h → ShowsSubmission p.setup p.sq (world p.setup h).submission
-submission_shown p h f = f.shows.submission
-
-pub completions_shown : (p : Core) (h : History) → FitsApart p h → ShowsCompletions p.setup p.cq (world p.setup h).completions
-completions_shown p h f = f.shows.completions
-
 -- A change of the submission ring alone, which leaves the open call and what it took as they were.
 pub on_submission : (p : Core) (w : World) (q : Sq) (l : Submission) → ShowsWorld p w → ShowsSubmission p.setup q l → l.call ≡ w.submission.call
     → held_by l l.call ≡ held_by w.submission w.submission.call → ShowsWorld (record p { sq = q }) (record w { submission = l })
@@ -51,9 +44,21 @@ on_completions p w q l s shows room memory posted =
     let posts = subst (λ cs. length cs + p.dispatch.outstanding ≤ p.dispatch.accepted) (sym posted) s.posts in
     assumption (s, shows, to_post, memory, posts)
 
+-- A step on the submission ring alone, from what the ring answers and what it shows then.
+abbrev pub SubmissionStep : Core → Sq → Event → (Setup → Submission → Type 0) → (Setup → Submission → Submission) → Type 0
+SubmissionStep p q e Answered after =
+    ((g : Setup) (l : Submission) → ShowsSubmission g p.sq l → Answered g l) → ((g : Setup) (l : Submission) → ShowsSubmission g p.sq l → ShowsSubmission g q (after g l))
+    → (h : History) → FitsApart p h → FitsApart (record p { sq = q }) (e ∷ h)
+
+-- A step on the completion ring alone, likewise.
+abbrev pub CompletionStep : Core → Cq → Event → (Setup → Completions → Type 0) → (Setup → Completions → Completions) → Type 0
+CompletionStep p q e Answered after =
+    ((g : Setup) (l : Completions) → ShowsCompletions g p.cq l → Answered g l) → ((g : Setup) (l : Completions) → ShowsCompletions g p.cq l → ShowsCompletions g q (after g l))
+    → q.room ≡ p.cq.room → KeepsMemory p.cq q → (h : History) → FitsApart p h → FitsApart (record p { cq = q }) (e ∷ h)
+
 -- Fill.
 
-told_if : {A B : Type 0} (f : A → B) (b : Bool) (x y : A) → f (cond b x y) ≡ cond b (f x) (f y)
+pub told_if : {A B : Type 0} (f : A → B) (b : Bool) (x y : A) → f (cond b x y) ≡ cond b (f x) (f y)
 told_if f true x y = refl
 told_if f false x y = refl
 
@@ -70,10 +75,7 @@ fill_shows p w q slot entry fill.Filled s shows = on_submission p w q (with_fill
 fill_shows p w q slot entry fill.NoSlot s shows = on_submission p w q w.submission s shows refl refl
 fill_shows p w q slot entry fill.Busy s shows = on_submission p w q w.submission s shows refl refl
 
-pub fill_goes : (p : Core) (q : Sq) (slot : ℕ) (entry : Sqe) (r : FillAnswer)
-    → ((g : Setup) (l : Submission) → ShowsSubmission g p.sq l → r ≡ ring.fill_answer g.sq l slot)
-    → ((g : Setup) (l : Submission) → ShowsSubmission g p.sq l → ShowsSubmission g q (ring.after_fill l slot entry r))
-    → (h : History) → FitsApart p h → FitsApart (record p { sq = q }) ((step.Fill slot entry, fill_told r) ∷ h)
+pub fill_goes : (p : Core) (q : Sq) (slot : ℕ) (entry : Sqe) (r : FillAnswer) → SubmissionStep p q (step.Fill slot entry, fill_told r) (λ g l. r ≡ ring.fill_answer g.sq l slot) (λ g l. ring.after_fill l slot entry r)
 fill_goes p q slot entry r answered shown h f = record {
   shows = fill_shows p (world p.setup h) q slot entry r f.shows (shown p.setup _ f.shows.submission);
   lawful = (ap fill_told (answered p.setup _ f.shows.submission) ∙ fill_same p.setup (world p.setup h) slot, f.lawful);
@@ -90,10 +92,7 @@ index_shows p w q word index.Staged s shows = on_submission p w q (with_staged w
     held_indexed l word (Some call) = refl
 index_shows p w q word index.Full s shows = on_submission p w q w.submission s shows refl refl
 
-pub index_goes : (p : Core) (q : Sq) (word : ℕ) (r : IndexAnswer)
-    → ((g : Setup) (l : Submission) → ShowsSubmission g p.sq l → r ≡ ring.index_answer g.sq l)
-    → ((g : Setup) (l : Submission) → ShowsSubmission g p.sq l → ShowsSubmission g q (ring.after_index l word r))
-    → (h : History) → FitsApart p h → FitsApart (record p { sq = q }) ((step.Index word, index_told r) ∷ h)
+pub index_goes : (p : Core) (q : Sq) (word : ℕ) (r : IndexAnswer) → SubmissionStep p q (step.Index word, index_told r) (λ g l. r ≡ ring.index_answer g.sq l) (λ g l. ring.after_index l word r)
 index_goes p q word r answered shown h f = record {
   shows = index_shows p (world p.setup h) q word r f.shows (shown p.setup _ f.shows.submission);
   lawful = (ap index_told (answered p.setup _ f.shows.submission) ∙ told_if index_told _ index.Full index.Staged, f.lawful);
@@ -109,10 +108,7 @@ held_stored size l (Some call) fits within = ap entries_of (took_before (taken l
     took_before : (n t : ℕ) (xs ys : List Place) → n + t ≤ length xs → take t (drop n (xs ++ ys)) ≡ take t (drop n xs)
     took_before n t xs ys within = grind (arith, common_steps)
 
-pub store_tail_goes : (p : Core) (q : Sq) (tail : ℕ)
-    → ((g : Setup) (l : Submission) → ShowsSubmission g p.sq l → tail ≡ word_of g.start (staged l))
-    → ((g : Setup) (l : Submission) → ShowsSubmission g p.sq l → ShowsSubmission g q (with_published g.sq l))
-    → (h : History) → FitsApart p h → FitsApart (record p { sq = q }) ((step.StoreTail, answer.Tail tail) ∷ h)
+pub store_tail_goes : (p : Core) (q : Sq) (tail : ℕ) → SubmissionStep p q (step.StoreTail, answer.Tail tail) (λ g l. tail ≡ word_of g.start (staged l)) (λ g l. with_published g.sq l)
 store_tail_goes p q tail answered shown h f =
     let s = f.shows.submission in
     let l = (world p.setup h).submission in
@@ -121,10 +117,7 @@ store_tail_goes p q tail answered shown h f =
       lawful = (ap (λ n. answer.Tail n) (answered p.setup _ s), f.lawful);
     }
 
-pub load_head_goes : (p : Core) (q : Sq) (head : ℕ)
-    → ((g : Setup) (l : Submission) → ShowsSubmission g p.sq l → head ≡ word_of g.start (taken l))
-    → ((g : Setup) (l : Submission) → ShowsSubmission g p.sq l → ShowsSubmission g q (with_head_loaded l))
-    → (h : History) → FitsApart p h → FitsApart (record p { sq = q }) ((step.LoadHead, answer.Head head) ∷ h)
+pub load_head_goes : (p : Core) (q : Sq) (head : ℕ) → SubmissionStep p q (step.LoadHead, answer.Head head) (λ g l. head ≡ word_of g.start (taken l)) (λ g l. with_head_loaded l)
 load_head_goes p q head answered shown h f =
     let s = f.shows.submission in
     let l = (world p.setup h).submission in
@@ -139,21 +132,13 @@ load_head_goes p q head answered shown h f =
 
 -- Flush, LoadCqTail, Reap and StoreCqHead.
 
-pub flush_goes : (p : Core) (q : Cq) (moved : ℕ)
-    → ((g : Setup) (l : Completions) → ShowsCompletions g p.cq l → moved ≡ (with_flushed g.cq l).put - l.put)
-    → ((g : Setup) (l : Completions) → ShowsCompletions g p.cq l → ShowsCompletions g q (with_flushed g.cq l))
-    → q.room ≡ p.cq.room → KeepsMemory p.cq q
-    → (h : History) → FitsApart p h → FitsApart (record p { cq = q }) ((step.Flush, answer.Moved moved) ∷ h)
+pub flush_goes : (p : Core) (q : Cq) (moved : ℕ) → CompletionStep p q (step.Flush, answer.Moved moved) (λ g l. moved ≡ (with_flushed g.cq l).put - l.put) (λ g l. with_flushed g.cq l)
 flush_goes p q moved answered shown room memory h f = record {
   shows = on_completions p (world p.setup h) q (with_flushed p.setup.cq (world p.setup h).completions) f.shows (shown p.setup _ f.shows.completions) room memory refl;
   lawful = (ap (λ n. answer.Moved n) (answered p.setup _ f.shows.completions), f.lawful);
 }
 
-pub load_cq_tail_goes : (p : Core) (q : Cq) (tail : ℕ)
-    → ((g : Setup) (l : Completions) → ShowsCompletions g p.cq l → tail ≡ word_of g.start l.put)
-    → ((g : Setup) (l : Completions) → ShowsCompletions g p.cq l → ShowsCompletions g q (with_tail_loaded l))
-    → q.room ≡ p.cq.room → KeepsMemory p.cq q
-    → (h : History) → FitsApart p h → FitsApart (record p { cq = q }) ((step.LoadCqTail, answer.Tail tail) ∷ h)
+pub load_cq_tail_goes : (p : Core) (q : Cq) (tail : ℕ) → CompletionStep p q (step.LoadCqTail, answer.Tail tail) (λ g l. tail ≡ word_of g.start l.put) (λ g l. with_tail_loaded l)
 load_cq_tail_goes p q tail answered shown room memory h f = record {
   shows = on_completions p (world p.setup h) q (with_tail_loaded (world p.setup h).completions) f.shows (shown p.setup _ f.shows.completions) room memory refl;
   lawful = (ap (λ n. answer.Tail n) (answered p.setup _ f.shows.completions), f.lawful);
@@ -164,21 +149,13 @@ reap_shows : (p : Core) (w : World) (q : Cq) (r : Option Cqe) → ShowsWorld p w
 reap_shows p w q None s shows room memory = on_completions p w q w.completions s shows room memory refl
 reap_shows p w q (Some completion) s shows room memory = on_completions p w q (with_reaped w.completions completion) s shows room memory refl
 
-pub reap_goes : (p : Core) (q : Cq) (r : Option Cqe)
-    → ((g : Setup) (l : Completions) → ShowsCompletions g p.cq l → r ≡ next_to_reap l)
-    → ((g : Setup) (l : Completions) → ShowsCompletions g p.cq l → ShowsCompletions g q (after_reap l r))
-    → q.room ≡ p.cq.room → KeepsMemory p.cq q
-    → (h : History) → FitsApart p h → FitsApart (record p { cq = q }) ((step.Reap, reap_answer_of r) ∷ h)
+pub reap_goes : (p : Core) (q : Cq) (r : Option Cqe) → CompletionStep p q (step.Reap, reap_answer_of r) (λ g l. r ≡ next_to_reap l) (λ g l. after_reap l r)
 reap_goes p q r answered shown room memory h f = record {
   shows = reap_shows p (world p.setup h) q r f.shows (shown p.setup _ f.shows.completions) room memory;
   lawful = (ap reap_answer_of (answered p.setup _ f.shows.completions), f.lawful);
 }
 
-pub store_cq_head_goes : (p : Core) (q : Cq) (head : ℕ)
-    → ((g : Setup) (l : Completions) → ShowsCompletions g p.cq l → head ≡ word_of g.start (length l.reaped))
-    → ((g : Setup) (l : Completions) → ShowsCompletions g p.cq l → ShowsCompletions g q (with_head_stored l))
-    → q.room ≡ p.cq.room → KeepsMemory p.cq q
-    → (h : History) → FitsApart p h → FitsApart (record p { cq = q }) ((step.StoreCqHead, answer.Head head) ∷ h)
+pub store_cq_head_goes : (p : Core) (q : Cq) (head : ℕ) → CompletionStep p q (step.StoreCqHead, answer.Head head) (λ g l. head ≡ word_of g.start (length l.reaped)) (λ g l. with_head_stored l)
 store_cq_head_goes p q head answered shown room memory h f = record {
   shows = on_completions p (world p.setup h) q (with_head_stored (world p.setup h).completions) f.shows (shown p.setup _ f.shows.completions) room memory refl;
   lawful = (ap (λ n. answer.Head n) (answered p.setup _ f.shows.completions), f.lawful);

@@ -1,7 +1,7 @@
 -- What a core shows as a submission call takes a position, and as it closes.
 use Rattle.std.specs.Option.{option_and_then}
-use Rattle.std.proofs.Common.{◌≡◌, ℕ, zero, suc, ◌+◌, ◌-◌, ◌^◌, ◌<◌, ◌≤◌, Bool, false, cond, eqb, List, [], ◌∷◌, ◌++◌, length, take, drop, Option, Some, None, slice_get, refl, sym, ap, subst, ◌∙◌, arith, inl, inr, IfSome}
-use Rattle.std.proofs.lemmas.Bool.{cases_Bool, eqb-false}
+use Rattle.std.proofs.Common.{◌≡◌, ℕ, zero, suc, ◌+◌, ◌-◌, ◌^◌, ◌<◌, ◌≤◌, Bool, false, cond, eqb, List, [], ◌∷◌, ◌++◌, length, take, drop, Option, Some, None, slice_get, refl, sym, ap, subst, ◌∙◌, arith, IfSome, true}
+use Rattle.std.proofs.lemmas.Bool.{eqb-false}
 use Rattle.std.proofs.lemmas.List.Elements.{filter_map-append}
 use Rattle.std.proofs.lemmas.Grind.{common_steps}
 use Rattle.uring_entry.specs.Setup.{Setup}
@@ -56,16 +56,9 @@ no_entries : (place : Place) → place.entry ≡ None → entries_of (place ∷ 
 no_entries place e = simp e
 
 -- the answer to a take within the call
-not_all : (l : Submission) (call : Call) (r : TakeAnswer) → r ≡ ring.take_in l (Some call) → (r ≡ took_as.NoMore → ⊥) → eqb call.taken call.count ≡ false
-not_all l call r e other =
-    elim (cases_Bool (eqb call.taken call.count)) [
-      | inl all ↦ absurd (other (e ∙ ap (λ b. cond b took_as.NoMore (ring.given (option_and_then (λ place. place.entry) (slice_get l.published (taken l + call.taken))))) all))
-      | inr more ↦ more
-    ]
-
-given_by : (l : Submission) (call : Call) (r : TakeAnswer) → r ≡ ring.take_in l (Some call) → eqb call.taken call.count ≡ false
-    → r ≡ ring.given (option_and_then (λ place. place.entry) (slice_get l.published (taken l + call.taken)))
-given_by l call r e more = e ∙ ap (λ b. cond b took_as.NoMore (ring.given (option_and_then (λ place. place.entry) (slice_get l.published (taken l + call.taken))))) more
+given_as : (all : Bool) (r given : TakeAnswer) → r ≡ cond all took_as.NoMore given → (r ≡ took_as.NoMore → ⊥) → (all ≡ false) × (r ≡ given)
+given_as true r given e other = absurd (other e)
+given_as false r given e other = (refl, e)
 
 -- the machine answers as the ring does
 answered_entry : (w : World) (call : Call) (place : Place) (entry : Sqe) → eqb call.taken call.count ≡ false → slice_get w.submission.published (taken w.submission + call.taken) ≡ Some place → place.entry ≡ Some entry
@@ -115,8 +108,9 @@ take_entry : (p : Core) (w : World) (q : Sq) (entry : Sqe) (c : Option Call) →
     → ShowsSubmission p.setup q (with_stopped (stops_at p.setup entry) (ring.taken_on w.submission c)) → Takes p w (taking_entry_of p.setup w entry c) q (p.held ++ entry ∷ []) (answer.Entry entry) c
 take_entry p w q entry None s is e shown = absurd (let f : took_as.Entry entry ≡ took_as.NoCall = e in cc)
 take_entry p w q entry (Some call) s is e shown =
-    let more = not_all w.submission call (took_as.Entry entry) e (λ f. cc) in
-    let place = place_given _ entry (given_by w.submission call (took_as.Entry entry) e more) in
+    let within = given_as (eqb call.taken call.count) (took_as.Entry entry) _ e (λ f. cc) in
+    let more = within.0 in
+    let place = place_given _ entry within.1 in
     let so_far : p.held ≡ entries_of (take call.taken (drop (taken w.submission) w.submission.published)) = s.held ∙ ap (held_by w.submission) is in
     record {
       shows = taken_shows p w q call (p.held ++ entry ∷ []) (stops_at p.setup entry) s is more shown
@@ -138,9 +132,10 @@ take_dropped : (p : Core) (w : World) (q : Sq) (c : Option Call) → ShowsWorld 
     → ShowsSubmission p.setup q (ring.taken_on w.submission c) → Takes p w (taking_of w c) q p.held answer.Dropped c
 take_dropped p w q None s is e shown = absurd (let f : took_as.Dropped ≡ took_as.NoCall = e in cc)
 take_dropped p w q (Some call) s is e shown =
-    let more = not_all w.submission call took_as.Dropped e (λ f. cc) in
+    let within = given_as (eqb call.taken call.count) took_as.Dropped _ e (λ f. cc) in
+    let more = within.0 in
     let place = place_of_call w.submission call (some_call w.submission.call call _ is s.submission.call_fits) more s.submission.taken_first in
-    let none = place_dropped _ place.0 place.1 (given_by w.submission call took_as.Dropped e more) in
+    let none = place_dropped _ place.0 place.1 within.1 in
     let so_far : p.held ≡ entries_of (take call.taken (drop (taken w.submission) w.submission.published)) = s.held ∙ ap (held_by w.submission) is in
     record {
       shows = taken_shows p w q call p.held false s is more shown
@@ -203,7 +198,6 @@ held_has_room p h entry f answered =
         → l.seen_head ≤ taken l → taken l ≤ length l.published → staged l ≤ l.seen_head + size → length (held_by l c) < size
     few l size entry None e fits seen within room = absurd (let f : took_as.Entry entry ≡ took_as.NoCall = e in cc)
     few l size entry (Some call) e fits seen within room =
-        let more = not_all l call (took_as.Entry entry) e (λ f. cc) in
-        let ne = eqb-false call.taken call.count more in
+        let ne = eqb-false call.taken call.count (given_as (eqb call.taken call.count) (took_as.Entry entry) _ e (λ f. cc)).0 in
         let k = few_entries (drop (taken l) l.published) call.taken in
         omega arith

@@ -10,7 +10,6 @@ use Rattle.uring_machine.specs.World.{World}
 use Rattle.uring_machine.specs.Histories.{History, world, IsLawfulApart}
 use Rattle.uring_machine.specs.declared.step.Step.{Step}
 use Rattle.uring_machine.specs.declared.answer.Answer.{Answer}
-use Rattle.uring_machine.proofs.Changes.{change_of}
 use Rattle.uring_machine.proofs.CompletionMoves.{CompletionMove, stays, ends, flushes, sees_tail, reaps, stores_head, completion_move}
 use Rattle.uring_machine.proofs.Telling.{told_same, before_same}
 
@@ -55,4 +54,4 @@ completions_direct g h w s a v (stores_head head) is i = let stored = ap length 
 
 pub direct_completions : (g : Setup) (h : History) → IsLawfulApart g h → DirectCompletions g h (world g h)
 direct_completions g [] lawful = record { reaped = refl; stored = refl; flushed = refl; seen = refl }
-direct_completions g ((s, a) ∷ before) lawful = completions_direct g before (world g before) s a _ (completion_move g (world g before) s a (change_of g (world g before) s a lawful.0)) refl (direct_completions g before lawful.1)
+direct_completions g ((s, a) ∷ before) lawful = completions_direct g before (world g before) s a _ (completion_move g s a before lawful) refl (direct_completions g before lawful.1)

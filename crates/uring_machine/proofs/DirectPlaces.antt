@@ -13,7 +13,6 @@ use Rattle.uring_machine.specs.declared.step.Step.{Step}
 use Rattle.uring_machine.specs.declared.step.Step.TheVariants as step
 use Rattle.uring_machine.specs.declared.answer.Answer.{Answer}
 use Rattle.uring_machine.specs.declared.answer.Answer.TheVariants as answer
-use Rattle.uring_machine.proofs.Changes.{change_of}
 use Rattle.uring_machine.proofs.SubmissionMoves.{SubmissionMove, stays, stages, stores, submission_move}
 use Rattle.uring_machine.proofs.Telling.{told_same}
 use Rattle.uring_machine.proofs.DirectSubmission.{DirectSubmission, direct_submission}
@@ -74,4 +73,4 @@ entries_direct g h w s a v _ d i = i
 pub direct_places : (g : Setup) (h : History) → IsLawfulApart g h → EntriesTold g h (world g h)
 direct_places g [] lawful = λ k p at. absurd (let e : None ≡ Some p = at in cc)
 direct_places g ((s, a) ∷ before) lawful =
-    entries_direct g before (world g before) s a _ (submission_move g (world g before) s a (change_of g (world g before) s a lawful.0)) (direct_submission g before lawful.1) (direct_places g before lawful.1)
+    entries_direct g before (world g before) s a _ (submission_move g s a before lawful) (direct_submission g before lawful.1) (direct_places g before lawful.1)

@@ -13,10 +13,9 @@ use Rattle.uring_machine.specs.Direct.{end_told_by, is_flush, before_last, compl
 use Rattle.uring_machine.specs.HistoryLists.{posted_count, put_count}
 use Rattle.uring_machine.specs.declared.step.Step.{Step}
 use Rattle.uring_machine.specs.declared.answer.Answer.{Answer}
-use Rattle.uring_machine.proofs.Changes.{change_of}
 use Rattle.uring_machine.proofs.CompletionMoves.{CompletionMove, stays, ends, flushes, completion_move}
 use Rattle.uring_machine.proofs.DirectCompletions.{direct_completions}
-use Rattle.uring_machine.proofs.DirectRequests.{direct_requests}
+use Rattle.uring_machine.proofs.DirectRequests.{direct_posted}
 use Rattle.uring_machine.proofs.ToldRequests.{tells_requests}
 
 -- the counts that a put looks at, read off a history
@@ -52,14 +51,14 @@ put_facts : (g : Setup) (h : History) → IsLawfulApart g h → PutFacts g h
 put_facts g h lawful =
     let d = direct_completions g h lawful in
     record {
-      posted = ap length ((direct_requests g h lawful).posted ∙ ap (filter_map (completion_of (world g h).requests.accepted)) (sym (tells_requests g h lawful).ended));
+      posted = ap length (direct_posted g h lawful ∙ ap (filter_map (completion_of (world g h).requests.accepted)) (sym (tells_requests g h lawful).ended));
       loaded = d.flushed;
       stored = d.stored;
     }
 
 pub direct_put : (g : Setup) (h : History) → IsLawfulApart g h → (world g h).completions.put ≡ put_count g h
 direct_put g [] lawful = refl
-direct_put g ((s, a) ∷ before) lawful = put_direct g before s a _ (completion_move g (world g before) s a (change_of g (world g before) s a lawful.0)) (put_facts g before lawful.1) (direct_put g before lawful.1)
+direct_put g ((s, a) ∷ before) lawful = put_direct g before s a _ (completion_move g s a before lawful) (put_facts g before lawful.1) (direct_put g before lawful.1)
 
 -- what stands before the last event of a kind is lawful
 pub lawful_last : (g : Setup) (is_kind : Event → Bool) (h : History) → IsLawfulApart g h → IsLawfulApart g (before_last is_kind h)

@@ -12,18 +12,16 @@ use Rattle.uring_entry.specs.Submission.{Submission, taken, accepted, entries_of
 use Rattle.uring_entry.specs.Completions.{Completions, with_posted, with_end}
 use Rattle.uring_entry.specs.Requests.{Ending}
 use Rattle.uring_machine.specs.Direct.{accepted_by, closes_ring, told, sums_from, cut_counts, completion_of}
-use Rattle.uring_machine.specs.World.{World, happens}
+use Rattle.uring_machine.specs.World.{World}
 use Rattle.uring_machine.specs.Histories.{History, world, IsLawfulApart}
 use Rattle.uring_machine.specs.declared.step.Step.{Step}
 use Rattle.uring_machine.specs.declared.answer.Answer.{Answer}
-use Rattle.uring_machine.proofs.Changes.{Change, change_of}
 use Rattle.uring_machine.proofs.SubmissionMoves.{SubmissionMove, stays, stores, closes, submission_move}
 use Rattle.uring_machine.proofs.CompletionMoves.{CompletionMove, stays as stays_off, ends, completion_move}
 use Rattle.uring_machine.proofs.Telling.{told_same}
 use Rattle.uring_machine.proofs.Sound.{IsSound, sound_of}
 
 pub record DirectRequests (h : History) (w : World) : Type 0 where
-  pub posted : w.completions.posted ≡ filter_map (completion_of w.requests.accepted) w.requests.ended
   pub taken_in : w.requests.accepted ≡ accepted w.submission
   pub counted : sum (told accepted_by h) ≡ length w.requests.accepted
   pub cuts : w.requests.cuts ≡ cut_counts h
@@ -75,14 +73,13 @@ posted_direct g w s a v (ends _ _ n res bytes r off told same_accepted one_more)
     ∙ ap₂ (λ accepted ended. filter_map (completion_of accepted) ended) (sym same_accepted) (sym one_more)
 posted_direct g w s a v _ sound i = i
 
--- what of the requests the submission ring tells
-record DirectAccepted (h : History) (w : World) : Type 0 where
-  taken_in : w.requests.accepted ≡ accepted w.submission
-  counted : sum (told accepted_by h) ≡ length w.requests.accepted
-  cuts : w.requests.cuts ≡ cut_counts h
-  shut : w.is_closed ≡ list_any closes_ring h
+pub direct_posted : (g : Setup) (h : History) → IsLawfulApart g h → (world g h).completions.posted ≡ filter_map (completion_of (world g h).requests.accepted) (world g h).requests.ended
+direct_posted g [] lawful = refl
+direct_posted g ((s, a) ∷ before) lawful = posted_direct g (world g before) s a _ (completion_move g s a before lawful) (sound_of g before lawful.1) (direct_posted g before lawful.1)
 
-accepted_direct : (g : Setup) (h : History) (w : World) (s : Step) (a : Answer) (v : World) → SubmissionMove g w s a v → IsSound g w → DirectAccepted h w → DirectAccepted ((s, a) ∷ h) v
+-- What of the requests the submission ring tells.
+
+accepted_direct : (g : Setup) (h : History) (w : World) (s : Step) (a : Answer) (v : World) → SubmissionMove g w s a v → IsSound g w → DirectRequests h w → DirectRequests ((s, a) ∷ h) v
 accepted_direct g h w s a v (stays _ _ r c is_closed off left) sound i =
     record {
       taken_in = left.accepted ∙ i.taken_in;
@@ -105,14 +102,6 @@ accepted_direct g h w s a v (closes accepted missed head call opened all counted
     }
 accepted_direct g h w s a v _ sound i = assumption i
 
-requests_direct : (g : Setup) (h : History) (w : World) (s : Step) (a : Answer) → Change g w s a → IsSound g w → DirectRequests h w → DirectRequests ((s, a) ∷ h) (happens g w s a)
-requests_direct g h w s a c sound i =
-    let known : DirectAccepted h w = assumption i in
-    let d = accepted_direct g h w s a _ (submission_move g w s a c) sound known in
-    let posted = posted_direct g w s a _ (completion_move g w s a c) sound i.posted in
-    assumption (posted, d)
-
 pub direct_requests : (g : Setup) (h : History) → IsLawfulApart g h → DirectRequests h (world g h)
-direct_requests g [] lawful = record { posted = refl; taken_in = refl; counted = refl; cuts = refl; shut = refl }
-direct_requests g ((s, a) ∷ before) lawful =
-    requests_direct g before (world g before) s a (change_of g (world g before) s a lawful.0) (sound_of g before lawful.1) (direct_requests g before lawful.1)
+direct_requests g [] lawful = record { taken_in = refl; counted = refl; cuts = refl; shut = refl }
+direct_requests g ((s, a) ∷ before) lawful = accepted_direct g before (world g before) s a _ (submission_move g s a before lawful) (sound_of g before lawful.1) (direct_requests g before lawful.1)

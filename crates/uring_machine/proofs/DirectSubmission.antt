@@ -14,7 +14,6 @@ use Rattle.uring_machine.specs.declared.step.Step.{Step}
 use Rattle.uring_machine.specs.declared.step.Step.TheVariants as step
 use Rattle.uring_machine.specs.declared.answer.Answer.{Answer}
 use Rattle.uring_machine.specs.declared.answer.Answer.TheVariants as answer
-use Rattle.uring_machine.proofs.Changes.{change_of}
 use Rattle.uring_machine.proofs.SubmissionMoves.{SubmissionMove, stays, fills, stages, stores, loads, begins, takes, drops, closes, submission_move}
 use Rattle.uring_machine.proofs.SoundRings.{IsSoundSubmission, open_taken, open_count as positions_open}
 use Rattle.uring_machine.proofs.Sound.{sound_of}
@@ -157,7 +156,7 @@ submission_direct g h w s a v (loads head) sound i =
     let f = none_called g h w (s, a) refl refl refl refl i in
     let seen = ap sum i.calls in
     assumption (seen, f, i)
-submission_direct g h w s a v (begins count is_open no_call) sound i =
+submission_direct g h w s a v (begins count is_open no_call unspent) sound i =
     record {
       content = i.content;
       published = i.published;
@@ -197,7 +196,7 @@ submission_direct g h w s a v (closes accepted missed head call opened all count
 pub direct_submission : (g : Setup) (h : History) → IsLawfulApart g h → DirectSubmission g h (world g h)
 direct_submission g [] lawful = record { content = λ slot. refl; published = refl; staged = refl; calls = refl; closed = refl; openings = refl; seen = refl; opened = tt }
 direct_submission g ((s, a) ∷ before) lawful =
-    submission_direct g before (world g before) s a _ (submission_move g (world g before) s a (change_of g (world g before) s a lawful.0)) (sound_of g before lawful.1).submission (direct_submission g before lawful.1)
+    submission_direct g before (world g before) s a _ (submission_move g s a before lawful) (sound_of g before lawful.1).submission (direct_submission g before lawful.1)
 
 -- the call that is open
 pub call_direct : (g : Setup) (h : History) (w : World) → DirectSubmission g h w → w.submission.call ≡ open_call g h

@@ -1,16 +1,16 @@
 -- What an event makes of the files of a history: a Finish that ends its request does what its operation does (`files_ended`), and no other step changes a file (`files_kept`).
 -- From `Moves`: doomed requests end with a fault and cancels are on no file, so their ends change none.
 -- Stable: other crates may import `files_ended` and `files_kept`.
-use Rattle.std.proofs.Common.{◌≡◌, ℕ, ℤ, negsuc, ◌==◌, List, [], ◌∷◌, ◌++◌, Bool, true, false, if◌then◌else◌, refl, ◌∙◌, ap}
+use Rattle.std.proofs.Common.{◌≡◌, ℕ, ℤ, negsuc, ◌==◌, List, [], ◌∷◌, ◌++◌, Bool, true, if◌then◌else◌, refl, ◌∙◌, ap}
 use Rattle.std.specs.List.{list_any}
-use Rattle.std.proofs.lemmas.Bool.{or_left, or_right, eqb-true, eq-eqb}
+use Rattle.std.proofs.lemmas.Bool.{or_left, or_right, eqb-true, eq-eqb, cond_both}
 use Rattle.uring_entry.specs.Setup.{Setup}
 use Rattle.uring_entry.specs.Layout.{Sqe, opcode_of, addr_of}
 use Rattle.uring_entry.specs.Preparation.{is_faulty, is_cancel, is_cancel_all, operation_of}
 use Rattle.uring_entry.specs.Requests.{Requests, Ending, entry_of, doomed_result, cancel_result, no_bytes, with_call, with_started, with_ended, with_issued_end}
 use Rattle.uring_entry.specs.declared.opcode.TheConstants.{NOP, FSYNC, ASYNC_CANCEL}
 use Rattle.uring_entry.specs.declared.operation.Op.{Op}
-use Rattle.uring_entry.specs.declared.operation.Op.TheVariants.{Nop, Read, Write, Fsync, Cancel}
+use Rattle.uring_entry.specs.declared.operation.Op.TheVariants.{Nop, Cancel}
 use Rattle.uring_files.specs.Contents.{FileContents}
 use Rattle.uring_files.specs.Operations.{after}
 use Rattle.uring_machine.specs.CalledFor.{files_after, files_of}
@@ -18,7 +18,6 @@ use Rattle.uring_machine.specs.Core.{IsNoFinish}
 use Rattle.uring_machine.specs.Histories.{History, world, IsLawfulApart}
 use Rattle.uring_machine.specs.declared.step.Step.{Step}
 use Rattle.uring_machine.specs.declared.answer.Answer.{Answer}
-use Rattle.uring_machine.proofs.Changes.{change_of}
 use Rattle.uring_machine.proofs.Moves.{Move, stays, accepts, starts, ends_doomed, ends_cancel, ends_run, move_of}
 use Rattle.uring_machine.proofs.Running.{entry_stays}
 use Rattle.uring_machine.proofs.Sound.{sound_of}
@@ -39,18 +38,13 @@ files_more r files (first ∷ later) e = files_more r (after files (operation_of
 
 -- Ends that change no file.
 
-failed : (files : List FileContents) (op : Op) (below : ℕ) → after files op (negsuc below) ≡ files
+pub failed : (files : List FileContents) (op : Op) (below : ℕ) → after files op (negsuc below) ≡ files
 failed files Nop below = refl
-failed files (Read fd off len) below = refl
-failed files (Write fd off len bytes) below = refl
-failed files (Fsync fd) below = refl
-failed files (Cancel target all) below = refl
+failed files _ below = refl
 
 doomed_changes_none : (files : List FileContents) (r : Requests) (n : ℕ) → after files (operation_of (entry_of r n)) (doomed_result r n) ≡ files
-doomed_changes_none files r n = by_fault (is_faulty (entry_of r n)) where
-  by_fault : (faulty : Bool) → after files (operation_of (entry_of r n)) (if faulty then negsuc 21 else negsuc 124) ≡ files
-  by_fault true = failed files (operation_of (entry_of r n)) 21
-  by_fault false = failed files (operation_of (entry_of r n)) 124
+doomed_changes_none files r n =
+    cond_both (is_faulty (entry_of r n)) (negsuc 21) (negsuc 124) (λ res. after files (operation_of (entry_of r n)) res ≡ files) (λ _. failed files (operation_of (entry_of r n)) 21) (λ _. failed files (operation_of (entry_of r n)) 124)
 
 asks_cancel : (code target : ℕ) (all : Bool) (sync other : Op) → code ≡ ASYNC_CANCEL → (if code == NOP then Nop else (if code == FSYNC then sync else (if code == ASYNC_CANCEL then Cancel target all else other))) ≡ Cancel target all
 asks_cancel code target all sync other e = rw e refl
@@ -82,5 +76,5 @@ move_keeps r q s a files (ends_run n res bytes running) other i = absurd other
 -- a step but a finish leaves the files as they are
 pub files_kept : (g : Setup) (s : Step) (a : Answer) (before : History) → IsLawfulApart g ((s, a) ∷ before) → IsNoFinish s → files_of g (world g ((s, a) ∷ before)) ≡ files_of g (world g before)
 files_kept g s a before lawful other =
-    move_keeps (world g before).requests _ s a _ (move_of g (world g before) s a (change_of g (world g before) s a lawful.0) lawful.0) other
+    move_keeps (world g before).requests _ s a _ (move_of g s a before lawful) other
     (sound_of g before lawful.1).requests

@@ -23,11 +23,11 @@ use Rattle.uring_machine.proofs.WholeLaws.{lawful_apart}
 
 -- The last operation.
 
-left-snoc : (files : List FileContents) (done : List Done) (d : Done) → files_left files (done ++ d ∷ []) ≡ after (files_left files done) d.op d.outcome.res
+pub left-snoc : (files : List FileContents) (done : List Done) (d : Done) → files_left files (done ++ d ∷ []) ≡ after (files_left files done) d.op d.outcome.res
 left-snoc files [] d = refl
 left-snoc files (first ∷ later) d = left-snoc (after files first.op first.outcome.res) later d
 
-done-snoc : (files : List FileContents) (done : List Done) (d : Done) → AreDone files done → IsOutcome (files_left files done) d.op d.outcome → AreDone files (done ++ d ∷ [])
+pub done-snoc : (files : List FileContents) (done : List Done) (d : Done) → AreDone files done → IsOutcome (files_left files done) d.op d.outcome → AreDone files (done ++ d ∷ [])
 done-snoc files [] d all last = (last, tt)
 done-snoc files (first ∷ later) d all last = (all.0, done-snoc (after files first.op first.outcome.res) later d all.1 last)
 

@@ -1,5 +1,6 @@
 -- That a machine fits a history with one more event.
 use Rattle.std.proofs.Common.{◌≡◌, ℕ, List, ◌∷◌, Bool, true, false, Option, Some, None, IfSome, if◌then◌else◌, refl, sym, subst, ◌∙◌, ap}
+use Rattle.std.proofs.lemmas.Option.{cond_some}
 use Rattle.uring_entry.specs.Setup.{Setup}
 use Rattle.uring_entry.specs.Preparation.{operation_of}
 use Rattle.uring_entry.specs.Requests.{Requests, entry_of, is_running, operation_running}
@@ -8,7 +9,7 @@ use Rattle.uring_entry.specs.declared.operation.Outcome.{Outcome}
 use Rattle.uring_files.specs.Contents.{FileContents}
 use Rattle.uring_files.specs.Operations.{after, IsOutcome, IsForFiles}
 use Rattle.uring_machine.specs.World.{World}
-use Rattle.uring_machine.specs.StepAnswers.{CalledForApart, FinishesApart}
+use Rattle.uring_machine.specs.StepAnswers.{CalledForApart}
 use Rattle.uring_machine.specs.CalledFor.{CalledFor, IsLawful, EndsOn, files_of}
 use Rattle.uring_machine.specs.Core.{Core, FitsApart, IsCore, IsNoFinish, IsFinished}
 use Rattle.uring_machine.specs.Histories.{History, world}
@@ -38,10 +39,7 @@ step_fits core later files s a h same other fits next =
 
 -- what runs has this operation
 pub runs_with : (r : Requests) (n : ℕ) (op : Op) → Some op ≡ operation_running r n → (is_running r n ≡ true) × (op ≡ operation_of (entry_of r n))
-runs_with r n op e = by_running (is_running r n) e where
-  by_running : (running : Bool) → Some op ≡ (if running then Some (operation_of (entry_of r n)) else None) → (running ≡ true) × (op ≡ operation_of (entry_of r n))
-  by_running true f = (refl, cc)
-  by_running false f = absurd cc
+runs_with r n op e = let p = cond_some (is_running r n) (operation_of (entry_of r n)) op (sym e) in (p.0, sym p.1)
 
 -- what runs can be asked of files
 pub asks_files : (core : Core) (n : ℕ) (r : Option Op) → IsCore core → ((h : History) → FitsApart core h → r ≡ operation_running (world core.setup h).requests n) → IfSome r IsForFiles
@@ -79,18 +77,6 @@ finish_fits core later files n op outcome left a h same fits is allowed leaves n
 pub not_running : {X : Type 0} (op : X) (running : Bool) → None ≡ (if running then Some op else None) → running ≡ false
 not_running op true e = absurd cc
 not_running op false e = refl
-
--- a request that doesn't run is refused
-pub refusal_fits : (core : Core) (files : List FileContents) (n : ℕ) (h : History) → Fits (record { core = core; files = files }) h → None ≡ operation_running (world core.setup h).requests n
-    → Fits (record { core = core; files = files }) ((step.Finish n, answer.NotRunning) ∷ h)
-refusal_fits core files n h fits is =
-    let w : World = world core.setup h in
-    let idle : is_running w.requests n ≡ false = not_running (operation_of (entry_of w.requests n)) (is_running w.requests n) is in
-    record {
-      core = record { shows = fits.core.shows; lawful = (subst (λ b. FinishesApart b answer.NotRunning) (sym idle) refl, fits.core.lawful) };
-      files = fits.files;
-      lawful = (subst (λ b. EndsOn (files_of core.setup w) w.requests n b answer.NotRunning) (sym idle) refl, fits.lawful);
-    }
 
 -- an event of a fitted history was called for
 pub called_for : (g : Setup) (core : Core) (files : List FileContents) (s : Step) (a : Answer) (h : History) → core.setup ≡ g → Fits (record { core = core; files = files }) ((s, a) ∷ h) → CalledFor g (world g h) s a

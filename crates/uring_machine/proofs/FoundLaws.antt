@@ -3,7 +3,7 @@ use Rattle.std.proofs.Common.{◌≡◌, ℕ, ◌<◌, length, Bool, true, false
 use Rattle.std.specs.Prelude.{if◌then◌else◌, pos, neg_ℤ}
 use Rattle.uring_entry.specs.declared.errno.TheConstants.{EALREADY}
 use Rattle.uring_entry.specs.declared.operation.Op.{Op}
-use Rattle.uring_entry.specs.declared.operation.Op.TheVariants.{Nop, Read, Write, Fsync, Cancel}
+use Rattle.uring_entry.specs.declared.operation.Op.TheVariants.{Cancel}
 use Rattle.uring_entry.specs.Preparation.{is_faulty, is_cancel_all, operation_of}
 use Rattle.uring_entry.specs.Requests.{Requests, entry_of, is_outstanding, is_running, is_candidate, target_of, targets_of, cancel_result, count_result, result_for}
 use Rattle.uring_entry.proofs.BelowLemmas.{least_below-out, least_below-tells}
@@ -42,18 +42,12 @@ pub found-said : (r : Requests) (n : ℕ) (f : Found) → found_by r n ≡ Some 
 found-said r n f e = by_standing (is_outstanding r n) (is_faulty (entry_of r n)) refl e
   where
     by_operation : is_outstanding r n ≡ true → (op : Op) → operation_of (entry_of r n) ≡ op → found_for r n (Some op) ≡ Some f → Finds r n f
-    by_operation given Nop does is = cc
-    by_operation given (Read fd off len) does is = cc
-    by_operation given (Write fd off len bytes) does is = cc
-    by_operation given (Fsync fd) does is = cc
-    by_operation given (Cancel t true) does is = cc
     by_operation given (Cancel t false) does is =
         let asks = is_cancel-operation (entry_of r n) t false does in
         let so = found-one r n f (sym asks.1) (let same : found_as r (target_of r n) ≡ f = cc in same) in
         record { outstanding = given; cancels = asks.0; one = sym asks.1; found = so.0; result = so.1 }
+    by_operation given _ does is = cc
 
     by_standing : (b c : Bool) → is_outstanding r n ≡ b → found_for r n (if b && not c then Some (operation_of (entry_of r n)) else None) ≡ Some f → Finds r n f
     by_standing true false given is = by_operation given (operation_of (entry_of r n)) refl is
-    by_standing true true given is = cc
-    by_standing false true given is = cc
-    by_standing false false given is = cc
+    by_standing _ _ given is = cc

@@ -10,9 +10,9 @@ use Rattle.uring_entry.specs.Success.{is_success}
 use Rattle.uring_entry.specs.Preparation.{is_faulty}
 use Rattle.uring_entry.specs.Requests.{Requests, entry_of, has_failed, is_soft, is_last, is_linked, is_joined, is_in_group, some_member, is_in_faulty_group, is_behind_failure, is_cancelled, is_doomed, with_call}
 use Rattle.uring_entry.proofs.BelowLemmas.{some_below-same, some_below-between}
-use Rattle.uring_entry.proofs.RequestLemmas.{is_joined-no}
+use Rattle.uring_entry.proofs.RequestLemmas.{is_joined-no, list_any-push}
 use Rattle.uring_machine.proofs.SoundRequests.{IsSoundRequests, IsFree, EndsDoomed}
-use Rattle.uring_machine.proofs.ListCounts.{any_kept, any_push}
+use Rattle.uring_machine.proofs.ListCounts.{any_kept}
 
 module _ (r : Requests) (entries : List Sqe) (cut : (length r.accepted ≡ 0) ⊎ (list_any (λ c. c == length r.accepted) r.cuts ≡ true)) where
   pub longer : length r.accepted ≤ length (with_call r entries).accepted
@@ -33,7 +33,7 @@ module _ (r : Requests) (entries : List Sqe) (cut : (length r.accepted ≡ 0) �
   last_kept k lt =
       let l = longer in
       ap (λ e. not (is_linked e) || list_any (λ c. c == k + 1) (with_call r entries).cuts) (entry_kept k (omega arith))
-      ∙ ap (λ b. not (is_linked (entry_of r k)) || b) (any_push (λ c. c == k + 1) r.cuts (length (with_call r entries).accepted) ∙ or_none _ _ (ne_eqb _ _ (λ same. omega arith))) where
+      ∙ ap (λ b. not (is_linked (entry_of r k)) || b) (list_any-push (λ c. c == k + 1) r.cuts (length (with_call r entries).accepted) ∙ or_none _ _ (ne_eqb _ _ (λ same. omega arith))) where
         or_none : (x y : Bool) → y ≡ false → (x || y) ≡ x
         or_none true y e = refl
         or_none false y e = e
@@ -92,7 +92,7 @@ module _ (r : Requests) (entries : List Sqe) (cut : (length r.accepted ≡ 0) �
         ended_accepted = λ n e. omega (arith, s.ended_accepted n e);
         starts_once = s.starts_once;
         ends_once = s.ends_once;
-        cut_at_end = inr (any_push (λ c. c == length (with_call r entries).accepted) r.cuts (length (with_call r entries).accepted) ∙ or_right (list_any (λ c. c == length (with_call r entries).accepted) r.cuts) _ (eq-eqb (length (with_call r entries).accepted) _ refl));
+        cut_at_end = inr (list_any-push (λ c. c == length (with_call r entries).accepted) r.cuts (length (with_call r entries).accepted) ∙ or_right (list_any (λ c. c == length (with_call r entries).accepted) r.cuts) _ (eq-eqb (length (with_call r entries).accepted) _ refl));
         started_free = λ n e. call_free n (s.started_accepted n e) (s.started_free n e);
         ended_how = λ n e. elim (s.ended_how n e) [ inl doomed ↦ inl (ends_kept n (s.ended_accepted n e) doomed) | inr free ↦ inr (call_free n (s.ended_accepted n e) free) ];
       }

@@ -8,7 +8,6 @@ use Rattle.uring_entry.specs.Requests.{Requests, entry_of, is_joined, is_drainin
 use Rattle.uring_machine.specs.Histories.{History, world, IsLawfulApart}
 use Rattle.uring_machine.specs.declared.step.Step.{Step}
 use Rattle.uring_machine.specs.declared.answer.Answer.{Answer}
-use Rattle.uring_machine.proofs.Changes.{change_of}
 use Rattle.uring_machine.proofs.Moves.{Move, stays, accepts, starts, ends_doomed, ends_cancel, ends_run, move_of}
 use Rattle.uring_machine.proofs.RequestEnds.{IsChoice, ended_as, end_doom, end_join, choice_of, no_choice}
 use Rattle.uring_entry.proofs.EventLemmas.{is_doomed-started, is_joined-started, is_draining-started}
@@ -80,7 +79,7 @@ move_grows r s a later (ends_cancel n outstanding spared ready cancel) cut = end
 move_grows r s a later (ends_run n res bytes running) cut = end_grows r n res bytes r.cancelled (no_choice r n)
 
 pub event_grows : (g : Setup) (s : Step) (a : Answer) (before : History) → IsLawfulApart g ((s, a) ∷ before) → Grows (world g before).requests (world g ((s, a) ∷ before)).requests
-event_grows g s a before lawful = move_grows (world g before).requests s a _ (move_of g (world g before) s a (change_of g (world g before) s a lawful.0) lawful.0) (sound_of g before lawful.1).requests.cut_at_end
+event_grows g s a before lawful = move_grows (world g before).requests s a _ (move_of g s a before lawful) (sound_of g before lawful.1).requests.cut_at_end
 
 pub grows : (g : Setup) (after before : History) → IsLawfulApart g (after ++ before) → Grows (world g before).requests (world g (after ++ before)).requests
 grows g [] before lawful = same_grows (world g before).requests

@@ -1,60 +1,49 @@
 -- How many requests a lawful history accepts.
-use Rattle.std.proofs.Common.{◌≡◌, ℕ, ◌+◌, ◌-◌, ◌^◌, ◌≤◌, Bool, true, false, [], ◌∷◌, length, drop, is_some, if◌then◌else◌, refl, sym, subst, arith}
+use Rattle.std.proofs.Common.{◌+◌, ◌-◌, ◌^◌, ◌≤◌, [], ◌∷◌, length, drop, sym, subst, arith}
 use Rattle.std.proofs.lemmas.Bool.{ltb-false, eqb-false}
 use Rattle.std.proofs.lemmas.List.{length-append, length-take}
 use Rattle.uring_entry.specs.Setup.{Setup}
-use Rattle.uring_entry.specs.Submission.{Call, taken, stops_at, call_length, entries_of, places_from}
+use Rattle.uring_entry.specs.Submission.{Call, taken, stops_at, entries_of, places_from}
 use Rattle.uring_entry.specs.Requests.{is_outstanding, outstanding_in}
 use Rattle.uring_rings.proofs.Places.{entries_and_dropped}
 use Rattle.uring_machine.specs.World.{World}
-use Rattle.uring_machine.specs.StepAnswers.{CalledForApart, OrAgain, is_spent}
 use Rattle.uring_machine.specs.Core.{positions_of}
 use Rattle.uring_machine.specs.Histories.{History, world, IsLawfulApart}
 use Rattle.uring_machine.specs.declared.step.Step.{Step}
 use Rattle.uring_machine.specs.declared.answer.Answer.{Answer}
-use Rattle.uring_machine.specs.declared.answer.Answer.TheVariants as answer
-use Rattle.uring_machine.proofs.Changes.{change_of}
 use Rattle.uring_machine.proofs.SubmissionMoves.{SubmissionMove, stays, begins, takes, drops, closes, submission_move}
 use Rattle.uring_machine.proofs.SoundRings.{IsSoundSubmission, open_taken, open_count, stopped_between}
 use Rattle.uring_machine.proofs.Sound.{sound_of}
-use Rattle.uring_machine.proofs.Outstanding.{count_below-few}
+use Rattle.uring_dispatch.proofs.Counting.{count_below-within}
 
 -- the requests accepted, with those that the open call may still accept, are fewer than 2 ^ 63
 abbrev AreFew : World → Type 0
 AreFew w = length w.requests.accepted + positions_of w.submission.call ≤ 2 ^ 63 - 1
-
--- where a call opens the numbers aren't spent
-not_spent : (is_closed in_call spent : Bool) (count : ℕ) → OrAgain (if is_closed then answer.Closed else (if in_call then answer.InCall else (if spent then answer.Spent else answer.Call count))) (answer.Call count) → spent ≡ false
-not_spent is_closed in_call false count called = refl
-not_spent true in_call true count called = absurd cc
-not_spent false true true count called = absurd cc
-not_spent false false true count called = absurd cc
 
 -- a call accepts no more than its positions
 few_entries : (w : World) (call : Call) → length (entries_of (places_from w.submission call.count)) ≤ call.count
 few_entries w call =
     omega (arith, entries_and_dropped (places_from w.submission call.count), length-take call.count (drop (taken w.submission) w.submission.published))
 
-few_kept : (g : Setup) (w : World) (s : Step) (a : Answer) (v : World) → SubmissionMove g w s a v → IsSoundSubmission g.sq w.submission → CalledForApart g w s a → AreFew w → AreFew v
-few_kept g w s a v (stays _ _ r c is_closed off left) sound called i =
+few_kept : (g : Setup) (w : World) (s : Step) (a : Answer) (v : World) → SubmissionMove g w s a v → IsSoundSubmission g.sq w.submission → AreFew w → AreFew v
+few_kept g w s a v (stays _ _ r c is_closed off left) sound i =
     subst (λ entries. length entries + positions_of w.submission.call ≤ 2 ^ 63 - 1) (sym left.accepted) i
-few_kept g w s a v (begins count is_open no_call) sound called i =
-    ltb-false _ _ (not_spent w.is_closed (is_some w.submission.call) (is_spent w (call_length w.submission count)) (call_length w.submission count) called)
-few_kept g w s a v (takes entry call place opened left at valid) sound called i =
+few_kept g w s a v (begins count is_open no_call unspent) sound i = ltb-false _ _ unspent
+few_kept g w s a v (takes entry call place opened left at valid) sound i =
     let before : length w.requests.accepted + call.count ≤ 2 ^ 63 - 1 = subst (λ o. length w.requests.accepted + positions_of o ≤ 2 ^ 63 - 1) opened i in
     let within : call.taken ≤ call.count = subst (λ o. open_taken o ≤ open_count o) opened sound.within_call in
     let further : call.taken + 1 ≤ call.count = omega (arith, within, eqb-false call.taken call.count left) in
     omega (arith, before, (stopped_between (stops_at g entry) (record call { taken = call.taken + 1 }) further).1)
-few_kept g w s a v (drops call place opened left at invalid) sound called i = subst (λ o. length w.requests.accepted + positions_of o ≤ 2 ^ 63 - 1) opened i
-few_kept g w s a v (closes accepted missed head call opened all many) sound called i =
+few_kept g w s a v (drops call place opened left at invalid) sound i = subst (λ o. length w.requests.accepted + positions_of o ≤ 2 ^ 63 - 1) opened i
+few_kept g w s a v (closes accepted missed head call opened all many) sound i =
     let before : length w.requests.accepted + call.count ≤ 2 ^ 63 - 1 = subst (λ o. length w.requests.accepted + positions_of o ≤ 2 ^ 63 - 1) opened i in
     omega (arith, before, few_entries w call, length-append w.requests.accepted (entries_of (places_from w.submission call.count)))
-few_kept g w s a v _ sound called i = i
+few_kept g w s a v _ sound i = i
 
 few_accepted : (g : Setup) (h : History) → IsLawfulApart g h → AreFew (world g h)
 few_accepted g [] lawful = omega arith
-few_accepted g ((s, a) ∷ before) lawful = few_kept g (world g before) s a _ (submission_move g (world g before) s a (change_of g (world g before) s a lawful.0)) (sound_of g before lawful.1).submission lawful.0 (few_accepted g before lawful.1)
+few_accepted g ((s, a) ∷ before) lawful = few_kept g (world g before) s a _ (submission_move g s a before lawful) (sound_of g before lawful.1).submission (few_accepted g before lawful.1)
 
 -- fewer than 2 ^ 63 are outstanding
 pub few_outstanding : (g : Setup) (h : History) → IsLawfulApart g h → outstanding_in (world g h).requests ≤ 2 ^ 63 - 1
-few_outstanding g h lawful = omega (arith, few_accepted g h lawful, count_below-few (is_outstanding (world g h).requests) (length (world g h).requests.accepted))
+few_outstanding g h lawful = omega (arith, few_accepted g h lawful, count_below-within (is_outstanding (world g h).requests) (length (world g h).requests.accepted))

@@ -1,7 +1,7 @@
 -- The laws of doomed requests, links and drains.
-use Rattle.std.proofs.Common.{◌≡◌, ℕ, ◌<◌, ◌==◌, pos, neg_ℤ, Bool, true, false, not, ◌||◌, List, ◌∷◌, ◌++◌, Option, Some, None, length, slice_get, count_by, cond, refl, sym, subst, ap, ◌∙◌, inl, inr, arith}
+use Rattle.std.proofs.Common.{◌≡◌, ℕ, ◌<◌, ◌==◌, pos, neg_ℤ, true, false, not, ◌||◌, List, ◌∷◌, ◌++◌, Option, Some, None, length, slice_get, count_by, refl, sym, subst, ap, ◌∙◌, inl, inr, arith}
 use Rattle.std.specs.Ordering.{int_eq}
-use Rattle.std.proofs.lemmas.Bool.{and_cases, and_from, both_ways, not-false, eq-eqb, true_from_ne_false, false_from_ne_true}
+use Rattle.std.proofs.lemmas.Bool.{and_cases, and_from, both_ways, not-false, eq-eqb, true_from_ne_false, false_from_ne_true, cond_both}
 use Rattle.std.proofs.lemmas.Bool.Decides.{Decides-int_eq}
 use Rattle.std.proofs.lemmas.List.Folds.{list_any_at}
 use Rattle.std.proofs.lemmas.Option.{slice_get_within, get_or_from_slice_get}
@@ -53,16 +53,10 @@ never_run g h lawful =
 -- ECANCELED is no result of a cancel
 one_unlike : (r : Requests) (target : Option ℕ) → int_eq (result_for r target) (neg_ℤ ECANCELED) ≡ false
 one_unlike r None = refl
-one_unlike r (Some m) = by_running (is_running r m) where
-  by_running : (running : Bool) → int_eq (cond running (neg_ℤ EALREADY) (pos 0)) (neg_ℤ ECANCELED) ≡ false
-  by_running true = refl
-  by_running false = refl
+one_unlike r (Some m) = cond_both (is_running r m) (neg_ℤ EALREADY) (pos 0) (λ res. int_eq res (neg_ℤ ECANCELED) ≡ false) (λ _. refl) (λ _. refl)
 
 cancel_unlike : (r : Requests) (n : ℕ) → int_eq (cancel_result r n) (neg_ℤ ECANCELED) ≡ false
-cancel_unlike r n = by_all (is_cancel_all (entry_of r n)) where
-  by_all : (all : Bool) → int_eq (cond all (count_result (length (targets_of r n))) (result_for r (target_of r n))) (neg_ℤ ECANCELED) ≡ false
-  by_all true = refl
-  by_all false = one_unlike r (target_of r n)
+cancel_unlike r n = cond_both (is_cancel_all (entry_of r n)) (count_result (length (targets_of r n))) (result_for r (target_of r n)) (λ res. int_eq res (neg_ℤ ECANCELED) ≡ false) (λ _. refl) (λ _. one_unlike r (target_of r n))
 
 -- an Issue that is refused neither starts nor ends its request
 refused_no_end : (n : ℕ) (a : Answer) → IsSilent (step.Issue n, a) → IsEnded a → ⊥
@@ -74,7 +68,7 @@ refused_no_run n a silent run = let e : started_by (step.Issue n, answer.Run) �
 
 doomed_just_before : (g : Setup) (w : World) (n : ℕ) (a : Answer) (bytes : List ℕ) → Change g w (step.Issue n) a → a ≡ answer.Ended (neg_ℤ ECANCELED) bytes → is_doomed w.requests n ≡ true
 doomed_just_before g w n a bytes (refuses _ _ same silent) is = absurd (refused_no_end n a silent (subst IsEnded (sym is) tt))
-doomed_just_before g w n a bytes (runs _ outstanding idle spared ready) is = absurd cc
+doomed_just_before g w n a bytes (runs _ outstanding idle spared ready no_cancel) is = absurd cc
 doomed_just_before g w n a bytes (dooms _ outstanding idle doomed) is = doomed
 doomed_just_before g w n a bytes (cancels _ outstanding idle spared ready cancel) is =
     let e : cancel_result w.requests n ≡ neg_ℤ ECANCELED = cc in
@@ -98,7 +92,7 @@ record Started (w : World) (n : ℕ) : Type 0 where
 started_ready : (g : Setup) (w : World) (n : ℕ) (a : Answer) → Change g w (step.Issue n) a → IsStart w.requests n a → Started w n
 started_ready g w n a (refuses _ _ same silent) (inl run) = absurd (refused_no_run n a silent run)
 started_ready g w n a (refuses _ _ same silent) (inr ended) = absurd (refused_no_end n a silent ended.0)
-started_ready g w n a (runs _ outstanding idle spared ready) start = record { accepted = (outstanding_tells w.requests n outstanding).0; ready = ready }
+started_ready g w n a (runs _ outstanding idle spared ready no_cancel) start = record { accepted = (outstanding_tells w.requests n outstanding).0; ready = ready }
 started_ready g w n a (dooms _ outstanding idle doomed) (inl run) = absurd cc
 started_ready g w n a (dooms _ outstanding idle doomed) (inr ended) = absurd (both_ways _ ended.1 doomed)
 started_ready g w n a (cancels _ outstanding idle spared ready cancel) start = record { accepted = (outstanding_tells w.requests n outstanding).0; ready = ready }

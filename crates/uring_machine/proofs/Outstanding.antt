@@ -1,31 +1,12 @@
 -- How many requests are outstanding: none exactly if the count is 0, and one less with each end of one of them.
 -- By induction over the numbers below the count of accepted requests.
 -- Stable: other crates may import `none_outstanding`, `all_ended` and `ended_less`.
-use Rattle.std.proofs.Common.{◌≡◌, ◌≢◌, ℕ, zero, suc, ◌+◌, ◌<◌, ◌≤◌, Bool, true, false, not, ◌&&◌, ltb, cond, ℤ, List, length, refl, sym, ◌∙◌, ap, arith, inl, inr}
+use Rattle.std.proofs.Common.{◌≡◌, ◌≢◌, ℕ, zero, suc, ◌+◌, ◌<◌, Bool, true, false, not, ◌&&◌, ltb, cond, ℤ, List, length, refl, sym, ◌∙◌, ap, arith, inl, inr}
 use Rattle.std.proofs.lemmas.Bool.{cases_eq, cases_Bool, and_parts, ltb-true}
 use Rattle.uring_entry.specs.Requests.{Requests, has_ended, is_outstanding, with_ended, outstanding_in}
 use Rattle.uring_entry.proofs.RequestLemmas.{has_ended-same, has_ended-other}
 use Rattle.uring_entry.specs.Below.{count_below}
-
--- at most as many as there are numbers
-pub count_below-few : (p : ℕ → Bool) (n : ℕ) → count_below p n ≤ n
-count_below-few p zero = omega arith
-count_below-few p (suc n) =
-    elim (cases_Bool (p n)) [
-      | inl here ↦
-          let one : ◌≡◌ {A = ℕ} (cond (p n) 1 0) 1 = ap (λ b. cond b 1 0) here in
-          omega (arith, one, count_below-few p n)
-      | inr other ↦
-          let none : ◌≡◌ {A = ℕ} (cond (p n) 1 0) 0 = ap (λ b. cond b 1 0) other in
-          omega (arith, none, count_below-few p n)
-    ]
-
--- the count depends on no number but those counted
-count_below-same : (p q : ℕ → Bool) (n : ℕ) → ((k : ℕ) → k < n → p k ≡ q k) → count_below p n ≡ count_below q n
-count_below-same p q zero same = refl
-count_below-same p q (suc n) same =
-    let here : ◌≡◌ {A = ℕ} (cond (p n) 1 0) (cond (q n) 1 0) = ap (λ b. cond b 1 0) (same n (omega arith)) in
-    omega (arith, here, count_below-same p q n (λ k lt. same k (omega arith)))
+use Rattle.uring_dispatch.proofs.Counting.{count_below-same}
 
 -- a number less
 count_below-less : (p q : ℕ → Bool) (n m : ℕ) → m < n → p m ≡ true → q m ≡ false → ((k : ℕ) → k ≢ m → q k ≡ p k) → count_below q n + 1 ≡ count_below p n

@@ -1,17 +1,17 @@
 -- The law `published_is_told`: the items published are those that the events tell, and so is the count of dropped words.
 -- The items: from `own_submission`, position by position. The count: what all calls took less the entries among it,
 -- which `takes_places` has; kept from the last close on by induction over the history.
-use Rattle.std.proofs.Common.{◌≡◌, ℕ, suc, ◌+◌, ◌%◌, ◌^◌, ◌<◌, ◌≤◌, Bool, true, false, cond, nat_lt, List, [], ◌∷◌, length, map, take, count_by, get_or, Option, Some, None, slice_get, if◌then◌else◌, refl, sym, subst, ap, ap₂, ◌∙◌, arith}
-use Rattle.std.specs.Prelude.{All, is_none}
-use Rattle.std.specs.List.{enumerate_from, cons_option}
+use Rattle.std.proofs.Common.{◌≡◌, ℕ, suc, ◌+◌, ◌%◌, ◌^◌, ◌<◌, ◌≤◌, Bool, true, false, nat_lt, List, [], ◌∷◌, length, map, take, count_by, get_or, Option, Some, None, slice_get, if◌then◌else◌, refl, sym, subst, ap, ap₂, ◌∙◌, arith}
+use Rattle.std.specs.Prelude.{All}
+use Rattle.std.specs.List.{enumerate_from}
 use Rattle.std.proofs.lemmas.Bool.{ltb-false}
 use Rattle.std.proofs.lemmas.List.{get_or-map, get_or_append_left, length-map, length-take-le, length_push, take-append-le}
 use Rattle.std.proofs.lemmas.List.Elements.{All-nil, All-cons}
-use Rattle.std.proofs.lemmas.List.Sums.{sum_by-cons, sum_by_push}
+use Rattle.std.proofs.lemmas.List.Sums.{sum_by_push}
 use Rattle.std.proofs.lemmas.Option.{slice_get_within, get_or_from_slice_get}
 use Rattle.uring_entry.specs.Setup.{Setup}
 use Rattle.uring_entry.specs.Layout.{Sqe}
-use Rattle.uring_entry.specs.Submission.{Submission, Call, Place, place_of, taken, entries_of, dropped_in}
+use Rattle.uring_entry.specs.Submission.{Submission, Call, Place, place_of, taken, dropped_in}
 use Rattle.uring_machine.specs.World.{World, ending_of}
 use Rattle.uring_machine.specs.Direct.{takes_position, entry_taken_by, with_told, closes_call, entries_taken, positions_taken, staged_words, published_words, published_entry, slot_content, before_published}
 use Rattle.uring_machine.specs.Histories.{Event, History, world, IsLawfulApart}
@@ -21,13 +21,13 @@ use Rattle.uring_machine.specs.declared.step.Step.{Step}
 use Rattle.uring_machine.specs.declared.step.Step.TheVariants as step
 use Rattle.uring_machine.specs.declared.answer.Answer.{Answer}
 use Rattle.uring_machine.specs.declared.answer.Answer.TheVariants as answer
-use Rattle.uring_machine.proofs.Changes.{change_of}
 use Rattle.uring_machine.proofs.SubmissionMoves.{SubmissionMove, stays, stores, closes, submission_move}
 use Rattle.uring_machine.proofs.ReadOff.{own_submission}
 use Rattle.uring_machine.proofs.Sound.{sound_of}
 use Rattle.uring_machine.proofs.SoundRings.{open_taken, open_count}
 use Rattle.uring_machine.proofs.TakenPlaces.{reached, takes_places}
 use Rattle.uring_machine.proofs.Telling.{count_more, count_same, before_same}
+use Rattle.uring_rings.proofs.Places.{entries_and_dropped}
 
 -- The items.
 
@@ -75,20 +75,6 @@ items_sound g h own =
     (λ k p at none. subst (λ word. g.sq ≤ word) (word_is g h own k p at) (bad_is_high (get_or (staged_words h) k 0) g.sq (slot_content (before_published k h) (get_or (staged_words h) k 0)) (sym none ∙ own.entries k p at)))
 
 -- What calls dropped.
-
--- of places, those with an entry and those without
-entries_and_dropped : (places : List Place) → length (entries_of places) + dropped_in places ≡ length places
-entries_and_dropped [] = refl
-entries_and_dropped (p ∷ places) = by_entry p.entry refl (entries_and_dropped places) where
-  by_entry : (entry : Option Sqe) → p.entry ≡ entry → length (entries_of places) + dropped_in places ≡ length places → length (entries_of (p ∷ places)) + dropped_in (p ∷ places) ≡ suc (length places)
-  by_entry None e rest =
-      let same : length (entries_of (p ∷ places)) ≡ length (entries_of places) = ap (λ o. length (cons_option o (entries_of places))) e in
-      let one : ◌≡◌ {A = ℕ} (cond (is_none p.entry) 1 0) 1 = ap (λ o. cond (is_none o) 1 0) e in
-      omega (arith, rest, same, one, sum_by-cons (λ q. cond (is_none q.entry) 1 0) p places)
-  by_entry (Some entry) e rest =
-      let more : length (entries_of (p ∷ places)) ≡ suc (length (entries_of places)) = ap (λ o. length (cons_option o (entries_of places))) e in
-      let none : ◌≡◌ {A = ℕ} (cond (is_none p.entry) 1 0) 0 = ap (λ o. cond (is_none o) 1 0) e in
-      omega (arith, rest, more, none, sum_by-cons (λ q. cond (is_none q.entry) 1 0) p places)
 
 -- of the positions taken, those with an entry and those dropped
 taken_or_dropped : (h : History) → length (entries_taken h) + count_by drops_position h ≡ positions_taken h
@@ -138,7 +124,7 @@ drops_kept g h s a v lawful _ i = i
 
 drops_told : (g : Setup) (h : History) → IsLawfulApart g h → Drops h (world g h)
 drops_told g [] lawful = refl
-drops_told g ((s, a) ∷ before) lawful = drops_kept g before s a _ lawful.1 (submission_move g (world g before) s a (change_of g (world g before) s a lawful.0)) (drops_told g before lawful.1)
+drops_told g ((s, a) ∷ before) lawful = drops_kept g before s a _ lawful.1 (submission_move g s a before lawful) (drops_told g before lawful.1)
 
 pub own_published : (g : Setup) (h : History) → IsLawfulApart g h → OwnPublished g h
 own_published g h lawful =

@@ -8,7 +8,7 @@ use Rattle.uring_machine.proofs.DirectCompletions.{direct_completions}
 use Rattle.std.specs.List.{filter_map}
 use Rattle.uring_machine.specs.Direct.{completion_of, before_last, is_load_cq_tail}
 use Rattle.uring_machine.proofs.DirectPut.{direct_put, lawful_last}
-use Rattle.uring_machine.proofs.DirectRequests.{direct_requests}
+use Rattle.uring_machine.proofs.DirectRequests.{direct_requests, direct_posted}
 use Rattle.uring_machine.proofs.DirectPlaces.{direct_places}
 use Rattle.uring_machine.proofs.ToldRequests.{tells_requests}
 
@@ -35,10 +35,9 @@ own_requests g h lawful =
 pub own_completions : (g : Setup) (h : History) → IsLawfulApart g h → OwnCompletions g h
 own_completions g h lawful =
     let d = direct_completions g h lawful in
-    let r = direct_requests g h lawful in
     let t = tells_requests g h lawful in
     record {
-      posted = r.posted ∙ ap (filter_map (completion_of (world g h).requests.accepted)) (sym t.ended);
+      posted = direct_posted g h lawful ∙ ap (filter_map (completion_of (world g h).requests.accepted)) (sym t.ended);
       put = direct_put g h lawful;
       reaped = d.reaped;
       head = d.stored;

@@ -7,7 +7,6 @@ use Rattle.uring_entry.specs.Preparation.{operation_of}
 use Rattle.uring_entry.specs.Requests.{Requests, entry_of, is_running, operation_running, no_bytes}
 use Rattle.uring_entry.specs.declared.errno.TheConstants.{ENOMEM}
 use Rattle.uring_entry.specs.declared.operation.Op.{Op}
-use Rattle.uring_entry.specs.declared.operation.Op.TheVariants.{Nop, Read, Write, Fsync, Cancel}
 use Rattle.uring_entry.specs.declared.operation.Outcome.{Outcome}
 use Rattle.uring_files.specs.Contents.{FileContents}
 use Rattle.uring_files.specs.Operations.{after, ended_with, is_lengthening, result_of, IsOutcome}
@@ -22,20 +21,12 @@ use Rattle.uring_machine.specs.declared.step.Step.{Step}
 use Rattle.uring_machine.specs.declared.step.Step.TheVariants as step
 use Rattle.uring_machine.specs.declared.answer.Answer.{Answer}
 use Rattle.uring_machine.specs.declared.answer.Answer.TheVariants as answer
-use Rattle.uring_machine.specs.declared.wanted.Wanted.TheVariants.{Only, CallOrAgain, AnyEnd, EndOrNoMemory}
+use Rattle.uring_machine.specs.declared.wanted.Wanted.TheVariants.{Only, EndOrNoMemory}
 use Rattle.uring_machine.specs.declared.wanted.Refusal.{Refusal}
-use Rattle.uring_machine.specs.declared.wanted.Refusal.TheVariants.{Wrong, NoMemory}
+use Rattle.uring_machine.specs.declared.wanted.Refusal.TheVariants.{Wrong}
 use Rattle.uring_machine.proofs.Fitting.{step_fits, finish_fits, runs_with, not_running}
 use Rattle.uring_machine.proofs.RecordedAnswers.{wrong_beside}
-
--- what holds of a refusal holds of another clause that follows
-pub if_refused : (r : Result Unit Refusal) (P Q : Refusal → Type 0) → ((refusal : Refusal) → P refusal → Q refusal) → IfErr r P → IfErr r Q
-if_refused (Ok x) P Q follows p = tt
-if_refused (Err refusal) P Q follows p = follows refusal p
-
-pub if_followed : (r : Result Unit Refusal) (P Q : Type 0) → (P → Q) → OnOk r P → OnOk r Q
-if_followed (Ok x) P Q follows p = follows p
-if_followed (Err refusal) P Q follows p = tt
+use Rattle.uring_machine.proofs.FileHistory.{failed}
 
 -- Any step but a Finish: its core follows.
 
@@ -51,10 +42,7 @@ kept_fits core later files left h same untouched fits next = record {
 pub resumed_fits : (core later : Core) (files : List FileContents) (s : Step) (refusal : Refusal) (h : History) → later.setup ≡ core.setup → IsNoFinish s
     → Fits (record { core = core; files = files }) h → FitsApart later (resumed s refusal h) → Fits (record { core = later; files = files }) (resumed s refusal h)
 resumed_fits core later files s (Wrong (Only x)) h same other fits next = step_fits core later files s x h same other fits next
-resumed_fits core later files s (Wrong (CallOrAgain n)) h same other fits next = kept_fits core later files files h same refl fits next
-resumed_fits core later files s (Wrong AnyEnd) h same other fits next = kept_fits core later files files h same refl fits next
-resumed_fits core later files s (Wrong (EndOrNoMemory res)) h same other fits next = kept_fits core later files files h same refl fits next
-resumed_fits core later files s NoMemory h same other fits next = kept_fits core later files files h same refl fits next
+resumed_fits core later files s _ h same other fits next = kept_fits core later files files h same refl fits next
 
 -- some history is fitted, whichever way the core went
 pub follows_some : (core later : Core) (files : List FileContents) (s : Step) (a : Answer) (r : Result Unit Refusal) (h : History) → later.setup ≡ core.setup → IsNoFinish s
@@ -133,14 +121,6 @@ end_refused m h n op x a refusal runs short called is other =
 
 -- The write makes its file longer.
 
--- a write that found no memory changed no file
-pub left_alone : (files : List FileContents) (op : Op) → after files op (neg_ℤ ENOMEM) ≡ files
-left_alone files Nop = refl
-left_alone files (Read fd off len) = refl
-left_alone files (Write fd off len bytes) = refl
-left_alone files (Fsync fd) = refl
-left_alone files (Cancel target all) = refl
-
 growth_ends : (files : List FileContents) (op : Op) (res : ℤ) (a : Answer) → result_of files op ≡ ended_with res → EndsWith files op a → Meets (EndOrNoMemory res) a
 growth_ends files op res (answer.Ended r bytes) is (inl e) = inl (ap (λ (o : Outcome). answer.Ended o.res o.bytes) (e ∙ is))
 growth_ends files op res (answer.Ended r bytes) is (inr e) = inr (ap (λ (o : Outcome). answer.Ended o.res o.bytes) e.1)
@@ -195,4 +175,4 @@ pub followed_failure : (core later : Core) (files : List FileContents) (n : ℕ)
     → FitsApart later ((step.Finish n, a) ∷ h) → IsFinished (world core.setup h) n (ended_with (neg_ℤ ENOMEM)) a → given ≡ answer.Ended (neg_ℤ ENOMEM) no_bytes
     → Fits (record { core = later; files = files }) ((step.Finish n, given) ∷ h)
 followed_failure core later files n op a given h same fits is long next finished recorded =
-    followed_end core later files n op (ended_with (neg_ℤ ENOMEM)) files a given h same fits is (inr (long, refl)) (sym (left_alone files op)) next finished recorded
+    followed_end core later files n op (ended_with (neg_ℤ ENOMEM)) files a given h same fits is (inr (long, refl)) (sym (failed files op 11)) next finished recorded

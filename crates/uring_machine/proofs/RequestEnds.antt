@@ -3,15 +3,15 @@ use Rattle.std.proofs.Common.{◌≡◌, ◌≢◌, ℕ, ◌==◌, ◌<◌, ℤ,
 use Rattle.std.specs.List.{list_any}
 use Rattle.std.specs.Option.{option_to_list}
 use Rattle.std.specs.Ordering.{int_eq}
-use Rattle.std.proofs.lemmas.Bool.{cases_eq, cases_Bool, and_parts, and_from, and_left, and_right, or_cases, or_from, both_ways, eqb-true, eqb-false, ne_eqb, lt-ltb, not-true, not_from_true, false_from_ne_true}
+use Rattle.std.proofs.lemmas.Bool.{cases_eq, cases_Bool, and_parts, and_from, and_left, and_right, or_cases, or_from, both_ways, eqb-true, eqb-false, ne_eqb, lt-ltb, not-true, not_from_true, false_from_ne_true, cond_both}
 use Rattle.std.proofs.lemmas.Bool.Decides.{Decides-int_eq}
 use Rattle.std.proofs.lemmas.List.Folds.{list_any-append}
 use Rattle.uring_entry.specs.Success.{is_success}
 use Rattle.uring_entry.specs.Preparation.{is_faulty, is_cancel, is_cancel_all}
 use Rattle.uring_entry.specs.declared.errno.TheConstants.{EINVAL, EALREADY, ECANCELED}
 use Rattle.uring_entry.specs.Requests.{Requests, entry_of, has_started, has_ended, has_failed, is_running, is_outstanding, is_joined, some_member, is_in_faulty_group, is_cancelled, is_doomed, is_ready, is_candidate, is_target, target_of, targets_of, choices_of, count_result, result_for, cancel_result, doomed_result, no_bytes, chosen_by, with_ended, with_issued_end}
-use Rattle.uring_entry.proofs.RequestLemmas.{is_doomed-faulty, is_doomed-behind, is_doomed-cancelled, one_success, never_success, target-in}
-use Rattle.uring_machine.proofs.ListCounts.{any_looser, any_push, any_kept, any_new, count_once_more}
+use Rattle.uring_entry.proofs.RequestLemmas.{is_doomed-faulty, is_doomed-behind, is_doomed-cancelled, one_success, never_success, target-in, list_any-push}
+use Rattle.uring_machine.proofs.ListCounts.{any_looser, any_kept, any_new, count_once_more}
 use Rattle.uring_entry.proofs.EventLemmas.{is_doomed-tells, is_behind_failure-tells, is_behind_failure-from, target_of-tells}
 use Rattle.uring_machine.proofs.SoundRequests.{IsFree, is_otherwise, EndsDoomed, IsSoundRequests, outstanding_tells, idle_tells, ready_first}
 
@@ -107,13 +107,13 @@ module _ (r : Requests) (n : ℕ) (res : ℤ) (bytes : List ℕ) (cancelled : Li
   -- the ends of another stay its ends
   ends_doomed_kept : (m : ℕ) → m ≢ n → EndsDoomed r m → EndsDoomed (ended_as r n res bytes cancelled) m
   ends_doomed_kept m differ d =
-      any_push (is_otherwise r m) r.ended (record { number = n; res = res; bytes = bytes })
+      list_any-push (is_otherwise r m) r.ended (record { number = n; res = res; bytes = bytes })
       ∙ or_from _ _ d (and_left (eqb n m) _ (ne_eqb n m (λ same. differ (sym same))))
 
   -- the first end of a doomed request
   ends_doomed_first : has_ended r n ≡ false → res ≡ doomed_result r n → EndsDoomed (ended_as r n res bytes cancelled) n
   ends_doomed_first unended is =
-      any_push (is_otherwise r n) r.ended (record { number = n; res = res; bytes = bytes })
+      list_any-push (is_otherwise r n) r.ended (record { number = n; res = res; bytes = bytes })
       ∙ or_from _ _ (false_from_ne_true _ (λ some. both_ways _ unended (any_looser (λ e. e.number == n) (λ e. not (int_eq e.res (doomed_result r n))) r.ended some)))
       (and_right (eqb n n) _ (not_from_true _ ((Decides-int_eq res (doomed_result r n)).1 is)))
 
@@ -157,10 +157,7 @@ finish_sound r n res bytes running s =
 
 -- no doomed request succeeds
 pub doomed_fails : (r : Requests) (n : ℕ) → is_success (entry_of r n) (doomed_result r n) ≡ false
-doomed_fails r n = by_fault (is_faulty (entry_of r n)) where
-  by_fault : (faulty : Bool) → is_success (entry_of r n) (cond faulty (neg_ℤ EINVAL) (neg_ℤ ECANCELED)) ≡ false
-  by_fault true = never_success (entry_of r n) 21
-  by_fault false = never_success (entry_of r n) 124
+doomed_fails r n = cond_both (is_faulty (entry_of r n)) (neg_ℤ EINVAL) (neg_ℤ ECANCELED) (λ res. is_success (entry_of r n) res ≡ false) (λ _. never_success (entry_of r n) 21) (λ _. never_success (entry_of r n) 124)
 
 -- a cancel that ends with 0 found its target at rest
 result_tells : (r : Requests) (m : ℕ) → int_eq (result_for r (Some m)) (pos 0) ≡ true → is_running r m ≡ false

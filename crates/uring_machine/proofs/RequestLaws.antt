@@ -1,6 +1,6 @@
 -- The laws `each_ends_once` and `least_can_go_on`, and what can be issued.
 -- From what is sound of the requests, and from the answer that is called for.
--- Stable: other crates may import `issue_goes` and `issued_cases`.
+-- Stable: other crates may import `issue_goes`, `issued_ends` and `issuable_outstanding`.
 use Rattle.std.proofs.Common.{◌≡◌, ℕ, ◌<◌, ◌≤◌, ◌==◌, Bool, true, false, not, ◌||◌, List, Option, Some, None, length, count_by, ℤ, if◌then◌else◌, refl, sym, subst, inl, inr, arith}
 use Rattle.std.specs.List.{list_any}
 use Rattle.std.proofs.lemmas.Bool.{and_parts, and_cases, ltb-true, lt-ltb, both_ways, cases_Bool, or_cases, not-false, not-true, false_from_ne_true}
@@ -37,13 +37,13 @@ issue_goes w n issuable =
     let q = and_parts _ _ p.0 in
     answer_goes (is_outstanding w.requests n) (is_running w.requests n) (is_doomed w.requests n) (is_ready w.requests n) (is_cancel (entry_of w.requests n)) (doomed_result w.requests n) (cancel_result w.requests n) q.0 (not-true _ q.1) p.1
 
--- an Issue that isn't refused runs or ends
-pub issued_cases : (a : Answer) → IsIssued a → (a ≡ answer.Run → ⊥) → (IsEnded a → ⊥) → ⊥
-issued_cases answer.Run issued not_run not_ended = not_run refl
-issued_cases a issued not_run not_ended = not_ended issued
+-- an Issue that isn't refused and doesn't run its request ends it
+pub issued_ends : (a : Answer) → IsIssued a → (a ≡ answer.Run → ⊥) → IsEnded a
+issued_ends answer.Run issued not_run = absurd (not_run refl)
+issued_ends a issued not_run = issued
 
 -- what can be issued is outstanding
-issuable_outstanding : (r : Requests) (n : ℕ) → is_issuable r n ≡ true → is_outstanding r n ≡ true
+pub issuable_outstanding : (r : Requests) (n : ℕ) → is_issuable r n ≡ true → is_outstanding r n ≡ true
 issuable_outstanding r n issuable = (and_parts _ _ (and_parts _ _ issuable).0).0
 
 -- the least outstanding request is the next, where it isn't running

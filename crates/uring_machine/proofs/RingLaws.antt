@@ -12,7 +12,6 @@ use Rattle.uring_machine.specs.declared.step.Step.{Step}
 use Rattle.uring_machine.specs.declared.step.Step.TheVariants as step
 use Rattle.uring_machine.specs.declared.answer.Answer.{Answer}
 use Rattle.uring_machine.specs.declared.answer.Answer.TheVariants as answer
-use Rattle.uring_machine.proofs.Changes.{change_of}
 use Rattle.uring_machine.proofs.SubmissionMoves.{SubmissionMove, stays, begins, takes, drops, closes, submission_move}
 use Rattle.uring_machine.proofs.SoundRings.{IsSoundCompletions}
 
@@ -40,7 +39,7 @@ record StaysShut (w : World) (after : History) : Type 0 where
 
 shut_stays : (g : Setup) (w : World) (s : Step) (a : Answer) (v : World) → SubmissionMove g w s a v → IsShut w → IsShut v × (takes_in (s, a) ≡ false)
 shut_stays g w s a v (stays _ _ r c is_closed off left) i = (record { closed = left.shut ∙ or_right _ _ i.closed; no_call = i.no_call }, off.takes_into)
-shut_stays g w s a v (begins count is_open no_call) i = absurd (let e = i.closed in cc)
+shut_stays g w s a v (begins count is_open no_call unspent) i = absurd (let e = i.closed in cc)
 shut_stays g w s a v (takes entry call place opened left at valid) i = absurd (let o = i.no_call in cc)
 shut_stays g w s a v (drops call place opened left at invalid) i = absurd (let o = i.no_call in cc)
 shut_stays g w s a v (closes accepted missed head call opened all counted) i = absurd (let o = i.no_call in cc)
@@ -56,7 +55,7 @@ stays_shut : (g : Setup) (after before : History) → IsLawfulApart g (after ++ 
 stays_shut g [] before lawful = record { shut = record { closed = refl; no_call = open_none (world g before) lawful.0 }; none_in = refl }
 stays_shut g ((s, a) ∷ after) before lawful =
     let i = stays_shut g after before lawful.1 in
-    let move = submission_move g (world g (after ++ (step.Close, answer.Shut) ∷ before)) s a (change_of g (world g (after ++ (step.Close, answer.Shut) ∷ before)) s a lawful.0) in
+    let move = submission_move g s a (after ++ (step.Close, answer.Shut) ∷ before) lawful in
     let k = shut_stays g _ s a _ move i.shut in
     record { shut = k.0; none_in = or_from _ _ k.1 i.none_in }
 

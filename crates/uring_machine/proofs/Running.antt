@@ -1,7 +1,7 @@
 -- What runs in a lawful history can be asked of files: its entry has no fault, since a faulty request is doomed, and it is no cancel, since a cancel ends as it is issued.
 -- By `Moves` and induction over the history for the cancels, and by `started_free` for the faults.
 -- Stable: other crates may import `running_asks`, `no_cancel` and `entry_stays`.
-use Rattle.std.proofs.Common.{◌≡◌, ℕ, ◌==◌, ◌<◌, List, [], ◌∷◌, length, true, false, Option, Some, None, is_some, refl, subst, ◌∙◌, ap, inl, inr}
+use Rattle.std.proofs.Common.{◌≡◌, ℕ, ◌==◌, ◌<◌, List, [], ◌∷◌, length, true, false, subst, ◌∙◌, ap, inl, inr}
 use Rattle.std.proofs.lemmas.Bool.{and_parts, both_ways, eqb-true, false_from_ne_true}
 use Rattle.std.proofs.lemmas.List.{get_or_append_left}
 use Rattle.uring_entry.specs.Setup.{Setup}
@@ -15,11 +15,11 @@ use Rattle.uring_machine.specs.CalledFor.{RunsOnFiles}
 use Rattle.uring_machine.specs.Histories.{History, world, IsLawfulApart}
 use Rattle.uring_machine.specs.declared.step.Step.{Step}
 use Rattle.uring_machine.specs.declared.answer.Answer.{Answer}
-use Rattle.uring_machine.proofs.Changes.{change_of}
 use Rattle.uring_machine.proofs.Moves.{Move, accepts, starts, move_of}
 use Rattle.uring_machine.proofs.Sound.{sound_of}
 use Rattle.uring_machine.proofs.ListCounts.{any_new}
 use Rattle.uring_machine.proofs.SoundRequests.{IsSoundRequests}
+use Rattle.uring_machine.proofs.Changes.{not_some}
 
 -- a request's entry stays as more are accepted
 pub entry_stays : (r : Requests) (entries : List Sqe) (n : ℕ) → n < length r.accepted → entry_of (with_call r entries) n ≡ entry_of r n
@@ -37,15 +37,8 @@ no_cancel_kept r q s a _ i none = none
 pub no_cancel : (g : Setup) (h : History) → IsLawfulApart g h → NoCancel (world g h).requests
 no_cancel g [] lawful = λ n started. absurd (let f : false ≡ true = started in cc)
 no_cancel g ((s, a) ∷ before) lawful =
-    no_cancel_kept (world g before).requests _ s a (move_of g (world g before) s a (change_of g (world g before) s a lawful.0) lawful.0)
+    no_cancel_kept (world g before).requests _ s a (move_of g s a before lawful)
     (sound_of g before lawful.1).requests (no_cancel g before lawful.1)
-
--- no fault
-without_fault : (e : Sqe) → is_faulty e ≡ false → fault_of e ≡ None
-without_fault e spared = by_fault (fault_of e) spared where
-  by_fault : {X : Type 0} (fault : Option X) → is_some fault ≡ false → fault ≡ None
-  by_fault None f = refl
-  by_fault (Some x) f = absurd cc
 
 -- the operation of a running request can be asked of files
 pub running_asks : (g : Setup) (h : History) (n : ℕ) → IsLawfulApart g h → is_running (world g h).requests n ≡ true → IsForFiles (operation_of (entry_of (world g h).requests n))
@@ -55,7 +48,7 @@ running_asks g h n lawful running =
     let started : has_started r n ≡ true = (and_parts _ _ running).0 in
     let right : is_faulty (entry_of r n) ≡ false =
     false_from_ne_true _ (λ faulty. both_ways _ (i.started_free n started).spared (is_doomed-own_fault r n (i.started_accepted n started) faulty)) in
-    prepared (entry_of r n) (without_fault (entry_of r n) right) (no_cancel g h lawful n started)
+    prepared (entry_of r n) (not_some (fault_of (entry_of r n)) right) (no_cancel g h lawful n started)
 
 -- what runs can be carried out on files
 pub runs_on_files : (g : Setup) (h : History) (n : ℕ) → IsLawfulApart g h → is_running (world g h).requests n ≡ true → RunsOnFiles (world g h).requests n

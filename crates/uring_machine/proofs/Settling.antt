@@ -1,10 +1,10 @@
 -- What the steps make that settle requests.
-use Rattle.std.proofs.Common.{◌≡◌, ℕ, ◌+◌, ◌-◌, ◌^◌, ◌≤◌, ℤ, Bool, true, false, not, ◌||◌, List, [], ◌∷◌, ◌++◌, length, Option, Some, None, if◌then◌else◌, refl, sym, subst, ◌∙◌, ap, arith, inl, inr, length-append}
+-- Stable: other crates may import `next_tells`.
+use Rattle.std.proofs.Common.{◌≡◌, ℕ, ◌+◌, ◌-◌, ◌^◌, ◌≤◌, true, false, List, [], ◌∷◌, ◌++◌, length, Option, Some, None, refl, sym, subst, ◌∙◌, ap, arith, inl, inr, length-append}
 use Rattle.std.proofs.lemmas.Bool.{and_parts, and_from, or_cases, both_ways, not-true}
 use Rattle.std.proofs.lemmas.List.Folds.{list_all-append}
 use Rattle.uring_entry.specs.Setup.{Setup}
-use Rattle.uring_entry.specs.Preparation.{is_cancel}
-use Rattle.uring_entry.specs.Requests.{Requests, entry_of, has_ended, is_outstanding, is_running, is_issuable, is_doomed, is_ready, doomed_result, cancel_result, no_bytes, next_of, least_of, outstanding_in}
+use Rattle.uring_entry.specs.Requests.{Requests, has_ended, is_outstanding, is_running, is_issuable, no_bytes, next_of, least_of, outstanding_in}
 use Rattle.uring_entry.proofs.BelowLemmas.{least_below-tells, least_below-out}
 use Rattle.uring_entry.proofs.RequestLemmas.{least_of-goes_on, is_running-started_same}
 use Rattle.uring_machine.specs.World.{World, issuing, finishing}
@@ -21,6 +21,8 @@ use Rattle.uring_machine.specs.declared.answer.Answer.TheVariants as answer
 use Rattle.uring_machine.proofs.Following.{history_of-cons, history_of-append}
 use Rattle.uring_machine.proofs.Numbers.{few_outstanding}
 use Rattle.uring_machine.proofs.Outstanding.{ended_less, none_outstanding, count_below-zero}
+use Rattle.uring_machine.proofs.RequestLaws.{issue_goes, issued_ends, issuable_outstanding}
+use Rattle.uring_machine.specs.Laws.{IsIssued}
 
 -- Ends, each of which leaves one outstanding request less.
 
@@ -31,24 +33,6 @@ issue_less g w n _ outstanding ended = absurd ended
 finish_less : (g : Setup) (w : World) (n : ℕ) (a : Answer) → is_outstanding w.requests n ≡ true → IsEnded a → outstanding_in (finishing g w n a).requests + 1 ≡ outstanding_in w.requests
 finish_less g w n (answer.Ended res bytes) outstanding ended = ended_less w.requests n res bytes outstanding
 finish_less g w n _ outstanding ended = absurd ended
-
--- what can be issued and doesn't run then, ends
-answer_ends : (outstanding running doomed ready cancel : Bool) (as_doomed as_cancel : ℤ) (a : Answer) → outstanding ≡ true → running ≡ false → (doomed || ready) ≡ true
-    → a ≡ (if not outstanding then answer.Unknown else (if running then answer.Running else (if doomed then answer.Ended as_doomed no_bytes else (if not ready then answer.NotReady else (if cancel then answer.Ended as_cancel no_bytes else answer.Run)))))
-    → (a ≡ answer.Run → ⊥) → IsEnded a
-answer_ends false running doomed ready cancel as_doomed as_cancel a o r d is other = absurd cc
-answer_ends true true doomed ready cancel as_doomed as_cancel a o r d is other = absurd cc
-answer_ends true false true ready cancel as_doomed as_cancel a o r d is other = subst IsEnded (sym is) tt
-answer_ends true false false false cancel as_doomed as_cancel a o r d is other = absurd (let f : false ≡ true = d in cc)
-answer_ends true false false true true as_doomed as_cancel a o r d is other = subst IsEnded (sym is) tt
-answer_ends true false false true false as_doomed as_cancel a o r d is other = absurd (other is)
-
--- what can be issued is outstanding, and doesn't run
-issuable_tells : (r : Requests) (n : ℕ) → is_issuable r n ≡ true → (is_outstanding r n ≡ true) × (is_running r n ≡ false) × ((is_doomed r n || is_ready r n) ≡ true)
-issuable_tells r n issuable =
-    let p = and_parts _ _ issuable in
-    let q = and_parts _ _ p.0 in
-    (q.0, not-true _ q.1, p.1)
 
 -- the next that was answered
 next_is : (next : Option ℕ) (n : ℕ) → answer.Next n ≡ next_answer_of next → next ≡ Some n
@@ -61,11 +45,8 @@ next_none None a is other = refl
 next_none (Some m) a is other = absurd (other m is)
 
 -- the next can be issued
-next_tells : (r : Requests) (n : ℕ) → answer.Next n ≡ next_answer_of (next_of r) → is_issuable r n ≡ true
-next_tells r n e = by_next (next_of r) refl e where
-  by_next : (next : Option ℕ) → next_of r ≡ next → answer.Next n ≡ next_answer_of next → is_issuable r n ≡ true
-  by_next None is f = absurd cc
-  by_next (Some m) is f = let same : m ≡ n = cc in subst (λ k. is_issuable r k ≡ true) same (least_below-tells (is_issuable r) (length r.accepted) m is).holds
+pub next_tells : (r : Requests) (n : ℕ) → answer.Next n ≡ next_answer_of (next_of r) → is_issuable r n ≡ true
+next_tells r n e = (least_below-tells (is_issuable r) (length r.accepted) n (next_is (next_of r) n e)).holds
 
 -- an issue not answered Run started nothing
 not_started : (n : ℕ) (a : Answer) → (a ≡ answer.Run → ⊥) → started_by (step.Issue n, a) ≡ None
@@ -126,8 +107,9 @@ settled_run old asked new n a b c h same kept next ran fits asked_fits new_fits 
     let r : Requests = (world g h).requests in
     let now : Fits new ((step.Finish n, c) ∷ (step.Issue n, answer.Run) ∷ h) = subst (λ d. Fits new ((step.Finish n, c) ∷ (step.Issue n, d) ∷ h)) ran new_fits in
     let named : answer.Next n ≡ next_answer_of (next_of r) = subst (λ k. answer.Next n ≡ next_answer_of (next_of (world k h).requests)) (sym kept) (sym next ∙ asked_fits.core.lawful.0) in
-    let tells = issuable_tells r n (next_tells r n named) in
-    let unended : has_ended r n ≡ false = not-true _ (and_parts _ _ tells.0).1 in
+    let issuable = next_tells r n named in
+    let outstanding = issuable_outstanding r n issuable in
+    let unended : has_ended r n ≡ false = not-true _ (and_parts _ _ outstanding).1 in
     record {
       settles = record {
         events = (step.Issue n, b) ∷ (step.Finish n, c) ∷ [];
@@ -140,7 +122,7 @@ settled_run old asked new n a b c h same kept next ran fits asked_fits new_fits 
       few = omega arith;
       fewer =
           one_fewer old new h ((step.Finish n, c) ∷ (step.Issue n, answer.Run) ∷ h) (kept ∙ same) fits now
-          (finish_less g (world g ((step.Issue n, answer.Run) ∷ h)) n c tells.0 (subst (λ running. FinishesApart running c) (is_running-started_same r n unended) now.core.lawful.0));
+          (finish_less g (world g ((step.Issue n, answer.Run) ∷ h)) n c outstanding (subst (λ running. FinishesApart running c) (is_running-started_same r n unended) now.core.lawful.0));
     }
 
 -- the next request ended as it was issued
@@ -150,7 +132,7 @@ settled_end old asked new n a b h same kept next other fits asked_fits new_fits 
     let g : Setup = new.core.setup in
     let r : Requests = (world g h).requests in
     let named : answer.Next n ≡ next_answer_of (next_of r) = subst (λ k. answer.Next n ≡ next_answer_of (next_of (world k h).requests)) (sym kept) (sym next ∙ asked_fits.core.lawful.0) in
-    let tells = issuable_tells r n (next_tells r n named) in
+    let issuable = next_tells r n named in
     record {
       settles = record {
         events = (step.Issue n, b) ∷ [];
@@ -163,8 +145,7 @@ settled_end old asked new n a b h same kept next other fits asked_fits new_fits 
       few = omega arith;
       fewer =
           one_fewer old new h ((step.Issue n, b) ∷ h) (kept ∙ same) fits new_fits
-          (issue_less g (world g h) n b tells.0
-          (answer_ends (is_outstanding r n) (is_running r n) (is_doomed r n) (is_ready r n) (is_cancel (entry_of r n)) (doomed_result r n) (cancel_result r n) b tells.0 tells.1 tells.2 new_fits.core.lawful.0 other));
+          (issue_less g (world g h) n b (issuable_outstanding r n issuable) (issued_ends b (subst IsIssued (sym new_fits.core.lawful.0) (issue_goes (world g h) n issuable)) other));
     }
 
 -- the least outstanding request ran, and was finished

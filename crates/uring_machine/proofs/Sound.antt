@@ -6,7 +6,6 @@ use Rattle.uring_machine.specs.World.{World, at_first}
 use Rattle.uring_machine.specs.Histories.{History, world, IsLawfulApart}
 use Rattle.uring_machine.specs.declared.step.Step.{Step}
 use Rattle.uring_machine.specs.declared.answer.Answer.{Answer}
-use Rattle.uring_machine.proofs.Changes.{change_of}
 use Rattle.uring_machine.proofs.Moves.{Move, stays, accepts, starts, ends_doomed, ends_cancel, ends_run, move_of}
 use Rattle.uring_machine.proofs.SubmissionMoves.{SubmissionMove, stays as stays_off_submission, fills, stages, stores, loads, begins, takes, drops, closes, submission_move}
 use Rattle.uring_machine.proofs.CompletionMoves.{CompletionMove, stays as stays_off_completions, ends, flushes, sees_tail, reaps, stores_head, completion_move}
@@ -39,7 +38,7 @@ submission_kept g w s a v (fills slot entry) i = assumption i
 submission_kept g w s a v (stages word room) i = stage_sound g.sq w.submission word room i
 submission_kept g w s a v (stores tail) i = store_sound g.sq w.submission i
 submission_kept g w s a v (loads head) i = load_sound g.sq w.submission i
-submission_kept g w s a v (begins count is_open no_call) i = begin_sound g.sq w.submission count i
+submission_kept g w s a v (begins count is_open no_call unspent) i = begin_sound g.sq w.submission count i
 submission_kept g w s a v (takes entry call place opened left at valid) i =
     stop_sound g.sq (with_taken w.submission call) (record call { taken = call.taken + 1 }) (stops_at g entry) refl (take_sound g.sq w.submission call opened left i)
 submission_kept g w s a v (drops call place opened left at invalid) i = take_sound g.sq w.submission call opened left i
@@ -67,9 +66,8 @@ pub sound_of : (g : Setup) (h : History) → IsLawfulApart g h → IsSound g (wo
 sound_of g [] lawful = first_sound g
 sound_of g ((s, a) ∷ before) lawful =
     let i = sound_of g before lawful.1 in
-    let c = change_of g (world g before) s a lawful.0 in
     record {
-      submission = submission_kept g (world g before) s a _ (submission_move g (world g before) s a c) i.submission;
-      completions = completions_kept g (world g before) s a _ (completion_move g (world g before) s a c) i.completions;
-      requests = requests_kept (world g before).requests s a _ (move_of g (world g before) s a c lawful.0) i.requests;
+      submission = submission_kept g (world g before) s a _ (submission_move g s a before lawful) i.submission;
+      completions = completions_kept g (world g before) s a _ (completion_move g s a before lawful) i.completions;
+      requests = requests_kept (world g before).requests s a _ (move_of g s a before lawful) i.requests;
     }

@@ -16,7 +16,6 @@ use Rattle.uring_machine.specs.declared.step.Step.{Step}
 use Rattle.uring_machine.specs.declared.step.Step.TheVariants as step
 use Rattle.uring_machine.specs.declared.answer.Answer.{Answer}
 use Rattle.uring_machine.specs.declared.answer.Answer.TheVariants as answer
-use Rattle.uring_machine.proofs.Changes.{change_of}
 use Rattle.uring_machine.proofs.SubmissionMoves.{SubmissionMove, stays, begins, takes, drops, closes, submission_move}
 use Rattle.uring_machine.proofs.SoundRings.{open_taken, open_count as positions_open}
 use Rattle.uring_machine.proofs.Sound.{sound_of}
@@ -108,7 +107,7 @@ pub record TakesAll (h : History) (w : World) : Type 0 where
 
 all_kept : (g : Setup) (h : History) (s : Step) (a : Answer) (v : World) → g.stops ≡ false → SubmissionMove g (world g h) s a v → TakesAll h (world g h) → TakesAll ((s, a) ∷ h) v
 all_kept g h s a v goes (stays _ _ r c is_closed off left) i = record { opened = told_same opened_by (s, a) h off.opens ∙ i.opened; closed = count_same closes_call (s, a) h off.closes ∙ i.closed }
-all_kept g h s a v goes (begins count is_open no_call) i =
+all_kept g h s a v goes (begins count is_open no_call unspent) i =
     let l = (world g h).submission in
     record {
       opened = ap (λ xs. xs ++ call_length l count ∷ []) (i.opened ∙ ap (λ o. l.calls ++ open_counts o) no_call ∙ append-nil l.calls);
@@ -136,7 +135,7 @@ all_kept g h s a v goes _ i = record { opened = i.opened; closed = count_same cl
 
 all_taken : (g : Setup) (h : History) → g.stops ≡ false → IsLawfulApart g h → TakesAll h (world g h)
 all_taken g [] goes lawful = record { opened = refl; closed = refl }
-all_taken g ((s, a) ∷ before) goes lawful = all_kept g before s a _ goes (submission_move g (world g before) s a (change_of g (world g before) s a lawful.0)) (all_taken g before goes lawful.1)
+all_taken g ((s, a) ∷ before) goes lawful = all_kept g before s a _ goes (submission_move g s a before lawful) (all_taken g before goes lawful.1)
 
 pub calls_take_all : (g : Setup) → CallsTakeAll g
 calls_take_all g h goes lawful =

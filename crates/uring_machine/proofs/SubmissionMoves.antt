@@ -1,20 +1,21 @@
 -- What an event makes of the submission ring, each with what is known of it because its answer was called for.
 -- `stays` is the frame of all that leave the ring as it was: whatever became of the rest, they tell nothing of it.
-use Rattle.std.proofs.Common.{◌≡◌, ℕ, Bool, false, ◌||◌, nat_lt, eqb, ◌+◌, length, Some, None, slice_get, refl, sym, subst, ap, rules}
+use Rattle.std.proofs.Common.{◌≡◌, ℕ, Bool, false, ◌||◌, nat_lt, eqb, ◌+◌, length, Some, None, slice_get, refl, sym, subst, ap, rules, ◌∷◌}
 use Rattle.uring_entry.specs.Setup.{Setup}
 use Rattle.uring_entry.specs.Layout.{Sqe}
 use Rattle.uring_entry.specs.Submission.{Call, Place, taken, is_full, call_length, entries_of, places_from, with_filled, with_staged, with_published, with_head_loaded, with_begun}
 use Rattle.uring_entry.specs.Requests.{Requests}
 use Rattle.uring_entry.specs.Completions.{Completions}
 use Rattle.uring_machine.specs.World.{World, happens, taking_of, taking_entry_of, ending_of}
-use Rattle.uring_machine.specs.Histories.{Event}
+use Rattle.uring_machine.specs.Histories.{Event, History, world, IsLawfulApart}
 use Rattle.uring_machine.specs.Direct.{staged_by, filled_by, entry_taken_by, takes_position, opened_by, opens_call, accepted_by, closes_call, closes_ring, is_store_tail, is_load_head}
 use Rattle.uring_machine.specs.Laws.{takes_in}
 use Rattle.uring_machine.specs.declared.step.Step.{Step}
 use Rattle.uring_machine.specs.declared.step.Step.TheVariants as step
 use Rattle.uring_machine.specs.declared.answer.Answer.{Answer}
 use Rattle.uring_machine.specs.declared.answer.Answer.TheVariants as answer
-use Rattle.uring_machine.proofs.Changes.{Change, IsSilent, refuses as event_refuses, fills as event_fills, stages as event_stages, stores as event_stores, loads as event_loads, begins as event_begins, takes as event_takes, drops as event_drops, closes as event_closes}
+use Rattle.uring_machine.proofs.Changes.{Change, IsSilent, refuses as event_refuses, fills as event_fills, stages as event_stages, stores as event_stores, loads as event_loads, begins as event_begins, takes as event_takes, drops as event_drops, closes as event_closes, change_of}
+use Rattle.uring_machine.specs.StepAnswers.{is_spent}
 
 -- an event that tells nothing of the submission ring
 pub record IsOffSubmission (e : Event) : Type 0 where
@@ -45,7 +46,7 @@ pub data SubmissionMove (g : Setup) (w : World) : Step → Answer → World → 
       → SubmissionMove g w (step.Index word) answer.Staged (record w { submission = with_staged w.submission word })
   stores : (tail : ℕ) → SubmissionMove g w step.StoreTail (answer.Tail tail) (record w { submission = with_published g.sq w.submission })
   loads : (head : ℕ) → SubmissionMove g w step.LoadHead (answer.Head head) (record w { submission = with_head_loaded w.submission })
-  begins : (count : ℕ) → w.is_closed ≡ false → w.submission.call ≡ None
+  begins : (count : ℕ) → w.is_closed ≡ false → w.submission.call ≡ None → is_spent w (call_length w.submission count) ≡ false
       → SubmissionMove g w (step.Begin count) (answer.Call (call_length w.submission count)) (record w { submission = with_begun w.submission count })
   takes : (entry : Sqe) (call : Call) (place : Place) → w.submission.call ≡ Some call → eqb call.taken call.count ≡ false
       → slice_get w.submission.published (taken w.submission + call.taken) ≡ Some place → place.entry ≡ Some entry
@@ -60,19 +61,21 @@ pub data SubmissionMove (g : Setup) (w : World) : Step → Answer → World → 
 off_silent : {e : Event} → IsSilent e → IsOffSubmission e
 off_silent i = assumption i
 
-pub submission_move : (g : Setup) (w : World) (s : Step) (a : Answer) → Change g w s a → SubmissionMove g w s a (happens g w s a)
-submission_move g w s a (event_refuses _ _ same silent) =
+submission_by : (g : Setup) (w : World) (s : Step) (a : Answer) → Change g w s a → SubmissionMove g w s a (happens g w s a)
+submission_by g w s a (event_refuses _ _ same silent) =
     subst (SubmissionMove g w s a) (sym (same w)) (stays s a w.requests w.completions w.is_closed (off_silent silent) (record { accepted = refl; cuts = refl; shut = sym (ap (λ b. b || w.is_closed) silent.shuts_none) }))
-submission_move g w s a (event_fills slot entry free) = fills slot entry
-submission_move g w s a (event_stages word room) = stages word room
-submission_move g w s a (event_stores tail) = stores tail
-submission_move g w s a (event_loads head) = loads head
-submission_move g w s a (event_begins count is_open no_call) = begins count is_open no_call
-submission_move g w s a (event_takes entry call place opened left at valid) =
+submission_by g w s a (event_fills slot entry free) = fills slot entry
+submission_by g w s a (event_stages word room) = stages word room
+submission_by g w s a (event_stores tail) = stores tail
+submission_by g w s a (event_loads head) = loads head
+submission_by g w s a (event_begins count is_open no_call unspent) = begins count is_open no_call unspent
+submission_by g w s a (event_takes entry call place opened left at valid) =
     subst (λ o. SubmissionMove g w step.Take (answer.Entry entry) (taking_entry_of g w entry o)) (sym opened) (takes entry call place opened left at valid)
-submission_move g w s a (event_drops call place opened left at invalid) =
+submission_by g w s a (event_drops call place opened left at invalid) =
     subst (λ o. SubmissionMove g w step.Take answer.Dropped (taking_of w o)) (sym opened) (drops call place opened left at invalid)
-submission_move g w s a (event_closes accepted missed head call opened all counted) =
+submission_by g w s a (event_closes accepted missed head call opened all counted) =
     subst (λ o. SubmissionMove g w step.End (answer.Taken accepted missed head) (ending_of w o)) (sym opened) (closes accepted missed head call opened all counted)
-submission_move g w s a _ =
-    stays _ _ _ _ _ (search rules) (search rules)
+submission_by g w s a _ = stays _ _ _ _ _ (search rules) (search rules)
+
+pub submission_move : (g : Setup) (s : Step) (a : Answer) (h : History) → IsLawfulApart g ((s, a) ∷ h) → SubmissionMove g (world g h) s a (world g ((s, a) ∷ h))
+submission_move g s a h lawful = submission_by g (world g h) s a (change_of g (world g h) s a lawful.0)

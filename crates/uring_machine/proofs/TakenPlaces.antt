@@ -17,7 +17,6 @@ use Rattle.uring_machine.specs.declared.step.Step.{Step}
 use Rattle.uring_machine.specs.declared.step.Step.TheVariants as step
 use Rattle.uring_machine.specs.declared.answer.Answer.{Answer}
 use Rattle.uring_machine.specs.declared.answer.Answer.TheVariants as answer
-use Rattle.uring_machine.proofs.Changes.{change_of}
 use Rattle.uring_machine.proofs.SubmissionMoves.{SubmissionMove, stays, stores, begins, takes, drops, closes, submission_move}
 use Rattle.uring_machine.proofs.SoundRings.{IsSoundSubmission, open_taken, open_count}
 use Rattle.uring_machine.proofs.Sound.{sound_of}
@@ -94,7 +93,7 @@ places_kept : (g : Setup) (h : History) (w : World) (s : Step) (a : Answer) (v :
 places_kept g h w s a v (stays _ _ r c is_closed off left) sound i =
     record { count = count_same takes_position (s, a) h off.takes ∙ i.count; entries = told_same entry_taken_by (s, a) h off.takes_entry ∙ i.entries }
 places_kept g h w s a v (stores tail) sound i = stored_places g h w tail sound i
-places_kept g h w s a v (begins count is_open no_call) sound i = begun_places g h w count no_call i
+places_kept g h w s a v (begins count is_open no_call unspent) sound i = begun_places g h w count no_call i
 places_kept g h w s a v (takes entry call place opened left at valid) sound i = took_valid g h w entry call place opened at valid i
 places_kept g h w s a v (drops call place opened left at invalid) sound i = took_invalid h w call place opened at invalid i
 places_kept g h w s a v (closes accepted missed head call opened all counted) sound i = closed_places g h w accepted missed head call opened all sound i
@@ -103,7 +102,7 @@ places_kept g h w s a v _ sound i = record { count = count_same takes_position (
 pub takes_places : (g : Setup) (h : History) → IsLawfulApart g h → TakesPlaces h (world g h)
 takes_places g [] lawful = record { count = refl; entries = refl }
 takes_places g ((s, a) ∷ before) lawful =
-    places_kept g before (world g before) s a _ (submission_move g (world g before) s a (change_of g (world g before) s a lawful.0)) (sound_of g before lawful.1).submission (takes_places g before lawful.1)
+    places_kept g before (world g before) s a _ (submission_move g s a before lawful) (sound_of g before lawful.1).submission (takes_places g before lawful.1)
 
 pub once_in_order : (g : Setup) (h : History) → IsWithinLimits g → IsLawfulApart g h → TakenOnceInOrder g h
 once_in_order g h setup lawful =

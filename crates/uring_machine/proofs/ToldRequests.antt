@@ -7,7 +7,6 @@ use Rattle.uring_machine.specs.Histories.{History, world, IsLawfulApart}
 use Rattle.uring_machine.specs.Direct.{started_by, end_told_by, starts as starts_of, ends}
 use Rattle.uring_machine.specs.declared.step.Step.{Step}
 use Rattle.uring_machine.specs.declared.answer.Answer.{Answer}
-use Rattle.uring_machine.proofs.Changes.{change_of}
 use Rattle.uring_machine.proofs.Moves.{Move, stays, accepts, starts, ends_doomed, ends_cancel, ends_run, move_of}
 use Rattle.uring_machine.proofs.Telling.{told_same}
 
@@ -28,6 +27,6 @@ pub tells_requests : (g : Setup) (h : History) → IsLawfulApart g h → TellsRe
 tells_requests g [] lawful = record { started = refl; ended = refl }
 tells_requests g ((s, a) ∷ before) lawful =
     let i = tells_requests g before lawful.1 in
-    let move = move_of g (world g before) s a (change_of g (world g before) s a lawful.0) lawful.0 in
+    let move = move_of g s a before lawful in
     let p = told_kept before (world g before).requests s a _ move i.started i.ended in
     record { started = p.0; ended = p.1 }

@@ -1,8 +1,10 @@
 -- Histories whose ends are called for by their files too.
-use Rattle.std.proofs.Common.{◌≡◌, ℕ, ◌<◌, ℤ, pos, negsuc, neg_ℤ, Bool, true, false, cond, Option, Some, None, List, [], ◌∷◌, ◌++◌, refl, subst, inl, inr, arith}
+use Rattle.std.proofs.Common.{◌≡◌, ℕ, ℤ, pos, neg_ℤ, Bool, true, false, cond, Option, Some, None, List, [], ◌∷◌, ◌++◌, refl, inl, inr, ap, ◌∙◌}
+use Rattle.std.specs.Ordering.{int_eq}
+use Rattle.std.proofs.lemmas.Bool.{true≢false, cond_both}
 use Rattle.uring_entry.specs.Setup.{Setup}
 use Rattle.uring_entry.specs.Requests.{is_running}
-use Rattle.uring_entry.specs.declared.errno.TheConstants.{ECANCELED}
+use Rattle.uring_entry.specs.declared.errno.TheConstants.{ECANCELED, EFBIG}
 use Rattle.uring_entry.specs.declared.operation.Op.{Op}
 use Rattle.uring_entry.specs.declared.operation.Op.TheVariants.{Nop, Read, Write, Fsync, Cancel}
 use Rattle.uring_entry.specs.declared.operation.Outcome.{Outcome}
@@ -39,49 +41,26 @@ lawful_before g ((s, a) ∷ after) before lawful = lawful_before g after before 
 
 -- no operation gives ECANCELED
 
--- a negative number by its distance from -1, and 0 for the others
-below_minus_one : ℤ → ℕ
-below_minus_one (pos n) = 0
-below_minus_one (negsuc n) = n
+abbrev IsOther : ℤ → Type 0
+IsOther res = int_eq res (neg_ℤ ECANCELED) ≡ false
 
-abbrev IsCancelled : ℤ → Type 0
-IsCancelled res = below_minus_one res ≡ 124
+on_file_other : (file : Option FileContents) (outcome : FileContents → Outcome) → ((f : FileContents) → IsOther (outcome f).res) → IsOther (on_file file outcome).res
+on_file_other None outcome other = refl
+on_file_other (Some file) outcome other = other file
 
-unfold_pos : (n : ℕ) → below_minus_one (pos n) ≡ 0
-unfolding below_minus_one
-unfold_pos n = refl
+result_other : (files : List FileContents) (op : Op) → IsOther (result_of files op).res
+result_other files Nop = refl
+result_other files (Read fd off len) = on_file_other (file_of files fd) (read_outcome off len) (λ f. refl)
+result_other files (Write fd off len bytes) = on_file_other (file_of files fd) (λ file. ended_with (cond (is_too_long off len) (neg_ℤ EFBIG) (pos len))) (λ f. cond_both (is_too_long off len) (neg_ℤ EFBIG) (pos len) IsOther (λ _. refl) (λ _. refl))
+result_other files (Fsync fd) = on_file_other (file_of files fd) (λ file. ended_with (pos 0)) (λ f. refl)
+result_other files (Cancel target all) = refl
 
-unfold_negsuc : (n : ℕ) → below_minus_one (negsuc n) ≡ n
-unfolding below_minus_one
-unfold_negsuc n = refl
-
-not_pos : (n : ℕ) → IsCancelled (pos n) → ⊥
-not_pos n e = let f = unfold_pos n in omega arith
-
-not_fault : (n : ℕ) → n < 124 → IsCancelled (negsuc n) → ⊥
-not_fault n below e = let f = unfold_negsuc n in omega arith
-
-on_file_not : (file : Option FileContents) (outcome : FileContents → Outcome) → ((f : FileContents) → IsCancelled (outcome f).res → ⊥) → IsCancelled (on_file file outcome).res → ⊥
-on_file_not None outcome not e = not_fault 8 (omega arith) e
-on_file_not (Some file) outcome not e = not file e
-
-chosen_not : (b : Bool) (len : ℕ) → IsCancelled (cond b (negsuc 26) (pos len)) → ⊥
-chosen_not true len e = not_fault 26 (omega arith) e
-chosen_not false len e = not_pos len e
-
-result_not : (files : List FileContents) (op : Op) → IsCancelled (result_of files op).res → ⊥
-result_not files Nop e = not_pos 0 e
-result_not files (Read fd off len) e = on_file_not (file_of files fd) (read_outcome off len) (λ f h. not_pos _ h) e
-result_not files (Write fd off len bytes) e = on_file_not (file_of files fd) (λ file. ended_with (cond (is_too_long off len) (negsuc 26) (pos len))) (λ f h. chosen_not (is_too_long off len) len h) e
-result_not files (Fsync fd) e = on_file_not (file_of files fd) (λ file. ended_with (pos 0)) (λ f h. not_pos 0 h) e
-result_not files (Cancel target all) e = not_pos 0 e
-
-outcome_not : (files : List FileContents) (op : Op) (outcome : Outcome) → IsOutcome files op outcome → IsCancelled outcome.res → ⊥
-outcome_not files op outcome (inl called) e = result_not files op (subst (λ o. IsCancelled o.res) called e)
-outcome_not files op outcome (inr refused) e = not_fault 11 (omega arith) (subst (λ o. IsCancelled o.res) refused.1 e)
+outcome_other : (files : List FileContents) (op : Op) (outcome : Outcome) → IsOutcome files op outcome → IsOther outcome.res
+outcome_other files op outcome (inl called) = ap (λ (o : Outcome). int_eq o.res (neg_ℤ ECANCELED)) called ∙ result_other files op
+outcome_other files op outcome (inr failed) = ap (λ (o : Outcome). int_eq o.res (neg_ℤ ECANCELED)) failed.1
 
 ends_not : (files : List FileContents) (r : Requests) (n : ℕ) (b : Bool) (bytes : List ℕ) → EndsOn files r n b (answer.Ended (neg_ℤ ECANCELED) bytes) → ⊥
-ends_not files r n true bytes e = outcome_not files _ (record { res = neg_ℤ ECANCELED; bytes = bytes }) e (unfold_negsuc 124)
+ends_not files r n true bytes e = true≢false (outcome_other files _ (record { res = neg_ℤ ECANCELED; bytes = bytes }) e)
 ends_not files r n false bytes e = cc
 
 pub finish_never_cancels : (g : Setup) (after before : History) (n : ℕ) (bytes : List ℕ) → IsLawful g (after ++ (step.Finish n, answer.Ended (neg_ℤ ECANCELED) bytes) ∷ before) → ⊥

@@ -1,5 +1,5 @@
 -- What the commands' options give, of words that clap finds no fault in.
-use Rattle.std.proofs.Common.{◌≡◌, ◌<◌, ◌≤◌, ℕ, Bool, true, false, List, [], ◌∷◌, Option, Some, None, refl, sym, subst, inl, inr, arith, true≢false}
+use Rattle.std.proofs.Common.{◌≡◌, ℕ, Bool, true, false, List, [], ◌∷◌, Option, Some, None, refl, sym, subst, inl, inr, true≢false}
 use Rattle.std.specs.Prelude.{codes, pos, option_map}
 use Rattle.std.specs.List.{find}
 use Rattle.std.specs.Option.{option_map_or}
@@ -9,7 +9,7 @@ use Rattle.clap.specs.Walk.{Row, Rule, Text, action_of, answers_to, nothing_held
 use Rattle.clap.specs.declared.builder.value_parser.ValueParser.TheVariants.{Signed}
 use Rattle.clap.specs.declared.builder.value_parser.ValueParser.TheVariants as vp
 use Rattle.clap.proofs.OnLiterals.{clap_on_literals}
-use Rattle.uring_options.specs.CommandLine.{uring, trace_app, explain_app, check_app, play_app, command_rows, Numbers, GivesNumbers, GivesWorkers, AreWorkers, IsGiven}
+use Rattle.uring_options.specs.CommandLine.{uring, trace_app, explain_app, check_app, play_app, command_rows, Numbers, GivesNumbers, GivesWorkers, IsGiven}
 use Rattle.uring_options.proofs.Numbers.{HasParser, option_given, flag_given}
 use Rattle.uring_options.proofs.Walks.{Each, Among, found_among, IsRowOf, neither_fails, rows_of_rules, sets_or_helps}
 
@@ -39,9 +39,6 @@ play_shape = built_leaf (inherited (with_leaf_noted (marked_built uring.top)) pl
 
 abbrev help_leaf : Shape
 help_leaf = built_leaf help_shape
-
-subcommands : (built uring).subs ≡ trace_shape ∷ explain_shape ∷ check_shape ∷ play_shape ∷ help_leaf ∷ []
-subcommands = refl
 
 -- ---- the rules of a command
 
@@ -264,8 +261,3 @@ pub numbers_written : (words : List Text) → fault_of uring words ≡ [] → Ha
 numbers_written words passes =
     let own = neither_fails _ _ passes in
     stop_numbers (stop_after (built uring).top.rules (names_of (built uring)) (argument_words uring words)) (neither_fails (entered_fault (built uring) (stop_after (built uring).top.rules (names_of (built uring)) (argument_words uring words))) _ own.1).0
-
--- a play has 1 to 8 workers
-pub workers_within : (rows : List Row) (workers : ℕ) → AreWorkers rows workers → (0 < workers) × (workers ≤ 8)
-workers_within rows workers (None, given, is) = (omega (arith, is), omega (arith, is))
-workers_within rows workers (Some n, given, is) = let least = given.1.0 in let most = given.1.1 in (omega (arith, is, least), omega (arith, is, most))

@@ -41,15 +41,12 @@ each_among P [] y each among = absurd among
 each_among P (x ∷ xs) y each (inl here) = subst P here each.0
 each_among P (x ∷ xs) y each (inr later) = each_among P xs y each.1 later
 
-same_some : {X : Type 0} (x y : X) → Some x ≡ Some y → x ≡ y
-same_some x y e = cc
-
 pub found_among : {X : Type 0} (p : X → Bool) (xs : List X) (y : X) → find p xs ≡ Some y → Among y xs × (p y ≡ true)
 found_among p [] y found = absurd cc
 found_among p (x ∷ xs) y found = go (found_among p xs y) (p x) refl found
   where
     go : (find p xs ≡ Some y → Among y xs × (p y ≡ true)) → (b : Bool) → p x ≡ b → cond b (Some x) (find p xs) ≡ Some y → Among y (x ∷ xs) × (p y ≡ true)
-    go later true here e = let same = same_some x y e in (inl same, subst (λ z. p z ≡ true) same here)
+    go later true here e = let same : x ≡ y = cc in (inl same, subst (λ z. p z ≡ true) same here)
     go later false here e = let rest = later e in (inr rest.0, rest.1)
 
 -- ---- rules and rows

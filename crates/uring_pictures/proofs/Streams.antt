@@ -1,5 +1,5 @@
 -- What is read while nothing is answered.
-use Rattle.std.proofs.Common.{◌≡◌, ℕ, Bool, List, [], ◌++◌, Option, Result, Ok, Err, sym, ap, subst, ◌∙◌}
+use Rattle.std.proofs.Common.{◌≡◌, ℕ, Bool, List, [], ◌++◌, Option, Result, Ok, Err, sym, subst}
 use Rattle.std.specs.Prelude.{OnOk}
 use Rattle.std.specs.Io.KnownBytes.{Consumes, Appends, Keeps, IsAtEnd}
 use Rattle.std.proofs.KnownBytes.{Consumes-nil, Appends-nil, Appends-trans, Consumes-trans, Consumes-kept}
@@ -9,6 +9,7 @@ use Rattle.uring_trace.specs.declared.trace_fault.TraceFault.{TraceFault}
 use Rattle.uring_trace.specs.declared.explainer.Explainer.{Explainer}
 use Rattle.uring_trace.specs.Traces.{WritesText}
 use Rattle.uring_trace.specs.Explaining.{HasTold, HasEnded}
+use Rattle.uring_trace.proofs.ExplainStreams.{nothing_yet}
 use Rattle.uring_pictures.specs.Readings.{TakesIn, EndsIn, EndsLine, ReadsAll}
 
 abbrev pub Done : Type 0
@@ -16,11 +17,6 @@ Done = Result (Unit {0}) TraceFault
 
 abbrev pub Known : Type 0
 Known = Option (List ℕ)
-
-nothing_yet : (setup : Setup) (s : Explainer) (bytes told noted none none' : List ℕ) → none ≡ [] → none' ≡ [] → HasTold setup s bytes told noted → HasTold setup s bytes (told ++ none) (noted ++ none')
-nothing_yet setup s bytes told noted none none' a b h =
-    subst (λ (l : List ℕ). HasTold setup s bytes (told ++ none) l) (sym (ap (λ (l : List ℕ). noted ++ l) b ∙ append-nil noted))
-    (subst (λ (l : List ℕ). HasTold setup s bytes l noted) (sym (ap (λ (l : List ℕ). told ++ l) a ∙ append-nil told)) h)
 
 -- bytes that were taken in, and their notes written
 pub took_in : (result : Done) (s s' : Explainer) (more none none' new new' : List ℕ) (e e' : Known) → none ≡ [] → none' ≡ []

@@ -1,9 +1,8 @@
 -- What is drawn of the lines that were read.
-use Rattle.std.specs.Prelude.{◌≡◌, ℕ, Bool, List, Option, Result, Ok, Err}
+use Rattle.std.specs.Prelude.{ℕ, Bool, List, Option}
 use Rattle.std.specs.Io.KnownBytes.{Consumes, Appends, IsAtEnd}
 use Rattle.uring_entry.specs.Setup.{Setup}
 use Rattle.uring_machine.specs.Histories.{world, history_of}
-use Rattle.uring_trace.specs.declared.trace_fault.TraceFault.{TraceFault}
 use Rattle.uring_trace.specs.Explanations.{Saying, ExplainsWhole, events_in}
 use Rattle.uring_pictures.specs.Graphs.{graph_of}
 

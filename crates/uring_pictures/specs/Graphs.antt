@@ -4,7 +4,7 @@ use Rattle.std.specs.Fmt.{decimal}
 use Rattle.uring_entry.specs.Requests.{Requests}
 use Rattle.uring_entry.specs.Why.{why_of}
 use Rattle.uring_entry.specs.declared.why.Why.{Why}
-use Rattle.uring_entry.specs.declared.why.Why.TheVariants.{NeverAccepted, HasEnded, Runs, IsDoomed, Waits, MayStart}
+use Rattle.uring_entry.specs.declared.why.Why.TheVariants.{NeverAccepted, HasEnded, Runs, IsDoomed, Waits}
 use Rattle.uring_trace.specs.Reasons.{why_text, since_text}
 
 -- an ellipse runs, an octagon is doomed, a box waits, and a diamond may start

@@ -1,5 +1,5 @@
 -- Glue. What an explainer takes in, and what is noted, while nothing is answered.
-use Rattle.std.specs.Prelude.{◌≡◌, ℕ, Bool, List, [], ◌++◌, Option}
+use Rattle.std.specs.Prelude.{◌≡◌, ℕ, Bool, List, ◌++◌, Option}
 use Rattle.std.specs.Io.KnownBytes.{Consumes, Appends, IsAtEnd}
 use Rattle.uring_entry.specs.Setup.{Setup}
 use Rattle.uring_trace.specs.declared.explainer.Explainer.{Explainer}

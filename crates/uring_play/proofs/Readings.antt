@@ -90,9 +90,6 @@ Known = Option (List ℕ)
 abbrev pub So : ℕ → Known → Known → Reading → Type 0
 So size a r s = (bytes : List ℕ) × Consumes a r bytes × Has size s bytes
 
-pub at_start : (size : ℕ) (a : Known) (s : Reading) → Has size s [] → So size a a s
-at_start size a s h = ([], Consumes-nil a, h)
-
 -- a read that was interrupted
 pub tried_again : (size : ℕ) (a r r' : Known) (s : Reading) → Keeps r r' → So size a r s → So size a r' s
 tried_again size a r r' s h so = (so.0, Consumes-kept a r r' so.0 so.1 h, so.2)

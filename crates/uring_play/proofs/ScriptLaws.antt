@@ -90,10 +90,6 @@ fault_stays size lines line fault.Memory h = absurd h
 
 -- ---- over scripts
 
-pub on_ok_map : {T E : Type 0} (r : Result T E) (P Q : Type 0) → (P → Q) → OnOk r P → OnOk r Q
-on_ok_map (Ok x) P Q f h = f h
-on_ok_map (Err e) P Q f h = tt
-
 moved : (size : ℕ) (lines : List (List ℕ)) (f f' : Option PlayFault) (n n' : ℕ) (calls calls' : List (List Item)) (call call' : List Item) → f' ≡ f → n' ≡ n → calls' ≡ calls → call' ≡ call → IsAt size lines f n calls call → IsAt size lines f' n' calls' call'
 moved size lines f f' n n' calls calls' call call' a b c d h = rw (a, b, c, d) h
 

@@ -14,10 +14,6 @@ use Rattle.std.specs.Int.{IsPowerOfTwo}
 pub distance_of_words : (s a b d : ℕ) → d < 2 ^ 32 → b ≤ a → a < b + 2 ^ 32 → ((s + b) % 2 ^ 32 + d) % 2 ^ 32 ≡ (s + a) % 2 ^ 32 → d ≡ a - b
 distance_of_words s a b d small ordered near leads = omega arith
 
--- Counts less than 2 ^ 32 apart have one word only where they are equal.
-pub same_count : (s a b : ℕ) → a ≤ b → b < a + 2 ^ 32 → (s + a) % 2 ^ 32 ≡ (s + b) % 2 ^ 32 → a ≡ b
-same_count s a b ordered near same = omega arith
-
 -- A word goes on as its count does.
 pub word_after : (s k n : ℕ) → ((s + k) % 2 ^ 32 + n) % 2 ^ 32 ≡ (s + (k + n)) % 2 ^ 32
 word_after s k n = omega arith

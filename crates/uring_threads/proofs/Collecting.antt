@@ -85,10 +85,6 @@ then_others a b c workers place p q = record { jobs = λ k. q.jobs k ∙ p.jobs 
 pub same_taken_in : (a b : Kept) (workers k : ℕ) → IsUnmoved a b → results_taken_in workers k b ≡ results_taken_in workers k a
 same_taken_in a b workers k u = ap₂ (λ g es. length (done_by_worker g workers k (history_of es))) u.setup u.trace
 
--- what was taken in was taken in also where nothing happened
-pub same_taken : (a b : Kept) (workers place : ℕ) (results : List JobResult) → IsUnmoved a b → AreTakenIn a workers place results → AreTakenIn b workers place results
-same_taken a b workers place results u taken = taken ∙ sym (ap₂ (λ g es. results_of (done_by_worker g workers place (history_of es))) u.setup u.trace)
-
 -- the end of a request posts a completion, or none
 posts_end : (a b : Kept) (r : JobResult) → Grows a b (finish_of r) → OnlyPosts (now a) (now b)
 posts_end a b r g =

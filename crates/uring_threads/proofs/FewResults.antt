@@ -55,9 +55,6 @@ pub record FewBefore (workers place : ℕ) (a b : Kept) : Type 0 where
   pub before : (k : ℕ) → k < place → results_taken_in workers k b ≤ results_taken_in workers k a + most_results
   pub others : (k : ℕ) → place ≤ k → results_taken_in workers k b ≡ results_taken_in workers k a
 
-pub few_at_first : (workers : ℕ) (a : Kept) → FewBefore workers 0 a a
-few_at_first workers a = record { before = λ k low. absurd (omega (arith, low)); others = λ k high. refl }
-
 few_more : (workers place : ℕ) (a b c : Kept) → FewBefore workers place a b → CollectsFew b c workers place → FewBefore workers (place + 1) a c
 few_more workers place a b c p q =
     record {

@@ -7,7 +7,7 @@ use Rattle.uring_entry.proofs.RequestLemmas.{is_running-started_same}
 use Rattle.uring_entry.proofs.BelowLemmas.{least_below-tells}
 use Rattle.uring_machine.specs.Laws.{IsIssued}
 use Rattle.uring_machine.specs.StepAnswers.{CalledForApart, IsEnded}
-use Rattle.uring_machine.proofs.RequestLaws.{issue_goes, issued_cases}
+use Rattle.uring_machine.proofs.RequestLaws.{issue_goes, issued_ends}
 use Rattle.uring_machine.proofs.SoundRequests.{outstanding_tells}
 use Rattle.uring_machine.specs.declared.step.Step.TheVariants as step
 use Rattle.uring_machine.specs.declared.answer.Answer.{Answer}
@@ -22,7 +22,7 @@ next_issuable r n next = (least_below-tells (is_issuable r) (length r.accepted) 
 -- its Issue is answered in one of two ways
 pub issue_cases : (a : Kept) (n : ℕ) (x : Answer) → next_of (now a).requests ≡ Some n → CalledForApart a.setup (now a) (step.Issue n) x → (x ≡ answer.Run → ⊥) → ((res : ℤ) (bytes : List ℕ) → x ≡ answer.Ended res bytes → ⊥) → ⊥
 issue_cases a n x next called not_run not_ended =
-    issued_cases x (subst IsIssued (sym called) (issue_goes (now a) n (next_issuable (now a).requests n next))) not_run (no_end x not_ended) where
+    no_end x not_ended (issued_ends x (subst IsIssued (sym called) (issue_goes (now a) n (next_issuable (now a).requests n next))) not_run) where
       no_end : (y : Answer) → ((res : ℤ) (bytes : List ℕ) → y ≡ answer.Ended res bytes → ⊥) → IsEnded y → ⊥
       no_end (answer.Ended res bytes) other ended = other res bytes refl
       no_end _ other ended = ended

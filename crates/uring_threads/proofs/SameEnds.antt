@@ -1,9 +1,9 @@
 -- Lanes and workers by their numbers: whoever has the same numbers is the other end.
-use Rattle.std.proofs.Common.{◌≡◌, ℕ, zero, suc, ◌<◌, List, [], ◌∷◌, length, map, get_or, refl, sym, subst, ap, ap₂, ◌∙◌, arith, inl, inr}
+use Rattle.std.proofs.Common.{◌≡◌, ℕ, suc, ◌<◌, List, [], ◌∷◌, length, map, get_or, refl, sym, subst, ap, ap₂, ◌∙◌, arith, inl, inr}
 use Rattle.std.specs.Prelude.{slice_set}
 use Rattle.std.proofs.lemmas.Bool.{cases_eq}
-use Rattle.std.proofs.lemmas.List.{get_or-map, length-map, length-set, get_or-set_same, get_or-set_other}
-use Rattle.uring_threads.specs.Dispatched.{AreSameLanes, HaveCarried, HoldResults, numbers_of_lanes}
+use Rattle.std.proofs.lemmas.List.{get_or-map, length-map, length-set, get_or-set_same, get_or-set_other, get_or_default}
+use Rattle.uring_threads.specs.Dispatched.{AreSameLanes, HaveCarried, numbers_of_lanes}
 use Rattle.uring_threads.specs.Kept.{Kept}
 use Rattle.uring_threads.specs.Kernel.{Kernel, IsKernel}
 use Rattle.uring_threads.specs.AppEnd.{AppEnd}
@@ -28,11 +28,6 @@ same_told f g xs ys k d e same low =
     let many : length xs ≡ length ys = sym (length-map xs f) ∙ ap length same ∙ length-map ys g in
     sym (get_or-map f xs k d (f d) (omega (arith, low, many))) ∙ ap (λ told. get_or told k (f d)) same ∙ get_or-map g ys k e (f d) low
 
-any_default : {X : Type 0} (xs : List X) (k : ℕ) (x y : X) → k < length xs → get_or xs k x ≡ get_or xs k y
-any_default [] k x y within = absurd (omega (arith, within))
-any_default (z ∷ xs) zero x y within = refl
-any_default (z ∷ xs) (suc k) x y within = any_default xs k x y (omega (arith, within))
-
 -- the same lanes have the same numbers
 pub same_numbers : (old new : List WorkLanes) → AreSameLanes old new → numbers_of_lanes new ≡ numbers_of_lanes old
 same_numbers old new same =
@@ -44,14 +39,7 @@ same_numbers old new same =
           let l : WorkLanes = get_or old k d in
           let m : WorkLanes = get_or new k d in
           ap₂ (λ xs ys. xs ∷ ys ∷ []) (same_ring m.jobs.end l.jobs.end jobs.0 jobs.1 jobs.2) (same_ring m.results.end l.results.end results.0 results.1 results.2)
-          ∙ ap (λ (x : WorkLanes). pairing_of x.jobs x.results) (any_default old k d e low)
-
--- and hold as many results
-pub results_hold : (old new : List WorkLanes) → AreSameLanes old new → HoldResults old → HoldResults new
-results_hold old new same hold = λ k d low.
-    let before : k < length old = omega (arith, low, same.many) in
-    let capacity = (same.results k d before).1 in
-    omega (arith, capacity, hold k d before)
+          ∙ ap (λ (x : WorkLanes). pairing_of x.jobs x.results) (get_or_default old k d e low)
 
 -- the dispatcher's lanes are those of the workers
 pub lanes_of_workers : (app : AppEnd) (kernel : Kernel) (workers : List Worker) → AreTogether app kernel workers → IsKernel kernel → AreLanesOf kernel.kept.setup.files kernel.lanes workers
@@ -93,8 +81,8 @@ module _ (workers : List Worker) (k : ℕ) (d new : Worker) (low : k < length wo
   stays_at : {A : Type 0} (f : Worker → A) → f new ≡ f (get_or workers k d) → (j : ℕ) (x y : Worker) → j < length (slice_set workers k new) → f (get_or (slice_set workers k new) j x) ≡ f (get_or workers j y)
   stays_at f here j x y within =
       elim (cases_eq j k) [
-        | inl same ↦ ap (λ i. f (get_or (slice_set workers k new) i x)) same ∙ ap f (get_or-set_same workers k new x low) ∙ here ∙ ap f (any_default workers k d y low) ∙ ap (λ i. f (get_or workers i y)) (sym same)
-        | inr other ↦ ap f (get_or-set_other workers k j new x other) ∙ ap f (any_default workers j x y (omega (arith, within, length-set workers k new)))
+        | inl same ↦ ap (λ i. f (get_or (slice_set workers k new) i x)) same ∙ ap f (get_or-set_same workers k new x low) ∙ here ∙ ap f (get_or_default workers k d y low) ∙ ap (λ i. f (get_or workers i y)) (sym same)
+        | inr other ↦ ap f (get_or-set_other workers k j new x other) ∙ ap f (get_or_default workers j x y (omega (arith, within, length-set workers k new)))
       ]
 
   pub worker_stays : (app : AppEnd) (kernel : Kernel) → new.pairing ≡ (get_or workers k d).pairing → length new.files ≡ length (get_or workers k d).files → AreTogether app kernel workers → AreTogether app kernel (slice_set workers k new)

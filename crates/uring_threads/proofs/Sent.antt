@@ -19,7 +19,6 @@ use Rattle.uring_machine.specs.declared.step.Step.{Step}
 use Rattle.uring_machine.specs.declared.step.Step.TheVariants as step
 use Rattle.uring_machine.specs.declared.answer.Answer.{Answer}
 use Rattle.uring_machine.specs.declared.answer.Answer.TheVariants as answer
-use Rattle.uring_machine.proofs.Changes.{change_of}
 use Rattle.uring_machine.proofs.ListCounts.{any_new}
 use Rattle.uring_machine.proofs.Moves.{Move, stays, accepts, starts, ends_doomed, ends_cancel, ends_run, move_of}
 use Rattle.uring_machine.proofs.Running.{entry_stays}
@@ -28,10 +27,6 @@ use Rattle.uring_machine.proofs.SoundRequests.{IsSoundRequests, outstanding_tell
 use Rattle.uring_threads.specs.declared.job.Job.{Job}
 use Rattle.uring_threads.specs.Work.{job_in, jobs_in}
 use Rattle.uring_threads.proofs.Times.{times, times-append, times-told}
-
--- what an event makes of the requests of a lawful history
-moved : (g : Setup) (s : Step) (a : Answer) (h : History) → IsLawfulApart g ((s, a) ∷ h) → Move (world g h).requests s a (world g ((s, a) ∷ h)).requests
-moved g s a h lawful = move_of g (world g h) s a (change_of g (world g h) s a lawful.0) lawful.0
 
 -- Jobs: one for each request that started.
 
@@ -53,7 +48,7 @@ jobs_then r q s a jobs (ends_run n res bytes running) i same = same
 
 pub jobs_are_starts : (g : Setup) (h : History) → IsLawfulApart g h → jobs_in g h ≡ map (job_in (world g h).requests) (world g h).requests.started
 jobs_are_starts g [] lawful = refl
-jobs_are_starts g ((s, a) ∷ h) lawful = jobs_then (world g h).requests _ s a (jobs_in g h) (moved g s a h lawful) (sound_of g h lawful.1).requests (jobs_are_starts g h lawful.1)
+jobs_are_starts g ((s, a) ∷ h) lawful = jobs_then (world g h).requests _ s a (jobs_in g h) (move_of g s a h lawful) (sound_of g h lawful.1).requests (jobs_are_starts g h lawful.1)
 
 -- Operations: one for each request that started and ended.
 
@@ -86,7 +81,7 @@ done_then w q s a done (ends_run n res bytes running) i all = of-snoc w.requests
 
 pub done_is_of : (g : Setup) (h : History) → IsLawfulApart g h → AreOf (world g h).requests.accepted (done_in g h)
 done_is_of g [] lawful = tt
-done_is_of g ((s, a) ∷ h) lawful = done_then (world g h) _ s a (done_in g h) (moved g s a h lawful) (sound_of g h lawful.1).requests (done_is_of g h lawful.1)
+done_is_of g ((s, a) ∷ h) lawful = done_then (world g h) _ s a (done_in g h) (move_of g s a h lawful) (sound_of g h lawful.1).requests (done_is_of g h lawful.1)
 
 -- what an Issue ends wasn't running
 issue_idle : (outstanding running doomed ready cancel : Bool) (as_doomed as_cancel res : ℤ) (bytes : List ℕ)
@@ -135,7 +130,7 @@ carried_then g w q s a done (ends_run m res bytes running) called all = λ n sta
 
 pub carried_out : (g : Setup) (h : History) → IsLawfulApart g h → Carried (world g h).requests (done_in g h)
 carried_out g [] lawful = λ n started ended. absurd (let f : false ≡ true = started in cc)
-carried_out g ((s, a) ∷ h) lawful = carried_then g (world g h) _ s a (done_in g h) (moved g s a h lawful) lawful.0 (carried_out g h lawful.1)
+carried_out g ((s, a) ∷ h) lawful = carried_then g (world g h) _ s a (done_in g h) (move_of g s a h lawful) lawful.0 (carried_out g h lawful.1)
 
 -- what was carried out has ended
 abbrev FewerDone : Requests → List Done → Type 0
@@ -157,4 +152,4 @@ ended_then w q s a done (ends_run m res bytes running) all = λ n.
 
 pub done_ended : (g : Setup) (h : History) → IsLawfulApart g h → FewerDone (world g h).requests (done_in g h)
 done_ended g [] lawful = λ n. omega arith
-done_ended g ((s, a) ∷ h) lawful = ended_then (world g h) _ s a (done_in g h) (moved g s a h lawful) (done_ended g h lawful.1)
+done_ended g ((s, a) ∷ h) lawful = ended_then (world g h) _ s a (done_in g h) (move_of g s a h lawful) (done_ended g h lawful.1)

@@ -1,8 +1,8 @@
 -- Settling all workers, one after the other: the results of the first are taken in, and the others' wait.
-use Rattle.std.proofs.Common.{◌≡◌, ◌≢◌, ℕ, zero, suc, ◌+◌, ◌*◌, ◌<◌, ◌≤◌, List, [], ◌∷◌, ◌++◌, length, map, take, drop, get_or, refl, sym, subst, ap, ap₂, ◌∙◌, arith, inl, inr, append_assoc, append-nil}
+use Rattle.std.proofs.Common.{◌≡◌, ◌≢◌, ℕ, ◌+◌, ◌*◌, ◌<◌, ◌≤◌, List, [], ◌∷◌, ◌++◌, length, map, take, drop, get_or, refl, sym, subst, ap, ap₂, ◌∙◌, arith, inl, inr, append_assoc, append-nil}
 use Rattle.std.specs.Prelude.{slice_set}
 use Rattle.std.proofs.lemmas.Bool.{cases_eq}
-use Rattle.std.proofs.lemmas.List.{map-append, length-set, get_or-set_same, get_or-set_other, take_all, take_more, length-take-le}
+use Rattle.std.proofs.lemmas.List.{map-append, length-set, get_or-set_same, get_or-set_other, take_all, take_more, length-take-le, get_or_default}
 use Rattle.rtrb.specs.Ring.{received, consumer_capacity}
 use Rattle.uring_machine.specs.Finishes.{AreDone}
 use Rattle.uring_machine.specs.Histories.{IsLawfulApart}
@@ -134,12 +134,8 @@ module _ (a b c : Kept) (ls ms : List WorkLanes) (ws vs : List Worker) (count fi
 
   looks_here : (f : Worker) → Looks (get_or ws count f) after
   looks_here f =
-      let v : get_or vs count e ≡ get_or ws count f = s.workers_stay count e (omega arith) ∙ any_default ws count e f (omega (arith, of.many, lt)) in
-      subst (λ w. Looks w after) v one.looks where
-        any_default : (xs : List Worker) (k : ℕ) (x y : Worker) → k < length xs → get_or xs k x ≡ get_or xs k y
-        any_default [] k x y within = absurd (omega (arith, within))
-        any_default (z ∷ xs) zero x y within = refl
-        any_default (z ∷ xs) (suc k) x y within = any_default xs k x y (omega (arith, within))
+      let v : get_or vs count e ≡ get_or ws count f = s.workers_stay count e (omega arith) ∙ get_or_default ws count e f (omega (arith, of.many, lt)) in
+      subst (λ w. Looks w after) v one.looks
 
   work_here : IsWork c.setup (length ls) (history c) count (settled_work after)
   work_here = subst (λ ds. IsWork c.setup (length ls) (history c) count (record { done = ds; untaken = after.seen; waiting = [] })) (sym (ap (λ w. w.done) one.looks.same)) at_count.work

@@ -1,7 +1,8 @@
 -- The file of a descriptor, of a history that workers have settled, is that of its worker.
-use Rattle.std.proofs.Common.{◌≡◌, ℕ, zero, suc, ◌<◌, ℤ, List, [], ◌∷◌, length, get_or, refl, sym, subst, ap, ◌∙◌, arith}
+use Rattle.std.proofs.Common.{◌≡◌, ℕ, ◌<◌, ℤ, List, length, get_or, sym, subst, ap, ◌∙◌}
 use Rattle.std.specs.Prelude.{slice_get}
 use Rattle.std.specs.Option.{option_map, option_and_then}
+use Rattle.std.proofs.lemmas.List.{get_or_default}
 use Rattle.uring_files.specs.Contents.{FileContents}
 use Rattle.uring_files.specs.Laws.{AgreeAt}
 use Rattle.uring_files.specs.Operations.{file_of, state_of, byte_of}
@@ -22,17 +23,12 @@ own_file kept files workers fd e same settled many right =
     ∙ ap (λ n. file_of (files_left (empty_files n) (w files).done) fd) (same ∙ sym many)
     ∙ ap (λ fs. file_of fs fd) (sym right.files)
 
-any_default : {X : Type 0} (xs : List X) (k : ℕ) (x y : X) → k < length xs → get_or xs k x ≡ get_or xs k y
-any_default [] k x y within = absurd (omega (arith, within))
-any_default (z ∷ xs) zero x y within = refl
-any_default (z ∷ xs) (suc k) x y within = any_default xs k x y (omega (arith, within))
-
 -- the same at a place that was looked up
 pub file_at : (kept : Kept) (files : ℕ) (workers : List Worker) (fd : ℤ) (place : ℕ) (d e : Worker) → kept.setup.files ≡ files → AreSettled kept workers → place ≡ place_of_file (length workers) files fd → place < length workers → HaveFiles files workers
     → IsRight (get_or workers place d) → AgreeAt fd (files_of kept.setup (now kept)) (get_or workers place e).files
 file_at kept files workers fd place d e same settled here within have right =
     let k : ℕ = place_of_file (length workers) files fd in
-    own_file kept files workers fd e same settled (have.each k e (subst (λ n. n < length workers) here within)) (subst (λ n. IsRight (get_or workers n e)) here (subst IsRight (any_default workers place d e within) right))
+    own_file kept files workers fd e same settled (have.each k e (subst (λ n. n < length workers) here within)) (subst (λ n. IsRight (get_or workers n e)) here (subst IsRight (get_or_default workers place d e within) right))
     ∙ ap (λ n. file_of (get_or workers n e).files fd) (sym here)
 
 pub state_same : (fd : ℤ) (files others : List FileContents) → AgreeAt fd files others → state_of files fd ≡ state_of others fd

@@ -9,6 +9,7 @@ use Rattle.uring_entry.specs.declared.operation.Outcome.{Outcome}
 use Rattle.uring_files.specs.Contents.{FileContents, written, with_writes_synced}
 use Rattle.uring_files.specs.Operations.{after, with_changed, IsOutcome}
 use Rattle.uring_machine.specs.Finishes.{Done, files_left, AreDone}
+use Rattle.uring_machine.proofs.FileLaws.{left-snoc, done-snoc}
 use Rattle.uring_threads.specs.declared.job.Job.{Job}
 use Rattle.uring_threads.specs.declared.job.JobResult.{JobResult}
 use Rattle.uring_threads.specs.Work.{job_of, result_of, jobs_of, results_of}
@@ -16,15 +17,6 @@ use Rattle.rtrb.specs.Shared.{Names}
 use Rattle.rtrb.specs.declared.end.End.{End}
 use Rattle.uring_threads.specs.Lanes.{numbers_of, numbers_of_pointer}
 use Rattle.uring_threads.specs.Worker.{Worker, done_of, empty_files, IsWorking}
-
--- one operation more
-left-snoc : (files : List FileContents) (done : List Done) (d : Done) → files_left files (done ++ d ∷ []) ≡ after (files_left files done) d.op d.outcome.res
-left-snoc files [] d = refl
-left-snoc files (first ∷ later) d = left-snoc (after files first.op first.outcome.res) later d
-
-right-snoc : (files : List FileContents) (done : List Done) (d : Done) → AreDone files done → IsOutcome (files_left files done) d.op d.outcome → AreDone files (done ++ d ∷ [])
-right-snoc files [] d all last = (last, tt)
-right-snoc files (first ∷ later) d all last = (all.0, right-snoc (after files first.op first.outcome.res) later d all.1 last)
 
 -- as many files as before
 many_changed : (chosen : Bool) (files : List FileContents) (fd : ℤ) (change : FileContents → FileContents) → length (cond chosen (with_changed files fd change) files) ≡ length files
@@ -68,7 +60,7 @@ goes_on jobs results files w j outcome right =
     let more = done_of-snoc jobs results files w j outcome in
     let first : List FileContents = empty_files (length files) in
     let same : empty_files (length (after files j.op outcome.res)) ≡ first = ap empty_files (many_after files j.op outcome.res) in
-    let rights : AreDone first (done ++ d ∷ []) = right-snoc first done d w.right (subst (λ fs. IsOutcome fs j.op outcome) w.left right) in
+    let rights : AreDone first (done ++ d ∷ []) = done-snoc first done d w.right (subst (λ fs. IsOutcome fs j.op outcome) w.left right) in
     record {
       jobs_done = ap (λ js. js ++ j ∷ []) w.jobs_done ∙ sym (map-append job_of done (d ∷ [])) ∙ ap jobs_of (sym more);
       results_done = ap (λ rs. rs ++ result_of d ∷ []) w.results_done ∙ sym (map-append result_of done (d ∷ [])) ∙ ap results_of (sym more);

@@ -1,29 +1,17 @@
 -- A form has one entry.
-use Rattle.std.proofs.Common.{◌≡◌, ℕ, ◌^◌, ◌<◌, List, [], ◌∷◌, ◌++◌, take, drop, refl, sym, ap, ◌∙◌}
+use Rattle.std.proofs.Common.{◌≡◌, ℕ, ◌^◌, ◌<◌, List, ◌++◌, take, drop, sym, ap, ◌∙◌}
 use Rattle.std.specs.Int.{w64, to_le_bytes, from_le_bytes}
 use Rattle.std.proofs.lemmas.Nat.{from_le_bytes-to_le_bytes_8}
 use Rattle.std.proofs.lemmas.List.{take-append-drop}
-use Rattle.uring_entry.specs.Layout.{Sqe, bytes_of, AreWords, HasData}
+use Rattle.uring_entry.specs.Layout.{Sqe, HasData}
+use Rattle.uring_entry.proofs.CompletionWords.{same_words}
 use Rattle.uring_trace.specs.Spelling.{Form, IsEntryOf}
 use Rattle.uring_trace.specs.Spelling as form
-
--- a word is determined by its bytes
-word_once : (a b : ℕ) → a < 2 ^ 64 → b < 2 ^ 64 → to_le_bytes w64 a ≡ to_le_bytes w64 b → a ≡ b
-word_once a b ha hb e = sym (from_le_bytes-to_le_bytes_8 a ha) ∙ ap (from_le_bytes w64) e ∙ from_le_bytes-to_le_bytes_8 b hb
-
-words_once : (a b : List ℕ) → AreWords a → AreWords b → bytes_of a ≡ bytes_of b → a ≡ b
-words_once [] [] ha hb e = refl
-words_once [] (y ∷ b) ha hb e = absurd cc
-words_once (x ∷ a) [] ha hb e = absurd cc
-words_once (x ∷ a) (y ∷ b) ha hb e =
-    let first : to_le_bytes w64 x ≡ to_le_bytes w64 y = ap (take 8) e in
-    let others : bytes_of a ≡ bytes_of b = ap (drop 8) e in
-    ap (λ (w : ℕ). w ∷ a) (word_once x y ha.0 hb.0 first) ∙ ap (λ (l : List ℕ). y ∷ l) (words_once a b ha.1 hb.1 others)
 
 -- the first eight words, and the bytes of the others
 data_once : (a b first bytes : List ℕ) → HasData a first bytes → HasData b first bytes → a ≡ b
 data_once a b first bytes h k =
-    let behind : drop 8 a ≡ drop 8 b = words_once (drop 8 a) (drop 8 b) h.rest k.rest (h.payload ∙ sym k.payload) in
+    let behind : drop 8 a ≡ drop 8 b = same_words (drop 8 a) (drop 8 b) h.rest k.rest (h.payload ∙ sym k.payload) in
     sym (take-append-drop 8 a) ∙ ap (λ (l : List ℕ). l ++ drop 8 a) (h.first ∙ sym k.first) ∙ ap (λ (l : List ℕ). take 8 b ++ l) behind ∙ take-append-drop 8 b
 
 pub entry_once : (f : Form) (a b : Sqe) → IsEntryOf f a → IsEntryOf f b → a ≡ b
@@ -34,4 +22,4 @@ entry_once (form.Write user_data flags fd off bytes) a b h k = data_once a b _ b
 entry_once (form.Cancel user_data flags target) a b h k = h ∙ sym k
 entry_once (form.CancelAll user_data flags target) a b h k = h ∙ sym k
 entry_once (form.Op code user_data flags) a b h k = h ∙ sym k
-entry_once (form.Raw bytes) a b h k = words_once a b h.words k.words (h.all ∙ sym k.all)
+entry_once (form.Raw bytes) a b h k = same_words a b h.words k.words (h.all ∙ sym k.all)

@@ -1,5 +1,5 @@
 -- What an explainer keeps, byte by byte and line by line.
-use Rattle.std.proofs.Common.{◌≡◌, ◌≢◌, ℕ, ◌+◌, ◌-◌, ◌^◌, min, Bool, true, false, ◌||◌, List, [], ◌∷◌, ◌++◌, length, Option, Some, None, Result, Ok, Err, refl, sym, ap, subst, ◌∙◌, append_assoc, arith}
+use Rattle.std.proofs.Common.{◌≡◌, ◌≢◌, ℕ, ◌+◌, ◌-◌, ◌^◌, min, Bool, true, false, ◌||◌, List, [], ◌∷◌, ◌++◌, length, Option, Result, Ok, Err, refl, sym, ap, subst, ◌∙◌, append_assoc, arith}
 use Rattle.std.specs.Prelude.{IfOk}
 use Rattle.std.specs.List.{list_any}
 use Rattle.std.proofs.lemmas.List.{append-nil}
@@ -22,7 +22,7 @@ use Rattle.uring_trace.specs.Sessions.{with_event}
 use Rattle.std.specs.Prelude.{codes}
 use Rattle.uring_trace.specs.Questions.{IsQuestion, IsNoQuestion}
 use Rattle.uring_trace.specs.declared.questions.Question.{Question}
-use Rattle.uring_trace.specs.Explanations.{Saying, Made, Asked, Remark, Bad, event_in, lines_in, events_in, Explains, ExplainsWhole, ExplainsEnded, ExplainsBeginning, told_of, noted_of, bad_note, line_number, is_bad}
+use Rattle.uring_trace.specs.Explanations.{Saying, Made, Asked, Bad, event_in, lines_in, events_in, Explains, ExplainsWhole, ExplainsEnded, ExplainsBeginning, told_of, noted_of, bad_note, line_number, is_bad}
 use Rattle.uring_trace.specs.Explaining.{AppendsLine, TellsStep, TellsShown, Explaining}
 use Rattle.uring_trace.proofs.Sessions.{split_more, split_end, split_whole, one_more, last_some}
 
@@ -31,7 +31,7 @@ pub if_ok_both : {T E : Type 0} (r : Result T E) (P Q R : T → Type 0) → ((x 
 if_ok_both (Ok x) P Q R f a b = f x a b
 if_ok_both (Err e) P Q R f a b = tt
 
-or_false : (b : Bool) → b ≡ (b || false)
+pub or_false : (b : Bool) → b ≡ (b || false)
 or_false true = refl
 or_false false = refl
 
@@ -67,17 +67,6 @@ line_asked m number bad line before after notes question is tells = record {
   said = Asked question;
   read = is;
   told = tells;
-  noted = sym (append-nil notes);
-  bad_line = or_false bad;
-  same = refl;
-  fits = λ h f. f;
-}
-
-pub line_passed : (m : Machine) (number : ℕ) (bad : Bool) (line before notes : List ℕ) → is_remark line ≡ true → AppendsLine m m number bad bad line before before notes notes
-line_passed m number bad line before notes remark = record {
-  said = Remark;
-  read = remark;
-  told = λ h f. sym (append-nil before);
   noted = sym (append-nil notes);
   bad_line = or_false bad;
   same = refl;

@@ -39,7 +39,7 @@ pair_whole w w' e e' result text notes x y = (x.0, y.0, x.1, y.1, go result y.2)
 
 -- ---- what is told and noted of some bytes
 
-nothing_yet : (setup : Setup) (s : Explainer) (bytes told noted none none' : List ℕ) → none ≡ [] → none' ≡ [] → HasTold setup s bytes told noted → HasTold setup s bytes (told ++ none) (noted ++ none')
+pub nothing_yet : (setup : Setup) (s : Explainer) (bytes told noted none none' : List ℕ) → none ≡ [] → none' ≡ [] → HasTold setup s bytes told noted → HasTold setup s bytes (told ++ none) (noted ++ none')
 nothing_yet setup s bytes told noted none none' a b h =
     subst (λ (l : List ℕ). HasTold setup s bytes (told ++ none) l) (sym (ap (λ (l : List ℕ). noted ++ l) b ∙ append-nil noted))
     (subst (λ (l : List ℕ). HasTold setup s bytes l noted) (sym (ap (λ (l : List ℕ). told ++ l) a ∙ append-nil told)) h)

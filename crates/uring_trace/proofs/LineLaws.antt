@@ -8,10 +8,10 @@ broken : (a r : List ℕ) → IsUnbroken (a ++ 10 ∷ r) → ⊥
 broken [] r h = h.0 refl
 broken (b ∷ a) r h = broken a r h.1
 
-first_same : (b c : ℕ) (a d : List ℕ) → b ∷ a ≡ c ∷ d → b ≡ c
+pub first_same : (b c : ℕ) (a d : List ℕ) → b ∷ a ≡ c ∷ d → b ≡ c
 first_same b c a d e = cc
 
-others_same : (b c : ℕ) (a d : List ℕ) → b ∷ a ≡ c ∷ d → a ≡ d
+pub others_same : (b c : ℕ) (a d : List ℕ) → b ∷ a ≡ c ∷ d → a ≡ d
 others_same b c a d e = cc
 
 -- the last end of a line stands at one place

@@ -1,5 +1,5 @@
 -- Words that are numbers.
-use Rattle.std.proofs.Common.{◌≡◌, ℕ, ◌^◌, ◌<◌, ◌≤◌, true, false, ltb, eqb, ◌&&◌, List, [], ◌∷◌, length, get_or, Some, None, Result, Ok, Err, refl, ap, arith, inl, inr, rules}
+use Rattle.std.proofs.Common.{◌≡◌, ℕ, ◌^◌, ◌<◌, ◌≤◌, true, ltb, eqb, ◌&&◌, List, [], ◌∷◌, length, get_or, Some, None, Result, Ok, Err, refl, ap, arith, inl, inr, rules}
 use Rattle.std.specs.Str.{IsUtf8}
 use Rattle.std.specs.Char.{is_ascii_digit}
 use Rattle.std.specs.List.{list_all}
@@ -55,10 +55,6 @@ parsed_as w (Err x) e h =
 
 pub numeral_parsed : {E : Type 0} (w : List ℕ) (r : Result ℕ E) → is_numeral w ≡ true → ParsesUnsigned 64 10 w r → result_ok r ≡ number_of (2 ^ 64) w
 numeral_parsed w r e h = parsed_as w r e (parse_digits own 64 w r h (numeral_digits w e))
-
-pub not_numeral : (limit : ℕ) (w : List ℕ) → is_numeral w ≡ false → number_of limit w ≡ None
-unfolding number_of
-not_numeral limit w e = rw e refl
 
 -- what a token's number is
 pub number_parts : (limit : ℕ) (w : List ℕ) (n : ℕ) → number_of limit w ≡ Some n → (is_numeral w ≡ true) × (digits_value 10 w ≡ n) × (n < limit)

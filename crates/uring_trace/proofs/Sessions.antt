@@ -123,11 +123,6 @@ ended_last manner m m' is_echo kept bytes text before after some answer h =
     let a = answer h.line h.keeps in
     (record { line = h.line; event = a.event } ∷ h.exchanges, lines_of h.exchanges, h.line, answered manner m m' is_echo h.exchanges h.line text before after h.answers h.same h.echoes h.fits a, h.splits, sym (last_some (lines_of h.exchanges) h.line (some h.line h.keeps)))
 
--- no last line has begun
-pub ended_none : (manner : Manner) (m : Machine) (is_echo : Bool) (kept : KeptLine) (bytes text : List ℕ) → ((line : List ℕ) → kept ≡ kept_of line → line ≡ []) → Holds manner m is_echo kept bytes text → IsWhole manner bytes text
-ended_none manner m is_echo kept bytes text none h =
-    (h.exchanges, lines_of h.exchanges, h.line, h.answers, h.splits, sym (ap (with_last (lines_of h.exchanges)) (none h.line h.keeps)))
-
 -- what a session holds, for the outcomes that end a trace early
 pub held_ended : (manner : Manner) (m : Machine) (is_echo : Bool) (kept : KeptLine) (bytes text : List ℕ) → Holds manner m is_echo kept bytes text → IsEnded manner bytes text
 held_ended manner m is_echo kept bytes text h = (h.exchanges, h.line, h.answers, h.splits)

@@ -1,6 +1,6 @@
 -- The text of what is shown.
-use Rattle.std.proofs.Common.{◌≡◌, ℕ, zero, suc, ◌+◌, List, [], ◌∷◌, ◌++◌, Option, Result, Ok, Err, take, refl, sym, ap, ◌∙◌, append_assoc, arith}
-use Rattle.std.specs.Prelude.{slice_get, Some, OnOk}
+use Rattle.std.proofs.Common.{◌≡◌, ℕ, zero, suc, ◌+◌, List, [], ◌∷◌, ◌++◌, Option, take, refl, sym, ap, ◌∙◌, append_assoc, arith}
+use Rattle.std.specs.Prelude.{slice_get, Some}
 use Rattle.std.proofs.lemmas.List.{append-nil}
 use Rattle.uring_entry.specs.Layout.{Cqe}
 use Rattle.uring_trace.specs.Shown.{list_text, listed_text}
@@ -21,8 +21,3 @@ overflow_more cs place o front so after a b is =
     let next : suc place ≡ place + 1 = omega arith in
     let more : t ++ x ≡ list_text (take (place + 1) cs) = sym (list_more cs place) ∙ ap (λ k. list_text (take k cs)) next in
     b ∙ ap (λ (l : List ℕ). l ++ listed_text o) a ∙ ap (λ (p : Option Cqe). (front ++ t) ++ listed_text p) is ∙ append_assoc front t x ∙ ap (λ (l : List ℕ). front ++ l) more
-
--- a fact of a success, from another
-pub on_ok_map : {T E : Type 0} (r : Result T E) (P Q : Type 0) → (P → Q) → OnOk r P → OnOk r Q
-on_ok_map (Ok x) P Q f h = f h
-on_ok_map (Err e) P Q f h = tt

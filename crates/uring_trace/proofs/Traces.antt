@@ -17,9 +17,6 @@ Answer = Result (Unit {0}) TraceFault
 abbrev Known : Type 0
 Known = Option (List ℕ)
 
-abbrev failed : TraceFault → Answer
-failed e = Err e
-
 -- some bytes more of a text
 pub wrote_more : (a b d : Known) (text rest : List ℕ) (n : ℕ) → (written : List ℕ) → Appends a b written → text ≡ written ++ rest → Appends b d (take n rest)
     → (x : List ℕ) × Appends a d x × (text ≡ x ++ drop n rest)

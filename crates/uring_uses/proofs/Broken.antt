@@ -1,10 +1,9 @@
 -- A failure in a chain.
-use Rattle.std.proofs.Common.{◌≡◌, ◌≢◌, ℕ, ◌+◌, ◌<◌, ◌≤◌, ℤ, negsuc, Bool, true, false, not, ◌&&◌, nat_lt, List, [], ◌∷◌, length, if◌then◌else◌, refl, sym, subst, ◌∙◌, ap, arith}
+use Rattle.std.proofs.Common.{◌≡◌, ◌≢◌, ℕ, ◌+◌, ◌<◌, ◌≤◌, ℤ, negsuc, Bool, true, false, not, ◌&&◌, nat_lt, List, ◌∷◌, length, if◌then◌else◌, refl, sym, subst, ◌∙◌, ap, arith}
 use Rattle.std.proofs.lemmas.Bool.{and_parts, not-true}
 use Rattle.uring_entry.specs.Setup.{Setup}
 use Rattle.uring_entry.specs.Preparation.{is_cancel}
-use Rattle.uring_entry.specs.Success.{is_success}
-use Rattle.uring_entry.specs.Requests.{Requests, entry_of, has_ended, has_failed, is_outstanding, is_running, is_joined, is_last, is_doomed, is_ready, doomed_result, cancel_result, no_bytes, with_ended}
+use Rattle.uring_entry.specs.Requests.{Requests, entry_of, has_ended, is_outstanding, is_running, is_last, is_doomed, is_ready, doomed_result, cancel_result, no_bytes, with_ended}
 use Rattle.uring_entry.proofs.RequestLemmas.{is_joined-yes, is_doomed-behind, has_ended-other, is_running-ended_other, has_failed-same, never_success}
 use Rattle.uring_entry.proofs.EventLemmas.{is_joined-ended, is_behind_failure-from}
 use Rattle.uring_machine.specs.World.{World}

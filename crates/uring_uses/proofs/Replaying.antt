@@ -1,5 +1,5 @@
 -- The same steps have the same answers, unless memory is refused.
-use Rattle.std.proofs.Common.{◌≡◌, ℕ, ◌+◌, neg_ℤ, Bool, true, false, ◌||◌, List, [], ◌∷◌, ◌++◌, length, ◌⊎◌, inl, inr, refl, sym, subst, ◌∙◌, ap, arith}
+use Rattle.std.proofs.Common.{◌≡◌, ℕ, neg_ℤ, Bool, true, false, ◌||◌, List, [], ◌∷◌, ◌++◌, length, ◌⊎◌, inl, inr, refl, sym, subst, ◌∙◌, ap, arith}
 use Rattle.std.proofs.lemmas.List.{append-nil}
 use Rattle.std.specs.List.{list_any, zip}
 use Rattle.std.specs.Ordering.{int_eq}
@@ -17,7 +17,7 @@ use Rattle.uring_machine.specs.declared.step.Step.TheVariants as step
 use Rattle.uring_machine.specs.declared.answer.Answer.{Answer}
 use Rattle.uring_machine.specs.declared.answer.Answer.TheVariants as answer
 use Rattle.uring_machine.proofs.Following.{history_of-cons}
-use Rattle.uring_uses.specs.Replays.{is_out_of_memory, RanOutOfMemory, AreReplays}
+use Rattle.uring_uses.specs.Replays.{is_out_of_memory, AreReplays}
 
 -- one answer, or memory was refused for one of the two
 abbrev pub AreSame : Answer → Answer → Type 0

@@ -1,13 +1,12 @@
 -- What one turn of a simulation makes.
-use Rattle.std.proofs.Common.{◌≡◌, ℕ, ◌+◌, ◌<◌, ◌≤◌, ℤ, Bool, true, false, not, ◌||◌, List, [], ◌∷◌, ◌++◌, length, Option, Some, None, if◌then◌else◌, refl, sym, subst, ◌∙◌, ap, arith, inl, inr, append_assoc}
+use Rattle.std.proofs.Common.{◌≡◌, ℕ, ◌+◌, ◌≤◌, ℤ, Bool, true, false, ◌||◌, List, [], ◌∷◌, ◌++◌, length, Option, Some, None, if◌then◌else◌, refl, sym, subst, ◌∙◌, ap, arith, inl, inr, append_assoc}
 use Rattle.std.proofs.lemmas.Bool.{and_parts, and_from, or_cases, both_ways, not-true, cases_eq}
 use Rattle.std.proofs.lemmas.List.Folds.{list_all-append}
-use Rattle.uring_entry.specs.Setup.{Setup}
-use Rattle.uring_entry.specs.Preparation.{is_cancel, operation_of}
-use Rattle.uring_entry.specs.Requests.{Requests, entry_of, has_ended, is_outstanding, is_running, is_issuable, is_doomed, is_ready, doomed_result, cancel_result, no_bytes, next_of, least_of, with_started, with_ended, operation_running, outstanding_in}
+use Rattle.uring_entry.specs.Preparation.{operation_of}
+use Rattle.uring_entry.specs.Requests.{Requests, entry_of, has_ended, is_outstanding, is_running, is_issuable, is_doomed, is_ready, no_bytes, next_of, least_of, with_started, with_ended, operation_running, outstanding_in}
 use Rattle.uring_entry.proofs.BelowLemmas.{least_below-tells, least_below-out}
 use Rattle.uring_entry.proofs.RequestLemmas.{least_of-goes_on, is_running-started_same, is_running-started_other, is_running-ended_same, is_running-ended_other}
-use Rattle.uring_machine.specs.World.{World, issuing, finishing}
+use Rattle.uring_machine.specs.World.{World}
 use Rattle.uring_machine.specs.StepAnswers.{IsEnded, FinishesApart, issue_answer, next_answer_of}
 use Rattle.uring_machine.specs.Histories.{History, world}
 use Rattle.uring_machine.specs.Core.{Core, FitsApart}
@@ -16,17 +15,12 @@ use Rattle.uring_machine.specs.declared.step.Step.TheVariants as step
 use Rattle.uring_machine.specs.declared.answer.Answer.{Answer}
 use Rattle.uring_machine.specs.declared.answer.Answer.TheVariants as answer
 use Rattle.uring_machine.proofs.Outstanding.{ended_less, none_outstanding, count_below-zero}
+use Rattle.uring_machine.proofs.Settling.{next_tells}
+use Rattle.uring_machine.proofs.RequestLaws.{issue_goes, issued_ends}
+use Rattle.uring_machine.specs.Laws.{IsIssued}
 use Rattle.uring_uses.specs.Simulations.{NoneRuns, HasRun, IsIdle}
 
 -- The next request.
-
-next_is : (next : Option ℕ) (n : ℕ) → answer.Next n ≡ next_answer_of next → next ≡ Some n
-next_is None n e = absurd cc
-next_is (Some m) n e = let same : m ≡ n = cc in ap Some same
-
--- the next can be issued
-pub next_issuable : (r : Requests) (n : ℕ) → answer.Next n ≡ next_answer_of (next_of r) → is_issuable r n ≡ true
-next_issuable r n e = (least_below-tells (is_issuable r) (length r.accepted) n (next_is (next_of r) n e)).holds
 
 -- with something outstanding and nothing running there is a next
 pub some_next : (r : Requests) (a : Answer) → ((n : ℕ) → is_running r n ≡ false) → 1 ≤ outstanding_in r
@@ -60,24 +54,10 @@ issuable_waits r n issuable =
     let q = and_parts _ _ p.0 in
     record { outstanding = q.0; unended = not-true _ (and_parts _ _ q.0).1; unstarted = not-true _ q.1; free = p.1 }
 
-ends_or_runs : (outstanding running doomed ready cancel : Bool) (as_doomed as_cancel : ℤ) (a : Answer) → outstanding ≡ true
-    → running ≡ false → (doomed || ready) ≡ true
-    → a ≡ (if not outstanding then answer.Unknown else (if running then answer.Running else (if doomed then answer.Ended as_doomed no_bytes else (if not ready then answer.NotReady else (if cancel then answer.Ended as_cancel no_bytes else answer.Run)))))
-    → (a ≡ answer.Run → ⊥) → IsEnded a
-ends_or_runs false running doomed ready cancel x y a o r f is other = absurd cc
-ends_or_runs true true doomed ready cancel x y a o r f is other = absurd cc
-ends_or_runs true false true ready cancel x y a o r f is other = subst IsEnded (sym is) tt
-ends_or_runs true false false false cancel x y a o r f is other = absurd (let e : false ≡ true = f in cc)
-ends_or_runs true false false true true x y a o r f is other = subst IsEnded (sym is) tt
-ends_or_runs true false false true false x y a o r f is other = absurd (other is)
-
 -- what is issued next and doesn't run, ends
 pub issue_ends : (w : World) (n : ℕ) (a : Answer) → is_issuable w.requests n ≡ true → a ≡ issue_answer w n → (a ≡ answer.Run → ⊥)
     → IsEnded a
-issue_ends w n a issuable is other =
-    let r : Requests = w.requests in
-    let waits = issuable_waits r n issuable in
-    ends_or_runs (is_outstanding r n) (is_running r n) (is_doomed r n) (is_ready r n) (is_cancel (entry_of r n)) (doomed_result r n) (cancel_result r n) a waits.outstanding waits.unstarted waits.free is other
+issue_ends w n a issuable is other = issued_ends a (subst IsIssued (sym is) (issue_goes w n issuable)) other
 
 -- Nothing runs afterwards.
 
@@ -143,7 +123,7 @@ turn_goes_on old asked h a same quiet some fits other = some_next (world old.set
 -- the next request, named by the answer
 named_waits : (old asked : Core) (h : History) (n : ℕ) (a : Answer) → asked.setup ≡ old.setup → a ≡ answer.Next n
     → FitsApart asked ((step.Next, a) ∷ h) → is_issuable (world old.setup h).requests n ≡ true
-named_waits old asked h n a same named fits = next_issuable (world old.setup h).requests n (sym named ∙ next_told old asked h a same fits)
+named_waits old asked h n a same named fits = next_tells (world old.setup h).requests n (sym named ∙ next_told old asked h a same fits)
 
 -- the next request ends as it is issued
 pub turn_issue : (old asked new : Core) (h : History) (n : ℕ) (a b : Answer) → asked.setup ≡ old.setup → new.setup ≡ asked.setup

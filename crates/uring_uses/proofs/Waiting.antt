@@ -5,7 +5,6 @@ use Rattle.uring_entry.specs.Preparation.{is_cancel}
 use Rattle.uring_entry.proofs.RequestLemmas.{is_ready-inside}
 use Rattle.uring_machine.specs.World.{World}
 use Rattle.uring_machine.specs.StepAnswers.{issue_answer}
-use Rattle.uring_machine.specs.declared.answer.Answer.{Answer}
 use Rattle.uring_machine.specs.declared.answer.Answer.TheVariants as answer
 
 run_ready : (outstanding running doomed ready cancel : Bool) (as_doomed as_cancel : ℤ)

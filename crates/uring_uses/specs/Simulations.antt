@@ -1,5 +1,5 @@
 -- What a run of requests on storage of one's own makes of a core. Our own rule.
-use Rattle.std.specs.Prelude.{◌≡◌, ℕ, ◌+◌, Bool, true, false, ◌++◌}
+use Rattle.std.specs.Prelude.{◌≡◌, ℕ, ◌+◌, true, false, ◌++◌}
 use Rattle.std.specs.List.{list_all}
 use Rattle.uring_entry.specs.Requests.{Requests, entry_of, is_soft, is_last, is_running, is_outstanding, outstanding_in}
 use Rattle.uring_machine.specs.World.{World}

@@ -34,15 +34,3 @@ first_agree words key power limit small many tail head dropped =
 pub opens : (words : List ℕ) (key : Shape) → IsPowerOfTwo key.size → key.size ≤ 8192 → key.start < 2 ^ 32 → length words ≡ word_count key.size
     → get_or words (tail_index key.size) 0 ≡ key.start → get_or words (head_index key.size) 0 ≡ key.start → get_or words (dropped_index key.size) 0 ≡ 0 → BothAgree (opening words [] (at_first key))
 opens words key power limit small many tail head dropped = opens_with words _ _ (first_agree words key power limit small many tail head dropped)
-
--- the seats of a new table are at rest
-pub app_at_first : (key : Shape) → IsPowerOfTwo key.size → key.size ≤ 8192 → key.start < 2 ^ 32 → AppRests (app_part (at_first key), []) key.size key.start key.start
-app_at_first key power limit small =
-    let start = start_word key.start small in
-    record { seat = refl; sized = refl; power = power; limit = limit; carries_none = refl; tail_word = start; few = omega arith; head_word = start }
-
-pub kernel_at_first : (key : Shape) → IsPowerOfTwo key.size → key.size ≤ 8192 → key.start < 2 ^ 32 → KernelRests (kernel_part (at_first key), []) key.size key.start
-kernel_at_first key power limit small = record { seat = refl; sized = refl; power = power; limit = limit; carries_none = refl; cell = refl; word = start_word key.start small }
-
-pub head_at_first : (key : Shape) → key.start < 2 ^ 32 → SawHead (at_first key).kernel key.start
-head_at_first key small = record { word = start_word key.start small; below = omega arith; room = omega arith }

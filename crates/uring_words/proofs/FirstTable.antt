@@ -33,20 +33,3 @@ opens words key power limit small many tail head = opens_with words _ _ (first_a
 
 pub start_word : (start : ℕ) → start < 2 ^ 32 → start ≡ (start + 0) % 2 ^ 32
 start_word start small = omega arith
-
--- the seats of a new table are at rest
-pub app_at_first : (key : Shape) → IsPowerOfTwo key.size → key.size ≤ 4096 → key.start < 2 ^ 32 → AppRests (app_part (at_first key), []) key.size key.start
-app_at_first key power limit small = record { seat = refl; sized = refl; power = power; limit = limit; carries_none = refl; entry = refl; staged = refl; word = start_word key.start small; whole = refl }
-
-pub head_at_first : (key : Shape) → key.start < 2 ^ 32 → SawHead (at_first key).app key.start
-head_at_first key small = record { word = start_word key.start small; below = omega arith; room = omega arith }
-
-pub kernel_at_first : (key : Shape) → IsPowerOfTwo key.size → key.size ≤ 4096 → key.start < 2 ^ 32 → KernelRests (kernel_part (at_first key), []) key.size key.start key.start
-kernel_at_first key power limit small = record {
-  copying = record { seat = refl; sized = refl; power = power; limit = limit; loaded = refl; word = start_word key.start small };
-  word = start_word key.start small;
-  few = omega arith;
-  taken = refl;
-  known = refl;
-  whole = refl;
-}

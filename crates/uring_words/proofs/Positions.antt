@@ -23,9 +23,6 @@ bad_position size place mark low above slot open' =
     let none : has_entry size mark ≡ false = rw (open', test) refl in
     record { entry = rw none refl; own_slot = λ has. absurd (cc (none, has)) }
 
-pub close_position : (size place : ℕ) → IsPosition size place (record { mark = close_mark; entry = [] })
-close_position size place = record { entry = refl; own_slot = λ has. absurd (cc has) }
-
 -- entry words hold an entry
 pub item_with_words : (mark : ℕ) (entry : List ℕ) → length entry ≡ 16 → item_from mark entry ≡ item.Entry entry
 item_with_words mark [] many = absurd (omega arith)

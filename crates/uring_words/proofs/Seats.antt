@@ -20,11 +20,6 @@ at_longer [] a b (suc j) e = absurd (some-ne-none b (sym e))
 at_longer (x ∷ xs) a b zero e = inl e
 at_longer (x ∷ xs) a b (suc j) e = ⊎_elim (λ t. inl t) (λ t. inr (ap suc t.0, t.1)) (at_longer xs a b j e)
 
-length_set_views : {A : Type 0} (l : List A) (i : ℕ) (a : A) → length (set l i a) ≡ length l
-length_set_views [] i a = refl
-length_set_views (x ∷ xs) zero a = refl
-length_set_views (x ∷ xs) (suc i) a = ap suc (length_set_views xs i a)
-
 only_seat : {V : Type 0} (v w : V) (seat : ℕ) → get_elem? (v ∷ []) seat ≡ some w → (seat ≡ 0) × (v ≡ w)
 only_seat v w zero e = (refl, some-injective v w e)
 only_seat v w (suc seat) e = absurd (some-ne-none w (sym e))

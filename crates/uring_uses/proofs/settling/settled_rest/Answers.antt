@@ -1,7 +1,6 @@
-use Rattle.std.proofs.Common.{◌≡◌, ◌∷◌, [], ◌++◌, ◌≤◌, length, refl, subst, sym, ap, arith, ◌∙◌, length-drop}
+use Rattle.std.proofs.Common.{◌∷◌, [], ◌++◌, length, subst, sym, ap, arith, ◌∙◌, length-drop}
 use Rattle.std.proofs.lemmas.List.{take_all}
 use Rattle.uring_entry.specs.Setup.{IsWithinLimits}
-use Rattle.uring_entry.specs.Layout.{Cqe}
 use Rattle.uring_entry.specs.Completions.{unreaped}
 use Rattle.uring_machine.specs.Histories.{world, history_of}
 use Rattle.uring_uses.proofs.Unreaped.{copied_some, copied_none}

@@ -1,8 +1,4 @@
-use Rattle.std.proofs.Common.{◌∷◌, None, subst, sym, ◌∙◌}
-use Rattle.uring_machine.specs.Core.{FitsApart}
-use Rattle.uring_machine.specs.Histories.{world}
-use Rattle.uring_machine.specs.declared.step.Step.TheVariants as step
-use Rattle.uring_machine.specs.declared.answer.Answer.TheVariants as answer
+use Rattle.std.proofs.Common.{sym, ◌∙◌}
 use Rattle.uring_uses.proofs.Turns.{fits_without_next, turn_goes_on, turn_issue, turn_start, turn_operation, turn_finish}
 use Rattle.uring_uses.proofs.simulator.end_next.Goals as goal
 

@@ -1,4 +1,4 @@
-use Rattle.std.proofs.Common.{◌≡◌, ◌≤◌, ◌++◌, refl, ap, arith, ◌∙◌}
+use Rattle.std.proofs.Common.{◌≤◌, ◌++◌, refl, ap, arith, ◌∙◌}
 use Rattle.uring_entry.specs.Requests.{outstanding_in}
 use Rattle.uring_machine.specs.Histories.{world}
 use Rattle.uring_uses.proofs.Turns.{run_none, run_more, run_all}

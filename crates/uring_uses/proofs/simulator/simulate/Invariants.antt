@@ -1,5 +1,4 @@
-use Rattle.std.proofs.Common.{◌≡◌, ◌≤◌}
-use Rattle.uring_entry.specs.Requests.{outstanding_in}
+use Rattle.std.proofs.Common.{◌≡◌}
 use Rattle.uring_machine.specs.Core.{FitsApart}
 use Rattle.uring_machine.specs.Histories.{History, world}
 use Rattle.uring_uses.specs.Simulations.{NoneRuns, HasRun}

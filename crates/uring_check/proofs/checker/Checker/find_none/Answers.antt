@@ -1,9 +1,10 @@
 use Rattle.std.proofs.Common.{sym, ◌∙◌}
-use Rattle.uring_check.proofs.Looking.{on_ok_map, looked_passed, looked_bad}
+use Rattle.std.proofs.lemmas.Result.{on_ok_weaker}
+use Rattle.uring_check.proofs.Looking.{looked_passed, looked_bad}
 use Rattle.uring_check.proofs.checker.Checker.find_none.Goals as goal
 
 pub returns-then-is_remark : goal.returns-then-is_remark
 returns-then-is_remark c = λ text e none h fits. looked_passed c.args.self.now text h none (sym (c.is_remark.ensures text e) ∙ c.if-is_remark.true) c.requires fits
 
 pub returns : goal.returns
-returns c = on_ok_map c.tell_bad.result _ _ (λ told text e none h fits. looked_bad c.args.self.now c.fault.new.self c.tell_bad.new.report text h c.fault.ensures none (sym (c.is_remark.ensures text e) ∙ c.if-is_remark.false) fits told) c.tell_bad.ensures
+returns c = on_ok_weaker c.tell_bad.result (λ told text e none h fits. looked_bad c.args.self.now c.fault.new.self c.tell_bad.new.report text h c.fault.ensures none (sym (c.is_remark.ensures text e) ∙ c.if-is_remark.false) fits told) c.tell_bad.ensures

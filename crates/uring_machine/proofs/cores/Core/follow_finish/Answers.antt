@@ -1,12 +1,12 @@
 use Rattle.std.proofs.Common.{◌∷◌, not, sym, subst, ap, ◌∙◌, rules}
 use Rattle.std.specs.Int.{w32}
 use Rattle.std.proofs.lemmas.Int.{to_z-of_z}
+use Rattle.std.proofs.lemmas.Result.{IfErr-weaker}
 use Rattle.uring_machine.specs.Histories.{world}
 use Rattle.uring_machine.specs.Core.{FitsApart}
 use Rattle.uring_machine.specs.declared.step.Step.TheVariants as step
 use Rattle.uring_machine.specs.declared.answer.Answer.TheVariants as answer
 use Rattle.uring_machine.proofs.RecordedAnswers.{ended_since, idle_refused_apart}
-use Rattle.uring_machine.proofs.RecordedEnds.{if_refused}
 use Rattle.uring_machine.proofs.cores.Core.follow_finish.Goals as goal
 
 pub returns-in-Ended-clause-ok : goal.returns-in-Ended-clause-ok
@@ -19,7 +19,7 @@ returns-in-Ended-clause-ok c = λ h f.
 
 pub returns-then-is_none-clause-refused : goal.returns-then-is_none-clause-refused
 returns-then-is_none-clause-refused c =
-    if_refused c.compared.result _ _ (λ refusal told h f.
+    IfErr-weaker c.compared.result _ _ (λ refusal told h f.
     idle_refused_apart (world c.args.self.now.setup h) c.args.number c.running_op.result c.args.given refusal (c.running_op.ensures.value h f)
     (c.is_none.ensures ∙ ap not c.if-is_none.true) told.0 told.1) c.compared.ensures.err
 

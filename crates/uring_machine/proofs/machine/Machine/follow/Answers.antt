@@ -1,7 +1,8 @@
 use Rattle.uring_machine.specs.Histories.{world}
-use Rattle.uring_machine.proofs.RecordedEnds.{follows_some, resumed_fits, if_followed, if_refused, refused_apart, lacks_apart}
+use Rattle.uring_machine.proofs.RecordedEnds.{follows_some, resumed_fits, refused_apart, lacks_apart}
 use Rattle.uring_machine.proofs.Fitting.{step_fits, no_finish}
 use Rattle.uring_machine.proofs.machine.Machine.follow.Goals as goal
+use Rattle.std.proofs.lemmas.Result.{IfErr-weaker, on_ok_weaker}
 
 pub invariant_of-self : goal.invariant_of-self
 invariant_of-self c =
@@ -14,18 +15,18 @@ returns-in_default-clause-setup c = rw (← c.self.view_is) c.follow.ensures.set
 pub returns-in_default-clause-ok : goal.returns-in_default-clause-ok
 returns-in_default-clause-ok c =
     rw (← c.self.view_is)
-    (if_followed c.follow.result _ _ (λ goes h fits. step_fits c.self.inside.core c.follow.new.self c.self.inside.files c.args.step c.args.given h c.follow.ensures.setup (no_finish c.args.step c.in_default.not-Finish) fits (goes h fits.core))
+    (on_ok_weaker c.follow.result (λ goes h fits. step_fits c.self.inside.core c.follow.new.self c.self.inside.files c.args.step c.args.given h c.follow.ensures.setup (no_finish c.args.step c.in_default.not-Finish) fits (goes h fits.core))
     c.follow.ensures.ok)
 
 pub returns-in_default-clause-refused : goal.returns-in_default-clause-refused
 returns-in_default-clause-refused c =
     rw (← c.self.view_is)
-    (if_refused c.follow.result _ _ (λ refusal told h fits. refused_apart c.self.inside.core.setup (world c.self.inside.core.setup h) c.args.step c.args.given refusal (no_finish c.args.step c.in_default.not-Finish) (told h fits.core)) c.follow.ensures.refused)
+    (IfErr-weaker c.follow.result _ _ (λ refusal told h fits. refused_apart c.self.inside.core.setup (world c.self.inside.core.setup h) c.args.step c.args.given refusal (no_finish c.args.step c.in_default.not-Finish) (told h fits.core)) c.follow.ensures.refused)
 
 pub returns-in_default-clause-resumed : goal.returns-in_default-clause-resumed
 returns-in_default-clause-resumed c =
     rw (← c.self.view_is)
-    (if_refused c.follow.result _ _ (λ refusal goes h fits. resumed_fits c.self.inside.core c.follow.new.self c.self.inside.files c.args.step refusal h c.follow.ensures.setup (no_finish c.args.step c.in_default.not-Finish) fits (goes h fits.core))
+    (IfErr-weaker c.follow.result _ _ (λ refusal goes h fits. resumed_fits c.self.inside.core c.follow.new.self c.self.inside.files c.args.step refusal h c.follow.ensures.setup (no_finish c.args.step c.in_default.not-Finish) fits (goes h fits.core))
     c.follow.ensures.resumed)
 
 pub returns-in_default-clause-no_memory : goal.returns-in_default-clause-no_memory

@@ -4,8 +4,9 @@ use Rattle.std.proofs.lemmas.Bool.{both_ways}
 use Rattle.std.proofs.lemmas.Int.{to_z-of_z}
 use Rattle.uring_files.specs.Operations.{after}
 use Rattle.uring_machine.specs.declared.step.Step.TheVariants as step
-use Rattle.uring_machine.proofs.RecordedEnds.{followed_end, followed_failure, runs_so, growth_wrong, growth_called, growth_failed, growth_bytes, left_alone, kept_fits, ended_alike}
+use Rattle.uring_machine.proofs.RecordedEnds.{followed_end, followed_failure, runs_so, growth_wrong, growth_called, growth_failed, growth_bytes, kept_fits, ended_alike}
 use Rattle.uring_machine.proofs.machine.Machine.follow_growth.Goals as goal
+use Rattle.uring_machine.proofs.FileHistory.{failed}
 
 pub invariant_of-self : goal.invariant_of-self
 invariant_of-self c =
@@ -51,7 +52,7 @@ returns-then-outcome-length-clause-resumed c =
     kept_fits c.self.inside.core c.self.inside.core c.self.inside.files c.apply-outcome.new.self h refl
     (c.apply-outcome.ensures.files ∙ ap (λ res. after c.self.inside.files c.args.op.now res)
     (growth_failed c.self.inside.files c.args.op.now c.written_length-length.result c.apply-outcome.result (c.written_length-length.ensures _ long) c.apply-outcome.ensures.outcome (λ e. c.if-outcome-length.true (ap (of_z w32) e)))
-    ∙ left_alone c.self.inside.files c.args.op.now) fits fits.core)
+    ∙ failed c.self.inside.files c.args.op.now 11) fits fits.core)
 
 pub returns-then-outcome-length-clause-no_memory : goal.returns-then-outcome-length-clause-no_memory
 returns-then-outcome-length-clause-no_memory c = λ e h fits. sym (runs_so _ h c.args.number c.args.op.now fits (c.requires.running h fits)).is_same ∙ c.requires.lengthens

@@ -1,6 +1,6 @@
 use Rattle.std.proofs.Common.{sym, ◌∙◌}
+use Rattle.std.proofs.lemmas.Result.{on_ok_weaker}
 use Rattle.uring_trace.proofs.Sessions.{if_ok_map}
-use Rattle.uring_trace.proofs.ShownTexts.{on_ok_map}
 use Rattle.uring_trace.proofs.ExplainLines.{if_ok_both, line_made, line_asked, line_bad}
 use Rattle.uring_trace.proofs.explainer.Explainer.tell_line.Goals as goal
 
@@ -12,7 +12,7 @@ returns-in-Some-clause-told c =
 
 pub returns-in-Some-read_question-clause-told : goal.returns-in-Some-read_question-clause-told
 returns-in-Some-read_question-clause-told c =
-    on_ok_map c.tell_shown.result _ _
+    on_ok_weaker c.tell_shown.result
     (λ h line k. line_asked c.args.self.now.machine c.args.self.now.number c.args.self.now.has_bad line _ _ _ c.in-Some-read_question.question (rw c.in-Some-read_question.is at (c.read_question.ensures line k)) h)
     c.tell_shown.ensures
 
