@@ -17,6 +17,7 @@ mod results;
 mod rounds;
 mod settled;
 mod threads;
+mod told;
 mod words;
 
 use uring_entry::Sqe;

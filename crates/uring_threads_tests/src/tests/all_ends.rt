@@ -2,8 +2,7 @@
 
 use super::ends::{Ends, Ports, new_ends};
 use super::{nop, turn};
-use std::alloc::{AllocError, Global};
-use std::process::Abort;
+use std::alloc::Global;
 use std::test::Fail;
 use uring_entry::Cqe;
 use uring_threads::{KernelLanes, KernelPort, Open, Turn, Worked};
@@ -12,7 +11,7 @@ use uring_words::KernelWords;
 /// What came of one no-op and a close.
 #[derive(Clone, Copy)]
 struct Played {
-    turns: [Turn; 3],
+    turns: [Option<Turn>; 3],
     // Worker 1's turn, and then worker 0's.
     worked: [Option<Worked>; 2],
     reaped: Option<Cqe>,
@@ -23,49 +22,55 @@ struct Played {
 }
 
 /// Plays one no-op and a close.
-fn play<K: KernelPort>(ends: &mut Ends<K, Open>) -> Result<Played, Fail> {
+fn play<K: KernelPort>(ends: &mut Ends<K, Open>) -> Played {
     let submitted = ends.submit(&[nop(3)]);
-    let first = ends.turn()?;
+    let first = ends.turn();
     let worked = [ends.work(1), ends.work(0)];
-    let second = ends.turn()?;
+    let second = ends.turn();
     let reaped = ends.reap();
     let idle = ends.idle();
     let closed = ends.close();
-    let last = ends.turn()?;
-    Ok(Played {
+    let last = ends.turn();
+    Played {
         turns: [first, second, last],
         worked,
         reaped,
         went: [submitted, closed],
         idle: [idle, ends.idle()],
-    })
+    }
 }
 
-/// Plays with two workers.
-fn play_on_new_ends<K: Ports>(alloc: Global) -> Result<Played, Fail> {
+impl Played {
+    /// Whether the no-op was taken in, done by worker 0 and reaped, and the ring is idle once it is closed.
+    fn is_right(&self) -> bool {
+        let turns = [
+            Some(turn(1, 1, 0, 0)),
+            Some(turn(0, 0, 1, 1)),
+            Some(turn(0, 0, 0, 0)),
+        ];
+        self.went == [true; 2]
+            && self.idle == [false, true]
+            && self.turns == turns
+            && self.worked == [Some(Worked::Idle), Some(Worked::Done(0))]
+            && self.reaped == Some(Cqe::new(3, 0, [0; 64]))
+    }
+}
+
+/// Whether it goes so with two workers.
+fn plays_right<K: Ports>(alloc: Global) -> Result<bool, Fail> {
     let mut ends = new_ends::<K>(alloc, 2, 2)?;
-    play(&mut ends)
+    let right = play(&mut ends).is_right();
+    drop(ends);
+    Ok(right)
 }
 
-/// The no-op is taken in, done by worker 0 and reaped, and the ring is idle once it is closed.
-fn check_played<K: Ports>(rt: &impl Abort, alloc: Global) -> Result<(), Fail> {
-    let played = play_on_new_ends::<K>(alloc)?;
-    let turns = [turn(1, 1, 0, 0), turn(0, 0, 1, 1), turn(0, 0, 0, 0)];
-    assert!(rt; played.went == [true; 2] && played.idle == [false, true]);
-    assert_eq!(rt; played.turns, turns);
-    assert_eq!(rt; played.worked, [Some(Worked::Idle), Some(Worked::Done(0))]);
-    assert_eq!(rt; played.reaped, Some(Cqe::new(3, 0, [0; 64])));
+#[test]
+fn one_thread_plays_all_ends(rt: HostRuntime) -> Result<(), Fail> {
+    let lanes = plays_right::<KernelLanes>(rt.alloc())?;
+    let words = plays_right::<KernelWords>(rt.alloc())?;
+    assert!(rt; lanes, "over lanes");
+    assert!(rt; words, "over words");
     Ok(())
-}
-
-#[test]
-fn one_thread_plays_all_ends_over_lanes(rt: HostRuntime) -> Result<(), Fail> {
-    check_played::<KernelLanes>(&rt, rt.alloc())
-}
-
-#[test]
-fn one_thread_plays_all_ends_over_words(rt: HostRuntime) -> Result<(), Fail> {
-    check_played::<KernelWords>(&rt, rt.alloc())
 }
 
 /// Whether worker 0 carries out four jobs.
@@ -91,48 +96,51 @@ fn four_are_reaped<K: KernelPort>(ends: &mut Ends<K, Open>) -> bool {
 }
 
 /// Whether two calls go round as they should: of one no-op, and of three.
-fn goes_round<K: KernelPort>(ends: &mut Ends<K, Open>) -> Result<bool, AllocError> {
+fn goes_round<K: KernelPort>(ends: &mut Ends<K, Open>) -> bool {
     let first = ends.submit(&[nop(1)]);
     let second = ends.submit(&[nop(2), nop(3), nop(4)]);
-    let taken = ends.turn()? == turn(1, 1, 0, 0) && ends.turn()? == turn(3, 3, 0, 0);
+    let taken = [ends.turn(), ends.turn()];
     let done = four_are_done(ends);
-    let delivered = ends.turn()? == turn(0, 0, 4, 4);
-    Ok(first && second && taken && done && delivered && four_are_reaped(ends))
+    let delivered = ends.turn();
+    first
+        && second
+        && taken == [Some(turn(1, 1, 0, 0)), Some(turn(3, 3, 0, 0))]
+        && done
+        && delivered == Some(turn(0, 0, 4, 4))
+        && four_are_reaped(ends)
 }
 
-/// The first of a thousand rounds that goes otherwise.
-fn first_wrong_round<K: KernelPort>(ends: &mut Ends<K, Open>) -> Result<Option<u64>, Fail> {
+/// How many rounds go as they should, of a thousand, up to the first that doesn't.
+fn right_rounds<K: KernelPort>(ends: &mut Ends<K, Open>) -> u64 {
     for round in 0..1000 {
-        if !goes_round(ends)? {
-            return Ok(Some(round));
+        if !goes_round(ends) {
+            return round;
         }
     }
-    Ok(None)
+    1000
 }
 
 /// The same on the ends of so many workers.
-fn first_wrong_round_of<K: Ports>(alloc: Global, workers: usize) -> Result<Option<u64>, Fail> {
+fn right_rounds_of<K: Ports>(alloc: Global, workers: usize) -> Result<u64, Fail> {
     let mut ends = new_ends::<K>(alloc, 2, workers)?;
-    first_wrong_round(&mut ends)
+    let rounds = right_rounds(&mut ends);
+    drop(ends);
+    Ok(rounds)
 }
 
 /// The same with 1, 2 and 8 workers.
-fn first_wrong_rounds<K: Ports>(alloc: Global) -> Result<[Option<u64>; 3], Fail> {
-    Ok([
-        first_wrong_round_of::<K>(alloc, 1)?,
-        first_wrong_round_of::<K>(alloc, 2)?,
-        first_wrong_round_of::<K>(alloc, 8)?,
-    ])
+fn right_rounds_of_all<K: Ports>(alloc: Global) -> Result<[u64; 3], Fail> {
+    let one = right_rounds_of::<K>(alloc, 1)?;
+    let two = right_rounds_of::<K>(alloc, 2)?;
+    let eight = right_rounds_of::<K>(alloc, 8)?;
+    Ok([one, two, eight])
 }
 
 #[test]
-fn one_thread_plays_a_thousand_rounds_over_lanes(rt: HostRuntime) -> Result<(), Fail> {
-    assert_eq!(rt; first_wrong_rounds::<KernelLanes>(rt.alloc())?, [None; 3]);
-    Ok(())
-}
-
-#[test]
-fn one_thread_plays_a_thousand_rounds_over_words(rt: HostRuntime) -> Result<(), Fail> {
-    assert_eq!(rt; first_wrong_rounds::<KernelWords>(rt.alloc())?, [None; 3]);
+fn one_thread_plays_a_thousand_rounds(rt: HostRuntime) -> Result<(), Fail> {
+    let lanes = right_rounds_of_all::<KernelLanes>(rt.alloc())?;
+    let words = right_rounds_of_all::<KernelWords>(rt.alloc())?;
+    assert!(rt; lanes == [1000; 3], "over lanes");
+    assert!(rt; words == [1000; 3], "over words");
     Ok(())
 }

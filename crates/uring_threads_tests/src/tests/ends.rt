@@ -99,9 +99,9 @@ impl<K: KernelPort, G: Gate> Ends<K, G> {
         self.app.dropped()
     }
 
-    /// A turn of the dispatcher.
-    pub fn turn(&mut self) -> Result<Turn, AllocError> {
-        self.kernel.turn()
+    /// A turn of the dispatcher, unless the system is out of memory.
+    pub fn turn(&mut self) -> Option<Turn> {
+        self.kernel.turn().ok()
     }
 
     /// Whether nothing is left to the dispatcher.
@@ -118,7 +118,7 @@ impl<K: KernelPort, G: Gate> Ends<K, G> {
     }
 
     /// Runs all ends in threads of their own, until the dispatcher is idle.
-    fn run<R: Threads + Wait + Sync>(&mut self, rt: &R, script: &mut Script, flags: &Flags)
+    pub fn run<R: Threads + Wait + Sync>(&mut self, rt: &R, script: &mut Script, flags: &Flags)
     where
         K: Send + 'static,
         K::App: Send + 'static,
@@ -132,23 +132,6 @@ impl<K: KernelPort, G: Gate> Ends<K, G> {
             script,
             flags,
         );
-    }
-
-    /// What all ends leave, once they ran in threads of their own. `AllocError`: out of memory.
-    pub fn run_to_the_end<R: Threads + Wait + Sync>(
-        mut self,
-        rt: &R,
-        alloc: Global,
-        script: &mut Script,
-        flags: &Flags,
-    ) -> Result<Report<G>, AllocError>
-    where
-        K: Send + 'static,
-        K::App: Send + 'static,
-        G: Send,
-    {
-        self.run(rt, script, flags);
-        self.settle(alloc)
     }
 
     /// What all ends leave, or the ends as they were: out of memory.
@@ -172,7 +155,10 @@ impl<K: KernelPort, G: Gate> Ends<K, G> {
     pub fn settle(self, alloc: Global) -> Result<Report<G>, AllocError> {
         match self.try_settle(alloc) {
             Ok(report) => Ok(report),
-            Err(_) => Err(AllocError),
+            Err(ends) => {
+                drop(ends);
+                Err(AllocError)
+            }
         }
     }
 }

@@ -1,17 +1,16 @@
 //! A worker that its gate holds up holds up no other worker.
 
 use super::ends::{Ends, Ports};
-use super::replay::replays;
 use super::threads::{Flags, Script};
+use super::told::{first_three, settle};
 use std::alloc::Global;
-use std::process::Abort;
 use std::sync::Wait;
 use std::sync::atomic::{AtomicBool, Ordering};
 use std::test::Fail;
 use std::thread;
 use std::thread::Threads;
 use uring_entry::{Cqe, Setup, Sqe};
-use uring_threads::{Gate, Item, KernelLanes, KernelPort};
+use uring_threads::{Gate, Item, KernelLanes};
 use uring_words::KernelWords;
 
 /// After so many looks the gate opens by itself, and the test fails.
@@ -73,81 +72,53 @@ fn held_ends<'a, K: Ports>(
     Ok(K::ends(alloc, &setup, gates)?)
 }
 
-/// Runs these ends in threads. Whether the trace is what a new machine answers.
-fn is_replayed<R: Threads + Wait + Sync, K: KernelPort + Send + 'static, G: Gate + Send>(
+/// Whether the trace is what a new machine answers, once these ends ran in threads of their own.
+fn is_replayed<K: Ports + Send + 'static, R: Threads + Wait + Sync>(
     rt: &R,
     alloc: Global,
     flags: &Flags,
-    ends: Ends<K, G>,
+    ran_out: &AtomicBool,
     script: &mut Script,
 ) -> Result<bool, Fail>
 where
     K::App: Send + 'static,
 {
-    let report = ends.run_to_the_end(rt, alloc, script, flags)?;
-    replays(alloc, &report)
+    let mut ends = held_ends::<K>(alloc, flags, ran_out)?;
+    ends.run(rt, script, flags);
+    let (_, replayed) = settle(alloc, ends)?;
+    Ok(replayed)
 }
 
-/// What came of two writes.
-#[derive(Clone, Copy)]
-struct Played {
-    // The first three completions, as many as were reaped.
-    reaped: [Option<Cqe>; 3],
-    replayed: bool,
-    ran_out: bool,
+/// Whether worker 1's write is reaped, and then worker 0's.
+fn is_reaped(completions: &[Cqe]) -> bool {
+    let second = Some(Cqe::new(2, 1, [0; 64]));
+    let first = Some(Cqe::new(1, 1, [0; 64]));
+    first_three(completions) == [second, first, None]
 }
 
-/// What comes of them with worker 0 held.
-fn play_two_writes<K: Ports + Send + 'static, R: Threads + Wait + Sync>(
+/// Whether they are reaped so with worker 0 held, which the application ends; and the trace is what a new machine answers.
+fn plays_two_writes<K: Ports + Send + 'static, R: Threads + Wait + Sync>(
     rt: &R,
     alloc: Global,
-) -> Result<Played, Fail>
+) -> Result<bool, Fail>
 where
     K::App: Send + 'static,
 {
     let flags = Flags::new();
     let ran_out = AtomicBool::new(false);
     let mut script = two_writes(alloc)?;
-    let ends = held_ends::<K>(alloc, &flags, &ran_out)?;
-    let replayed = is_replayed(rt, alloc, &flags, ends, &mut script)?;
-    Ok(Played {
-        reaped: first_three(&script.completions),
-        replayed,
-        ran_out: ran_out.load(Ordering::SeqCst),
-    })
+    let replayed = is_replayed::<K, R>(rt, alloc, &flags, &ran_out, &mut script);
+    let reaped = is_reaped(&script.completions);
+    drop(script);
+    let replayed = replayed?;
+    Ok(reaped && replayed && !ran_out.load(Ordering::SeqCst))
 }
 
-/// The first three completions of a list.
-fn first_three(list: &[Cqe]) -> [Option<Cqe>; 3] {
-    [
-        list.first().copied(),
-        list.get(1).copied(),
-        list.get(2).copied(),
-    ]
-}
-
-/// Worker 1's write is reaped while worker 0 is held, and then worker 0's.
-fn check_played<K: Ports + Send + 'static, R: Threads + Wait + Sync + Abort>(
-    rt: &R,
-    alloc: Global,
-) -> Result<(), Fail>
-where
-    K::App: Send + 'static,
-{
-    let played = play_two_writes::<K, R>(rt, alloc)?;
-    let done = |user_data| Some(Cqe::new(user_data, 1, [0; 64]));
-    assert!(rt; !played.ran_out, "the gate is opened by the application");
-    assert_eq!(rt; played.reaped, [done(2), done(1), None]);
-    assert!(rt; played.replayed, "the trace is what a new machine answers");
+#[test]
+fn a_held_worker_holds_up_no_other(rt: HostRuntime) -> Result<(), Fail> {
+    let lanes = plays_two_writes::<KernelLanes, _>(&rt, rt.alloc())?;
+    let words = plays_two_writes::<KernelWords, _>(&rt, rt.alloc())?;
+    assert!(rt; lanes, "over lanes");
+    assert!(rt; words, "over words");
     Ok(())
-}
-
-#[test]
-fn a_held_worker_holds_up_no_other_over_lanes(rt: HostRuntime) -> Result<(), Fail> {
-    check_played::<KernelLanes, _>(&rt, rt.alloc())
-}
-
-#[test]
-fn a_held_worker_holds_up_no_other_over_words(rt: HostRuntime) -> Result<(), Fail> {
-    check_played::<KernelWords, _>(&rt, rt.alloc())
 }

@@ -1,10 +1,10 @@
 //! What settling reports at one moment, with something on its way between any two ends.
 
 use super::ends::{Ends, Ports, new_ends};
-use super::nop;
 use super::replay::replays;
-use std::alloc::{AllocError, Global};
-use std::process::Abort;
+use super::told::{Told, tell};
+use super::{nop, turn};
+use std::alloc::Global;
 use std::test::Fail;
 use uring_entry::{Cqe, Sqe};
 use uring_threads::{
@@ -21,27 +21,19 @@ fn write(user_data: u64, fd: i32, byte: u8) -> Sqe {
 }
 
 /// Three requests are started, the two writes are carried out, the first one's completion is delivered, and one more no-op is submitted. Whether each call does what it should.
-fn goes_half_way<K: KernelPort>(ends: &mut Ends<K, Open>) -> Result<bool, AllocError> {
+fn goes_half_way<K: KernelPort>(ends: &mut Ends<K, Open>) -> bool {
     let call = [
         Item::Entry(write(1, 0, 97)),
         Item::Entry(write(2, 1, 98)),
         nop(3),
     ];
     let submitted = ends.submit(&call);
-    let started = ends.turn()?.issued == 3;
+    let started = ends.turn() == Some(turn(3, 3, 0, 0));
     let first = ends.work(0) == Some(Worked::Done(0));
-    let delivered = ends.turn()?.delivered == 1;
+    let delivered = ends.turn() == Some(turn(0, 0, 1, 1));
     let second = ends.work(1) == Some(Worked::Done(1));
     let more = ends.submit(&[nop(4)]);
-    Ok(submitted && started && first && delivered && second && more)
-}
-
-/// Whether the ends of two workers go half way, and what they then leave.
-fn settled<K: Ports>(alloc: Global) -> Result<(bool, Report<Open>), Fail> {
-    let mut ends = new_ends::<K>(alloc, 2, 2)?;
-    let goes = goes_half_way(&mut ends).unwrap_or(false);
-    let report = ends.settle(alloc)?;
-    Ok((goes, report))
+    submitted && started && first && delivered && second && more
 }
 
 /// A write that ended with its one byte written.
@@ -90,8 +82,13 @@ fn wanted_trace() -> [(Step, Answer); 22] {
     ]
 }
 
-/// Trace and counts are those of the moment.
-fn check_trace(rt: &impl Abort, report: &Report<Open>) {
+/// Whether the trace is that of the moment.
+fn has_trace(report: &Report<Open>) -> bool {
+    report.trace() == wanted_trace().as_slice()
+}
+
+/// Whether one item was not taken, one completion was delivered, and one waits.
+fn has_lists(told: &Told) -> bool {
     let counts = Counts {
         accepted: 3,
         outstanding: 1,
@@ -99,63 +96,57 @@ fn check_trace(rt: &impl Abort, report: &Report<Open>) {
         posted: 2,
         reaped: 1,
     };
-    assert!(rt; report.trace() == wanted_trace().as_slice());
-    assert_eq!(rt; report.counts(), counts);
+    told.counts == counts
+        && told.unsent == [Some(nop(4)), None, None]
+        && told.undelivered == [Some(Cqe::new(1, 1, ZEROS)), None, None]
+        && told.waiting == [Some(Cqe::new(2, 1, ZEROS)), None, None]
 }
 
-/// One item was not taken, one completion was delivered, and one waits.
-fn check_lists(rt: &impl Abort, report: &Report<Open>) {
-    assert_eq!(rt; report.unsent(), [nop(4)].as_slice());
-    assert_eq!(rt; report.undelivered(), [Cqe::new(1, 1, ZEROS)].as_slice());
-    assert_eq!(rt; report.waiting(), [Cqe::new(2, 1, ZEROS)].as_slice());
-}
-
-/// The two files have what was written, and there are no others.
-fn check_files(rt: &impl Abort, report: &Report<Open>) {
+/// Whether the two files have what was written, and there are no others.
+fn has_files(report: &Report<Open>) -> bool {
     let written = Some(FileState {
         len: 1,
         writes: 1,
         synced: 0,
     });
-    assert_eq!(rt; [report.state(0), report.state(1)], [written, written]);
-    assert_eq!(rt; [report.state(-1), report.state(2)], [None, None]);
-    assert_eq!(rt;
-        [report.byte(0, 0), report.byte(1, 0)],
-        [Some(97), Some(98)]
-    );
-    assert_eq!(rt; [report.byte(0, 1), report.byte(2, 0)], [None, None]);
+    let states = [
+        report.state(0),
+        report.state(1),
+        report.state(-1),
+        report.state(2),
+    ];
+    let bytes = [
+        report.byte(0, 0),
+        report.byte(1, 0),
+        report.byte(0, 1),
+        report.byte(2, 0),
+    ];
+    states == [written, written, None, None] && bytes == [Some(97), Some(98), None, None]
 }
 
-/// All of it is so, and the trace is what a new machine answers.
-fn check_report(
-    rt: &impl Abort,
-    alloc: Global,
-    goes: bool,
-    report: &Report<Open>,
-) -> Result<(), Fail> {
-    assert!(rt; goes, "each call does what it should");
-    check_trace(rt, report);
-    check_lists(rt, report);
-    check_files(rt, report);
-    assert!(rt;
-        replays(alloc, report)?,
-        "the trace is what a new machine answers"
-    );
+/// Whether a report says all of it, and the trace is what a new machine answers.
+fn is_right(alloc: Global, report: &Report<Open>) -> Result<bool, Fail> {
+    let told = has_lists(&tell(report));
+    let replayed = replays(alloc, report)?;
+    Ok(told && replayed && has_trace(report) && has_files(report))
+}
+
+/// Whether the ends of two workers go half way, and then report it.
+fn is_reported<K: Ports>(alloc: Global) -> Result<bool, Fail> {
+    let mut ends = new_ends::<K>(alloc, 2, 2)?;
+    let goes = goes_half_way(&mut ends);
+    let report = ends.settle(alloc)?;
+    let right = is_right(alloc, &report);
+    drop(report);
+    let right = right?;
+    Ok(goes && right)
+}
+
+#[test]
+fn what_is_on_its_way_is_reported(rt: HostRuntime) -> Result<(), Fail> {
+    let lanes = is_reported::<KernelLanes>(rt.alloc())?;
+    let words = is_reported::<KernelWords>(rt.alloc())?;
+    assert!(rt; lanes, "over lanes");
+    assert!(rt; words, "over words");
     Ok(())
-}
-
-/// The ends of two workers over these ports report it.
-fn check_ends<K: Ports>(rt: &impl Abort, alloc: Global) -> Result<(), Fail> {
-    let (goes, report) = settled::<K>(alloc)?;
-    check_report(rt, alloc, goes, &report)
-}
-
-#[test]
-fn what_is_on_its_way_is_reported_over_lanes(rt: HostRuntime) -> Result<(), Fail> {
-    check_ends::<KernelLanes>(&rt, rt.alloc())
-}
-
-#[test]
-fn what_is_on_its_way_is_reported_over_words(rt: HostRuntime) -> Result<(), Fail> {
-    check_ends::<KernelWords>(&rt, rt.alloc())
 }

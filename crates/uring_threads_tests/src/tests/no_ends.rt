@@ -11,26 +11,21 @@ fn fault(alloc: Global, setup: &Setup, workers: usize) -> Result<Option<LanesFau
     Ok(lanes(alloc, setup, gates).err())
 }
 
+/// Why there are none with 0, 1 and 9 workers.
+fn faults(alloc: Global, setup: &Setup) -> Result<[Option<LanesFault>; 3], Fail> {
+    let none = fault(alloc, setup, 0)?;
+    let one = fault(alloc, setup, 1)?;
+    let nine = fault(alloc, setup, 9)?;
+    Ok([none, one, nine])
+}
+
 #[test]
 fn stopping_is_told_before_the_workers(rt: HostRuntime) -> Result<(), Fail> {
-    let alloc = rt.alloc();
     let setup = Setup::new(2, Some(2), 1, 0)?;
-    let faults = [
-        fault(alloc, &setup, 0)?,
-        fault(alloc, &setup, 1)?,
-        fault(alloc, &setup, 9)?,
-        fault(alloc, &setup.stopping(), 0)?,
-        fault(alloc, &setup.stopping(), 1)?,
-    ];
-    assert_eq!(rt;
-        faults,
-        [
-            Some(LanesFault::BadWorkers),
-            None,
-            Some(LanesFault::BadWorkers),
-            Some(LanesFault::Stops),
-            Some(LanesFault::Stops),
-        ]
-    );
+    let goes_on = faults(rt.alloc(), &setup)?;
+    let stops = faults(rt.alloc(), &setup.stopping())?;
+    let bad = Some(LanesFault::BadWorkers);
+    assert!(rt; goes_on == [bad, None, bad]);
+    assert!(rt; stops == [Some(LanesFault::Stops); 3]);
     Ok(())
 }

@@ -2,13 +2,13 @@
 
 use super::dice::Dice;
 use super::ends::{Ends, Ports, new_ends};
-use super::replay::replays;
 use super::threads::{Flags, Script};
+use super::told::{Told, settle};
 use std::alloc::{AllocError, Global};
 use std::sync::Wait;
 use std::test::Fail;
 use std::thread::Threads;
-use uring_threads::{KernelLanes, KernelPort, Open, Report};
+use uring_threads::{KernelLanes, KernelPort, Open};
 use uring_words::KernelWords;
 
 /// How many seeds are tried.
@@ -31,26 +31,23 @@ fn script(alloc: Global, seed: u64) -> Result<Script, AllocError> {
     })
 }
 
-/// Whether the threads of these ends end with all done and nothing on its way, and the trace is what a new machine answers.
-fn are_right_in_threads<R: Threads + Wait + Sync, K: KernelPort + Send + 'static>(
+/// What the ends of a seed report once they ran in threads of their own.
+fn told_in_threads<K: Ports + Send + 'static, R: Threads + Wait + Sync>(
     rt: &R,
     alloc: Global,
-    ends: Ends<K, Open>,
+    seed: u64,
     script: &mut Script,
-) -> Result<bool, Fail>
+) -> Result<(Told, bool), Fail>
 where
     K::App: Send + 'static,
 {
-    let report = ends.run_to_the_end(rt, alloc, script, &Flags::new())?;
-    is_right(alloc, script, &report)
+    let flags = Flags::new();
+    let mut ends = ends_of::<K>(alloc, seed)?;
+    ends.run(rt, script, &flags);
+    settle(alloc, ends)
 }
 
-/// Whether this script was done, and left this report.
-fn is_right(alloc: Global, script: &Script, report: &Report<Open>) -> Result<bool, Fail> {
-    Ok(script.done && is_over(report, script.completions.len()) && replays(alloc, report)?)
-}
-
-/// Whether they do so with the submissions of this seed.
+/// Whether they end with all done and nothing on its way, and the trace is what a new machine answers.
 fn is_right_in_threads<K: Ports + Send + 'static, R: Threads + Wait + Sync>(
     rt: &R,
     alloc: Global,
@@ -60,18 +57,11 @@ where
     K::App: Send + 'static,
 {
     let mut script = script(alloc, seed)?;
-    let ends = ends_of::<K>(alloc, seed)?;
-    are_right_in_threads(rt, alloc, ends, &mut script)
-}
-
-/// Whether nothing is on its way, and so many completions were reaped.
-fn is_over(report: &Report<Open>, reaped: usize) -> bool {
-    let counts = report.counts();
-    report.unsent().is_empty()
-        && report.undelivered().is_empty()
-        && report.waiting().is_empty()
-        && counts.outstanding == 0
-        && counts.reaped == reaped as u64
+    let told = told_in_threads::<K, R>(rt, alloc, seed, &mut script);
+    let (done, reaped) = (script.done, script.completions.len());
+    drop(script);
+    let (told, replayed) = told?;
+    Ok(done && told.is_over(reaped) && replayed)
 }
 
 /// The first seed of which the threads go otherwise.
@@ -91,67 +81,56 @@ where
 }
 
 #[test]
-fn threads_do_what_one_machine_does_over_lanes(rt: HostRuntime) -> Result<(), Fail> {
-    let wrong = first_wrong_in_threads::<KernelLanes, _>(&rt, rt.alloc())?;
-    assert_eq!(rt; wrong, None, "the first wrong seed");
+fn threads_do_what_one_machine_does(rt: HostRuntime) -> Result<(), Fail> {
+    let lanes = first_wrong_in_threads::<KernelLanes, _>(&rt, rt.alloc())?;
+    let words = first_wrong_in_threads::<KernelWords, _>(&rt, rt.alloc())?;
+    assert_eq!(rt; [lanes, words], [None; 2], "the first wrong seeds");
     Ok(())
 }
 
-#[test]
-fn threads_do_what_one_machine_does_over_words(rt: HostRuntime) -> Result<(), Fail> {
-    let wrong = first_wrong_in_threads::<KernelWords, _>(&rt, rt.alloc())?;
-    assert_eq!(rt; wrong, None, "the first wrong seed");
-    Ok(())
+/// Submits a call. Whether there was memory for it.
+fn submit_call<K: KernelPort>(alloc: Global, dice: &mut Dice, ends: &mut Ends<K, Open>) -> bool {
+    let Ok(call) = dice.call(alloc) else {
+        return false;
+    };
+    ends.submit(&call);
+    drop(call);
+    true
 }
 
-/// One thing that some end does.
-fn do_something<K: KernelPort>(
-    alloc: Global,
-    dice: &mut Dice,
-    ends: &mut Ends<K, Open>,
-) -> Result<(), AllocError> {
+/// One thing that some end does. Whether there was memory for it.
+fn do_something<K: KernelPort>(alloc: Global, dice: &mut Dice, ends: &mut Ends<K, Open>) -> bool {
     match dice.below(6) {
-        0 => {
-            let call = dice.call(alloc)?;
-            ends.submit(call.as_slice());
-        }
-        1 | 2 => {
-            ends.turn()?;
-        }
+        0 => submit_call(alloc, dice, ends),
+        1 | 2 => ends.turn().is_some(),
         3 => {
             ends.reap();
+            true
         }
         _ => {
             ends.work(dice.below(8) as usize);
+            true
         }
     }
-    Ok(())
 }
 
-/// Up to some two hundred such things.
-fn go_some_way<K: KernelPort>(
-    alloc: Global,
-    dice: &mut Dice,
-    ends: &mut Ends<K, Open>,
-) -> Result<(), AllocError> {
+/// Up to some two hundred such things. Whether there was memory for them.
+fn go_some_way<K: KernelPort>(alloc: Global, dice: &mut Dice, ends: &mut Ends<K, Open>) -> bool {
     for _ in 0..dice.below(200) {
-        do_something(alloc, dice, ends)?;
+        if !do_something(alloc, dice, ends) {
+            return false;
+        }
     }
-    Ok(())
-}
-
-/// What the ends of a seed leave half way.
-fn report_of_half<K: Ports>(alloc: Global, seed: u64) -> Result<Report<Open>, Fail> {
-    let mut dice = Dice::new(seed);
-    let mut ends = ends_of::<K>(alloc, seed)?;
-    go_some_way(alloc, &mut dice, &mut ends)?;
-    Ok(ends.settle(alloc)?)
+    true
 }
 
 /// Whether the trace is what a new machine answers, with ends that are settled half way.
 fn is_right_half_way<K: Ports>(alloc: Global, seed: u64) -> Result<bool, Fail> {
-    let report = report_of_half::<K>(alloc, seed)?;
-    replays(alloc, &report)
+    let mut dice = Dice::new(seed);
+    let mut ends = ends_of::<K>(alloc, seed)?;
+    let goes = go_some_way(alloc, &mut dice, &mut ends);
+    let (_, replayed) = settle(alloc, ends)?;
+    Ok(goes && replayed)
 }
 
 /// The first seed of which it isn't.
@@ -165,15 +144,9 @@ fn first_wrong_half_way<K: Ports>(alloc: Global) -> Result<Option<u64>, Fail> {
 }
 
 #[test]
-fn ends_settle_half_way_over_lanes(rt: HostRuntime) -> Result<(), Fail> {
-    let wrong = first_wrong_half_way::<KernelLanes>(rt.alloc())?;
-    assert_eq!(rt; wrong, None, "the first wrong seed");
-    Ok(())
-}
-
-#[test]
-fn ends_settle_half_way_over_words(rt: HostRuntime) -> Result<(), Fail> {
-    let wrong = first_wrong_half_way::<KernelWords>(rt.alloc())?;
-    assert_eq!(rt; wrong, None, "the first wrong seed");
+fn ends_settle_half_way(rt: HostRuntime) -> Result<(), Fail> {
+    let lanes = first_wrong_half_way::<KernelLanes>(rt.alloc())?;
+    let words = first_wrong_half_way::<KernelWords>(rt.alloc())?;
+    assert_eq!(rt; [lanes, words], [None; 2], "the first wrong seeds");
     Ok(())
 }

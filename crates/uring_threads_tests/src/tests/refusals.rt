@@ -47,49 +47,66 @@ fn closes(
 }
 
 /// What all of them return, and two pulls behind them.
-fn returned(
-    alloc: Global,
-) -> Result<
-    (
-        Submits<6>,
-        [Option<CloseRefusal>; 3],
-        Submits<2>,
-        [Pulled; 2],
-    ),
-    Fail,
-> {
-    let setup = Setup::new(4, Some(4), 1, 0)?;
-    let mut items = Vec::with_capacity(alloc, setup.sq() as usize)?;
-    let (port, mut kernel) = lane_ports(alloc, &setup)?;
-    let mut app = AppEnd::new(port, setup.sq());
-    let before = open_submits(&mut app);
-    let (closes, behind) = closes(&mut app, &mut kernel, &mut items);
-    let pulls = [kernel.pull(&mut items), kernel.pull(&mut items)];
-    Ok((before, closes, behind, pulls))
+#[derive(Clone, Copy)]
+struct Returned {
+    open: Submits<6>,
+    closes: [Option<CloseRefusal>; 3],
+    closed: Submits<2>,
+    pulls: [Pulled; 2],
 }
 
-#[test]
-fn come_in_their_order(rt: HostRuntime) -> Result<(), Fail> {
-    let (before, closes, behind, pulls) = returned(rt.alloc())?;
-    assert_eq!(rt;
-        before,
-        [
+impl Returned {
+    /// Whether the refusals come in their order.
+    fn is_right(&self) -> bool {
+        let open = [
             Some(SubmitRefusal::Empty),
             Some(SubmitRefusal::TooLong),
             None,
             Some(SubmitRefusal::NotBad),
             Some(SubmitRefusal::Full),
             None,
-        ]
-    );
-    assert_eq!(rt;
+        ];
+        self.open == open
+            && self.closes == [Some(CloseRefusal::Full), None, Some(CloseRefusal::Closed)]
+            && self.closed == [Some(SubmitRefusal::Closed); 2]
+            && self.pulls == [Pulled::Call, Pulled::Close]
+    }
+}
+
+/// What they return at these ends.
+fn return_all(
+    app: &mut AppEnd<AppLanes>,
+    kernel: &mut KernelLanes,
+    items: &mut Vec<Item>,
+) -> Returned
+    requires { kernel.old.sizes.sq ≤ vec_capacity items.old }
+{
+    let open = open_submits(app);
+    let (closes, closed) = closes(app, kernel, items);
+    Returned {
+        open,
         closes,
-        [Some(CloseRefusal::Full), None, Some(CloseRefusal::Closed)]
-    );
-    assert_eq!(rt;
-        behind,
-        [Some(SubmitRefusal::Closed), Some(SubmitRefusal::Closed)]
-    );
-    assert_eq!(rt; pulls, [Pulled::Call, Pulled::Close]);
+        closed,
+        pulls: [kernel.pull(items), kernel.pull(items)],
+    }
+}
+
+/// What they return at new ends.
+fn returned_at_new_ends(alloc: Global) -> Result<Returned, Fail> {
+    let setup = Setup::new(4, Some(4), 1, 0)?;
+    let mut items = Vec::with_capacity(alloc, setup.sq() as usize)?;
+    let (port, mut kernel) = lane_ports(alloc, &setup)?;
+    let mut app = AppEnd::new(port, setup.sq());
+    let returned = return_all(&mut app, &mut kernel, &mut items);
+    drop(app);
+    drop(kernel);
+    drop(items);
+    Ok(returned)
+}
+
+#[test]
+fn come_in_their_order(rt: HostRuntime) -> Result<(), Fail> {
+    let returned = returned_at_new_ends(rt.alloc())?;
+    assert!(rt; returned.is_right());
     Ok(())
 }

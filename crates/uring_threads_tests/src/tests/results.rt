@@ -1,7 +1,6 @@
 //! Results that the dispatcher takes in, of requests of every standing.
 
 use std::alloc::Global;
-use std::process::Abort;
 use std::test::Fail;
 use uring_entry::{Outcome, Setup, Sqe};
 use uring_machine::{Answer, Core, Step};
@@ -38,21 +37,8 @@ fn take_all(core: &mut Core, trace: &mut Vec<Event>) -> Result<(), Fail> {
     Ok(())
 }
 
-/// The trace of it.
-fn trace_of(alloc: Global, core: &mut Core) -> Result<Vec<Event>, Fail> {
-    let mut trace = Vec::new(alloc);
-    take_all(core, &mut trace)?;
-    Ok(trace)
-}
-
-fn taken(alloc: Global) -> Result<Vec<Event>, Fail> {
-    let setup = Setup::new(4, None, 1, 0)?;
-    let mut core = Core::new(alloc, &setup)?;
-    trace_of(alloc, &mut core)
-}
-
-/// Only the one that runs ends, and only once.
-fn check_trace(rt: &impl Abort, trace: &[Event]) {
+/// Whether only the one that runs ends, and only once.
+fn is_right(trace: &[Event]) -> bool {
     let ended = Answer::Ended {
         res: 0,
         bytes: [0; 64],
@@ -63,12 +49,30 @@ fn check_trace(rt: &impl Abort, trace: &[Event]) {
         (Step::Finish { number: 0 }, ended),
         (Step::Finish { number: 0 }, Answer::NotRunning),
     ];
-    assert_eq!(rt; trace, wanted.as_slice());
+    trace == wanted.as_slice()
+}
+
+/// Whether the trace of it on this core says so.
+fn are_right(alloc: Global, core: &mut Core) -> Result<bool, Fail> {
+    let mut trace = Vec::new(alloc);
+    let taken = take_all(core, &mut trace);
+    let right = is_right(&trace);
+    drop(trace);
+    taken?;
+    Ok(right)
+}
+
+/// The same on a new core.
+fn are_right_on_a_new_core(alloc: Global) -> Result<bool, Fail> {
+    let setup = Setup::new(4, None, 1, 0)?;
+    let mut core = Core::new(alloc, &setup)?;
+    let right = are_right(alloc, &mut core);
+    drop(core);
+    right
 }
 
 #[test]
 fn end_what_runs_and_nothing_else(rt: HostRuntime) -> Result<(), Fail> {
-    let trace = taken(rt.alloc())?;
-    check_trace(&rt, &trace);
+    assert!(rt; are_right_on_a_new_core(rt.alloc())?);
     Ok(())
 }

@@ -3,3 +3,17 @@
 mod across;
 mod completions;
 mod small_rings;
+
+use super::ends::{Ends, Ports};
+use std::alloc::Global;
+use std::test::Fail;
+use uring_entry::Setup;
+use uring_threads::Open;
+use uring_words::KernelWords;
+
+/// All ends of rings of two that begin at the last index word, with one file and one worker.
+fn ends_at_the_wrap(alloc: Global) -> Result<Ends<KernelWords, Open>, Fail> {
+    let setup = Setup::new(2, Some(2), 1, u32::MAX)?;
+    let gates = vec![in alloc; Open; 1]?;
+    Ok(KernelWords::ends(alloc, &setup, gates)?)
+}

@@ -1,36 +1,17 @@
 //! Settling in the middle of a play, where a growth is refused.
 
 use super::super::nop;
+use super::super::told::{Told, tell};
 use super::{Made, make, settle};
 use std::alloc::Global;
-use std::process::Abort;
 use std::test::Fail;
 use uring_entry::Cqe;
-use uring_threads::{Counts, Item, Open, Report};
-
-/// What a report says of a moment in the middle of a play: the counts, and the first three of each list, as many as there are.
-#[derive(Clone, Copy)]
-struct Moment {
-    counts: Counts,
-    unsent: [Option<Item>; 3],
-    undelivered: [Option<Cqe>; 3],
-    waiting: [Option<Cqe>; 3],
-    was_refused: bool,
-}
-
-/// The first three of a list.
-fn first_three<T: Copy + Drop>(list: &[T]) -> [Option<T>; 3] {
-    [
-        list.first().copied(),
-        list.get(1).copied(),
-        list.get(2).copied(),
-    ]
-}
+use uring_threads::{Counts, Item};
 
 /// Turns the dispatcher twice, so that the second turn goes on where the first was refused memory, and has the worker take a job. Whether memory was refused.
 fn turn_and_work(made: &mut Made) -> bool {
-    let first = made.turn().is_err();
-    let second = made.turn().is_err();
+    let first = made.turn().is_none();
+    let second = made.turn().is_none();
     made.work(0);
     first || second
 }
@@ -46,28 +27,8 @@ fn go_to_the_middle(made: &mut Made) -> bool {
     first || second || third
 }
 
-/// What this report says.
-fn read_report(report: &Report<Open>, was_refused: bool) -> Moment {
-    Moment {
-        counts: report.counts(),
-        unsent: first_three(report.unsent()),
-        undelivered: first_three(report.undelivered()),
-        waiting: first_three(report.waiting()),
-        was_refused,
-    }
-}
-
-/// The report of new ends that are settled then.
-fn settled_moment(alloc: Global) -> Result<Moment, Fail> {
-    let (mut made, refused) = make(alloc)?;
-    let refused_then = go_to_the_middle(&mut made);
-    let (report, refused_last) = settle(alloc, made)?;
-    Ok(read_report(&report, refused || refused_then || refused_last))
-}
-
-/// Nothing is lost. Whether memory was refused.
-fn check_moment(rt: &impl Abort, alloc: Global) -> Result<bool, Fail> {
-    let moment = settled_moment(alloc)?;
+/// Whether nothing is lost.
+fn is_right(told: &Told) -> bool {
     let counts = Counts {
         accepted: 3,
         outstanding: 1,
@@ -75,17 +36,27 @@ fn check_moment(rt: &impl Abort, alloc: Global) -> Result<bool, Fail> {
         posted: 2,
         reaped: 1,
     };
-    let completion = |user_data| Some(Cqe::new(user_data, 0, [0; 64]));
-    assert_eq!(rt; moment.counts, counts);
-    assert_eq!(rt; moment.unsent, [Some(Item::Bad(9)), Some(nop(4)), None]);
-    assert_eq!(rt; moment.undelivered, [completion(1), None, None]);
-    assert_eq!(rt; moment.waiting, [completion(2), None, None]);
-    Ok(moment.was_refused)
+    told.counts == counts
+        && told.unsent == [Some(Item::Bad(9)), Some(nop(4)), None]
+        && told.undelivered == [Some(Cqe::new(1, 0, [0; 64])), None, None]
+        && told.waiting == [Some(Cqe::new(2, 0, [0; 64])), None, None]
+}
+
+/// Whether new ends that are settled then report it so, and whether memory was refused.
+fn settle_then(alloc: Global) -> Result<(bool, bool), Fail> {
+    let (mut made, refused) = make(alloc)?;
+    let refused_then = go_to_the_middle(&mut made);
+    let (report, refused_last) = settle(alloc, made)?;
+    let right = is_right(&tell(&report));
+    drop(report);
+    Ok((right, refused || refused_then || refused_last))
 }
 
 #[test]
 fn settling_in_the_middle_loses_nothing(rt: HostRuntime) -> Result<(), Fail> {
-    if check_moment(&rt, rt.alloc())? {
+    let (right, was_refused) = settle_then(rt.alloc())?;
+    assert!(rt; right);
+    if was_refused {
         println!(rt; "refused")?;
     }
     Ok(())

@@ -3,7 +3,6 @@
 use super::super::nop;
 use super::{Made, make, settle};
 use std::alloc::{AllocError, Global};
-use std::process::Abort;
 use std::test::Fail;
 use uring_entry::{Cqe, Sqe};
 use uring_machine::Step;
@@ -107,7 +106,7 @@ impl Progress {
     /// A round: submits, turns the dispatcher, does up to two jobs, and reaps up to two completions.
     fn go_round(&mut self, made: &mut Made) {
         self.submit(made);
-        if made.turn().is_err() {
+        if made.turn().is_none() {
             self.refusals = self.refusals.wrapping_add(1);
         }
         made.work(0);
@@ -127,7 +126,7 @@ fn go_rounds(made: &mut Made, rounds: u64) -> Progress {
 }
 
 /// How many requests and completions a trace tells of: accepted, ended and reaped; and how often a call was refused memory.
-#[derive(Clone, Copy, Debug, PartialEq)]
+#[derive(Clone, Copy, PartialEq)]
 struct Traced {
     accepted: u64,
     ended: u64,
@@ -222,10 +221,12 @@ fn play_on(alloc: Global, mut made: Made) -> Result<Played, AllocError> {
     let progress = go_rounds(&mut made, 40);
     let is_idle = made.idle();
     let (report, was_refused) = settle(alloc, made)?;
+    let said = read_report(&report);
+    drop(report);
     Ok(Played {
         progress,
         is_idle,
-        said: read_report(&report),
+        said,
         was_refused,
     })
 }
@@ -240,26 +241,41 @@ fn play(alloc: Global) -> Result<Played, Fail> {
     })
 }
 
-/// All was done, with the write whole or refused memory. Whether memory was refused.
-fn check_played(rt: &impl Abort, played: Played) -> bool {
-    let Played { progress, said, .. } = played;
-    let is_whole = progress.reaped.results[0] == Some(2);
-    let state = FileState {
-        len: if is_whole { 4 } else { 0 },
-        writes: u64::from(is_whole),
-        synced: 0,
-    };
-    assert!(rt; played.is_idle && progress.is_closed);
-    assert!(rt; progress.reaped.is_right(is_whole));
-    assert!(rt; said.is_over());
-    assert_eq!(rt; said.state, Some(state));
-    played.was_refused || progress.refusals > 0 || said.traced.refused > 0 || !is_whole
+impl Played {
+    /// Whether the write is whole, and was not refused memory.
+    fn is_whole(&self) -> bool {
+        self.progress.reaped.results[0] == Some(2)
+    }
+
+    /// Whether all was done, with the write whole or refused memory.
+    fn is_right(&self) -> bool {
+        let is_whole = self.is_whole();
+        let state = FileState {
+            len: if is_whole { 4 } else { 0 },
+            writes: u64::from(is_whole),
+            synced: 0,
+        };
+        self.is_idle
+            && self.progress.is_closed
+            && self.progress.reaped.is_right(is_whole)
+            && self.said.is_over()
+            && self.said.state == Some(state)
+    }
+
+    /// Whether memory was refused.
+    fn is_refused(&self) -> bool {
+        self.was_refused
+            || self.progress.refusals > 0
+            || self.said.traced.refused > 0
+            || !self.is_whole()
+    }
 }
 
 #[test]
 fn a_play_goes_on_behind_a_refusal(rt: HostRuntime) -> Result<(), Fail> {
     let played = play(rt.alloc())?;
-    if check_played(&rt, played) {
+    assert!(rt; played.is_right());
+    if played.is_refused() {
         println!(rt; "refused")?;
     }
     Ok(())

@@ -148,7 +148,11 @@ fn go_across_new_ends<R: Threads + Wait + Sync>(
     let mut items = Vec::with_capacity(alloc, setup.sq() as usize)?;
     let (port, mut kernel) = word_ports(alloc, &setup)?;
     let mut app = AppEnd::new(port, setup.sq());
-    Ok(go_across(rt, &mut app, &mut kernel, &mut items))
+    let across = go_across(rt, &mut app, &mut kernel, &mut items);
+    drop(app);
+    drop(kernel);
+    drop(items);
+    Ok(across)
 }
 
 #[test]

@@ -1,15 +1,16 @@
 //! Completions over shared words: at every wrap, from thread to thread, and settled.
-ghost use Rattle.std.specs.Prelude.{◌≡◌, ◌<◌};
+ghost use Rattle.std.specs.Prelude.{◌≡◌};
 
-use super::super::ends::{Ends, Ports};
+use super::super::ends::Ends;
+use super::super::told::{Left, left_in};
 use super::super::{nop, turn};
+use super::ends_at_the_wrap;
 use std::alloc::{AllocError, Global};
-use std::process::Abort;
 use std::sync::Wait;
 use std::test::Fail;
 use std::thread::{Threads, join, yield_now};
 use uring_entry::{Cqe, Setup};
-use uring_threads::{AppPort, KernelPort, Open, Rests, Worked};
+use uring_threads::{AppPort, KernelPort, Open, Worked};
 use uring_words::{AppWords, KernelWords, word_ports};
 
 /// How many completions go through.
@@ -66,7 +67,10 @@ fn go_across<R: Threads + Wait + Sync>(
 fn go_across_new_ports<R: Threads + Wait + Sync>(rt: &R, alloc: Global) -> Result<bool, Fail> {
     let setup = Setup::new(4, Some(4), 1, 4294967290)?;
     let (mut app, mut kernel) = word_ports(alloc, &setup)?;
-    Ok(go_across(rt, &mut app, &mut kernel))
+    let in_order = go_across(rt, &mut app, &mut kernel);
+    drop(app);
+    drop(kernel);
+    Ok(in_order)
 }
 
 #[test]
@@ -76,45 +80,32 @@ fn completions_go_across(rt: HostRuntime) -> Result<(), Fail> {
     Ok(())
 }
 
-/// What one round of a no-op gives: whether all of it went as it should, and what was reaped.
-fn round(ends: &mut Ends<KernelWords, Open>, user_data: u64) -> Result<Option<Cqe>, AllocError>
-    requires { 0 < user_data }
-{
+/// Whether a round of a no-op goes as it should.
+fn goes_round(ends: &mut Ends<KernelWords, Open>, user_data: u64) -> bool {
     let submitted = ends.submit(&[nop(user_data)]);
-    let taken = ends.turn()? == turn(1, 1, 0, 0);
-    let worked = ends.work(0) == Some(Worked::Done(user_data - 1));
-    let delivered = ends.turn()? == turn(0, 0, 1, 1);
-    if submitted && taken && worked && delivered {
-        Ok(ends.reap())
-    } else {
-        Ok(None)
+    let taken = ends.turn() == Some(turn(1, 1, 0, 0));
+    let worked = ends.work(0) == Some(Worked::Done(user_data.wrapping_sub(1)));
+    let delivered = ends.turn() == Some(turn(0, 0, 1, 1));
+    let reaped = ends.reap() == Some(Cqe::new(user_data, 0, [0; 64]));
+    submitted && taken && worked && delivered && reaped
+}
+
+/// Whether five rounds do so.
+fn five_go_round(ends: &mut Ends<KernelWords, Open>) -> bool {
+    for user_data in 1..6 {
+        if !goes_round(ends, user_data) {
+            return false;
+        }
     }
-}
-
-/// What five rounds give.
-fn five_rounds(ends: &mut Ends<KernelWords, Open>) -> Result<[Option<Cqe>; 5], Fail> {
-    Ok([
-        round(ends, 1)?,
-        round(ends, 2)?,
-        round(ends, 3)?,
-        round(ends, 4)?,
-        round(ends, 5)?,
-    ])
-}
-
-/// The same on new ends of one worker, with rings of two that begin at the last index word.
-fn five_rounds_at_the_wrap(alloc: Global) -> Result<[Option<Cqe>; 5], Fail> {
-    let setup = Setup::new(2, Some(2), 1, 4294967295)?;
-    let gates = vec![in alloc; Open; 1]?;
-    let mut ends = KernelWords::ends(alloc, &setup, gates)?;
-    five_rounds(&mut ends)
+    true
 }
 
 #[test]
 fn a_ring_of_two_goes_round(rt: HostRuntime) -> Result<(), Fail> {
-    let reaped = five_rounds_at_the_wrap(rt.alloc())?;
-    let wanted = [1, 2, 3, 4, 5].map(|user_data| Some(Cqe::new(user_data, 0, [0; 64])));
-    assert_eq!(rt; reaped, wanted);
+    let mut ends = ends_at_the_wrap(rt.alloc())?;
+    let goes = five_go_round(&mut ends);
+    drop(ends);
+    assert!(rt; goes);
     Ok(())
 }
 
@@ -125,6 +116,15 @@ struct Seen {
     room: [usize; 3],
     got: [Option<Cqe>; 2],
     dropped: [u32; 3],
+}
+
+impl Seen {
+    /// Whether the ring is full behind two completions, the first is got, and each dropped word is seen.
+    fn is_right(&self) -> bool {
+        self.room == [2, 0, 1]
+            && self.got == [None, Some(completion(1))]
+            && self.dropped == [0, 1, 7]
+    }
 }
 
 /// Delivers two completions of which one is got, and stores the dropped word twice.
@@ -151,34 +151,25 @@ fn look(app: &mut AppWords, kernel: &mut KernelWords) -> Seen
     }
 }
 
-/// The same on new ports, and what settling them gives.
-fn look_and_settle(alloc: Global) -> Result<(Seen, Rests), Fail> {
+/// The same on new ports, and what is left in them.
+fn look_and_settle(alloc: Global) -> Result<(Seen, Left), Fail> {
     let setup = Setup::new(2, Some(2), 1, 4294967295)?;
     let (mut app, mut kernel) = word_ports(alloc, &setup)?;
     let seen = look(&mut app, &mut kernel);
     match kernel.settle(alloc, app) {
-        Ok(rests) => Ok((seen, rests)),
-        Err(_) => Err(AllocError)?,
+        Ok(rests) => Ok((seen, left_in(rests))),
+        Err(ports) => {
+            drop(ports);
+            Err(AllocError)?
+        }
     }
-}
-
-/// The ring is full behind two completions, the first is got, and each dropped word is seen.
-fn check_seen(rt: &impl Abort, seen: Seen) {
-    assert_eq!(rt; seen.room, [2, 0, 1]);
-    assert_eq!(rt; seen.got, [None, Some(completion(1))]);
-    assert_eq!(rt; seen.dropped, [0, 1, 7]);
-}
-
-/// The second completion is undelivered, and nothing is unsent.
-fn check_rests(rt: &impl Abort, rests: &Rests) {
-    assert!(rt; rests.unsent.is_empty());
-    assert_eq!(rt; rests.undelivered.as_slice(), [completion(2)].as_slice());
 }
 
 #[test]
 fn what_was_not_got_is_undelivered(rt: HostRuntime) -> Result<(), Fail> {
-    let (seen, rests) = look_and_settle(rt.alloc())?;
-    check_seen(&rt, seen);
-    check_rests(&rt, &rests);
+    let (seen, (unsent, undelivered)) = look_and_settle(rt.alloc())?;
+    assert!(rt; seen.is_right());
+    assert!(rt; unsent == [None; 3]);
+    assert!(rt; undelivered == [Some(completion(2)), None, None]);
     Ok(())
 }

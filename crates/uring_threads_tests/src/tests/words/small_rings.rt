@@ -1,39 +1,41 @@
 //! A ring of two that begins at the last index word, and a ring of four that is settled.
 ghost use Rattle.std.specs.Prelude.{◌≡◌, ◌≤◌, vec_capacity};
 
-use super::super::ends::{Ends, Ports};
-use super::super::nop;
+use super::super::ends::Ends;
+use super::super::told::{Left, left_in};
+use super::super::{nop, turn};
+use super::ends_at_the_wrap;
 use std::alloc::{AllocError, Global};
-use std::process::Abort;
 use std::test::Fail;
 use uring_entry::Setup;
-use uring_threads::{AppEnd, Item, KernelPort, Open, Pulled, Rests, SubmitRefusal, Turn};
+use uring_threads::{AppEnd, Item, KernelPort, Open, Pulled, SubmitRefusal, Turn};
 use uring_words::{AppWords, KernelWords, word_ports};
 
-/// What three submits return, with a turn before the last is made again.
-fn submit_thrice(
-    ends: &mut Ends<KernelWords, Open>,
-) -> Result<([Result<(), SubmitRefusal>; 3], Turn), Fail> {
+/// What three submits return, and a turn before the last is made again.
+type Submits = ([Result<(), SubmitRefusal>; 3], Option<Turn>);
+
+/// What comes of them.
+fn submit_thrice(ends: &mut Ends<KernelWords, Open>) -> Submits {
     let two = ends.try_submit(&[nop(1), nop(2)]);
     let full = ends.try_submit(&[nop(3)]);
-    let popped = ends.turn()?;
+    let popped = ends.turn();
     let third = ends.try_submit(&[nop(3)]);
-    Ok(([two, full, third], popped))
+    ([two, full, third], popped)
 }
 
 /// The same on new ends.
-fn submits_at_the_wrap(alloc: Global) -> Result<([Result<(), SubmitRefusal>; 3], Turn), Fail> {
-    let setup = Setup::new(2, Some(2), 1, u32::MAX)?;
-    let gates = vec![in alloc; Open; 1]?;
-    let mut ends = KernelWords::ends(alloc, &setup, gates)?;
-    submit_thrice(&mut ends)
+fn submits_at_the_wrap(alloc: Global) -> Result<Submits, Fail> {
+    let mut ends = ends_at_the_wrap(alloc)?;
+    let submits = submit_thrice(&mut ends);
+    drop(ends);
+    Ok(submits)
 }
 
 #[test]
 fn a_full_ring_looks_at_the_head_again(rt: HostRuntime) -> Result<(), Fail> {
     let (submits, popped) = submits_at_the_wrap(rt.alloc())?;
-    assert_eq!(rt; submits, [Ok(()), Err(SubmitRefusal::Full), Ok(())]);
-    assert_eq!(rt; popped.popped, 2);
+    assert!(rt; submits == [Ok(()), Err(SubmitRefusal::Full), Ok(())]);
+    assert!(rt; popped == Some(turn(2, 2, 0, 0)));
     Ok(())
 }
 
@@ -52,29 +54,28 @@ fn pulls_one_of_two(
     first && second && kernel.pull(items) == Pulled::Call
 }
 
-/// Settles behind two calls, of which the first is pulled.
-fn settled(alloc: Global) -> Result<(bool, Rests), Fail> {
+/// Whether both calls go, of which the first is pulled, and what is left if they are settled then.
+fn settled(alloc: Global) -> Result<(bool, Left), Fail> {
     let setup = Setup::new(4, Some(4), 1, 0)?;
     let mut items = Vec::with_capacity(alloc, setup.sq() as usize)?;
     let (port, mut kernel) = word_ports(alloc, &setup)?;
     let mut app = AppEnd::new(port, setup.sq());
     let goes = pulls_one_of_two(&mut app, &mut kernel, &mut items);
+    drop(items);
     match app.settle(alloc, kernel) {
-        Ok(rests) => Ok((goes, rests)),
-        Err(_) => Err(AllocError)?,
+        Ok(rests) => Ok((goes, left_in(rests))),
+        Err(ends) => {
+            drop(ends);
+            Err(AllocError)?
+        }
     }
-}
-
-/// The second call is unsent, and nothing else is left.
-fn check_rests(rt: &impl Abort, rests: &Rests) {
-    assert_eq!(rt; rests.unsent.as_slice(), [Item::Bad(9), nop(2)].as_slice());
-    assert!(rt; rests.undelivered.is_empty());
 }
 
 #[test]
 fn what_was_not_pulled_is_unsent(rt: HostRuntime) -> Result<(), Fail> {
-    let (goes, rests) = settled(rt.alloc())?;
+    let (goes, (unsent, undelivered)) = settled(rt.alloc())?;
     assert!(rt; goes, "both calls are Ok, and the first is pulled");
-    check_rests(&rt, &rests);
+    assert!(rt; unsent == [Some(Item::Bad(9)), Some(nop(2)), None]);
+    assert!(rt; undelivered == [None; 3]);
     Ok(())
 }
