@@ -21,20 +21,31 @@ pub(crate) fn dispatch<R: Wait, K: KernelPort>(
     kernel
 }
 
+/// Turns the dispatcher until it is idle or out of memory, or the threads are to stop.
 fn turn_until<R: Wait, K: KernelPort>(rt: &R, kernel: &mut Kernel<K>, stop: &AtomicBool)
     ensures { StaysKernel kernel.old kernel.new }
 {
     for _ in rt.forever() {
-        if stop.load(Ordering::SeqCst) || kernel.idle() {
+        if !goes_on(kernel, stop) {
             return;
-        }
-        let Ok(turn) = kernel.turn() else {
-            return;
-        };
-        if is_empty(&turn) {
-            thread::yield_now();
         }
     }
+}
+
+/// Makes a turn, and lets other threads run if nothing was done in it. False if the dispatcher is idle or out of memory, or the threads are to stop.
+fn goes_on<K: KernelPort>(kernel: &mut Kernel<K>, stop: &AtomicBool) -> bool
+    ensures { StaysKernel kernel.old kernel.new }
+{
+    if stop.load(Ordering::SeqCst) || kernel.idle() {
+        return false;
+    }
+    let Ok(turn) = kernel.turn() else {
+        return false;
+    };
+    if is_empty(&turn) {
+        thread::yield_now();
+    }
+    true
 }
 
 /// Whether nothing was done in a turn.

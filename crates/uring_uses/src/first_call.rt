@@ -20,5 +20,6 @@ pub fn one_no_op(alloc: Global) -> Result<Option<Cqe>> {
     }
     machine.settle_idle();
     let completion = machine.rest(0);
+    drop(machine);
     Ok(completion)
 }

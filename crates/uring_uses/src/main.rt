@@ -22,16 +22,22 @@ use std::alloc::{AllocError, Global};
 use uring_machine::{Answer, Core, Cqe, Machine, Setup, Sqe, SqeFlags, Step, run};
 
 fn main(rt: HostRuntime) -> Result<()> {
-    println!(rt; "one no-op")?;
-    if let Some(completion) = one_no_op(rt.alloc())? {
-        print_completion(&rt, &completion)?;
-    }
+    show_first_call(&rt)?;
     let setup = Setup::new(8, None, 1, 0)?;
     show_step(&rt, &setup)?;
     show_list(&rt, &setup)?;
     show_simulation(&rt, &setup)?;
     show_broken_chain(&rt, &setup)?;
     show_settling(&rt, &setup)
+}
+
+/// A no-op alone.
+fn show_first_call(rt: &HostRuntime) -> Result<()> {
+    println!(rt; "one no-op")?;
+    match one_no_op(rt.alloc())? {
+        Some(completion) => print_completion(rt, &completion),
+        None => Ok(()),
+    }
 }
 
 /// Two linked no-ops: the second doesn't start before the first has ended.
@@ -46,20 +52,20 @@ fn show_step(rt: &HostRuntime, setup: &Setup) -> Result<()> {
 
 fn print_starts(rt: &HostRuntime, machine: &mut Machine, steps: &[Step]) -> Result<()> {
     run(rt.alloc(), machine, steps)?;
-    println!(rt; "one step")?;
-    println!(rt; "  request 1 starts: {}", starts(machine, 1))?;
-    println!(rt; "  request 0 starts: {}", starts(machine, 0))?;
+    let second = starts(machine, 1);
+    let first = starts(machine, 0);
     machine.step(Step::Finish { number: 0 });
-    let starts = starts(machine, 1);
-    println!(rt; "  request 0 ended, and request 1 starts: {starts}")?;
+    let behind = starts(machine, 1);
+    println!(rt;
+        "one step\n  request 1 starts: {second}\n  request 0 starts: {first}\n  request 0 ended, and request 1 starts: {behind}"
+    )?;
     Ok(())
 }
 
 /// The same steps on two machines.
 fn show_list(rt: &HostRuntime, setup: &Setup) -> Result<()> {
     let (count, is_same) = replay(rt.alloc(), setup)?;
-    println!(rt; "a list of steps")?;
-    println!(rt; "  {count} steps, the same answers: {is_same}")?;
+    println!(rt; "a list of steps\n  {count} steps, the same answers: {is_same}")?;
     Ok(())
 }
 
@@ -67,8 +73,14 @@ fn show_list(rt: &HostRuntime, setup: &Setup) -> Result<()> {
 fn replay(alloc: Global, setup: &Setup) -> Result<(usize, bool), AllocError> {
     let entries = [Sqe::write(20, 0, 0, 0, b"abc"), Sqe::fsync(21, 0, 0)];
     let steps = submission(alloc, &entries)?;
-    let (first, second) = run_twice(alloc, setup, steps.as_slice())?;
-    Ok((first.len(), first.as_slice() == second.as_slice()))
+    let both = run_twice(alloc, setup, steps.as_slice());
+    drop(steps);
+    let (first, second) = both?;
+    let is_same = first.as_slice() == second.as_slice();
+    let count = first.len();
+    drop(first);
+    drop(second);
+    Ok((count, is_same))
 }
 
 /// Two chains on a disk whose block 4 is bad.
@@ -158,7 +170,14 @@ fn show_settling(rt: &HostRuntime, setup: &Setup) -> Result<()> {
 fn print_left(rt: &HostRuntime, machine: &mut Machine, steps: &[Step]) -> Result<()> {
     run(rt.alloc(), machine, steps)?;
     println!(rt; "settling")?;
-    for completion in &settled_rest(rt.alloc(), machine)? {
+    let rest = settled_rest(rt.alloc(), machine)?;
+    let printed = print_completions(rt, rest.as_slice());
+    drop(rest);
+    printed
+}
+
+fn print_completions(rt: &HostRuntime, completions: &[Cqe]) -> Result<()> {
+    for completion in completions {
         print_completion(rt, completion)?;
     }
     Ok(())
