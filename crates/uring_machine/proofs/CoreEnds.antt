@@ -1,12 +1,12 @@
 -- What a core shows as a submission call closes, as a request ends, and as the ring is closed.
-use Rattle.std.proofs.Common.{◌≡◌, ℕ, ◌+◌, ◌-◌, ◌^◌, ◌≤◌, ℤ, Bool, true, false, not, cond, eqb, nat_lt, if◌then◌else◌, List, [], ◌∷◌, ◌++◌, length, sum, Option, Some, None, is_some, refl, sym, ap, subst, ◌∙◌, arith, inl, inr, IfSome}
+use Rattle.std.proofs.Common.{◌≡◌, ℕ, ◌+◌, ◌-◌, ◌^◌, ◌≤◌, ℤ, Bool, true, false, not, cond, eqb, nat_lt, if◌then◌else◌, List, [], ◌∷◌, length, Option, Some, None, is_some, refl, sym, ap, subst, ◌∙◌, arith, inl, inr, IfSome}
 use Rattle.std.proofs.lemmas.Bool.{cases_Bool, eqb-true, eqb-false, lt-ltb, le-ltb}
 use Rattle.std.proofs.lemmas.List.{length-append}
-use Rattle.std.proofs.lemmas.Grind.{common_steps}
 use Rattle.std.proofs.lemmas.Option.{cond_some}
+use Rattle.std.proofs.lemmas.List.Sums.{sum_by_push}
 use Rattle.uring_entry.specs.Setup.{Setup}
 use Rattle.uring_entry.specs.IndexWords.{word_of}
-use Rattle.uring_entry.specs.Layout.{Sqe, Cqe, user_data_of}
+use Rattle.uring_entry.specs.Layout.{Sqe, user_data_of}
 use Rattle.uring_entry.specs.Success.{posts_completion}
 use Rattle.uring_entry.specs.Submission.{Submission, Call, no_submission, taken, pending, entries_of, places_from, dropped, with_closed}
 use Rattle.uring_entry.specs.Requests.{Requests, no_request, entry_of, is_outstanding, is_running, is_doomed, is_ready, doomed_result, cancel_result, no_bytes, with_call, with_ended, with_issued_end, with_started, entry_outstanding}
@@ -49,9 +49,6 @@ pub record Ends (p : Core) (w : World) (q : Sq) (d : Dispatch) (a : Answer) (c :
   pub shows : ShowsWorld (record p { sq = q; dispatch = d; held = [] }) (ending_of w c)
   pub answered : a ≡ end_answer_in p.setup w c
 
-sum_more : (ns : List ℕ) (n : ℕ) → sum (ns ++ n ∷ []) ≡ sum ns + n
-sum_more ns n = grind (arith, common_steps)
-
 -- what is told of a call that took all its positions
 abbrev taken_by : Setup → Submission → Call → Taken
 taken_by g l call =
@@ -80,7 +77,7 @@ closed_answer g w call t e =
     let is = taken_as (eqb call.taken call.count) t (taken_by g w.submission call) e in
     let all = eqb-true call.taken call.count is.0 in
     let not_less : nat_lt call.taken call.count ≡ false = le-ltb call.taken call.count (omega arith) in
-    rw (is.1, not_less) (ap (λ n. answer.Taken (length (entries_of (places_from w.submission call.count))) (dropped (with_closed w.submission call)) (word_of g.start n)) (sum_more w.submission.calls call.count))
+    rw (is.1, not_less) (ap (λ n. answer.Taken (length (entries_of (places_from w.submission call.count))) (dropped (with_closed w.submission call)) (word_of g.start n)) (sum_by_push (λ x. x) w.submission.calls call.count))
 
 end_taken : (p : Core) (w : World) (q : Sq) (d : Dispatch) (t : Taken) (c : Option Call) → ShowsWorld p w → w.submission.call ≡ c → Accepts p d
     → length p.held ≤ positions_of w.submission.call → ended_as.Taken t ≡ ring.end_of p.setup w.submission c → ShowsSubmission p.setup q (ring.closed_on w.submission c)
@@ -126,14 +123,11 @@ end_not_all_goes p q answered same h f =
 
 -- The end of a request.
 
-one_more : (size : ℕ) (l : Completions) (completion : Cqe) → length (with_posted size l completion).posted ≤ length l.posted + 1
-one_more size l completion = omega (arith, length-append l.posted (completion ∷ []))
-
 -- an end posts one completion at most
 few_posted : (size : ℕ) (l : Completions) (entry : Sqe) (res : ℤ) (bytes : List ℕ) → length (with_end size l entry res bytes).posted ≤ length l.posted + 1
 few_posted size l entry res bytes =
     elim (cases_Bool (posts_completion entry res)) [
-      | inl told ↦ rw told (one_more size l (record { user_data = user_data_of entry; res = res; payload = bytes }))
+      | inl told ↦ rw told (omega (arith, length-append l.posted (record { user_data = user_data_of entry; res = res; payload = bytes } ∷ [])))
       | inr skipped ↦ rw skipped (omega arith)
     ]
 

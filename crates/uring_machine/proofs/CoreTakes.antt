@@ -4,6 +4,7 @@ use Rattle.std.proofs.Common.{◌≡◌, ℕ, zero, suc, ◌+◌, ◌-◌, ◌^�
 use Rattle.std.proofs.lemmas.Bool.{eqb-false}
 use Rattle.std.proofs.lemmas.List.Elements.{filter_map-append}
 use Rattle.std.proofs.lemmas.Grind.{common_steps}
+use Rattle.std.proofs.lemmas.List.{append-nil}
 use Rattle.uring_entry.specs.Setup.{Setup}
 use Rattle.uring_entry.specs.Layout.{Sqe}
 use Rattle.uring_entry.specs.Submission.{Submission, Call, Place, taken, pending, staged, entries_of, with_taken, stops_at, with_stopped}
@@ -139,12 +140,9 @@ take_dropped p w q (Some call) s is e shown =
     let so_far : p.held ≡ entries_of (take call.taken (drop (taken w.submission) w.submission.published)) = s.held ∙ ap (held_by w.submission) is in
     record {
       shows = taken_shows p w q call p.held false s is more shown
-          (sym (held_more w.submission call place.0 place.1 ∙ ap (λ xs. entries_of (take call.taken (drop (taken w.submission) w.submission.published)) ++ xs) (no_entries place.0 none) ∙ nothing_more _ ∙ sym so_far));
+          (sym (held_more w.submission call place.0 place.1 ∙ ap (λ xs. entries_of (take call.taken (drop (taken w.submission) w.submission.published)) ++ xs) (no_entries place.0 none) ∙ append-nil _ ∙ sym so_far));
       answered = answered_dropped w call place.0 more place.1 none;
     }
-  where
-    nothing_more : (xs : List Sqe) → xs ++ [] ≡ xs
-    nothing_more xs = grind (arith, common_steps)
 
 -- the ring after a take, and then with its call stopped behind the entry, if it stops there
 pub take_entry_goes : (p : Core) (q stops : Sq) (entry : Sqe)
@@ -167,7 +165,7 @@ take_dropped_goes p q answered shown h f =
     record { shows = t.shows; lawful = (t.answered, f.lawful) }
 
 -- what a call took fits its positions
-few_entries : (places : List Place) (n : ℕ) → length (entries_of (take n places)) ≤ n
+pub few_entries : (places : List Place) (n : ℕ) → length (entries_of (take n places)) ≤ n
 few_entries places n =
     let e = entries_and_dropped (take n places) in
     let k : length (take n places) ≤ n = grind (arith, common_steps) in

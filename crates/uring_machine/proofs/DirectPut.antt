@@ -2,6 +2,7 @@
 use Rattle.std.proofs.Common.{◌≡◌, ℕ, ◌+◌, ◌-◌, ◌==◌, min, nat_lt, Bool, true, false, ◌&&◌, [], ◌∷◌, length, Option, Some, None, is_some, if◌then◌else◌, cond, refl, sym, ap, ap₂, ◌∙◌}
 use Rattle.std.specs.List.{filter_map}
 use Rattle.std.specs.Option.{option_and_then}
+use Rattle.std.proofs.lemmas.Bool.{cond_both}
 use Rattle.uring_entry.specs.Setup.{Setup}
 use Rattle.uring_entry.specs.Layout.{Cqe}
 use Rattle.uring_entry.specs.Success.{posts_completion}
@@ -63,7 +64,4 @@ direct_put g ((s, a) ∷ before) lawful = put_direct g before s a _ (completion_
 -- what stands before the last event of a kind is lawful
 pub lawful_last : (g : Setup) (is_kind : Event → Bool) (h : History) → IsLawfulApart g h → IsLawfulApart g (before_last is_kind h)
 lawful_last g is_kind [] lawful = tt
-lawful_last g is_kind ((s, a) ∷ before) lawful = by_kind (is_kind (s, a)) (lawful_last g is_kind before lawful.1) where
-  by_kind : (here : Bool) → IsLawfulApart g (before_last is_kind before) → IsLawfulApart g (if here then before else before_last is_kind before)
-  by_kind true later = lawful.1
-  by_kind false later = later
+lawful_last g is_kind ((s, a) ∷ before) lawful = cond_both (is_kind (s, a)) before (before_last is_kind before) (IsLawfulApart g) (λ _. lawful.1) (λ _. lawful_last g is_kind before lawful.1)

@@ -1,11 +1,10 @@
 -- How many requests a lawful history accepts.
 use Rattle.std.proofs.Common.{◌+◌, ◌-◌, ◌^◌, ◌≤◌, [], ◌∷◌, length, drop, sym, subst, arith}
 use Rattle.std.proofs.lemmas.Bool.{ltb-false, eqb-false}
-use Rattle.std.proofs.lemmas.List.{length-append, length-take}
+use Rattle.std.proofs.lemmas.List.{length-append}
 use Rattle.uring_entry.specs.Setup.{Setup}
-use Rattle.uring_entry.specs.Submission.{Call, taken, stops_at, entries_of, places_from}
+use Rattle.uring_entry.specs.Submission.{taken, stops_at, entries_of, places_from}
 use Rattle.uring_entry.specs.Requests.{is_outstanding, outstanding_in}
-use Rattle.uring_rings.proofs.Places.{entries_and_dropped}
 use Rattle.uring_machine.specs.World.{World}
 use Rattle.uring_machine.specs.Core.{positions_of}
 use Rattle.uring_machine.specs.Histories.{History, world, IsLawfulApart}
@@ -14,16 +13,12 @@ use Rattle.uring_machine.specs.declared.answer.Answer.{Answer}
 use Rattle.uring_machine.proofs.SubmissionMoves.{SubmissionMove, stays, begins, takes, drops, closes, submission_move}
 use Rattle.uring_machine.proofs.SoundRings.{IsSoundSubmission, open_taken, open_count, stopped_between}
 use Rattle.uring_machine.proofs.Sound.{sound_of}
+use Rattle.uring_machine.proofs.CoreTakes.{few_entries}
 use Rattle.uring_dispatch.proofs.Counting.{count_below-within}
 
 -- the requests accepted, with those that the open call may still accept, are fewer than 2 ^ 63
 abbrev AreFew : World → Type 0
 AreFew w = length w.requests.accepted + positions_of w.submission.call ≤ 2 ^ 63 - 1
-
--- a call accepts no more than its positions
-few_entries : (w : World) (call : Call) → length (entries_of (places_from w.submission call.count)) ≤ call.count
-few_entries w call =
-    omega (arith, entries_and_dropped (places_from w.submission call.count), length-take call.count (drop (taken w.submission) w.submission.published))
 
 few_kept : (g : Setup) (w : World) (s : Step) (a : Answer) (v : World) → SubmissionMove g w s a v → IsSoundSubmission g.sq w.submission → AreFew w → AreFew v
 few_kept g w s a v (stays _ _ r c is_closed off left) sound i =
@@ -37,7 +32,7 @@ few_kept g w s a v (takes entry call place opened left at valid) sound i =
 few_kept g w s a v (drops call place opened left at invalid) sound i = subst (λ o. length w.requests.accepted + positions_of o ≤ 2 ^ 63 - 1) opened i
 few_kept g w s a v (closes accepted missed head call opened all many) sound i =
     let before : length w.requests.accepted + call.count ≤ 2 ^ 63 - 1 = subst (λ o. length w.requests.accepted + positions_of o ≤ 2 ^ 63 - 1) opened i in
-    omega (arith, before, few_entries w call, length-append w.requests.accepted (entries_of (places_from w.submission call.count)))
+    omega (arith, before, few_entries (drop (taken w.submission) w.submission.published) call.count, length-append w.requests.accepted (entries_of (places_from w.submission call.count)))
 few_kept g w s a v _ sound i = i
 
 few_accepted : (g : Setup) (h : History) → IsLawfulApart g h → AreFew (world g h)

@@ -1,7 +1,7 @@
 -- The laws of doomed requests, links and drains.
 use Rattle.std.proofs.Common.{◌≡◌, ℕ, ◌<◌, ◌==◌, pos, neg_ℤ, true, false, not, ◌||◌, List, ◌∷◌, ◌++◌, Option, Some, None, length, slice_get, count_by, refl, sym, subst, ap, ◌∙◌, inl, inr, arith}
 use Rattle.std.specs.Ordering.{int_eq}
-use Rattle.std.proofs.lemmas.Bool.{and_cases, and_from, both_ways, not-false, eq-eqb, true_from_ne_false, false_from_ne_true, cond_both}
+use Rattle.std.proofs.lemmas.Bool.{and_from, both_ways, eq-eqb, true_from_ne_false, false_from_ne_true, cond_both}
 use Rattle.std.proofs.lemmas.Bool.Decides.{Decides-int_eq}
 use Rattle.std.proofs.lemmas.List.Folds.{list_any_at}
 use Rattle.std.proofs.lemmas.Option.{slice_get_within, get_or_from_slice_get}
@@ -9,7 +9,6 @@ use Rattle.uring_entry.specs.Setup.{Setup}
 use Rattle.uring_entry.specs.declared.errno.TheConstants.{EALREADY, ECANCELED}
 use Rattle.uring_entry.specs.Requests.{Requests, Ending, has_started, has_ended, is_joined, is_draining, is_doomed, is_ready, is_running, waits_for, doomed_result, cancel_result, count_result, result_for, target_of, targets_of, entry_of}
 use Rattle.uring_entry.specs.Preparation.{is_cancel_all}
-use Rattle.uring_entry.proofs.RequestLemmas.{is_ready-inside}
 use Rattle.uring_machine.specs.World.{World}
 use Rattle.uring_machine.specs.StepAnswers.{IsEnded}
 use Rattle.uring_machine.specs.Histories.{History, world, IsLawfulApart}
@@ -19,7 +18,7 @@ use Rattle.uring_machine.specs.declared.step.Step.TheVariants as step
 use Rattle.uring_machine.specs.declared.answer.Answer.{Answer}
 use Rattle.uring_machine.specs.declared.answer.Answer.TheVariants as answer
 use Rattle.uring_machine.proofs.Changes.{Change, change_of, IsSilent, refuses, runs, dooms, cancels}
-use Rattle.uring_machine.proofs.SoundRequests.{IsSoundRequests, EndsDoomed, is_otherwise, outstanding_tells}
+use Rattle.uring_machine.proofs.SoundRequests.{IsSoundRequests, EndsDoomed, is_otherwise, outstanding_tells, waited}
 use Rattle.uring_machine.proofs.ListCounts.{count_none, count_some}
 use Rattle.uring_machine.proofs.Sound.{sound_of}
 use Rattle.uring_machine.proofs.ToldRequests.{tells_requests}
@@ -96,14 +95,6 @@ started_ready g w n a (runs _ outstanding idle spared ready no_cancel) start = r
 started_ready g w n a (dooms _ outstanding idle doomed) (inl run) = absurd cc
 started_ready g w n a (dooms _ outstanding idle doomed) (inr ended) = absurd (both_ways _ ended.1 doomed)
 started_ready g w n a (cancels _ outstanding idle spared ready cancel) start = record { accepted = (outstanding_tells w.requests n outstanding).0; ready = ready }
-
--- what is ready waits for nothing that hasn't ended
-waited : (r : Requests) (n m : ℕ) → is_ready r n ≡ true → m < n → waits_for r n m ≡ true → has_ended r m ≡ true
-waited r n m ready lt waits =
-    elim (and_cases (not (has_ended r m)) _ (is_ready-inside r n m ready lt)) [
-      | inl over ↦ not-false _ over
-      | inr apart ↦ absurd (both_ways _ apart waits)
-    ]
 
 same_wait : (r later : Requests) (n m : ℕ) → Grows r later → m < n → n < length r.accepted → waits_for later n m ≡ waits_for r n m
 same_wait r later n m g lt within =

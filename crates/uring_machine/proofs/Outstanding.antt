@@ -1,37 +1,25 @@
 -- How many requests are outstanding: none exactly if the count is 0, and one less with each end of one of them.
 -- By induction over the numbers below the count of accepted requests.
 -- Stable: other crates may import `none_outstanding`, `all_ended` and `ended_less`.
-use Rattle.std.proofs.Common.{◌≡◌, ◌≢◌, ℕ, zero, suc, ◌+◌, ◌<◌, Bool, true, false, not, ◌&&◌, ltb, cond, ℤ, List, length, refl, sym, ◌∙◌, ap, arith, inl, inr}
-use Rattle.std.proofs.lemmas.Bool.{cases_eq, cases_Bool, and_parts, ltb-true}
+use Rattle.std.proofs.Common.{◌≡◌, ◌≢◌, ℕ, zero, suc, ◌+◌, ◌<◌, Bool, true, false, not, ◌&&◌, ltb, cond, ℤ, List, length, refl, sym, ◌∙◌, ap, arith}
+use Rattle.std.proofs.lemmas.Bool.{and_parts, ltb-true, false_from_ne_true}
 use Rattle.uring_entry.specs.Requests.{Requests, has_ended, is_outstanding, with_ended, outstanding_in}
 use Rattle.uring_entry.proofs.RequestLemmas.{has_ended-same, has_ended-other}
 use Rattle.uring_entry.specs.Below.{count_below}
-use Rattle.uring_dispatch.proofs.Counting.{count_below-same}
+use Rattle.uring_dispatch.proofs.Counting.{count_below-changed, count_below-some}
+use Rattle.uring_dispatch.specs.Window.{one_if}
 
 -- a number less
 count_below-less : (p q : ℕ → Bool) (n m : ℕ) → m < n → p m ≡ true → q m ≡ false → ((k : ℕ) → k ≢ m → q k ≡ p k) → count_below q n + 1 ≡ count_below p n
-count_below-less p q zero m lt is isnt same = absurd (omega arith)
-count_below-less p q (suc n) m lt is isnt same =
-    elim (cases_eq n m) [
-      | inl here ↦
-          let one : ◌≡◌ {A = ℕ} (cond (p n) 1 0) 1 = ap (λ b. cond b 1 0) (ap p here ∙ is) in
-          let none : ◌≡◌ {A = ℕ} (cond (q n) 1 0) 0 = ap (λ b. cond b 1 0) (ap q here ∙ isnt) in
-          omega (arith, one, none, count_below-same q p n (λ k below. same k (λ e. omega (arith, e, here, below))))
-      | inr other ↦
-          let equal : ◌≡◌ {A = ℕ} (cond (q n) 1 0) (cond (p n) 1 0) = ap (λ b. cond b 1 0) (same n other) in
-          omega (arith, equal, count_below-less p q n m (omega arith) is isnt same)
-    ]
+count_below-less p q n m lt is isnt same =
+    let changed = count_below-changed p q n m lt same in
+    let one : one_if (p m) ≡ 1 = ap one_if is in
+    let none : one_if (q m) ≡ 0 = ap one_if isnt in
+    omega arith
 
 -- none is counted
 count_below-none : (p : ℕ → Bool) (n : ℕ) → count_below p n ≡ 0 → (k : ℕ) → k < n → p k ≡ false
-count_below-none p zero none k lt = absurd (omega arith)
-count_below-none p (suc n) none k lt =
-    elim (cases_Bool (p n)) [
-      | inl here ↦
-          let one : ◌≡◌ {A = ℕ} (cond (p n) 1 0) 1 = ap (λ b. cond b 1 0) here in
-          absurd (omega (arith, one, none))
-      | inr other ↦ elim (cases_eq k n) [ inl same ↦ ap p same ∙ other | inr differ ↦ count_below-none p n (omega (arith, none)) k (omega arith) ]
-    ]
+count_below-none p n none k lt = false_from_ne_true _ (λ here. omega (arith, none, count_below-some p n k lt here))
 
 -- nothing is counted that isn't there
 pub count_below-zero : (p : ℕ → Bool) (n : ℕ) → ((k : ℕ) → k < n → p k ≡ false) → count_below p n ≡ 0

@@ -1,7 +1,7 @@
 -- What why says, from what each case of it says: proofs of the laws on reasons.
 use Rattle.std.proofs.Common.{◌≡◌, ℕ, ◌<◌, length, Bool, true, false, not, ◌&&◌, ◌||◌, Option, Some, None, is_some, refl, sym, ◌∙◌, ap, subst, arith, inl, inr, ℤ}
 use Rattle.std.specs.Prelude.{if◌then◌else◌, ◌⊎◌}
-use Rattle.std.proofs.lemmas.Bool.{cases_lt, cases_Bool, and_from, and_left, and_right, and_parts, or_left, or_right, or_parts, or_from, both_ways, lt-ltb, le-ltb, not-true, ltb-true}
+use Rattle.std.proofs.lemmas.Bool.{cases_lt, cases_Bool, and_from, and_left, and_right, and_parts, or_left, or_right, or_parts, or_from, both_ways, lt-ltb, le-ltb, not-true, ltb-true, false_from_ne_true}
 use Rattle.uring_entry.specs.Below.{least_below}
 use Rattle.uring_entry.specs.Requests.{Requests, some_member, entry_of, has_ended, is_outstanding, is_running, is_issuable, is_doomed, is_ready, is_in_faulty_group, is_behind_failure, is_cancelled, is_joined, is_draining, waits_for, holds_back, doomed_result, cancel_result, no_bytes}
 use Rattle.uring_entry.specs.Preparation.{fault_of}
@@ -12,7 +12,7 @@ use Rattle.uring_entry.specs.declared.why.Why.TheVariants.{NeverAccepted, HasEnd
 use Rattle.uring_entry.specs.declared.why.Doom.{Doom}
 use Rattle.uring_entry.specs.declared.why.Since.{Since}
 use Rattle.uring_entry.specs.declared.why.Since.TheVariants.{SameGroup, ItDrains, OwnDrains}
-use Rattle.uring_entry.proofs.BelowLemmas.{IsLeast, least_below-out, least_below-tells, is_some-least_below}
+use Rattle.uring_entry.proofs.BelowLemmas.{IsLeast, least_below-out, least_below-tells, is_some-least_below, least_below-none}
 use Rattle.uring_entry.proofs.RequestLemmas.{is_joined-yes, is_joined-inside, is_ready-yes, is_ready-inside}
 use Rattle.uring_entry.proofs.WhyLemmas.{StillWaits, IsTold, told, told-as, why-waiting}
 use Rattle.uring_entry.specs.Preparation.{is_cancel}
@@ -37,20 +37,10 @@ ready-none : (r : Requests) (n : ℕ) → holder_of r n ≡ None → is_ready r 
 ready-none r n e = is_ready-yes r n (λ m low. least_below-out (holds_back r n) n e m low)
 
 none-ready : (r : Requests) (n : ℕ) → is_ready r n ≡ true → holder_of r n ≡ None
-none-ready r n ready = go (holder_of r n) refl
-  where
-    go : (o : Option ℕ) → holder_of r n ≡ o → holder_of r n ≡ None
-    go None e = e
-    go (Some m) e =
-        let least = least_below-tells (holds_back r n) n m e in
-        absurd (both_ways _ (is_ready-inside r n m ready least.below) least.holds)
+none-ready r n ready = least_below-none (holds_back r n) n (λ m low. is_ready-inside r n m ready low)
 
 ready-some : (r : Requests) (n m : ℕ) → holder_of r n ≡ Some m → is_ready r n ≡ false
-ready-some r n m e =
-    elim (cases_Bool (is_ready r n)) [
-      | inl ready ↦ let f : None ≡ Some m = sym (none-ready r n ready) ∙ e in cc
-      | inr waits ↦ waits
-    ]
+ready-some r n m e = false_from_ne_true _ (λ ready. let f : None ≡ Some m = sym (none-ready r n ready) ∙ e in cc)
 
 -- What can be issued.
 

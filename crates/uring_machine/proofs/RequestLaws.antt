@@ -3,7 +3,7 @@
 -- Stable: other crates may import `issue_goes`, `issued_ends` and `issuable_outstanding`.
 use Rattle.std.proofs.Common.{◌≡◌, ℕ, ◌<◌, ◌≤◌, ◌==◌, Bool, true, false, not, ◌||◌, List, Option, Some, None, length, count_by, ℤ, if◌then◌else◌, refl, sym, subst, inl, inr, arith}
 use Rattle.std.specs.List.{list_any}
-use Rattle.std.proofs.lemmas.Bool.{and_parts, and_cases, ltb-true, lt-ltb, both_ways, cases_Bool, or_cases, not-false, not-true, false_from_ne_true}
+use Rattle.std.proofs.lemmas.Bool.{and_parts, and_cases, ltb-true, lt-ltb, both_ways, or_cases, not-false, not-true, false_from_ne_true, true_from_ne_false}
 use Rattle.uring_entry.specs.Setup.{Setup}
 use Rattle.uring_entry.specs.Requests.{Requests, has_ended, is_outstanding, least_of, next_of, entry_of, is_doomed, is_ready, is_running, is_issuable, doomed_result, cancel_result, no_bytes}
 use Rattle.uring_entry.proofs.BelowLemmas.{least_below-out, least_below-some, least_below-tells}
@@ -70,11 +70,7 @@ least_goes_on w n outstanding = by_least (least_of w.requests) refl where
 
 -- what is counted is there
 counted : {X : Type 0} (p : X → Bool) (xs : List X) → 0 < count_by p xs → list_any p xs ≡ true
-counted p xs some =
-    elim (cases_Bool (list_any p xs)) [
-      | inl there ↦ there
-      | inr none ↦ absurd (omega (arith, count_none p xs none))
-    ]
+counted p xs some = true_from_ne_false _ (λ none. omega (arith, some, count_none p xs none))
 
 pub ends_once : (g : Setup) (h : History) → IsLawfulApart g h → EachEndsOnce g h
 ends_once g h lawful =

@@ -2,8 +2,8 @@
 use Rattle.std.proofs.Common.{◌≡◌, ℕ, ◌==◌, ◌<◌, ◌≤◌, length, Bool, true, false, not, ◌&&◌, count_by, refl, sym, subst, ◌∙◌, arith, ◌⊎◌, inl, inr}
 use Rattle.std.specs.List.{list_any}
 use Rattle.std.specs.Ordering.{int_eq}
-use Rattle.std.proofs.lemmas.Bool.{and_parts, and_cases, or_parts, both_ways, eqb-true, ltb-true, not-true, not-false}
-use Rattle.uring_entry.specs.Requests.{Requests, Ending, no_request, has_started, has_ended, is_running, is_outstanding, is_joined, is_doomed, is_ready, doomed_result, with_started}
+use Rattle.std.proofs.lemmas.Bool.{and_parts, and_cases, both_ways, eqb-true, ltb-true, not-true, not-false, or_left}
+use Rattle.uring_entry.specs.Requests.{Requests, Ending, no_request, has_started, has_ended, is_running, is_outstanding, is_joined, is_doomed, is_ready, doomed_result, with_started, waits_for}
 use Rattle.uring_entry.proofs.EventLemmas.{is_doomed-started, is_joined-started}
 use Rattle.uring_entry.proofs.RequestLemmas.{is_ready-inside}
 use Rattle.uring_machine.proofs.ListCounts.{any_new, count_once_more}
@@ -62,13 +62,17 @@ idle_tells r n idle open_end =
       | inr over ↦ absurd (both_ways _ open_end (not-false _ over))
     ]
 
+-- what is ready waits for nothing that hasn't ended
+pub waited : (r : Requests) (n m : ℕ) → is_ready r n ≡ true → m < n → waits_for r n m ≡ true → has_ended r m ≡ true
+waited r n m ready lt waits =
+    elim (and_cases (not (has_ended r m)) _ (is_ready-inside r n m ready lt)) [
+      | inl over ↦ not-false _ over
+      | inr apart ↦ absurd (both_ways _ apart waits)
+    ]
+
 -- a request that is ready is behind no member of its group
 pub ready_first : (r : Requests) (n : ℕ) → is_ready r n ≡ true → (k : ℕ) → k < n → is_joined r k n ≡ true → has_ended r k ≡ true
-ready_first r n ready k lt joined =
-    elim (and_cases (not (has_ended r k)) _ (is_ready-inside r n k ready lt)) [
-      | inl over ↦ not-false _ over
-      | inr apart ↦ absurd (both_ways _ (or_parts _ _ (or_parts _ _ apart).0).0 joined)
-    ]
+ready_first r n ready k lt joined = waited r n k ready lt (or_left _ _ (or_left _ _ joined))
 
 pub start_sound : (r : Requests) (n : ℕ) → is_outstanding r n ≡ true → is_running r n ≡ false → is_doomed r n ≡ false → is_ready r n ≡ true → IsSoundRequests r → IsSoundRequests (with_started r n)
 start_sound r n outstanding idle spared ready s =

@@ -2,10 +2,8 @@
 use Rattle.std.proofs.Common.{◌≡◌, ℕ, ◌<◌, ◌≤◌, ◌^◌, List, [], length, get_or, refl, ◌∙◌, arith}
 use Rattle.std.specs.Int.{IsPowerOfTwo}
 use Rattle.atomic_table.specs.Table.{opening}
-use Rattle.uring_words.specs.Completion.Ends.{AppRests, SawHead, KernelRests}
 use Rattle.uring_words.specs.Completion.Layout.{tail_index, head_index, dropped_index, word_count}
 use Rattle.uring_words.specs.Completion.Rule.{Agree, BothAgree, at_first}
-use Rattle.uring_words.specs.Sides.{app_part, kernel_part}
 use Rattle.uring_words.specs.declared.sides.Shape.{Shape}
 use Rattle.uring_words.proofs.FirstTable.{start_word}
 use Rattle.uring_words.proofs.Seats.{opens_with}

@@ -3,9 +3,7 @@ use Rattle.std.proofs.Common.{◌≡◌, ℕ, ◌+◌, ◌<◌, ◌≤◌, ◌^�
 use Rattle.std.specs.Int.{IsPowerOfTwo}
 use Rattle.atomic_table.specs.Table.{opening}
 use Rattle.uring_words.specs.Submission.Layout.{tail_index, head_index, word_count}
-use Rattle.uring_words.specs.Submission.Ends.{AppRests, SawHead, KernelRests}
 use Rattle.uring_words.specs.Submission.Rule.{Agree, BothAgree, at_first}
-use Rattle.uring_words.specs.Sides.{app_part, kernel_part}
 use Rattle.uring_words.specs.declared.sides.Shape.{Shape}
 use Rattle.uring_words.proofs.Seats.{opens_with}
 

@@ -4,7 +4,7 @@ use Rattle.std.proofs.lemmas.Bool.Decides.{nat_tests}
 use Rattle.uring_threads.specs.declared.item.Item.TheVariants as item
 use Rattle.uring_words.specs.Submission.Calls.{item_from}
 use Rattle.uring_words.specs.Submission.Ends.{copied_one}
-use Rattle.uring_words.specs.Submission.Layout.{close_mark, closes, slot_of, has_entry, IsPosition}
+use Rattle.uring_words.specs.Submission.Layout.{closes, slot_of, has_entry, IsPosition}
 use Rattle.uring_words.specs.Submission.Steps.{loaded_of, word_loaded}
 use Rattle.uring_words.specs.declared.submission.view.KernelSide.{KernelSide}
 use Rattle.uring_words.specs.declared.submission.view.Position.{Position}
