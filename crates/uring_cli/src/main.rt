@@ -6,7 +6,7 @@ mod telling;
 
 use crate::fault::Fault;
 use crate::telling::tell;
-use std::alloc::Global;
+use std::alloc::{AllocError, Global};
 use std::env;
 use std::io::ErrorKind;
 use std::process::ExitCode;
@@ -41,7 +41,10 @@ fn run<R: Threads + Wait + Copy + Send + 'static>(
 ) -> Result<u8, Fault> {
     let alloc = rt.alloc();
     let words = words(rt)?;
-    let texts = texts(alloc, words.as_slice())?;
+    let Ok(texts) = texts(alloc, words.as_slice()) else {
+        drop(words);
+        return Err(Fault::Trace(TraceFault::Memory));
+    };
     let asked = options(alloc, texts.as_slice());
     drop(texts);
     drop(words);
@@ -69,7 +72,7 @@ fn run<R: Threads + Wait + Copy + Send + 'static>(
 }
 
 /// These words as texts.
-fn texts(alloc: Global, words: &[String]) -> Result<Vec<&str>, TraceFault> {
+fn texts(alloc: Global, words: &[String]) -> Result<Vec<&str>, AllocError> {
     let mut texts = Vec::with_capacity(alloc, words.len())?;
     for word in words {
         texts.push(word.as_str())?;

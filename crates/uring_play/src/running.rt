@@ -181,7 +181,12 @@ where
     ensures application { IfOk result (λ ends. Applies app (lists_of calls.items) ends.0) }
     ensures dispatcher { IfOk result (λ ends. StaysKernel kernel ends.1) }
 {
-    let dispatcher = start_dispatcher(rt, kernel, stop)?;
+    let Ok(dispatcher) = start_dispatcher(rt, kernel, stop) else {
+        drop(app);
+        drop(calls);
+        drop(completions);
+        return Err(AllocError);
+    };
     match start_application(rt, app, calls, completions, stop) {
         Ok(application) => {
             let applied = application.join(&rt);
