@@ -1,13 +1,13 @@
 -- Whom cancels chose, read off a history.
-use Rattle.std.proofs.Common.{◌≡◌, ℕ, ◌==◌, ℤ, pos, negsuc, Bool, true, false, ◌&&◌, List, [], ◌∷◌, ◌++◌, Option, Some, None, cond, refl, sym, subst, ap, ◌∙◌, ◌⊎◌, inl, inr, arith}
+use Rattle.std.proofs.Common.{◌≡◌, ℕ, ◌==◌, ℤ, pos, true, false, ◌&&◌, List, [], ◌∷◌, ◌++◌, cond, refl, sym, subst, ap, ◌∙◌, ◌⊎◌, inl, inr, arith}
 use Rattle.std.specs.List.{list_any}
 use Rattle.std.specs.Option.{option_to_list}
 use Rattle.std.specs.Prelude.{int_le}
-use Rattle.std.proofs.lemmas.Bool.{and_parts, or_cases, or_left, or_right, both_ways, eqb-true, eq-eqb, le-leb}
+use Rattle.std.proofs.lemmas.Bool.{and_parts, or_left, or_right, both_ways, eq-eqb, le-leb}
 use Rattle.std.proofs.lemmas.Bool.Decides.{Decides-int_eq}
 use Rattle.std.proofs.lemmas.List.Folds.{list_any-append}
 use Rattle.uring_entry.specs.Setup.{Setup}
-use Rattle.uring_entry.specs.Preparation.{is_cancel, is_cancel_all}
+use Rattle.uring_entry.specs.Preparation.{is_cancel}
 use Rattle.uring_entry.specs.Success.{is_success}
 use Rattle.uring_entry.specs.Requests.{Requests, entry_of, is_cancelled, target_of, targets_of, choices_of, chosen_by, doomed_result, cancel_result, no_bytes, with_issued_end}
 use Rattle.uring_machine.specs.HistoryLists.{Chose, IsChosenIn}
@@ -18,44 +18,10 @@ use Rattle.uring_machine.specs.declared.step.Step.TheVariants as step
 use Rattle.uring_machine.specs.declared.answer.Answer.{Answer}
 use Rattle.uring_machine.specs.declared.answer.Answer.TheVariants as answer
 use Rattle.uring_machine.proofs.Moves.{Move, ends_doomed, ends_cancel, move_of}
-use Rattle.uring_machine.proofs.RequestEnds.{doomed_fails}
+use Rattle.uring_machine.proofs.RequestEnds.{doomed_fails, chose, any_both}
 use Rattle.uring_machine.proofs.SoundRequests.{outstanding_tells}
-use Rattle.uring_entry.proofs.RequestLemmas.{one_success, all_success, target-in, target-there}
+use Rattle.uring_entry.proofs.RequestLemmas.{one_success, all_success, target-there}
 use Rattle.uring_machine.proofs.Growth.{event_grows}
-
-any_both : {X : Type 0} (p : X → Bool) (xs ys : List X) → list_any p (xs ++ ys) ≡ true → (list_any p xs ≡ true) ⊎ (list_any p ys ≡ true)
-any_both p xs ys e = or_cases _ _ (sym (list_any-append p xs ys) ∙ e)
-
-only_one : (target : Option ℕ) (m : ℕ) → list_any (λ k. k == m) (option_to_list target) ≡ true → target ≡ Some m
-only_one None m e = absurd (let f : false ≡ true = e in cc)
-only_one (Some t) m e = elim (or_cases (t == m) false e) [ inl here ↦ ap Some (eqb-true t m here) | inr none ↦ absurd (let f : false ≡ true = none in cc) ]
-
-a_number : (res : ℤ) → int_le (pos 0) res ≡ true → (count : ℕ) × (res ≡ pos count)
-a_number (pos count) e = (count, refl)
-a_number (negsuc below) e = absurd (let f : false ≡ true = e in cc)
-
--- whom a cancel chose that succeeded with this result
-chose_so : (r : Requests) (n : ℕ) (res : ℤ) (m : ℕ) → is_cancel (entry_of r n) ≡ true → is_success (entry_of r n) res ≡ true → list_any (λ k. k == m) (choices_of r n) ≡ true → Chose r n res m
-chose_so r n res m cancel success there = by_all (is_cancel_all (entry_of r n)) refl there where
-  by_all : (all : Bool) → is_cancel_all (entry_of r n) ≡ all → list_any (λ k. k == m) (cond all (targets_of r n) (option_to_list (target_of r n))) ≡ true → Chose r n res m
-  by_all true is among =
-      let number = a_number res (sym (all_success (entry_of r n) res is) ∙ success) in
-      inr (record { all = is; count = number.0; result = number.1; target = target-in r n m among })
-  by_all false is among =
-      inl
-      (record {
-        cancel = cancel;
-        one = is;
-        result = (Decides-int_eq res (pos 0)).0 (sym (one_success (entry_of r n) res cancel is) ∙ success);
-        target = only_one (target_of r n) m among;
-      })
-
--- who is chosen with a result
-chose : (r : Requests) (n : ℕ) (res : ℤ) (m : ℕ) → list_any (λ k. k == m) (chosen_by r n res) ≡ true → (is_success (entry_of r n) res ≡ true) × Chose r n res m
-chose r n res m e = by_test (is_cancel (entry_of r n) && is_success (entry_of r n) res) refl e where
-  by_test : (chooses : Bool) → (is_cancel (entry_of r n) && is_success (entry_of r n) res) ≡ chooses → list_any (λ k. k == m) (cond chooses (choices_of r n) []) ≡ true → (is_success (entry_of r n) res ≡ true) × Chose r n res m
-  by_test false is none = absurd (let f : false ≡ true = none in cc)
-  by_test true is there = let p = and_parts _ _ is in (p.1, chose_so r n res m p.0 p.1 there)
 
 -- where a request is newly chosen, the event is the end of a cancel
 record IsChoosing (w : World) (s : Step) (a : Answer) (m : ℕ) : Type 0 where

@@ -1,19 +1,21 @@
 -- What holds of the requests stays as one ends.
-use Rattle.std.proofs.Common.{◌≡◌, ◌≢◌, ℕ, ◌==◌, ◌<◌, ℤ, pos, neg_ℤ, List, [], ◌∷◌, ◌++◌, length, Bool, true, false, not, ◌&&◌, eqb, Option, Some, None, cond, refl, sym, subst, ap, ◌∙◌, ◌⊎◌, inl, inr}
+use Rattle.std.proofs.Common.{◌≡◌, ◌≢◌, ℕ, ◌==◌, ◌<◌, ℤ, pos, neg_ℤ, List, [], ◌∷◌, ◌++◌, length, Bool, true, false, not, ◌&&◌, eqb, Option, Some, None, cond, refl, sym, subst, ap, ◌∙◌, ◌⊎◌, inl, inr, negsuc}
 use Rattle.std.specs.List.{list_any}
 use Rattle.std.specs.Option.{option_to_list}
 use Rattle.std.specs.Ordering.{int_eq}
 use Rattle.std.proofs.lemmas.Bool.{cases_eq, cases_Bool, and_parts, and_from, and_left, and_right, or_cases, or_from, both_ways, eqb-true, eqb-false, ne_eqb, lt-ltb, not-true, not_from_true, false_from_ne_true, cond_both}
 use Rattle.std.proofs.lemmas.Bool.Decides.{Decides-int_eq}
 use Rattle.std.proofs.lemmas.List.Folds.{list_any-append}
+use Rattle.std.specs.Prelude.{int_le}
 use Rattle.uring_entry.specs.Success.{is_success}
 use Rattle.uring_entry.specs.Preparation.{is_faulty, is_cancel, is_cancel_all}
 use Rattle.uring_entry.specs.declared.errno.TheConstants.{EINVAL, EALREADY, ECANCELED}
-use Rattle.uring_entry.specs.Requests.{Requests, entry_of, has_started, has_ended, has_failed, is_running, is_outstanding, is_joined, some_member, is_in_faulty_group, is_cancelled, is_doomed, is_ready, is_candidate, is_target, target_of, targets_of, choices_of, count_result, result_for, cancel_result, doomed_result, no_bytes, chosen_by, with_ended, with_issued_end}
-use Rattle.uring_entry.proofs.RequestLemmas.{is_doomed-faulty, is_doomed-behind, is_doomed-cancelled, one_success, never_success, target-in, list_any-push}
+use Rattle.uring_entry.specs.Requests.{Requests, entry_of, has_started, has_ended, has_failed, is_running, is_outstanding, is_joined, some_member, is_in_faulty_group, is_cancelled, is_doomed, is_ready, is_candidate, target_of, targets_of, choices_of, count_result, result_for, cancel_result, doomed_result, no_bytes, chosen_by, with_ended, with_issued_end}
+use Rattle.uring_entry.proofs.RequestLemmas.{is_doomed-faulty, is_doomed-behind, is_doomed-cancelled, one_success, never_success, target-in, list_any-push, all_success}
 use Rattle.uring_machine.proofs.ListCounts.{any_looser, any_kept, any_new, count_once_more}
 use Rattle.uring_entry.proofs.EventLemmas.{is_doomed-tells, is_behind_failure-tells, is_behind_failure-from, target_of-tells}
 use Rattle.uring_machine.proofs.SoundRequests.{IsFree, is_otherwise, EndsDoomed, IsSoundRequests, outstanding_tells, idle_tells, ready_first}
+use Rattle.uring_machine.specs.HistoryLists.{Chose}
 
 -- A request ends, and these are the ones that cancels chose so far.
 abbrev pub ended_as : Requests → ℕ → ℤ → List ℕ → List ℕ → Requests
@@ -155,6 +157,40 @@ finish_sound r n res bytes running s =
 
 -- What a cancel chooses.
 
+pub any_both : {X : Type 0} (p : X → Bool) (xs ys : List X) → list_any p (xs ++ ys) ≡ true → (list_any p xs ≡ true) ⊎ (list_any p ys ≡ true)
+any_both p xs ys e = or_cases _ _ (sym (list_any-append p xs ys) ∙ e)
+
+only_one : (target : Option ℕ) (m : ℕ) → list_any (λ k. k == m) (option_to_list target) ≡ true → target ≡ Some m
+only_one None m e = absurd (let f : false ≡ true = e in cc)
+only_one (Some t) m e = elim (or_cases (t == m) false e) [ inl here ↦ ap Some (eqb-true t m here) | inr none ↦ absurd (let f : false ≡ true = none in cc) ]
+
+a_number : (res : ℤ) → int_le (pos 0) res ≡ true → (count : ℕ) × (res ≡ pos count)
+a_number (pos count) e = (count, refl)
+a_number (negsuc below) e = absurd (let f : false ≡ true = e in cc)
+
+-- whom a cancel chose that succeeded with this result
+chose_so : (r : Requests) (n : ℕ) (res : ℤ) (m : ℕ) → is_cancel (entry_of r n) ≡ true → is_success (entry_of r n) res ≡ true → list_any (λ k. k == m) (choices_of r n) ≡ true → Chose r n res m
+chose_so r n res m cancel success there = by_all (is_cancel_all (entry_of r n)) refl there where
+  by_all : (all : Bool) → is_cancel_all (entry_of r n) ≡ all → list_any (λ k. k == m) (cond all (targets_of r n) (option_to_list (target_of r n))) ≡ true → Chose r n res m
+  by_all true is among =
+      let number = a_number res (sym (all_success (entry_of r n) res is) ∙ success) in
+      inr (record { all = is; count = number.0; result = number.1; target = target-in r n m among })
+  by_all false is among =
+      inl
+      (record {
+        cancel = cancel;
+        one = is;
+        result = (Decides-int_eq res (pos 0)).0 (sym (one_success (entry_of r n) res cancel is) ∙ success);
+        target = only_one (target_of r n) m among;
+      })
+
+-- who is chosen with a result
+pub chose : (r : Requests) (n : ℕ) (res : ℤ) (m : ℕ) → list_any (λ k. k == m) (chosen_by r n res) ≡ true → (is_success (entry_of r n) res ≡ true) × Chose r n res m
+chose r n res m e = by_test (is_cancel (entry_of r n) && is_success (entry_of r n) res) refl e where
+  by_test : (chooses : Bool) → (is_cancel (entry_of r n) && is_success (entry_of r n) res) ≡ chooses → list_any (λ k. k == m) (cond chooses (choices_of r n) []) ≡ true → (is_success (entry_of r n) res ≡ true) × Chose r n res m
+  by_test false is none = absurd (let f : false ≡ true = none in cc)
+  by_test true is there = let p = and_parts _ _ is in (p.1, chose_so r n res m p.0 p.1 there)
+
 -- no doomed request succeeds
 pub doomed_fails : (r : Requests) (n : ℕ) → is_success (entry_of r n) (doomed_result r n) ≡ false
 doomed_fails r n = cond_both (is_faulty (entry_of r n)) (neg_ℤ EINVAL) (neg_ℤ ECANCELED) (λ res. is_success (entry_of r n) res ≡ false) (λ _. never_success (entry_of r n) 21) (λ _. never_success (entry_of r n) 124)
@@ -181,41 +217,28 @@ module _ (r : Requests) (n : ℕ) where
         accepted = o.0;
       }
 
-  one_is : (target : Option ℕ) (m : ℕ) → target_of r n ≡ target → int_eq (result_for r target) (pos 0) ≡ true → list_any (λ k. k == m) (option_to_list target) ≡ true → IsChosen r n m
-  one_is None m is at_zero e = absurd (let f : false ≡ true = e in cc)
-  one_is (Some t) m is at_zero e =
-      let same : t ≡ m = eqb-true _ _ (elim (or_cases (t == m) false e) [ inl here ↦ here | inr none ↦ absurd (let f : false ≡ true = none in cc) ]) in
-      subst (IsChosen r n) same (chosen_at t (target_of-tells r n t is).holds (result_tells r t at_zero))
-
-  target_is : (m : ℕ) → is_target r n m ≡ true → IsChosen r n m
-  target_is m e = let p = and_parts _ _ e in chosen_at m p.0 (not-true _ p.1)
-
-  chosen_is : (m : ℕ) → is_cancel (entry_of r n) ≡ true → is_success (entry_of r n) (cancel_result r n) ≡ true → list_any (λ k. k == m) (choices_of r n) ≡ true → IsChosen r n m
-  chosen_is m cancel success e = by_all (is_cancel_all (entry_of r n)) refl e where
-    by_all : (all : Bool) → is_cancel_all (entry_of r n) ≡ all → list_any (λ k. k == m) (cond all (targets_of r n) (option_to_list (target_of r n))) ≡ true → IsChosen r n m
-    by_all true is there = target_is m (target-in r n m there)
-    by_all false is there =
-        let result : cancel_result r n ≡ result_for r (target_of r n) = ap (λ b. cond b (count_result (length (targets_of r n))) (result_for r (target_of r n))) is in
-        one_is (target_of r n) m refl (ap (λ x. int_eq x (pos 0)) (sym result) ∙ sym (one_success (entry_of r n) (cancel_result r n) cancel is) ∙ success) there
+  -- whom a cancel chose
+  is_chosen : (m : ℕ) → Chose r n (cancel_result r n) m → IsChosen r n m
+  is_chosen m (inl c) =
+      let result : result_for r (Some m) ≡ cancel_result r n = ap (result_for r) (sym c.target) ∙ sym (ap (λ b. cond b (count_result (length (targets_of r n))) (result_for r (target_of r n))) c.one) in
+      chosen_at m (target_of-tells r n m c.target).holds (result_tells r m ((Decides-int_eq (result_for r (Some m)) (pos 0)).1 (result ∙ c.result)))
+  is_chosen m (inr c) = let p = and_parts _ _ c.target in chosen_at m p.0 (not-true _ p.1)
 
   -- who is chosen by the end of n with this result
   pub choice_of : (res : ℤ) → (res ≡ doomed_result r n) ⊎ (res ≡ cancel_result r n) → IsChoice r n (r.cancelled ++ chosen_by r n res)
   choice_of res how =
       record {
         kept = λ m e. any_kept (λ k. k == m) r.cancelled (chosen_by r n res) e;
-        added = λ m e. elim (or_cases _ _ (sym (list_any-append (λ k. k == m) r.cancelled (chosen_by r n res)) ∙ e)) [
+        added = λ m e. elim (any_both (λ k. k == m) r.cancelled (chosen_by r n res) e) [
           | inl old ↦ inl old
-          | inr new ↦ inr (by_test (is_cancel (entry_of r n) && is_success (entry_of r n) res) refl m new)
+          | inr new ↦
+              let c = chose r n res m new in
+              elim how [
+                | inl doomed ↦ absurd (both_ways _ (doomed_fails r n) (subst (λ x. is_success (entry_of r n) x ≡ true) doomed c.0))
+                | inr cancels ↦ inr (is_chosen m (subst (λ x. Chose r n x m) cancels c.1))
+              ]
         ];
-      } where
-        by_test : (chooses : Bool) → (is_cancel (entry_of r n) && is_success (entry_of r n) res) ≡ chooses → (m : ℕ) → list_any (λ k. k == m) (cond chooses (choices_of r n) []) ≡ true → IsChosen r n m
-        by_test false is m e = absurd (let f : false ≡ true = e in cc)
-        by_test true is m e =
-            let p = and_parts _ _ is in
-            elim how [
-              | inl doomed ↦ absurd (both_ways _ (doomed_fails r n) (subst (λ x. is_success (entry_of r n) x ≡ true) doomed p.1))
-              | inr cancels ↦ chosen_is m p.0 (subst (λ x. is_success (entry_of r n) x ≡ true) cancels p.1) e
-            ]
+      }
 
 pub doom_sound : (r : Requests) (n : ℕ) → is_outstanding r n ≡ true → IsSoundRequests r → IsSoundRequests (with_issued_end r n (doomed_result r n))
 doom_sound r n outstanding s =

@@ -1,5 +1,5 @@
-use Rattle.std.proofs.Common.{◌≡◌, sym, ap, ◌∙◌, subst, refl, rules}
-use Rattle.std.specs.Prelude.{Bool, true, ◌++◌}
+use Rattle.std.proofs.Common.{sym, ap, ◌∙◌, subst, refl}
+use Rattle.std.specs.Prelude.{◌++◌}
 use Rattle.std.proofs.lemmas.Result.{IfOk-weaker}
 use Rattle.uring_threads.specs.Report.{Report}
 use Rattle.uring_play.specs.Plays.{IsPlay}
