@@ -95,19 +95,20 @@ fn four_are_reaped<K: KernelPort>(ends: &mut Ends<K, Open>) -> bool {
     ends.reap().is_none()
 }
 
-/// Whether two calls go round as they should: of one no-op, and of three.
-fn goes_round<K: KernelPort>(ends: &mut Ends<K, Open>) -> bool {
+/// Whether two calls are taken in, each by a turn: of one no-op, and of three.
+fn two_are_taken<K: KernelPort>(ends: &mut Ends<K, Open>) -> bool {
     let first = ends.submit(&[nop(1)]);
     let second = ends.submit(&[nop(2), nop(3), nop(4)]);
-    let taken = [ends.turn(), ends.turn()];
+    let turns = [ends.turn(), ends.turn()];
+    first && second && turns == [Some(turn(1, 1, 0, 0)), Some(turn(3, 3, 0, 0))]
+}
+
+/// Whether these calls go round as they should.
+fn goes_round<K: KernelPort>(ends: &mut Ends<K, Open>) -> bool {
+    let taken = two_are_taken(ends);
     let done = four_are_done(ends);
-    let delivered = ends.turn();
-    first
-        && second
-        && taken == [Some(turn(1, 1, 0, 0)), Some(turn(3, 3, 0, 0))]
-        && done
-        && delivered == Some(turn(0, 0, 4, 4))
-        && four_are_reaped(ends)
+    let delivered = ends.turn() == Some(turn(0, 0, 4, 4));
+    taken && done && delivered && four_are_reaped(ends)
 }
 
 /// How many rounds go as they should, of a thousand, up to the first that doesn't.

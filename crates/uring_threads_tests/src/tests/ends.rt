@@ -38,12 +38,14 @@ impl Ports for KernelLanes {
         setup: &Setup,
         gates: Vec<G>,
     ) -> Result<Ends<KernelLanes, G>, LanesFault> {
-        let (app, kernel, workers) = lanes(alloc, setup, gates)?;
-        Ok(Ends {
-            app,
-            kernel,
-            workers,
-        })
+        match lanes(alloc, setup, gates) {
+            Ok((app, kernel, workers)) => Ok(Ends {
+                app,
+                kernel,
+                workers,
+            }),
+            Err(fault) => Err(fault),
+        }
     }
 }
 
@@ -53,12 +55,14 @@ impl Ports for KernelWords {
         setup: &Setup,
         gates: Vec<G>,
     ) -> Result<Ends<KernelWords, G>, LanesFault> {
-        let (app, kernel, workers) = words(alloc, setup, gates)?;
-        Ok(Ends {
-            app,
-            kernel,
-            workers,
-        })
+        match words(alloc, setup, gates) {
+            Ok((app, kernel, workers)) => Ok(Ends {
+                app,
+                kernel,
+                workers,
+            }),
+            Err(fault) => Err(fault),
+        }
     }
 }
 
@@ -69,8 +73,17 @@ pub fn new_ends<K: Ports>(
     workers: usize,
 ) -> Result<Ends<K, Open>, Fail> {
     let setup = Setup::new(4, Some(4), files, 0)?;
+    open_ends(alloc, &setup, workers)
+}
+
+/// All ends of a set-up, with so many workers that nothing holds up.
+pub fn open_ends<K: Ports>(
+    alloc: Global,
+    setup: &Setup,
+    workers: usize,
+) -> Result<Ends<K, Open>, Fail> {
     let gates = vec![in alloc; Open; workers]?;
-    Ok(K::ends(alloc, &setup, gates)?)
+    Ok(K::ends(alloc, setup, gates)?)
 }
 
 impl<K: KernelPort, G: Gate> Ends<K, G> {

@@ -3,7 +3,7 @@
 use super::ends::{Ends, Ports};
 use super::threads::{Flags, Script};
 use super::told::{first_three, settle};
-use std::alloc::Global;
+use std::alloc::{AllocError, Global};
 use std::sync::Wait;
 use std::sync::atomic::{AtomicBool, Ordering};
 use std::test::Fail;
@@ -61,6 +61,15 @@ fn gate<'a>(holds: bool, flags: &'a Flags, ran_out: &'a AtomicBool) -> HeldUntil
     }
 }
 
+/// The gates of two workers, of which the first holds its jobs.
+fn gates<'a>(
+    alloc: Global,
+    flags: &'a Flags,
+    ran_out: &'a AtomicBool,
+) -> Result<Vec<HeldUntilTwo<'a>>, AllocError> {
+    Ok(vec![in alloc; gate(true, flags, ran_out), gate(false, flags, ran_out)]?)
+}
+
 /// New ends with two workers, of which worker 0's gate holds its jobs.
 fn held_ends<'a, K: Ports>(
     alloc: Global,
@@ -68,7 +77,7 @@ fn held_ends<'a, K: Ports>(
     ran_out: &'a AtomicBool,
 ) -> Result<Ends<K, HeldUntilTwo<'a>>, Fail> {
     let setup = Setup::new(4, Some(4), 2, 0)?;
-    let gates = vec![in alloc; gate(true, flags, ran_out), gate(false, flags, ran_out)]?;
+    let gates = gates(alloc, flags, ran_out)?;
     Ok(K::ends(alloc, &setup, gates)?)
 }
 
