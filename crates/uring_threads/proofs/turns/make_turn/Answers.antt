@@ -1,8 +1,14 @@
-use Rattle.std.proofs.Common.{length, subst, sym, refl, ◌∙◌}
+use Rattle.std.proofs.Common.{◌≡◌, ◌<◌, ◌≤◌, length, subst, sym, refl, ap, ◌∙◌}
+use Rattle.std.specs.Prelude.{OnOk, OnErr}
+use Rattle.uring_entry.specs.Setup.{Setup}
+use Rattle.uring_entry.specs.Submission.{dropped}
+use Rattle.uring_threads.specs.Dropped.{with_word}
+use Rattle.uring_threads.specs.Kept.{now}
+use Rattle.uring_threads.specs.Ports.{Sizes}
 use Rattle.uring_threads.specs.Tallies.{TakesFewResults, finishes_counted, issues_counted, reaps_counted}
 use Rattle.std.proofs.lemmas.Result.{IfOk-weaker}
 use Rattle.uring_threads.specs.Turns.{AreTies, Counts}
-use Rattle.uring_threads.proofs.Collecting.{on_err}
+use Rattle.uring_threads.proofs.Collecting.{on_err, not_ok, not_on_ok}
 use Rattle.uring_threads.proofs.FewResults.{few_of_none, few_behind, few_before}
 use Rattle.uring_threads.proofs.TraceSteps.{appends_none}
 use Rattle.uring_threads.proofs.Turning.{ties_taken, ties_posted, ties_worked, ties_unmoved, ties_delivered, counts_all, some_then, lanes_then}
@@ -110,3 +116,149 @@ returns-clause-few_results g c =
     let taken : TakesFewResults (length c.args.lanes.now) c.args.kept.now c.collect_all.new.kept = few_behind (length c.args.lanes.now) c.args.kept.now c.take_in.new.kept c.collect_all.new.kept _ c.in_ok-popped.ensures.taken.appends refl c.collect_all.ensures.few in
     let issued : TakesFewResults (length c.args.lanes.now) c.args.kept.now c.issue_all.new.kept = few_before (length c.args.lanes.now) c.args.kept.now c.collect_all.new.kept c.issue_all.new.kept _ taken c.in_ok-issued.ensures.tally refl in
     few_before (length c.args.lanes.now) c.args.kept.now c.issue_all.new.kept c.deliver.new.kept _ issued c.in_ok-delivered.ensures.tally refl
+
+pub returns-in_err-popped-clause-counts : goal.returns-in_err-popped-clause-counts
+returns-in_err-popped-clause-counts g c = not_ok c.from_residual.result _ c.from_residual.ensures.0
+
+pub returns-in_err-popped-clause-begun : goal.returns-in_err-popped-clause-begun
+returns-in_err-popped-clause-begun g c = not_on_ok c.from_residual.result _ c.from_residual.ensures.0
+
+pub returns-in_err-popped-clause-stored : goal.returns-in_err-popped-clause-stored
+returns-in_err-popped-clause-stored g c = not_on_ok c.from_residual.result _ c.from_residual.ensures.0
+
+pub returns-in_err-popped-clause-not_stored : goal.returns-in_err-popped-clause-not_stored
+returns-in_err-popped-clause-not_stored g c = on_err c.from_residual.result c.take_in.ensures.dropped
+
+pub returns-in_err-popped-clause-items : goal.returns-in_err-popped-clause-items
+returns-in_err-popped-clause-items g c = c.take_in.ensures.items
+
+pub returns-in_err-popped-clause-pairing : goal.returns-in_err-popped-clause-pairing
+returns-in_err-popped-clause-pairing g c = c.take_in.ensures.pairing
+
+pub returns-in_err-popped-clause-sizes : goal.returns-in_err-popped-clause-sizes
+returns-in_err-popped-clause-sizes g c = c.take_in.ensures.sizes
+
+pub returns-in_err-finished-clause-counts : goal.returns-in_err-finished-clause-counts
+returns-in_err-finished-clause-counts g c = not_ok c.from_residual-in_err-finished.result _ c.from_residual-in_err-finished.ensures.0
+
+pub returns-in_err-finished-clause-begun : goal.returns-in_err-finished-clause-begun
+returns-in_err-finished-clause-begun g c = not_on_ok c.from_residual-in_err-finished.result _ c.from_residual-in_err-finished.ensures.0
+
+pub returns-in_err-finished-clause-stored : goal.returns-in_err-finished-clause-stored
+returns-in_err-finished-clause-stored g c = not_on_ok c.from_residual-in_err-finished.result _ c.from_residual-in_err-finished.ensures.0
+
+pub returns-in_err-finished-clause-not_stored : goal.returns-in_err-finished-clause-not_stored
+returns-in_err-finished-clause-not_stored g c = on_err c.from_residual-in_err-finished.result c.take_in.ensures.dropped
+
+pub returns-in_err-finished-clause-items : goal.returns-in_err-finished-clause-items
+returns-in_err-finished-clause-items g c = c.take_in.ensures.items
+
+pub returns-in_err-finished-clause-pairing : goal.returns-in_err-finished-clause-pairing
+returns-in_err-finished-clause-pairing g c = c.take_in.ensures.pairing
+
+pub returns-in_err-finished-clause-sizes : goal.returns-in_err-finished-clause-sizes
+returns-in_err-finished-clause-sizes g c = c.take_in.ensures.sizes
+
+pub returns-in_err-issued-clause-counts : goal.returns-in_err-issued-clause-counts
+returns-in_err-issued-clause-counts g c = not_ok c.from_residual-in_err-issued.result _ c.from_residual-in_err-issued.ensures.0
+
+pub returns-in_err-issued-clause-begun : goal.returns-in_err-issued-clause-begun
+returns-in_err-issued-clause-begun g c = not_on_ok c.from_residual-in_err-issued.result _ c.from_residual-in_err-issued.ensures.0
+
+pub returns-in_err-issued-clause-stored : goal.returns-in_err-issued-clause-stored
+returns-in_err-issued-clause-stored g c = not_on_ok c.from_residual-in_err-issued.result _ c.from_residual-in_err-issued.ensures.0
+
+pub returns-in_err-issued-clause-not_stored : goal.returns-in_err-issued-clause-not_stored
+returns-in_err-issued-clause-not_stored g c = on_err c.from_residual-in_err-issued.result c.take_in.ensures.dropped
+
+pub returns-in_err-issued-clause-items : goal.returns-in_err-issued-clause-items
+returns-in_err-issued-clause-items g c = c.take_in.ensures.items
+
+pub returns-in_err-issued-clause-pairing : goal.returns-in_err-issued-clause-pairing
+returns-in_err-issued-clause-pairing g c = c.take_in.ensures.pairing
+
+pub returns-in_err-issued-clause-sizes : goal.returns-in_err-issued-clause-sizes
+returns-in_err-issued-clause-sizes g c = c.take_in.ensures.sizes
+
+pub returns-in_err-delivered-clause-counts : goal.returns-in_err-delivered-clause-counts
+returns-in_err-delivered-clause-counts g c = not_ok c.from_residual-in_err-delivered.result _ c.from_residual-in_err-delivered.ensures.0
+
+pub returns-in_err-delivered-clause-begun : goal.returns-in_err-delivered-clause-begun
+returns-in_err-delivered-clause-begun g c = not_on_ok c.from_residual-in_err-delivered.result _ c.from_residual-in_err-delivered.ensures.0
+
+pub returns-in_err-delivered-clause-stored : goal.returns-in_err-delivered-clause-stored
+returns-in_err-delivered-clause-stored g c = not_on_ok c.from_residual-in_err-delivered.result _ c.from_residual-in_err-delivered.ensures.0
+
+pub returns-in_err-delivered-clause-not_stored : goal.returns-in_err-delivered-clause-not_stored
+returns-in_err-delivered-clause-not_stored g c = on_err c.from_residual-in_err-delivered.result (c.deliver.ensures.dropped ∙ c.take_in.ensures.dropped)
+
+pub returns-in_err-delivered-clause-items : goal.returns-in_err-delivered-clause-items
+returns-in_err-delivered-clause-items g c = c.take_in.ensures.items
+
+pub returns-in_err-delivered-clause-pairing : goal.returns-in_err-delivered-clause-pairing
+returns-in_err-delivered-clause-pairing g c = c.deliver.ensures.pairing ∙ c.take_in.ensures.pairing
+
+pub returns-in_err-delivered-clause-sizes : goal.returns-in_err-delivered-clause-sizes
+returns-in_err-delivered-clause-sizes g c = c.deliver.ensures.sizes ∙ c.take_in.ensures.sizes
+
+pub returns-in_err-popped-clause-err : goal.returns-in_err-popped-clause-err
+returns-in_err-popped-clause-err g c = on_err c.from_residual.result (_, c.in_err-popped.ensures.err.appends)
+
+pub returns-in_err-finished-clause-lanes : goal.returns-in_err-finished-clause-lanes
+returns-in_err-finished-clause-lanes g c = c.collect_all.ensures.lanes
+
+pub returns-clause-begun : goal.returns-clause-begun
+returns-clause-begun g c = c.tell_dropped.ensures.begun
+
+pub returns-clause-stored : goal.returns-clause-stored
+returns-clause-stored g c =
+    subst (λ d. OnOk c.tell_dropped.result (g.P.KernelPort.dropped c.tell_dropped.new.port ≡ with_word d (dropped (now c.deliver.new.kept).submission))) (c.deliver.ensures.dropped ∙ c.take_in.ensures.dropped) c.tell_dropped.ensures.stored
+
+pub returns-clause-not_stored : goal.returns-clause-not_stored
+returns-clause-not_stored g c =
+    subst (λ d. OnErr c.tell_dropped.result (g.P.KernelPort.dropped c.tell_dropped.new.port ≡ d)) (c.deliver.ensures.dropped ∙ c.take_in.ensures.dropped) c.tell_dropped.ensures.not_stored
+
+pub returns-clause-items : goal.returns-clause-items
+returns-clause-items g c = c.take_in.ensures.items
+
+pub returns-clause-pairing : goal.returns-clause-pairing
+returns-clause-pairing g c = c.tell_dropped.ensures.pairing ∙ c.deliver.ensures.pairing ∙ c.take_in.ensures.pairing
+
+pub returns-clause-sizes : goal.returns-clause-sizes
+returns-clause-sizes g c = c.tell_dropped.ensures.sizes ∙ c.deliver.ensures.sizes ∙ c.take_in.ensures.sizes
+
+pub take_in-requires-clause-sizes : goal.take_in-requires-clause-sizes
+take_in-requires-clause-sizes g c = c.requires.sq
+
+pub take_in-requires-clause-items : goal.take_in-requires-clause-items
+take_in-requires-clause-items g c = c.requires.items
+
+pub take_in-requires-clause-tied : goal.take_in-requires-clause-tied
+take_in-requires-clause-tied g c = c.requires.ties.tied
+
+pub collect_all-requires-clause-some : goal.collect_all-requires-clause-some
+collect_all-requires-clause-some g c = c.requires.some
+
+pub collect_all-requires-clause-few : goal.collect_all-requires-clause-few
+collect_all-requires-clause-few g c = c.requires.few
+
+pub issue_all-requires-clause-some : goal.issue_all-requires-clause-some
+issue_all-requires-clause-some g c = subst (λ n. 0 < n) (sym c.collect_all.ensures.lanes.many) c.requires.some
+
+pub issue_all-requires-clause-few : goal.issue_all-requires-clause-few
+issue_all-requires-clause-few g c = subst (λ n. n ≤ 8) (sym c.collect_all.ensures.lanes.many) c.requires.few
+
+pub issue_all-requires-clause-carried : goal.issue_all-requires-clause-carried
+issue_all-requires-clause-carried g c = c.collect_all.ensures.carried
+
+pub deliver-requires-clause-sizes : goal.deliver-requires-clause-sizes
+deliver-requires-clause-sizes g c =
+    let setup = c.in_ok-issued.ensures.tally.setup ∙ c.in_ok-finished.ensures.tally.setup ∙ c.in_ok-popped.ensures.taken.appends.setup in
+    ap (λ (s : Sizes). s.cq) c.take_in.ensures.sizes ∙ c.requires.cq ∙ ap (λ (s : Setup). s.cq) (sym setup)
+
+pub deliver-requires-clause-delivered : goal.deliver-requires-clause-delivered
+deliver-requires-clause-delivered g c =
+    let t = ties_worked c.args.kept.now c.take_in.new.kept c.collect_all.new.kept c.issue_all.new.kept (g.P.KernelPort.pulled c.args.port.now) (g.P.KernelPort.pulled c.take_in.new.port) (g.P.KernelPort.delivered c.args.port.now) (g.P.KernelPort.delivered c.take_in.new.port) c.args.intake.now c.take_in.new.intake c.args.lanes.now c.collect_all.new.lanes c.issue_all.new.lanes
+    c.in_ok-popped.popped (finishes_counted c.in_ok-finished.finished) (issues_counted c.in_ok-issued.issued) c.requires.ties c.in_ok-popped.ensures.taken c.take_in.ensures.tied c.take_in.ensures.once c.take_in.ensures.completions c.take_in.ensures.delivered
+    c.in_ok-finished.ensures.tally refl c.collect_all.ensures.posts c.collect_all.ensures.carried c.in_ok-issued.ensures.tally refl c.issue_all.ensures.stays c.issue_all.ensures.carried in
+    t.delivered

@@ -1,9 +1,14 @@
-use Rattle.std.proofs.Common.{length, arith, subst, sym, ap, ◌∙◌}
+use Rattle.std.proofs.Common.{◌≡◌, ◌<◌, ◌≤◌, length, arith, subst, sym, ap, ◌∙◌}
+use Rattle.std.specs.Prelude.{IfOk, OnOk, OnErr}
+use Rattle.uring_entry.specs.Submission.{dropped}
+use Rattle.uring_threads.specs.Dropped.{with_word}
+use Rattle.uring_threads.specs.Kept.{now}
+use Rattle.uring_threads.specs.Tallies.{Tally, Appends}
 use Rattle.uring_threads.specs.Dispatched.{HoldJobs, HoldResults, numbers_of_lanes}
 use Rattle.uring_entry.specs.Setup.{Setup}
 use Rattle.uring_threads.specs.Kernel.{Kernel}
 use Rattle.uring_threads.specs.Ports.{Sizes}
-use Rattle.uring_threads.specs.Turns.{AreTies}
+use Rattle.uring_threads.specs.Turns.{AreTies, Counts}
 use Rattle.uring_threads.proofs.FewResults.{few_same}
 use Rattle.uring_threads.proofs.FullLanes.{hold_stays, short_stays, next_is_none, setup_stays}
 use Rattle.uring_threads.proofs.Reporting.{lanes_back}
@@ -55,3 +60,44 @@ invariant_of-self g c =
         ties = made.ties;
       },
     )
+
+pub returns-clause-counts : goal.returns-clause-counts
+returns-clause-counts g c = subst (λ (k : Kernel). IfOk c.make_turn.result (λ turn. Counts k.kept c.make_turn.new.kept turn)) c.self.view_is c.make_turn.ensures.counts
+
+pub returns-clause-begun : goal.returns-clause-begun
+returns-clause-begun g c = c.make_turn.ensures.begun
+
+pub returns-clause-all : goal.returns-clause-all
+returns-clause-all g c =
+    subst (λ (k : Kernel). IfOk c.make_turn.result (λ turn. length (now c.make_turn.new.kept).completions.posted ≤ k.kept.setup.cq → length (g.P.KernelPort.delivered c.make_turn.new.port) ≡ length (now c.make_turn.new.kept).completions.posted)) c.self.view_is c.make_turn.ensures.all
+
+pub returns-clause-err : goal.returns-clause-err
+returns-clause-err g c = subst (λ (k : Kernel). OnErr c.make_turn.result ((t : Tally) × Appends k.kept c.make_turn.new.kept t)) c.self.view_is c.make_turn.ensures.err
+
+pub returns-clause-stored : goal.returns-clause-stored
+returns-clause-stored g c =
+    subst (λ (k : Kernel). OnOk c.make_turn.result (g.P.KernelPort.dropped c.make_turn.new.port ≡ with_word k.dropped (dropped (now c.make_turn.new.kept).submission))) c.self.view_is c.make_turn.ensures.stored
+
+pub returns-clause-not_stored : goal.returns-clause-not_stored
+returns-clause-not_stored g c = subst (λ (k : Kernel). OnErr c.make_turn.result (g.P.KernelPort.dropped c.make_turn.new.port ≡ k.dropped)) c.self.view_is c.make_turn.ensures.not_stored
+
+pub returns-clause-pairing : goal.returns-clause-pairing
+returns-clause-pairing g c = c.make_turn.ensures.pairing ∙ ap (λ (k : Kernel). k.pairing) c.self.view_is
+
+pub returns-clause-sizes : goal.returns-clause-sizes
+returns-clause-sizes g c = c.make_turn.ensures.sizes ∙ ap (λ (k : Kernel). k.sizes) c.self.view_is
+
+pub make_turn-requires-clause-sq : goal.make_turn-requires-clause-sq
+make_turn-requires-clause-sq g c = c.self.invariant.1.sq
+
+pub make_turn-requires-clause-cq : goal.make_turn-requires-clause-cq
+make_turn-requires-clause-cq g c = c.self.invariant.1.cq
+
+pub make_turn-requires-clause-items : goal.make_turn-requires-clause-items
+make_turn-requires-clause-items g c = c.self.invariant.0
+
+pub make_turn-requires-clause-some : goal.make_turn-requires-clause-some
+make_turn-requires-clause-some g c = subst (λ ls. 0 < length ls) (sym c.deref_mut.ensures.value) c.self.invariant.1.some
+
+pub make_turn-requires-clause-few : goal.make_turn-requires-clause-few
+make_turn-requires-clause-few g c = subst (λ ls. length ls ≤ 8) (sym c.deref_mut.ensures.value) c.self.invariant.1.few
