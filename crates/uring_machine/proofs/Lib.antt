@@ -6,19 +6,9 @@ pub mod SoundRequests
 pub mod RequestEnds
 pub mod Groups
 pub mod Sound
-pub mod RingLaws
-pub mod TakenPlaces
 pub mod ToldRequests
-pub mod RequestLaws
+pub mod Issuable
 pub mod Growth
-pub mod OrderLaws
-pub mod DirectSubmission
-pub mod DirectCompletions
-pub mod DirectRequests
-pub mod DirectPlaces
-pub mod DirectPut
-pub mod Chosen
-pub mod ReadOff
 pub mod CoreSteps
 pub mod CoreCalls
 pub mod CoreTakes
@@ -34,16 +24,7 @@ pub mod Outstanding
 pub mod Numbers
 pub mod Settling
 pub mod WholeLaws
-pub mod FilesApart
-pub mod FileLaws
-pub mod PublishedItems
-pub mod Standing
-pub mod WholeCalls
-pub mod ReasonLaws
-pub mod FoundLaws
 pub mod SameAnswers
 pub mod RecordedAnswers
 pub mod RecordedEnds
 pub mod RecordedLaws
-mod WorkedHistory
-pub mod Stopping

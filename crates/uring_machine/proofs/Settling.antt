@@ -8,7 +8,7 @@ use Rattle.uring_entry.specs.Requests.{Requests, has_ended, is_outstanding, is_r
 use Rattle.uring_entry.proofs.BelowLemmas.{least_below-tells, least_below-out}
 use Rattle.uring_entry.proofs.RequestLemmas.{least_of-goes_on, is_running-started_same}
 use Rattle.uring_machine.specs.World.{World, issuing, finishing}
-use Rattle.uring_machine.specs.StepAnswers.{IsEnded, FinishesApart, next_answer_of}
+use Rattle.uring_machine.specs.StepAnswers.{IsEnded, FinishesApart, next_answer_of, IsIssued}
 use Rattle.uring_machine.specs.Histories.{Event, History, world, history_of}
 use Rattle.uring_files.specs.Contents.{FileContents}
 use Rattle.uring_machine.specs.Core.{Core, FitsApart}
@@ -21,8 +21,7 @@ use Rattle.uring_machine.specs.declared.answer.Answer.TheVariants as answer
 use Rattle.uring_machine.proofs.Following.{history_of-cons, history_of-append}
 use Rattle.uring_machine.proofs.Numbers.{few_outstanding}
 use Rattle.uring_machine.proofs.Outstanding.{ended_less, none_outstanding, count_below-zero}
-use Rattle.uring_machine.proofs.RequestLaws.{issue_goes, issued_ends, issuable_outstanding}
-use Rattle.uring_machine.specs.Laws.{IsIssued}
+use Rattle.uring_machine.proofs.Issuable.{issue_goes, issued_ends, issuable_outstanding}
 
 -- Ends, each of which leaves one outstanding request less.
 

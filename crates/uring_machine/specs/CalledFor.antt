@@ -42,7 +42,3 @@ CalledFor g w s a = CalledForApart g w s a
 abbrev pub IsLawful : Setup → History → Type 0
 IsLawful g [] = Unit {0}
 IsLawful g ((s, a) ∷ before) = CalledFor g (world g before) s a × IsLawful g before
-
--- Whatever runs in a lawful history can be carried out on files.
-abbrev pub WhatRunsIsForFiles : Setup → Type 0
-WhatRunsIsForFiles g = (h : History) (n : ℕ) → IsLawfulApart g h → is_running (world g h).requests n ≡ true → RunsOnFiles (world g h).requests n

@@ -1,5 +1,5 @@
 -- Lists and counts read straight off a history: what its events tell, and which of them stand before which.
-use Rattle.std.specs.Prelude.{ℕ, ◌+◌, Bool, true, false, not, ◌&&◌, ◌==◌, nat_lt, List, [], ◌∷◌, ◌++◌, length, sum, count_by, Option, Some, None, is_some, unwrap_or, if◌then◌else◌, slice_index_or}
+use Rattle.std.specs.Prelude.{ℕ, ◌+◌, Bool, true, false, not, ◌&&◌, ◌||◌, ◌==◌, nat_lt, List, [], ◌∷◌, ◌++◌, length, sum, count_by, Option, Some, None, ℤ, pos, ◌≡◌, ◌⊎◌, is_some, unwrap_or, if◌then◌else◌, slice_index_or}
 use Rattle.std.specs.List.{list_any, filter_map}
 use Rattle.std.specs.Option.{option_or}
 use Rattle.uring_entry.specs.Layout.{Sqe, Cqe, zero_entry}
@@ -7,7 +7,8 @@ use Rattle.uring_entry.specs.Success.{posts_completion}
 use Rattle.uring_entry.specs.Setup.{Setup}
 use Rattle.uring_entry.specs.Submission.{Call, stops_at}
 use Rattle.uring_entry.specs.Completions.{completion_for}
-use Rattle.uring_entry.specs.Requests.{Ending}
+use Rattle.uring_entry.specs.Preparation.{is_cancel, is_cancel_all}
+use Rattle.uring_entry.specs.Requests.{Requests, Ending, entry_of, target_of, is_target}
 use Rattle.uring_machine.specs.Histories.{Event, History}
 use Rattle.uring_machine.specs.declared.step.Step.TheVariants as step
 use Rattle.uring_machine.specs.declared.answer.Answer.TheVariants as answer
@@ -73,6 +74,10 @@ accepted_by _ = None
 -- whether the open call closes
 abbrev pub closes_call : Event → Bool
 closes_call event = is_some (accepted_by event)
+
+-- whether a call opens, or closes with its entries accepted
+abbrev pub takes_in : Event → Bool
+takes_in event = opens_call event || closes_call event
 
 -- whether the ring closes
 abbrev pub closes_ring : Event → Bool
@@ -228,3 +233,23 @@ stored_head h = length (reaps (before_last is_store_cq_head h))
 
 abbrev pub flushed_head : History → ℕ
 flushed_head h = stored_head (before_last is_flush h)
+
+-- Whom a cancel chose, by its entry and its result.
+
+-- n, a cancel of one that ended with 0, had m as its target
+pub record ChoseOne (r : Requests) (n : ℕ) (res : ℤ) (m : ℕ) : Type 0 where
+  pub cancel : is_cancel (entry_of r n) ≡ true
+  pub one : is_cancel_all (entry_of r n) ≡ false
+  pub result : res ≡ pos 0
+  pub target : target_of r n ≡ Some m
+
+-- n, a cancel of all that ended with a number, had m among its targets
+pub record ChoseAll (r : Requests) (n : ℕ) (res : ℤ) (m : ℕ) : Type 0 where
+  pub all : is_cancel_all (entry_of r n) ≡ true
+  pub count : ℕ
+  pub result : res ≡ pos count
+  pub target : is_target r n m ≡ true
+
+-- n, a cancel that ended with this result, chose m
+abbrev pub Chose : Requests → ℕ → ℤ → ℕ → Type 0
+Chose r n res m = ChoseOne r n res m ⊎ ChoseAll r n res m

@@ -1,17 +1,10 @@
 pub mod World
 pub mod StepAnswers
-pub mod Stopping
 pub mod Histories
 pub mod Direct
-pub mod Laws
-pub mod HistoryLists
 pub mod Told
 pub mod CalledFor
 pub mod Core
 pub mod Machine
 pub mod Settling
-pub mod Finishes
-pub mod Published
-pub mod Standing
-pub mod Reasons
 pub mod Recorded

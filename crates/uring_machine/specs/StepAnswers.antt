@@ -86,6 +86,11 @@ abbrev pub IsEnded : Answer → Type 0
 IsEnded (answer.Ended res bytes) = Unit {0}
 IsEnded _ = ⊥
 
+-- an Issue so answered isn't refused
+abbrev pub IsIssued : Answer → Type 0
+IsIssued answer.Run = Unit {0}
+IsIssued a = IsEnded a
+
 -- a running request ends, whatever its operation gave; another is refused
 abbrev pub FinishesApart : Bool → Answer → Type 0
 FinishesApart true a = IsEnded a

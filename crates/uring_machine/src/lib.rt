@@ -6,7 +6,6 @@ mod checks;
 mod conversions;
 mod cores;
 mod follow;
-pub mod laws;
 mod machine;
 mod runs;
 mod step;

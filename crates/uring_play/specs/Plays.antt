@@ -7,7 +7,7 @@ use Rattle.uring_entry.specs.Requests.{outstanding_in}
 use Rattle.uring_entry.specs.Setup.{Setup}
 use Rattle.uring_machine.specs.CalledFor.{IsLawful}
 use Rattle.uring_machine.specs.Histories.{Event, world, history_of}
-use Rattle.uring_machine.specs.Published.{published_items}
+use Rattle.uring_laws.specs.Published.{published_items}
 use Rattle.uring_machine.specs.World.{World}
 use Rattle.uring_threads.specs.Items.{all_published_as}
 use Rattle.uring_threads.specs.Ports.{items_of_calls}

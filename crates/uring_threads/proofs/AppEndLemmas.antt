@@ -2,7 +2,7 @@
 use Rattle.std.proofs.Common.{◌≡◌, false, ℕ, ◌<◌, ◌≤◌, List, length, get_or, take, sym, subst, arith}
 use Rattle.std.proofs.lemmas.List.{get_or-map, length-map, take_all}
 use Rattle.std.proofs.lemmas.List.Elements.{All-get_or}
-use Rattle.uring_machine.specs.Published.{IsItem}
+use Rattle.uring_laws.specs.Published.{IsItem}
 use Rattle.uring_threads.specs.declared.item.Item.{Item}
 use Rattle.uring_threads.specs.declared.refusals.SubmitRefusal.{SubmitRefusal}
 use Rattle.uring_threads.specs.declared.refusals.SubmitRefusal.TheVariants as submit

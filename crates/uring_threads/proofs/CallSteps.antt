@@ -2,8 +2,8 @@
 use Rattle.std.proofs.Common.{◌≡◌, ℕ, ◌+◌, ◌<◌, false, [], refl, subst, ap, ◌∙◌, inl, inr, arith}
 use Rattle.uring_machine.specs.World.{World, happens, beginning}
 use Rattle.uring_machine.specs.StepAnswers.{CalledForApart}
-use Rattle.uring_machine.specs.Standing.{Stands, in_call, after_call}
-use Rattle.uring_machine.proofs.Standing.{call_opens, call_closes, position_taken}
+use Rattle.uring_laws.specs.Standing.{Stands, in_call, after_call}
+use Rattle.uring_laws.proofs.Standing.{call_opens, call_closes, position_taken}
 use Rattle.uring_machine.specs.declared.step.Step.TheVariants as step
 use Rattle.uring_machine.specs.declared.answer.Answer.{Answer}
 use Rattle.uring_machine.specs.declared.answer.Answer.TheVariants as answer

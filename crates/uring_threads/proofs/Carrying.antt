@@ -7,7 +7,7 @@ use Rattle.std.proofs.lemmas.List.Sums.{sum_by-append}
 use Rattle.uring_entry.specs.Setup.{Setup}
 use Rattle.uring_entry.specs.Requests.{entry_of, no_bytes}
 use Rattle.uring_entry.specs.declared.operation.Op.{Op}
-use Rattle.uring_machine.specs.Finishes.{done_in, done_by}
+use Rattle.uring_laws.specs.Finishes.{done_in, done_by}
 use Rattle.uring_machine.specs.Histories.{Event, History, world, history_of}
 use Rattle.uring_machine.specs.StepAnswers.{IsEnded}
 use Rattle.uring_machine.specs.World.{World, issuing}

@@ -8,7 +8,7 @@ use Rattle.uring_entry.specs.Preparation.{operation_of}
 use Rattle.uring_entry.specs.Requests.{entry_of, is_running}
 use Rattle.uring_entry.specs.declared.operation.Outcome.{Outcome}
 use Rattle.uring_machine.specs.Core.{IsFinished}
-use Rattle.uring_machine.specs.Finishes.{Done, done_in}
+use Rattle.uring_laws.specs.Finishes.{Done, done_in}
 use Rattle.uring_machine.specs.Histories.{Event, history_of, IsLawfulApart}
 use Rattle.uring_machine.specs.declared.step.Step.TheVariants as step
 use Rattle.uring_machine.specs.declared.answer.Answer.{Answer}

@@ -5,9 +5,8 @@ use Rattle.uring_entry.specs.Preparation.{operation_of}
 use Rattle.uring_entry.specs.Requests.{Requests, entry_of, is_running, is_issuable, next_of, operation_running}
 use Rattle.uring_entry.proofs.RequestLemmas.{is_running-started_same}
 use Rattle.uring_entry.proofs.BelowLemmas.{least_below-tells}
-use Rattle.uring_machine.specs.Laws.{IsIssued}
-use Rattle.uring_machine.specs.StepAnswers.{CalledForApart, IsEnded}
-use Rattle.uring_machine.proofs.RequestLaws.{issue_goes, issued_ends}
+use Rattle.uring_machine.specs.StepAnswers.{CalledForApart, IsEnded, IsIssued}
+use Rattle.uring_machine.proofs.Issuable.{issue_goes, issued_ends}
 use Rattle.uring_machine.proofs.SoundRequests.{outstanding_tells}
 use Rattle.uring_machine.specs.declared.step.Step.TheVariants as step
 use Rattle.uring_machine.specs.declared.answer.Answer.{Answer}

@@ -3,9 +3,9 @@ use Rattle.std.proofs.Common.{◌≡◌, ℕ, ◌+◌, ◌<◌, ◌≤◌, List,
 use Rattle.std.proofs.lemmas.List.{length-map, map-append, length_push, length-take-le, take_more}
 use Rattle.uring_entry.specs.Submission.{Submission}
 use Rattle.uring_machine.specs.World.{World, happens}
-use Rattle.uring_machine.specs.Published.{Published, with_entry, bad_word}
-use Rattle.uring_machine.specs.Standing.{Stands, with_item, with_items}
-use Rattle.uring_machine.proofs.Standing.{tail_publishes}
+use Rattle.uring_laws.specs.Published.{Published, with_entry, bad_word}
+use Rattle.uring_laws.specs.Standing.{Stands, with_item, with_items}
+use Rattle.uring_laws.proofs.Standing.{tail_publishes}
 use Rattle.uring_machine.specs.declared.step.Step.TheVariants as step
 use Rattle.uring_machine.specs.declared.answer.Answer.{Answer}
 use Rattle.uring_threads.specs.Kept.{Kept, now, Grows}

@@ -9,7 +9,7 @@ use Rattle.uring_entry.specs.Layout.{Sqe, zero_entry}
 use Rattle.uring_entry.specs.Preparation.{operation_of}
 use Rattle.uring_entry.specs.Requests.{Requests, Ending, entry_of, has_started, has_ended, is_running}
 use Rattle.uring_entry.specs.declared.operation.Op.{Op}
-use Rattle.uring_machine.specs.Finishes.{Done, done_in, done_at}
+use Rattle.uring_laws.specs.Finishes.{Done, done_in, done_at}
 use Rattle.uring_machine.specs.Histories.{History, world, IsLawfulApart}
 use Rattle.uring_machine.proofs.Sound.{sound_of}
 use Rattle.uring_threads.specs.declared.job.Job.{Job}

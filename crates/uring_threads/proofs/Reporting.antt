@@ -10,7 +10,7 @@ use Rattle.std.proofs.lemmas.Option.{slice_get_within, get_or_from_slice_get}
 use Rattle.uring_entry.specs.Completions.{Completions, unreaped, with_end, with_posted, completion_for}
 use Rattle.uring_entry.specs.Success.{posts_completion}
 use Rattle.uring_machine.specs.CalledFor.{IsLawful}
-use Rattle.uring_machine.specs.Laws.{ReapedBeginPosted, in_ring, in_overflow}
+use Rattle.uring_laws.specs.Laws.{ReapedBeginPosted, in_ring, in_overflow}
 use Rattle.uring_threads.specs.Collected.{TakesAll}
 use Rattle.uring_threads.specs.Dispatched.{AreSameLanes}
 use Rattle.std.proofs.lemmas.List.Folds.{list_any-append}
@@ -19,7 +19,7 @@ use Rattle.uring_entry.specs.Requests.{entry_of, is_running}
 use Rattle.uring_entry.specs.Setup.{Setup}
 use Rattle.uring_entry.specs.Submission.{Submission, taken}
 use Rattle.uring_machine.specs.Histories.{Event, world, history_of}
-use Rattle.uring_machine.specs.Published.{published_items, IsItem}
+use Rattle.uring_laws.specs.Published.{published_items, IsItem}
 use Rattle.uring_machine.specs.World.{World}
 use Rattle.uring_machine.proofs.Following.{history_of-snoc}
 use Rattle.uring_threads.specs.Delivered.{OnlyPosts}

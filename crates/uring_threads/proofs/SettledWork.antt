@@ -1,7 +1,7 @@
 -- A worker whose results were all taken in is settled, and nothing of the others' work has changed.
 use Rattle.std.proofs.Common.{◌≡◌, ℕ, List, [], ◌∷◌, ◌++◌, map, refl, sym, subst, ap, ap₂, ◌∙◌, append-nil}
 use Rattle.uring_entry.specs.Setup.{Setup}
-use Rattle.uring_machine.specs.Finishes.{Done}
+use Rattle.uring_laws.specs.Finishes.{Done}
 use Rattle.uring_machine.specs.Histories.{Event, History, history_of, IsLawfulApart}
 use Rattle.uring_threads.specs.declared.job.Job.{Job}
 use Rattle.uring_threads.specs.declared.job.JobResult.{JobResult}

@@ -4,7 +4,7 @@ use Rattle.std.specs.Prelude.{slice_set}
 use Rattle.std.proofs.lemmas.Bool.{cases_eq}
 use Rattle.std.proofs.lemmas.List.{map-append, length-set, get_or-set_same, get_or-set_other, take_all, take_more, length-take-le, get_or_default}
 use Rattle.rtrb.specs.Ring.{received, consumer_capacity}
-use Rattle.uring_machine.specs.Finishes.{AreDone}
+use Rattle.uring_laws.specs.Finishes.{AreDone}
 use Rattle.uring_machine.specs.Histories.{IsLawfulApart}
 use Rattle.uring_threads.specs.declared.job.JobResult.{JobResult}
 use Rattle.uring_threads.specs.declared.work_lanes.WorkLanes.{WorkLanes}

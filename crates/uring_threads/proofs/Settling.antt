@@ -10,7 +10,7 @@ use Rattle.uring_entry.specs.Preparation.{operation_of}
 use Rattle.uring_entry.specs.Requests.{Requests, entry_of}
 use Rattle.uring_entry.specs.declared.operation.Op.{Op}
 use Rattle.uring_files.specs.Operations.{file_of}
-use Rattle.uring_machine.specs.Finishes.{Done, done_in, done_at, first_files, files_left, AreDone}
+use Rattle.uring_laws.specs.Finishes.{Done, done_in, done_at, first_files, files_left, AreDone}
 use Rattle.uring_machine.specs.Histories.{History, world, IsLawfulApart, history_of}
 use Rattle.uring_machine.specs.StepAnswers.{FinishesApart}
 use Rattle.uring_machine.specs.declared.answer.Answer.TheVariants as answer

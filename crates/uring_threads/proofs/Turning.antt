@@ -5,8 +5,8 @@ use Rattle.uring_entry.specs.Requests.{next_of}
 use Rattle.uring_entry.specs.Setup.{Setup}
 use Rattle.uring_entry.specs.Layout.{Cqe}
 use Rattle.uring_entry.specs.Submission.{Submission}
-use Rattle.uring_machine.specs.Published.{published_items}
-use Rattle.uring_machine.specs.Standing.{Stands}
+use Rattle.uring_laws.specs.Published.{published_items}
+use Rattle.uring_laws.specs.Standing.{Stands}
 use Rattle.uring_threads.specs.Delivered.{KeepsAllBut, OnlyPosts}
 use Rattle.uring_threads.specs.Dispatched.{HaveCarried, AreSameLanes, SomeIsFull}
 use Rattle.uring_machine.specs.World.{World}

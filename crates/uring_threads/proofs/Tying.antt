@@ -5,7 +5,7 @@ use Rattle.std.proofs.lemmas.List.Sums.{sum_by_push}
 use Rattle.uring_entry.specs.Submission.{Submission}
 use Rattle.uring_machine.specs.World.{World, closing}
 use Rattle.uring_machine.specs.StepAnswers.{close_answer}
-use Rattle.uring_machine.specs.Standing.{Stands}
+use Rattle.uring_laws.specs.Standing.{Stands}
 use Rattle.uring_threads.specs.Items.{all_published_as}
 use Rattle.uring_threads.specs.Ports.{Put, items_of_calls}
 use Rattle.uring_threads.specs.Rows.{with_begun_as}
@@ -24,9 +24,9 @@ use Rattle.uring_threads.specs.Taking.{TakesIn}
 use Rattle.uring_threads.specs.Tallies.{Appends, call_counted, whole_call_counted, close_counted}
 use Rattle.uring_threads.proofs.ItemSteps.{items_stand}
 use Rattle.uring_threads.proofs.TraceSteps.{grown, unmoved_now, appends_none, appends_one, appends_then}
-use Rattle.uring_machine.specs.Published.{Published, with_entry, bad_word, IsItem}
-use Rattle.uring_machine.specs.Standing.{with_item, with_items}
-use Rattle.uring_machine.proofs.Standing.{items_published, tail_publishes}
+use Rattle.uring_laws.specs.Published.{Published, with_entry, bad_word, IsItem}
+use Rattle.uring_laws.specs.Standing.{with_item, with_items}
+use Rattle.uring_laws.proofs.Standing.{items_published, tail_publishes}
 use Rattle.uring_threads.specs.declared.item.Item.{Item}
 use Rattle.std.specs.Prelude.{All, Result, Ok, Err, IfOk, OnErr, None, is_some, if◌then◌else◌}
 use Rattle.std.proofs.lemmas.List.{length-map, length-append, get_or_append_left}

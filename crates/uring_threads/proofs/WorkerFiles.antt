@@ -7,7 +7,7 @@ use Rattle.uring_files.specs.Contents.{FileContents}
 use Rattle.uring_files.specs.Laws.{AgreeAt}
 use Rattle.uring_files.specs.Operations.{file_of, state_of, byte_of}
 use Rattle.uring_machine.specs.CalledFor.{files_of}
-use Rattle.uring_machine.specs.Finishes.{files_left}
+use Rattle.uring_laws.specs.Finishes.{files_left}
 use Rattle.uring_threads.specs.Kept.{Kept, now}
 use Rattle.uring_threads.specs.SettledWorker.{AreSettled, HaveFiles}
 use Rattle.uring_threads.specs.Work.{place_of_file}

@@ -8,8 +8,8 @@ use Rattle.uring_entry.specs.declared.operation.Op.TheVariants.{Nop, Read, Write
 use Rattle.uring_entry.specs.declared.operation.Outcome.{Outcome}
 use Rattle.uring_files.specs.Contents.{FileContents, written, with_writes_synced}
 use Rattle.uring_files.specs.Operations.{after, with_changed, IsOutcome}
-use Rattle.uring_machine.specs.Finishes.{Done, files_left, AreDone}
-use Rattle.uring_machine.proofs.FileLaws.{left-snoc, done-snoc}
+use Rattle.uring_laws.specs.Finishes.{Done, files_left, AreDone}
+use Rattle.uring_laws.proofs.FileLaws.{left-snoc, done-snoc}
 use Rattle.uring_threads.specs.declared.job.Job.{Job}
 use Rattle.uring_threads.specs.declared.job.JobResult.{JobResult}
 use Rattle.uring_threads.specs.Work.{job_of, result_of, jobs_of, results_of}

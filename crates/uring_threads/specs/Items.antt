@@ -1,6 +1,6 @@
 -- Items as they are submitted, and as positions of the ring hold them.
 use Rattle.std.specs.Prelude.{ℕ, List, map, All}
-use Rattle.uring_machine.specs.Published.{Published, with_entry, bad_word, IsItem}
+use Rattle.uring_laws.specs.Published.{Published, with_entry, bad_word, IsItem}
 use Rattle.uring_threads.specs.declared.item.Item.{Item}
 use Rattle.uring_threads.specs.declared.item.Item.TheVariants as item
 

@@ -8,7 +8,7 @@ use Rattle.uring_entry.specs.Setup.{Setup}
 use Rattle.uring_entry.specs.Submission.{taken}
 use Rattle.uring_entry.specs.Requests.{is_running}
 use Rattle.uring_machine.specs.Histories.{Event, world, history_of}
-use Rattle.uring_machine.specs.Published.{published_items}
+use Rattle.uring_laws.specs.Published.{published_items}
 use Rattle.uring_machine.specs.World.{World}
 use Rattle.uring_threads.specs.Work.{results_of}
 use Rattle.uring_threads.specs.declared.job.JobResult.{JobResult}

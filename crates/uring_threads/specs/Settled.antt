@@ -6,7 +6,7 @@ use Rattle.uring_entry.specs.Preparation.{operation_of}
 use Rattle.uring_entry.specs.Requests.{entry_of, is_running}
 use Rattle.uring_files.specs.Laws.{AgreeAt}
 use Rattle.uring_machine.specs.CalledFor.{IsLawful, files_of}
-use Rattle.uring_machine.specs.Finishes.{Done, first_files, files_left, AreDone}
+use Rattle.uring_laws.specs.Finishes.{Done, first_files, files_left, AreDone}
 use Rattle.uring_machine.specs.Histories.{Event, History, world, IsLawfulApart, history_of}
 use Rattle.uring_machine.specs.declared.step.Step.TheVariants as step
 use Rattle.uring_machine.specs.declared.answer.Answer.TheVariants as answer

@@ -1,7 +1,7 @@
 -- Glue. Settling a worker: all its results are taken in. Our own rule.
 use Rattle.std.specs.Prelude.{◌≡◌, ℕ, ℤ, Option, ◌<◌, List, [], ◌++◌, length, get_or}
 use Rattle.rtrb.specs.Ring.{sent}
-use Rattle.uring_machine.specs.Finishes.{Done}
+use Rattle.uring_laws.specs.Finishes.{Done}
 use Rattle.uring_threads.specs.declared.job.Job.{Job}
 use Rattle.uring_threads.specs.declared.work_lanes.WorkLanes.{WorkLanes}
 use Rattle.uring_threads.specs.Collected.{OthersStay}

@@ -2,8 +2,8 @@
 use Rattle.std.specs.Prelude.{◌≡◌, ℕ, ◌+◌, Bool, true, false, List, [], ◌∷◌, ◌++◌, length, map, sum, count_by, if◌then◌else◌}
 use Rattle.uring_entry.specs.Completions.{Completions}
 use Rattle.uring_entry.specs.Layout.{Cqe}
-use Rattle.uring_machine.specs.Published.{published_items}
-use Rattle.uring_machine.specs.Standing.{Stands}
+use Rattle.uring_laws.specs.Published.{published_items}
+use Rattle.uring_laws.specs.Standing.{Stands}
 use Rattle.uring_machine.specs.World.{World}
 use Rattle.uring_threads.specs.Items.{all_published_as, AreItems}
 use Rattle.uring_threads.specs.Dispatched.{HaveCarried}

@@ -3,7 +3,7 @@ use Rattle.std.specs.Prelude.{◌≡◌, ℕ, ◌+◌, ◌<◌, ◌≤◌, List,
 use mathlib.Core.List.{IsPrefix}
 use Rattle.uring_files.specs.Contents.{FileContents, empty_file}
 use Rattle.uring_files.specs.Operations.{after, IsOutcome}
-use Rattle.uring_machine.specs.Finishes.{Done, files_left, AreDone}
+use Rattle.uring_laws.specs.Finishes.{Done, files_left, AreDone}
 use Rattle.uring_threads.specs.declared.job.Job.{Job}
 use Rattle.uring_threads.specs.declared.job.JobResult.{JobResult}
 use Rattle.uring_threads.specs.declared.worker.Worked.{Worked}

@@ -1,6 +1,6 @@
 //! Submission calls: the items of one call published, and the call that takes them.
 ghost use Rattle.std.specs.Prelude.{◌≡◌, ◌+◌, ◌*◌, ◌≤◌, [], length, false};
-ghost use Rattle.uring_machine.specs.Standing.{Stands, in_call};
+ghost use Rattle.uring_laws.specs.Standing.{Stands, in_call};
 ghost use Rattle.uring_machine.specs.World.{World};
 ghost use Rattle.uring_threads.specs.Items.{all_published_as};
 ghost use Rattle.uring_threads.specs.Kept.{now};

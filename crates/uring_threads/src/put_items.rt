@@ -1,6 +1,6 @@
 //! The application's items, put into the submission ring one by one.
 ghost use Rattle.std.specs.Prelude.{◌≡◌, ◌+◌, ◌*◌, ◌<◌, ◌≤◌, [], length};
-ghost use Rattle.uring_machine.specs.Standing.{Stands};
+ghost use Rattle.uring_laws.specs.Standing.{Stands};
 ghost use Rattle.uring_threads.specs.Items.{published_as, all_published_as};
 ghost use Rattle.uring_threads.specs.Kept.{now};
 ghost use Rattle.uring_threads.specs.Rows.{with_item_put, with_items_put};

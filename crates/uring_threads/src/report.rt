@@ -22,7 +22,8 @@ use crate::worker_files;
 use std::alloc::{AllocError, Global};
 use std::marker::Model;
 use uring_files::FileState;
-use uring_machine::{Answer, Counts, Cqe, Setup, Step, laws};
+use uring_laws::reaped_begin_posted;
+use uring_machine::{Answer, Counts, Cqe, Setup, Step};
 
 /// What all ends of a set-up leave: the trace of all that happened, what of it is still on its way, and the files.
 #[derive(Drop)]
@@ -192,7 +193,7 @@ fn list_unreaped(kept: &Kept, list: &mut Vec<Cqe>)
     ensures { (now kept.now).completions.reaped ++ list.new.items ≡ (now kept.now).completions.posted }
 {
     kept.is_lawful();
-    laws::reaped_begin_posted();
+    reaped_begin_posted();
     let counts = kept.counts();
     for place in 0..counts.posted - counts.reaped {
         match kept.rest(place) {

@@ -4,7 +4,7 @@ use Rattle.uring_entry.specs.Layout.{Cqe}
 use Rattle.uring_entry.specs.Completions.{unreaped}
 use Rattle.uring_machine.specs.Histories.{Event, History, world, history_of}
 use Rattle.uring_machine.specs.Machine.{Machine, Fits}
-use Rattle.uring_machine.specs.Laws.{times_ended}
+use Rattle.uring_laws.specs.Laws.{times_ended}
 
 -- A machine that fitted this history fits it followed by some events; each accepted request has ended exactly once, and these completions are posted and not reaped.
 pub record IsLeft (idle : Machine) (before : History) (completions : List Cqe) : Type 0 where

@@ -5,7 +5,7 @@ ghost use Rattle.uring_machine.specs.Machine.{Fits};
 ghost use Rattle.uring_uses.specs.Leftovers.{IsLeft};
 
 use std::alloc::{AllocError, Global};
-use uring_machine::laws::each_ends_once;
+use uring_laws::each_ends_once;
 use uring_machine::{Cqe, Machine};
 
 /// Ends all that is outstanding, and gives the completions that are left to be reaped, the oldest first. Each accepted request has then ended exactly once.

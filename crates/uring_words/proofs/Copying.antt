@@ -5,7 +5,7 @@ use mathlib.Core.List.{map-append}
 use Rattle.uring_threads.specs.declared.item.Item.{Item}
 use Rattle.std.proofs.lemmas.List.{get_or_append_left}
 use Rattle.std.proofs.Math.Seq.{get_or-append_seam}
-use Rattle.uring_machine.specs.Published.{Published, IsItem}
+use Rattle.uring_laws.specs.Published.{Published, IsItem}
 use Rattle.uring_threads.specs.Items.{AreItems, published_as}
 use Rattle.uring_threads.specs.Ports.{with_call, with_close}
 use Rattle.uring_words.specs.Submission.Calls.{item_of, put_of, has_close_mark, AreWhole, AllGoOn}

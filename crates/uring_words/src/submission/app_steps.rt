@@ -2,7 +2,7 @@
 ghost use Rattle.std.specs.Prelude.{◌≡◌, ◌+◌, ◌<◌, ◌≤◌, true, false, [], ◌∷◌, ◌++◌, length};
 ghost use Rattle.std.specs.Int.{IsPowerOfTwo};
 ghost use Rattle.uring_entry.specs.IndexWords.{word_of};
-ghost use Rattle.uring_machine.specs.Published.{IsItem};
+ghost use Rattle.uring_laws.specs.Published.{IsItem};
 ghost use Rattle.uring_threads.specs.Items.{published_as};
 ghost use Rattle.uring_words.specs.Submission.Calls.{AreWhole};
 ghost use Rattle.uring_words.specs.Submission.Ends.{StagesItem};

@@ -1,5 +1,5 @@
 use Rattle.std.proofs.Common.{refl, ap, ◌∙◌}
-use Rattle.uring_machine.specs.Standing.{in_call}
+use Rattle.uring_laws.specs.Standing.{in_call}
 use Rattle.uring_machine.specs.World.{beginning}
 use Rattle.uring_machine.specs.declared.step.Step.TheVariants as step
 use Rattle.uring_threads.specs.Kept.{now}

@@ -1,5 +1,5 @@
 use Rattle.std.proofs.Common.{◌+◌, sym, refl, ap, ◌∙◌, arith}
-use Rattle.uring_machine.specs.Standing.{in_call}
+use Rattle.uring_laws.specs.Standing.{in_call}
 use Rattle.uring_machine.specs.World.{World}
 use Rattle.uring_threads.specs.Tallies.{none_counted}
 use Rattle.uring_threads.proofs.CallSteps.{took_now}

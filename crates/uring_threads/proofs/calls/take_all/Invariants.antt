@@ -1,5 +1,5 @@
 use Rattle.std.proofs.Common.{◌≡◌, ◌+◌, ◌≤◌, length}
-use Rattle.uring_machine.specs.Standing.{in_call}
+use Rattle.uring_laws.specs.Standing.{in_call}
 use Rattle.uring_threads.specs.Kept.{now}
 use Rattle.uring_threads.specs.Tallies.{Appends, none_counted}
 use Rattle.uring_threads.proofs.calls.take_all.Given as goal

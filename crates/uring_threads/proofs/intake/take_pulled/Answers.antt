@@ -1,5 +1,5 @@
 use Rattle.std.proofs.Common.{◌∙◌, [], length, ap, refl, sum, sym, subst, arith}
-use Rattle.uring_machine.specs.Standing.{Stands}
+use Rattle.uring_laws.specs.Standing.{Stands}
 use Rattle.uring_machine.specs.World.{World}
 use Rattle.uring_threads.specs.Kept.{now}
 use Rattle.uring_threads.specs.Ports.{Pulls}

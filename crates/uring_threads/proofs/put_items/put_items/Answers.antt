@@ -1,6 +1,6 @@
 use Rattle.std.proofs.Common.{◌<◌, length, subst, sym, refl, ap, ◌∙◌, arith}
 use Rattle.uring_entry.specs.Setup.{Setup}
-use Rattle.uring_machine.specs.Standing.{Stands}
+use Rattle.uring_laws.specs.Standing.{Stands}
 use Rattle.uring_machine.specs.World.{World}
 use Rattle.uring_threads.specs.Items.{published_as}
 use Rattle.uring_threads.specs.Kept.{now}

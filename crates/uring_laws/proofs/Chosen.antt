@@ -1,0 +1,99 @@
+-- Whom cancels chose, read off a history.
+use Rattle.std.proofs.Common.{◌≡◌, ℕ, ◌==◌, ℤ, pos, true, false, ◌&&◌, List, [], ◌∷◌, ◌++◌, cond, refl, sym, subst, ap, ◌∙◌, ◌⊎◌, inl, inr, arith}
+use Rattle.std.specs.List.{list_any}
+use Rattle.std.specs.Option.{option_to_list}
+use Rattle.std.specs.Prelude.{int_le}
+use Rattle.std.proofs.lemmas.Bool.{and_parts, or_left, or_right, both_ways, eq-eqb, le-leb}
+use Rattle.std.proofs.lemmas.Bool.Decides.{Decides-int_eq}
+use Rattle.std.proofs.lemmas.List.Folds.{list_any-append}
+use Rattle.uring_entry.specs.Setup.{Setup}
+use Rattle.uring_entry.specs.Preparation.{is_cancel}
+use Rattle.uring_entry.specs.Success.{is_success}
+use Rattle.uring_entry.specs.Requests.{Requests, entry_of, is_cancelled, target_of, targets_of, choices_of, chosen_by, doomed_result, cancel_result, no_bytes, with_issued_end}
+use Rattle.uring_laws.specs.HistoryLists.{IsChosenIn}
+use Rattle.uring_machine.specs.Direct.{Chose}
+use Rattle.uring_machine.specs.World.{World}
+use Rattle.uring_machine.specs.Histories.{Event, History, world, IsLawfulApart}
+use Rattle.uring_machine.specs.declared.step.Step.{Step}
+use Rattle.uring_machine.specs.declared.step.Step.TheVariants as step
+use Rattle.uring_machine.specs.declared.answer.Answer.{Answer}
+use Rattle.uring_machine.specs.declared.answer.Answer.TheVariants as answer
+use Rattle.uring_machine.proofs.Moves.{Move, ends_doomed, ends_cancel, move_of}
+use Rattle.uring_machine.proofs.RequestEnds.{doomed_fails, chose, any_both}
+use Rattle.uring_machine.proofs.SoundRequests.{outstanding_tells}
+use Rattle.uring_entry.proofs.RequestLemmas.{one_success, all_success, target-there}
+use Rattle.uring_machine.proofs.Growth.{event_grows}
+
+-- where a request is newly chosen, the event is the end of a cancel
+record IsChoosing (w : World) (s : Step) (a : Answer) (m : ℕ) : Type 0 where
+  number : ℕ
+  res : ℤ
+  now : Chose w.requests number res m
+  step_is : s ≡ step.Issue number
+  answer_is : a ≡ answer.Ended res no_bytes
+
+new_cancel : (w : World) (s : Step) (a : Answer) (later : Requests) → Move w.requests s a later
+    → (m : ℕ) → is_cancelled later m ≡ true → (is_cancelled w.requests m ≡ true) ⊎ IsChoosing w s a m
+new_cancel w s a later (ends_doomed n outstanding) m gone =
+    elim (any_both (λ k. k == m) w.requests.cancelled (chosen_by w.requests n (doomed_result w.requests n)) gone) [
+      | inl old ↦ inl old
+      | inr new ↦ absurd (both_ways _ (doomed_fails w.requests n) (chose w.requests n (doomed_result w.requests n) m new).0)
+    ]
+new_cancel w s a later (ends_cancel n outstanding spared ready cancel) m gone =
+    elim (any_both (λ k. k == m) w.requests.cancelled (chosen_by w.requests n (cancel_result w.requests n)) gone) [
+      | inl old ↦ inl old
+      | inr new ↦ inr (record { number = n; res = cancel_result w.requests n; now = (chose w.requests n (cancel_result w.requests n) m new).1; step_is = refl; answer_is = refl })
+    ]
+new_cancel w s a later _ m gone = inl gone
+
+one_later : (g : Setup) (e : Event) (h : History) (m : ℕ) → IsChosenIn g h m → IsChosenIn g (e ∷ h) m
+one_later g e h m c = record { after = e ∷ c.after; before = c.before; number = c.number; res = c.res; bytes = c.bytes; split = ap (λ xs. e ∷ xs) c.split; chose = c.chose }
+
+pub chosen_in : (g : Setup) (h : History) → IsLawfulApart g h → (m : ℕ) → is_cancelled (world g h).requests m ≡ true → IsChosenIn g h m
+chosen_in g [] lawful m gone = absurd (let f : false ≡ true = gone in cc)
+chosen_in g ((s, a) ∷ before) lawful m gone =
+    elim (new_cancel (world g before) s a _ (move_of g s a before lawful) m gone) [
+      | inl old ↦ one_later g (s, a) before m (chosen_in g before lawful.1 m old)
+      | inr new ↦
+          record {
+            after = [];
+            before = before;
+            number = new.number;
+            res = new.res;
+            bytes = no_bytes;
+            split = ap (λ x. (x, a) ∷ before) new.step_is ∙ ap (λ b. (step.Issue new.number, b) ∷ before) new.answer_is;
+            chose = new.now;
+          }
+    ]
+
+-- the end of a cancel dooms whom it chose
+dooms_with : (r : Requests) (n : ℕ) (res : ℤ) (m : ℕ) → is_cancel (entry_of r n) ≡ true → is_success (entry_of r n) res ≡ true → list_any (λ k. k == m) (choices_of r n) ≡ true → is_cancelled (with_issued_end r n res) m ≡ true
+dooms_with r n res m cancel success there =
+    list_any-append (λ k. k == m) r.cancelled (chosen_by r n res)
+    ∙ or_right _ _
+    (ap (λ b. list_any (λ k. k == m) (cond (b && is_success (entry_of r n) res) (choices_of r n) [])) cancel
+    ∙ ap (λ b. list_any (λ k. k == m) (cond b (choices_of r n) [])) success
+    ∙ there)
+
+dooms_now : (r : Requests) (n : ℕ) (res : ℤ) (m : ℕ) → Chose r n res m → is_cancelled (with_issued_end r n res) m ≡ true
+dooms_now r n res m (inl c) =
+    dooms_with r n res m c.cancel (one_success (entry_of r n) res c.cancel c.one ∙ (Decides-int_eq res (pos 0)).1 c.result)
+    (ap (λ b. list_any (λ k. k == m) (cond b (targets_of r n) (option_to_list (target_of r n)))) c.one
+    ∙ ap (λ o. list_any (λ k. k == m) (option_to_list o)) c.target
+    ∙ or_left (m == m) false (eq-eqb m m refl))
+dooms_now r n res m (inr c) =
+    let within = (outstanding_tells r m (and_parts _ _ (and_parts _ _ (and_parts _ _ (and_parts _ _ c.target).0).0).0).0).0 in
+    dooms_with r n res m (and_parts _ _ c.all).0
+    (all_success (entry_of r n) res c.all ∙ ap (int_le (pos 0)) c.result ∙ le-leb 0 c.count (omega arith))
+    (ap (λ b. list_any (λ k. k == m) (cond b (targets_of r n) (option_to_list (target_of r n)))) c.all ∙ target-there r n m within c.target)
+
+stays_chosen : (g : Setup) (after before : History) (n : ℕ) (res : ℤ) (m : ℕ) (bytes : List ℕ) → IsLawfulApart g (after ++ (step.Issue n, answer.Ended res bytes) ∷ before) → Chose (world g before).requests n res m
+    → is_cancelled (world g (after ++ (step.Issue n, answer.Ended res bytes) ∷ before)).requests m ≡ true
+stays_chosen g [] before n res m bytes lawful chose = dooms_now (world g before).requests n res m chose
+stays_chosen g ((s, a) ∷ after) before n res m bytes lawful chose =
+    (event_grows g s a (after ++ (step.Issue n, answer.Ended res bytes) ∷ before) lawful).stays_cancelled m (stays_chosen g after before n res m bytes lawful.1 chose)
+
+pub chosen_stays : (g : Setup) (h : History) → IsLawfulApart g h → (m : ℕ) → IsChosenIn g h m → is_cancelled (world g h).requests m ≡ true
+chosen_stays g h lawful m c =
+    subst (λ x. is_cancelled (world g x).requests m ≡ true) (sym c.split)
+    (stays_chosen g c.after c.before c.number c.res m c.bytes (subst (IsLawfulApart g) c.split lawful) c.chose)

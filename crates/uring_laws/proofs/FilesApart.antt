@@ -1,0 +1,109 @@
+-- The laws of `files.rt` on lists of operations alone: the file of a descriptor is made by the operations on it,
+-- and operations that were dealt out by their file can be carried out at places with files of their own.
+-- From the lemmas of uring_files that each file stands by itself. Stable: other crates may import what is pub.
+use Rattle.std.proofs.Common.{◌≡◌, ℕ, ◌<◌, ◌==◌, ℤ, Bool, true, false, cond, List, [], ◌∷◌, map, refl, sym, ap, ◌∙◌, inl, inr}
+use Rattle.std.specs.List.{filter}
+use Rattle.std.proofs.lemmas.Bool.{both_ways, eq-eqb, false_from_ne_true}
+use Rattle.uring_entry.specs.Preparation.{operation_of}
+use Rattle.uring_entry.specs.Requests.{Requests, Ending, entry_of}
+use Rattle.uring_entry.specs.declared.operation.Op.{Op}
+use Rattle.uring_entry.specs.declared.operation.Outcome.{Outcome}
+use Rattle.uring_files.specs.Contents.{FileContents}
+use Rattle.uring_files.specs.Laws.{AgreeAt, is_on}
+use Rattle.uring_files.specs.Operations.{file_of, after, IsOutcome}
+use Rattle.uring_files.proofs.StandAlone.{others_stay, files_apart, ends_apart}
+use Rattle.uring_machine.specs.CalledFor.{files_after}
+use Rattle.uring_laws.specs.Finishes.{Done, files_left, AreDone, ends_of, done_at, IsByFile, FileByItsEnds}
+
+-- The file of a descriptor.
+
+-- files that agree at a descriptor agree there after operations, also if those that aren't on its file are left out on one side
+left_apart : (files others : List FileContents) (done : List Done) (fd : ℤ) (keeps : Op → Bool) → ((op : Op) → is_on fd op ≡ true → keeps op ≡ true) → AgreeAt fd files others
+    → AgreeAt fd (files_left files done) (files_left others (filter (λ d. keeps d.op) done))
+left_apart files others [] fd keeps own same = same
+left_apart files others (d ∷ later) fd keeps own same = by_test (keeps d.op) refl (λ fs os agree. left_apart fs os later fd keeps own agree) where
+  by_test : (here : Bool) → keeps d.op ≡ here → ((fs os : List FileContents) → AgreeAt fd fs os → AgreeAt fd (files_left fs later) (files_left os (filter (λ x. keeps x.op) later)))
+      → AgreeAt fd (files_left (after files d.op d.outcome.res) later) (files_left others (cond here (d ∷ filter (λ x. keeps x.op) later) (filter (λ x. keeps x.op) later)))
+  by_test true e then_on = then_on (after files d.op d.outcome.res) (after others d.op d.outcome.res) (files_apart files others d.op d.outcome.res fd same)
+  by_test false e then_on =
+      let elsewhere : is_on fd d.op ≡ false = false_from_ne_true _ (λ on. both_ways _ e (own d.op on)) in
+      then_on (after files d.op d.outcome.res) others (others_stay files d.op d.outcome.res fd elsewhere ∙ same)
+
+pub left_by_own : (files : List FileContents) (done : List Done) (fd : ℤ) (keeps : Op → Bool) → ((op : Op) → is_on fd op ≡ true → keeps op ≡ true)
+    → AgreeAt fd (files_left files done) (files_left files (filter (λ d. keeps d.op) done))
+left_by_own files done fd keeps own = left_apart files files done fd keeps own refl
+
+-- an end, as an operation that was carried out
+done_of : Requests → Ending → Done
+done_of r e = record { number = e.number; op = operation_of (entry_of r e.number); outcome = record { res = e.res; bytes = e.bytes } }
+
+after_is_left : (r : Requests) (files : List FileContents) (ends : List Ending) → files_after r files ends ≡ files_left files (map (done_of r) ends)
+unfolding done_of
+after_is_left r files [] = refl
+after_is_left r files (e ∷ later) = after_is_left r (after files (operation_of (entry_of r e.number)) e.res) later
+
+own_ends : (r : Requests) (ends : List Ending) (fd : ℤ) → map (done_of r) (ends_of fd r ends) ≡ filter (λ d. is_on fd d.op) (map (done_of r) ends)
+unfolding done_of
+own_ends r [] fd = refl
+own_ends r (e ∷ later) fd = by_test (is_on fd (operation_of (entry_of r e.number))) (own_ends r later fd) where
+  by_test : (on : Bool) → map (done_of r) (ends_of fd r later) ≡ filter (λ d. is_on fd d.op) (map (done_of r) later)
+      → map (done_of r) (cond on (e ∷ ends_of fd r later) (ends_of fd r later)) ≡ cond on (done_of r e ∷ filter (λ d. is_on fd d.op) (map (done_of r) later)) (filter (λ d. is_on fd d.op) (map (done_of r) later))
+  by_test true rest = ap (λ ds. done_of r e ∷ ds) rest
+  by_test false rest = rest
+
+pub after_by_own : FileByItsEnds
+after_by_own r files ends fd =
+    ap (λ fs. file_of fs fd) (after_is_left r files ends)
+    ∙ left_by_own files (map (done_of r) ends) fd (is_on fd) (λ op on. on)
+    ∙ ap (λ ds. file_of (files_left files ds) fd) (sym (own_ends r ends fd))
+    ∙ ap (λ fs. file_of fs fd) (sym (after_is_left r files (ends_of fd r ends)))
+
+-- Operations dealt out by their file.
+
+-- an outcome depends on no file but the operation's own
+outcome_apart : (files others : List FileContents) (op : Op) (outcome : Outcome) → ((fd : ℤ) → is_on fd op ≡ true → AgreeAt fd files others) → IsOutcome others op outcome → IsOutcome files op outcome
+outcome_apart files others op outcome agree (inl called) = inl (called ∙ sym (ends_apart files others op agree).0)
+outcome_apart files others op outcome agree (inr refused) = inr ((ends_apart files others op agree).1 ∙ refused.0, refused.1)
+
+-- each place has the files on which its operations are
+abbrev Agree : (Op → ℕ) → List FileContents → (ℕ → List FileContents) → Type 0
+Agree place files parts = (fd : ℤ) (op : Op) → is_on fd op ≡ true → AgreeAt fd files (parts (place op))
+
+module _ (place : Op → ℕ) (by_file : IsByFile place) where
+  -- the files of a place after an operation, if it is the place's own
+  part_after : Done → (ℕ → List FileContents) → ℕ → List FileContents
+  part_after d parts k = cond (place d.op == k) (after (parts k) d.op d.outcome.res) (parts k)
+
+  agree_after : (files : List FileContents) (parts : ℕ → List FileContents) (d : Done) → Agree place files parts → Agree place (after files d.op d.outcome.res) (part_after d parts)
+  unfolding part_after
+  agree_after files parts d agree fd op on = by_test (place d.op == place op) refl where
+    by_test : (here : Bool) → (place d.op == place op) ≡ here → AgreeAt fd (after files d.op d.outcome.res) (cond here (after (parts (place op)) d.op d.outcome.res) (parts (place op)))
+    by_test true e = files_apart files (parts (place op)) d.op d.outcome.res fd (agree fd op on)
+    by_test false e =
+        let elsewhere : is_on fd d.op ≡ false = false_from_ne_true _ (λ also. both_ways _ e (eq-eqb _ _ (by_file fd d.op op also on))) in
+        others_stay files d.op d.outcome.res fd elsewhere ∙ agree fd op on
+
+  -- what is left for a place once the first operation was carried out
+  left_at : (parts : ℕ → List FileContents) (d : Done) (later : List Done) (k : ℕ) → AreDone (parts k) (done_at place k (d ∷ later)) → AreDone (part_after d parts k) (done_at place k later)
+  unfolding part_after
+  left_at parts d later k done = by_test (place d.op == k) done where
+    by_test : (here : Bool) → AreDone (parts k) (cond here (d ∷ done_at place k later) (done_at place k later)) → AreDone (cond here (after (parts k) d.op d.outcome.res) (parts k)) (done_at place k later)
+    by_test true all = all.1
+    by_test false all = all
+
+  first_at : (parts : ℕ → List FileContents) (d : Done) (later : List Done) → AreDone (parts (place d.op)) (done_at place (place d.op) (d ∷ later)) → IsOutcome (parts (place d.op)) d.op d.outcome
+  first_at parts d later done = by_test (place d.op == place d.op) (eq-eqb _ _ refl) done where
+    by_test : (here : Bool) → here ≡ true → AreDone (parts (place d.op)) (cond here (d ∷ done_at place (place d.op) later) (done_at place (place d.op) later)) → IsOutcome (parts (place d.op)) d.op d.outcome
+    by_test true e all = all.0
+    by_test false e all = absurd (let f : false ≡ true = e in cc)
+
+  joined : (places : ℕ) → ((op : Op) → place op < places) → (files : List FileContents) (parts : ℕ → List FileContents) (done : List Done) → Agree place files parts → ((k : ℕ) → k < places → AreDone (parts k) (done_at place k done)) → AreDone files done
+  joined places within files parts [] agree at = tt
+  joined places within files parts (d ∷ later) agree at = (
+    outcome_apart files (parts (place d.op)) d.op d.outcome (λ fd on. agree fd d.op on) (first_at parts d later (at (place d.op) (within d.op))),
+    joined places within (after files d.op d.outcome.res) (part_after d parts) later (agree_after files parts d agree) (λ k lt. left_at parts d later k (at k lt)),
+  )
+
+-- what each place did on files of its own is right on files together
+pub join_places : (place : Op → ℕ) (places : ℕ) → IsByFile place → ((op : Op) → place op < places) → (files : List FileContents) (done : List Done) → ((k : ℕ) → k < places → AreDone files (done_at place k done)) → AreDone files done
+join_places place places by_file within files done at = joined place by_file places within files (λ k. files) done (λ fd op on. refl) at

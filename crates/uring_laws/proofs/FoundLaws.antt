@@ -1,0 +1,53 @@
+-- What a cancel of one request finds, from what is told of it.
+use Rattle.std.proofs.Common.{◌≡◌, ℕ, ◌<◌, length, Bool, true, false, not, ◌&&◌, Option, Some, None, refl, sym, ◌∙◌, ap, subst}
+use Rattle.std.specs.Prelude.{if◌then◌else◌, pos, neg_ℤ}
+use Rattle.uring_entry.specs.declared.errno.TheConstants.{EALREADY}
+use Rattle.uring_entry.specs.declared.operation.Op.{Op}
+use Rattle.uring_entry.specs.declared.operation.Op.TheVariants.{Cancel}
+use Rattle.uring_entry.specs.Preparation.{is_faulty, is_cancel_all, operation_of}
+use Rattle.uring_entry.specs.Requests.{Requests, entry_of, is_outstanding, is_running, is_candidate, target_of, targets_of, cancel_result, count_result, result_for}
+use Rattle.uring_entry.proofs.BelowLemmas.{least_below-out, least_below-tells}
+use Rattle.uring_dispatch.specs.Cancels.{found_as, found_for, found_by}
+use Rattle.uring_dispatch.specs.declared.answers.Found.{Found}
+use Rattle.uring_dispatch.specs.declared.answers.Found.TheVariants.{Running, Chosen}
+use Rattle.uring_dispatch.proofs.Issues.{is_cancel-operation}
+use Rattle.uring_laws.specs.Reasons.{IsLeastOf, IsFound, Finds, ends_with}
+
+target-none : (r : Requests) (n : ℕ) → target_of r n ≡ None → (m : ℕ) → m < length r.accepted → is_candidate r n m ≡ false
+unfolding target_of
+target-none r n e m lt = least_below-out (is_candidate r n) (length r.accepted) e m lt
+
+target-some : (r : Requests) (n m : ℕ) → target_of r n ≡ Some m → IsLeastOf (is_candidate r n) (length r.accepted) m
+unfolding target_of
+target-some r n m e =
+    let least = least_below-tells (is_candidate r n) (length r.accepted) m e in
+    record { below = least.below; holds = least.holds; least = least.before }
+
+-- what is found, and what the cancel ends with
+found-as : (r : Requests) (n : ℕ) (o : Option ℕ) → target_of r n ≡ o → IsFound r n (found_as r o) × (result_for r o ≡ ends_with (found_as r o))
+found-as r n None e = (target-none r n e, refl)
+found-as r n (Some m) e = go (is_running r m) refl
+  where
+    go : (b : Bool) → is_running r m ≡ b → IsFound r n (if b then Running m else Chosen m) × ((if b then neg_ℤ EALREADY else pos 0) ≡ ends_with (if b then Running m else Chosen m))
+    go true runs = ((target-some r n m e, runs), refl)
+    go false still = ((target-some r n m e, still), refl)
+
+found-one : (r : Requests) (n : ℕ) (f : Found) → is_cancel_all (entry_of r n) ≡ false → found_as r (target_of r n) ≡ f → IsFound r n f × (cancel_result r n ≡ ends_with f)
+found-one r n f one is =
+    let so = found-as r n (target_of r n) refl in
+    subst (λ x. IsFound r n x × (cancel_result r n ≡ ends_with x)) is
+    (so.0, ap (λ b. if b then count_result (length (targets_of r n)) else result_for r (target_of r n)) one ∙ so.1)
+
+pub found-said : (r : Requests) (n : ℕ) (f : Found) → found_by r n ≡ Some f → Finds r n f
+found-said r n f e = by_standing (is_outstanding r n) (is_faulty (entry_of r n)) refl e
+  where
+    by_operation : is_outstanding r n ≡ true → (op : Op) → operation_of (entry_of r n) ≡ op → found_for r n (Some op) ≡ Some f → Finds r n f
+    by_operation given (Cancel t false) does is =
+        let asks = is_cancel-operation (entry_of r n) t false does in
+        let so = found-one r n f (sym asks.1) (let same : found_as r (target_of r n) ≡ f = cc in same) in
+        record { outstanding = given; cancels = asks.0; one = sym asks.1; found = so.0; result = so.1 }
+    by_operation given _ does is = cc
+
+    by_standing : (b c : Bool) → is_outstanding r n ≡ b → found_for r n (if b && not c then Some (operation_of (entry_of r n)) else None) ≡ Some f → Finds r n f
+    by_standing true false given is = by_operation given (operation_of (entry_of r n)) refl is
+    by_standing _ _ given is = cc

@@ -1,0 +1,20 @@
+pub mod RequestLaws
+pub mod RingLaws
+pub mod TakenPlaces
+pub mod OrderLaws
+pub mod DirectSubmission
+pub mod DirectCompletions
+pub mod DirectRequests
+pub mod DirectPlaces
+pub mod DirectPut
+pub mod Chosen
+pub mod ReadOff
+pub mod FilesApart
+pub mod FileLaws
+pub mod PublishedItems
+pub mod Standing
+pub mod WholeCalls
+pub mod ReasonLaws
+pub mod FoundLaws
+mod WorkedHistory
+pub mod Stopping

@@ -1,0 +1,116 @@
+-- The laws of doomed requests, links and drains.
+use Rattle.std.proofs.Common.{◌≡◌, ℕ, ◌<◌, ◌==◌, pos, neg_ℤ, true, false, not, ◌||◌, List, ◌∷◌, ◌++◌, Option, Some, None, length, slice_get, count_by, refl, sym, subst, ap, ◌∙◌, inl, inr, arith}
+use Rattle.std.specs.Ordering.{int_eq}
+use Rattle.std.proofs.lemmas.Bool.{and_from, both_ways, eq-eqb, true_from_ne_false, false_from_ne_true, cond_both}
+use Rattle.std.proofs.lemmas.Bool.Decides.{Decides-int_eq}
+use Rattle.std.proofs.lemmas.List.Folds.{list_any_at}
+use Rattle.std.proofs.lemmas.Option.{slice_get_within, get_or_from_slice_get}
+use Rattle.uring_entry.specs.Setup.{Setup}
+use Rattle.uring_entry.specs.declared.errno.TheConstants.{EALREADY, ECANCELED}
+use Rattle.uring_entry.specs.Requests.{Requests, Ending, has_started, has_ended, is_joined, is_draining, is_doomed, is_ready, is_running, waits_for, doomed_result, cancel_result, count_result, result_for, target_of, targets_of, entry_of}
+use Rattle.uring_entry.specs.Preparation.{is_cancel_all}
+use Rattle.uring_machine.specs.World.{World}
+use Rattle.uring_machine.specs.StepAnswers.{IsEnded}
+use Rattle.uring_machine.specs.Histories.{History, world, IsLawfulApart}
+use Rattle.uring_machine.specs.Direct.{started_by}
+use Rattle.uring_laws.specs.Laws.{DoomedNeverRun, IsStart, times_ended}
+use Rattle.uring_machine.specs.declared.step.Step.TheVariants as step
+use Rattle.uring_machine.specs.declared.answer.Answer.{Answer}
+use Rattle.uring_machine.specs.declared.answer.Answer.TheVariants as answer
+use Rattle.uring_machine.proofs.Changes.{Change, change_of, IsSilent, refuses, runs, dooms, cancels}
+use Rattle.uring_machine.proofs.SoundRequests.{IsSoundRequests, EndsDoomed, is_otherwise, outstanding_tells, waited}
+use Rattle.uring_machine.proofs.ListCounts.{count_none, count_some}
+use Rattle.uring_machine.proofs.Sound.{sound_of}
+use Rattle.uring_machine.proofs.ToldRequests.{tells_requests}
+use Rattle.uring_machine.proofs.Growth.{Grows, grows, event_grows, then_grows, lawful_before}
+
+unstarted : (r : Requests) (n : ℕ) → IsSoundRequests r → is_doomed r n ≡ true → has_started r n ≡ false
+unstarted r n s doomed = false_from_ne_true _ (λ started. both_ways _ (s.started_free n started).spared doomed)
+
+-- an end among these that has another result is among those that do
+ends_doomed : (r : Requests) (k : ℕ) (e : Ending) → IsSoundRequests r → slice_get r.ended k ≡ Some e → is_doomed r e.number ≡ true → e.res ≡ doomed_result r e.number
+ends_doomed r k e s at doomed =
+    let within = slice_get_within r.ended k e at in
+    let here = get_or_from_slice_get r.ended k e e at in
+    let ended : has_ended r e.number ≡ true = list_any_at (λ x. x.number == e.number) r.ended k e within (ap (λ x. x.number == e.number) here ∙ eq-eqb _ _ refl) in
+    let otherwise = λ (d : EndsDoomed r e.number) (differ : int_eq e.res (doomed_result r e.number) ≡ false).
+    both_ways _ d (list_any_at (is_otherwise r e.number) r.ended k e within (ap (is_otherwise r e.number) here ∙ and_from (e.number == e.number) _ (eq-eqb e.number _ refl) (ap not differ))) in
+    elim (s.ended_how e.number ended) [
+      | inl d ↦ (Decides-int_eq e.res (doomed_result r e.number)).0 (true_from_ne_false _ (otherwise d))
+      | inr free ↦ absurd (both_ways _ free.spared doomed)
+    ]
+
+pub never_run : (g : Setup) (h : History) → IsLawfulApart g h → DoomedNeverRun g h
+never_run g h lawful =
+    let s = (sound_of g h lawful).requests in
+    let t = tells_requests g h lawful in
+    record {
+      never_run = λ n doomed. subst (λ xs. count_by (λ m. m == n) xs ≡ 0) (sym t.started) (count_none (λ m. m == n) (world g h).requests.started (unstarted (world g h).requests n s doomed));
+      ends_so = λ k e at doomed. ends_doomed (world g h).requests k e s (subst (λ xs. slice_get xs k ≡ Some e) t.ended at) doomed;
+    }
+
+-- ECANCELED is no result of a cancel
+one_unlike : (r : Requests) (target : Option ℕ) → int_eq (result_for r target) (neg_ℤ ECANCELED) ≡ false
+one_unlike r None = refl
+one_unlike r (Some m) = cond_both (is_running r m) (neg_ℤ EALREADY) (pos 0) (λ res. int_eq res (neg_ℤ ECANCELED) ≡ false) (λ _. refl) (λ _. refl)
+
+cancel_unlike : (r : Requests) (n : ℕ) → int_eq (cancel_result r n) (neg_ℤ ECANCELED) ≡ false
+cancel_unlike r n = cond_both (is_cancel_all (entry_of r n)) (count_result (length (targets_of r n))) (result_for r (target_of r n)) (λ res. int_eq res (neg_ℤ ECANCELED) ≡ false) (λ _. refl) (λ _. one_unlike r (target_of r n))
+
+-- an Issue that is refused neither starts nor ends its request
+refused_no_end : (n : ℕ) (a : Answer) → IsSilent (step.Issue n, a) → IsEnded a → ⊥
+refused_no_end n (answer.Ended res bytes) silent ended = let e = silent.ends in absurd cc
+refused_no_end n _ silent ended = ended
+
+refused_no_run : (n : ℕ) (a : Answer) → IsSilent (step.Issue n, a) → a ≡ answer.Run → ⊥
+refused_no_run n a silent run = let e : started_by (step.Issue n, answer.Run) ≡ None = subst (λ b. started_by (step.Issue n, b) ≡ None) run silent.starts in absurd cc
+
+doomed_just_before : (g : Setup) (w : World) (n : ℕ) (a : Answer) (bytes : List ℕ) → Change g w (step.Issue n) a → a ≡ answer.Ended (neg_ℤ ECANCELED) bytes → is_doomed w.requests n ≡ true
+doomed_just_before g w n a bytes (refuses _ _ same silent) is = absurd (refused_no_end n a silent (subst IsEnded (sym is) tt))
+doomed_just_before g w n a bytes (runs _ outstanding idle spared ready no_cancel) is = absurd cc
+doomed_just_before g w n a bytes (dooms _ outstanding idle doomed) is = doomed
+doomed_just_before g w n a bytes (cancels _ outstanding idle spared ready cancel) is =
+    let e : cancel_result w.requests n ≡ neg_ℤ ECANCELED = cc in
+    absurd (both_ways _ (cancel_unlike w.requests n) ((Decides-int_eq (cancel_result w.requests n) (neg_ℤ ECANCELED)).1 e))
+
+pub were_doomed : (g : Setup) (after before : History) (n : ℕ) (bytes : List ℕ) → IsLawfulApart g (after ++ (step.Issue n, answer.Ended (neg_ℤ ECANCELED) bytes) ∷ before) → is_doomed (world g before).requests n ≡ true
+were_doomed g after before n bytes lawful =
+    let l = lawful_before g after ((step.Issue n, answer.Ended (neg_ℤ ECANCELED) bytes) ∷ before) lawful in
+    doomed_just_before g (world g before) n _ bytes (change_of g (world g before) (step.Issue n) _ l.0) refl
+
+pub stay_doomed : (g : Setup) (after before : History) (n : ℕ) → IsLawfulApart g (after ++ before) → n < length (world g before).requests.accepted → is_doomed (world g before).requests n ≡ true → is_doomed (world g (after ++ before)).requests n ≡ true
+stay_doomed g after before n lawful within doomed = (grows g after before lawful).stays_doomed n within doomed
+
+-- Links and drains.
+
+-- what is known where an Issue starts its request
+record Started (w : World) (n : ℕ) : Type 0 where
+  accepted : n < length w.requests.accepted
+  ready : is_ready w.requests n ≡ true
+
+started_ready : (g : Setup) (w : World) (n : ℕ) (a : Answer) → Change g w (step.Issue n) a → IsStart w.requests n a → Started w n
+started_ready g w n a (refuses _ _ same silent) (inl run) = absurd (refused_no_run n a silent run)
+started_ready g w n a (refuses _ _ same silent) (inr ended) = absurd (refused_no_end n a silent ended.0)
+started_ready g w n a (runs _ outstanding idle spared ready no_cancel) start = record { accepted = (outstanding_tells w.requests n outstanding).0; ready = ready }
+started_ready g w n a (dooms _ outstanding idle doomed) (inl run) = absurd cc
+started_ready g w n a (dooms _ outstanding idle doomed) (inr ended) = absurd (both_ways _ ended.1 doomed)
+started_ready g w n a (cancels _ outstanding idle spared ready cancel) start = record { accepted = (outstanding_tells w.requests n outstanding).0; ready = ready }
+
+same_wait : (r later : Requests) (n m : ℕ) → Grows r later → m < n → n < length r.accepted → waits_for later n m ≡ waits_for r n m
+same_wait r later n m g lt within =
+    ap (λ b. b || is_draining later m || is_draining later n) (g.same_group m n within)
+    ∙ ap (λ b. is_joined r m n || b || is_draining later n) (g.same_drain m (omega arith))
+    ∙ ap (λ b. is_joined r m n || is_draining r m || b) (g.same_drain n within)
+
+pub waits : (g : Setup) (after before : History) (m n : ℕ) (a : Answer) → IsLawfulApart g (after ++ (step.Issue n, a) ∷ before) → IsStart (world g before).requests n a → m < n
+    → waits_for (world g (after ++ (step.Issue n, a) ∷ before)).requests n m ≡ true → times_ended before m ≡ 1
+waits g after before m n a lawful start lt waiting =
+    let l = lawful_before g after ((step.Issue n, a) ∷ before) lawful in
+    let c = change_of g (world g before) (step.Issue n) a l.0 in
+    let at = started_ready g (world g before) n a c start in
+    let more = then_grows _ _ _ (event_grows g (step.Issue n) a before l) (grows g after ((step.Issue n, a) ∷ before) lawful) in
+    let ended = waited (world g before).requests n m at.ready lt (sym (same_wait _ _ n m more lt at.accepted) ∙ waiting) in
+    let s = (sound_of g before l.1).requests in
+    let t = tells_requests g before l.1 in
+    let once : count_by (λ e. e.number == m) (world g before).requests.ended ≡ 1 = omega (arith, s.ends_once m, count_some (λ e. e.number == m) (world g before).requests.ended ended) in
+    subst (λ xs. count_by (λ e. e.number == m) xs ≡ 1) (sym t.ended) once

@@ -1,0 +1,46 @@
+-- The lists of a world are its history's own.
+use Rattle.std.proofs.Common.{sym, ap, ◌∙◌}
+use Rattle.uring_entry.specs.Setup.{Setup}
+use Rattle.uring_machine.specs.Histories.{History, world, IsLawfulApart}
+use Rattle.uring_laws.specs.HistoryLists.{OwnSubmission, OwnRequests, OwnCompletions}
+use Rattle.uring_laws.proofs.DirectSubmission.{direct_submission, call_direct}
+use Rattle.uring_laws.proofs.DirectCompletions.{direct_completions}
+use Rattle.std.specs.List.{filter_map}
+use Rattle.uring_machine.specs.Direct.{completion_of, before_last, is_load_cq_tail}
+use Rattle.uring_laws.proofs.DirectPut.{direct_put, lawful_last}
+use Rattle.uring_laws.proofs.DirectRequests.{direct_requests, direct_posted}
+use Rattle.uring_laws.proofs.DirectPlaces.{direct_places}
+use Rattle.uring_machine.proofs.ToldRequests.{tells_requests}
+
+pub own_submission : (g : Setup) (h : History) → IsLawfulApart g h → OwnSubmission g h
+own_submission g h lawful =
+    let d = direct_submission g h lawful in
+    record {
+      content = d.content;
+      published = d.published;
+      staged = d.staged;
+      entries = direct_places g h lawful;
+      call = call_direct g h (world g h) d;
+      calls = d.calls;
+      seen_head = d.seen;
+      is_closed = (direct_requests g h lawful).shut;
+    }
+
+pub own_requests : (g : Setup) (h : History) → IsLawfulApart g h → OwnRequests g h
+own_requests g h lawful =
+    let t = tells_requests g h lawful in
+    let d = direct_requests g h lawful in
+    record { accepted_taken = d.taken_in; cuts = d.cuts; started = sym t.started; ended = sym t.ended }
+
+pub own_completions : (g : Setup) (h : History) → IsLawfulApart g h → OwnCompletions g h
+own_completions g h lawful =
+    let d = direct_completions g h lawful in
+    let t = tells_requests g h lawful in
+    record {
+      posted = direct_posted g h lawful ∙ ap (filter_map (completion_of (world g h).requests.accepted)) (sym t.ended);
+      put = direct_put g h lawful;
+      reaped = d.reaped;
+      head = d.stored;
+      seen_head = d.flushed;
+      seen_tail = d.seen ∙ direct_put g (before_last is_load_cq_tail h) (lawful_last g is_load_cq_tail h lawful);
+    }

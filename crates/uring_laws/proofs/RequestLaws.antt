@@ -1,0 +1,69 @@
+-- The laws `each_ends_once` and `least_can_go_on`.
+-- From what is sound of the requests, and from what can be issued.
+use Rattle.std.proofs.Common.{◌≡◌, ℕ, ◌<◌, ◌≤◌, ◌==◌, Bool, true, false, not, ◌||◌, List, Option, Some, None, length, count_by, ℤ, if◌then◌else◌, refl, sym, subst, inl, inr, arith}
+use Rattle.std.specs.List.{list_any}
+use Rattle.std.proofs.lemmas.Bool.{and_parts, and_cases, ltb-true, lt-ltb, both_ways, or_cases, not-false, not-true, false_from_ne_true, true_from_ne_false}
+use Rattle.uring_entry.specs.Setup.{Setup}
+use Rattle.uring_entry.specs.Requests.{Requests, has_ended, is_outstanding, least_of, next_of, entry_of, is_doomed, is_ready, is_running, is_issuable, doomed_result, cancel_result, no_bytes}
+use Rattle.uring_entry.proofs.BelowLemmas.{least_below-out, least_below-some, least_below-tells}
+use Rattle.uring_entry.proofs.RequestLemmas.{least_of-goes_on}
+use Rattle.uring_laws.specs.Laws.{LeastCanGoOn, EachEndsOnce}
+use Rattle.uring_machine.proofs.Issuable.{issue_goes, issuable_outstanding}
+use Rattle.uring_entry.specs.Preparation.{is_cancel}
+use Rattle.uring_machine.specs.World.{World}
+use Rattle.uring_machine.specs.StepAnswers.{IsEnded, issue_answer}
+use Rattle.uring_machine.specs.declared.answer.Answer.{Answer}
+use Rattle.uring_machine.specs.declared.answer.Answer.TheVariants as answer
+use Rattle.uring_machine.specs.Histories.{History, world, IsLawfulApart}
+use Rattle.uring_machine.proofs.SoundRequests.{IsSoundRequests}
+use Rattle.uring_machine.proofs.ListCounts.{count_none, count_some}
+use Rattle.uring_machine.proofs.Sound.{sound_of}
+use Rattle.uring_machine.proofs.ToldRequests.{tells_requests}
+
+-- the least outstanding request is the next, where it isn't running
+least_is_next : (r : Requests) (m : ℕ) → least_of r ≡ Some m → is_issuable r m ≡ true → next_of r ≡ Some m
+least_is_next r m least issuable =
+    let l = least_below-tells (is_outstanding r) (length r.accepted) m least in
+    least_below-some (is_issuable r) (length r.accepted) m l.below issuable
+    (λ k lt. false_from_ne_true _ (λ holds. both_ways _ (l.before k lt) (issuable_outstanding r k holds)))
+
+pub least_goes_on : (w : World) (n : ℕ) → is_outstanding w.requests n ≡ true → LeastCanGoOn w
+least_goes_on w n outstanding = by_least (least_of w.requests) refl where
+  by_least : (least : Option ℕ) → least_of w.requests ≡ least → LeastCanGoOn w
+  by_least None e = absurd (both_ways _ (least_below-out (is_outstanding w.requests) (length w.requests.accepted) e n (ltb-true _ _ (and_parts _ _ outstanding).0)) outstanding)
+  by_least (Some m) e =
+      record {
+        least = m;
+        is_least = e;
+        goes_on =
+            elim (or_cases _ _ (least_of-goes_on w.requests m e)) [
+              | inl running ↦ inl running
+              | inr issuable ↦ inr (least_is_next w.requests m e issuable, issue_goes w m issuable)
+            ];
+      }
+
+-- what is counted is there
+counted : {X : Type 0} (p : X → Bool) (xs : List X) → 0 < count_by p xs → list_any p xs ≡ true
+counted p xs some = true_from_ne_false _ (λ none. omega (arith, some, count_none p xs none))
+
+pub ends_once : (g : Setup) (h : History) → IsLawfulApart g h → EachEndsOnce g h
+ends_once g h lawful =
+    let s = (sound_of g h lawful).requests in
+    let t = tells_requests g h lawful in
+    let started = sym t.started in
+    let ended = sym t.ended in
+    record {
+      starts_once = λ n. subst (λ xs. count_by (λ m. m == n) xs ≤ 1) started (s.starts_once n);
+      ends_once = λ n. subst (λ xs. count_by (λ e. e.number == n) xs ≤ 1) ended (s.ends_once n);
+      accepted_start = λ n some. s.started_accepted n (counted (λ m. m == n) (world g h).requests.started (subst (λ xs. 0 < count_by (λ m. m == n) xs) t.started some));
+      accepted_end = λ n some. s.ended_accepted n (counted (λ e. e.number == n) (world g h).requests.ended (subst (λ xs. 0 < count_by (λ e. e.number == n) xs) t.ended some));
+      all_end = λ none n within. subst (λ xs. count_by (λ e. e.number == n) xs ≡ 1) ended (exactly_once (world g h).requests n s (none n) within);
+    } where
+      exactly_once : (r : Requests) (n : ℕ) → IsSoundRequests r → is_outstanding r n ≡ false → n < length r.accepted → count_by (λ e. e.number == n) r.ended ≡ 1
+      exactly_once r n s none within =
+          let over : has_ended r n ≡ true =
+          elim (and_cases _ (not (has_ended r n)) none) [
+            | inl out ↦ absurd (both_ways _ out (lt-ltb _ _ within))
+            | inr over ↦ not-false _ over
+          ] in
+          omega (arith, s.ends_once n, count_some (λ e. e.number == n) r.ended over)

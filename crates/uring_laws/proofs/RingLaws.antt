@@ -1,0 +1,64 @@
+-- The laws `reaped_begin_posted` and `nothing_after_close`, from what is sound.
+use Rattle.std.proofs.Common.{◌≡◌, ℕ, ◌≤◌, true, false, [], ◌∷◌, ◌++◌, length, take, drop, Option, Some, None, is_some, refl, sym, ap, ◌∙◌, cond, arith, append_assoc}
+use Rattle.std.specs.List.{list_any}
+use Rattle.std.proofs.lemmas.Bool.{or_from, or_right}
+use Rattle.std.proofs.lemmas.List.{take-append-drop, take-take, length-drop, length-take}
+use Rattle.uring_entry.specs.Setup.{Setup}
+use Rattle.uring_entry.specs.Completions.{Completions}
+use Rattle.uring_machine.specs.World.{World}
+use Rattle.uring_machine.specs.Histories.{History, world, IsLawfulApart}
+use Rattle.uring_laws.specs.Laws.{ReapedBeginPosted, in_ring, in_overflow}
+use Rattle.uring_machine.specs.Direct.{takes_in}
+use Rattle.uring_machine.specs.declared.step.Step.{Step}
+use Rattle.uring_machine.specs.declared.step.Step.TheVariants as step
+use Rattle.uring_machine.specs.declared.answer.Answer.{Answer}
+use Rattle.uring_machine.specs.declared.answer.Answer.TheVariants as answer
+use Rattle.uring_machine.proofs.SubmissionMoves.{SubmissionMove, stays, begins, takes, drops, closes, submission_move}
+use Rattle.uring_machine.proofs.SoundRings.{IsSoundCompletions}
+
+pub begin_posted : (size : ℕ) (l : Completions) → IsSoundCompletions size l → ReapedBeginPosted size l
+begin_posted size l s =
+    let within : length l.reaped ≤ l.put = omega arith in
+    record {
+      in_order = sym (take-append-drop l.put l.posted) ∙ ap (λ xs. xs ++ drop l.put l.posted) (sym (take-append-drop (length l.reaped) (take l.put l.posted)) ∙ ap (λ xs. xs ++ in_ring l) (take-take (length l.reaped) l.put l.posted within ∙ sym s.begins)) ∙ append_assoc l.reaped (in_ring l) (in_overflow l);
+      reaped_put = within;
+      put_posted = s.put_posted;
+      ring_holds = omega arith;
+      few_stand = omega (arith, length-drop (length l.reaped) (take l.put l.posted), length-take l.put l.posted);
+      full_ring = s.full_ring;
+    }
+
+-- the ring is closed, and no call is open
+record IsShut (w : World) : Type 0 where
+  closed : w.is_closed ≡ true
+  no_call : w.submission.call ≡ None
+
+-- what stands after the ring is closed
+record StaysShut (w : World) (after : History) : Type 0 where
+  shut : IsShut w
+  none_in : list_any takes_in after ≡ false
+
+shut_stays : (g : Setup) (w : World) (s : Step) (a : Answer) (v : World) → SubmissionMove g w s a v → IsShut w → IsShut v × (takes_in (s, a) ≡ false)
+shut_stays g w s a v (stays _ _ r c is_closed off left) i = (record { closed = left.shut ∙ or_right _ _ i.closed; no_call = i.no_call }, off.takes_into)
+shut_stays g w s a v (begins count is_open no_call unspent) i = absurd (let e = i.closed in cc)
+shut_stays g w s a v (takes entry call place opened left at valid) i = absurd (let o = i.no_call in cc)
+shut_stays g w s a v (drops call place opened left at invalid) i = absurd (let o = i.no_call in cc)
+shut_stays g w s a v (closes accepted missed head call opened all counted) i = absurd (let o = i.no_call in cc)
+shut_stays g w s a v _ i = (assumption i, refl)
+
+open_none : (w : World) → answer.Shut ≡ (cond (is_some w.submission.call) answer.InCall answer.Shut) → w.submission.call ≡ None
+open_none w e = by_call w.submission.call e where
+  by_call : (call : Option Rattle.uring_entry.specs.Submission.Call) → answer.Shut ≡ (cond (is_some call) answer.InCall answer.Shut) → call ≡ None
+  by_call None e = refl
+  by_call (Some call) e = absurd cc
+
+stays_shut : (g : Setup) (after before : History) → IsLawfulApart g (after ++ (step.Close, answer.Shut) ∷ before) → StaysShut (world g (after ++ (step.Close, answer.Shut) ∷ before)) after
+stays_shut g [] before lawful = record { shut = record { closed = refl; no_call = open_none (world g before) lawful.0 }; none_in = refl }
+stays_shut g ((s, a) ∷ after) before lawful =
+    let i = stays_shut g after before lawful.1 in
+    let move = submission_move g s a (after ++ (step.Close, answer.Shut) ∷ before) lawful in
+    let k = shut_stays g _ s a _ move i.shut in
+    record { shut = k.0; none_in = or_from _ _ k.1 i.none_in }
+
+pub nothing_after : (g : Setup) (after before : History) → IsLawfulApart g (after ++ (step.Close, answer.Shut) ∷ before) → list_any takes_in after ≡ false
+nothing_after g after before lawful = (stays_shut g after before lawful).none_in

@@ -1,0 +1,153 @@
+-- The laws of `calls.rt`: a ring that stands between calls refuses nothing that belongs to a whole call.
+-- Each from the answer that is called for, with `Stands` for what the definitions test; no history is needed.
+-- Stable: other crates may import what is pub.
+use Rattle.std.proofs.Common.{◌≡◌, ℕ, ◌+◌, ◌-◌, ◌<◌, ◌≤◌, Bool, true, false, List, [], ◌∷◌, ◌++◌, length, map, drop, get_or, Option, Some, None, is_some, slice_get, if◌then◌else◌, refl, sym, subst, ap, ap₂, ◌∙◌, ◌⊎◌, inl, inr, arith, append_assoc, append-nil}
+use Rattle.std.specs.Prelude.{All, ◌&&◌, ◌==◌, nat_le}
+use Rattle.std.specs.List.{list_any}
+use Rattle.std.proofs.Math.ListN.{drop_of_length-le}
+use Rattle.std.proofs.lemmas.Bool.{ne_eqb, eq-eqb, lt-leb, lt-ltb, le-ltb}
+use Rattle.std.proofs.lemmas.List.{length-append, length-map, map-append}
+use Rattle.std.proofs.lemmas.List.Elements.{All-head, All-tail}
+use Rattle.std.proofs.lemmas.List.Sums.{sum_by_push}
+use Rattle.std.proofs.lemmas.Option.{slice_get-get_or}
+use Rattle.uring_entry.specs.Setup.{Setup}
+use Rattle.uring_entry.specs.Layout.{Sqe}
+use Rattle.uring_entry.specs.Preparation.{is_faulty}
+use Rattle.uring_entry.specs.Submission.{Submission, Place, place_of, taken, staged, is_busy, is_full, with_closed, call_length}
+use Rattle.uring_machine.specs.World.{World, happens, taking, ending, ending_of}
+use Rattle.uring_machine.specs.StepAnswers.{OrAgain, is_spent, place_answer, entry_answer}
+use Rattle.uring_laws.specs.Published.{Published, with_entry, bad_word, item_of, IsItem}
+use Rattle.uring_laws.specs.Standing.{Stands, FreeSlotIsFilled, WordIsStaged, TailPublishes, with_item, with_items, ItemsArePublished, in_call, CallOpens, PositionIsTaken, CallCloses}
+use Rattle.uring_machine.specs.declared.step.Step.TheVariants as step
+use Rattle.uring_machine.specs.declared.answer.Answer.{Answer}
+use Rattle.uring_machine.specs.declared.answer.Answer.TheVariants as answer
+
+-- Filling and staging.
+
+-- no slot is busy
+pub slots_free : (l : Submission) (words : List ℕ) (slot : ℕ) → Stands l words 0 → is_busy l slot ≡ false
+slots_free l words slot s =
+    let none : drop l.seen_head l.published ≡ [] = drop_of_length-le l.published (let h = s.head in let q = s.waiting in omega arith) in
+    ap (list_any (λ place. place.word == slot)) none
+
+-- the ring has room for further words
+pub room_left : (size : ℕ) (l : Submission) (words : List ℕ) → Stands l words 0 → length words < size → is_full size l ≡ false
+room_left size l words s few = ne_eqb (staged l - l.seen_head) size (λ full. omega (arith, full, s.head, s.waiting, ap length s.fresh))
+
+fill_free : (slot size : ℕ) (busy : Bool) → slot < size → busy ≡ false → (if nat_le size slot then answer.NoSlot else (if busy then answer.Busy else answer.Filled)) ≡ answer.Filled
+fill_free slot size busy low free =
+    ap (λ b. if nat_le size slot then answer.NoSlot else (if b then answer.Busy else answer.Filled)) free ∙ ap (λ b. if b then answer.NoSlot else answer.Filled) (lt-leb size slot low)
+
+pub slot_filled : (g : Setup) → FreeSlotIsFilled g
+slot_filled g w words slot entry a s low called =
+    (called ∙ fill_free slot g.sq _ low (slots_free w.submission words slot s), record { fresh = s.fresh; call = s.call; head = s.head; waiting = s.waiting })
+
+pub word_staged : (g : Setup) → WordIsStaged g
+word_staged g w words word a s few called =
+    (called ∙ ap (λ full. if full then answer.Full else answer.Staged) (room_left g.sq w.submission words s few), record { fresh = ap (λ xs. xs ++ word ∷ []) s.fresh; call = s.call; head = s.head; waiting = s.waiting })
+
+pub tail_publishes : (g : Setup) → TailPublishes g
+tail_publishes g l words s =
+    record {
+      fresh = refl;
+      call = s.call;
+      head = s.head;
+      waiting = omega (arith, s.waiting, ap length s.fresh, length-append l.published (map (place_of g.sq l.content) l.fresh), length-map l.fresh (place_of g.sq l.content));
+    }
+
+-- The items, once they are published.
+
+-- the words that are staged for items
+abbrev words_of : ℕ → List Published → List ℕ
+words_of slot [] = []
+words_of slot (with_entry entry ∷ later) = slot ∷ words_of (slot + 1) later
+words_of slot (bad_word word ∷ later) = word ∷ words_of (slot + 1) later
+
+items_fresh : (l : Submission) (slot : ℕ) (items : List Published) → (with_items l slot items).fresh ≡ l.fresh ++ words_of slot items
+items_fresh l slot [] = sym (append-nil l.fresh)
+items_fresh l slot (with_entry entry ∷ later) = items_fresh (with_item l slot (with_entry entry)) (slot + 1) later ∙ append_assoc l.fresh (slot ∷ []) (words_of (slot + 1) later)
+items_fresh l slot (bad_word word ∷ later) = items_fresh (with_item l slot (bad_word word)) (slot + 1) later ∙ append_assoc l.fresh (word ∷ []) (words_of (slot + 1) later)
+
+pub items_keep : (l : Submission) (slot : ℕ) (items : List Published) → (with_items l slot items).published ≡ l.published
+items_keep l slot [] = refl
+items_keep l slot (with_entry entry ∷ later) = items_keep (with_item l slot (with_entry entry)) (slot + 1) later
+items_keep l slot (bad_word word ∷ later) = items_keep (with_item l slot (bad_word word)) (slot + 1) later
+
+-- the slots before the first are as they were
+slots_below : (l : Submission) (slot : ℕ) (items : List Published) (s : ℕ) → s < slot → (with_items l slot items).content s ≡ l.content s
+slots_below l slot [] s low = refl
+slots_below l slot (with_entry entry ∷ later) s low =
+    slots_below (with_item l slot (with_entry entry)) (slot + 1) later s (omega arith) ∙ ap (λ b. if b then entry else l.content s) (ne_eqb s slot (λ same. omega arith))
+slots_below l slot (bad_word word ∷ later) s low = slots_below (with_item l slot (bad_word word)) (slot + 1) later s (omega arith)
+
+-- each item is read back from its slot
+read_back : (size : ℕ) (l : Submission) (slot : ℕ) (items : List Published) → slot + length items ≤ size → All (IsItem size) items
+    → map (λ p. item_of p.word p.entry) (map (place_of size (with_items l slot items).content) (words_of slot items)) ≡ items
+read_back size l slot [] few good = refl
+read_back size l slot (with_entry entry ∷ later) few good =
+    let l' : Submission = with_item l slot (with_entry entry) in
+    let content : ℕ → Sqe = (with_items l' (slot + 1) later).content in
+    let held : content slot ≡ entry = slots_below l' (slot + 1) later slot (omega arith) ∙ ap (λ b. if b then entry else l.content slot) (eq-eqb slot slot refl) in
+    let low : slot < size = omega arith in
+    ap₂ (λ item rest. item ∷ rest) (ap (λ b. item_of slot (if b then Some (content slot) else None)) (lt-ltb slot size low) ∙ ap with_entry held)
+    (read_back size l' (slot + 1) later (omega arith) (All-tail (IsItem size) (with_entry entry) later good))
+read_back size l slot (bad_word word ∷ later) few good =
+    let l' : Submission = with_item l slot (bad_word word) in
+    let content : ℕ → Sqe = (with_items l' (slot + 1) later).content in
+    let high : size ≤ word = All-head (IsItem size) (bad_word word) later good in
+    ap₂ (λ item rest. item ∷ rest) (ap (λ b. item_of word (if b then Some (content word) else None)) (le-ltb word size high))
+    (read_back size l' (slot + 1) later (omega arith) (All-tail (IsItem size) (bad_word word) later good))
+
+pub items_published : ItemsArePublished
+items_published l size items none few good =
+    let l' : Submission = with_items l 0 items in
+    let item : Place → Published = λ p. item_of p.word p.entry in
+    map-append item l'.published (map (place_of size l'.content) l'.fresh)
+    ∙ ap₂ (λ xs ys. xs ++ ys) (ap (map item) (items_keep l 0 items))
+    (ap (λ words. map item (map (place_of size l'.content) words)) (items_fresh l 0 items ∙ ap (λ words. words ++ words_of 0 items) none) ∙ read_back size l 0 items (omega arith) good)
+
+-- Taking.
+
+-- a call asked for positions that wait has as many
+length_asked : (l : Submission) (count asked : ℕ) → Stands l [] count → asked ≤ count → call_length l asked ≡ asked
+length_asked l count asked s few = omega (arith, s.waiting)
+
+open_answer : (with_closed in_call : Bool) (rest : Answer) → with_closed ≡ false → in_call ≡ false → (if with_closed then answer.Closed else (if in_call then answer.InCall else rest)) ≡ rest
+open_answer with_closed in_call rest e f = rw (e, f) refl
+
+pub call_opens : (g : Setup) → CallOpens g
+call_opens g w count asked a s is_open few called =
+    let l : Submission = w.submission in
+    let length_is : call_length l asked ≡ asked = length_asked l count asked s few in
+    let told : OrAgain (if is_spent w asked then answer.Spent else answer.Call asked) a =
+    subst (λ x. OrAgain x a)
+    (open_answer w.is_closed (is_some l.call) _ is_open (ap is_some s.call) ∙ ap (λ n. if is_spent w n then answer.Spent else answer.Call n) length_is)
+    called in
+    (by_spent (is_spent w asked) refl told, ap (λ n. record w { submission = record l { call = Some (record { count = n; taken = 0 }) } }) length_is) where
+      by_spent : (spent : Bool) → is_spent w asked ≡ spent → OrAgain (if spent then answer.Spent else answer.Call asked) a → OrAgain (answer.Call asked) a ⊎ ((a ≡ answer.Spent) × (is_spent w asked ≡ true))
+      by_spent true e told = inr (told, e)
+      by_spent false e told = inl told
+
+-- a position was taken, whatever its word
+took_place : (g : Setup) (w : World) (count done : ℕ) (entry : Option Sqe) (a : Answer) → g.stops ≡ false → a ≡ entry_answer entry → taking g (in_call w count done) a ≡ in_call w count (done + 1)
+took_place g w count done None a goes is = ap (taking g (in_call w count done)) is
+took_place g w count done (Some entry) a goes is =
+    ap (taking g (in_call w count done)) is ∙ ap (λ b. in_call w (if b && is_faulty entry then done + 1 else count) (done + 1)) goes
+
+pub position_taken : (g : Setup) → PositionIsTaken g
+position_taken g goes w count asked done a s few low called =
+    let l : Submission = w.submission in
+    let at : ℕ = taken l + done in
+    let within : at < length l.published = omega (arith, s.waiting) in
+    let place : Place = get_or l.published at (record { word = 0; entry = None }) in
+    let told : a ≡ place_answer (slice_get l.published at) = called ∙ ap (λ b. if b then answer.NoMore else place_answer (slice_get l.published at)) (ne_eqb done asked (λ same. omega arith)) in
+    (told, took_place g w asked done place.entry a goes (told ∙ ap place_answer (slice_get-get_or l.published at _ within)))
+
+closes : (w : World) (count : ℕ) (few : Bool) (accepted missed head : ℕ) (a : Answer) → few ≡ false → a ≡ (if few then answer.NotAll else answer.Taken accepted missed head) → ending (in_call w count count) a ≡ ending_of (in_call w count count) (Some (record { count = count; taken = count }))
+closes w count few accepted missed head a all called = ap (ending (in_call w count count)) (called ∙ ap (λ b. if b then answer.NotAll else answer.Taken accepted missed head) all)
+
+pub call_closes : (g : Setup) → CallCloses g
+call_closes g w count asked left ended loads s all called =
+    let l : Submission = w.submission in
+    let done : ending (in_call w asked asked) ended ≡ ending_of (in_call w asked asked) (Some (record { count = asked; taken = asked })) = closes w asked _ _ _ _ ended (le-ltb asked asked (omega arith)) called in
+    (ap (λ v. happens g v step.LoadHead loads) done, record { fresh = s.fresh; call = refl; head = refl; waiting = omega (arith, s.waiting, all, sum_by_push (λ x. x) l.calls asked) })

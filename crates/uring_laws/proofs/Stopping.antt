@@ -1,0 +1,144 @@
+-- The laws of where submission calls end: from the open call as it is read off the history, and by induction over it.
+use Rattle.std.proofs.Common.{◌≡◌, ◌↔◌, ℕ, ◌+◌, ◌≤◌, ◌<◌, Bool, true, false, ◌&&◌, cond, eqb, nat_lt, List, [], ◌∷◌, ◌++◌, length, take, count_by, Option, Some, None, is_some, unwrap_or, slice_get, if◌then◌else◌, ◌⊎◌, inl, inr, refl, sym, subst, ap, ap₂, ◌∙◌, arith, append-nil}
+use Rattle.std.proofs.lemmas.Bool.{eqb-true, eqb-false, ltb-true, ltb-false}
+use Rattle.std.proofs.lemmas.List.{length_push, take_at}
+use Rattle.std.proofs.lemmas.Option.{slice_get-get_or}
+use Rattle.uring_entry.specs.Setup.{Setup}
+use Rattle.uring_entry.specs.Layout.{Sqe}
+use Rattle.uring_entry.specs.Preparation.{is_faulty}
+use Rattle.uring_entry.specs.Submission.{Call, Place, taken, call_length}
+use Rattle.uring_machine.specs.World.{World}
+use Rattle.uring_machine.specs.StepAnswers.{entry_answer, place_answer, take_answer, take_answer_in, end_answer, end_answer_in}
+use Rattle.uring_machine.specs.Histories.{History, world, IsLawfulApart}
+use Rattle.uring_machine.specs.Direct.{opened_by, closes_call, told, taken_since, has_stopped, open_count}
+use Rattle.uring_laws.specs.Stopping.{EndsThere, OpenCallEndsThere, CallsTakeAll}
+use Rattle.uring_machine.specs.declared.step.Step.{Step}
+use Rattle.uring_machine.specs.declared.step.Step.TheVariants as step
+use Rattle.uring_machine.specs.declared.answer.Answer.{Answer}
+use Rattle.uring_machine.specs.declared.answer.Answer.TheVariants as answer
+use Rattle.uring_machine.proofs.SubmissionMoves.{SubmissionMove, stays, begins, takes, drops, closes, submission_move}
+use Rattle.uring_machine.proofs.SoundRings.{open_taken, open_count as positions_open}
+use Rattle.uring_machine.proofs.Sound.{sound_of}
+use Rattle.uring_laws.proofs.DirectSubmission.{IsOpened, direct_submission}
+use Rattle.uring_machine.proofs.Telling.{count_more, count_same, told_same}
+
+-- The open call.
+
+-- what a place gives is no refusal
+given_no_more : (entry : Option Sqe) → entry_answer entry ≡ answer.NoMore → ⊥
+given_no_more None e = cc
+given_no_more (Some entry) e = cc
+
+-- a take gives no more exactly if all positions are taken
+no_more_at : (all : Bool) (taken count : ℕ) (place : Option Place) (p : Place) → eqb taken count ≡ all → place ≡ Some p
+    → (cond all answer.NoMore (place_answer place) ≡ answer.NoMore) ↔ (taken ≡ count)
+no_more_at true taken count place p e is = (λ _. eqb-true taken count e, λ _. refl)
+no_more_at false taken count place p e is = (λ f. absurd (given_no_more p.entry (sym (ap place_answer is) ∙ f)), λ same. absurd (eqb-false taken count e same))
+
+-- a call may be closed exactly if all its positions are taken
+closes_at : (few : Bool) (taken count : ℕ) (accepted missed head : ℕ) → taken ≤ count → nat_lt taken count ≡ few
+    → (cond few answer.NotAll (answer.Taken accepted missed head) ≡ answer.NotAll → ⊥) ↔ (taken ≡ count)
+closes_at true taken count accepted missed head within e = (λ refused. absurd (refused refl), λ same. absurd (omega (arith, ltb-true taken count e, same)))
+closes_at false taken count accepted missed head within e = (λ _. omega (arith, ltb-false taken count e), λ _ f. let no : answer.Taken accepted missed head ≡ answer.NotAll = f in cc)
+
+-- the positions of a call are all taken exactly if it took those that it opened with, or stopped
+all_at : (had : Bool) (taken count since opened : ℕ) → taken ≡ since → count ≡ (if had then since else opened) → (taken ≡ count) ↔ ((since ≡ opened) ⊎ (had ≡ true))
+all_at true taken count since opened t n = (λ _. inr refl, λ _. t ∙ sym n)
+all_at false taken count since opened t n = (
+  λ same. inl (sym t ∙ same ∙ n),
+  elim [
+    | inl all ↦ t ∙ all ∙ sym n
+    | inr had ↦ absurd cc
+  ],
+)
+
+both : {A B C : Type 0} → A ↔ B → B ↔ C → A ↔ C
+both f g = (λ a. g.0 (f.0 a), λ c. f.1 (g.1 c))
+
+back : {A B : Type 0} → A ↔ B → B ↔ A
+back f = (f.1, f.0)
+
+pub ends_there : (g : Setup) → OpenCallEndsThere g
+ends_there g h opened lawful there last = by_call w.submission.call refl there
+  where
+    w : World
+    w = world g h
+
+    by_call : (c : Option Call) → w.submission.call ≡ c → is_some c ≡ true → EndsThere g h opened
+    by_call None is some = absurd cc
+    by_call (Some call) is some =
+        let l = w.submission in
+        let s = (sound_of g h lawful).submission in
+        let told : (call.taken ≡ taken_since h) × (call.count ≡ open_count g h) = subst (IsOpened g h) is (direct_submission g h lawful).opened in
+        let count : call.count ≡ (if has_stopped g h then taken_since h else opened) = told.1 ∙ ap (λ o. if has_stopped g h then taken_since h else unwrap_or o 0) last in
+        let within : call.taken ≤ call.count = subst (λ o. open_taken o ≤ positions_open o) is s.within_call in
+        let published : taken l + call.count ≤ length l.published = subst (λ o. taken l + positions_open o ≤ length l.published) is s.call_published in
+        let all = all_at (has_stopped g h) call.taken call.count (taken_since h) opened told.0 count in
+        let take_is : take_answer w ≡ take_answer_in w (Some call) = ap (take_answer_in w) is in
+        let end_is : end_answer g w ≡ end_answer_in g w (Some call) = ap (end_answer_in g w) is in
+        let no_more : (take_answer w ≡ answer.NoMore) ↔ (call.taken ≡ call.count) = subst (λ a. (a ≡ answer.NoMore) ↔ (call.taken ≡ call.count)) (sym take_is) (taken_at call within published) in
+        let closes : (end_answer g w ≡ answer.NotAll → ⊥) ↔ (call.taken ≡ call.count) = subst (λ a. (a ≡ answer.NotAll → ⊥) ↔ (call.taken ≡ call.count)) (sym end_is) (closes_at _ call.taken call.count _ _ _ within refl) in
+        record { no_more = both no_more all; closes = both closes (back no_more) }
+      where
+        taken_at : (call : Call) → call.taken ≤ call.count → taken w.submission + call.count ≤ length w.submission.published → (take_answer_in w (Some call) ≡ answer.NoMore) ↔ (call.taken ≡ call.count)
+        taken_at call within published = by_all (eqb call.taken call.count) refl
+          where
+            at : ℕ
+            at = taken w.submission + call.taken
+
+            by_all : (all : Bool) → eqb call.taken call.count ≡ all → (cond all answer.NoMore (place_answer (slice_get w.submission.published at)) ≡ answer.NoMore) ↔ (call.taken ≡ call.count)
+            by_all true e = (λ _. eqb-true call.taken call.count e, λ _. refl)
+            by_all false e =
+                let more = eqb-false call.taken call.count e in
+                let low : at < length w.submission.published = omega arith in
+                no_more_at false call.taken call.count (slice_get w.submission.published at) _ e (slice_get-get_or w.submission.published at (record { word = 0; entry = None }) low)
+
+-- Rings that go on.
+
+-- how many positions the open call has
+abbrev open_counts : Option Call → List ℕ
+open_counts None = []
+open_counts (Some call) = call.count ∷ []
+
+-- each call has as many positions as it opened with
+pub record TakesAll (h : History) (w : World) : Type 0 where
+  pub opened : told opened_by h ≡ w.submission.calls ++ open_counts w.submission.call
+  pub closed : count_by closes_call h ≡ length w.submission.calls
+
+all_kept : (g : Setup) (h : History) (s : Step) (a : Answer) (v : World) → g.stops ≡ false → SubmissionMove g (world g h) s a v → TakesAll h (world g h) → TakesAll ((s, a) ∷ h) v
+all_kept g h s a v goes (stays _ _ r c is_closed off left) i = record { opened = told_same opened_by (s, a) h off.opens ∙ i.opened; closed = count_same closes_call (s, a) h off.closes ∙ i.closed }
+all_kept g h s a v goes (begins count is_open no_call unspent) i =
+    let l = (world g h).submission in
+    record {
+      opened = ap (λ xs. xs ++ call_length l count ∷ []) (i.opened ∙ ap (λ o. l.calls ++ open_counts o) no_call ∙ append-nil l.calls);
+      closed = count_same closes_call (step.Begin count, answer.Call (call_length l count)) h refl ∙ i.closed;
+    }
+all_kept g h s a v goes (takes entry call place opened left at valid) i =
+    let l = (world g h).submission in
+    record {
+      opened = i.opened ∙ ap (λ o. l.calls ++ open_counts o) opened ∙ ap (λ b. l.calls ++ (if b && is_faulty entry then call.taken + 1 else call.count) ∷ []) (sym goes);
+      closed = count_same closes_call (step.Take, answer.Entry entry) h refl ∙ i.closed;
+    }
+all_kept g h s a v goes (drops call place opened left at invalid) i =
+    let l = (world g h).submission in
+    record {
+      opened = i.opened ∙ ap (λ o. l.calls ++ open_counts o) opened;
+      closed = count_same closes_call (step.Take, answer.Dropped) h refl ∙ i.closed;
+    }
+all_kept g h s a v goes (closes accepted missed head call opened all counted) i =
+    let l = (world g h).submission in
+    record {
+      opened = i.opened ∙ ap (λ o. l.calls ++ open_counts o) opened ∙ sym (append-nil (l.calls ++ call.count ∷ []));
+      closed = count_more closes_call (step.End, answer.Taken accepted missed head) h refl ∙ omega (arith, i.closed, length_push l.calls call.count);
+    }
+all_kept g h s a v goes _ i = record { opened = i.opened; closed = count_same closes_call (s, a) h refl ∙ i.closed }
+
+all_taken : (g : Setup) (h : History) → g.stops ≡ false → IsLawfulApart g h → TakesAll h (world g h)
+all_taken g [] goes lawful = record { opened = refl; closed = refl }
+all_taken g ((s, a) ∷ before) goes lawful = all_kept g before s a _ goes (submission_move g s a before lawful) (all_taken g before goes lawful.1)
+
+pub calls_take_all : (g : Setup) → CallsTakeAll g
+calls_take_all g h goes lawful =
+    let i = all_taken g h goes lawful in
+    let l = (world g h).submission in
+    sym (direct_submission g h lawful).calls ∙ sym (ap₂ (λ n xs. take n xs) i.closed i.opened ∙ take_at l.calls (open_counts l.call) (length l.calls) refl)

@@ -1,0 +1,5 @@
+use Rattle.uring_laws.proofs.OrderLaws.{waits}
+use Rattle.uring_laws.proofs.links_and_drains_hold.Goals as goal
+
+pub returns : goal.returns
+returns c = λ g setup. waits g

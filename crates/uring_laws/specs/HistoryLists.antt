@@ -1,0 +1,70 @@
+-- The lists that a history has made are those that are read straight off it.
+use Rattle.std.specs.Prelude.{◌≡◌, ◌↔◌, ℕ, ◌+◌, ◌-◌, ◌==◌, nat_lt, min, ℤ, pos, Bool, true, false, ◌&&◌, List, [], ◌∷◌, ◌++◌, length, map, Some, is_some, if◌then◌else◌, slice_get, ◌⊎◌}
+use Rattle.std.specs.List.{list_any}
+use Rattle.std.specs.Option.{option_and_then}
+use Rattle.uring_entry.specs.Setup.{Setup}
+use Rattle.uring_entry.specs.Preparation.{is_cancel, is_cancel_all}
+use Rattle.uring_entry.specs.Submission.{Place, accepted}
+use Rattle.uring_entry.specs.Requests.{Requests, entry_of, is_cancelled, target_of, is_target}
+use Rattle.uring_machine.specs.Histories.{Event, History, world}
+use Rattle.uring_machine.specs.Direct.{closes_ring, is_flush, is_load_cq_tail, end_told_by, completion_of, before_last, starts, ends, reaps, posts, staged_words, published_words, slot_content, published_entry, open_call, call_counts, cut_counts, loaded_head, stored_head, flushed_head, Chose}
+use Rattle.uring_machine.specs.declared.step.Step.TheVariants as step
+use Rattle.uring_machine.specs.declared.answer.Answer.TheVariants as answer
+
+-- how many completions were posted
+abbrev pub posted_count : Setup → History → ℕ
+posted_count g h = length (posts (world g h).requests.accepted h)
+
+-- whether an event that comes next posts a completion
+abbrev pub posts_one : Setup → History → Event → Bool
+posts_one g before event = is_some (option_and_then (completion_of (world g before).requests.accepted) (end_told_by event))
+
+-- How many completions were put into the ring. One that is posted goes there where none waits in the overflow list and the ring has room above the head last loaded; a flush puts as many as fit above the head last stored. io_uring_setup(2), IORING_FEAT_NODROP; that flushing is a step of its own is our own rule
+abbrev pub put_count : Setup → History → ℕ
+put_count g [] = 0
+put_count g (event ∷ before) =
+    let there = put_count g before in
+    let posted = posted_count g before in
+    if is_flush event then min posted (stored_head before + g.cq) else
+    if posts_one g before event && (there == posted) && nat_lt (there - flushed_head before) g.cq then there + 1 else there
+
+-- the submission ring's lists
+pub record OwnSubmission (g : Setup) (h : History) : Type 0 where
+  pub content : (slot : ℕ) → (world g h).submission.content slot ≡ slot_content h slot
+  pub published : map (λ place. place.word) (world g h).submission.published ≡ published_words h
+  pub staged : published_words h ++ (world g h).submission.fresh ≡ staged_words h
+  pub entries : (position : ℕ) (place : Place) → slice_get (world g h).submission.published position ≡ Some place → place.entry ≡ published_entry g.sq h position
+  pub call : (world g h).submission.call ≡ open_call g h
+  pub calls : (world g h).submission.calls ≡ call_counts h
+  pub seen_head : (world g h).submission.seen_head ≡ loaded_head h
+  pub is_closed : (world g h).is_closed ≡ list_any closes_ring h
+
+-- the requests' lists
+pub record OwnRequests (g : Setup) (h : History) : Type 0 where
+  pub accepted_taken : (world g h).requests.accepted ≡ accepted (world g h).submission
+  pub cuts : (world g h).requests.cuts ≡ cut_counts h
+  pub started : (world g h).requests.started ≡ starts h
+  pub ended : (world g h).requests.ended ≡ ends h
+
+-- the completion ring's lists
+pub record OwnCompletions (g : Setup) (h : History) : Type 0 where
+  pub posted : (world g h).completions.posted ≡ posts (world g h).requests.accepted h
+  pub put : (world g h).completions.put ≡ put_count g h
+  pub reaped : (world g h).completions.reaped ≡ reaps h
+  pub head : (world g h).completions.head ≡ stored_head h
+  pub seen_head : (world g h).completions.seen_head ≡ flushed_head h
+  pub seen_tail : (world g h).completions.seen_tail ≡ put_count g (before_last is_load_cq_tail h)
+
+-- a cancel ended, and chose m by what stood just before
+pub record IsChosenIn (g : Setup) (h : History) (m : ℕ) : Type 0 where
+  pub after : History
+  pub before : History
+  pub number : ℕ
+  pub res : ℤ
+  pub bytes : List ℕ
+  pub split : h ≡ after ++ (step.Issue number, answer.Ended res bytes) ∷ before
+  pub chose : Chose (world g before).requests number res m
+
+-- whom cancels chose
+abbrev pub OwnCancelled : Setup → History → Type 0
+OwnCancelled g h = (m : ℕ) → (is_cancelled (world g h).requests m ≡ true) ↔ IsChosenIn g h m

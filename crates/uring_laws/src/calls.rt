@@ -1,0 +1,30 @@
+//! A submission ring between calls, and a whole call from its first `Fill` to its close: laws of the definitions alone.
+ghost use Rattle.uring_entry.specs.Setup.{Setup};
+ghost use Rattle.uring_laws.specs.Standing.{FreeSlotIsFilled, WordIsStaged, TailPublishes, ItemsArePublished, CallOpens, PositionIsTaken, CallCloses, TakesWholeCall};
+ghost use Rattle.uring_laws.specs.Stopping.{OpenCallEndsThere, CallsTakeAll};
+
+/// A ring in which no position waits takes a whole call: each slot is filled, each word staged, up to the ring's size, and a store of the tail publishes these items.
+pub fn empty_ring_is_filled()
+    ensures fill { (g : Setup) → FreeSlotIsFilled g }
+    ensures stage { (g : Setup) → WordIsStaged g }
+    ensures publish { (g : Setup) → TailPublishes g }
+    ensures items { ItemsArePublished }
+{}
+
+/// So an empty ring takes a whole call: the steps for its items, a store of the tail and a `Begin` are answered without a refusal, unless memory is refused or the numbers are spent.
+pub fn empty_ring_takes_a_whole_call()
+    ensures { (g : Setup) → TakesWholeCall g }
+{}
+
+/// The call of the positions that wait opens, if memory is there and the numbers aren't spent; in a ring that goes on it takes each of them, closes, and leaves the ring as it stood, with those positions taken.
+pub fn waiting_call_is_taken()
+    ensures opens { (g : Setup) → CallOpens g }
+    ensures takes { (g : Setup) → PositionIsTaken g }
+    ensures closes { (g : Setup) → CallCloses g }
+{}
+
+/// An open call takes no more exactly if it took all positions that it opened with, or, in a ring that stops, an entry with a fault; and exactly then it may close. In a ring that goes on, each call that closed took all positions that it opened with.
+pub fn calls_end_there()
+    ensures there { (g : Setup) → OpenCallEndsThere g }
+    ensures all { (g : Setup) → CallsTakeAll g }
+{}

@@ -1,0 +1,21 @@
+//! What operations gave, and the files that they left: laws of the definitions alone.
+ghost use Rattle.uring_entry.specs.Setup.{Setup};
+ghost use Rattle.uring_laws.specs.Finishes.{LawfulByOperations, FilesByOperations, FileByItsEnds, FileByItsOperations, PlacesJoin, FilesByPlace};
+
+/// A history is lawful exactly if it is lawful apart from what operations gave, and each operation that it carried out ended as the files before it call for. Its files are those that these operations left.
+pub fn lawful_by_operations()
+    ensures lawful { (g : Setup) → LawfulByOperations g }
+    ensures files { (g : Setup) → FilesByOperations g }
+{}
+
+/// The file of a descriptor is made by the ends on it alone, in their order.
+pub fn file_is_made_by_its_own_ends()
+    ensures ends { FileByItsEnds }
+    ensures operations { FileByItsOperations }
+{}
+
+/// If operations are dealt out by their file, and each place carries out its own on files that it alone has, the places make a lawful history together, and each file is that of its place.
+pub fn places_join()
+    ensures lawful { (g : Setup) → PlacesJoin g }
+    ensures files { (g : Setup) → FilesByPlace g }
+{}

@@ -1,0 +1,86 @@
+//! What holds of every lawful history: laws of the definitions alone, each a function with no code, whose clauses say the law.
+#![tactic(auto)]
+
+ghost use Rattle.std.specs.Prelude.{◌≡◌, ℕ, true};
+ghost use Rattle.uring_entry.specs.Requests.{is_outstanding};
+ghost use Rattle.uring_entry.specs.Setup.{Setup, IsWithinLimits};
+ghost use Rattle.uring_laws.specs.HistoryLists.{OwnSubmission, OwnRequests, OwnCompletions, OwnCancelled};
+ghost use Rattle.uring_machine.specs.Histories.{History, world, IsLawfulApart};
+ghost use Rattle.uring_laws.specs.Laws.{TakenOnceInOrder, EachEndsOnce, DoomedNeverRun, DoomedStayDoomed, CancelledWereDoomed, LinksAndDrainsHold, ReapedBeginPosted, FlushPutsAll, NothingAfterClose, NoneIsOutstanding, LeastCanGoOn, LawfulStandsApart, NoFinishCancels, WhatRunsIsForFiles};
+ghost use Rattle.uring_laws.specs.Published.{OwnPublished};
+
+pub mod calls;
+pub mod files;
+pub mod reasons;
+pub mod recorded;
+
+/// Each list and count that a history has made is the one that is read straight off its events.
+pub fn lists_are_the_historys_own()
+    ensures submission { (g : Setup) (h : History) → IsWithinLimits g → IsLawfulApart g h → OwnSubmission g h }
+    ensures requests { (g : Setup) (h : History) → IsWithinLimits g → IsLawfulApart g h → OwnRequests g h }
+    ensures completions { (g : Setup) (h : History) → IsWithinLimits g → IsLawfulApart g h → OwnCompletions g h }
+    ensures cancelled { (g : Setup) (h : History) → IsWithinLimits g → IsLawfulApart g h → OwnCancelled g h }
+{}
+
+/// What the application published is told by the events: its items, the lengths of the calls that took them, and how many words were dropped.
+pub fn published_is_told()
+    ensures { (g : Setup) (h : History) → IsLawfulApart g h → OwnPublished g h }
+{}
+
+/// The entries that calls took are those of the published positions, from the first on, each position once.
+pub fn taken_once_in_order()
+    ensures { (g : Setup) (h : History) → IsWithinLimits g → IsLawfulApart g h → TakenOnceInOrder g h }
+{}
+
+/// Each request is started at most once and ends at most once, and with none outstanding each accepted one ended exactly once.
+pub fn each_ends_once()
+    ensures { (g : Setup) (h : History) → IsWithinLimits g → IsLawfulApart g h → EachEndsOnce g h }
+{}
+
+/// A doomed request is never started, and its end has the result of the doomed; it stays doomed. An `Issue` that ends with -125 (`ECANCELED`) is that of a request that was doomed just before.
+pub fn doomed_never_run()
+    ensures never_run { (g : Setup) (h : History) → IsWithinLimits g → IsLawfulApart g h → DoomedNeverRun g h }
+    ensures stay_doomed { (g : Setup) → IsWithinLimits g → DoomedStayDoomed g }
+    ensures were_doomed { (g : Setup) → IsWithinLimits g → CancelledWereDoomed g }
+{}
+
+/// Members of a group, and groups of which one drains, start in order: a request starts only after the end of each that it waits for.
+pub fn links_and_drains_hold()
+    ensures { (g : Setup) → IsWithinLimits g → LinksAndDrainsHold g }
+{}
+
+/// What was reaped begins what was posted; of the rest the older part stands in the completion ring, the newer in the overflow list, and waits there for a full ring.
+pub fn reaped_begin_posted()
+    ensures { (g : Setup) (h : History) → IsWithinLimits g → IsLawfulApart g h → ReapedBeginPosted g.cq (world g h).completions }
+{}
+
+/// A flush puts all that was posted into the completion ring, if there is room for it above the head that the application stored.
+pub fn flush_puts_all()
+    ensures { FlushPutsAll }
+{}
+
+/// After the ring is closed, no submission call opens or closes.
+pub fn nothing_after_close()
+    ensures { (g : Setup) → IsWithinLimits g → NothingAfterClose g }
+{}
+
+/// The count of the outstanding requests is 0 exactly if none is outstanding.
+pub fn none_is_outstanding()
+    ensures { NoneIsOutstanding }
+{}
+
+/// With something outstanding, the least outstanding request is running, or it is the next to be issued, and `Issue` doesn't refuse it.
+pub fn least_can_go_on()
+    ensures { (g : Setup) (h : History) (n : ℕ) → is_outstanding (world g h).requests n ≡ true → LeastCanGoOn (world g h) }
+{}
+
+/// What is lawful is lawful apart from what operations gave, so that every law holds of it. A finish never ends with -125 (`ECANCELED`), so that each such end is that of a request that was doomed just before.
+pub fn operations_never_cancel()
+    ensures apart { (g : Setup) → LawfulStandsApart g }
+    ensures never { (g : Setup) → NoFinishCancels g }
+{}
+
+/// What runs in a lawful history can be carried out on files: it is no cancel, which ends as it is issued, and its transfer is at most 64 bytes.
+pub fn what_runs_is_for_files()
+    ensures { (g : Setup) → IsWithinLimits g → WhatRunsIsForFiles g }
+{}

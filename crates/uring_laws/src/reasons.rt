@@ -1,0 +1,37 @@
+//! Why a request stands as it does, and what it says: laws of any requests.
+ghost use Rattle.uring_laws.specs.Reasons.{IssuableIsSaid, MayStartIsSaid, WaitsIsSaid, DoomIsSaid, TwoSteps, AnswerAgrees, FoundIsSaid};
+
+/// A request can be issued exactly if it is told to be doomed, or that it may start.
+pub fn issuable_is_said()
+    ensures { IssuableIsSaid }
+{}
+
+/// A request is told that it may start exactly if it is outstanding, wasn't started, isn't doomed, and waits for nobody.
+pub fn may_start_is_said()
+    ensures { MayStartIsSaid }
+{}
+
+/// The request that another is told to wait for holds it back, and no earlier one does; the reason is the first that holds.
+pub fn waits_is_said()
+    ensures { WaitsIsSaid }
+{}
+
+/// What is told to doom a request does so, and nothing that is told before it does.
+pub fn doom_is_said()
+    ensures { DoomIsSaid }
+{}
+
+/// Asking why of a request that waits, and then of the one that it is told to wait for, leads to a request that runs or can be issued, at the second question at the latest.
+pub fn two_steps_lead_on()
+    ensures { TwoSteps }
+{}
+
+/// What is told of a request just before its `Issue` agrees with the answer called for: `Unknown` of one that was never accepted or has ended, `Running` of one that runs, an end of a doomed one, `NotReady` of one that waits, and a start or the end of a cancel of one that may start.
+pub fn answer_agrees()
+    ensures { AnswerAgrees }
+{}
+
+/// What is told that a request would find is what a cancel of one request finds: the least request that it may choose, whether that one runs, or that there is none; and its result, if it is carried out, is the one that goes with it.
+pub fn found_is_said()
+    ensures { FoundIsSaid }
+{}

@@ -1,5 +1,0 @@
-use Rattle.uring_machine.proofs.Stopping.{ends_there, calls_take_all}
-use Rattle.uring_machine.proofs.laws.calls.calls_end_there.Goals as goal
-
-pub returns : goal.returns
-returns c = record { there = ends_there; all = calls_take_all }

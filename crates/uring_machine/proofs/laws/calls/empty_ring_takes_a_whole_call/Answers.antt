@@ -1,5 +1,0 @@
-use Rattle.uring_machine.proofs.WholeCalls.{takes_whole_call}
-use Rattle.uring_machine.proofs.laws.calls.empty_ring_takes_a_whole_call.Goals as goal
-
-pub returns : goal.returns
-returns c = takes_whole_call

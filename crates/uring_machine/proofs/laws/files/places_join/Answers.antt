@@ -1,5 +1,0 @@
-use Rattle.uring_machine.proofs.FileLaws.{places_join, files_by_place}
-use Rattle.uring_machine.proofs.laws.files.places_join.Goals as goal
-
-pub returns : goal.returns
-returns c = record { lawful = places_join; files = files_by_place }

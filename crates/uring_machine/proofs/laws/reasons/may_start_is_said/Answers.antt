@@ -1,5 +1,0 @@
-use Rattle.uring_machine.proofs.ReasonLaws.{may_start-said, said-may_start}
-use Rattle.uring_machine.proofs.laws.reasons.may_start_is_said.Goals as goal
-
-pub returns : goal.returns
-returns c = λ r n. (may_start-said r n, said-may_start r n)

@@ -1,8 +1,0 @@
-use Rattle.uring_machine.proofs.RecordedLaws.{wrong_unlawful, wrong_unlawful_apart}
-use Rattle.uring_machine.proofs.laws.recorded.wrong_is_unlawful.Goals as goal
-
-pub returns-clause-lawful : goal.returns-clause-lawful
-returns-clause-lawful c = wrong_unlawful
-
-pub returns-clause-apart : goal.returns-clause-apart
-returns-clause-apart c = wrong_unlawful_apart
