@@ -1,5 +1,6 @@
 -- What a message more, a call more and a close mark do to what messages were sent for, and what is left of it.
 use Rattle.std.proofs.Common.{◌≡◌, ℕ, zero, suc, ◌<◌, Bool, true, false, ◌||◌, List, [], ◌∷◌, ◌++◌, length, if◌then◌else◌, refl, sym, ◌∙◌, ap, arith, append_assoc, append-nil}
+use Rattle.std.proofs.Math.Bool.{or_assoc}
 use Rattle.std.proofs.lemmas.Grind.{flat_map-append}
 use Rattle.std.proofs.lemmas.List.{append_cancel_left}
 use Rattle.std.proofs.lemmas.Bool.{false≢true}
@@ -55,13 +56,9 @@ sends_close ms are_whole open' =
     let is : ms ++ close_mark ∷ [] ≡ messages_of (with_close (put_of ms)) = ap (λ l. l ++ close_mark ∷ []) (open_calls ms are_whole open') in
     record { put = stands _ (with_close (put_of ms)) (some-calls_of ms) is; whole = whole _ (with_close (put_of ms)) (some-calls_of ms) is }
 
-or_assoc : (a b c : Bool) → a || (b || c) ≡ (a || b) || c
-or_assoc true b c = refl
-or_assoc false b c = refl
-
 pub close_mark-append : (xs ys : List Message) → has_close_mark (xs ++ ys) ≡ has_close_mark xs || has_close_mark ys
 close_mark-append [] ys = refl
-close_mark-append (x ∷ xs) ys = ap (λ b. x.closes || b) (close_mark-append xs ys) ∙ or_assoc x.closes (has_close_mark xs) (has_close_mark ys)
+close_mark-append (x ∷ xs) ys = ap (λ b. x.closes || b) (close_mark-append xs ys) ∙ sym (or_assoc x.closes (has_close_mark xs) (has_close_mark ys))
 
 close_mark-items : (left : ℕ) (xs : List Item) → has_close_mark (items_before left xs) ≡ false
 close_mark-items left [] = refl

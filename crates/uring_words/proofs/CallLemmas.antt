@@ -1,5 +1,6 @@
 -- What positions more do to the calls that positions hold.
 use Rattle.std.proofs.Common.{◌≡◌, ◌+◌, Bool, true, false, ◌||◌, not, List, [], ◌∷◌, ◌++◌, map, length, if◌then◌else◌, MatchBool, refl, sym, ◌∙◌, ap, subst, arith, append-nil}
+use Rattle.std.proofs.Math.Bool.{or_assoc}
 use Rattle.std.proofs.lemmas.Bool.{false≢true}
 use Rattle.uring_threads.specs.declared.item.Item.{Item}
 use Rattle.uring_threads.specs.Messages.{with_first}
@@ -12,13 +13,9 @@ or_false : (a b : Bool) → a || b ≡ false → (a ≡ false) × (b ≡ false)
 or_false true b h = absurd (false≢true (sym h))
 or_false false b h = (refl, h)
 
-or_assoc : (a b c : Bool) → a || (b || c) ≡ (a || b) || c
-or_assoc true b c = refl
-or_assoc false b c = refl
-
 pub close_mark-append : (xs ys : List Position) → has_close_mark (xs ++ ys) ≡ has_close_mark xs || has_close_mark ys
 close_mark-append [] ys = refl
-close_mark-append (x ∷ xs) ys = ap (λ b. closes x.mark || b) (close_mark-append xs ys) ∙ or_assoc (closes x.mark) (has_close_mark xs) (has_close_mark ys)
+close_mark-append (x ∷ xs) ys = ap (λ b. closes x.mark || b) (close_mark-append xs ys) ∙ sym (or_assoc (closes x.mark) (has_close_mark xs) (has_close_mark ys))
 
 -- one position more that goes on
 pub goes_on-snoc : (ps : List Position) (p : Position) → AllGoOn ps → closes p.mark ≡ false → ends_call p.mark ≡ false → AllGoOn (ps ++ p ∷ [])
