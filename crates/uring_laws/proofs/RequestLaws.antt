@@ -1,19 +1,15 @@
 -- The laws `each_ends_once` and `least_can_go_on`.
 -- From what is sound of the requests, and from what can be issued.
-use Rattle.std.proofs.Common.{◌≡◌, ℕ, ◌<◌, ◌≤◌, ◌==◌, Bool, true, false, not, ◌||◌, List, Option, Some, None, length, count_by, ℤ, if◌then◌else◌, refl, sym, subst, inl, inr, arith}
+use Rattle.std.proofs.Common.{◌≡◌, ℕ, ◌<◌, ◌≤◌, ◌==◌, Bool, true, false, not, List, Option, Some, None, length, count_by, refl, sym, subst, inl, inr, arith}
 use Rattle.std.specs.List.{list_any}
-use Rattle.std.proofs.lemmas.Bool.{and_parts, and_cases, ltb-true, lt-ltb, both_ways, or_cases, not-false, not-true, false_from_ne_true, true_from_ne_false}
+use Rattle.std.proofs.lemmas.Bool.{and_parts, and_cases, ltb-true, lt-ltb, both_ways, or_cases, not-false, false_from_ne_true, true_from_ne_false}
 use Rattle.uring_entry.specs.Setup.{Setup}
-use Rattle.uring_entry.specs.Requests.{Requests, has_ended, is_outstanding, least_of, next_of, entry_of, is_doomed, is_ready, is_running, is_issuable, doomed_result, cancel_result, no_bytes}
+use Rattle.uring_entry.specs.Requests.{Requests, has_ended, is_outstanding, least_of, next_of, is_issuable}
 use Rattle.uring_entry.proofs.BelowLemmas.{least_below-out, least_below-some, least_below-tells}
 use Rattle.uring_entry.proofs.RequestLemmas.{least_of-goes_on}
 use Rattle.uring_laws.specs.Laws.{LeastCanGoOn, EachEndsOnce}
 use Rattle.uring_machine.proofs.Issuable.{issue_goes, issuable_outstanding}
-use Rattle.uring_entry.specs.Preparation.{is_cancel}
 use Rattle.uring_machine.specs.World.{World}
-use Rattle.uring_machine.specs.StepAnswers.{IsEnded, issue_answer}
-use Rattle.uring_machine.specs.declared.answer.Answer.{Answer}
-use Rattle.uring_machine.specs.declared.answer.Answer.TheVariants as answer
 use Rattle.uring_machine.specs.Histories.{History, world, IsLawfulApart}
 use Rattle.uring_machine.proofs.SoundRequests.{IsSoundRequests}
 use Rattle.uring_machine.proofs.ListCounts.{count_none, count_some}

@@ -1,11 +1,10 @@
 -- The lists that a history has made are those that are read straight off it.
-use Rattle.std.specs.Prelude.{◌≡◌, ◌↔◌, ℕ, ◌+◌, ◌-◌, ◌==◌, nat_lt, min, ℤ, pos, Bool, true, false, ◌&&◌, List, [], ◌∷◌, ◌++◌, length, map, Some, is_some, if◌then◌else◌, slice_get, ◌⊎◌}
+use Rattle.std.specs.Prelude.{◌≡◌, ◌↔◌, ℕ, ◌+◌, ◌-◌, ◌==◌, nat_lt, min, ℤ, Bool, true, ◌&&◌, List, [], ◌∷◌, ◌++◌, length, map, Some, is_some, if◌then◌else◌, slice_get}
 use Rattle.std.specs.List.{list_any}
 use Rattle.std.specs.Option.{option_and_then}
 use Rattle.uring_entry.specs.Setup.{Setup}
-use Rattle.uring_entry.specs.Preparation.{is_cancel, is_cancel_all}
 use Rattle.uring_entry.specs.Submission.{Place, accepted}
-use Rattle.uring_entry.specs.Requests.{Requests, entry_of, is_cancelled, target_of, is_target}
+use Rattle.uring_entry.specs.Requests.{is_cancelled}
 use Rattle.uring_machine.specs.Histories.{Event, History, world}
 use Rattle.uring_machine.specs.Direct.{closes_ring, is_flush, is_load_cq_tail, end_told_by, completion_of, before_last, starts, ends, reaps, posts, staged_words, published_words, slot_content, published_entry, open_call, call_counts, cut_counts, loaded_head, stored_head, flushed_head, Chose}
 use Rattle.uring_machine.specs.declared.step.Step.TheVariants as step

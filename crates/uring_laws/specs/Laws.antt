@@ -1,5 +1,5 @@
 -- What holds of every lawful history: the laws that `src/` states of it.
-use Rattle.std.specs.Prelude.{◌≡◌, ◌↔◌, ℕ, ◌+◌, ◌<◌, ◌≤◌, ◌==◌, neg_ℤ, count_by, Bool, true, false, ◌||◌, List, ◌∷◌, ◌++◌, length, take, drop, Some, slice_get, ◌⊎◌}
+use Rattle.std.specs.Prelude.{◌≡◌, ◌↔◌, ℕ, ◌+◌, ◌<◌, ◌≤◌, ◌==◌, neg_ℤ, count_by, true, false, List, ◌∷◌, ◌++◌, length, take, drop, Some, slice_get, ◌⊎◌}
 use Rattle.std.specs.List.{list_any}
 use Rattle.uring_entry.specs.Setup.{Setup}
 use Rattle.uring_entry.specs.Layout.{Cqe}
@@ -10,7 +10,7 @@ use Rattle.uring_entry.specs.declared.errno.TheConstants.{ECANCELED}
 use Rattle.uring_machine.specs.World.{World}
 use Rattle.uring_machine.specs.StepAnswers.{IsEnded, IsIssued, issue_answer}
 use Rattle.uring_machine.specs.CalledFor.{IsLawful, RunsOnFiles}
-use Rattle.uring_machine.specs.Histories.{Event, History, world, IsLawfulApart}
+use Rattle.uring_machine.specs.Histories.{History, world, IsLawfulApart}
 use Rattle.uring_machine.specs.Direct.{takes_in, entries_taken, positions_taken, starts, ends}
 use Rattle.uring_machine.specs.declared.step.Step.TheVariants as step
 use Rattle.uring_machine.specs.declared.answer.Answer.{Answer}
