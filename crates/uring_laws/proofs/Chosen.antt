@@ -11,7 +11,7 @@ use Rattle.uring_entry.specs.Preparation.{is_cancel}
 use Rattle.uring_entry.specs.Success.{is_success}
 use Rattle.uring_entry.specs.Requests.{Requests, entry_of, is_cancelled, target_of, targets_of, choices_of, chosen_by, doomed_result, cancel_result, no_bytes, with_issued_end}
 use Rattle.uring_laws.specs.HistoryLists.{IsChosenIn}
-use Rattle.uring_machine.specs.Direct.{Chose}
+use Rattle.uring_machine.specs.Events.{Chose}
 use Rattle.uring_machine.specs.World.{World}
 use Rattle.uring_machine.specs.Histories.{Event, History, world, IsLawfulApart}
 use Rattle.uring_machine.specs.declared.step.Step.{Step}
@@ -22,7 +22,7 @@ use Rattle.uring_machine.proofs.Moves.{Move, ends_doomed, ends_cancel, move_of}
 use Rattle.uring_machine.proofs.RequestEnds.{doomed_fails, chose, any_both}
 use Rattle.uring_machine.proofs.SoundRequests.{outstanding_tells}
 use Rattle.uring_entry.proofs.RequestLemmas.{one_success, all_success, target-there}
-use Rattle.uring_machine.proofs.Growth.{event_grows}
+use Rattle.uring_laws.proofs.Growth.{event_grows}
 
 -- where a request is newly chosen, the event is the end of a cancel
 record IsChoosing (w : World) (s : Step) (a : Answer) (m : ℕ) : Type 0 where

@@ -10,14 +10,15 @@ use Rattle.uring_entry.specs.Completions.{Completions, with_posted, completion_f
 use Rattle.uring_entry.specs.Requests.{Ending, entry_of}
 use Rattle.uring_machine.specs.World.{World}
 use Rattle.uring_machine.specs.Histories.{Event, History, world, IsLawfulApart}
-use Rattle.uring_machine.specs.Direct.{end_told_by, is_flush, before_last, completion_of, stored_head, flushed_head}
+use Rattle.uring_machine.specs.Events.{end_told_by, is_flush}
+use Rattle.uring_laws.specs.Direct.{before_last, completion_of, stored_head, flushed_head}
 use Rattle.uring_laws.specs.HistoryLists.{posted_count, put_count}
 use Rattle.uring_machine.specs.declared.step.Step.{Step}
 use Rattle.uring_machine.specs.declared.answer.Answer.{Answer}
 use Rattle.uring_machine.proofs.CompletionMoves.{CompletionMove, stays, ends, flushes, completion_move}
 use Rattle.uring_laws.proofs.DirectCompletions.{direct_completions}
 use Rattle.uring_laws.proofs.DirectRequests.{direct_posted}
-use Rattle.uring_machine.proofs.ToldRequests.{tells_requests}
+use Rattle.uring_laws.proofs.ToldRequests.{tells_requests}
 
 -- the counts that a put looks at, read off a history
 record PutFacts (g : Setup) (h : History) : Type 0 where

@@ -10,7 +10,7 @@ use Rattle.uring_files.specs.Contents.{FileContents}
 use Rattle.uring_files.specs.Operations.{file_of, after, IsOutcome}
 use Rattle.uring_machine.specs.StepAnswers.{FinishesApart}
 use Rattle.uring_machine.specs.CalledFor.{CalledFor, IsLawful, EndsOn, files_of}
-use Rattle.uring_machine.specs.Direct.{with_told}
+use Rattle.uring_laws.specs.Direct.{with_told}
 use Rattle.uring_laws.specs.Finishes.{Done, done_by, done_in, first_files, files_left, AreDone, LawfulByOperations, FilesByOperations, PlacesJoin, FilesByPlace}
 use Rattle.uring_machine.specs.Histories.{History, world, IsLawfulApart}
 use Rattle.uring_machine.specs.declared.step.Step.{Step}
@@ -19,7 +19,7 @@ use Rattle.uring_machine.specs.declared.answer.Answer.{Answer}
 use Rattle.uring_machine.specs.declared.answer.Answer.TheVariants as answer
 use Rattle.uring_machine.proofs.FileHistory.{files_ended, files_kept}
 use Rattle.uring_laws.proofs.FilesApart.{left_by_own, join_places}
-use Rattle.uring_machine.proofs.WholeLaws.{lawful_apart}
+use Rattle.uring_laws.proofs.WholeLaws.{lawful_apart}
 
 -- The last operation.
 

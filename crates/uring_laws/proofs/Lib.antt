@@ -1,3 +1,8 @@
+pub mod Telling
+pub mod ToldRequests
+pub mod Growth
+pub mod WholeLaws
+pub mod RecordedLaws
 pub mod RequestLaws
 pub mod RingLaws
 pub mod TakenPlaces

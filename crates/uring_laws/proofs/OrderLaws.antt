@@ -12,7 +12,7 @@ use Rattle.uring_entry.specs.Preparation.{is_cancel_all}
 use Rattle.uring_machine.specs.World.{World}
 use Rattle.uring_machine.specs.StepAnswers.{IsEnded}
 use Rattle.uring_machine.specs.Histories.{History, world, IsLawfulApart}
-use Rattle.uring_machine.specs.Direct.{started_by}
+use Rattle.uring_machine.specs.Events.{started_by}
 use Rattle.uring_laws.specs.Laws.{DoomedNeverRun, IsStart, times_ended}
 use Rattle.uring_machine.specs.declared.step.Step.TheVariants as step
 use Rattle.uring_machine.specs.declared.answer.Answer.{Answer}
@@ -21,8 +21,8 @@ use Rattle.uring_machine.proofs.Changes.{Change, change_of, IsSilent, refuses, r
 use Rattle.uring_machine.proofs.SoundRequests.{IsSoundRequests, EndsDoomed, is_otherwise, outstanding_tells, waited}
 use Rattle.uring_machine.proofs.ListCounts.{count_none, count_some}
 use Rattle.uring_machine.proofs.Sound.{sound_of}
-use Rattle.uring_machine.proofs.ToldRequests.{tells_requests}
-use Rattle.uring_machine.proofs.Growth.{Grows, grows, event_grows, then_grows, lawful_before}
+use Rattle.uring_laws.proofs.ToldRequests.{tells_requests}
+use Rattle.uring_laws.proofs.Growth.{Grows, grows, event_grows, then_grows, lawful_before}
 
 unstarted : (r : Requests) (n : ℕ) → IsSoundRequests r → is_doomed r n ≡ true → has_started r n ≡ false
 unstarted r n s doomed = false_from_ne_true _ (λ started. both_ways _ (s.started_free n started).spared doomed)

@@ -13,7 +13,8 @@ use Rattle.uring_entry.specs.Setup.{Setup}
 use Rattle.uring_entry.specs.Layout.{Sqe}
 use Rattle.uring_entry.specs.Submission.{Submission, Call, Place, place_of, taken, dropped_in}
 use Rattle.uring_machine.specs.World.{World, ending_of}
-use Rattle.uring_machine.specs.Direct.{takes_position, entry_taken_by, with_told, closes_call, entries_taken, positions_taken, staged_words, published_words, published_entry, slot_content, before_published}
+use Rattle.uring_machine.specs.Events.{takes_position, entry_taken_by, closes_call}
+use Rattle.uring_laws.specs.Direct.{with_told, entries_taken, positions_taken, staged_words, published_words, published_entry, slot_content, before_published}
 use Rattle.uring_machine.specs.Histories.{Event, History, world, IsLawfulApart}
 use Rattle.uring_laws.specs.HistoryLists.{OwnSubmission}
 use Rattle.uring_laws.specs.Published.{item_of, published_items, IsItem, items_told, drops_position, positions_dropped, OwnPublished}
@@ -26,7 +27,7 @@ use Rattle.uring_laws.proofs.ReadOff.{own_submission}
 use Rattle.uring_machine.proofs.Sound.{sound_of}
 use Rattle.uring_machine.proofs.SoundRings.{open_taken, open_count}
 use Rattle.uring_laws.proofs.TakenPlaces.{reached, takes_places}
-use Rattle.uring_machine.proofs.Telling.{count_more, count_same, before_same}
+use Rattle.uring_laws.proofs.Telling.{count_more, count_same, before_same}
 use Rattle.uring_rings.proofs.Places.{entries_and_dropped}
 
 -- The items.

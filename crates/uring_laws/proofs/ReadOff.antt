@@ -6,11 +6,12 @@ use Rattle.uring_laws.specs.HistoryLists.{OwnSubmission, OwnRequests, OwnComplet
 use Rattle.uring_laws.proofs.DirectSubmission.{direct_submission, call_direct}
 use Rattle.uring_laws.proofs.DirectCompletions.{direct_completions}
 use Rattle.std.specs.List.{filter_map}
-use Rattle.uring_machine.specs.Direct.{completion_of, before_last, is_load_cq_tail}
+use Rattle.uring_machine.specs.Events.{is_load_cq_tail}
+use Rattle.uring_laws.specs.Direct.{completion_of, before_last}
 use Rattle.uring_laws.proofs.DirectPut.{direct_put, lawful_last}
 use Rattle.uring_laws.proofs.DirectRequests.{direct_requests, direct_posted}
 use Rattle.uring_laws.proofs.DirectPlaces.{direct_places}
-use Rattle.uring_machine.proofs.ToldRequests.{tells_requests}
+use Rattle.uring_laws.proofs.ToldRequests.{tells_requests}
 
 pub own_submission : (g : Setup) (h : History) → IsLawfulApart g h → OwnSubmission g h
 own_submission g h lawful =

@@ -14,7 +14,7 @@ use Rattle.uring_machine.specs.Histories.{History, world, IsLawfulApart}
 use Rattle.uring_machine.proofs.SoundRequests.{IsSoundRequests}
 use Rattle.uring_machine.proofs.ListCounts.{count_none, count_some}
 use Rattle.uring_machine.proofs.Sound.{sound_of}
-use Rattle.uring_machine.proofs.ToldRequests.{tells_requests}
+use Rattle.uring_laws.proofs.ToldRequests.{tells_requests}
 
 -- the least outstanding request is the next, where it isn't running
 least_is_next : (r : Requests) (m : ℕ) → least_of r ≡ Some m → is_issuable r m ≡ true → next_of r ≡ Some m

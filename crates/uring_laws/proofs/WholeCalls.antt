@@ -16,7 +16,7 @@ use Rattle.uring_machine.specs.declared.step.Step.TheVariants as step
 use Rattle.uring_machine.specs.declared.answer.Answer.{Answer}
 use Rattle.uring_machine.specs.declared.answer.Answer.TheVariants as answer
 use Rattle.uring_machine.proofs.Following.{history_of-cons}
-use Rattle.uring_machine.proofs.Growth.{lawful_before}
+use Rattle.uring_laws.proofs.Growth.{lawful_before}
 use Rattle.uring_laws.proofs.Standing.{slot_filled, word_staged, tail_publishes, items_keep, items_published, call_opens}
 
 -- None of these items was refused: the world is the one with them, and the ring stands with as many words more.

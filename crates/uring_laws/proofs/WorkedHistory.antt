@@ -9,7 +9,7 @@ use Rattle.uring_entry.specs.Completions.{Completions, no_completion, with_poste
 use Rattle.uring_entry.specs.declared.operation.Op.TheVariants.{Fsync}
 use Rattle.uring_machine.specs.World.{World}
 use Rattle.uring_machine.specs.CalledFor.{IsLawful, files_of}
-use Rattle.uring_machine.specs.Direct.{call_counts, open_call}
+use Rattle.uring_laws.specs.Direct.{call_counts, open_call}
 use Rattle.uring_laws.specs.Finishes.{done_in, files_left, first_files, AreDone, ends_of}
 use Rattle.uring_machine.specs.Histories.{Event, world, history_of}
 use Rattle.uring_laws.specs.Laws.{in_ring, in_overflow}

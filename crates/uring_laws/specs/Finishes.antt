@@ -11,7 +11,7 @@ use Rattle.uring_files.specs.Laws.{AgreeAt, is_on}
 use Rattle.uring_files.specs.Operations.{after, IsOutcome}
 use Rattle.uring_machine.specs.World.{World}
 use Rattle.uring_machine.specs.CalledFor.{IsLawful, files_after, files_of}
-use Rattle.uring_machine.specs.Direct.{with_told}
+use Rattle.uring_laws.specs.Direct.{with_told}
 use Rattle.uring_machine.specs.Histories.{Event, History, world, IsLawfulApart}
 use Rattle.uring_machine.specs.declared.step.Step.TheVariants as step
 use Rattle.uring_machine.specs.declared.answer.Answer.TheVariants as answer

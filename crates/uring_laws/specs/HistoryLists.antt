@@ -6,7 +6,8 @@ use Rattle.uring_entry.specs.Setup.{Setup}
 use Rattle.uring_entry.specs.Submission.{Place, accepted}
 use Rattle.uring_entry.specs.Requests.{is_cancelled}
 use Rattle.uring_machine.specs.Histories.{Event, History, world}
-use Rattle.uring_machine.specs.Direct.{closes_ring, is_flush, is_load_cq_tail, end_told_by, completion_of, before_last, starts, ends, reaps, posts, staged_words, published_words, slot_content, published_entry, open_call, call_counts, cut_counts, loaded_head, stored_head, flushed_head, Chose}
+use Rattle.uring_machine.specs.Events.{closes_ring, is_flush, is_load_cq_tail, end_told_by, Chose}
+use Rattle.uring_laws.specs.Direct.{completion_of, before_last, starts, ends, reaps, posts, staged_words, published_words, slot_content, published_entry, open_call, call_counts, cut_counts, loaded_head, stored_head, flushed_head}
 use Rattle.uring_machine.specs.declared.step.Step.TheVariants as step
 use Rattle.uring_machine.specs.declared.answer.Answer.TheVariants as answer
 

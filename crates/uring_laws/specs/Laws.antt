@@ -3,15 +3,18 @@ use Rattle.std.specs.Prelude.{◌≡◌, ◌↔◌, ℕ, ◌+◌, ◌<◌, ◌�
 use Rattle.std.specs.List.{list_any}
 use Rattle.uring_entry.specs.Setup.{Setup}
 use Rattle.uring_entry.specs.Layout.{Cqe}
+use Rattle.uring_entry.specs.Preparation.{is_cancel, operation_of}
 use Rattle.uring_entry.specs.Submission.{entries_of}
-use Rattle.uring_entry.specs.Requests.{Requests, least_of, next_of, is_running, is_outstanding, is_doomed, doomed_result, waits_for, outstanding_in, Ending}
+use Rattle.uring_entry.specs.Requests.{Requests, entry_of, least_of, next_of, is_running, is_outstanding, is_doomed, doomed_result, waits_for, outstanding_in, Ending}
 use Rattle.uring_entry.specs.Completions.{Completions, with_flushed}
 use Rattle.uring_entry.specs.declared.errno.TheConstants.{ECANCELED}
+use Rattle.uring_files.specs.Operations.{IsForFiles}
 use Rattle.uring_machine.specs.World.{World}
 use Rattle.uring_machine.specs.StepAnswers.{IsEnded, IsIssued, issue_answer}
-use Rattle.uring_machine.specs.CalledFor.{IsLawful, RunsOnFiles}
+use Rattle.uring_machine.specs.CalledFor.{IsLawful}
 use Rattle.uring_machine.specs.Histories.{History, world, IsLawfulApart}
-use Rattle.uring_machine.specs.Direct.{takes_in, entries_taken, positions_taken, starts, ends}
+use Rattle.uring_machine.specs.Events.{takes_in}
+use Rattle.uring_laws.specs.Direct.{entries_taken, positions_taken, starts, ends}
 use Rattle.uring_machine.specs.declared.step.Step.TheVariants as step
 use Rattle.uring_machine.specs.declared.answer.Answer.{Answer}
 use Rattle.uring_machine.specs.declared.answer.Answer.TheVariants as answer
@@ -102,6 +105,11 @@ LawfulStandsApart g = (h : History) → IsLawful g h → IsLawfulApart g h
 -- No Finish ends with ECANCELED: no operation gives it.
 abbrev pub NoFinishCancels : Setup → Type 0
 NoFinishCancels g = (after before : History) (n : ℕ) (bytes : List ℕ) → IsLawful g (after ++ (step.Finish n, answer.Ended (neg_ℤ ECANCELED) bytes) ∷ before) → ⊥
+
+-- What runs can be carried out on files: it is no cancel, and its operation can be asked of them.
+pub record RunsOnFiles (r : Requests) (n : ℕ) : Type 0 where
+  pub no_cancel : is_cancel (entry_of r n) ≡ false
+  pub asks : IsForFiles (operation_of (entry_of r n))
 
 -- Whatever runs in a lawful history can be carried out on files.
 abbrev pub WhatRunsIsForFiles : Setup → Type 0

@@ -1,3 +1,4 @@
+pub mod Direct
 pub mod Stopping
 pub mod Laws
 pub mod HistoryLists
@@ -5,3 +6,4 @@ pub mod Finishes
 pub mod Published
 pub mod Standing
 pub mod Reasons
+pub mod Recorded

@@ -4,7 +4,8 @@ use Rattle.std.specs.List.{enumerate_from}
 use Rattle.uring_entry.specs.Setup.{Setup}
 use Rattle.uring_entry.specs.Layout.{Sqe}
 use Rattle.uring_entry.specs.Submission.{Submission, dropped}
-use Rattle.uring_machine.specs.Direct.{before_last, closes_call, published_words, published_entry, call_counts}
+use Rattle.uring_machine.specs.Events.{closes_call}
+use Rattle.uring_laws.specs.Direct.{before_last, published_words, published_entry, call_counts}
 use Rattle.uring_machine.specs.Histories.{Event, History, world}
 use Rattle.uring_machine.specs.declared.step.Step.TheVariants as step
 use Rattle.uring_machine.specs.declared.answer.Answer.TheVariants as answer

@@ -3,7 +3,8 @@ use Rattle.std.specs.Prelude.{◌≡◌, ◌↔◌, ℕ, true, false, ◌⊎◌,
 use Rattle.uring_entry.specs.Setup.{Setup}
 use Rattle.uring_machine.specs.StepAnswers.{take_answer, end_answer}
 use Rattle.uring_machine.specs.Histories.{History, world, IsLawfulApart}
-use Rattle.uring_machine.specs.Direct.{opened_by, closes_call, told, last_told, taken_since, has_stopped, call_counts}
+use Rattle.uring_machine.specs.Events.{opened_by, closes_call}
+use Rattle.uring_laws.specs.Direct.{told, last_told, taken_since, has_stopped, call_counts}
 use Rattle.uring_machine.specs.declared.answer.Answer.TheVariants as answer
 
 -- The open call, which opened with so many positions, takes no more exactly if it took them all, or an entry behind which it stops; and exactly then it may close. io_uring_setup(2), IORING_SETUP_SUBMIT_ALL

@@ -1,6 +1,6 @@
 //! Answers that were recorded elsewhere: laws of the definitions alone.
 ghost use Rattle.uring_entry.specs.Setup.{Setup};
-ghost use Rattle.uring_machine.specs.Recorded.{CalledIsDecided, CalledIsDecidedApart, WrongIsUnlawful, WrongIsUnlawfulApart};
+ghost use Rattle.uring_laws.specs.Recorded.{CalledIsDecided, CalledIsDecidedApart, WrongIsUnlawful, WrongIsUnlawfulApart};
 
 /// Whether an answer is called for is decided, in any world, also in one that no history makes.
 pub fn called_for_is_decided()

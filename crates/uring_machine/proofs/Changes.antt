@@ -12,7 +12,7 @@ use Rattle.uring_entry.specs.Completions.{next_to_reap}
 use Rattle.uring_machine.specs.World.{World, happens}
 use Rattle.uring_machine.specs.StepAnswers.{CalledForApart, OrAgain, FinishesApart, entry_answer, place_answer, take_answer_in, end_answer_in, reap_answer_of, next_answer_of, is_spent}
 use Rattle.uring_machine.specs.Histories.{Event}
-use Rattle.uring_machine.specs.Direct.{started_by, end_told_by, reaped_by, staged_by, filled_by, entry_taken_by, takes_position, opened_by, opens_call, accepted_by, closes_call, closes_ring, is_store_tail, is_load_head, is_flush, is_load_cq_tail, is_store_cq_head, takes_in}
+use Rattle.uring_machine.specs.Events.{started_by, end_told_by, reaped_by, staged_by, filled_by, entry_taken_by, takes_position, opened_by, opens_call, accepted_by, closes_call, closes_ring, is_store_tail, is_load_head, is_flush, is_load_cq_tail, is_store_cq_head, takes_in}
 use Rattle.uring_machine.specs.declared.step.Step.{Step}
 use Rattle.uring_machine.specs.declared.step.Step.TheVariants as step
 use Rattle.uring_machine.specs.declared.answer.Answer.{Answer}

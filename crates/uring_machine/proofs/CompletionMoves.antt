@@ -8,7 +8,7 @@ use Rattle.uring_entry.specs.Requests.{Requests, entry_of}
 use Rattle.uring_entry.specs.Completions.{next_to_reap, with_end, with_flushed, with_tail_loaded, with_reaped, with_head_stored}
 use Rattle.uring_machine.specs.World.{World, happens, taking_of, taking_entry_of, ending_of}
 use Rattle.uring_machine.specs.Histories.{Event, History, world, IsLawfulApart}
-use Rattle.uring_machine.specs.Direct.{end_told_by, reaped_by, is_flush, is_load_cq_tail, is_store_cq_head}
+use Rattle.uring_machine.specs.Events.{end_told_by, reaped_by, is_flush, is_load_cq_tail, is_store_cq_head}
 use Rattle.uring_machine.specs.declared.step.Step.{Step}
 use Rattle.uring_machine.specs.declared.step.Step.TheVariants as step
 use Rattle.uring_machine.specs.declared.answer.Answer.{Answer}

@@ -1,14 +1,11 @@
 pub mod Changes
-pub mod Telling
 pub mod SoundRings
 pub mod ListCounts
 pub mod SoundRequests
 pub mod RequestEnds
 pub mod Groups
 pub mod Sound
-pub mod ToldRequests
 pub mod Issuable
-pub mod Growth
 pub mod CoreSteps
 pub mod CoreCalls
 pub mod CoreTakes
@@ -23,8 +20,7 @@ pub mod Following
 pub mod Outstanding
 pub mod Numbers
 pub mod Settling
-pub mod WholeLaws
 pub mod SameAnswers
 pub mod RecordedAnswers
 pub mod RecordedEnds
-pub mod RecordedLaws
+pub mod FirstWrong

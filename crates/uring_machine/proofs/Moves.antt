@@ -6,7 +6,7 @@ use Rattle.uring_entry.specs.Preparation.{is_cancel}
 use Rattle.uring_entry.specs.Submission.{entries_of, places_from}
 use Rattle.uring_entry.specs.Requests.{Requests, entry_of, is_outstanding, is_running, is_doomed, is_ready, doomed_result, cancel_result, no_bytes, with_call, with_started, with_ended, with_issued_end}
 use Rattle.uring_machine.specs.World.{World, happens, taking_of, taking_entry_of, ending_of}
-use Rattle.uring_machine.specs.Direct.{started_by, end_told_by}
+use Rattle.uring_machine.specs.Events.{started_by, end_told_by}
 use Rattle.uring_machine.specs.declared.step.Step.{Step}
 use Rattle.uring_machine.specs.declared.step.Step.TheVariants as step
 use Rattle.uring_machine.specs.declared.answer.Answer.{Answer}

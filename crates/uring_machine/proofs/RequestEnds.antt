@@ -15,7 +15,7 @@ use Rattle.uring_entry.proofs.RequestLemmas.{is_doomed-faulty, is_doomed-behind,
 use Rattle.uring_machine.proofs.ListCounts.{any_looser, any_kept, any_new, count_once_more}
 use Rattle.uring_entry.proofs.EventLemmas.{is_doomed-tells, is_behind_failure-tells, is_behind_failure-from, target_of-tells}
 use Rattle.uring_machine.proofs.SoundRequests.{IsFree, is_otherwise, EndsDoomed, IsSoundRequests, outstanding_tells, idle_tells, ready_first}
-use Rattle.uring_machine.specs.Direct.{Chose}
+use Rattle.uring_machine.specs.Events.{Chose}
 
 -- A request ends, and these are the ones that cancels chose so far.
 abbrev pub ended_as : Requests → ℕ → ℤ → List ℕ → List ℕ → Requests

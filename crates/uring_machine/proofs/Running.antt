@@ -11,7 +11,6 @@ use Rattle.uring_entry.specs.Requests.{Requests, entry_of, has_started, is_runni
 use Rattle.uring_entry.proofs.RequestLemmas.{is_doomed-own_fault}
 use Rattle.uring_files.specs.Operations.{IsForFiles}
 use Rattle.uring_files.proofs.Prepared.{prepared}
-use Rattle.uring_machine.specs.CalledFor.{RunsOnFiles}
 use Rattle.uring_machine.specs.Histories.{History, world, IsLawfulApart}
 use Rattle.uring_machine.specs.declared.step.Step.{Step}
 use Rattle.uring_machine.specs.declared.answer.Answer.{Answer}
@@ -49,7 +48,3 @@ running_asks g h n lawful running =
     let right : is_faulty (entry_of r n) ≡ false =
     false_from_ne_true _ (λ faulty. both_ways _ (i.started_free n started).spared (is_doomed-own_fault r n (i.started_accepted n started) faulty)) in
     prepared (entry_of r n) (not_some (fault_of (entry_of r n)) right) (no_cancel g h lawful n started)
-
--- what runs can be carried out on files
-pub runs_on_files : (g : Setup) (h : History) (n : ℕ) → IsLawfulApart g h → is_running (world g h).requests n ≡ true → RunsOnFiles (world g h).requests n
-runs_on_files g h n lawful running = record { no_cancel = no_cancel g h lawful n (and_parts _ _ running).0; asks = running_asks g h n lawful running }

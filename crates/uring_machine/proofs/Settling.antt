@@ -14,7 +14,7 @@ use Rattle.uring_files.specs.Contents.{FileContents}
 use Rattle.uring_machine.specs.Core.{Core, FitsApart}
 use Rattle.uring_machine.specs.Machine.{Machine, Fits}
 use Rattle.uring_machine.specs.Settling.{is_issue_or_finish, started_last, settling_step, AreSettling, HasSettled, IsSettled}
-use Rattle.uring_machine.specs.Direct.{started_by}
+use Rattle.uring_machine.specs.Events.{started_by}
 use Rattle.uring_machine.specs.declared.step.Step.TheVariants as step
 use Rattle.uring_machine.specs.declared.answer.Answer.{Answer}
 use Rattle.uring_machine.specs.declared.answer.Answer.TheVariants as answer

@@ -8,7 +8,7 @@ use Rattle.uring_entry.specs.Requests.{Requests}
 use Rattle.uring_entry.specs.Completions.{Completions}
 use Rattle.uring_machine.specs.World.{World, happens, taking_of, taking_entry_of, ending_of}
 use Rattle.uring_machine.specs.Histories.{Event, History, world, IsLawfulApart}
-use Rattle.uring_machine.specs.Direct.{staged_by, filled_by, entry_taken_by, takes_position, opened_by, opens_call, accepted_by, closes_call, closes_ring, is_store_tail, is_load_head, takes_in}
+use Rattle.uring_machine.specs.Events.{staged_by, filled_by, entry_taken_by, takes_position, opened_by, opens_call, accepted_by, closes_call, closes_ring, is_store_tail, is_load_head, takes_in}
 use Rattle.uring_machine.specs.declared.step.Step.{Step}
 use Rattle.uring_machine.specs.declared.step.Step.TheVariants as step
 use Rattle.uring_machine.specs.declared.answer.Answer.{Answer}

@@ -1,10 +1,10 @@
 -- The files of a history.
 use Rattle.std.specs.Prelude.{◌≡◌, ℕ, List, [], ◌∷◌, replicate, Bool, true, false}
 use Rattle.uring_entry.specs.Setup.{Setup}
-use Rattle.uring_entry.specs.Preparation.{operation_of, is_cancel}
+use Rattle.uring_entry.specs.Preparation.{operation_of}
 use Rattle.uring_entry.specs.Requests.{Requests, Ending, entry_of, is_running}
 use Rattle.uring_files.specs.Contents.{FileContents, empty_file}
-use Rattle.uring_files.specs.Operations.{after, IsOutcome, IsForFiles}
+use Rattle.uring_files.specs.Operations.{after, IsOutcome}
 use Rattle.uring_machine.specs.World.{World}
 use Rattle.uring_machine.specs.StepAnswers.{CalledForApart}
 use Rattle.uring_machine.specs.Histories.{History, world}
@@ -17,11 +17,6 @@ use Rattle.uring_machine.specs.declared.answer.Answer.TheVariants as answer
 abbrev pub files_after : Requests → List FileContents → List Ending → List FileContents
 files_after r files [] = files
 files_after r files (e ∷ later) = files_after r (after files (operation_of (entry_of r e.number)) e.res) later
-
--- What runs can be carried out on files: it is no cancel, and its operation can be asked of them.
-pub record RunsOnFiles (r : Requests) (n : ℕ) : Type 0 where
-  pub no_cancel : is_cancel (entry_of r n) ≡ false
-  pub asks : IsForFiles (operation_of (entry_of r n))
 
 -- The files as the ends so far have left them: each empty at first.
 abbrev pub files_of : Setup → World → List FileContents

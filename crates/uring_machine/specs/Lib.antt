@@ -1,7 +1,7 @@
 pub mod World
 pub mod StepAnswers
 pub mod Histories
-pub mod Direct
+pub mod Events
 pub mod Told
 pub mod CalledFor
 pub mod Core

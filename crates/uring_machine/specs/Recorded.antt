@@ -66,19 +66,3 @@ IsFirstWrongAnswer g events place wanted = IsFirstWrong (IsLawful g) (λ h s a. 
 -- the first wrong answer, apart from what operations give
 abbrev pub IsFirstWrongApart : Setup → List Event → ℕ → Wanted → Type 0
 IsFirstWrongApart g events place wanted = IsFirstWrong (IsLawfulApart g) (λ h s a. CalledForApart g (world g h) s a) events place wanted
-
--- An answer is called for, or isn't: also in worlds that no history makes.
-abbrev pub CalledIsDecided : Type 0
-CalledIsDecided = (g : Setup) (w : World) (s : Step) (a : Answer) → CalledFor g w s a ⊎ (CalledFor g w s a → ⊥)
-
--- the same apart from what operations give
-abbrev pub CalledIsDecidedApart : Type 0
-CalledIsDecidedApart = (g : Setup) (w : World) (s : Step) (a : Answer) → CalledForApart g w s a ⊎ (CalledForApart g w s a → ⊥)
-
--- A list with a wrong answer is no lawful history.
-abbrev pub WrongIsUnlawful : Setup → Type 0
-WrongIsUnlawful g = (events : List Event) (place : ℕ) (wanted : Wanted) → IsFirstWrongAnswer g events place wanted → IsLawful g (history_of events) → ⊥
-
--- the same apart from what operations give
-abbrev pub WrongIsUnlawfulApart : Setup → Type 0
-WrongIsUnlawfulApart g = (events : List Event) (place : ℕ) (wanted : Wanted) → IsFirstWrongApart g events place wanted → IsLawfulApart g (history_of events) → ⊥

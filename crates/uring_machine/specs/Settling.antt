@@ -4,7 +4,7 @@ use Rattle.std.specs.List.{list_all}
 use Rattle.uring_entry.specs.Setup.{Setup}
 use Rattle.uring_entry.specs.Requests.{is_outstanding, next_of, least_of, outstanding_in}
 use Rattle.uring_machine.specs.Histories.{Event, History, world, history_of}
-use Rattle.uring_machine.specs.Direct.{started_by}
+use Rattle.uring_machine.specs.Events.{started_by}
 use Rattle.uring_machine.specs.Machine.{Machine, Fits}
 use Rattle.uring_machine.specs.declared.step.Step.{Step}
 use Rattle.uring_machine.specs.declared.step.Step.TheVariants as step

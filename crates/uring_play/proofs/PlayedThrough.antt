@@ -7,12 +7,13 @@ use Rattle.uring_entry.specs.Layout.{Cqe}
 use Rattle.uring_entry.specs.Requests.{outstanding_in}
 use Rattle.uring_entry.specs.Setup.{Setup}
 use Rattle.uring_machine.specs.CalledFor.{IsLawful}
-use Rattle.uring_machine.specs.Direct.{accepted_by, told, with_told}
+use Rattle.uring_machine.specs.Events.{accepted_by}
+use Rattle.uring_laws.specs.Direct.{told, with_told}
 use Rattle.uring_machine.specs.Histories.{Event, History, world, history_of}
 use Rattle.uring_laws.specs.Published.{published_items}
 use Rattle.uring_laws.proofs.DirectRequests.{direct_requests}
 use Rattle.uring_machine.proofs.Following.{history_of-cons, history_of-append}
-use Rattle.uring_machine.proofs.WholeLaws.{lawful_apart}
+use Rattle.uring_laws.proofs.WholeLaws.{lawful_apart}
 use Rattle.uring_threads.specs.AppEnd.{AppEnd}
 use Rattle.uring_threads.specs.Items.{all_published_as}
 use Rattle.uring_threads.specs.Kept.{now}

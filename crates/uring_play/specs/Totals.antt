@@ -2,7 +2,7 @@
 use Rattle.std.specs.Prelude.{ℕ, List, [], ◌∷◌, Option, Some, None, sum_by, unwrap_or}
 use Rattle.uring_machine.specs.declared.answer.Answer.{Answer}
 use Rattle.uring_machine.specs.declared.answer.Answer.TheVariants as answer
-use Rattle.uring_machine.specs.Direct.{accepted_by}
+use Rattle.uring_machine.specs.Events.{accepted_by}
 use Rattle.uring_machine.specs.Histories.{Event}
 
 -- how many requests were accepted by an event: those of the call that it closes, if it closes one

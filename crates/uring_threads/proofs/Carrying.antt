@@ -11,7 +11,7 @@ use Rattle.uring_laws.specs.Finishes.{done_in, done_by}
 use Rattle.uring_machine.specs.Histories.{Event, History, world, history_of}
 use Rattle.uring_machine.specs.StepAnswers.{IsEnded}
 use Rattle.uring_machine.specs.World.{World, issuing}
-use Rattle.uring_machine.specs.Direct.{with_told}
+use Rattle.uring_laws.specs.Direct.{with_told}
 use Rattle.uring_machine.specs.declared.step.Step.TheVariants as step
 use Rattle.uring_machine.specs.declared.answer.Answer.{Answer}
 use Rattle.uring_machine.specs.declared.answer.Answer.TheVariants as answer

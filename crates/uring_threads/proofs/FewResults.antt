@@ -5,7 +5,7 @@ use Rattle.std.specs.List.{filter}
 use Rattle.std.proofs.lemmas.Bool.{cases_eq, cases_lt}
 use Rattle.std.proofs.lemmas.List.Sums.{sum_by-append}
 use Rattle.uring_entry.specs.Setup.{Setup}
-use Rattle.uring_machine.specs.Direct.{with_told}
+use Rattle.uring_laws.specs.Direct.{with_told}
 use Rattle.uring_laws.specs.Finishes.{done_in, done_by}
 use Rattle.uring_machine.specs.Histories.{Event, History, world, history_of}
 use Rattle.uring_machine.specs.World.{World}

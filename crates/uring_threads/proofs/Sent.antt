@@ -11,7 +11,8 @@ use Rattle.uring_entry.specs.Layout.{Sqe, zero_entry}
 use Rattle.uring_entry.specs.Preparation.{operation_of, is_cancel}
 use Rattle.uring_entry.specs.Requests.{Requests, Ending, entry_of, has_started, has_ended, is_outstanding, is_running, is_doomed, is_ready, doomed_result, cancel_result, no_bytes, with_call}
 use Rattle.uring_machine.specs.World.{World}
-use Rattle.uring_machine.specs.Direct.{with_told, started_by, end_told_by}
+use Rattle.uring_machine.specs.Events.{started_by, end_told_by}
+use Rattle.uring_laws.specs.Direct.{with_told}
 use Rattle.uring_laws.specs.Finishes.{Done, done_by, done_in}
 use Rattle.uring_machine.specs.Histories.{History, world, IsLawfulApart}
 use Rattle.uring_machine.specs.StepAnswers.{CalledForApart, issue_answer}

@@ -3,7 +3,7 @@ use Rattle.std.proofs.Common.{◌≡◌, ℕ, ◌+◌, ◌≤◌, List, [], ◌�
 use Rattle.std.specs.List.{list_any}
 use Rattle.std.proofs.lemmas.Bool.{or_cases, or_left, or_right, or_parts, cases_Bool}
 use Rattle.std.proofs.lemmas.List.Sums.{sum_by-cons}
-use Rattle.uring_machine.specs.Direct.{with_told}
+use Rattle.uring_laws.specs.Direct.{with_told}
 
 abbrev pub times : {X : Type 0} → (X → Bool) → List X → ℕ
 times p [] = 0

@@ -10,7 +10,8 @@ use Rattle.uring_entry.specs.declared.operation.Op.TheVariants.{Read, Write, Fsy
 use Rattle.uring_machine.specs.World.{World}
 use Rattle.uring_files.specs.Laws.{AgreeAt}
 use Rattle.uring_machine.specs.CalledFor.{IsLawful, files_of}
-use Rattle.uring_machine.specs.Direct.{with_told, started_by}
+use Rattle.uring_machine.specs.Events.{started_by}
+use Rattle.uring_laws.specs.Direct.{with_told}
 use Rattle.uring_laws.specs.Finishes.{Done, done_in, done_at, first_files, files_left, AreDone, IsByFile}
 use Rattle.uring_machine.specs.Histories.{Event, History, world, IsLawfulApart}
 use Rattle.uring_threads.specs.declared.job.Job.{Job}

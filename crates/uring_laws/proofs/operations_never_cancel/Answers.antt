@@ -1,4 +1,4 @@
-use Rattle.uring_machine.proofs.WholeLaws.{lawful_apart, finish_never_cancels}
+use Rattle.uring_laws.proofs.WholeLaws.{lawful_apart, finish_never_cancels}
 use Rattle.uring_laws.proofs.operations_never_cancel.Goals as goal
 
 pub returns-clause-apart : goal.returns-clause-apart

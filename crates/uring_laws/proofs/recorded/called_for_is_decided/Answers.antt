@@ -1,4 +1,4 @@
-use Rattle.uring_machine.proofs.RecordedLaws.{decided_called, decided_apart}
+use Rattle.uring_laws.proofs.RecordedLaws.{decided_called, decided_apart}
 use Rattle.uring_laws.proofs.recorded.called_for_is_decided.Goals as goal
 
 pub returns-clause-called : goal.returns-clause-called

@@ -1,4 +1,4 @@
-use Rattle.uring_machine.proofs.RecordedLaws.{wrong_unlawful, wrong_unlawful_apart}
+use Rattle.uring_laws.proofs.RecordedLaws.{wrong_unlawful, wrong_unlawful_apart}
 use Rattle.uring_laws.proofs.recorded.wrong_is_unlawful.Goals as goal
 
 pub returns-clause-lawful : goal.returns-clause-lawful

@@ -1,5 +1,5 @@
 use Rattle.std.proofs.Common.{arith}
-use Rattle.uring_machine.proofs.RecordedLaws.{stops, first_wrong_at}
+use Rattle.uring_machine.proofs.FirstWrong.{stops, first_wrong_at}
 use Rattle.uring_machine.proofs.checks.first_wrong.Goals as goal
 
 pub returns-in-Err : goal.returns-in-Err

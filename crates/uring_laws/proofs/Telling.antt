@@ -2,7 +2,7 @@
 use Rattle.std.proofs.Common.{◌≡◌, ℕ, ◌+◌, Bool, true, false, cond, ◌∷◌, Option, None, count_by, ap, arith}
 use Rattle.std.proofs.lemmas.List.Sums.{sum_by-cons}
 use Rattle.uring_machine.specs.Histories.{Event, History}
-use Rattle.uring_machine.specs.Direct.{told, with_told, before_last}
+use Rattle.uring_laws.specs.Direct.{told, with_told, before_last}
 
 -- a count of events, one event on
 pub count_more : (p : Event → Bool) (e : Event) (h : History) → p e ≡ true → count_by p (e ∷ h) ≡ count_by p h + 1

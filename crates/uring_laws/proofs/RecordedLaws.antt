@@ -1,11 +1,9 @@
 -- Laws of answers that were recorded elsewhere: whether one is called for is decided, and a wrong one makes a list unlawful.
-use Rattle.std.proofs.Common.{◌≡◌, ℕ, ◌+◌, ◌<◌, ◌≤◌, Bool, true, false, List, [], ◌∷◌, ◌++◌, length, take, drop, get_or, neg_ℤ, Option, Some, refl, sym, ap, subst, ◌∙◌, ◌⊎◌, inl, inr, arith}
-use Rattle.std.specs.Prelude.{slice_get, Result, Ok, IfOk, OnOk, MatchOption}
-use Rattle.std.specs.declared.alloc.AllocError.{AllocError}
-use Rattle.std.proofs.lemmas.Result.{IfOk-weaker}
+use Rattle.std.proofs.Common.{◌≡◌, ℕ, ◌+◌, ◌<◌, ◌≤◌, Bool, true, false, List, [], ◌∷◌, ◌++◌, take, drop, get_or, neg_ℤ, Some, sym, ap, subst, ◌∙◌, ◌⊎◌, inl, inr, arith}
+use Rattle.std.specs.Prelude.{slice_get}
 use Rattle.std.proofs.lemmas.Bool.{cases_Bool, cases_lt, both_ways}
 use Rattle.std.proofs.lemmas.List.{take_more, take-append-drop, reverse-append}
-use Rattle.std.proofs.lemmas.Option.{slice_get_within, get_or_from_slice_get, slice_get_read}
+use Rattle.std.proofs.lemmas.Option.{slice_get_within, get_or_from_slice_get}
 use Rattle.uring_entry.specs.Setup.{Setup}
 use Rattle.uring_entry.specs.Preparation.{operation_of}
 use Rattle.uring_entry.specs.Requests.{Requests, entry_of, is_running}
@@ -14,20 +12,17 @@ use Rattle.uring_entry.specs.declared.operation.Op.{Op}
 use Rattle.uring_entry.specs.declared.operation.Outcome.{Outcome}
 use Rattle.uring_files.specs.Contents.{FileContents}
 use Rattle.uring_files.specs.Operations.{is_lengthening, result_of, ended_with, IsOutcome}
-use Rattle.uring_machine.specs.StepAnswers.{CalledForApart, FinishesApart, OrAgain, begin_answer}
-use Rattle.uring_machine.specs.CalledFor.{CalledFor, IsLawful, EndsOn, files_of}
-use Rattle.uring_machine.specs.Histories.{Event, History, world, history_of, IsLawfulApart}
-use Rattle.uring_machine.specs.Recorded.{IsRefused, IsFirstWrongAnswer, IsFirstWrongApart, CalledIsDecided, CalledIsDecidedApart, WrongIsUnlawful, WrongIsUnlawfulApart}
+use Rattle.uring_machine.specs.StepAnswers.{FinishesApart, OrAgain, begin_answer}
+use Rattle.uring_machine.specs.CalledFor.{IsLawful, EndsOn, files_of}
+use Rattle.uring_machine.specs.Histories.{Event, History, history_of, IsLawfulApart}
+use Rattle.uring_laws.specs.Recorded.{CalledIsDecided, CalledIsDecidedApart, WrongIsUnlawful, WrongIsUnlawfulApart}
 use Rattle.uring_machine.specs.declared.step.Step.TheVariants as step
 use Rattle.uring_machine.specs.declared.answer.Answer.{Answer}
 use Rattle.uring_machine.specs.declared.answer.Answer.TheVariants as answer
-use Rattle.uring_machine.specs.declared.wanted.Wanted.{Wanted}
-use Rattle.uring_machine.specs.declared.wanted.Refusal.{Refusal}
-use Rattle.uring_machine.specs.declared.wanted.Refusal.TheVariants.{Wrong, NoMemory}
 use Rattle.uring_machine.proofs.SameAnswers.{decided}
 use Rattle.uring_machine.proofs.Following.{history_of-snoc}
-use Rattle.uring_machine.proofs.Growth as apart
-use Rattle.uring_machine.proofs.WholeLaws.{lawful_before}
+use Rattle.uring_laws.proofs.Growth as apart
+use Rattle.uring_laws.proofs.WholeLaws.{lawful_before}
 
 -- That an answer is called for is decided.
 
@@ -106,30 +101,3 @@ pub wrong_unlawful_apart : (g : Setup) → WrongIsUnlawfulApart g
 wrong_unlawful_apart g events place wanted first lawful =
     let parts = parted events place first.event first.is_there in
     first.wrong.not_called (apart.lawful_before g parts.0 (first.event ∷ history_of (take place events)) (subst (IsLawfulApart g) parts.1 lawful)).0
-
--- What is told of a list where an answer was refused.
-
-pub stops : (refusal : Refusal) (place : ℕ) (r : Result (Option (ℕ × Wanted)) AllocError) (P : Type 0) (Q : ℕ × Wanted → Type 0)
-    → ((w : Wanted) → refusal ≡ Wrong w → r ≡ Ok (Some (place, w))) → (refusal ≡ NoMemory → OnOk r ⊥) → ((w : Wanted) → refusal ≡ Wrong w → Q (place, w)) → IfOk r (λ found. MatchOption found P Q)
-stops (Wrong w) place r P Q told none q = subst (λ k. IfOk k (λ found. MatchOption found P Q)) (sym (told w refl)) (q w refl)
-stops NoMemory place r P Q told none q = IfOk-weaker r (λ x. ⊥) (λ found. MatchOption found P Q) (λ x bad. absurd bad) (none refl)
-
-pub first_wrong_at : (g k : Setup) (events : List Event) (place : ℕ) (e : Event) (refusal : Refusal) (w : Wanted) → k ≡ g → place < length events → e ≡ get_or events place e
-    → IsLawful k (history_of (take place events)) → IsRefused (CalledFor k (world k (history_of (take place events))) e.0) e.1 refusal → refusal ≡ Wrong w → IsFirstWrongAnswer g events place w
-first_wrong_at g k events place e refusal w same within at lawful refused is =
-    subst (λ s. IsFirstWrongAnswer s events place w) same (record {
-      event = e;
-      is_there = slice_get_read events (length events) place e refl within at;
-      before = lawful;
-      wrong = subst (λ r. IsRefused (CalledFor k (world k (history_of (take place events))) e.0) e.1 r) is refused;
-    })
-
-pub first_wrong_apart_at : (g k : Setup) (events : List Event) (place : ℕ) (e : Event) (refusal : Refusal) (w : Wanted) → k ≡ g → place < length events → e ≡ get_or events place e
-    → IsLawfulApart k (history_of (take place events)) → IsRefused (CalledForApart k (world k (history_of (take place events))) e.0) e.1 refusal → refusal ≡ Wrong w → IsFirstWrongApart g events place w
-first_wrong_apart_at g k events place e refusal w same within at lawful refused is =
-    subst (λ s. IsFirstWrongApart s events place w) same (record {
-      event = e;
-      is_there = slice_get_read events (length events) place e refl within at;
-      before = lawful;
-      wrong = subst (λ r. IsRefused (CalledForApart k (world k (history_of (take place events))) e.0) e.1 r) is refused;
-    })
