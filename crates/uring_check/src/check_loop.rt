@@ -1,6 +1,6 @@
 //! The check of a recorded trace over two streams.
 
-ghost use Rattle.std.specs.Prelude.{◌≡◌, [], Bool};
+ghost use Rattle.std.specs.Prelude.{[], Bool};
 ghost use Rattle.uring_check.specs.Checking.{Has};
 ghost use Rattle.uring_check.specs.Checks.{IsChecked};
 ghost use Rattle.uring_check.specs.Rules.{Rules};

@@ -1,6 +1,6 @@
 //! A set of numbers as a queue of blocks, 64 numbers to a block.
 
-ghost use Rattle.std.specs.Prelude.{◌≡◌, ◌≢◌, ℕ, ◌+◌, ◌*◌, ◌/◌, ◌^◌, ◌<◌, ◌≤◌, true, false, OnOk, MatchOption, length, slice_index_or, slice_set};
+ghost use Rattle.std.specs.Prelude.{◌≡◌, ℕ, ◌+◌, ◌*◌, ◌/◌, ◌^◌, ◌<◌, ◌≤◌, true, false, OnOk, MatchOption, slice_index_or, slice_set};
 ghost use Rattle.std.specs.VecDeque.{deque_len, deque_capacity};
 ghost use Rattle.std.specs.Int.{trailing_zeros, w64};
 ghost use Rattle.uring_dispatch.specs.NumberSet.{block_of, block_at, holds, start_of, stop_of, Covers, Puts, IsSameSet, IsLeastIn, IsFirstFilled, IsFirstBlock};

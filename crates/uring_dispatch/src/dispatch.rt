@@ -1,4 +1,4 @@
-ghost use Rattle.std.specs.Prelude.{◌≡◌, ℕ, List, ◌+◌, ◌-◌, ◌^◌, ◌<◌, ◌≤◌, ◌↔◌, IsTrue, true, false, OnOk, OnErr, IsOk, IsErrOf};
+ghost use Rattle.std.specs.Prelude.{◌≡◌, ℕ, List, ◌+◌, ◌-◌, ◌^◌, ◌<◌, ◌≤◌, ◌↔◌, IsTrue, true, false, OnOk, OnErr, IsErrOf};
 ghost use Rattle.uring_entry.specs.Requests.{Requests, no_request, with_accepted, with_cut, next_of, least_of, operation_running, entry_outstanding, outstanding_in, running_in};
 ghost use Rattle.uring_entry.specs.Why.{why_of};
 ghost use Rattle.uring_dispatch.specs.Cancels.{found_by};

@@ -6,9 +6,8 @@ ghost use Rattle.uring_entry.specs.Requests as spec;
 ghost use Rattle.uring_entry.specs.Groups.{earlier_of, is_before};
 ghost use Rattle.uring_entry.specs.Success as success;
 ghost use Rattle.uring_dispatch.specs.IssueAndFinish.{issued, issued_waiting, after_issue, posted_by, after_end};
-ghost use Rattle.uring_dispatch.specs.Dispatch.{dispatch_of, HasEnded, IssueCounts, EndCounts};
+ghost use Rattle.uring_dispatch.specs.Dispatch.{dispatch_of, IssueCounts, EndCounts};
 ghost use Rattle.uring_dispatch.specs.Window.{key_at, at, end_of, runs, one_if, Changes};
-ghost use Rattle.uring_dispatch.specs.Groups.{group_at};
 ghost use Rattle.uring_dispatch.specs.Held.{AreHeld, IsSound, IsNext, HasLost};
 ghost use Rattle.uring_dispatch.specs.Waiting.{IsListed, HasMemory, StandsAsBefore};
 

@@ -1,6 +1,6 @@
 //! The next request to be issued.
 
-ghost use Rattle.std.specs.Prelude.{◌≡◌, ℕ};
+ghost use Rattle.std.specs.Prelude.{◌≡◌};
 ghost use Rattle.uring_entry.specs.Requests.{Requests, next_of};
 ghost use Rattle.uring_dispatch.specs.Held.{AreHeld, IsSound};
 ghost use Rattle.uring_dispatch.specs.Waiting.{IsListed, IsReadyHead};

@@ -1,6 +1,6 @@
 //! How an outstanding request stands: whether it is doomed, and whether it may start. io_uring_enter(2), IOSQE_IO_LINK, IOSQE_IO_HARDLINK, IOSQE_IO_DRAIN and IORING_OP_ASYNC_CANCEL. That a failure reaches all later members, that a fault dooms those before it too, and that a doomed request waits for nothing, are our own rules.
 
-ghost use Rattle.std.specs.Prelude.{◌≡◌, ℕ, true, Some, is_some, IfSome};
+ghost use Rattle.std.specs.Prelude.{◌≡◌, true, Some, is_some, IfSome};
 ghost use Rattle.uring_entry.specs.Requests.{Requests, entry_of};
 ghost use Rattle.uring_entry.specs.Layout.{addr_of};
 ghost use Rattle.uring_entry.specs.Requests as spec;

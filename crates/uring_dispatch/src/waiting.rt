@@ -1,7 +1,7 @@
 //! Which of the outstanding requests wait at the head of their group, and which are doomed: among these is the next to be issued.
 
 ghost use Rattle.std.specs.Prelude.{◌≡◌, ℕ, ◌+◌, ◌^◌, ◌<◌, ◌≤◌, false, Some, OnOk};
-ghost use Rattle.uring_dispatch.specs.NumberSet.{holds, start_of, stop_of, Puts, HasSame, HasGrown, HasMoved};
+ghost use Rattle.uring_dispatch.specs.NumberSet.{holds, start_of, stop_of, Puts, HasSame, HasMoved};
 ghost use Rattle.uring_dispatch.specs.Window.{at};
 ghost use Rattle.uring_dispatch.specs.Groups.{group_at};
 ghost use Rattle.uring_dispatch.specs.Waiting.{waits_at_head, waits_doomed, dooms, IsListedAt, CanTell, Keeps, CanGrow, GrowsTo, Starts, IsFirstTold};

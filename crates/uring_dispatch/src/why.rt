@@ -1,6 +1,6 @@
 //! Why a request stands as it does: what dooms it, or the least request that it waits for. The order in which reasons are told is our own rule.
 
-ghost use Rattle.std.specs.Prelude.{◌≡◌, ℕ, ◌<◌, true, Some, None, is_some};
+ghost use Rattle.std.specs.Prelude.{◌≡◌, ◌<◌, true, Some, None, is_some};
 ghost use Rattle.uring_entry.specs.Requests.{Requests};
 ghost use Rattle.uring_entry.specs.Why.{why_of, doom_of, holder_of, waiting_for};
 ghost use Rattle.uring_dispatch.specs.Window.{at};

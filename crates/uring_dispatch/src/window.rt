@@ -1,6 +1,6 @@
 //! The outstanding requests by their numbers.
 
-ghost use Rattle.std.specs.Prelude.{◌≡◌, ◌≢◌, ℕ, ◌+◌, ◌-◌, ◌^◌, ◌<◌, ◌≤◌, true, false, Some, None, OnOk, OnErr, IfSome, MatchOption, is_some, option_copied, length, slice_set};
+ghost use Rattle.std.specs.Prelude.{◌≡◌, ◌≢◌, ℕ, ◌+◌, ◌-◌, ◌^◌, ◌<◌, ◌≤◌, true, false, Some, None, OnOk, OnErr, IfSome, MatchOption, is_some, option_copied, slice_set};
 ghost use Rattle.std.specs.VecDeque.{deque_len, deque_capacity};
 ghost use Rattle.slab.specs.Slab.{get, slab_len, ContainsKey};
 ghost use Rattle.uring_dispatch.specs.Window.{key_at, found_by, at, end_of, runs, one_if, started, chosen, Changes, IsFirst, IsTrimmed, IsAsBefore, HasBefore};

@@ -1,4 +1,4 @@
-ghost use Rattle.std.specs.Prelude.{◌≡◌, ◌≤◌, ◌+◌, ◌*◌, ◌^◌, ℤ, pos, length, not, ◌==◌};
+ghost use Rattle.std.specs.Prelude.{◌≡◌, ◌≤◌, ◌+◌, ◌*◌, ◌^◌, pos, length, not, ◌==◌};
 ghost use Rattle.std.specs.Int.{w32, cast_unsigned};
 ghost use Rattle.std.specs.List.{list_any};
 ghost use Rattle.uring_entry.specs.Layout.{opcode_of, flags_of, ioprio_of, fd_of, off_of, addr_of, len_of, operation_flags_of, user_data_of, reserved_of, payload_of, header, without_data, HasData};

@@ -28,12 +28,12 @@ abbrev pub last_told : {A : Type 0} → (Event → Option A) → History → Opt
 last_told tells [] = None
 last_told tells (event ∷ before) = option_or (tells event) (last_told tells before)
 
--- what stands before the last event of this kind: nothing, where there is none
+-- what stands before the last event of this kind: nothing, if there is none
 abbrev pub before_last : (Event → Bool) → History → History
 before_last is_kind [] = []
 before_last is_kind (event ∷ before) = if is_kind event then before else before_last is_kind before
 
--- what stands after the last event of this kind: everything, where there is none
+-- what stands after the last event of this kind: everything, if there is none
 abbrev pub since_last : (Event → Bool) → History → History
 since_last is_kind [] = []
 since_last is_kind (event ∷ before) = if is_kind event then [] else event ∷ since_last is_kind before
@@ -52,13 +52,13 @@ ends h = told end_told_by h
 abbrev pub reaps : History → List Cqe
 reaps h = told reaped_by h
 
--- the completion of an end, where these entries were accepted: none, for a success that its entry asks to skip
+-- the completion of an end, if these entries were accepted: none, for a success that its entry asks to skip
 abbrev pub completion_of : List Sqe → Ending → Option Cqe
 completion_of accepted e =
     let entry = slice_index_or accepted e.number zero_entry in
     if posts_completion entry e.res then Some (completion_for entry e.res e.bytes) else None
 
--- the completions posted, in order, where these entries were accepted
+-- the completions posted, in order, if these entries were accepted
 abbrev pub posts : List Sqe → History → List Cqe
 posts accepted h = filter_map (completion_of accepted) (ends h)
 
@@ -80,7 +80,7 @@ before_published position [] = []
 before_published position (event ∷ before) =
     if is_store_tail event && not (nat_lt position (length (published_words before))) then before else before_published position before
 
--- the entry that a published position has, where the table has size slots: what its slot held as it was published, where its word names a slot
+-- the entry that a published position has, if the table has size slots: what its slot held as it was published, if its word names a slot
 abbrev pub published_entry : ℕ → History → ℕ → Option Sqe
 published_entry size h position =
     let word = slice_index_or (staged_words h) position 0 in
@@ -111,7 +111,7 @@ has_stopped g h = list_any (takes_last g) (since_last opens_call h)
 abbrev pub open_count : Setup → History → ℕ
 open_count g h = if has_stopped g h then taken_since h else unwrap_or (last_told opened_by h) 0
 
--- the call that is open, where more were opened than closed: the last one opened, with the positions taken since
+-- the call that is open, if more were opened than closed: the last one opened, with the positions taken since
 abbrev pub open_call : Setup → History → Option Call
 open_call g h =
     if count_by opens_call h == count_by closes_call h then None else

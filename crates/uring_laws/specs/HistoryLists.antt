@@ -19,7 +19,7 @@ posted_count g h = length (posts (world g h).requests.accepted h)
 abbrev pub posts_one : Setup → History → Event → Bool
 posts_one g before event = is_some (option_and_then (completion_of (world g before).requests.accepted) (end_told_by event))
 
--- How many completions were put into the ring. One that is posted goes there where none waits in the overflow list and the ring has room above the head last loaded; a flush puts as many as fit above the head last stored. io_uring_setup(2), IORING_FEAT_NODROP; that flushing is a step of its own is our own rule
+-- How many completions were put into the ring. One that is posted goes there if none waits in the overflow list and the ring has room above the head last loaded; a flush puts as many as fit above the head last stored. io_uring_setup(2), IORING_FEAT_NODROP; that flushing is a step of its own is our own rule
 abbrev pub put_count : Setup → History → ℕ
 put_count g [] = 0
 put_count g (event ∷ before) =

@@ -39,7 +39,7 @@ pub record EachEndsOnce (g : Setup) (h : History) : Type 0 where
   pub accepted_end : (n : ℕ) → 0 < times_ended h n → n < length (world g h).requests.accepted
   pub all_end : ((n : ℕ) → is_outstanding (world g h).requests n ≡ false) → (n : ℕ) → n < length (world g h).requests.accepted → times_ended h n ≡ 1
 
--- A doomed request was never started, and each end of it has the result of the doomed: EINVAL where it has a fault itself, else ECANCELED.
+-- A doomed request was never started, and each end of it has the result of the doomed: EINVAL if it has a fault itself, else ECANCELED.
 pub record DoomedNeverRun (g : Setup) (h : History) : Type 0 where
   pub never_run : (n : ℕ) → is_doomed (world g h).requests n ≡ true → times_started h n ≡ 0
   pub ends_so : (k : ℕ) (e : Ending) → slice_get (ends h) k ≡ Some e → is_doomed (world g h).requests e.number ≡ true → e.res ≡ doomed_result (world g h).requests e.number

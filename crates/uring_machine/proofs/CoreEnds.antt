@@ -147,7 +147,7 @@ ended_shows p w d q r entry res bytes s shows accepted outstanding room between 
     assumption (s, shown, shows, in_between, to_post, to_accept, numbers, posts, stays_promised)
 
 -- an outstanding request's entry is there
-pub entry_there : (r : Requests) (n : ℕ) (entry : Sqe) → Some entry ≡ entry_outstanding r n → entry ≡ entry_of r n
+entry_there : (r : Requests) (n : ℕ) (entry : Sqe) → Some entry ≡ entry_outstanding r n → entry ≡ entry_of r n
 entry_there r n entry e = sym (cond_some (is_outstanding r n) (entry_of r n) entry (sym e)).1
 
 -- Issue.
@@ -165,7 +165,7 @@ told_chain : (a b c d e : Bool) (x y z u v t : Issued) → issue_told (cond a x 
 told_chain a b c d e x y z u v t =
     told_if issue_told a _ _ ∙ ap (cond a (issue_told x)) (told_if issue_told b _ _ ∙ ap (cond b (issue_told y)) (told_if issue_told c _ _ ∙ ap (cond c (issue_told z)) (told_if issue_told d _ _ ∙ ap (cond d (issue_told u)) (told_if issue_told e _ _))))
 
-pub issue_same : (w : World) (n : ℕ) → issue_told (issued w.requests n) ≡ issue_answer w n
+issue_same : (w : World) (n : ℕ) → issue_told (issued w.requests n) ≡ issue_answer w n
 issue_same w n = told_chain (not (is_outstanding w.requests n)) (is_running w.requests n) (is_doomed w.requests n) (not (is_ready w.requests n)) (is_cancel (entry_of w.requests n)) issue.Unknown issue.Running (issue.Ended (doomed_result w.requests n)) issue.NotReady (issue.Ended (cancel_result w.requests n)) (issue.Run (operation_of (entry_of w.requests n)))
 
 pub run_goes : (p : Core) (d : Dispatch) (n : ℕ) (op : Op)

@@ -27,7 +27,7 @@ pub core_after : (p q : Core) (e : Event) → q.setup ≡ p.setup → ((h : Hist
 core_after p q e same goes core = (subst IsWithinLimits (sym same) core.0, e ∷ core.1, goes core.1 core.2)
 
 -- A change of the submission ring alone, which leaves the open call and what it took as they were.
-pub on_submission : (p : Core) (w : World) (q : Sq) (l : Submission) → ShowsWorld p w → ShowsSubmission p.setup q l → l.call ≡ w.submission.call
+on_submission : (p : Core) (w : World) (q : Sq) (l : Submission) → ShowsWorld p w → ShowsSubmission p.setup q l → l.call ≡ w.submission.call
     → held_by l l.call ≡ held_by w.submission w.submission.call → ShowsWorld (record p { sq = q }) (record w { submission = l })
 on_submission p w q l s shows call held =
     let same_held = s.held ∙ sym held in
@@ -37,7 +37,7 @@ on_submission p w q l s shows call held =
     assumption (s, shows, same_held, to_post, to_accept, numbers)
 
 -- A change of the completion ring alone, which posts nothing.
-pub on_completions : (p : Core) (w : World) (q : Cq) (l : Completions) → ShowsWorld p w → ShowsCompletions p.setup q l → q.room ≡ p.cq.room → KeepsMemory p.cq q
+on_completions : (p : Core) (w : World) (q : Cq) (l : Completions) → ShowsWorld p w → ShowsCompletions p.setup q l → q.room ≡ p.cq.room → KeepsMemory p.cq q
     → l.posted ≡ w.completions.posted → ShowsWorld (record p { cq = q }) (record w { completions = l })
 on_completions p w q l s shows room memory posted =
     let to_post = subst (λ r. p.dispatch.outstanding + positions_of w.submission.call ≤ r) (sym room) s.room_to_post in

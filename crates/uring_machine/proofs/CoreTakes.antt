@@ -70,7 +70,7 @@ answered_dropped : (w : World) (call : Call) (place : Place) → eqb call.taken 
     → answer.Dropped ≡ take_answer_in w (Some call)
 answered_dropped w call place more is has = rw (more, is, has) refl
 
-pub some_call : (c : Option Call) (call : Call) (P : Call → Type 0) → c ≡ Some call → IfSome c P → P call
+some_call : (c : Option Call) (call : Call) (P : Call → Type 0) → c ≡ Some call → IfSome c P → P call
 some_call None call P is holds = cc
 some_call (Some other) call P is holds = let same : other ≡ call = cc in subst P same holds
 

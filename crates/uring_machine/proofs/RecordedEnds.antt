@@ -106,7 +106,7 @@ runs_so m h n op fits is =
     }
 
 -- one end alone is called for where the operation doesn't make its file longer
-pub one_end : (files : List FileContents) (op : Op) → is_lengthening files op ≡ false → (a b : Answer) → EndsWith files op a → EndsWith files op b → a ≡ b
+one_end : (files : List FileContents) (op : Op) → is_lengthening files op ≡ false → (a b : Answer) → EndsWith files op a → EndsWith files op b → a ≡ b
 one_end files op short (answer.Ended res bytes) (answer.Ended res' bytes') (inl e) (inl f) = ap (λ (o : Outcome). answer.Ended o.res o.bytes) (e ∙ sym f)
 one_end files op short (answer.Ended res bytes) (answer.Ended res' bytes') (inr long) f = absurd (true≢false (sym long.0 ∙ short))
 one_end files op short (answer.Ended res bytes) (answer.Ended res' bytes') (inl e) (inr long) = absurd (true≢false (sym long.0 ∙ short))

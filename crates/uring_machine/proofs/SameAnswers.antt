@@ -35,7 +35,7 @@ same_completion c d named result payload = λ i.
     })
 
 -- what `==` finds the same is the same
-pub one : (a b : Answer) → same a b ≡ true → a ≡ b
+one : (a b : Answer) → same a b ≡ true → a ≡ b
 one answer.Filled answer.Filled e = refl
 one answer.NoSlot answer.NoSlot e = refl
 one answer.Busy answer.Busy e = refl
@@ -81,7 +81,7 @@ one (answer.Next x) (answer.Next y) e = ap (λ (k : ℕ). answer.Next k) (eqb-tr
 one _ _ e = absurd (both_ways false refl e)
 
 -- `==` finds each answer the same as itself
-pub alike : (a : Answer) → same a a ≡ true
+alike : (a : Answer) → same a a ≡ true
 alike (answer.Tail x) = own_number x
 alike (answer.Head x) = own_number x
 alike (answer.Call x) = own_number x

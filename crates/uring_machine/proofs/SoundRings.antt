@@ -24,7 +24,7 @@ pub record IsSoundCompletions (size : ℕ) (l : Completions) : Type 0 where
 posted_begins : (xs ys : List Cqe) (c : Cqe) → length xs ≤ length ys → xs ≡ take (length xs) ys → xs ≡ take (length xs) (ys ++ c ∷ [])
 posted_begins xs ys c within e = e ∙ sym (take-append-le (length xs) ys (c ∷ []) within)
 
-pub post_sound : (size : ℕ) (l : Completions) (c : Cqe) → IsSoundCompletions size l → IsSoundCompletions size (with_posted size l c)
+post_sound : (size : ℕ) (l : Completions) (c : Cqe) → IsSoundCompletions size l → IsSoundCompletions size (with_posted size l c)
 post_sound size l c s = by_room (has_room size l) refl where
   room_tells : has_room size l ≡ true → (l.put ≡ length l.posted) × (l.put - l.seen_head < size)
   room_tells e = let p = and_parts _ _ e in (eqb-true _ _ p.0, ltb-true _ _ p.1)

@@ -1,4 +1,4 @@
--- Answers that were recorded elsewhere: which ones are wanted where one is wrong, and what is so of a whole list of steps with their answers. All of it is our own rule.
+-- Answers that were recorded elsewhere: which ones are wanted if one is wrong, and what is so of a whole list of steps with their answers. All of it is our own rule.
 use Rattle.std.specs.Prelude.{◌≡◌, ℕ, neg_ℤ, true, List, take, Some, ◌∷◌, ◌⊎◌, slice_get}
 use Rattle.uring_entry.specs.Setup.{Setup}
 use Rattle.uring_entry.specs.Preparation.{operation_of}

@@ -20,7 +20,7 @@ abbrev pub started_last : Option ℕ → List Event → Option ℕ
 started_last started [] = started
 started_last started (event ∷ later) = started_last (started_by event) later
 
--- the step that settles further: the finish of the request that was just started, else the issue of the next one, and where none can be issued the finish of the least outstanding one. Our own rule
+-- the step that settles further: the finish of the request that was just started, else the issue of the next one, and if none can be issued the finish of the least outstanding one. Our own rule
 abbrev pub settling_step : (started next least : Option ℕ) → Option Step
 settling_step (Some n) next least = Some (step.Finish n)
 settling_step None (Some n) least = Some (step.Issue n)

@@ -28,7 +28,7 @@ index_answer g w = if is_full g.sq w.submission then answer.Full else answer.Sta
 abbrev pub is_spent : World → ℕ → Bool
 is_spent w count = nat_lt (2 ^ 63 - 1) (length w.requests.accepted + count)
 
--- the answer to Begin where memory is there. io_uring_enter(2), to_submit, for the length of the call; the refusals are our own rule
+-- the answer to Begin if memory is there. io_uring_enter(2), to_submit, for the length of the call; the refusals are our own rule
 abbrev pub begin_answer : World → ℕ → Answer
 begin_answer w count =
     if w.is_closed then answer.Closed else
@@ -36,7 +36,7 @@ begin_answer w count =
     if is_spent w (call_length w.submission count) then answer.Spent else
     answer.Call (call_length w.submission count)
 
--- where a call of one position or more would open, memory may be refused instead; a call of none needs no memory. io_uring_enter(2), ERRORS, EAGAIN
+-- if a call of one position or more would open, memory may be refused instead; a call of none needs no memory. io_uring_enter(2), ERRORS, EAGAIN
 abbrev pub OrAgain : Answer → Answer → Type 0
 OrAgain (answer.Call length) a = (a ≡ answer.Call length) ⊎ ((a ≡ answer.Again) × (0 < length))
 OrAgain refusal a = a ≡ refusal
@@ -71,7 +71,7 @@ end_answer_in g w (Some call) =
 abbrev pub end_answer : Setup → World → Answer
 end_answer g w = end_answer_in g w w.submission.call
 
--- a request that isn't outstanding, or that runs already; a doomed one ends; one that may start runs, or ends where it is a cancel
+-- a request that isn't outstanding, or that runs already; a doomed one ends; one that may start runs, or ends if it is a cancel
 abbrev pub issue_answer : World → ℕ → Answer
 issue_answer w n =
     if not (is_outstanding w.requests n) then answer.Unknown else
@@ -106,7 +106,7 @@ abbrev pub next_answer_of : Option ℕ → Answer
 next_answer_of None = answer.Nothing
 next_answer_of (Some n) = answer.Next n
 
--- a call that is open, or else the ring is closed, also where it was before. Our own rule
+-- a call that is open, or else the ring is closed, also if it was before. Our own rule
 abbrev pub close_answer : World → Answer
 close_answer w = if is_some w.submission.call then answer.InCall else answer.Shut
 

@@ -34,7 +34,7 @@ abbrev pub beginning : World → ℕ → Answer → World
 beginning w count (answer.Call length) = record w { submission = with_begun w.submission count }
 beginning w count _ = w
 
--- the open call takes a position, where a call is open
+-- the open call takes a position, if a call is open
 abbrev pub taking_of : World → Option Call → World
 taking_of w None = w
 taking_of w (Some call) = record w { submission = with_taken w.submission call }

@@ -1,8 +1,8 @@
 //! The commands of `uring`, as clap knows them.
 
-ghost use Rattle.std.specs.Prelude.{◌≡◌, codes, IfOk, false};
+ghost use Rattle.std.specs.Prelude.{◌≡◌, IfOk, false};
 ghost use Rattle.clap.specs.Words.{app_of, rule_of, with_rule};
-ghost use Rattle.clap.specs.Simple.{App, with_subcommand};
+ghost use Rattle.clap.specs.Simple.{with_subcommand};
 ghost use Rattle.clap.specs.declared.builder.command.Command.TheViews.{out-Command};
 ghost use Rattle.uring_options.specs.OptionRows.{app_of_row, rule_of_row, with_rows_of};
 ghost use Rattle.uring_options.specs.CommandLine.{option_rule, flag_rule, uring};

@@ -1,5 +1,5 @@
 //! The application's thread of a play: it submits calls, closes, and reaps.
-ghost use Rattle.std.specs.Prelude.{◌≡◌, [], ◌++◌, length, IsTrue};
+ghost use Rattle.std.specs.Prelude.{◌≡◌, ◌++◌, IsTrue};
 ghost use Rattle.uring_threads.specs.Ports.{nothing_put, with_call, with_close};
 ghost use Rattle.uring_play.specs.Inputs.{lists_of};
 ghost use Rattle.uring_play.specs.Threads.{Applies};

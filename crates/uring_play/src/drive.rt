@@ -1,5 +1,5 @@
 //! A play of calls: all ends are made, run in threads, and settled.
-ghost use Rattle.std.specs.Prelude.{◌≡◌, ◌<◌, ◌≤◌, ◌++◌, ℕ, List, true, false, [], IfOk, IsTrue, OnOk};
+ghost use Rattle.std.specs.Prelude.{◌≡◌, ◌<◌, ◌≤◌, ◌++◌, List, true, false, [], IfOk, IsTrue, OnOk};
 ghost use Rattle.uring_entry.specs.Requests.{outstanding_in};
 ghost use Rattle.uring_play.specs.Inputs.{lists_of};
 ghost use Rattle.uring_play.specs.Plays.{IsPlay};

@@ -1,7 +1,6 @@
 //! The lines of a play.
 
-ghost use Rattle.std.specs.Prelude.{◌≡◌, ◌<◌, ◌≤◌, ℕ, List, IfOk, MatchOption, length, map};
-ghost use Rattle.uring_trace.specs.Tokens.{tokens_of};
+ghost use Rattle.std.specs.Prelude.{◌<◌, ℕ, List, IfOk, MatchOption, map};
 ghost use Rattle.uring_play.specs.ItemLines.{SpellsItem};
 ghost use Rattle.uring_play.specs.LineReads.{IsReadAs, IsGiven, IsBadWord, IsNoBadWord, IsNoItem};
 

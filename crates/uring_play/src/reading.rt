@@ -1,6 +1,6 @@
 //! The calls that the bytes of a reader spell.
 
-ghost use Rattle.std.specs.Prelude.{◌≡◌, ◌≢◌, ◌⊎◌, ◌-◌, ◌^◌, ℕ, List, [], ◌∷◌, ◌++◌, Err, IfErr, IfOk, OnOk};
+ghost use Rattle.std.specs.Prelude.{◌≡◌, ◌⊎◌, ◌-◌, ◌^◌, ℕ, List, [], ◌∷◌, ◌++◌, Err, IfErr, IfOk, OnOk};
 ghost use Rattle.uring_trace.specs.Streams.{AreOver};
 ghost use Rattle.uring_play.specs.Inputs.{ReadsCalls, IsReturned};
 ghost use Rattle.uring_play.specs.Readings.{Has, ReadsIn};
@@ -67,8 +67,6 @@ pub(crate) struct Reading {
 }
 
 impl Reading {
-    ghost use Rattle.uring_trace.specs.KeptLine.{kept_of};
-
     /// No byte yet, for a submission ring of this size.
     fn new(alloc: Global, size: u32) -> Result<Reading, AllocError>
         ensures { IfOk result (λ r. Has size r []) }

@@ -1,5 +1,4 @@
 //! The threads of a play that serve the application: the dispatcher's, and one for each worker.
-ghost use Rattle.std.specs.Prelude.{◌≡◌};
 ghost use Rattle.uring_play.specs.Threads.{StaysKernel, StaysWorker};
 
 use std::sync::Wait;

@@ -1,6 +1,6 @@
 //! The text of completions.
 
-ghost use Rattle.std.specs.Prelude.{◌≡◌, ◌++◌, List, OnOk, string_bytes, IfErr};
+ghost use Rattle.std.specs.Prelude.{◌≡◌, ◌++◌, OnOk, string_bytes};
 ghost use Rattle.std.specs.List.Sorted.{IsPermutation};
 ghost use Rattle.uring_play.specs.Outputs.{Writes, lines_text, counts_text, IsInOrder};
 

@@ -1,4 +1,4 @@
--- The laws of `workers_join`: work is dealt out by files, and joined by the laws of uring_machine on places.
+-- The laws of `workers_join`: work is dealt out by files, and joined by the laws of uring_laws on places.
 use Rattle.std.proofs.Common.{◌≡◌, ℕ, ◌<◌, ◌%◌, ℤ, pos, negsuc, Bool, true, false, cond, nat_lt, sym, ◌∙◌, ap, arith}
 use Rattle.std.proofs.lemmas.Bool.Decides.{Decides-int_eq}
 use Rattle.uring_entry.specs.Setup.{Setup}

@@ -1,5 +1,5 @@
 //! The application's end: it submits calls, reaps completions and closes.
-ghost use Rattle.std.specs.Prelude.{◌≡◌, ◌<◌, ◌≤◌, ◌↔◌, true, false, [], None, is_some, IsTrue, length, OnOk, IfOk, IfErr, MatchOption};
+ghost use Rattle.std.specs.Prelude.{◌≡◌, ◌<◌, ◌≤◌, ◌↔◌, true, false, None, is_some, IsTrue, length, OnOk, IfOk, IfErr, MatchOption};
 ghost use Rattle.uring_laws.specs.Published.{IsItem};
 ghost use Rattle.uring_threads.specs.Dropped.{WereStored};
 ghost use Rattle.uring_threads.specs.Items.{AreItems, published_as};

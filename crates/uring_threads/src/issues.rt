@@ -1,5 +1,5 @@
 //! Requests that the dispatcher issues.
-ghost use Rattle.std.specs.Prelude.{◌≡◌, ◌≤◌, ◌+◌, ◌<◌, ℕ, ◌⊎◌, length, get_or, None, Some, IfSome, IfOk, OnErr};
+ghost use Rattle.std.specs.Prelude.{◌≡◌, ◌≤◌, ◌<◌, ℕ, ◌⊎◌, length, None, Some, IfSome, IfOk, OnErr};
 ghost use Rattle.uring_entry.specs.Requests.{next_of};
 ghost use Rattle.uring_files.specs.Operations.{IsForFiles};
 ghost use Rattle.uring_threads.specs.Dispatched.{HaveCarried, ShowRoom, SomeIsFull, AreSameLanes};

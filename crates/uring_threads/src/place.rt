@@ -1,5 +1,5 @@
 //! Which worker carries out an operation.
-ghost use Rattle.std.specs.Prelude.{◌≡◌, ◌<◌, ◌≤◌};
+ghost use Rattle.std.specs.Prelude.{◌≡◌, ◌<◌};
 ghost use Rattle.uring_threads.specs.Work as work;
 
 use uring_entry::Op;

@@ -1,5 +1,5 @@
 //! The two ports over lanes: one for submissions, as large as the submission ring, and one for completions, as large as the completion ring.
-ghost use Rattle.std.specs.Prelude.{◌≡◌, [], length, None, IfOk};
+ghost use Rattle.std.specs.Prelude.{◌≡◌, [], None, IfOk};
 ghost use Rattle.uring_threads.specs.Ports.{nothing_put, sizes_of};
 
 use crate::call_lane::{pull, put_call, put_close};

@@ -7,7 +7,7 @@ use uring_entry::Cqe;
 
 /// The application's port: submissions go in, completions come out.
 pub trait AppPort: Drop {
-    ghost use Rattle.std.specs.Prelude.{◌≡◌, ℕ, ◌+◌, ◌<◌, Bool, true, false, List, [], ◌∷◌, ◌++◌, length, Option, None, is_some, IsTrue, MatchBool, MatchOption};
+    ghost use Rattle.std.specs.Prelude.{◌≡◌, ℕ, ◌+◌, ◌<◌, true, false, List, [], ◌∷◌, ◌++◌, length, Option, None, is_some, MatchBool, MatchOption};
     ghost use Rattle.uring_entry.specs.Layout.{Cqe};
     ghost use Rattle.uring_threads.specs.Dropped.{with_word};
     ghost use Rattle.uring_threads.specs.Items.{AreItems};

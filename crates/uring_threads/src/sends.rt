@@ -1,6 +1,5 @@
 //! Jobs that the dispatcher sends to workers.
-ghost use Rattle.std.specs.Prelude.{◌≡◌, ◌≢◌, ℕ, ◌<◌, length, get_or, slice_set, MatchBool};
-ghost use Rattle.rtrb.specs.Ring.{known_free};
+ghost use Rattle.std.specs.Prelude.{◌≡◌, ◌≢◌, ℕ, ◌<◌, length, get_or, MatchBool};
 ghost use Rattle.uring_files.specs.Operations.{IsForFiles};
 ghost use Rattle.uring_threads.specs.Dispatched.{ShowRoom, SomeIsFull, IsLookedAt, IsSent};
 ghost use Rattle.uring_threads.specs.declared.work_lanes.WorkLanes.{WorkLanes};

@@ -1,5 +1,5 @@
 //! A worker: it carries out jobs on files that it alone has.
-ghost use Rattle.std.specs.Prelude.{◌≡◌, ◌+◌, ◌<◌, ◌≤◌, [], ◌∷◌, ◌++◌, length, IfOk};
+ghost use Rattle.std.specs.Prelude.{◌≡◌, ◌+◌, ◌<◌, [], ◌∷◌, ◌++◌, length};
 ghost use Rattle.rtrb.specs.Ring.{sent, known_free, received, known_items};
 ghost use Rattle.uring_files.specs.Operations.{state_of, byte_of, IsForFiles};
 ghost use Rattle.uring_threads.specs.Pairings.{producer_numbers, consumer_numbers, pairing_of};

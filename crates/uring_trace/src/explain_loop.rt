@@ -1,7 +1,6 @@
 //! The run of an explained trace over three streams.
 
-ghost use Rattle.std.specs.Prelude.{◌≡◌, ◌≢◌, ℕ, List, [], ◌++◌, Err, IfErr};
-ghost use Rattle.std.specs.Io.KnownBytes.{Appends};
+ghost use Rattle.std.specs.Prelude.{ℕ, List, [], ◌++◌, Err};
 ghost use Rattle.uring_entry.specs.Setup.{Setup};
 ghost use Rattle.uring_trace.specs.Explaining.{HasTold, TookBoth, WritesPair, WroteBoth};
 ghost use Rattle.uring_trace.specs.Explanations.{IsExplained, WritesBoth};

@@ -1,4 +1,4 @@
-ghost use Rattle.std.specs.Prelude.{◌≡◌, ◌≤◌, neg_ℤ, pos, IsTrue, IfOk, vec_len, false};
+ghost use Rattle.std.specs.Prelude.{◌≡◌, vec_len, false};
 ghost use Rattle.uring_uses.specs.Disks.{IsDiskOutcome, IsMoved};
 
 use std::alloc::{AllocError, Global};

@@ -1,6 +1,6 @@
 //! The dispatcher's calls, each once, and at size. Groups, drains and cancels are worked rows of the trace language.
 
-ghost use Rattle.std.specs.Prelude.{◌≤◌, IsTrue};
+ghost use Rattle.std.specs.Prelude.{IsTrue};
 
 use super::{check, check_done, first_false};
 use std::alloc::Global;

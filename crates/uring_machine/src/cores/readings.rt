@@ -18,7 +18,7 @@ use uring_dispatch::{Dispatch, Found};
 use uring_entry::{Cqe, Op, Setup, Why};
 
 impl Core {
-    /// What a Begin of this many positions, any number, is answered where memory is there: the answer of `Step::Begin`, unless that is `Again`. It is no step, and so not part of a history.
+    /// What a Begin of this many positions, any number, is answered if memory is there: the answer of `Step::Begin`, unless that is `Again`. It is no step, and so not part of a history.
     pub fn would_begin(&self, count: u32) -> Answer
         ensures { (h : History) → FitsApart self.now h → result ≡ begin_answer (world self.now.setup h) count }
     {

@@ -1,5 +1,5 @@
 //! The application's calls on the table: one call or the close mark, all or nothing.
-ghost use Rattle.std.specs.Prelude.{◌≡◌, ◌+◌, ◌<◌, ◌≤◌, false, true, [], ◌∷◌, ◌++◌, length, map, MatchBool};
+ghost use Rattle.std.specs.Prelude.{◌≡◌, ◌+◌, ◌<◌, ◌≤◌, false, true, length, map, MatchBool};
 ghost use Rattle.uring_entry.specs.IndexWords.{word_of};
 ghost use Rattle.uring_threads.specs.Items.{AreItems};
 ghost use Rattle.uring_threads.specs.Ports.{places_of, with_call, with_close};
@@ -7,7 +7,6 @@ ghost use Rattle.uring_words.specs.Submission.Calls.{item_of, put_of, has_close_
 ghost use Rattle.uring_words.specs.Submission.Ends.{AppRests, SawHead, StagesCall};
 ghost use Rattle.uring_words.specs.Submission.Layout.{word_count};
 ghost use Rattle.uring_words.specs.Sides.{with_app};
-ghost use Rattle.uring_words.specs.Submission.Steps.{head_loaded};
 
 use crate::submission::app_steps::{publish, stage_close, stage_item};
 use crate::submission::table::{LoadHead, Seat, Words};

@@ -1,5 +1,5 @@
 //! The application's steps on the table, from one word up to one call.
-ghost use Rattle.std.specs.Prelude.{◌≡◌, ◌+◌, ◌<◌, ◌≤◌, true, false, [], ◌∷◌, ◌++◌, length};
+ghost use Rattle.std.specs.Prelude.{◌≡◌, ◌+◌, ◌<◌, ◌≤◌, true, false, [], length};
 ghost use Rattle.std.specs.Int.{IsPowerOfTwo};
 ghost use Rattle.uring_entry.specs.IndexWords.{word_of};
 ghost use Rattle.uring_laws.specs.Published.{IsItem};

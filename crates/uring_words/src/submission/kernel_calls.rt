@@ -1,13 +1,12 @@
 //! The dispatcher's calls on the table: one whole call, the close mark, or nothing.
-ghost use Rattle.std.specs.Prelude.{◌≡◌, ◌+◌, ◌<◌, ◌≤◌, true, false, [], ◌∷◌, ◌++◌, length, vec_capacity};
+ghost use Rattle.std.specs.Prelude.{◌≡◌, ◌+◌, ◌<◌, ◌≤◌, true, false, [], ◌++◌, length, vec_capacity};
 ghost use Rattle.uring_threads.specs.Ports.{Pulls};
 ghost use Rattle.uring_threads.specs.declared.pulled.Pulled.{Pulled};
 ghost use Rattle.uring_words.specs.Submission.Calls.{put_of, has_close_mark, AreWhole};
 ghost use Rattle.uring_words.specs.Submission.Ends.{Copying, KernelRests};
 ghost use Rattle.uring_words.specs.Submission.Layout.{word_count};
 ghost use Rattle.uring_words.specs.Sides.{with_kernel};
-ghost use Rattle.uring_words.specs.Submission.Steps.{head_stored, LoadsTail};
-ghost use Rattle.uring_words.specs.Submission.Rule.{tail_seen};
+ghost use Rattle.uring_words.specs.Submission.Steps.{head_stored};
 
 use crate::submission::kernel_steps::{Copied, copy_one};
 use crate::submission::table::{LoadTail, Seat, StoreHead, Words};

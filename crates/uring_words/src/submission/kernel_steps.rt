@@ -1,5 +1,5 @@
 //! The dispatcher's steps on the table, from one word up to one call.
-ghost use Rattle.std.specs.Prelude.{◌≡◌, ◌+◌, ◌<◌, ◌≤◌, true, false, [], ◌∷◌, ◌++◌, length, vec_capacity, IsTrue, ◌↔◌};
+ghost use Rattle.std.specs.Prelude.{◌≡◌, ◌+◌, ◌<◌, ◌≤◌, true, false, ◌∷◌, length};
 ghost use Rattle.uring_words.specs.Submission.Ends.{Copying, CopiesOne, HoldsAs, copied_one};
 ghost use Rattle.uring_words.specs.Submission.Calls.{item_of};
 ghost use Rattle.uring_words.specs.Places.{place_of};

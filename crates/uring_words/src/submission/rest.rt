@@ -1,10 +1,9 @@
 //! What is left on the table when both of its seats are in one hand.
-ghost use Rattle.std.specs.Prelude.{◌≡◌, ◌+◌, ◌<◌, ◌≤◌, true, [], ◌∷◌, ◌++◌, length, vec_capacity, vec_len};
+ghost use Rattle.std.specs.Prelude.{◌≡◌, ◌+◌, ◌<◌, ◌≤◌, true, [], ◌++◌, length, vec_capacity, vec_len};
 ghost use Rattle.uring_threads.specs.Ports.{LeavesItems};
 ghost use Rattle.uring_words.specs.Submission.Calls.{put_of, items_of, AreWhole};
-ghost use Rattle.uring_words.specs.Submission.Ends.{AppRests, Copying, KernelRests};
+ghost use Rattle.uring_words.specs.Submission.Ends.{KernelRests};
 ghost use Rattle.uring_words.specs.Submission.Layout.{word_count};
-ghost use Rattle.uring_words.specs.Sides.{with_kernel};
 
 use crate::submission::kernel_calls::load_tail;
 use crate::submission::kernel_steps::{Copied, copy_one};
