@@ -77,7 +77,7 @@ IsByFile place = (fd : ℤ) (op other : Op) → is_on fd op ≡ true → is_on f
 abbrev pub done_at : (Op → ℕ) → ℕ → List Done → List Done
 done_at place k done = filter (λ d. place d.op == k) done
 
--- Operations were dealt out by their file, and each place carried out its own on files that it alone has, as they call for: then the history is lawful.
+-- The operations of a history that is lawful apart from what they gave were dealt out by their file, and each place carried out its own on files that it alone has, as they call for: then the history is lawful.
 abbrev pub PlacesJoin : Setup → Type 0
 PlacesJoin g = (place : Op → ℕ) (places : ℕ) (h : History) → IsByFile place → ((op : Op) → place op < places) → IsLawfulApart g h
     → ((k : ℕ) → k < places → AreDone (first_files g) (done_at place k (done_in g h))) → IsLawful g h

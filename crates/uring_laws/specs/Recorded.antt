@@ -18,7 +18,7 @@ CalledIsDecided = (g : Setup) (w : World) (s : Step) (a : Answer) → CalledFor 
 abbrev pub CalledIsDecidedApart : Type 0
 CalledIsDecidedApart = (g : Setup) (w : World) (s : Step) (a : Answer) → CalledForApart g w s a ⊎ (CalledForApart g w s a → ⊥)
 
--- A list with a wrong answer is no lawful history.
+-- A list of which some answer is the first wrong one is no lawful history.
 abbrev pub WrongIsUnlawful : Setup → Type 0
 WrongIsUnlawful g = (events : List Event) (place : ℕ) (wanted : Wanted) → IsFirstWrongAnswer g events place wanted → IsLawful g (history_of events) → ⊥
 

@@ -59,7 +59,7 @@ ItemsArePublished = (l : Submission) (size : ℕ) (items : List Published) → l
 abbrev pub in_call : World → ℕ → ℕ → World
 in_call w count done = record w { submission = record w.submission { call = Some (record { count = count; taken = done }) } }
 
--- a call of the positions that wait opens, or of fewer, unless memory is refused or the numbers are spent; then nothing changes
+-- a call of the positions that wait opens, or of fewer, unless memory is refused or the numbers are spent
 abbrev pub CallOpens : Setup → Type 0
 CallOpens g = (w : World) (count asked : ℕ) (a : Answer) → Stands w.submission [] count → w.is_closed ≡ false → asked ≤ count → CalledForApart g w (step.Begin asked) a
     → (OrAgain (answer.Call asked) a ⊎ ((a ≡ answer.Spent) × (is_spent w asked ≡ true))) × (happens g w (step.Begin asked) (answer.Call asked) ≡ in_call w asked 0)

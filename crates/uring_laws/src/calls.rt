@@ -3,7 +3,7 @@ ghost use Rattle.uring_entry.specs.Setup.{Setup};
 ghost use Rattle.uring_laws.specs.Standing.{FreeSlotIsFilled, WordIsStaged, TailPublishes, ItemsArePublished, CallOpens, PositionIsTaken, CallCloses, TakesWholeCall};
 ghost use Rattle.uring_laws.specs.Stopping.{OpenCallEndsThere, CallsTakeAll};
 
-/// A ring in which no position waits takes a whole call: each slot is filled, each word staged, up to the ring's size, and a store of the tail publishes these items.
+/// Between calls, if no position waits and the application has loaded the head since, each slot is filled and each word staged, up to the ring's size, and a store of the tail publishes them: exactly these items, if nothing was staged before.
 pub fn empty_ring_is_filled()
     ensures fill { (g : Setup) → FreeSlotIsFilled g }
     ensures stage { (g : Setup) → WordIsStaged g }
@@ -11,12 +11,12 @@ pub fn empty_ring_is_filled()
     ensures items { ItemsArePublished }
 {}
 
-/// So an empty ring takes a whole call: the steps for its items, a store of the tail and a `Begin` are answered without a refusal, unless memory is refused or the numbers are spent.
+/// So a ring takes a whole call if it isn't closed, nothing is staged, no position waits, no call is open and the head is loaded: the steps for at most a ring's size of items, a store of the tail and a `Begin` are answered without a refusal, unless memory is refused or the numbers are spent, and the call opens with all of them.
 pub fn empty_ring_takes_a_whole_call()
     ensures { (g : Setup) → TakesWholeCall g }
 {}
 
-/// The call of the positions that wait opens, if memory is there and the numbers aren't spent; in a ring that goes on it takes each of them, closes, and leaves the ring as it stood, with those positions taken.
+/// The call of the positions that wait opens if the ring isn't closed, memory is there and the numbers aren't spent. In a ring that goes on it takes each of them and closes, and once the application has loaded the head the ring stands as before, with those positions taken.
 pub fn waiting_call_is_taken()
     ensures opens { (g : Setup) → CallOpens g }
     ensures takes { (g : Setup) → PositionIsTaken g }

@@ -14,7 +14,7 @@ pub fn file_is_made_by_its_own_ends()
     ensures operations { FileByItsOperations }
 {}
 
-/// If operations are dealt out by their file, and each place carries out its own on files that it alone has, the places make a lawful history together, and each file is that of its place.
+/// A history that is lawful apart from what operations gave is lawful, if its operations were dealt out by their file and each place carried out its own on files that it alone has; and each file is that of its place.
 pub fn places_join()
     ensures lawful { (g : Setup) → PlacesJoin g }
     ensures files { (g : Setup) → FilesByPlace g }

@@ -14,7 +14,7 @@ pub mod files;
 pub mod reasons;
 pub mod recorded;
 
-/// Each list and count that a history has made is the one that is read straight off its events.
+/// Each list and count that a history has made is the one that is read straight off its events; of the cancelled, who is among them, by what stood before each cancel.
 pub fn lists_are_the_historys_own()
     ensures submission { (g : Setup) (h : History) → IsWithinLimits g → IsLawfulApart g h → OwnSubmission g h }
     ensures requests { (g : Setup) (h : History) → IsWithinLimits g → IsLawfulApart g h → OwnRequests g h }
@@ -22,12 +22,12 @@ pub fn lists_are_the_historys_own()
     ensures cancelled { (g : Setup) (h : History) → IsWithinLimits g → IsLawfulApart g h → OwnCancelled g h }
 {}
 
-/// What the application published is told by the events: its items, the lengths of the calls that took them, and how many words were dropped.
+/// What the application published is told by the events: its items, the lengths of the calls that closed, and how many positions these dropped, modulo 2^32.
 pub fn published_is_told()
     ensures { (g : Setup) (h : History) → IsLawfulApart g h → OwnPublished g h }
 {}
 
-/// The entries that calls took are those of the published positions, from the first on, each position once.
+/// The entries that calls took are those of a beginning of the published positions, in order, each once.
 pub fn taken_once_in_order()
     ensures { (g : Setup) (h : History) → IsWithinLimits g → IsLawfulApart g h → TakenOnceInOrder g h }
 {}
@@ -44,12 +44,12 @@ pub fn doomed_never_run()
     ensures were_doomed { (g : Setup) → IsWithinLimits g → CancelledWereDoomed g }
 {}
 
-/// Members of a group, and groups of which one drains, start in order: a request starts only after the end of each that it waits for.
+/// Members of a group, and groups of which one drains, start in order: a request runs, or is carried out as a cancel, only after the end of each earlier one that it waits for.
 pub fn links_and_drains_hold()
     ensures { (g : Setup) → IsWithinLimits g → LinksAndDrainsHold g }
 {}
 
-/// What was reaped begins what was posted; of the rest the older part stands in the completion ring, the newer in the overflow list, and waits there for a full ring.
+/// What was reaped begins what was posted; of the rest the older part stands in the completion ring, the newer in the overflow list, and waits there only while the ring is full above the head that the dispatcher last loaded.
 pub fn reaped_begin_posted()
     ensures { (g : Setup) (h : History) → IsWithinLimits g → IsLawfulApart g h → ReapedBeginPosted g.cq (world g h).completions }
 {}
@@ -69,18 +69,18 @@ pub fn none_is_outstanding()
     ensures { NoneIsOutstanding }
 {}
 
-/// With something outstanding, the least outstanding request is running, or it is the next to be issued, and `Issue` doesn't refuse it.
+/// With something outstanding, the least outstanding request is running, or else it is the next to be issued and `Issue` doesn't refuse it.
 pub fn least_can_go_on()
     ensures { (g : Setup) (h : History) (n : ℕ) → is_outstanding (world g h).requests n ≡ true → LeastCanGoOn (world g h) }
 {}
 
-/// What is lawful is lawful apart from what operations gave, so that every law holds of it. A finish never ends with -125 (`ECANCELED`), so that each such end is that of a request that was doomed just before.
+/// What is lawful is lawful apart from what operations gave, so that every law holds of it. In a lawful history no finish ends with -125 (`ECANCELED`), so that each such end is that of a request that was doomed just before.
 pub fn operations_never_cancel()
     ensures apart { (g : Setup) → LawfulStandsApart g }
     ensures never { (g : Setup) → NoFinishCancels g }
 {}
 
-/// What runs in a lawful history can be carried out on files: it is no cancel, which ends as it is issued, and its transfer is at most 64 bytes.
+/// What runs in a lawful history can be carried out on files: it is no cancel, and its transfer is at most 64 bytes.
 pub fn what_runs_is_for_files()
     ensures { (g : Setup) → IsWithinLimits g → WhatRunsIsForFiles g }
 {}

@@ -8,7 +8,7 @@ pub fn called_for_is_decided()
     ensures apart { CalledIsDecidedApart }
 {}
 
-/// Steps with a wrong answer among theirs are no lawful history.
+/// Steps of which some answer is the first wrong one are no lawful history.
 pub fn wrong_is_unlawful()
     ensures lawful { (g : Setup) → WrongIsUnlawful g }
     ensures apart { (g : Setup) → WrongIsUnlawfulApart g }
