@@ -1,5 +1,5 @@
 -- Glue. Sets of numbers, of a window that moves up.
-use Rattle.std.specs.Prelude.{◌≡◌, ◌≢◌, ℕ, ◌+◌, ◌-◌, ◌*◌, ◌/◌, ◌%◌, ◌<◌, ◌≤◌, Bool, true, false, not, nat_lt, ◌==◌, List, length, slice_index_or, if◌then◌else◌}
+use Rattle.std.specs.Prelude.{◌≡◌, ◌≢◌, ℕ, ◌+◌, ◌-◌, ◌*◌, ◌/◌, ◌%◌, ◌<◌, ◌≤◌, Bool, true, false, not, nat_lt, ◌==◌, List, length, slice_index_or, if◌then◌else◌, ◌⊎◌}
 use Rattle.std.specs.Int.{bit_at}
 
 -- A set of numbers, 64 of them to a block: the place of the first block that is kept, the blocks from there on, and the number below which there is memory for them.
@@ -83,8 +83,13 @@ pub record HasGrown (old new : NumberSet) (n : ℕ) : Type 0 where
   pub longer : stop_of old ≤ stop_of new
   pub covered : n < stop_of new
 
--- The same set, which may cover fewer numbers, but no fewer of those from n on.
+-- These blocks begin at this place or behind it, or with one that isn't zero; or there are none.
+abbrev pub HasLetGo : ℕ → List ℕ → ℕ → Type 0
+HasLetGo first blocks place = (place ≤ first) ⊎ ((length blocks ≡ 0) ⊎ (slice_index_or blocks 0 0 ≢ 0))
+
+-- The same set, which may cover fewer numbers, but no fewer of those from n on. What is kept before n begins with a block that isn't zero.
 pub record HasMoved (old new : NumberSet) (n : ℕ) : Type 0 where
   pub same : IsSameSet old new
   pub start : (m : ℕ) → start_of old ≤ m → n ≤ m → start_of new ≤ m
   pub stop : stop_of new ≡ stop_of old
+  pub far : HasLetGo new.first new.blocks (n / 64)

@@ -3,7 +3,7 @@
 ghost use Rattle.std.specs.Prelude.{◌≡◌, ℕ, ◌+◌, ◌*◌, ◌/◌, ◌^◌, ◌<◌, ◌≤◌, true, false, OnOk, MatchOption, slice_index_or, slice_set};
 ghost use Rattle.std.specs.VecDeque.{deque_len, deque_capacity};
 ghost use Rattle.std.specs.Int.{trailing_zeros, w64};
-ghost use Rattle.uring_dispatch.specs.NumberSet.{block_of, block_at, holds, start_of, stop_of, Covers, Puts, IsSameSet, IsLeastIn, IsFirstFilled, IsFirstBlock};
+ghost use Rattle.uring_dispatch.specs.NumberSet.{block_of, block_at, holds, start_of, stop_of, Covers, Puts, HasLetGo, IsSameSet, IsLeastIn, IsFirstFilled, IsFirstBlock};
 
 use std::alloc::{AllocError, Global};
 use std::collections::VecDeque;
@@ -131,6 +131,7 @@ impl Blocks {
         ensures up { self.old.first ≤ self.new.first }
         ensures stop { stop_of self.new ≡ stop_of self.old }
         ensures same { IsSameSet self.old self.new }
+        ensures far { HasLetGo self.new.first self.new.blocks (n / 64) }
     {
         drop_zeros(&mut self.first, &mut self.blocks, n / 64);
     }
@@ -186,6 +187,7 @@ fn drop_zeros(first: &mut u64, blocks: &mut VecDeque<u64>, place: u64)
     ensures same { (i : ℕ) → block_of first.new blocks.new.items i ≡ block_of first.old blocks.old.items i }
     ensures stop { first.new + deque_len blocks.new ≡ first.old + deque_len blocks.old }
     ensures longer { first.old ≤ first.new }
+    ensures far { HasLetGo first.new blocks.new.items place }
     ensures capacity { deque_capacity blocks.new ≡ deque_capacity blocks.old }
 {
     while *first < place {

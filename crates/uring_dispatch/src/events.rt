@@ -9,7 +9,7 @@ ghost use Rattle.uring_dispatch.specs.IssueAndFinish.{issued, issued_waiting, af
 ghost use Rattle.uring_dispatch.specs.Dispatch.{dispatch_of, IssueCounts, EndCounts};
 ghost use Rattle.uring_dispatch.specs.Window.{key_at, at, end_of, runs, one_if, Changes};
 ghost use Rattle.uring_dispatch.specs.Held.{AreHeld, IsSound, IsNext, HasLost};
-ghost use Rattle.uring_dispatch.specs.Waiting.{IsListed, HasMemory, StandsAsBefore};
+ghost use Rattle.uring_dispatch.specs.Waiting.{IsListed, HasMemory, HaveLetGo, StandsAsBefore};
 
 use crate::answers::{Issued, Posts};
 use crate::cancels::cancel;
@@ -38,6 +38,7 @@ pub(crate) fn end(
     ensures groups_room { groups.new.room ≡ groups.old.room }
     ensures listed { IsListed window.new groups.new waiting.new }
     ensures waiting_room { HasMemory waiting.old waiting.new }
+    ensures far { HaveLetGo waiting.new window.new.first }
     ensures held { (r : Requests) (res : ℤ) (bytes : List ℕ) → AreHeld window.old groups.old r → is_success ≡ success.is_success (entry_of r n) res → AreHeld window.new groups.new (with_ended r n res bytes) }
     ensures counts { HasLost window.old window.new (one_if (runs (at window.old n))) }
 {
@@ -66,6 +67,7 @@ fn end_by_key(
     ensures groups_room { groups.new.room ≡ groups.old.room }
     ensures listed { IsListed window.new groups.new waiting.new }
     ensures waiting_room { HasMemory waiting.old waiting.new }
+    ensures far { HaveLetGo waiting.new window.new.first }
     ensures held { (r : Requests) (res : ℤ) (bytes : List ℕ) → AreHeld window.old groups.old r → is_success ≡ success.is_success (entry_of r n) res → AreHeld window.new groups.new (with_ended r n res bytes) }
     ensures counts { HasLost window.old window.new (one_if (runs (at window.old n))) }
 {
