@@ -2,6 +2,7 @@
 use Rattle.std.proofs.Common.{◌≡◌, ◌≢◌, ℕ, ◌+◌, ◌<◌, ◌≤◌, length, Bool, true, false, ◌==◌, Option, Some, None, is_some, refl, sym, ◌∙◌, ap, subst, arith, inl, inr}
 use Rattle.std.specs.Prelude.{if◌then◌else◌}
 use Rattle.std.proofs.lemmas.Bool.{cases_lt, cases_eq, ne_eqb}
+use Rattle.std.proofs.lemmas.Option.{same_Some}
 use Rattle.uring_entry.specs.Layout.{Sqe}
 use Rattle.uring_entry.specs.Preparation.{is_faulty}
 use Rattle.uring_entry.specs.Requests.{Requests, is_linked, is_drain, with_cut}
@@ -12,7 +13,7 @@ use Rattle.uring_dispatch.specs.declared.group.Group.{Group}
 use Rattle.uring_dispatch.specs.Window.{Window, at, end_of, Changes}
 use Rattle.uring_dispatch.specs.Groups.{Groups, group_at, last_group, with_member, Exchanges, IsBeyond}
 use Rattle.uring_dispatch.specs.Held.{IsKept, IsSound, AreHeld}
-use Rattle.uring_dispatch.proofs.HeldLemmas.{same_some, is_some_value}
+use Rattle.uring_dispatch.proofs.HeldLemmas.{is_some_value}
 
 -- An entry is accepted: what the window and the groups are before and after.
 pub record Accepts (w v : Window) (g h : Groups) (entry : Sqe) (request : Request) : Type 0 where
@@ -73,7 +74,7 @@ accept-sound w v g h entry request s a =
       linked = λ k x is.
           elim (cases_eq k (end_of w)) [
             | inl same ↦
-                let one : request ≡ x = same_some _ _ (sym a.changes.here ∙ ap (at v) (sym same) ∙ is) in
+                let one : request ≡ x = same_Some _ _ (sym a.changes.here ∙ ap (at v) (sym same) ∙ is) in
                 record {
                   group = p;
                   found = ap (λ (z : Request). group_at h z.group) (sym one) ∙ a.exchange.here;
@@ -97,7 +98,7 @@ accept-sound w v g h entry request s a =
       members = λ key x k y found from to is.
           elim (cases_eq k (end_of w)) [
             | inl same ↦
-                let one : request ≡ y = same_some _ _ (sym a.changes.here ∙ ap (at v) (sym same) ∙ is) in
+                let one : request ≡ y = same_Some _ _ (sym a.changes.here ∙ ap (at v) (sym same) ∙ is) in
                 elim (cases_eq key request.group) [
                   | inl here ↦ ap (λ (z : Request). z.group) (sym one) ∙ sym here
                   | inr other ↦
@@ -108,7 +109,7 @@ accept-sound w v g h entry request s a =
                 let was = older w v request k y a.changes is before in
                 elim (cases_eq key request.group) [
                   | inl here ↦
-                      let one : p ≡ x = same_some _ _ (sym a.exchange.here ∙ ap (group_at h) (sym here) ∙ found) in
+                      let one : p ≡ x = same_Some _ _ (sym a.exchange.here ∙ ap (group_at h) (sym here) ∙ found) in
                       let low1 : p.from ≤ k = let f : p.from ≡ x.from = ap (λ (z : Group). z.from) one in omega arith in
                       let top1 : k < end_of w = let f : p.end ≡ x.end = ap (λ (z : Group). z.end) one in lower k before (omega arith) in
                       let q = member-from (last_group g.records g.last) (end_of w) (is_drain entry) (is_faulty entry) k low1 top1 in
@@ -121,7 +122,7 @@ accept-sound w v g h entry request s a =
       kept = λ key x found.
           elim (cases_eq key request.group) [
             | inl here ↦
-                let one : p ≡ x = same_some _ _ (sym a.exchange.here ∙ ap (group_at h) (sym here) ∙ found) in
+                let one : p ≡ x = same_Some _ _ (sym a.exchange.here ∙ ap (group_at h) (sym here) ∙ found) in
                 let P : Group → Type 0 = λ z. IsKept v z in
                 subst P one (joined-kept w v g h entry request s a (last_group g.records g.last) refl)
             | inr other ↦
@@ -137,7 +138,7 @@ accept-sound w v g h entry request s a =
       beyond = let P : ℕ → Type 0 = λ x. IsBeyond h.barriers x in subst P (sym a.end) a.beyond;
       last = λ key x e found.
           let same = only (is_linked entry) request.group key (sym a.last ∙ e) in
-          let one : p ≡ x = same_some _ _ (sym a.exchange.here ∙ ap (group_at h) (sym same) ∙ found) in
+          let one : p ≡ x = same_Some _ _ (sym a.exchange.here ∙ ap (group_at h) (sym same) ∙ found) in
           ap (λ (z : Group). z.end) (sym one) ∙ top ∙ sym a.end;
     }
   where

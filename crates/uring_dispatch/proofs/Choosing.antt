@@ -6,13 +6,14 @@ use Rattle.std.specs.Option.{option_to_list}
 use Rattle.std.proofs.lemmas.List.{append-nil, append_assoc}
 use Rattle.std.proofs.lemmas.List.Folds.{list_any-append}
 use Rattle.std.proofs.lemmas.Bool.{cases_eq, and_left}
+use Rattle.std.proofs.Math.Bool.{or-false}
 use Rattle.uring_entry.specs.Layout.{Sqe, addr_of, user_data_of}
 use Rattle.uring_entry.specs.Preparation.{is_cancel, is_cancel_all}
 use Rattle.uring_entry.specs.Success.{is_success}
 use Rattle.uring_entry.specs.Below.{all_below}
 use Rattle.uring_entry.specs.Requests.{Requests, entry_of, is_joined, some_member, is_in_faulty_group, is_behind_failure, is_cancelled, is_doomed, is_running, is_outstanding, is_target, target_of, targets_of, choices_of, count_result, chosen_by, cancel_result, result_for, no_bytes, with_cancelled, with_ended, with_issued_end}
 use Rattle.uring_entry.proofs.BelowLemmas.{all_below-past, all_below-none}
-use Rattle.uring_entry.proofs.RequestLemmas.{one_success, all_success, never_success, or-false}
+use Rattle.uring_entry.proofs.RequestLemmas.{one_success, all_success, never_success}
 use Rattle.uring_dispatch.specs.declared.request.Request.{Request}
 use Rattle.uring_dispatch.specs.Window.{Window, at, runs, Changes, chosen, IsAsBefore, HasSameRequests}
 use Rattle.uring_dispatch.specs.Groups.{Groups}
