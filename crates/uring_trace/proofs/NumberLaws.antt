@@ -9,9 +9,10 @@ use Rattle.std.specs.Fmt.{decimal, signed_decimal}
 use Rattle.std.proofs.lemmas.Bool.{ltb-true, lt-ltb, eqb-true, eq-eqb, ne_eqb, cases_eq}
 use Rattle.std.proofs.lemmas.Fmt.{decimal-digits_value, digits_decimal, first_decimal, decimal_nonempty, decimal_digit, decimal_is_IsNumeral}
 use Rattle.std.proofs.lemmas.Str.Parse.{digit_at}
+use Rattle.std.proofs.lemmas.Option.{same_Some}
 use Rattle.uring_trace.specs.Spelling.{IsFile}
 use Rattle.uring_trace.specs.Reading.{◌>>=◌, is_numeral, number_of, negative_of, file_of}
-use Rattle.uring_trace.proofs.Options.{bind_some, test_some, some_is, chosen}
+use Rattle.uring_trace.proofs.Options.{bind_some, test_some, chosen}
 use Rattle.uring_trace.proofs.Numbers.{own, numeral_digits, some_length, number_parts, file_other}
 
 -- a numeral has no leading zero
@@ -62,11 +63,11 @@ negative_found : (n : ℕ) (fd : ℤ) → negative_of n ≡ Some fd → (k : ℕ
 negative_found zero fd e = absurd cc
 negative_found (suc k) fd e =
     let t = test_some (ltb k (2 ^ 31)) (Some (negsuc k)) fd e in
-    (k, refl, ltb-true k (2 ^ 31) t.0, sym (some_is (negsuc k) fd t.1))
+    (k, refl, ltb-true k (2 ^ 31) t.0, sym (same_Some (negsuc k) fd t.1))
 
 mapped : (o : Option ℕ) (fd : ℤ) → option_map (λ n. pos n) o ≡ Some fd → (n : ℕ) × (o ≡ Some n) × (fd ≡ pos n)
 mapped None fd e = absurd cc
-mapped (Some n) fd e = (n, refl, sym (some_is (pos n) fd e))
+mapped (Some n) fd e = (n, refl, sym (same_Some (pos n) fd e))
 
 abbrev IsSpelled : List ℕ → ℤ → Type 0
 IsSpelled w fd = (w ≡ signed_decimal fd) × IsFile fd

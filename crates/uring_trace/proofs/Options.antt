@@ -19,6 +19,3 @@ chosen false x y z e = inr (refl, e)
 
 abbrev pub some : {A : Type 0} → A → Option A
 some x = Some x
-
-pub some_is : {A : Type 0} (x y : A) → some x ≡ some y → x ≡ y
-some_is x y e = cc
