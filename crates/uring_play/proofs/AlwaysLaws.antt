@@ -7,7 +7,7 @@ use Rattle.std.specs.Int.{w64, to_le_bytes, from_le_bytes}
 use Rattle.std.proofs.lemmas.Nat.{le_bytes_8}
 use Rattle.std.proofs.lemmas.Bool.{ltb-true, ltb-false, eqb-true, eqb-false, cases_Bool, true≢false}
 use Rattle.std.proofs.lemmas.Slice.Eq.{bytes_eq-Decides}
-use Rattle.std.proofs.lemmas.List.{append-nil, nil_from_length, take-append-drop, length-take}
+use Rattle.std.proofs.lemmas.List.{append-nil, nil_from_length, take-append-drop, length-take, reverse-append}
 use Rattle.uring_entry.specs.Layout.{Sqe, header, without_data, padded, bytes_of, AreWords}
 use Rattle.uring_entry.specs.declared.opcode.TheConstants.{NOP, FSYNC, ASYNC_CANCEL, ASYNC_CANCEL_ALL, READ, WRITE}
 use Rattle.uring_trace.specs.Lines.{Splits, with_last}
@@ -28,7 +28,6 @@ use Rattle.uring_play.specs.Scripts.{Goes, one_call}
 use Rattle.uring_play.specs.declared.play_fault.PlayFault.TheVariants as fault
 use Rattle.uring_play.proofs.ItemLaws.{bad_is_none, below}
 use Rattle.uring_play.proofs.ScriptLaws.{at_start, so_far, blank_more, item_more, bad_first, long_first, fault_stays}
-use Rattle.uring_play.proofs.Readings.{reverse_more}
 
 -- ---- each form has an entry
 
@@ -195,7 +194,7 @@ step size lines line (inl s) =
 -- lines, the newest first
 stands : (size : ℕ) (lines : List (List ℕ)) → Stands size (reverse lines)
 stands size [] = inl (0, [], [], at_start size)
-stands size (line ∷ lines) = subst (Stands size) (sym (reverse_more line lines)) (step size (reverse lines) line (stands size lines))
+stands size (line ∷ lines) = subst (Stands size) (sym (reverse-append (line ∷ []) lines)) (step size (reverse lines) line (stands size lines))
 
 tells : (size : ℕ) (lines : List (List ℕ)) → Stands size lines → (told : Told) × Tells size lines told
 tells size lines (inl s) = (Ok (s.1 ++ one_call s.2), so_far size lines s.0 s.1 s.2 s.3)

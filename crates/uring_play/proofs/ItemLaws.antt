@@ -13,12 +13,8 @@ use Rattle.uring_play.specs.ItemLines.{SpellsItem, IsItemLine}
 use Rattle.uring_play.specs.Calls.{is_blank}
 use Rattle.uring_play.specs.LineReads.{IsNoBadWord, IsNoItem}
 
--- the first byte of the first token
-first_byte : (a b : ℕ) (us vs : List ℕ) (xs ys : List (List ℕ)) → (a ∷ us) ∷ xs ≡ (b ∷ vs) ∷ ys → a ≡ b
-first_byte a b us vs xs ys e = cc
-
 other_name : (b : ℕ) (us vs : List ℕ) (xs ys : List (List ℕ)) → (98 ≡ b → ⊥) → (98 ∷ us) ∷ xs ≡ (b ∷ vs) ∷ ys → ⊥
-other_name b us vs xs ys other e = other (first_byte 98 b us vs xs ys e)
+other_name b us vs xs ys other e = other cc
 
 -- no form is named so
 no_form : (f : Form) (flags : List ℕ) (rest : List (List ℕ)) → codes "bad" ∷ rest ≡ spelled f flags → ⊥
