@@ -8,7 +8,7 @@ use Rattle.std.proofs.lemmas.Option.{same_Some}
 use Rattle.uring_trace.specs.Spelling.{Form, spelled, IsForm, SpellsForm, IsFile, AreBytes}
 use Rattle.uring_trace.specs.Spelling as form
 use Rattle.uring_trace.specs.Reading.{◌>>=◌, number_of, file_of, flags_of, data_of, hex_of, nop_of, fsync_of, read_of, write_of, cancel_of, cancel_all_of, op_of, raw_of, bytes_form_of, form_of}
-use Rattle.uring_trace.proofs.Options.{bind_some, chosen}
+use Rattle.uring_trace.proofs.Options.{bind_some, chosen, mapped}
 use Rattle.uring_trace.proofs.NumberLaws.{number_found, number_again, file_found, file_again}
 use Rattle.uring_trace.proofs.FlagLaws.{flags_found, flags_again}
 use Rattle.uring_trace.proofs.HexLaws.{hex_found, hex_again, data_found, data_again}
@@ -23,10 +23,6 @@ named name text P a other y e here there =
 
 ap4 : (f : List ℕ → List ℕ → List ℕ → List ℕ → List (List ℕ)) {a b c d x y u v : List ℕ} → a ≡ b → c ≡ d → x ≡ y → u ≡ v → f a c x u ≡ f b d y v
 ap4 f {a} {b} {c} {d} {x} {y} {u} {v} p q r s = ap₂ (λ (z w : List ℕ). f z w x u) p q ∙ ap₂ (f b d) r s
-
-pub mapped : {A B : Type 0} (f : A → B) (o : Option A) (y : B) → option_map f o ≡ Some y → (x : A) × (o ≡ Some x) × (f x ≡ y)
-mapped f None y e = absurd cc
-mapped f (Some x) y e = (x, refl, same_Some (f x) y e)
 
 nop_found : (tokens : List (List ℕ)) (f : Form) → nop_of tokens ≡ Some f → SpellsForm (codes "nop" ∷ tokens) f
 unfolding nop_of

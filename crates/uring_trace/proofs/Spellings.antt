@@ -15,9 +15,9 @@ use Rattle.uring_machine.specs.declared.step.Step.TheVariants as step
 use Rattle.uring_trace.specs.Tokens.{tokens_of}
 use Rattle.uring_trace.specs.Spelling.{Form, Spells, SpellsForm, IsEntryOf, IsStep, IsBad, SpellsEntry, IsNoEntry, SpellsNumber, IsNoNumber}
 use Rattle.uring_trace.specs.Reading.{ReadsStep, ReadsFill, ReadsEntry, number_of, form_of, step_of_one, step_of_two}
-use Rattle.uring_trace.proofs.Options.{chosen}
+use Rattle.uring_trace.proofs.Options.{chosen, mapped}
 use Rattle.uring_trace.proofs.NumberLaws.{number_found, number_again}
-use Rattle.uring_trace.proofs.FormLaws.{named, mapped, form_found, form_again}
+use Rattle.uring_trace.proofs.FormLaws.{named, form_found, form_again}
 use Rattle.uring_trace.proofs.EntryLaws.{entry_once}
 
 -- one token
