@@ -8,12 +8,12 @@ use Rattle.uring_entry.specs.Preparation.{is_faulty}
 use Rattle.uring_entry.specs.Requests.{Requests, is_linked, is_drain, with_cut}
 use Rattle.uring_entry.proofs.RequestLemmas.{added-other}
 use Rattle.uring_entry.proofs.GroupEvents.{group-cut, is_last-cut_last}
+use Rattle.uring_entry.proofs.BelowLemmas.{is_some_value}
 use Rattle.uring_dispatch.specs.declared.request.Request.{Request}
 use Rattle.uring_dispatch.specs.declared.group.Group.{Group}
 use Rattle.uring_dispatch.specs.Window.{Window, at, end_of, Changes}
 use Rattle.uring_dispatch.specs.Groups.{Groups, group_at, last_group, with_member, Exchanges, IsBeyond}
 use Rattle.uring_dispatch.specs.Held.{IsKept, IsSound, AreHeld}
-use Rattle.uring_dispatch.proofs.HeldLemmas.{is_some_value}
 
 -- An entry is accepted: what the window and the groups are before and after.
 pub record Accepts (w v : Window) (g h : Groups) (entry : Sqe) (request : Request) : Type 0 where

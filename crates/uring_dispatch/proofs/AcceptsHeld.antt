@@ -16,13 +16,14 @@ use Rattle.uring_entry.specs.Requests.{Requests, entry_of, has_started, has_ende
 use Rattle.uring_entry.specs.Groups.{IsGroup, first_fault, first_drain, first_broken}
 use Rattle.uring_entry.proofs.RequestLemmas.{entry_of-accepted_at, entry_of-accepted_other}
 use Rattle.uring_entry.proofs.GroupEvents.{group-accepted, group-joined, group-new, first_entry-accepted, first_entry-more, first_broken-accepted, first_broken-more, first_member-none}
+use Rattle.uring_entry.proofs.BelowLemmas.{is_some_value}
 use Rattle.uring_dispatch.specs.declared.request.Request.{Request}
 use Rattle.uring_dispatch.specs.declared.group.Group.{Group}
 use Rattle.uring_dispatch.specs.Window.{Window, at, end_of, one_if, Changes}
 use Rattle.uring_dispatch.specs.Groups.{Groups, group_at, last_group, with_member, Exchanges, IsBeyond}
 use Rattle.uring_dispatch.specs.Held.{IsSound, IsShown, IsShownGroup, AreHeld, op_of}
 use Rattle.uring_dispatch.proofs.Counting.{count_below-same}
-use Rattle.uring_dispatch.proofs.HeldLemmas.{some_none, is_some_value}
+use Rattle.uring_dispatch.proofs.HeldLemmas.{some_none}
 use Rattle.uring_dispatch.proofs.Accepts.{Accepts}
 
 -- The lists, when an entry is accepted.

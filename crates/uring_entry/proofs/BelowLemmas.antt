@@ -86,6 +86,11 @@ pub record IsLeast (p : ℕ → Bool) (n k : ℕ) : Type 0 where
   pub holds : p k ≡ true
   pub before : (j : ℕ) → j < k → p j ≡ false
 
+-- the value that is there
+pub is_some_value : {X : Type 0} (o : Option X) → is_some o ≡ true → (q : X) × (o ≡ Some q)
+is_some_value None e = absurd (both_ways false refl e)
+is_some_value (Some q) e = (q, refl)
+
 is_some-found : (o : Option ℕ) (b : Bool) (n : ℕ) → is_some (found_or o b n) ≡ (is_some o || b)
 is_some-found (Some m) b n = refl
 is_some-found None true n = refl
