@@ -1,5 +1,5 @@
 -- What accepting an entry, and the end of a call, leave of what is held: from what the window and the groups say of them.
-use Rattle.std.proofs.Common.{◌≡◌, ◌≢◌, ℕ, ◌+◌, ◌<◌, ◌≤◌, length, Bool, true, false, ◌==◌, Option, Some, None, is_some, refl, sym, ◌∙◌, ap, subst, arith, inl, inr}
+use Rattle.std.proofs.Common.{◌≡◌, ◌≢◌, ℕ, ◌+◌, ◌<◌, ◌≤◌, length, Bool, ◌==◌, Option, Some, None, is_some, refl, sym, ◌∙◌, ap, subst, arith, inl, inr}
 use Rattle.std.specs.Prelude.{if◌then◌else◌}
 use Rattle.std.proofs.lemmas.Bool.{cases_lt, cases_eq, ne_eqb}
 use Rattle.std.proofs.lemmas.Option.{same_Some}
@@ -14,6 +14,7 @@ use Rattle.uring_dispatch.specs.declared.group.Group.{Group}
 use Rattle.uring_dispatch.specs.Window.{Window, at, end_of, Changes}
 use Rattle.uring_dispatch.specs.Groups.{Groups, group_at, last_group, with_member, Exchanges, IsBeyond}
 use Rattle.uring_dispatch.specs.Held.{IsKept, IsSound, AreHeld}
+use Rattle.uring_dispatch.proofs.GroupsKept.{only_key}
 
 -- An entry is accepted: what the window and the groups are before and after.
 pub record Accepts (w v : Window) (g h : Groups) (entry : Sqe) (request : Request) : Type 0 where
@@ -137,17 +138,13 @@ accept-sound w v g h entry request s a =
           ];
       beyond = let P : ℕ → Type 0 = λ x. IsBeyond h.barriers x in subst P (sym a.end) a.beyond;
       last = λ key x e found.
-          let same = only (is_linked entry) request.group key (sym a.last ∙ e) in
+          let same = only_key (is_linked entry) request.group key _ a.last e in
           let one : p ≡ x = same_Some _ _ (sym a.exchange.here ∙ ap (group_at h) (sym same) ∙ found) in
           ap (λ (z : Group). z.end) (sym one) ∙ top ∙ sym a.end;
     }
   where
     lower : (k : ℕ) → k ≢ end_of w → k < end_of w + 1 → k < end_of w
     lower k ne lt = elim (cases_lt k (end_of w)) [ inl low ↦ low | inr high ↦ absurd (ne (omega arith)) ]
-
-    only : (b : Bool) (key k : ℕ) → (if b then Some key else None) ≡ Some k → k ≡ key
-    only true key k e = cc
-    only false key k e = cc
 
     ap-from : (o : Option Group) (q : Group) → o ≡ Some q → (n : ℕ) (d f : Bool) (k : ℕ) → q.from ≤ k → (with_member o n d f).from ≤ k
     ap-from o q e n d f k le = let P : Option Group → Type 0 = λ x. (with_member x n d f).from ≤ k in subst P (sym e) le

@@ -6,7 +6,7 @@ use Rattle.std.specs.Option.{option_to_list}
 use Rattle.std.proofs.lemmas.List.{append-nil, append_assoc}
 use Rattle.std.proofs.lemmas.List.Folds.{list_any-append}
 use Rattle.std.proofs.lemmas.Bool.{cases_eq, and_left}
-use Rattle.std.proofs.Math.Bool.{or-false}
+use Rattle.std.proofs.Math.Bool.{or-false, and-false}
 use Rattle.uring_entry.specs.Layout.{Sqe, addr_of, user_data_of}
 use Rattle.uring_entry.specs.Preparation.{is_cancel, is_cancel_all}
 use Rattle.uring_entry.specs.Success.{is_success}
@@ -32,11 +32,7 @@ none-cancelled r = ap (λ all. record r { cancelled = all }) (append-nil r.cance
 pub failing-chooses : (r : Requests) (n below : ℕ) → chosen_by r n (negsuc below) ≡ []
 failing-chooses r n below =
     ap (λ b. if is_cancel (entry_of r n) && b then choices_of r n else []) (never_success (entry_of r n) below)
-    ∙ and-none (is_cancel (entry_of r n)) (choices_of r n)
-  where
-    and-none : (b : Bool) (these : List ℕ) → (if b && false then these else []) ≡ []
-    and-none true these = refl
-    and-none false these = refl
+    ∙ ap (λ b. if b then choices_of r n else []) (and-false (is_cancel (entry_of r n)))
 
 pub held-failing : (v : Window) (h : Groups) (r : Requests) (n below : ℕ) → AreHeld v h r → AreHeld v h (with_cancelled r (chosen_by r n (negsuc below)))
 held-failing v h r n below held =
