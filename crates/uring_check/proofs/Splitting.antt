@@ -3,7 +3,7 @@ use Rattle.std.proofs.Common.{◌≡◌, ◌≢◌, ℕ, ◌+◌, ◌<◌, ◌�
 use mathlib.Core.List.{head-eq_of_cons-eq, tail-eq_of_cons-eq}
 use Rattle.std.specs.List.{AllByRecursion}
 use Rattle.std.proofs.lemmas.Bool.{cases_lt}
-use Rattle.std.proofs.lemmas.List.{take-append-drop, drop_more, take_all}
+use Rattle.std.proofs.lemmas.List.{take-append-drop, drop_more, take_all, append_cancel_right}
 use Rattle.uring_machine.specs.declared.step.Step.{Step}
 use Rattle.uring_trace.specs.Spelling.{IsStep, IsBad}
 use Rattle.uring_trace.proofs.Spellings.{step_once}
@@ -90,15 +90,7 @@ no_back line front back n c none = λ before text h. none text (cut_split line f
 pub split_once : (line before text other rest : List ℕ) → IsSplit line before text → IsSplit line other rest → (before ≡ other) × (text ≡ rest)
 split_once line before text other rest h k =
     let same = first_once (before ++ 32 ∷ []) (32 ∷ text) (other ++ 32 ∷ []) (32 ∷ rest) (none_more before h.first) (none_more other k.first) (sym (at_sign line before text h) ∙ at_sign line other rest k) in
-    (last_same before other same.0, tail-eq_of_cons-eq same.1)
-  where
-    last_same : (xs ys : List ℕ) → xs ++ 32 ∷ [] ≡ ys ++ 32 ∷ [] → xs ≡ ys
-    last_same [] [] e = refl
-    last_same [] (y ∷ []) e = absurd cc
-    last_same [] (y ∷ z ∷ ys) e = absurd cc
-    last_same (x ∷ []) [] e = absurd cc
-    last_same (x ∷ z ∷ xs) [] e = absurd cc
-    last_same (x ∷ xs) (y ∷ ys) e = ap (λ (b : ℕ). b ∷ xs) (head-eq_of_cons-eq e) ∙ ap (λ (l : List ℕ). y ∷ l) (last_same xs ys (tail-eq_of_cons-eq e))
+    (append_cancel_right before other (32 ∷ []) same.0, tail-eq_of_cons-eq same.1)
 
 -- the split of a record
 pub split_of : (line : List ℕ) (s : Step) (text : List ℕ) → (r : IsRecord line s text) → IsSplit line r.before text
