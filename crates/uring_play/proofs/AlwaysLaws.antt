@@ -1,5 +1,6 @@
 -- All bytes tell something.
 use Rattle.std.proofs.Common.{◌≡◌, ℕ, zero, suc, ◌+◌, ◌*◌, ◌-◌, ◌<◌, ◌≤◌, ◌^◌, ltb, eqb, List, [], ◌∷◌, ◌++◌, length, take, drop, get_or, Option, Some, None, Ok, Err, refl, sym, ap, subst, ◌∙◌, append_assoc, arith, length-append, length-drop, reverse, ◌⊎◌, inl, inr}
+use mathlib.Core.List.{head-eq_of_cons-eq}
 use Rattle.std.specs.Prelude.{codes, replicate, pos, MatchOption}
 use Rattle.std.specs.List.{AllByRecursion}
 use Rattle.std.specs.Str.{bytes_eq}
@@ -129,11 +130,8 @@ named_or (t ∷ u ∷ v ∷ more) = inr (λ token e. absurd (let no : t ∷ u �
 named_or (t ∷ u ∷ []) =
     elim (cases_Bool (bytes_eq t (codes "bad"))) [
       | inl is ↦ inl (u, ap (λ (l : List ℕ). l ∷ u ∷ []) ((bytes_eq-Decides t (codes "bad")).0 is))
-      | inr not ↦ inr (λ token e. absurd (true≢false (sym ((bytes_eq-Decides t (codes "bad")).1 (first_is t (codes "bad") (u ∷ []) (token ∷ []) e)) ∙ not)))
+      | inr not ↦ inr (λ token e. absurd (true≢false (sym ((bytes_eq-Decides t (codes "bad")).1 (head-eq_of_cons-eq e)) ∙ not)))
     ]
-  where
-    first_is : (a b : List ℕ) (xs ys : List (List ℕ)) → a ∷ xs ≡ b ∷ ys → a ≡ b
-    first_is a b xs ys e = cc
 
 item_or : (size : ℕ) (tokens : List (List ℕ)) → ((i : Item) × SpellsItem size tokens i) ⊎ IsNoItem size tokens
 item_or size tokens =
