@@ -1,8 +1,9 @@
 -- What accepting an entry, and the end of a call, leave of what is held: from what the window and the groups say of them.
 use Rattle.std.proofs.Common.{◌≡◌, ◌≢◌, ℕ, ◌+◌, ◌<◌, ◌≤◌, length, Bool, ◌==◌, Option, Some, None, is_some, refl, sym, ◌∙◌, ap, subst, arith, inl, inr}
 use Rattle.std.specs.Prelude.{if◌then◌else◌}
-use Rattle.std.proofs.lemmas.Bool.{cases_lt, cases_eq, ne_eqb}
+use Rattle.std.proofs.lemmas.Bool.{cases_eq, ne_eqb}
 use Rattle.std.proofs.lemmas.Option.{same_Some}
+use Rattle.std.proofs.Math.Numerals.{lt_of_le_of_ne}
 use Rattle.uring_entry.specs.Layout.{Sqe}
 use Rattle.uring_entry.specs.Preparation.{is_faulty}
 use Rattle.uring_entry.specs.Requests.{Requests, is_linked, is_drain, with_cut}
@@ -112,7 +113,7 @@ accept-sound w v g h entry request s a =
                   | inl here ↦
                       let one : p ≡ x = same_Some _ _ (sym a.exchange.here ∙ ap (group_at h) (sym here) ∙ found) in
                       let low1 : p.from ≤ k = let f : p.from ≡ x.from = ap (λ (z : Group). z.from) one in omega arith in
-                      let top1 : k < end_of w = let f : p.end ≡ x.end = ap (λ (z : Group). z.end) one in lower k before (omega arith) in
+                      let top1 : k < end_of w = let f : p.end ≡ x.end = ap (λ (z : Group). z.end) one in lt_of_le_of_ne (omega arith) before in
                       let q = member-from (last_group g.records g.last) (end_of w) (is_drain entry) (is_faulty entry) k low1 top1 in
                       let last = is_some_value g.last (sym a.kept ∙ ap is_some q.1) in
                       let end : q.0.end ≡ end_of w = s.last request.group q.0 (last.1 ∙ ap Some (sym (a.key last.0 last.1))) (a.joins ∙ q.1) in
@@ -143,9 +144,6 @@ accept-sound w v g h entry request s a =
           ap (λ (z : Group). z.end) (sym one) ∙ top ∙ sym a.end;
     }
   where
-    lower : (k : ℕ) → k ≢ end_of w → k < end_of w + 1 → k < end_of w
-    lower k ne lt = elim (cases_lt k (end_of w)) [ inl low ↦ low | inr high ↦ absurd (ne (omega arith)) ]
-
     ap-from : (o : Option Group) (q : Group) → o ≡ Some q → (n : ℕ) (d f : Bool) (k : ℕ) → q.from ≤ k → (with_member o n d f).from ≤ k
     ap-from o q e n d f k le = let P : Option Group → Type 0 = λ x. (with_member x n d f).from ≤ k in subst P (sym e) le
 

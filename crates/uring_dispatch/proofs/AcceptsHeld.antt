@@ -7,6 +7,7 @@ use Rattle.std.specs.List.{list_any}
 use Rattle.std.proofs.lemmas.Bool.{cases_lt, cases_eq, both_ways, and_left, and_from, lt-ltb}
 use Rattle.std.proofs.Math.Bool.{or-false, not-not}
 use Rattle.std.proofs.lemmas.Option.{same_Some}
+use Rattle.std.proofs.Math.Numerals.{lt_of_le_of_ne}
 use Rattle.uring_entry.specs.Layout.{Sqe}
 use Rattle.uring_entry.specs.Below.{count_below, found_or}
 use Rattle.uring_entry.specs.declared.fault.Fault.{Fault}
@@ -143,7 +144,7 @@ accept-held w v g h r entry request s a c is does free waits outstanding running
       ended = λ m e lt.
           elim (cases_eq m (end_of w)) [
             | inl same ↦ some_none request _ e (ap (at v) same ∙ c.changes.here)
-            | inr other ↦ a.ended m (sym (c.changes.others m other) ∙ e) (lower m (omega (arith, top)) (λ k. other (k ∙ sym top)))
+            | inr other ↦ a.ended m (sym (c.changes.others m other) ∙ e) (lt_of_le_of_ne (omega (arith, top)) (λ k. other (k ∙ sym top)))
           ];
       shown = λ m x e.
           elim (cases_eq m (end_of w)) [
@@ -193,9 +194,6 @@ accept-held w v g h r entry request s a c is does free waits outstanding running
           ∙ sym (ap (λ o. not (is_some o)) c.last ∙ not-linked (is_linked entry) request.group);
       untouched = λ m le. let old = a.untouched m (omega arith) in record { started = old.started; ended = old.ended; cancelled = old.cancelled; cut = old.cut };
     }
-  where
-    lower : (m : ℕ) → m < suc (length r.accepted) → m ≢ length r.accepted → m < length r.accepted
-    lower m lt ne = elim (cases_lt m (length r.accepted)) [ inl low ↦ low | inr high ↦ absurd (ne (omega arith)) ]
 
 -- what the code keeps of an entry
 prepared : (e : Sqe) (p : Result Op Fault) → IfOk p (λ op. (fault_of e ≡ None) × (op ≡ operation_of e)) → IfErr p (λ fault. fault_of e ≡ Some fault) → (result_ok p ≡ op_of e) × (is_some (result_ok p) ≡ not (is_faulty e))
