@@ -1,3 +1,2 @@
 pub mod CoreBox
 pub mod MachineBox
-pub mod Slots

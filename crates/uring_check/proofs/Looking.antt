@@ -1,9 +1,10 @@
 -- What a checker makes of lines.
-use Rattle.std.proofs.Common.{◌≡◌, ℕ, ◌+◌, ◌-◌, ◌^◌, min, Bool, true, false, not, ◌||◌, List, ◌∷◌, ◌++◌, length, Option, Some, None, Result, Ok, Err, refl, sym, ap, subst, ◌∙◌, append_assoc, arith}
-use Rattle.std.specs.Prelude.{OnOk, codes}
+use Rattle.std.proofs.Common.{◌≡◌, ℕ, ◌+◌, ◌-◌, ◌^◌, min, Bool, true, false, not, ◌||◌, List, ◌∷◌, ◌++◌, length, Option, Some, None, refl, sym, ap, subst, ◌∙◌, append_assoc, arith}
+use Rattle.std.specs.Prelude.{codes}
 use Rattle.std.specs.declared.alloc.Global.{Global}
 use Rattle.std.specs.declared.vec.Vec.{Vec}
 use Rattle.std.proofs.lemmas.List.{append-nil}
+use Rattle.std.proofs.Math.Bool.{or-false}
 use Rattle.uring_entry.specs.declared.why.Why.{Why}
 use Rattle.uring_machine.specs.Histories.{History, world}
 use Rattle.uring_machine.specs.World.{World}
@@ -12,7 +13,6 @@ use Rattle.uring_machine.specs.declared.wanted.Wanted.{Wanted}
 use Rattle.uring_trace.specs.Explanations.{line_number}
 use Rattle.uring_trace.specs.Lines.{ended}
 use Rattle.uring_trace.specs.Remarks.{is_remark}
-use Rattle.uring_trace.proofs.ExplainLines.{or_false}
 use Rattle.uring_check.specs.Checking.{FitsBy, Judges, Looks, Looked, LooksAt, rules_of}
 use Rattle.uring_check.specs.Findings.{Found, Finding, IsFinding, IsFindingBehind, first_fault, has_stopped, history_behind, judged, stops, with_finding}
 use Rattle.uring_check.specs.Findings as finding
@@ -25,10 +25,6 @@ use Rattle.uring_check.specs.declared.follower.Follower.{Follower}
 use Rattle.uring_check.specs.declared.verdict.Verdict.{Verdict}
 use Rattle.uring_check.specs.declared.verdict.Verdict.TheVariants as verdict
 use Rattle.uring_check.proofs.WantedAnswers.{fits_called}
-
-pub on_ok_both : {T E : Type 0} (r : Result T E) (P Q R : Type 0) → (P → Q → R) → OnOk r P → OnOk r Q → OnOk r R
-on_ok_both (Ok x) P Q R f p q = f p q
-on_ok_both (Err e) P Q R f p q = tt
 
 -- ---- one line
 
@@ -145,7 +141,7 @@ took_looked g all lines old mid n line next over looks k =
       decided = l.decided ∙ ap (λ (v : Verdict). judged v l.finding) k.decided;
       stopped =
           l.stopped ∙ ap (λ (b : Bool). stops b l.finding) k.is_all
-          ∙ or_false (stops all l.finding)
+          ∙ sym (or-false (stops all l.finding))
           ∙ ap (λ (b : Bool). stops all l.finding || b) (sym none);
       told =
           l.told ∙ ap (λ (t : List ℕ). t ++ told_of (world (rules_of old.machine).setup past) old.number line l.finding) k.told

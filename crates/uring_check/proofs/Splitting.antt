@@ -1,12 +1,12 @@
 -- How a line is split at its first `=`.
 use Rattle.std.proofs.Common.{◌≡◌, ◌≢◌, ℕ, ◌+◌, ◌<◌, ◌≤◌, List, [], ◌∷◌, ◌++◌, length, take, drop, get_or, refl, sym, ap, subst, ◌∙◌, append_assoc, inl, inr, arith}
+use mathlib.Core.List.{head-eq_of_cons-eq, tail-eq_of_cons-eq}
 use Rattle.std.specs.List.{AllByRecursion}
 use Rattle.std.proofs.lemmas.Bool.{cases_lt}
-use Rattle.std.proofs.lemmas.List.{take-append-drop, drop_more, take_all}
+use Rattle.std.proofs.lemmas.List.{take-append-drop, drop_more, take_all, append_cancel_right}
 use Rattle.uring_machine.specs.declared.step.Step.{Step}
 use Rattle.uring_trace.specs.Spelling.{IsStep, IsBad}
 use Rattle.uring_trace.proofs.Spellings.{step_once}
-use Rattle.uring_trace.proofs.LineLaws.{first_same, others_same}
 use Rattle.uring_check.specs.Checking.{IsSplit, IsUnsplit}
 use Rattle.uring_check.specs.Records.{IsRecord, IsNoRecord}
 
@@ -33,12 +33,12 @@ none_more (x ∷ xs) h = (h.0, none_more xs h.1)
 
 -- the first `=` stands at one place
 first_once : (xs ys us vs : List ℕ) → HasNone xs → HasNone us → xs ++ 61 ∷ ys ≡ us ++ 61 ∷ vs → (xs ≡ us) × (ys ≡ vs)
-first_once [] ys [] vs h k e = (refl, others_same 61 61 ys vs e)
-first_once [] ys (u ∷ us) vs h k e = absurd (k.0 (sym (first_same 61 u ys (us ++ 61 ∷ vs) e)))
-first_once (x ∷ xs) ys [] vs h k e = absurd (h.0 (first_same x 61 (xs ++ 61 ∷ ys) vs e))
+first_once [] ys [] vs h k e = (refl, tail-eq_of_cons-eq e)
+first_once [] ys (u ∷ us) vs h k e = absurd (k.0 (sym (head-eq_of_cons-eq e)))
+first_once (x ∷ xs) ys [] vs h k e = absurd (h.0 (head-eq_of_cons-eq e))
 first_once (x ∷ xs) ys (u ∷ us) vs h k e =
-    let same = first_once xs ys us vs h.1 k.1 (others_same x u (xs ++ 61 ∷ ys) (us ++ 61 ∷ vs) e) in
-    (ap (λ (b : ℕ). b ∷ xs) (first_same x u (xs ++ 61 ∷ ys) (us ++ 61 ∷ vs) e) ∙ ap (λ (l : List ℕ). u ∷ l) same.0, same.1)
+    let same = first_once xs ys us vs h.1 k.1 (tail-eq_of_cons-eq e) in
+    (ap (λ (b : ℕ). b ∷ xs) (head-eq_of_cons-eq e) ∙ ap (λ (l : List ℕ). u ∷ l) same.0, same.1)
 
 sign_text : (before text : List ℕ) → before ++ 32 ∷ 61 ∷ 32 ∷ text ≡ (before ++ 32 ∷ []) ++ 61 ∷ 32 ∷ text
 sign_text before text = simp append_assoc refl
@@ -90,15 +90,7 @@ no_back line front back n c none = λ before text h. none text (cut_split line f
 pub split_once : (line before text other rest : List ℕ) → IsSplit line before text → IsSplit line other rest → (before ≡ other) × (text ≡ rest)
 split_once line before text other rest h k =
     let same = first_once (before ++ 32 ∷ []) (32 ∷ text) (other ++ 32 ∷ []) (32 ∷ rest) (none_more before h.first) (none_more other k.first) (sym (at_sign line before text h) ∙ at_sign line other rest k) in
-    (last_same before other same.0, others_same 32 32 text rest same.1)
-  where
-    last_same : (xs ys : List ℕ) → xs ++ 32 ∷ [] ≡ ys ++ 32 ∷ [] → xs ≡ ys
-    last_same [] [] e = refl
-    last_same [] (y ∷ []) e = absurd cc
-    last_same [] (y ∷ z ∷ ys) e = absurd cc
-    last_same (x ∷ []) [] e = absurd cc
-    last_same (x ∷ z ∷ xs) [] e = absurd cc
-    last_same (x ∷ xs) (y ∷ ys) e = ap (λ (b : ℕ). b ∷ xs) (first_same x y (xs ++ 32 ∷ []) (ys ++ 32 ∷ []) e) ∙ ap (λ (l : List ℕ). y ∷ l) (last_same xs ys (others_same x y (xs ++ 32 ∷ []) (ys ++ 32 ∷ []) e))
+    (append_cancel_right before other (32 ∷ []) same.0, tail-eq_of_cons-eq same.1)
 
 -- the split of a record
 pub split_of : (line : List ℕ) (s : Step) (text : List ℕ) → (r : IsRecord line s text) → IsSplit line r.before text

@@ -1,18 +1,21 @@
 -- What accepting an entry, and the end of a call, leave of what is held: from what the window and the groups say of them.
-use Rattle.std.proofs.Common.{◌≡◌, ◌≢◌, ℕ, ◌+◌, ◌<◌, ◌≤◌, length, Bool, true, false, ◌==◌, Option, Some, None, is_some, refl, sym, ◌∙◌, ap, subst, arith, inl, inr}
+use Rattle.std.proofs.Common.{◌≡◌, ◌≢◌, ℕ, ◌+◌, ◌<◌, ◌≤◌, length, Bool, ◌==◌, Option, Some, None, is_some, refl, sym, ◌∙◌, ap, subst, arith, inl, inr}
 use Rattle.std.specs.Prelude.{if◌then◌else◌}
-use Rattle.std.proofs.lemmas.Bool.{cases_lt, cases_eq, ne_eqb}
+use Rattle.std.proofs.lemmas.Bool.{cases_eq, ne_eqb}
+use Rattle.std.proofs.lemmas.Option.{same_Some}
+use Rattle.std.proofs.Math.Numerals.{lt_of_le_of_ne}
 use Rattle.uring_entry.specs.Layout.{Sqe}
 use Rattle.uring_entry.specs.Preparation.{is_faulty}
 use Rattle.uring_entry.specs.Requests.{Requests, is_linked, is_drain, with_cut}
 use Rattle.uring_entry.proofs.RequestLemmas.{added-other}
 use Rattle.uring_entry.proofs.GroupEvents.{group-cut, is_last-cut_last}
+use Rattle.uring_entry.proofs.BelowLemmas.{is_some_value}
 use Rattle.uring_dispatch.specs.declared.request.Request.{Request}
 use Rattle.uring_dispatch.specs.declared.group.Group.{Group}
 use Rattle.uring_dispatch.specs.Window.{Window, at, end_of, Changes}
 use Rattle.uring_dispatch.specs.Groups.{Groups, group_at, last_group, with_member, Exchanges, IsBeyond}
 use Rattle.uring_dispatch.specs.Held.{IsKept, IsSound, AreHeld}
-use Rattle.uring_dispatch.proofs.HeldLemmas.{same_some, is_some_value}
+use Rattle.uring_dispatch.proofs.GroupsKept.{only_key}
 
 -- An entry is accepted: what the window and the groups are before and after.
 pub record Accepts (w v : Window) (g h : Groups) (entry : Sqe) (request : Request) : Type 0 where
@@ -73,7 +76,7 @@ accept-sound w v g h entry request s a =
       linked = λ k x is.
           elim (cases_eq k (end_of w)) [
             | inl same ↦
-                let one : request ≡ x = same_some _ _ (sym a.changes.here ∙ ap (at v) (sym same) ∙ is) in
+                let one : request ≡ x = same_Some _ _ (sym a.changes.here ∙ ap (at v) (sym same) ∙ is) in
                 record {
                   group = p;
                   found = ap (λ (z : Request). group_at h z.group) (sym one) ∙ a.exchange.here;
@@ -97,7 +100,7 @@ accept-sound w v g h entry request s a =
       members = λ key x k y found from to is.
           elim (cases_eq k (end_of w)) [
             | inl same ↦
-                let one : request ≡ y = same_some _ _ (sym a.changes.here ∙ ap (at v) (sym same) ∙ is) in
+                let one : request ≡ y = same_Some _ _ (sym a.changes.here ∙ ap (at v) (sym same) ∙ is) in
                 elim (cases_eq key request.group) [
                   | inl here ↦ ap (λ (z : Request). z.group) (sym one) ∙ sym here
                   | inr other ↦
@@ -108,9 +111,9 @@ accept-sound w v g h entry request s a =
                 let was = older w v request k y a.changes is before in
                 elim (cases_eq key request.group) [
                   | inl here ↦
-                      let one : p ≡ x = same_some _ _ (sym a.exchange.here ∙ ap (group_at h) (sym here) ∙ found) in
+                      let one : p ≡ x = same_Some _ _ (sym a.exchange.here ∙ ap (group_at h) (sym here) ∙ found) in
                       let low1 : p.from ≤ k = let f : p.from ≡ x.from = ap (λ (z : Group). z.from) one in omega arith in
-                      let top1 : k < end_of w = let f : p.end ≡ x.end = ap (λ (z : Group). z.end) one in lower k before (omega arith) in
+                      let top1 : k < end_of w = let f : p.end ≡ x.end = ap (λ (z : Group). z.end) one in lt_of_le_of_ne (omega arith) before in
                       let q = member-from (last_group g.records g.last) (end_of w) (is_drain entry) (is_faulty entry) k low1 top1 in
                       let last = is_some_value g.last (sym a.kept ∙ ap is_some q.1) in
                       let end : q.0.end ≡ end_of w = s.last request.group q.0 (last.1 ∙ ap Some (sym (a.key last.0 last.1))) (a.joins ∙ q.1) in
@@ -121,7 +124,7 @@ accept-sound w v g h entry request s a =
       kept = λ key x found.
           elim (cases_eq key request.group) [
             | inl here ↦
-                let one : p ≡ x = same_some _ _ (sym a.exchange.here ∙ ap (group_at h) (sym here) ∙ found) in
+                let one : p ≡ x = same_Some _ _ (sym a.exchange.here ∙ ap (group_at h) (sym here) ∙ found) in
                 let P : Group → Type 0 = λ z. IsKept v z in
                 subst P one (joined-kept w v g h entry request s a (last_group g.records g.last) refl)
             | inr other ↦
@@ -136,18 +139,11 @@ accept-sound w v g h entry request s a =
           ];
       beyond = let P : ℕ → Type 0 = λ x. IsBeyond h.barriers x in subst P (sym a.end) a.beyond;
       last = λ key x e found.
-          let same = only (is_linked entry) request.group key (sym a.last ∙ e) in
-          let one : p ≡ x = same_some _ _ (sym a.exchange.here ∙ ap (group_at h) (sym same) ∙ found) in
+          let same = only_key (is_linked entry) request.group key _ a.last e in
+          let one : p ≡ x = same_Some _ _ (sym a.exchange.here ∙ ap (group_at h) (sym same) ∙ found) in
           ap (λ (z : Group). z.end) (sym one) ∙ top ∙ sym a.end;
     }
   where
-    lower : (k : ℕ) → k ≢ end_of w → k < end_of w + 1 → k < end_of w
-    lower k ne lt = elim (cases_lt k (end_of w)) [ inl low ↦ low | inr high ↦ absurd (ne (omega arith)) ]
-
-    only : (b : Bool) (key k : ℕ) → (if b then Some key else None) ≡ Some k → k ≡ key
-    only true key k e = cc
-    only false key k e = cc
-
     ap-from : (o : Option Group) (q : Group) → o ≡ Some q → (n : ℕ) (d f : Bool) (k : ℕ) → q.from ≤ k → (with_member o n d f).from ≤ k
     ap-from o q e n d f k le = let P : Option Group → Type 0 = λ x. (with_member x n d f).from ≤ k in subst P (sym e) le
 

@@ -5,6 +5,9 @@ use Rattle.std.specs.Prelude.{Result, Ok, Err, IfOk, IfErr}
 use Rattle.std.specs.Result.{result_ok}
 use Rattle.std.specs.List.{list_any}
 use Rattle.std.proofs.lemmas.Bool.{cases_lt, cases_eq, both_ways, and_left, and_from, lt-ltb}
+use Rattle.std.proofs.Math.Bool.{or-false, not-not}
+use Rattle.std.proofs.lemmas.Option.{same_Some}
+use Rattle.std.proofs.Math.Numerals.{lt_of_le_of_ne}
 use Rattle.uring_entry.specs.Layout.{Sqe}
 use Rattle.uring_entry.specs.Below.{count_below, found_or}
 use Rattle.uring_entry.specs.declared.fault.Fault.{Fault}
@@ -12,15 +15,16 @@ use Rattle.uring_entry.specs.declared.operation.Op.{Op}
 use Rattle.uring_entry.specs.Preparation.{fault_of, is_faulty, operation_of}
 use Rattle.uring_entry.specs.Requests.{Requests, entry_of, has_started, has_ended, is_last, is_linked, is_drain, is_outstanding, is_running, with_accepted, outstanding_in, running_in}
 use Rattle.uring_entry.specs.Groups.{IsGroup, first_fault, first_drain, first_broken}
-use Rattle.uring_entry.proofs.RequestLemmas.{entry_of-accepted_at, entry_of-accepted_other, or-false}
+use Rattle.uring_entry.proofs.RequestLemmas.{entry_of-accepted_at, entry_of-accepted_other}
 use Rattle.uring_entry.proofs.GroupEvents.{group-accepted, group-joined, group-new, first_entry-accepted, first_entry-more, first_broken-accepted, first_broken-more, first_member-none}
+use Rattle.uring_entry.proofs.BelowLemmas.{is_some_value}
 use Rattle.uring_dispatch.specs.declared.request.Request.{Request}
 use Rattle.uring_dispatch.specs.declared.group.Group.{Group}
 use Rattle.uring_dispatch.specs.Window.{Window, at, end_of, one_if, Changes}
 use Rattle.uring_dispatch.specs.Groups.{Groups, group_at, last_group, with_member, Exchanges, IsBeyond}
 use Rattle.uring_dispatch.specs.Held.{IsSound, IsShown, IsShownGroup, AreHeld, op_of}
 use Rattle.uring_dispatch.proofs.Counting.{count_below-same}
-use Rattle.uring_dispatch.proofs.HeldLemmas.{some_none, same_some, is_some_value}
+use Rattle.uring_dispatch.proofs.HeldLemmas.{some_none}
 use Rattle.uring_dispatch.proofs.Accepts.{Accepts}
 
 -- The lists, when an entry is accepted.
@@ -140,12 +144,12 @@ accept-held w v g h r entry request s a c is does free waits outstanding running
       ended = λ m e lt.
           elim (cases_eq m (end_of w)) [
             | inl same ↦ some_none request _ e (ap (at v) same ∙ c.changes.here)
-            | inr other ↦ a.ended m (sym (c.changes.others m other) ∙ e) (lower m (omega (arith, top)) (λ k. other (k ∙ sym top)))
+            | inr other ↦ a.ended m (sym (c.changes.others m other) ∙ e) (lt_of_le_of_ne (omega (arith, top)) (λ k. other (k ∙ sym top)))
           ];
       shown = λ m x e.
           elim (cases_eq m (end_of w)) [
             | inl same ↦
-                let one : request ≡ x = same_some _ _ (sym c.changes.here ∙ ap (at v) (sym same) ∙ e) in
+                let one : request ≡ x = same_Some _ _ (sym c.changes.here ∙ ap (at v) (sym same) ∙ e) in
                 let P : Request → Type 0 = λ z. IsShown (with_accepted r entry) n z in
                 let Q : ℕ → Type 0 = λ k. IsShown (with_accepted r entry) k x in
                 let here = entry_of-accepted_at r entry in
@@ -174,7 +178,7 @@ accept-held w v g h r entry request s a c is does free waits outstanding running
       groups = λ key x e.
           elim (cases_eq key request.group) [
             | inl same ↦
-                let one = same_some _ _ (sym c.exchange.here ∙ ap (group_at h) (sym same) ∙ e) in
+                let one = same_Some _ _ (sym c.exchange.here ∙ ap (group_at h) (sym same) ∙ e) in
                 let P : Group → Type 0 = λ z. IsShownGroup (with_accepted r entry) z in
                 let Q : ℕ → Type 0 = λ k. IsShownGroup (with_accepted r entry) (with_member (last_group g.records g.last) k (is_drain entry) (is_faulty entry)) in
                 subst P one (subst Q (sym top) joined)
@@ -190,9 +194,6 @@ accept-held w v g h r entry request s a c is does free waits outstanding running
           ∙ sym (ap (λ o. not (is_some o)) c.last ∙ not-linked (is_linked entry) request.group);
       untouched = λ m le. let old = a.untouched m (omega arith) in record { started = old.started; ended = old.ended; cancelled = old.cancelled; cut = old.cut };
     }
-  where
-    lower : (m : ℕ) → m < suc (length r.accepted) → m ≢ length r.accepted → m < length r.accepted
-    lower m lt ne = elim (cases_lt m (length r.accepted)) [ inl low ↦ low | inr high ↦ absurd (ne (omega arith)) ]
 
 -- what the code keeps of an entry
 prepared : (e : Sqe) (p : Result Op Fault) → IfOk p (λ op. (fault_of e ≡ None) × (op ≡ operation_of e)) → IfErr p (λ fault. fault_of e ≡ Some fault) → (result_ok p ≡ op_of e) × (is_some (result_ok p) ≡ not (is_faulty e))
@@ -203,16 +204,10 @@ prepared e (Err fault) right wrong =
     let bad : is_faulty e ≡ true = ap is_some wrong in
     (sym (ap (λ b. if b then None else Some (operation_of e)) bad), sym (ap not bad))
 
-not-same : (a b c : Bool) → a ≡ not b → a ≡ not c → b ≡ c
-not-same a true true x y = refl
-not-same a false false x y = refl
-not-same a true false x y = absurd (both_ways _ x y)
-not-same a false true x y = absurd (both_ways _ y x)
-
 pub kept-op : (e : Sqe) (p : Result Op Fault) (o : Option Op) (none : Bool) → IfOk p (λ op. (fault_of e ≡ None) × (op ≡ operation_of e)) → IfErr p (λ fault. fault_of e ≡ Some fault) → o ≡ result_ok p → is_some o ≡ not none → (o ≡ op_of e) × (none ≡ is_faulty e)
 kept-op e p o none right wrong is empty =
     let both = prepared e p right wrong in
-    (is ∙ both.0, not-same (is_some o) none (is_faulty e) empty (ap is_some is ∙ both.1))
+    (is ∙ both.0, sym (not-not none) ∙ ap not (sym empty ∙ ap is_some is ∙ both.1) ∙ not-not (is_faulty e))
 
 pub accepts : (w v : Window) (g h : Groups) (entry : Sqe) (request : Request) (n : ℕ) (faulty : Bool) → n ≡ end_of w → faulty ≡ is_faulty entry → Changes w v (end_of w) (Some request) → end_of v ≡ end_of w + 1 → group_at g request.group ≡ last_group g.records g.last → ((k : ℕ) → g.last ≡ Some k → request.group ≡ k) → is_some (last_group g.records g.last) ≡ is_some g.last → Exchanges g h request.group (Some (with_member (last_group g.records g.last) n (is_drain entry) faulty)) → IsBeyond h.barriers (n + 1) → h.last ≡ (if is_linked entry then Some request.group else None) → Accepts w v g h entry request
 accepts w v g h entry request n faulty top same changes end joins key kept exchange beyond last =

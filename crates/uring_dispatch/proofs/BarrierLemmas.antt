@@ -87,5 +87,6 @@ covered-pop records b rest key number dead drains any =
 pub beyond-pop : (b : Barrier) (rest : List Barrier) (n : ℕ) → IsBeyond (b ∷ rest) n → IsBeyond rest n
 beyond-pop b rest n all = (and_parts (ltb b.number n) _ all).1
 
-pub popped-barrier : (old new : List Barrier) (r : Option Barrier) (x : Barrier) → old ≡ option_to_list r ++ new → ((d : Barrier) → r ≡ Some (get_or old 0 d)) → x ≡ get_or old 0 x → old ≡ x ∷ new
-popped-barrier old new r x e h l = e ∙ ap (λ o. option_to_list o ++ new) (h x ∙ ap Some (sym l))
+-- what is dropped from the front of a queue
+pub popped : {X : Type 0} (old new : List X) (r : Option X) (x y : X) → old ≡ option_to_list r ++ new → ((d : X) → r ≡ Some (get_or old 0 d)) → x ≡ get_or old 0 x → x ≡ y → old ≡ y ∷ new
+popped old new r x y e h l is = e ∙ ap (λ o. option_to_list o ++ new) (h x ∙ ap Some (sym l ∙ is))

@@ -237,9 +237,6 @@ pub limit-least : (s : NumberSet) (a n : ℕ) → IsLeastIn s n → IsLeastIn (r
 unfolding holds
 limit-least s a n l = record { here = l.here; before = l.before }
 
-pub positive : (n : ℕ) → n ≢ 0 → 0 < n
-positive n ne = elim (cases_lt 0 n) [ inl lt ↦ lt | inr le ↦ absurd (ne (omega arith)) ]
-
 -- a number whose block is zero needn't be taken out
 pub zero-puts : (s : NumberSet) (n : ℕ) → block_at s (n / 64) ≡ 0 → Puts s s n false
 zero-puts s n zero =

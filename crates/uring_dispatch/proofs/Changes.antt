@@ -1,6 +1,7 @@
 -- What a start and a choice leave of what is held.
 use Rattle.std.proofs.Common.{◌≡◌, ℕ, ◌+◌, ◌≤◌, [], ◌∷◌, length, false, ◌==◌, Some, None, is_some, refl, sym, ◌∙◌, ap, subst, arith, inl, inr}
 use Rattle.std.proofs.lemmas.Bool.{cases_eq, eq-eqb, ne_eqb}
+use Rattle.std.proofs.lemmas.Option.{same_Some}
 use Rattle.uring_entry.specs.Preparation.{is_faulty}
 use Rattle.uring_entry.specs.Requests.{Requests, entry_of, is_running, with_started, with_cancelled}
 use Rattle.uring_entry.proofs.RequestLemmas.{is_running-started_same, is_running-started_other, added-same, added-other}
@@ -10,7 +11,7 @@ use Rattle.uring_dispatch.specs.Groups.{Groups, group_at, IsBeyond}
 use Rattle.uring_dispatch.specs.Held.{IsSound, IsShown, AreHeld}
 use Rattle.uring_dispatch.proofs.WindowFront.{at-past}
 use Rattle.uring_dispatch.proofs.Counting.{count_below-changed}
-use Rattle.uring_dispatch.proofs.HeldLemmas.{some_none, same_some, shown-within, running-some}
+use Rattle.uring_dispatch.proofs.HeldLemmas.{some_none, shown-within, running-some}
 
 -- Request n is written, and stays in its group.
 
@@ -18,7 +19,7 @@ written : (w v : Window) (n : ℕ) (p q : Request) → at w n ≡ Some p → Cha
 written w v n p q there c same k x is =
     elim (cases_eq k n) [
       | inl here ↦
-          let one : q ≡ x = same_some _ _ (sym c.here ∙ ap (at v) (sym here) ∙ is) in
+          let one : q ≡ x = same_Some _ _ (sym c.here ∙ ap (at v) (sym here) ∙ is) in
           (p, ap (at w) here ∙ there, ap (λ (z : Request). z.group) (sym one) ∙ same)
       | inr other ↦ (x, sym (c.others k other) ∙ is, refl)
     ]
@@ -67,7 +68,7 @@ choose-held w v g r n p h there c as_before runs_on = record {
   shown = λ m q is.
       elim (cases_eq m n) [
         | inl same ↦
-            let one : chosen p ≡ q = same_some _ _ (sym c.here ∙ ap (at v) (sym same) ∙ is) in
+            let one : chosen p ≡ q = same_Some _ _ (sym c.here ∙ ap (at v) (sym same) ∙ is) in
             let old = h.shown n p there in
             let P : Request → Type 0 = λ z. IsShown (with_cancelled r (n ∷ [])) n z in
             let Q : ℕ → Type 0 = λ k. IsShown (with_cancelled r (n ∷ [])) k q in
@@ -132,7 +133,7 @@ start-held w v g r n p s h there waits right c as_before more =
       shown = λ m q is.
           elim (cases_eq m n) [
             | inl same ↦
-                let one : started p ≡ q = same_some _ _ (sym c.here ∙ ap (at v) (sym same) ∙ is) in
+                let one : started p ≡ q = same_Some _ _ (sym c.here ∙ ap (at v) (sym same) ∙ is) in
                 let P : Request → Type 0 = λ z. IsShown (with_started r n) n z in
                 let Q : ℕ → Type 0 = λ k. IsShown (with_started r n) k q in
                 subst Q (sym same)

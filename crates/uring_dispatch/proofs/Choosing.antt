@@ -6,13 +6,14 @@ use Rattle.std.specs.Option.{option_to_list}
 use Rattle.std.proofs.lemmas.List.{append-nil, append_assoc}
 use Rattle.std.proofs.lemmas.List.Folds.{list_any-append}
 use Rattle.std.proofs.lemmas.Bool.{cases_eq, and_left}
+use Rattle.std.proofs.Math.Bool.{or-false, and-false}
 use Rattle.uring_entry.specs.Layout.{Sqe, addr_of, user_data_of}
 use Rattle.uring_entry.specs.Preparation.{is_cancel, is_cancel_all}
 use Rattle.uring_entry.specs.Success.{is_success}
 use Rattle.uring_entry.specs.Below.{all_below}
 use Rattle.uring_entry.specs.Requests.{Requests, entry_of, is_joined, some_member, is_in_faulty_group, is_behind_failure, is_cancelled, is_doomed, is_running, is_outstanding, is_target, target_of, targets_of, choices_of, count_result, chosen_by, cancel_result, result_for, no_bytes, with_cancelled, with_ended, with_issued_end}
 use Rattle.uring_entry.proofs.BelowLemmas.{all_below-past, all_below-none}
-use Rattle.uring_entry.proofs.RequestLemmas.{one_success, all_success, never_success, or-false}
+use Rattle.uring_entry.proofs.RequestLemmas.{one_success, all_success, never_success}
 use Rattle.uring_dispatch.specs.declared.request.Request.{Request}
 use Rattle.uring_dispatch.specs.Window.{Window, at, runs, Changes, chosen, IsAsBefore, HasSameRequests}
 use Rattle.uring_dispatch.specs.Groups.{Groups}
@@ -31,11 +32,7 @@ none-cancelled r = ap (λ all. record r { cancelled = all }) (append-nil r.cance
 pub failing-chooses : (r : Requests) (n below : ℕ) → chosen_by r n (negsuc below) ≡ []
 failing-chooses r n below =
     ap (λ b. if is_cancel (entry_of r n) && b then choices_of r n else []) (never_success (entry_of r n) below)
-    ∙ and-none (is_cancel (entry_of r n)) (choices_of r n)
-  where
-    and-none : (b : Bool) (these : List ℕ) → (if b && false then these else []) ≡ []
-    and-none true these = refl
-    and-none false these = refl
+    ∙ ap (λ b. if b then choices_of r n else []) (and-false (is_cancel (entry_of r n)))
 
 pub held-failing : (v : Window) (h : Groups) (r : Requests) (n below : ℕ) → AreHeld v h r → AreHeld v h (with_cancelled r (chosen_by r n (negsuc below)))
 held-failing v h r n below held =

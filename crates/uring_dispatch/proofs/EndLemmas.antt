@@ -1,12 +1,13 @@
 -- When a request ends, the window and the groups still fit one another.
 use Rattle.std.proofs.Common.{◌≡◌, ◌≢◌, ℕ, ◌<◌, ◌≤◌, Option, Some, None, is_some, refl, sym, ◌∙◌, ap, subst, arith, inl, inr}
 use Rattle.std.proofs.lemmas.Bool.{cases_lt, cases_eq}
+use Rattle.std.proofs.lemmas.Option.{same_Some}
 use Rattle.uring_dispatch.specs.declared.request.Request.{Request}
 use Rattle.uring_dispatch.specs.declared.group.Group.{Group}
 use Rattle.uring_dispatch.specs.Window.{Window, at, end_of, Changes}
 use Rattle.uring_dispatch.specs.Groups.{Groups, group_at, Exchanges, IsBeyond}
 use Rattle.uring_dispatch.specs.Held.{IsKept, IsSound, IsNext}
-use Rattle.uring_dispatch.proofs.HeldLemmas.{some_none, same_some}
+use Rattle.uring_dispatch.proofs.HeldLemmas.{some_none}
 
 -- Request n of this group ends: what the window and the groups are before and after.
 pub record Ends (w v : Window) (g h : Groups) (n : ℕ) (request : Request) (q : Group) (left : Option Group) : Type 0 where
@@ -20,7 +21,7 @@ pub record Ends (w v : Window) (g h : Groups) (n : ℕ) (request : Request) (q :
 pub in-group : (w : Window) (g : Groups) (n : ℕ) (request : Request) (q : Group) → IsSound w g → at w n ≡ Some request → group_at g request.group ≡ Some q → (q.from ≤ n) × (n < q.end)
 in-group w g n request q s there is =
     let link = s.linked n request there in
-    let one : link.group ≡ q = same_some _ _ (sym link.found ∙ is) in
+    let one : link.group ≡ q = same_Some _ _ (sym link.found ∙ is) in
     let P : Group → Type 0 = λ x. (x.from ≤ n) × (n < x.end) in
     subst P one (link.from, link.to)
 
@@ -73,7 +74,7 @@ end-sound_last w v g h n request q least s e next all beyond closed =
     λ k p is same.
     let was = kept-request w v n k p e.changes is in
     let link = s.linked k p was.1 in
-    let one : link.group ≡ q = same_some _ _ (sym link.found ∙ ap (group_at g) same ∙ e.group) in
+    let one : link.group ≡ q = same_Some _ _ (sym link.found ∙ ap (group_at g) same ∙ e.group) in
     let from : q.from ≤ k = let P : Group → Type 0 = λ x. x.from ≤ k in subst P one link.from in
     let to : k < q.end = let P : Group → Type 0 = λ x. k < x.end in subst P one link.to in
     elim (cases_lt k q.least) [
@@ -110,7 +111,7 @@ end-sound_more w v g h n request q p least s e next more from end is beyond clos
     λ key x found.
     elim (cases_eq key request.group) [
       | inl same ↦
-          let one : p ≡ x = same_some _ _ (sym e.exchange.here ∙ ap (group_at h) (sym same) ∙ found) in
+          let one : p ≡ x = same_Some _ _ (sym e.exchange.here ∙ ap (group_at h) (sym same) ∙ found) in
           (q, ap (group_at g) same ∙ e.group, ap (λ (z : Group). z.from) (sym one) ∙ from, ap (λ (z : Group). z.end) (sym one) ∙ end)
       | inr other ↦ (x, sym (e.exchange.others key other) ∙ found, refl, refl)
     ]
@@ -121,7 +122,7 @@ end-sound_more w v g h n request q p least s e next more from end is beyond clos
           let link = s.linked k x was.1 in
           elim (cases_eq x.group request.group) [
             | inl same ↦
-                let one : link.group ≡ q = same_some _ _ (sym link.found ∙ ap (group_at g) same ∙ e.group) in
+                let one : link.group ≡ q = same_Some _ _ (sym link.found ∙ ap (group_at g) same ∙ e.group) in
                 record {
                   group = p;
                   found = ap (group_at h) same ∙ e.exchange.here;
@@ -136,7 +137,7 @@ end-sound_more w v g h n request q p least s e next more from end is beyond clos
       kept = λ key x found.
           elim (cases_eq key request.group) [
             | inl same ↦
-                let one : p ≡ x = same_some _ _ (sym e.exchange.here ∙ ap (group_at h) (sym same) ∙ found) in
+                let one : p ≡ x = same_Some _ _ (sym e.exchange.here ∙ ap (group_at h) (sym same) ∙ found) in
                 let P : Group → Type 0 = λ z. IsKept v z in
                 subst P one
                 (record {

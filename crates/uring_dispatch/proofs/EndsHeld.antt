@@ -1,6 +1,7 @@
 -- When a request ends, what is held is what the lists say.
 use Rattle.std.proofs.Common.{◌≡◌, ◌≢◌, ℕ, ◌+◌, ◌<◌, ◌≤◌, ℤ, List, length, false, not, ◌&&◌, ltb, Option, Some, None, is_some, sym, ◌∙◌, ap, subst, arith, inl, inr}
 use Rattle.std.proofs.lemmas.Bool.{cases_eq, and_right}
+use Rattle.std.proofs.lemmas.Option.{same_Some}
 use Rattle.uring_entry.specs.Success.{is_success}
 use Rattle.uring_entry.specs.Requests.{Requests, entry_of, has_ended, is_outstanding, is_running, is_soft, with_ended, outstanding_in, running_in}
 use Rattle.uring_entry.specs.Groups.{earlier_of}
@@ -12,7 +13,7 @@ use Rattle.uring_dispatch.specs.Window.{Window, at, one_if}
 use Rattle.uring_dispatch.specs.Groups.{Groups, group_at}
 use Rattle.uring_dispatch.specs.Held.{IsSound, IsShownGroup, AreHeld, HasLost}
 use Rattle.uring_dispatch.proofs.Counting.{count_below-changed}
-use Rattle.uring_dispatch.proofs.HeldLemmas.{same_some, shown-within, outstanding-some, running-some}
+use Rattle.uring_dispatch.proofs.HeldLemmas.{shown-within, outstanding-some, running-some}
 use Rattle.uring_dispatch.proofs.EndLemmas.{kept-request, apart, Ends}
 
 -- The lists.
@@ -75,7 +76,7 @@ pub end-held : (w v : Window) (g h : Groups) (r : Requests) (n : ℕ) (request :
 end-held w v g h r n request q left res bytes s a e lost was closed shows =
     let inside = shown-within w g r n request s a e.there in
     let link = s.linked n request e.there in
-    let one : link.group ≡ q = same_some _ _ (sym link.found ∙ e.group) in
+    let one : link.group ≡ q = same_Some _ _ (sym link.found ∙ e.group) in
     let from : q.from ≤ n = let P : Group → Type 0 = λ x. x.from ≤ n in subst P one link.from in
     let to : n < q.end = let P : Group → Type 0 = λ x. n < x.end in subst P one link.to in
     record {
@@ -122,7 +123,7 @@ shows-none r n res q = record { group = λ p e. cc }
 pub shows-more : (r : Requests) (n : ℕ) (res : ℤ) (q p : Group) → p.from ≡ q.from → p.end ≡ q.end → p.fault ≡ q.fault → p.drain ≡ q.drain → p.broken ≡ earlier_of q.broken (is_soft (entry_of r n) && not (is_success (entry_of r n) res)) n → ShowsEnd r n res q (Some p)
 shows-more r n res q p a b c d e = record {
   group = λ x is.
-      let one : p ≡ x = same_some p x is in
+      let one : p ≡ x = same_Some p x is in
       let P : Group → Type 0 = λ z. (z.from ≡ q.from) × (z.end ≡ q.end) × (z.fault ≡ q.fault) × (z.drain ≡ q.drain) × (z.broken ≡ earlier_of q.broken (is_soft (entry_of r n) && not (is_success (entry_of r n) res)) n) in
       subst P one (a, b, c, d, e);
 }

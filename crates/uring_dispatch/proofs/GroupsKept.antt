@@ -7,6 +7,7 @@ use Rattle.uring_dispatch.specs.declared.group.Group.{Group}
 use Rattle.uring_dispatch.specs.declared.group.Barrier.{Barrier}
 use Rattle.uring_dispatch.specs.Groups.{drain_of, covers, IsSorted, IsBeyond, AreGroups, IsLiveFront, with_member, with_barrier, starts_at, last_group, Groups, HasBarrierBefore}
 use Rattle.std.specs.Prelude.{if◌then◌else◌}
+use Rattle.std.proofs.lemmas.Option.{none-some}
 use Rattle.uring_dispatch.proofs.BarrierLemmas.{front-least, beyond-next, beyond-push, sorted-push, covered-push, covered-pushed}
 
 -- What accepting a request keeps.
@@ -134,15 +135,12 @@ remove-groups records new barriers left last key g gone others covered sorted cl
       elim (cases_eq k key) [
         | inl same ↦
             let none : drain_of (get_or new k None) ≡ None = ap (λ j. drain_of (get_or new j None)) same ∙ ap drain_of gone in
-            no_number d _ none e
+            absurd (none-some d (sym none ∙ e))
         | inr other ↦ covered k d e (g.covered k d (ap drain_of (sym (others k other)) ∙ e))
       ];
   sorted = sorted g.sorted;
-  opened = λ k e. no_number k last closed e;
+  opened = λ k e. absurd (none-some k (sym closed ∙ e));
 }
-  where
-    no_number : {P : Type 0} (d : ℕ) (o : Option ℕ) → o ≡ None → o ≡ Some d → P
-    no_number d o a b = cc
 
 head_is : (barriers : List Barrier) (b : Barrier) → 0 < length barriers → b ≡ get_or barriers 0 b → (rest : List Barrier) × (barriers ≡ b ∷ rest)
 head_is [] b lt e = absurd (omega arith)

@@ -1,11 +1,13 @@
 -- How an outstanding request stands, from what is held.
 use Rattle.std.proofs.Common.{◌≡◌, ◌≢◌, ℕ, ◌<◌, ◌≤◌, length, Bool, true, false, not, ◌&&◌, ◌||◌, Option, Some, None, is_some, refl, sym, ◌∙◌, ap, subst, arith, inl, inr}
-use Rattle.std.proofs.lemmas.Bool.{cases_lt, cases_eq, and_from, and_left, and_right, both_ways, lt-ltb, le-ltb, eq-eqb, ne_eqb, false≢true}
+use Rattle.std.proofs.lemmas.Bool.{cases_lt, cases_eq, and_from, and_left, and_right, both_ways, lt-ltb, le-ltb, eq-eqb, ne_eqb}
+use Rattle.std.proofs.Math.Bool.{and-true, or-false}
+use Rattle.std.proofs.lemmas.Option.{same_Some}
 use Rattle.uring_entry.specs.Requests.{Requests, entry_of, has_started, has_ended, is_outstanding, is_running, is_cancelled, is_draining, is_doomed, is_ready, is_issuable, is_candidate}
 use Rattle.uring_entry.specs.Layout.{user_data_of, addr_of}
 use Rattle.uring_entry.specs.Groups.{is_before, first_broken}
-use Rattle.uring_entry.proofs.GroupLemmas.{draining-is, doomed-is, ready-yes, ready-not_member, ready-not_alone, ready-not_behind, groups-apart, first_member-inside, and-true}
-use Rattle.uring_entry.proofs.RequestLemmas.{or-false}
+use Rattle.uring_entry.proofs.GroupLemmas.{draining-is, doomed-is, ready-yes, ready-not_member, ready-not_alone, ready-not_behind, groups-apart, first_member-inside}
+use Rattle.uring_entry.proofs.BelowLemmas.{is_some_value}
 use Rattle.uring_dispatch.specs.declared.request.Request.{Request}
 use Rattle.uring_dispatch.specs.declared.group.Group.{Group}
 use Rattle.uring_dispatch.specs.Window.{Window, at, HasBefore}
@@ -14,13 +16,6 @@ use Rattle.uring_dispatch.specs.Held.{IsSound, IsShownGroup, AreHeld}
 
 pub some_none : {X : Type 0} {P : Type 0} (x : X) (o : Option X) → o ≡ None → o ≡ Some x → P
 some_none x o a b = cc
-
-pub same_some : {X : Type 0} (a b : X) → Some a ≡ Some b → a ≡ b
-same_some a b e = cc
-
-pub is_some_value : {X : Type 0} (o : Option X) → is_some o ≡ true → (q : X) × (o ≡ Some q)
-is_some_value None e = absurd (false≢true e)
-is_some_value (Some q) e = (q, refl)
 
 -- a number with a request is outstanding
 pub shown-within : (w : Window) (g : Groups) (r : Requests) (n : ℕ) (q : Request) → IsSound w g → AreHeld w g r → at w n ≡ Some q → n < length r.accepted
@@ -51,7 +46,7 @@ pub record InGroup (r : Requests) (n : ℕ) (q : Group) : Type 0 where
 pub in-group : (w : Window) (g : Groups) (r : Requests) (n : ℕ) (request : Request) (q : Group) → IsSound w g → AreHeld w g r → at w n ≡ Some request → group_at g request.group ≡ Some q → InGroup r n q
 in-group w g r n request q s h e is =
     let group = s.linked n request e in
-    let same : group.group ≡ q = same_some _ _ (sym group.found ∙ is) in
+    let same : group.group ≡ q = same_Some _ _ (sym group.found ∙ is) in
     record {
       from = let P : Group → Type 0 = λ x. x.from ≤ n in subst P same group.from;
       to = let P : Group → Type 0 = λ x. n < x.end in subst P same group.to;

@@ -2,6 +2,7 @@
 use Rattle.std.proofs.Common.{◌≡◌, ◌≢◌, ℕ, ◌<◌, ◌≤◌, ◌⊎◌, length, Bool, true, false, not, ◌&&◌, ◌||◌, Option, Some, None, refl, sym, ◌∙◌, ap, arith, inl, inr}
 use Rattle.std.specs.Prelude.{if◌then◌else◌, MatchOption}
 use Rattle.std.proofs.lemmas.Bool.{cases_lt, cases_eq, cases_Bool, and_parts, and_from, or_cases, or_left, or_right, both_ways, false≢true, not-true, lt-ltb, le-ltb, ltb-true, eq-eqb, eqb-true}
+use Rattle.std.proofs.lemmas.Option.{same_Some}
 use Rattle.uring_entry.specs.Below.{least_below}
 use Rattle.uring_entry.specs.Requests.{Requests, is_outstanding, is_running, is_doomed, is_ready, is_issuable, next_of}
 use Rattle.uring_entry.proofs.BelowLemmas.{least_below-none, least_below-some}
@@ -15,7 +16,7 @@ use Rattle.uring_dispatch.specs.Groups.{Groups, group_at}
 use Rattle.uring_dispatch.specs.Held.{IsSound, AreHeld}
 use Rattle.uring_dispatch.specs.Waiting.{leads, dooms, waits_at_head, waits_doomed, IsListed, IsReadyHead}
 use Rattle.uring_dispatch.specs.Next.{lesser_of}
-use Rattle.uring_dispatch.proofs.HeldLemmas.{some_none, same_some, shown-within, open-request, doomed-held, not-least, running-some, issuable-some, in-group}
+use Rattle.uring_dispatch.proofs.HeldLemmas.{some_none, shown-within, open-request, doomed-held, not-least, running-some, issuable-some, in-group}
 
 -- The lesser of two.
 
@@ -42,11 +43,11 @@ lesser-least p n None None x y all =
 lesser-least p n None (Some m) x y all =
     least-is p n m (y m refl).0 (y m refl).1
     (λ k lt holds.
-    elim (all k lt holds) [ inl f ↦ some_none f.0 _ refl f.1 | inr f ↦ let same : m ≡ f.0 = same_some _ _ f.1 in let le = f.2 in omega arith ])
+    elim (all k lt holds) [ inl f ↦ some_none f.0 _ refl f.1 | inr f ↦ let same : m ≡ f.0 = same_Some _ _ f.1 in let le = f.2 in omega arith ])
 lesser-least p n (Some m) None x y all =
     least-is p n m (x m refl).0 (x m refl).1
     (λ k lt holds.
-    elim (all k lt holds) [ inl f ↦ let same : m ≡ f.0 = same_some _ _ f.1 in let le = f.2 in omega arith | inr f ↦ some_none f.0 _ refl f.1 ])
+    elim (all k lt holds) [ inl f ↦ let same : m ≡ f.0 = same_Some _ _ f.1 in let le = f.2 in omega arith | inr f ↦ some_none f.0 _ refl f.1 ])
 lesser-least p n (Some m) (Some j) x y all =
     elim (cases_lt j m) [
       | inl lower ↦
@@ -54,16 +55,16 @@ lesser-least p n (Some m) (Some j) x y all =
           ∙ least-is p n j (y j refl).0 (y j refl).1
           (λ k lt holds.
           elim (all k lt holds) [
-            | inl f ↦ let same : m ≡ f.0 = same_some _ _ f.1 in let le = f.2 in omega arith
-            | inr f ↦ let same : j ≡ f.0 = same_some _ _ f.1 in let le = f.2 in omega arith
+            | inl f ↦ let same : m ≡ f.0 = same_Some _ _ f.1 in let le = f.2 in omega arith
+            | inr f ↦ let same : j ≡ f.0 = same_Some _ _ f.1 in let le = f.2 in omega arith
           ])
       | inr higher ↦
           ap (λ b. if b then Some j else Some m) (le-ltb j m higher)
           ∙ least-is p n m (x m refl).0 (x m refl).1
           (λ k lt holds.
           elim (all k lt holds) [
-            | inl f ↦ let same : m ≡ f.0 = same_some _ _ f.1 in let le = f.2 in omega arith
-            | inr f ↦ let same : j ≡ f.0 = same_some _ _ f.1 in let le = f.2 in omega arith
+            | inl f ↦ let same : m ≡ f.0 = same_Some _ _ f.1 in let le = f.2 in omega arith
+            | inr f ↦ let same : j ≡ f.0 = same_Some _ _ f.1 in let le = f.2 in omega arith
           ])
     ]
 
@@ -140,7 +141,7 @@ head-ready w g r s n q sound h l least there ready =
     let waits = and_parts (not q.is_running) _ (sym (ap (λ o. waits_at_head g o n) there) ∙ sym (l.told n).head ∙ least.here) in
     record {
       some = λ m e.
-          let same : n ≡ m = same_some _ _ e in
+          let same : n ≡ m = same_Some _ _ e in
           ap (is_issuable r) (sym same) ∙ issuable-some w g r n q sound h there ∙ and_from _ _ waits.0 (or_right _ _ ready);
       all = λ k out still more. (n, refl, behind s.heads n k least (head-told w g r s k sound h l (waiting-of w g r k sound h out still) more));
     }
@@ -190,7 +191,7 @@ next-least w g r s a b sound h l doomed head =
   where
     found : (m : ℕ) (o : Option ℕ) → o ≡ Some m → MatchOption o ((k : ℕ) → holds s.doomed k ≡ false) (IsLeastIn s.doomed) → holds s.doomed m ≡ true
     found m None e d = cc
-    found m (Some x) e d = let same : x ≡ m = same_some _ _ e in ap (holds s.doomed) (sym same) ∙ d.here
+    found m (Some x) e d = let same : x ≡ m = same_Some _ _ e in ap (holds s.doomed) (sym same) ∙ d.here
 
     before : (k : ℕ) (o : Option ℕ) → MatchOption o ((j : ℕ) → holds s.doomed j ≡ false) (IsLeastIn s.doomed) → holds s.doomed k ≡ true → (m : ℕ) × (o ≡ Some m) × (m ≤ k)
     before k None d told = absurd (both_ways _ (d k) told)

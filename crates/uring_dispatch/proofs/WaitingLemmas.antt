@@ -2,6 +2,7 @@
 use Rattle.std.proofs.Common.{◌≡◌, ◌≢◌, ℕ, ◌<◌, ◌≤◌, Bool, true, false, not, ◌&&◌, ◌||◌, ◌⊎◌, Option, Some, None, is_some, refl, sym, ◌∙◌, ap, subst, arith, inl, inr}
 use Rattle.std.specs.Prelude.{if◌then◌else◌}
 use Rattle.std.proofs.lemmas.Bool.{cases_lt, cases_eq, both_ways, false≢true, lt-ltb, le-ltb, ltb-true, ne_eqb}
+use Rattle.std.proofs.lemmas.Option.{same_Some}
 use Rattle.uring_entry.specs.Groups.{is_before, earlier_of}
 use Rattle.uring_dispatch.specs.declared.request.Request.{Request}
 use Rattle.uring_dispatch.specs.declared.group.Group.{Group}
@@ -12,7 +13,7 @@ use Rattle.uring_dispatch.specs.Groups.{Groups, group_at}
 use Rattle.uring_dispatch.specs.Held.{IsSound, IsNext}
 use Rattle.uring_dispatch.proofs.WindowFront.{at-past}
 use Rattle.uring_dispatch.proofs.BlockLemmas.{holds-same}
-use Rattle.uring_dispatch.proofs.HeldLemmas.{some_none, same_some}
+use Rattle.uring_dispatch.proofs.HeldLemmas.{some_none}
 use Rattle.uring_dispatch.proofs.EndLemmas.{Ends}
 use Rattle.uring_dispatch.specs.Waiting.{leads, dooms, waits_at_head, waits_doomed, IsListedAt, Reaches, IsListed, CanTell, IsSameReach, Keeps, StandsAsBefore}
 
@@ -142,7 +143,7 @@ stands-ended_last w v g h n request q least k s e next all ne =
     e.exchange.others x.group
     (λ here.
     let link = s.linked k x is in
-    let one : link.group ≡ q = same_some _ _ (sym link.found ∙ ap (group_at g) here ∙ e.group) in
+    let one : link.group ≡ q = same_Some _ _ (sym link.found ∙ ap (group_at g) here ∙ e.group) in
     let from : q.from ≤ k = let P : Group → Type 0 = λ z. z.from ≤ k in subst P one link.from in
     let to : k < q.end = let P : Group → Type 0 = λ z. k < z.end in subst P one link.to in
     elim (cases_lt k q.least) [
@@ -163,13 +164,13 @@ stands-ended_more w v g h n request q p least k breaks s e next is_least fault b
         elim (cases_eq x.group request.group) [
           | inr apart ↦
               stands-apart w v g h k same
-              (λ y there. let one : x ≡ y = same_some _ _ (sym is ∙ there) in
+              (λ y there. let one : x ≡ y = same_Some _ _ (sym is ∙ there) in
               let P : Request → Type 0 = λ z. group_at h z.group ≡ group_at g z.group in subst P one (e.exchange.others x.group apart))
           | inl here ↦
               let was = ap (group_at g) here ∙ e.group in
               let now = ap (group_at h) here ∙ e.exchange.here in
               let link = s.linked k x is in
-              let one : link.group ≡ q = same_some _ _ (sym link.found ∙ was) in
+              let one : link.group ≡ q = same_Some _ _ (sym link.found ∙ was) in
               let to : k < q.end = let P : Group → Type 0 = λ z. k < z.end in subst P one link.to in
               let led : q.least ≢ k =
               λ is_first.

@@ -2,6 +2,7 @@
 use Rattle.std.proofs.Common.{◌≡◌, ◌≢◌, ℕ, ◌<◌, ◌≤◌, length, Bool, true, false, not, ◌&&◌, ◌||◌, Option, Some, None, is_some, refl, sym, ◌∙◌, ap, subst, arith, inl, inr}
 use Rattle.std.specs.Prelude.{if◌then◌else◌}
 use Rattle.std.proofs.lemmas.Bool.{cases_lt, lt-leb, le-leb, lt-ltb}
+use Rattle.std.proofs.lemmas.Option.{same_Some}
 use Rattle.uring_entry.specs.Requests.{Requests, entry_of, has_ended, is_running, is_doomed, is_joined, is_draining, holds_back}
 use Rattle.uring_entry.specs.Groups.{is_before}
 use Rattle.uring_entry.specs.Why.{first_doom, faulty_member_of, failed_member_of, doom_of, since_of, holder_of, waiting_for, why_of}
@@ -21,7 +22,7 @@ use Rattle.uring_dispatch.specs.Window.{Window, at}
 use Rattle.uring_dispatch.specs.Groups.{Groups, group_at, drain_of}
 use Rattle.uring_dispatch.specs.Held.{IsSound, AreHeld}
 use Rattle.uring_dispatch.specs.Waits.{wait_of}
-use Rattle.uring_dispatch.proofs.HeldLemmas.{same_some, shown-within, in-group, draining-held, running-some}
+use Rattle.uring_dispatch.proofs.HeldLemmas.{shown-within, in-group, draining-held, running-some}
 
 -- What a request waits for.
 
@@ -125,7 +126,7 @@ wait-tells : (r : Requests) (n m : ℕ) (since : Since) → Some since ≡ wait_
 wait-tells r n m since e = go (holds_back r n m) e
   where
     go : (b : Bool) → Some since ≡ (if b then Some (since_of r n m) else None) → (b ≡ true) × (since ≡ since_of r n m)
-    go true is = (refl, same_some since (since_of r n m) is)
+    go true is = (refl, same_Some since (since_of r n m) is)
     go false is = cc
 
 pub waits-for : (r : Requests) (n m : ℕ) (since : Since) → m < n → Some since ≡ wait_of r n m → ((k : ℕ) → k < m → holds_back r n k ≡ false) → Waits m since ≡ waiting_for r n (holder_of r n)

@@ -2,12 +2,13 @@
 use Rattle.std.proofs.Common.{◌≡◌, ◌≢◌, ℕ, suc, ◌+◌, ◌-◌, ◌<◌, ◌≤◌, ◌⊎◌, List, [], ◌∷◌, ◌++◌, length, get_or, set, false, Option, Some, None, is_some, refl, sym, ◌∙◌, ap, arith, inl, inr, length-append}
 use Rattle.std.proofs.lemmas.Bool.{cases_eq, both_ways}
 use Rattle.std.proofs.lemmas.List.{length-set}
+use Rattle.std.proofs.lemmas.Option.{same_Some}
 use Rattle.uring_dispatch.specs.declared.request.Request.{Request}
 use Rattle.uring_entry.specs.Below.{count_below}
 use Rattle.uring_dispatch.specs.Window.{Window, key_at, found_by, at, end_of, runs, one_if, IsWindow, Changes}
 use Rattle.uring_dispatch.proofs.Counting.{count_below-same, count_below-changed}
 use Rattle.uring_dispatch.proofs.WindowLemmas.{key_at-within, key_at-push_here, key_at-push_other, key_at-set_here, key_at-set_other, at-keyed, at-key}
-use Rattle.uring_dispatch.proofs.HeldLemmas.{some_none, same_some}
+use Rattle.uring_dispatch.proofs.HeldLemmas.{some_none}
 
 -- What the changes of the window keep.
 
@@ -34,7 +35,7 @@ push-cases : (w : Window) (key n k : ℕ) → key_at w.first (w.keys ++ Some key
 push-cases w key n k e =
     elim (cases_eq n (end_of w)) [
       | inl same ↦
-          inl (same, same_some k key (sym e ∙ ap (key_at w.first (w.keys ++ Some key ∷ [])) same ∙ key_at-push_here w.first w.keys (Some key)))
+          inl (same, same_Some k key (sym e ∙ ap (key_at w.first (w.keys ++ Some key ∷ [])) same ∙ key_at-push_here w.first w.keys (Some key)))
       | inr other ↦ inr (sym (key_at-push_other w.first w.keys (Some key) n other) ∙ e)
     ]
 

@@ -1,19 +1,16 @@
 -- The first number of the window, and what the calls of the window ask of the others.
 use Rattle.std.proofs.Common.{◌≡◌, ◌≢◌, ℕ, ◌+◌, ◌-◌, ◌^◌, ◌<◌, ◌≤◌, List, [], ◌∷◌, ◌++◌, length, get_or, true, false, Option, Some, None, is_some, refl, sym, ◌∙◌, ap, arith, inl, inr}
 use Rattle.std.proofs.lemmas.Bool.{cases_lt, cases_Bool, both_ways, false≢true}
+use Rattle.uring_entry.proofs.BelowLemmas.{is_some_value}
 use Rattle.uring_dispatch.specs.declared.request.Request.{Request}
 use Rattle.uring_dispatch.specs.Window.{Window, key_at, found_by, at, end_of, runs, one_if, IsWindow, IsTrimmed, IsFirst, HasBefore, started, chosen}
-use Rattle.std.specs.Option.{option_to_list}
 use Rattle.std.specs.Prelude.{IfSome}
 use Rattle.uring_dispatch.proofs.Counting.{count_below-some, count_below-within}
 use Rattle.uring_dispatch.proofs.WindowLemmas.{key_at-low, key_at-high, key_at-past, key_at-within, at-keyed}
 use Rattle.uring_dispatch.proofs.WindowEvents.{write-window}
-use Rattle.uring_dispatch.proofs.HeldLemmas.{some_none, is_some_value}
+use Rattle.uring_dispatch.proofs.HeldLemmas.{some_none}
 
 -- The front.
-
-pub popped : (old new : List (Option ℕ)) (r : Option (Option ℕ)) (x : Option ℕ) → old ≡ option_to_list r ++ new → ((d : Option ℕ) → r ≡ Some (get_or old 0 d)) → x ≡ get_or old 0 x → x ≡ None → old ≡ None ∷ new
-popped old new r x e h l n = e ∙ ap (λ o. option_to_list o ++ new) (h x ∙ ap Some (sym l ∙ n))
 
 pub trimmed-push : (keys : List (Option ℕ)) (key : ℕ) → IsTrimmed keys → IsTrimmed (keys ++ Some key ∷ [])
 trimmed-push [] key t = λ lt. refl

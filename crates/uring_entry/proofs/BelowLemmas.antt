@@ -3,6 +3,7 @@ use Rattle.std.proofs.Common.{◌≡◌, ℕ, zero, suc, ◌<◌, ◌≤◌, Boo
 use Rattle.std.specs.List.{list_any}
 use Rattle.std.proofs.lemmas.Bool.{cases_lt, cases_Bool, or_cases, or_from, or_left, or_right, both_ways, eqb-true, eq-eqb, false_from_ne_true}
 use Rattle.std.proofs.lemmas.List.Folds.{list_any-append}
+use Rattle.std.proofs.lemmas.Option.{same_Some, none-some}
 use Rattle.uring_entry.specs.Below.{some_below, least_below, all_below, found_or}
 
 pub some_below-none : (p : ℕ → Bool) (n : ℕ) → ((k : ℕ) → k < n → p k ≡ false) → some_below p n ≡ false
@@ -85,11 +86,10 @@ pub record IsLeast (p : ℕ → Bool) (n k : ℕ) : Type 0 where
   pub holds : p k ≡ true
   pub before : (j : ℕ) → j < k → p j ≡ false
 
-some_same : (m n : ℕ) → Some m ≡ Some n → m ≡ n
-some_same m n e = cc
-
-none_some : {P : Type 0} (k : ℕ) (o : Option ℕ) → o ≡ None → o ≡ Some k → P
-none_some k o n e = cc
+-- the value that is there
+pub is_some_value : {X : Type 0} (o : Option X) → is_some o ≡ true → (q : X) × (o ≡ Some q)
+is_some_value None e = absurd (both_ways false refl e)
+is_some_value (Some q) e = (q, refl)
 
 is_some-found : (o : Option ℕ) (b : Bool) (n : ℕ) → is_some (found_or o b n) ≡ (is_some o || b)
 is_some-found (Some m) b n = refl
@@ -116,13 +116,13 @@ least_below-tells p (suc n) k e =
       | None ↦ λ was is.
           elim (cases_Bool (p n)) [
             | inl holds ↦
-                let same : n ≡ k = some_same n k (ap (λ b. found_or None b n) (sym holds) ∙ is) in
+                let same : n ≡ k = same_Some n k (ap (λ b. found_or None b n) (sym holds) ∙ is) in
                 record {
                   below = omega arith;
                   holds = ap p (sym same) ∙ holds;
                   before = λ j lt. least_below-out p n was j (omega arith);
                 }
-            | inr fails ↦ none_some k (found_or None (p n) n) (ap (λ b. found_or None b n) fails) is
+            | inr fails ↦ absurd (none-some k (ap (λ b. found_or None b n) (sym fails) ∙ is))
           ]
     ] refl e
 

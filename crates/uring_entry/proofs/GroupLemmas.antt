@@ -1,6 +1,7 @@
 -- What is doomed, drains and is ready, from what is known of its group: no more is needed of the members that have ended.
 use Rattle.std.proofs.Common.{◌≡◌, ℕ, zero, suc, ◌<◌, ◌≤◌, min, max, length, Bool, true, false, not, ◌&&◌, ◌||◌, leb, ltb, Option, Some, None, is_some, refl, sym, ◌∙◌, ap, arith, inl, inr}
 use Rattle.std.proofs.lemmas.Bool.{cases_lt, cases_Bool, and_left, and_right, and_from, and_parts, or_from, or_left, or_right, both_ways, le-leb, lt-leb, lt-ltb, le-ltb, leb-true, or_cases, not-true, not-false}
+use Rattle.std.proofs.Math.Bool.{and-true, and_assoc}
 use Rattle.uring_entry.specs.Layout.{Sqe}
 use Rattle.uring_entry.specs.Below.{some_below, least_below}
 use Rattle.uring_entry.specs.Requests.{Requests, entry_of, has_ended, has_failed, is_soft, is_drain, is_joined, is_in_group, some_member, is_in_faulty_group, is_draining, is_behind_failure, is_cancelled, is_doomed, is_ready, holds_back}
@@ -8,14 +9,6 @@ use Rattle.uring_entry.specs.Preparation.{is_faulty}
 use Rattle.uring_entry.specs.Groups.{IsGroup, first_member, is_before, first_fault, first_drain, first_broken}
 use Rattle.uring_entry.proofs.BelowLemmas.{some_below-none, some_below-some, some_below-same, some_below-between, least_below-out, least_below-tells, is_some-least_below, some_below-in}
 use Rattle.uring_entry.proofs.RequestLemmas.{is_joined-yes, is_joined-no, is_ready-yes, is_ready-no}
-
-pub and-true : (b : Bool) → (b && true) ≡ b
-and-true true = refl
-and-true false = refl
-
-pub and-assoc : (a b c : Bool) → ((a && b) && c) ≡ (a && (b && c))
-and-assoc true b c = refl
-and-assoc false b c = refl
 
 -- Who is a member.
 
@@ -102,7 +95,7 @@ unfolding is_behind_failure first_member
 behind-is r from end n g high lt =
     some_below-same _ (λ m. leb from m && (is_soft (entry_of r m) && has_failed r m)) n
     (λ m low.
-    and-assoc (is_joined r m n) _ _
+    and_assoc (is_joined r m n) _ _
     ∙ ap (λ b. b && (is_soft (entry_of r m) && has_failed r m)) (joined-member r from end m n g high lt (omega arith)))
     ∙ some_below-least (λ m. leb from m && (is_soft (entry_of r m) && has_failed r m)) end n (omega arith)
 

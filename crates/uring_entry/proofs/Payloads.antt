@@ -1,7 +1,7 @@
 -- The 64 bytes of data and the eight words that hold them.
-use Rattle.std.proofs.Common.{◌≡◌, ℕ, zero, suc, ◌+◌, ◌*◌, ◌^◌, ◌<◌, ◌∙◌, sym, ap, subst, List, [], ◌∷◌, ◌++◌, length, take, drop, set, arith}
+use Rattle.std.proofs.Common.{◌≡◌, ℕ, zero, suc, ◌+◌, ◌*◌, ◌^◌, ◌<◌, ◌∙◌, sym, ap, subst, List, [], ◌∷◌, ◌++◌, length, take, drop, set, take-add, arith}
 use Rattle.std.proofs.lemmas.Grind.{common_steps, flat_map-append}
-use Rattle.std.proofs.lemmas.List.{take_more_set, drop-take, take-append-drop}
+use Rattle.std.proofs.lemmas.List.{take_more_set}
 use Rattle.std.specs.Int.{w64, to_le_bytes}
 use Rattle.uring_entry.specs.Layout.{bytes_of, AreWords}
 
@@ -14,20 +14,13 @@ all_taken i bytes words i_is bytes_length words_length same =
     let b : take 8 words ≡ words = grind (arith, common_steps) in
     sym a ∙ e ∙ ap bytes_of b
 
-take_within : (a b : ℕ) (xs : List ℕ) → take a xs ≡ take a (take (a + b) xs)
-take_within a b xs = grind (arith, common_steps)
-
--- what is taken in two parts
-take_add : (a b : ℕ) (xs : List ℕ) → take a xs ++ take b (drop a xs) ≡ take (a + b) xs
-take_add a b xs = ap (λ ys. take a xs ++ ys) (sym (drop-take a b xs)) ∙ ap (λ ys. ys ++ drop a (take (a + b) xs)) (take_within a b xs) ∙ take-append-drop a (take (a + b) xs)
-
 -- one word more
 pub word_more : (i : ℕ) (bytes words : List ℕ) (word : ℕ) → i < length words → bytes_of (take i words) ≡ take (8 * i) bytes
     → to_le_bytes w64 word ≡ take 8 (drop (8 * i) bytes)
     → bytes_of (take (i + 1) (set words i word)) ≡ take (8 * (i + 1)) bytes
 word_more i bytes words word within same last =
     ap bytes_of (take_more_set words i word within) ∙ flat_map-append (to_le_bytes w64) (take i words) (word ∷ [])
-    ∙ ap (λ xs. xs ++ to_le_bytes w64 word) same ∙ ap (λ xs. take (8 * i) bytes ++ xs) last ∙ take_add (8 * i) 8 bytes ∙ ap (λ n. take n bytes) (omega arith)
+    ∙ ap (λ xs. xs ++ to_le_bytes w64 word) same ∙ ap (λ xs. take (8 * i) bytes ++ xs) last ∙ sym (take-add (8 * i) 8 bytes) ∙ ap (λ n. take n bytes) (omega arith)
 
 -- the last eight of sixteen words
 pub last_eight : (words : List ℕ) → length words ≡ 16 → take 8 (drop 8 words) ≡ drop 8 words

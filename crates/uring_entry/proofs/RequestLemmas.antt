@@ -8,6 +8,7 @@ use Rattle.std.proofs.Math.Seq.{get_or-append_seam}
 use Rattle.std.proofs.lemmas.List.{get_or_past}
 use Rattle.std.proofs.lemmas.List.Folds.{list_any-append}
 use Rattle.std.proofs.lemmas.Bool.{cases_lt, cases_eq, cases_Bool, and_left, and_right, and_from, and_cases, or_parts, or_from, or_left, or_right, both_ways, le-leb, lt-leb, lt-ltb, eq-eqb, eqb-true, ne_eqb, not-false}
+use Rattle.std.proofs.Math.Bool.{or-false}
 use Rattle.uring_entry.specs.Layout.{Sqe, zero_entry, opcode_of, len_of}
 use Rattle.uring_entry.specs.declared.opcode.TheConstants.{READ, WRITE}
 use Rattle.uring_entry.specs.Success.{is_success}
@@ -34,10 +35,6 @@ is_joined-inside r m n k joined le lt =
       | inl last ↦ absurd (both_ways _ (is_joined-no r m n k le lt last) joined)
       | inr inside ↦ inside
     ]
-
-pub or-false : (b : Bool) → (b || false) ≡ b
-or-false true = refl
-or-false false = refl
 
 -- Who is doomed.
 

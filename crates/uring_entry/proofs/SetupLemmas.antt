@@ -1,5 +1,5 @@
 -- What a set-up refuses.
-use Rattle.std.proofs.Common.{◌≡◌, ℕ, ◌≤◌, inl, inr, subst, arith, Option, Some, None, IsNone}
+use Rattle.std.proofs.Common.{ℕ, ◌≤◌, inl, inr, subst, arith, Option}
 use Rattle.std.specs.Int.{IsNextPowerOfTwo}
 use Rattle.uring_entry.specs.Setup.{IsOutside, IsBadCq}
 use Rattle.uring_entry.proofs.Powers.{rounded_once}
@@ -13,8 +13,3 @@ not_outside low high n from to (inr above) = omega arith
 pub at_any_rounding : (sq size : ℕ) (cq : Option ℕ) → 1 ≤ sq → IsNextPowerOfTwo sq size → IsBadCq size cq → (p : ℕ)
     → IsNextPowerOfTwo sq p → IsBadCq p cq
 at_any_rounding sq size cq some rounded bad p also = subst (λ s. IsBadCq s cq) (rounded_once sq size p rounded also some) bad
-
--- what is there isn't absent
-pub not_none : (o : Option ℕ) (x : ℕ) → o ≡ Some x → IsNone o → ⊥
-not_none None x is none = cc
-not_none (Some y) x is none = cc

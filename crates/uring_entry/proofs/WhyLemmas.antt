@@ -2,6 +2,7 @@
 use Rattle.std.proofs.Common.{◌≡◌, ℕ, ◌<◌, ◌≤◌, length, Bool, true, false, not, ◌&&◌, leb, ltb, Option, Some, None, refl, ◌∙◌, ap, subst, arith, inl, inr}
 use Rattle.std.specs.Prelude.{if◌then◌else◌}
 use Rattle.std.proofs.lemmas.Bool.{cases_lt, and_left, and_right, both_ways, lt-ltb, le-ltb, ltb-true}
+use Rattle.std.proofs.Math.Bool.{and-true, and_assoc}
 use Rattle.uring_entry.specs.Below.{least_below}
 use Rattle.uring_entry.specs.Requests.{Requests, entry_of, has_ended, has_failed, is_soft, is_running, is_doomed, is_joined}
 use Rattle.uring_entry.specs.Preparation.{is_faulty}
@@ -10,7 +11,7 @@ use Rattle.uring_entry.specs.Why.{is_faulty_member, is_failure_before, faulty_me
 use Rattle.uring_entry.specs.declared.why.Why.{Why}
 use Rattle.uring_entry.specs.declared.why.Why.TheVariants.{NeverAccepted, HasEnded, Runs, IsDoomed, Waits, MayStart}
 use Rattle.uring_entry.proofs.BelowLemmas.{least_below-none, least_below-some, least_below-same, least_below-out, least_below-tells}
-use Rattle.uring_entry.proofs.GroupLemmas.{in_group-member, joined-member, and-true, and-assoc}
+use Rattle.uring_entry.proofs.GroupLemmas.{in_group-member, joined-member}
 
 -- What dooms it.
 
@@ -38,7 +39,7 @@ faulty_member-is r from end n g high lt =
 
 failure-is : (r : Requests) (from end n m : ℕ) → IsGroup r from end → from ≤ n → n < end → m < n → is_failure_before r n m ≡ (leb from m && (is_soft (entry_of r m) && has_failed r m))
 failure-is r from end n m g high lt low =
-    and-assoc (is_joined r m n) _ _
+    and_assoc (is_joined r m n) _ _
     ∙ ap (λ b. b && (is_soft (entry_of r m) && has_failed r m)) (joined-member r from end m n g high lt (omega arith))
 
 -- the least earlier one that failed, if it is before n

@@ -6,6 +6,7 @@ use Rattle.std.specs.Option.{option_map, option_map_or}
 use Rattle.std.specs.Ordering.{int_eq}
 use Rattle.std.proofs.lemmas.Bool.{cases_Bool, both_ways}
 use Rattle.std.proofs.lemmas.Bool.Decides.{Decides-int_eq}
+use Rattle.std.proofs.lemmas.Cmp.{int_eq_equiv}
 use Rattle.uring_entry.specs.declared.errno.TheConstants.{EFBIG}
 use Rattle.uring_entry.specs.declared.operation.Op.TheVariants.{Nop, Read, Write, Fsync, Cancel}
 use Rattle.uring_files.specs.Contents.{FileContents, empty_file, read_outcome, is_too_long, is_past_end, written, with_writes_synced}
@@ -77,13 +78,10 @@ files_apart files others (Write own off len bytes) res fd same = chosen_apart (i
 files_apart files others (Fsync own) res fd same = chosen_apart (int_eq res (pos 0)) files others own fd with_writes_synced same
 files_apart files others (Cancel target all) res fd same = same
 
-itself : (fd : ℤ) → int_eq fd fd ≡ true
-itself fd = (Decides-int_eq fd fd).1 refl
-
 pub ends_apart : EndsStandAlone
 ends_apart files others Nop agree = (refl, refl)
-ends_apart files others (Read fd off len) agree = (ap (λ file. on_file file (read_outcome off len)) (agree fd (itself fd)), refl)
+ends_apart files others (Read fd off len) agree = (ap (λ file. on_file file (read_outcome off len)) (agree fd (int_eq_equiv.refl fd)), refl)
 ends_apart files others (Write fd off len bytes) agree =
-    (ap (λ file. on_file file (λ f. ended_with (cond (is_too_long off len) (neg_ℤ EFBIG) (pos len)))) (agree fd (itself fd)), ap (λ file. option_map_or (λ f. not (is_too_long off len) && is_past_end off len f) file false) (agree fd (itself fd)))
-ends_apart files others (Fsync fd) agree = (ap (λ file. on_file file (λ f. ended_with (pos 0))) (agree fd (itself fd)), refl)
+    (ap (λ file. on_file file (λ f. ended_with (cond (is_too_long off len) (neg_ℤ EFBIG) (pos len)))) (agree fd (int_eq_equiv.refl fd)), ap (λ file. option_map_or (λ f. not (is_too_long off len) && is_past_end off len f) file false) (agree fd (int_eq_equiv.refl fd)))
+ends_apart files others (Fsync fd) agree = (ap (λ file. on_file file (λ f. ended_with (pos 0))) (agree fd (int_eq_equiv.refl fd)), refl)
 ends_apart files others (Cancel target all) agree = (refl, refl)

@@ -13,6 +13,7 @@ use Rattle.clap.specs.declared.parser.matches.Found.{Found}
 use Rattle.clap.proofs.WalkLemmas.{one_text-rows}
 use Rattle.std.specs.Str.Parse.{ParsesUnsigned}
 use Rattle.std.specs.Prelude.{◌^◌, ◌<◌, ◌≤◌, Err}
+use Rattle.std.proofs.lemmas.Option.{same_Some}
 use Rattle.clap.specs.Matches.{ReadsOne}
 use Rattle.uring_options.specs.declared.answers.Options.{Options}
 use Rattle.uring_options.specs.declared.answers.Options.TheVariants.{Explain, Graph, Timeline, Play, Shared}
@@ -21,17 +22,14 @@ use Rattle.uring_options.specs.CommandLine.{uring, Run, run_of, command_rows, Gi
 use Rattle.uring_entry.specs.Setup.{Setup}
 use Rattle.uring_options.proofs.CommandOptions.{uring_is_simple}
 
-some_is : {A : Type 0} (x y : A) → Some x ≡ Some y → x ≡ y
-some_is x y e = cc
-
 -- ---- the rows of the subcommand
 
 named_as : (named : Text × List Row) (name : Text) → Some named.0 ≡ Some name → bytes_eq named.0 name ≡ true
-named_as named name n = (bytes_eq-Decides named.0 name).1 (some_is named.0 name n)
+named_as named name n = (bytes_eq-Decides named.0 name).1 (same_Some named.0 name n)
 
 -- another name than this one
 named_other : (named : Text × List Row) (name other : Text) → Some named.0 ≡ Some name → bytes_eq named.0 other ≡ bytes_eq name other
-named_other named name other n = ap (λ (t : Text). bytes_eq t other) (some_is named.0 name n)
+named_other named name other n = ap (λ (t : Text). bytes_eq t other) (same_Some named.0 name n)
 
 -- what a command asks for: the rows of its options, and what is run
 pub record IsAsked (command : Option (Text × List Row)) (rows : List Row) (run : Run) : Type 0 where
@@ -42,14 +40,14 @@ explain_named : (sub : Option (Text × List Row)) (rows : List Row) → option_m
 explain_named None rows r n = absurd cc
 explain_named (Some named) rows r n =
     let test : bytes_eq named.0 (codes "explain") ≡ true = named_as named (codes "explain") n in
-    record { rows_are = rw test (some_is named.1 rows r); runs = rw test refl }
+    record { rows_are = rw test (same_Some named.1 rows r); runs = rw test refl }
 
 check_named : (sub : Option (Text × List Row)) (rows : List Row) → option_map (λ p. p.1) sub ≡ Some rows → option_map (λ p. p.0) sub ≡ Some (codes "check") → IsAsked sub rows Checks
 check_named None rows r n = absurd cc
 check_named (Some named) rows r n =
     let not_explain : bytes_eq named.0 (codes "explain") ≡ false = named_other named (codes "check") (codes "explain") n in
     let test : bytes_eq named.0 (codes "check") ≡ true = named_as named (codes "check") n in
-    record { rows_are = rw (not_explain, test) (some_is named.1 rows r); runs = rw (not_explain, test) refl }
+    record { rows_are = rw (not_explain, test) (same_Some named.1 rows r); runs = rw (not_explain, test) refl }
 
 play_named : (sub : Option (Text × List Row)) (rows : List Row) → option_map (λ p. p.1) sub ≡ Some rows → option_map (λ p. p.0) sub ≡ Some (codes "play") → IsAsked sub rows Plays
 play_named None rows r n = absurd cc
@@ -57,7 +55,7 @@ play_named (Some named) rows r n =
     let not_explain : bytes_eq named.0 (codes "explain") ≡ false = named_other named (codes "play") (codes "explain") n in
     let not_check : bytes_eq named.0 (codes "check") ≡ false = named_other named (codes "play") (codes "check") n in
     let test : bytes_eq named.0 (codes "play") ≡ true = named_as named (codes "play") n in
-    record { rows_are = rw (not_explain, not_check, test) (some_is named.1 rows r); runs = rw (not_explain, not_check, test) refl }
+    record { rows_are = rw (not_explain, not_check, test) (same_Some named.1 rows r); runs = rw (not_explain, not_check, test) refl }
 
 trace_named : (sub : Option (Text × List Row)) (rows : List Row) → option_map (λ p. p.1) sub ≡ Some rows → option_map (λ p. p.0) sub ≡ Some (codes "trace") → IsAsked sub rows Traces
 trace_named None rows r n = absurd cc
@@ -66,7 +64,7 @@ trace_named (Some named) rows r n =
     let not_check : bytes_eq named.0 (codes "check") ≡ false = named_other named (codes "trace") (codes "check") n in
     let not_play : bytes_eq named.0 (codes "play") ≡ false = named_other named (codes "trace") (codes "play") n in
     let test : bytes_eq named.0 (codes "trace") ≡ true = named_as named (codes "trace") n in
-    record { rows_are = rw (not_explain, not_check, not_play, test) (some_is named.1 rows r); runs = rw (not_explain, not_check, not_play) refl }
+    record { rows_are = rw (not_explain, not_check, not_play, test) (same_Some named.1 rows r); runs = rw (not_explain, not_check, not_play) refl }
 
 abbrev wrapped : Text → Option Text
 wrapped t = Some t

@@ -11,7 +11,6 @@ use Rattle.clap.specs.Kinds.{Kinds, or_else}
 use Rattle.clap.specs.Faults.{values_fault, action_fault, use_fault, settle_fault, react_fault, option_fault, long_fault, short_fault, bundle_step_fault, flags_fault, bundle_fault, flag_word_fault, other_fault, word_fault, positional_fault, step_fault, turn_fault, walk_fault, level_fault, stray_fault}
 use Rattle.clap.specs.declared.builder.action.ArgAction.{ArgAction}
 use Rattle.clap.specs.declared.builder.action.ArgAction.TheVariants as action
-use Rattle.clap.specs.declared.error.kind.ErrorKind.{ErrorKind}
 use Rattle.clap.specs.declared.error.kind.ErrorKind.TheVariants as kind
 use Rattle.clap.specs.declared.parser.matches.ValueSource.TheVariants as source
 
@@ -76,9 +75,6 @@ at_no_row id change new (r ∷ rows) none = go (at_no_row id change new rows) (b
     go later true e = absurd (true≢false e)
     go later false e = ap (λ rs. r ∷ rs) (later e)
 
-nil_not_cons : (k : ErrorKind) (ks : Kinds) → [] ≡ k ∷ ks → ⊥
-nil_not_cons k ks e = cc
-
 no_repeat : (b : Bool) (ks : Kinds) → or_else (cond (b && true) (kind.ArgumentConflict ∷ []) []) ks ≡ [] → (b ≡ false) × (ks ≡ [])
 no_repeat true ks e = absurd cc
 no_repeat false ks e = (refl, e)
@@ -103,7 +99,7 @@ module _ (rules : List Rule) where
       let added = at_no_row a.id (more_values source.CommandLine values) (new ∷ []) rows both.0 in
       subst (λ rs. Each (IsRowOf rules) (at_row a.id (more_values source.CommandLine values) (new ∷ []) rs)) (sym same)
       (subst (Each (IsRowOf rules)) (sym added) (each_more (IsRowOf rules) rows new each row))
-  used_row a action.Help values rows among sets each passes = absurd (nil_not_cons _ _ (sym passes))
+  used_row a action.Help values rows among sets each passes = absurd cc
   used_row a action.SetFalse values rows among sets each passes = absurd (true≢false (sym sets))
   used_row a action.Append values rows among sets each passes = absurd (true≢false (sym sets))
   used_row a action.Count values rows among sets each passes = absurd (true≢false (sym sets))

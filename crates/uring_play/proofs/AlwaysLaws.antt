@@ -1,5 +1,6 @@
 -- All bytes tell something.
 use Rattle.std.proofs.Common.{◌≡◌, ℕ, zero, suc, ◌+◌, ◌*◌, ◌-◌, ◌<◌, ◌≤◌, ◌^◌, ltb, eqb, List, [], ◌∷◌, ◌++◌, length, take, drop, get_or, Option, Some, None, Ok, Err, refl, sym, ap, subst, ◌∙◌, append_assoc, arith, length-append, length-drop, reverse, ◌⊎◌, inl, inr}
+use mathlib.Core.List.{head-eq_of_cons-eq}
 use Rattle.std.specs.Prelude.{codes, replicate, pos, MatchOption}
 use Rattle.std.specs.List.{AllByRecursion}
 use Rattle.std.specs.Str.{bytes_eq}
@@ -7,7 +8,7 @@ use Rattle.std.specs.Int.{w64, to_le_bytes, from_le_bytes}
 use Rattle.std.proofs.lemmas.Nat.{le_bytes_8}
 use Rattle.std.proofs.lemmas.Bool.{ltb-true, ltb-false, eqb-true, eqb-false, cases_Bool, true≢false}
 use Rattle.std.proofs.lemmas.Slice.Eq.{bytes_eq-Decides}
-use Rattle.std.proofs.lemmas.List.{append-nil, nil_from_length, take-append-drop, length-take}
+use Rattle.std.proofs.lemmas.List.{append-nil, nil_from_length, take-append-drop, length-take, reverse-append}
 use Rattle.uring_entry.specs.Layout.{Sqe, header, without_data, padded, bytes_of, AreWords}
 use Rattle.uring_entry.specs.declared.opcode.TheConstants.{NOP, FSYNC, ASYNC_CANCEL, ASYNC_CANCEL_ALL, READ, WRITE}
 use Rattle.uring_trace.specs.Lines.{Splits, with_last}
@@ -28,7 +29,6 @@ use Rattle.uring_play.specs.Scripts.{Goes, one_call}
 use Rattle.uring_play.specs.declared.play_fault.PlayFault.TheVariants as fault
 use Rattle.uring_play.proofs.ItemLaws.{bad_is_none, below}
 use Rattle.uring_play.proofs.ScriptLaws.{at_start, so_far, blank_more, item_more, bad_first, long_first, fault_stays}
-use Rattle.uring_play.proofs.Readings.{reverse_more}
 
 -- ---- each form has an entry
 
@@ -130,11 +130,8 @@ named_or (t ∷ u ∷ v ∷ more) = inr (λ token e. absurd (let no : t ∷ u �
 named_or (t ∷ u ∷ []) =
     elim (cases_Bool (bytes_eq t (codes "bad"))) [
       | inl is ↦ inl (u, ap (λ (l : List ℕ). l ∷ u ∷ []) ((bytes_eq-Decides t (codes "bad")).0 is))
-      | inr not ↦ inr (λ token e. absurd (true≢false (sym ((bytes_eq-Decides t (codes "bad")).1 (first_is t (codes "bad") (u ∷ []) (token ∷ []) e)) ∙ not)))
+      | inr not ↦ inr (λ token e. absurd (true≢false (sym ((bytes_eq-Decides t (codes "bad")).1 (head-eq_of_cons-eq e)) ∙ not)))
     ]
-  where
-    first_is : (a b : List ℕ) (xs ys : List (List ℕ)) → a ∷ xs ≡ b ∷ ys → a ≡ b
-    first_is a b xs ys e = cc
 
 item_or : (size : ℕ) (tokens : List (List ℕ)) → ((i : Item) × SpellsItem size tokens i) ⊎ IsNoItem size tokens
 item_or size tokens =
@@ -195,7 +192,7 @@ step size lines line (inl s) =
 -- lines, the newest first
 stands : (size : ℕ) (lines : List (List ℕ)) → Stands size (reverse lines)
 stands size [] = inl (0, [], [], at_start size)
-stands size (line ∷ lines) = subst (Stands size) (sym (reverse_more line lines)) (step size (reverse lines) line (stands size lines))
+stands size (line ∷ lines) = subst (Stands size) (sym (reverse-append (line ∷ []) lines)) (step size (reverse lines) line (stands size lines))
 
 tells : (size : ℕ) (lines : List (List ℕ)) → Stands size lines → (told : Told) × Tells size lines told
 tells size lines (inl s) = (Ok (s.1 ++ one_call s.2), so_far size lines s.0 s.1 s.2 s.3)

@@ -1,5 +1,6 @@
 -- What the tokens of an item's line spell.
 use Rattle.std.proofs.Common.{◌≡◌, ℕ, ◌<◌, ◌≤◌, ◌^◌, false, List, [], ◌∷◌, length, sym, ap, subst, ◌∙◌, arith}
+use mathlib.Core.List.{head-eq_of_cons-eq, tail-eq_of_cons-eq}
 use Rattle.std.specs.Prelude.{codes}
 use Rattle.std.proofs.lemmas.Bool.{ne_eqb}
 use Rattle.uring_trace.specs.Tokens.{tokens_of}
@@ -13,12 +14,8 @@ use Rattle.uring_play.specs.ItemLines.{SpellsItem, IsItemLine}
 use Rattle.uring_play.specs.Calls.{is_blank}
 use Rattle.uring_play.specs.LineReads.{IsNoBadWord, IsNoItem}
 
--- the first byte of the first token
-first_byte : (a b : ℕ) (us vs : List ℕ) (xs ys : List (List ℕ)) → (a ∷ us) ∷ xs ≡ (b ∷ vs) ∷ ys → a ≡ b
-first_byte a b us vs xs ys e = cc
-
 other_name : (b : ℕ) (us vs : List ℕ) (xs ys : List (List ℕ)) → (98 ≡ b → ⊥) → (98 ∷ us) ∷ xs ≡ (b ∷ vs) ∷ ys → ⊥
-other_name b us vs xs ys other e = other (first_byte 98 b us vs xs ys e)
+other_name b us vs xs ys other e = other cc
 
 -- no form is named so
 no_form : (f : Form) (flags : List ℕ) (rest : List (List ℕ)) → codes "bad" ∷ rest ≡ spelled f flags → ⊥
@@ -34,14 +31,11 @@ no_form (form.Raw bytes) flags rest e = other_name _ _ _ _ _ (λ n. omega arith)
 pub no_entry : (rest : List (List ℕ)) (entry : Sqe) → SpellsEntry (codes "bad" ∷ rest) entry → ⊥
 no_entry rest entry h = no_form h.form h.spells.0 rest h.spells.2
 
-second_same : (a b : List ℕ) (name : List ℕ) → name ∷ a ∷ [] ≡ name ∷ b ∷ [] → a ≡ b
-second_same a b name e = cc
-
 -- `bad` and a token that is no such word
 pub bad_is_none : (size : ℕ) (token : List ℕ) (tokens : List (List ℕ)) → tokens ≡ codes "bad" ∷ token ∷ [] → IsNoBadWord size token → IsNoItem size tokens
 bad_is_none size token tokens is none (item.Entry entry) h = no_entry (token ∷ []) entry (subst (λ (l : List (List ℕ)). SpellsEntry l entry) is h)
 bad_is_none size token tokens is none (item.Bad word) h =
-    let same : h.0 ≡ token = second_same h.0 token (codes "bad") (sym h.1 ∙ is) in
+    let same : h.0 ≡ token = head-eq_of_cons-eq (tail-eq_of_cons-eq (sym h.1 ∙ is)) in
     none word (subst (λ (t : List ℕ). SpellsNumber (2 ^ 32) t word) same h.2, h.3)
 
 -- a number below the size
@@ -57,7 +51,7 @@ item_once size tokens (item.Entry a) (item.Entry b) h k = ap (λ (e : Sqe). item
 item_once size tokens (item.Entry a) (item.Bad word) h k = absurd (no_entry (k.0 ∷ []) a (subst (λ (l : List (List ℕ)). SpellsEntry l a) k.1 h))
 item_once size tokens (item.Bad word) (item.Entry b) h k = absurd (no_entry (h.0 ∷ []) b (subst (λ (l : List (List ℕ)). SpellsEntry l b) h.1 k))
 item_once size tokens (item.Bad word) (item.Bad other) h k =
-    let same : h.0 ≡ k.0 = second_same h.0 k.0 (codes "bad") (sym h.1 ∙ k.1) in
+    let same : h.0 ≡ k.0 = head-eq_of_cons-eq (tail-eq_of_cons-eq (sym h.1 ∙ k.1)) in
     ap (λ (w : ℕ). item.Bad w) (number_once k.0 word other (subst (λ (t : List ℕ). SpellsNumber (2 ^ 32) t word) same h.2) k.2)
 
 pub line_once : (size : ℕ) (line : List ℕ) (i j : Item) → IsItemLine size line i → IsItemLine size line j → i ≡ j

@@ -32,9 +32,6 @@ given_of kept (Some bytes) is short line e =
 abbrev pub Takes : Option (Bor (List ℕ)) → Script → Script → Type 0
 Takes given old new = (size : ℕ) (lines : List (List ℕ)) (text : List ℕ) → IsGiven text given → Gathers size lines old → Gathers size (lines ++ text ∷ []) new
 
-pub reverse_more : (line : List ℕ) (lines : List (List ℕ)) → reverse (line ∷ lines) ≡ reverse lines ++ line ∷ []
-reverse_more line lines = reverse-append (line ∷ []) lines
-
 -- the end of a line
 pub took_line : (size : ℕ) (kept : KeptLine) (old new : Script) (given : Option (Bor (List ℕ))) (before : List ℕ) → ((line : List ℕ) → kept ≡ kept_of line → IsGiven line given) → Takes given old new → Holds size kept old before → Holds size (kept_of []) new (before ++ 10 ∷ [])
 took_line size kept old new given before is takes h = record {
@@ -42,7 +39,7 @@ took_line size kept old new given before is takes h = record {
   line = [];
   splits = split_end before h.ended h.line h.splits;
   keeps = refl;
-  gathers = subst (λ (l : List (List ℕ)). Gathers size l new) (sym (reverse_more h.line h.ended)) (takes size (reverse h.ended) h.line (is h.line h.keeps) h.gathers);
+  gathers = subst (λ (l : List (List ℕ)). Gathers size l new) (sym (reverse-append (h.line ∷ []) h.ended)) (takes size (reverse h.ended) h.line (is h.line h.keeps) h.gathers);
 }
 
 -- ---- the end of the input
@@ -64,7 +61,7 @@ pub ended_last : (size : ℕ) (kept : KeptLine) (old new : Script) (given : Opti
 ended_last size kept old new given answer bytes is some takes ends h =
     let lines : List (List ℕ) = reverse (h.line ∷ h.ended) in
     let all : reverse (with_last h.ended h.line) ≡ reverse (h.line ∷ h.ended) = ap (λ (l : List (List ℕ)). reverse l) (last_some h.ended h.line (some h.line h.keeps)) in
-    let gathers : Gathers size (reverse (h.line ∷ h.ended)) new = subst (λ (l : List (List ℕ)). Gathers size l new) (sym (reverse_more h.line h.ended)) (takes size (reverse h.ended) h.line (is h.line h.keeps) h.gathers) in
+    let gathers : Gathers size (reverse (h.line ∷ h.ended)) new = subst (λ (l : List (List ℕ)). Gathers size l new) (sym (reverse-append (h.line ∷ []) h.ended)) (takes size (reverse h.ended) h.line (is h.line h.keeps) h.gathers) in
     returned size bytes (reverse (h.line ∷ h.ended)) answer (record { ended = h.ended; rest = h.line; splits = h.splits; all = sym all }) (ends size (reverse (h.line ∷ h.ended)) gathers)
 
 -- no last line has begun

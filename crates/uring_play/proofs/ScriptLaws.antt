@@ -13,9 +13,6 @@ use Rattle.uring_play.specs.Scripts.{Goes, IsAt, one_call, Gathers, EndsCall, Ad
 use Rattle.uring_play.proofs.ItemLaws.{item_not_blank}
 use Rattle.uring_play.proofs.CallLaws.{onto_last, split_yes, split_no, last_is, calls_more, items_more, as_many, last_of}
 
-longer : (lines : List (List ℕ)) (line : List ℕ) (n : ℕ) → n ≡ length lines → n + 1 ≡ length (lines ++ line ∷ [])
-longer lines line n e = omega (arith, length-append lines (line ∷ []))
-
 -- no line yet
 pub at_start : (size : ℕ) → Goes size [] 0 [] []
 at_start size = record { number_is = refl; ended = []; last = []; blocks = refl; calls_are = tt; call_is = record { lines_are = tt; fits = omega arith } }
@@ -27,7 +24,7 @@ so_far size lines n calls call h = subst (λ (b : List (List (List ℕ))). AreCa
 -- an empty line
 pub blank_more : (size : ℕ) (lines : List (List ℕ)) (line : List ℕ) (n : ℕ) (calls : List (List Item)) (call : List Item) → line ≡ [] → Goes size lines n calls call → Goes size (lines ++ line ∷ []) (n + 1) (calls ++ one_call call) []
 blank_more size lines line n calls call none h = record {
-  number_is = longer lines line n h.number_is;
+  number_is = omega (arith, h.number_is, length-append lines (line ∷ []));
   ended = h.ended ++ h.last ∷ [];
   last = [];
   blocks = split_yes is_blank lines line (ap is_blank none) ∙ ap (λ (b : List (List (List ℕ))). b ++ [] ∷ []) h.blocks;
@@ -38,7 +35,7 @@ blank_more size lines line n calls call none h = record {
 -- an item
 pub item_more : (size : ℕ) (lines : List (List ℕ)) (line : List ℕ) (n : ℕ) (calls : List (List Item)) (call : List Item) (i : Item) → IsItemLine size line i → length call < size → Goes size lines n calls call → Goes size (lines ++ line ∷ []) (n + 1) calls (call ++ i ∷ [])
 item_more size lines line n calls call i is lt h = record {
-  number_is = longer lines line n h.number_is;
+  number_is = omega (arith, h.number_is, length-append lines (line ∷ []));
   ended = h.ended;
   last = h.last ++ line ∷ [];
   blocks = split_no is_blank lines line (item_not_blank size line i is) ∙ ap (onto_last line) h.blocks ∙ last_is line h.ended h.last;

@@ -1,7 +1,6 @@
 -- What is sent and taken in, as a result is taken in: the operation is the last of its worker's, and all else stays.
 use Rattle.std.proofs.Common.{◌≡◌, ℕ, ◌+◌, ◌<◌, arith, Bool, true, false, List, [], ◌∷◌, ◌++◌, length, if◌then◌else◌, refl, sym, subst, ap, ap₂, ◌∙◌}
-use Rattle.std.specs.Prelude.{slice_index_or, Result, Ok, Err, IfOk, OnOk, OnErr}
-use Rattle.std.specs.Result.{IsErr}
+use Rattle.std.specs.Prelude.{slice_index_or, Result, Ok, Err, OnErr}
 use mathlib.Core.List.{IsPrefix}
 use Rattle.std.proofs.lemmas.List.{map-append, length_push}
 use Rattle.uring_entry.specs.Preparation.{operation_of}
@@ -142,15 +141,6 @@ collects_no_more a b c workers place n seen true e few p q = absurd (let f : tru
 pub on_err : {X E P : Type 0} (result : Result X E) → P → OnErr result P
 on_err (Ok x) p = tt
 on_err (Err e) p = p
-
--- nothing is said of a value where there is none
-pub not_ok : {X E : Type 0} (result : Result X E) (P : X → Type 0) → IsErr result → IfOk result P
-not_ok (Ok x) P is = absurd cc
-not_ok (Err e) P is = tt
-
-pub not_on_ok : {X E : Type 0} (result : Result X E) (P : Type 0) → IsErr result → OnOk result P
-not_on_ok (Ok x) P is = absurd cc
-not_on_ok (Err e) P is = tt
 
 -- All that wait.
 

@@ -1,6 +1,6 @@
 -- The loop that takes in all results that wait at a worker: some were taken in, and the others wait.
 use Rattle.std.proofs.Common.{◌≡◌, ℕ, ◌+◌, ◌<◌, ◌≤◌, List, [], ◌∷◌, ◌++◌, length, map, refl, sym, subst, ap, ◌∙◌, arith, append_assoc, append-nil}
-use Rattle.std.proofs.lemmas.List.{length-append, length-map, map-append}
+use Rattle.std.proofs.lemmas.List.{length-append, length-map, map-append, nil_from_length}
 use Rattle.uring_threads.specs.declared.job.JobResult.{JobResult}
 use Rattle.uring_threads.specs.Collected.{TakesAll, Wait}
 use Rattle.uring_threads.specs.Kept.{Kept, Grows}
@@ -56,9 +56,6 @@ pub drained : (first a : Kept) (seen known before received : List JobResult) (co
 drained first a seen known before received count d all_counted =
     let all = ap length d.all ∙ length-append d.taken known in
     let counted = d.counted in
-    let none : known ≡ [] = none_left known (omega arith) in
+    let none : known ≡ [] = nil_from_length known (omega arith) in
     let whole : d.taken ≡ seen = sym (d.all ∙ ap (λ rs. d.taken ++ rs) none ∙ append-nil d.taken) in
-    (subst (TakesAll first a) whole d.recorded, d.came ∙ ap (λ rs. before ++ rs) whole, none) where
-      none_left : (rs : List JobResult) → length rs ≡ 0 → rs ≡ []
-      none_left [] e = refl
-      none_left (r ∷ rs) e = absurd (omega (arith, e))
+    (subst (TakesAll first a) whole d.recorded, d.came ∙ ap (λ rs. before ++ rs) whole, none)

@@ -1,7 +1,7 @@
 -- What is reported once all ends are settled, from what ties them to the trace.
 use Rattle.std.proofs.Common.{◌≡◌, ◌↔◌, ℕ, ℤ, zero, suc, ◌+◌, ◌<◌, ◌≤◌, ◌==◌, Bool, Some, true, false, List, [], ◌∷◌, ◌++◌, length, map, take, drop, sum, get_or, All, count_by, if◌then◌else◌, refl, sym, subst, ap, ap₂, ◌∙◌, arith, inl, inr, append_assoc, append-nil, length-drop}
 use Rattle.std.specs.List.{list_any}
-use Rattle.std.proofs.Math.Seq.{drop-append_seam}
+use Rattle.std.proofs.Math.Seq.{drop-append_seam, take-append_seam}
 use Rattle.std.proofs.lemmas.Bool.{or_cases, or_left, or_right}
 use Rattle.std.proofs.lemmas.Grind.{flat_map-append}
 use Rattle.std.proofs.lemmas.List.{map-append, length-map, length-append, take_more, take_all}
@@ -211,10 +211,7 @@ few_unreaped a b rs most all few =
 
 -- a list behind which others stand is taken whole
 pub take_whole : {X : Type 0} (n : ℕ) (xs others : List X) → length xs ≡ n → take n (xs ++ others) ≡ xs
-take_whole n xs others same = subst (λ m. take m (xs ++ others) ≡ xs) same (whole xs others) where
-  whole : {X : Type 0} (xs others : List X) → take (length xs) (xs ++ others) ≡ xs
-  whole [] others = refl
-  whole (x ∷ xs) others = ap (λ ys. x ∷ ys) (whole xs others)
+take_whole n xs others same = subst (λ m. take m (xs ++ others) ≡ xs) same (take-append_seam xs others)
 
 -- lanes that are lent are written back whole
 pub lanes_back : (n : ℕ) (old lent new : List WorkLanes) → lent ≡ old → AreSameLanes lent new → length old ≡ n → take n (new ++ drop (length new) old) ≡ new

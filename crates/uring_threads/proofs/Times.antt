@@ -1,7 +1,7 @@
 -- How often a test passes in a list, counted by the list's form: in two lists together, and with one more element.
-use Rattle.std.proofs.Common.{◌≡◌, ℕ, ◌+◌, ◌≤◌, List, [], ◌∷◌, ◌++◌, Bool, true, false, cond, count_by, Option, Some, None, refl, ap, arith, inl, inr}
+use Rattle.std.proofs.Common.{◌≡◌, ℕ, ◌+◌, ◌≤◌, List, [], ◌∷◌, ◌++◌, Bool, true, false, cond, count_by, Option, Some, None, refl, arith, inl, inr}
 use Rattle.std.specs.List.{list_any}
-use Rattle.std.proofs.lemmas.Bool.{or_cases, or_left, or_right, or_parts, cases_Bool}
+use Rattle.std.proofs.lemmas.Bool.{or_cases, or_left, or_right, or_parts, cases_Bool, cond-true, cond-false}
 use Rattle.std.proofs.lemmas.List.Sums.{sum_by-cons}
 use Rattle.uring_laws.specs.Direct.{with_told}
 
@@ -18,19 +18,12 @@ pub times-counts : {X : Type 0} (p : X → Bool) (xs : List X) → times p xs �
 times-counts p [] = refl
 times-counts p (x ∷ xs) = omega (arith, times-counts p xs, sum_by-cons (λ y. cond (p y) 1 0) x xs)
 
--- an element that passes, and one that doesn't
-pub one_here : {X : Type 0} (p : X → Bool) (x : X) → p x ≡ true → ◌≡◌ {A = ℕ} (cond (p x) 1 0) 1
-one_here p x e = ap (λ b. cond b 1 0) e
-
-pub none_here : {X : Type 0} (p : X → Bool) (x : X) → p x ≡ false → ◌≡◌ {A = ℕ} (cond (p x) 1 0) 0
-none_here p x e = ap (λ b. cond b 1 0) e
-
 -- some element passes exactly if that isn't 0
 pub times-some : {X : Type 0} (p : X → Bool) (xs : List X) → list_any p xs ≡ true → 1 ≤ times p xs
 times-some p [] e = absurd (let f : false ≡ true = e in cc)
 times-some p (x ∷ xs) e =
     elim (or_cases _ _ e) [
-      | inl here ↦ let one = one_here p x here in omega arith
+      | inl here ↦ let one = cond-true {A = ℕ} (p x) 1 0 here in omega arith
       | inr later ↦ omega (arith, times-some p xs later)
     ]
 
@@ -39,7 +32,7 @@ times-any p [] some = absurd (omega arith)
 times-any p (x ∷ xs) some =
     elim (cases_Bool (p x)) [
       | inl here ↦ or_left _ _ here
-      | inr other ↦ let none = none_here p x other in or_right _ _ (times-any p xs (omega arith))
+      | inr other ↦ let none = cond-false {A = ℕ} (p x) 1 0 other in or_right _ _ (times-any p xs (omega arith))
     ]
 
 -- what is told comes behind what was told
@@ -52,5 +45,5 @@ pub none_passes : {X : Type 0} (p : X → Bool) (xs : List X) → list_any p xs 
 none_passes p [] e = refl
 none_passes p (x ∷ xs) e =
     let parts = or_parts _ _ e in
-    let none = none_here p x parts.0 in
+    let none = cond-false {A = ℕ} (p x) 1 0 parts.0 in
     omega (arith, none_passes p xs parts.1)

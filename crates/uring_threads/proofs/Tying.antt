@@ -181,11 +181,6 @@ tied_shut a b x before after i ready g called tied pulled =
 pub takes_shut : (a b : Kept) (x : Answer) → Grows a b (step.Close, x) → TakesIn a b 0
 takes_shut a b x g = takes_close a b (appends_one a b (step.Close, x) close_counted g refl)
 
--- what holds in any case holds of an error
-pub on_err : {A E : Type 0} (r : Result A E) (P : Type 0) → P → OnErr r P
-on_err (Ok x) P p = tt
-on_err (Err e) P p = p
-
 -- what a pull took in behind a retry
 pub ok_then : {E : Type 0} (r : Result ℕ E) (a b c : Kept) → TakesIn a b 0 → IfOk r (λ n. TakesIn b c n) → IfOk r (λ n. TakesIn a c n)
 ok_then (Ok n) a b c p q = takes_then a b c 0 n n p q (omega arith)

@@ -20,6 +20,7 @@ use Rattle.uring_trace.specs.KeptLine.{KeptLine, kept_of}
 use Rattle.uring_trace.specs.Remarks.{is_remark}
 use Rattle.uring_trace.specs.Sessions.{with_event}
 use Rattle.std.specs.Prelude.{codes}
+use Rattle.std.proofs.Math.Bool.{or-false, or-true, or_comm}
 use Rattle.uring_trace.specs.Questions.{IsQuestion, IsNoQuestion}
 use Rattle.uring_trace.specs.declared.questions.Question.{Question}
 use Rattle.uring_trace.specs.Explanations.{Saying, Made, Asked, Bad, event_in, lines_in, events_in, Explains, ExplainsWhole, ExplainsEnded, ExplainsBeginning, told_of, noted_of, bad_note, line_number, is_bad}
@@ -30,14 +31,6 @@ use Rattle.uring_trace.proofs.Sessions.{split_more, split_end, split_whole, one_
 pub if_ok_both : {T E : Type 0} (r : Result T E) (P Q R : T → Type 0) → ((x : T) → P x → Q x → R x) → IfOk r P → IfOk r Q → IfOk r R
 if_ok_both (Ok x) P Q R f a b = f x a b
 if_ok_both (Err e) P Q R f a b = tt
-
-pub or_false : (b : Bool) → b ≡ (b || false)
-or_false true = refl
-or_false false = refl
-
-or_true : (b : Bool) → true ≡ (b || true)
-or_true true = refl
-or_true false = refl
 
 -- an answer and what is kept of its reason, with the end of the line
 pub line_reasoned : (before one two three : List ℕ) (answer : Answer) (why w : Option Why) (found f : Option Found) (kept : Option Reason)
@@ -57,7 +50,7 @@ line_made old new number bad line before after notes step is t = record {
   read = is;
   told = t.told;
   noted = sym (append-nil notes);
-  bad_line = or_false bad;
+  bad_line = sym (or-false bad);
   same = t.same;
   fits = t.fits;
 }
@@ -68,7 +61,7 @@ line_asked m number bad line before after notes question is tells = record {
   read = is;
   told = tells;
   noted = sym (append-nil notes);
-  bad_line = or_false bad;
+  bad_line = sym (or-false bad);
   same = refl;
   fits = λ h f. f;
 }
@@ -80,7 +73,7 @@ line_bad m number was_bad line before after notes notes' is remark none told not
   read = (is, remark, none);
   told = λ h f. told;
   noted = noted;
-  bad_line = or_true was_bad;
+  bad_line = sym (or-true was_bad);
   same = refl;
   fits = λ h f. f;
 }
@@ -99,12 +92,6 @@ explain_byte setup m kept kept' number bad before text notes b ne more h = recor
   same = h.same;
   fits = h.fits;
 }
-
-or_comes : (a b : Bool) → (a || b) ≡ (b || a)
-or_comes true true = refl
-or_comes true false = refl
-or_comes false true = refl
-or_comes false false = refl
 
 -- one line more
 explained_more : (setup : Setup) (m m' : Machine) (number : ℕ) (was_bad bad : Bool) (xs : List Saying) (line text before after notes noted noted' : List ℕ) → Explains setup xs (text ++ before) (notes ++ noted) → number ≡ line_number (length xs) → m.core.setup ≡ setup → Fits m (history_of (events_in xs)) → (a : AppendsLine m m' number was_bad bad line before after noted noted')
@@ -129,7 +116,7 @@ explained_more setup m m' number was_bad bad xs line text before after notes not
 bad_more : (m m' : Machine) (number : ℕ) (was_bad bad : Bool) (xs : List Saying) (line before after noted noted' : List ℕ) → was_bad ≡ list_any (λ x. is_bad x.said) xs → (a : AppendsLine m m' number was_bad bad line before after noted noted')
     → bad ≡ list_any (λ x. is_bad x.said) (record { line = line; said = a.said } ∷ xs)
 bad_more m m' number was_bad bad xs line before after noted noted' was a =
-    a.bad_line ∙ ap (λ b. b || is_bad a.said) was ∙ or_comes (list_any (λ x. is_bad x.said) xs) (is_bad a.said)
+    a.bad_line ∙ ap (λ b. b || is_bad a.said) was ∙ or_comm (list_any (λ x. is_bad x.said) xs) (is_bad a.said)
 
 -- a line that has its end
 pub explain_line : (setup : Setup) (m m' : Machine) (kept : KeptLine) (number number' : ℕ) (was_bad bad : Bool) (bytes text before after notes noted noted' : List ℕ) → number' ≡ min (number + 1) (2 ^ 64 - 1)

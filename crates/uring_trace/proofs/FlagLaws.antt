@@ -9,9 +9,10 @@ use Rattle.std.proofs.lemmas.Bool.{eqb-true, eqb-false, ne_eqb, cases_eq, cases_
 use Rattle.std.proofs.lemmas.List.Sums.{sum_by-cons}
 use Rattle.std.proofs.lemmas.Nat.{and_or_self, and_or_apart, or_disjoint}
 use Rattle.std.proofs.lemmas.Slice.Eq.{bytes_eq-Decides}
+use Rattle.std.proofs.lemmas.Option.{same_Some}
 use Rattle.uring_trace.specs.Tokens.{flag_value, NoneAgain, AreFlags}
 use Rattle.uring_trace.specs.Reading.{letters_of, flags_of}
-use Rattle.uring_trace.proofs.Options.{chosen, some_is}
+use Rattle.uring_trace.proofs.Options.{chosen}
 
 -- the letters of flags
 abbrev IsLetter : ℕ → Type 0
@@ -114,7 +115,7 @@ apart_before flags b (c ∷ token) h l a =
 
 read_letters : (flags : ℕ) (token : List ℕ) (all : ℕ) → letters_of flags token ≡ Some all → IsRead flags token all
 unfolding letters_of
-read_letters flags [] all e = record { letters = tt; once = tt; apart = tt; sum = omega (arith, some_is flags all e) }
+read_letters flags [] all e = record { letters = tt; once = tt; apart = tt; sum = omega (arith, same_Some flags all e) }
 read_letters flags (b ∷ token) all e =
     elim (chosen (eqb (flag_value b) 0) None (cond (eqb (bit_and flags (flag_value b)) 0) (letters_of (bit_or flags (flag_value b)) token) None) (Some all) e) [
       | inl p ↦ absurd (let no : None ≡ Some all = p.1 in cc)
@@ -133,9 +134,6 @@ read_letters flags (b ∷ token) all e =
             }
       ]
     ]
-
-zero_and : (n : ℕ) → bit_and 0 n ≡ 0
-zero_and n = and_zero_l n
 
 not_empty : (token : List ℕ) → bytes_eq token [] ≡ false → 0 < length token
 not_empty [] e = absurd cc
@@ -158,13 +156,13 @@ letters_no_dash b token h =
 
 none_apart : (token : List ℕ) → AreApart 0 token
 none_apart [] = tt
-none_apart (b ∷ token) = (zero_and (flag_value b), none_apart token)
+none_apart (b ∷ token) = (and_zero_l (flag_value b), none_apart token)
 
 pub flags_found : (token : List ℕ) (flags : ℕ) → flags_of token ≡ Some flags → AreFlags token flags
 unfolding flags_of
 flags_found token flags e =
     elim (chosen (bytes_eq token (codes "-")) (Some 0) (cond (bytes_eq token []) None (letters_of 0 token)) (Some flags) e) [
-      | inl p ↦ inl ((bytes_eq-Decides token (codes "-")).0 p.0, sym (some_is 0 flags p.1))
+      | inl p ↦ inl ((bytes_eq-Decides token (codes "-")).0 p.0, sym (same_Some 0 flags p.1))
       | inr p ↦ elim (chosen (bytes_eq token []) None (letters_of 0 token) (Some flags) p.1) [
         | inl q ↦ absurd (let no : None ≡ Some flags = q.1 in cc)
         | inr q ↦

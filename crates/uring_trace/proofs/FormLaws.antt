@@ -1,13 +1,14 @@
 -- The form that is read of tokens is the one that they spell.
-use Rattle.std.proofs.Common.{◌≡◌, ℕ, ◌^◌, cond, List, [], ◌∷◌, Option, Some, None, refl, sym, ap, subst, ◌∙◌, arith, inl, inr}
+use Rattle.std.proofs.Common.{◌≡◌, ℕ, ◌^◌, cond, List, [], ◌∷◌, Option, Some, None, refl, sym, ap, subst, ◌∙◌, arith, inl, inr, ap₂}
 use Rattle.std.specs.Prelude.{codes, ℤ}
 use Rattle.std.specs.Option.{option_map}
 use Rattle.std.specs.Str.{bytes_eq}
 use Rattle.std.proofs.lemmas.Slice.Eq.{bytes_eq-Decides}
+use Rattle.std.proofs.lemmas.Option.{same_Some}
 use Rattle.uring_trace.specs.Spelling.{Form, spelled, IsForm, SpellsForm, IsFile, AreBytes}
 use Rattle.uring_trace.specs.Spelling as form
 use Rattle.uring_trace.specs.Reading.{◌>>=◌, number_of, file_of, flags_of, data_of, hex_of, nop_of, fsync_of, read_of, write_of, cancel_of, cancel_all_of, op_of, raw_of, bytes_form_of, form_of}
-use Rattle.uring_trace.proofs.Options.{bind_some, chosen, some_is}
+use Rattle.uring_trace.proofs.Options.{bind_some, chosen, mapped}
 use Rattle.uring_trace.proofs.NumberLaws.{number_found, number_again, file_found, file_again}
 use Rattle.uring_trace.proofs.FlagLaws.{flags_found, flags_again}
 use Rattle.uring_trace.proofs.HexLaws.{hex_found, hex_again, data_found, data_again}
@@ -20,21 +21,8 @@ named name text P a other y e here there =
       | inr p ↦ there p.1
     ]
 
-ap1 : (f : List ℕ → List (List ℕ)) {a b : List ℕ} → a ≡ b → f a ≡ f b
-ap1 f p = ap f p
-
-ap2 : (f : List ℕ → List ℕ → List (List ℕ)) {a b c d : List ℕ} → a ≡ b → c ≡ d → f a c ≡ f b d
-ap2 f {a} {b} {c} {d} p q = ap (λ (x : List ℕ). f x c) p ∙ ap (f b) q
-
-ap3 : (f : List ℕ → List ℕ → List ℕ → List (List ℕ)) {a b c d x y : List ℕ} → a ≡ b → c ≡ d → x ≡ y → f a c x ≡ f b d y
-ap3 f {a} {b} {c} {d} {x} {y} p q r = ap (λ (z : List ℕ). f z c x) p ∙ ap2 (f b) q r
-
 ap4 : (f : List ℕ → List ℕ → List ℕ → List ℕ → List (List ℕ)) {a b c d x y u v : List ℕ} → a ≡ b → c ≡ d → x ≡ y → u ≡ v → f a c x u ≡ f b d y v
-ap4 f {a} {b} {c} {d} {x} {y} {u} {v} p q r s = ap (λ (z : List ℕ). f z c x u) p ∙ ap3 (f b) q r s
-
-pub mapped : {A B : Type 0} (f : A → B) (o : Option A) (y : B) → option_map f o ≡ Some y → (x : A) × (o ≡ Some x) × (f x ≡ y)
-mapped f None y e = absurd cc
-mapped f (Some x) y e = (x, refl, some_is (f x) y e)
+ap4 f {a} {b} {c} {d} {x} {y} {u} {v} p q r s = ap₂ (λ (z w : List ℕ). f z w x u) p q ∙ ap₂ (f b d) r s
 
 nop_found : (tokens : List (List ℕ)) (f : Form) → nop_of tokens ≡ Some f → SpellsForm (codes "nop" ∷ tokens) f
 unfolding nop_of
@@ -45,8 +33,8 @@ nop_found (ud ∷ fl ∷ []) f e =
     let s1 = bind_some (flags_of fl) (λ x1. Some (form.Nop s0.0 x1)) f s0.2 in
     let n0 = number_found (2 ^ 64) ud s0.0 (omega arith) s0.1 in
     let n1 = flags_found fl s1.0 s1.1 in
-    let tokens_are : codes "nop" ∷ ud ∷ fl ∷ [] ≡ spelled (form.Nop s0.0 s1.0) fl = ap1 (λ w0. codes "nop" ∷ w0 ∷ fl ∷ []) n0.0 in
-    subst (SpellsForm (codes "nop" ∷ ud ∷ fl ∷ [])) (some_is (form.Nop s0.0 s1.0) f s1.2) (fl, (n0.1, n1), tokens_are)
+    let tokens_are : codes "nop" ∷ ud ∷ fl ∷ [] ≡ spelled (form.Nop s0.0 s1.0) fl = ap (λ (w0 : List ℕ). codes "nop" ∷ w0 ∷ fl ∷ []) n0.0 in
+    subst (SpellsForm (codes "nop" ∷ ud ∷ fl ∷ [])) (same_Some (form.Nop s0.0 s1.0) f s1.2) (fl, (n0.1, n1), tokens_are)
 nop_found (a ∷ b ∷ c ∷ more) f e = absurd cc
 
 fsync_found : (tokens : List (List ℕ)) (f : Form) → fsync_of tokens ≡ Some f → SpellsForm (codes "fsync" ∷ tokens) f
@@ -61,8 +49,8 @@ fsync_found (ud ∷ fl ∷ file ∷ []) f e =
     let n0 = number_found (2 ^ 64) ud s0.0 (omega arith) s0.1 in
     let n1 = flags_found fl s1.0 s1.1 in
     let n2 = file_found file s2.0 s2.1 in
-    let tokens_are : codes "fsync" ∷ ud ∷ fl ∷ file ∷ [] ≡ spelled (form.Fsync s0.0 s1.0 s2.0) fl = ap2 (λ w0 w2. codes "fsync" ∷ w0 ∷ fl ∷ w2 ∷ []) n0.0 n2.0 in
-    subst (SpellsForm (codes "fsync" ∷ ud ∷ fl ∷ file ∷ [])) (some_is (form.Fsync s0.0 s1.0 s2.0) f s2.2) (fl, (n0.1, n1, n2.1), tokens_are)
+    let tokens_are : codes "fsync" ∷ ud ∷ fl ∷ file ∷ [] ≡ spelled (form.Fsync s0.0 s1.0 s2.0) fl = ap₂ (λ w0 w2. codes "fsync" ∷ w0 ∷ fl ∷ w2 ∷ []) n0.0 n2.0 in
+    subst (SpellsForm (codes "fsync" ∷ ud ∷ fl ∷ file ∷ [])) (same_Some (form.Fsync s0.0 s1.0 s2.0) f s2.2) (fl, (n0.1, n1, n2.1), tokens_are)
 fsync_found (a ∷ b ∷ c ∷ d ∷ more) f e = absurd cc
 
 read_found : (tokens : List (List ℕ)) (f : Form) → read_of tokens ≡ Some f → SpellsForm (codes "read" ∷ tokens) f
@@ -84,7 +72,7 @@ read_found (ud ∷ fl ∷ file ∷ at ∷ count ∷ []) f e =
     let n3 = number_found (2 ^ 64) at s3.0 (omega arith) s3.1 in
     let n4 = number_found (2 ^ 32) count s4.0 (omega arith) s4.1 in
     let tokens_are : codes "read" ∷ ud ∷ fl ∷ file ∷ at ∷ count ∷ [] ≡ spelled (form.Read s0.0 s1.0 s2.0 s3.0 s4.0) fl = ap4 (λ w0 w2 w3 w4. codes "read" ∷ w0 ∷ fl ∷ w2 ∷ w3 ∷ w4 ∷ []) n0.0 n2.0 n3.0 n4.0 in
-    subst (SpellsForm (codes "read" ∷ ud ∷ fl ∷ file ∷ at ∷ count ∷ [])) (some_is (form.Read s0.0 s1.0 s2.0 s3.0 s4.0) f s4.2) (fl, (n0.1, n1, n2.1, n3.1, n4.1), tokens_are)
+    subst (SpellsForm (codes "read" ∷ ud ∷ fl ∷ file ∷ at ∷ count ∷ [])) (same_Some (form.Read s0.0 s1.0 s2.0 s3.0 s4.0) f s4.2) (fl, (n0.1, n1, n2.1, n3.1, n4.1), tokens_are)
 read_found (a ∷ b ∷ c ∷ d ∷ g ∷ h ∷ more) f e = absurd cc
 
 cancel_found : (tokens : List (List ℕ)) (f : Form) → cancel_of tokens ≡ Some f → SpellsForm (codes "cancel" ∷ tokens) f
@@ -99,8 +87,8 @@ cancel_found (ud ∷ fl ∷ other ∷ []) f e =
     let n0 = number_found (2 ^ 64) ud s0.0 (omega arith) s0.1 in
     let n1 = flags_found fl s1.0 s1.1 in
     let n2 = number_found (2 ^ 64) other s2.0 (omega arith) s2.1 in
-    let tokens_are : codes "cancel" ∷ ud ∷ fl ∷ other ∷ [] ≡ spelled (form.Cancel s0.0 s1.0 s2.0) fl = ap2 (λ w0 w2. codes "cancel" ∷ w0 ∷ fl ∷ w2 ∷ []) n0.0 n2.0 in
-    subst (SpellsForm (codes "cancel" ∷ ud ∷ fl ∷ other ∷ [])) (some_is (form.Cancel s0.0 s1.0 s2.0) f s2.2) (fl, (n0.1, n1, n2.1), tokens_are)
+    let tokens_are : codes "cancel" ∷ ud ∷ fl ∷ other ∷ [] ≡ spelled (form.Cancel s0.0 s1.0 s2.0) fl = ap₂ (λ w0 w2. codes "cancel" ∷ w0 ∷ fl ∷ w2 ∷ []) n0.0 n2.0 in
+    subst (SpellsForm (codes "cancel" ∷ ud ∷ fl ∷ other ∷ [])) (same_Some (form.Cancel s0.0 s1.0 s2.0) f s2.2) (fl, (n0.1, n1, n2.1), tokens_are)
 cancel_found (a ∷ b ∷ c ∷ d ∷ more) f e = absurd cc
 
 cancel_all_found : (tokens : List (List ℕ)) (f : Form) → cancel_all_of tokens ≡ Some f → SpellsForm (codes "cancelall" ∷ tokens) f
@@ -115,8 +103,8 @@ cancel_all_found (ud ∷ fl ∷ other ∷ []) f e =
     let n0 = number_found (2 ^ 64) ud s0.0 (omega arith) s0.1 in
     let n1 = flags_found fl s1.0 s1.1 in
     let n2 = number_found (2 ^ 64) other s2.0 (omega arith) s2.1 in
-    let tokens_are : codes "cancelall" ∷ ud ∷ fl ∷ other ∷ [] ≡ spelled (form.CancelAll s0.0 s1.0 s2.0) fl = ap2 (λ w0 w2. codes "cancelall" ∷ w0 ∷ fl ∷ w2 ∷ []) n0.0 n2.0 in
-    subst (SpellsForm (codes "cancelall" ∷ ud ∷ fl ∷ other ∷ [])) (some_is (form.CancelAll s0.0 s1.0 s2.0) f s2.2) (fl, (n0.1, n1, n2.1), tokens_are)
+    let tokens_are : codes "cancelall" ∷ ud ∷ fl ∷ other ∷ [] ≡ spelled (form.CancelAll s0.0 s1.0 s2.0) fl = ap₂ (λ w0 w2. codes "cancelall" ∷ w0 ∷ fl ∷ w2 ∷ []) n0.0 n2.0 in
+    subst (SpellsForm (codes "cancelall" ∷ ud ∷ fl ∷ other ∷ [])) (same_Some (form.CancelAll s0.0 s1.0 s2.0) f s2.2) (fl, (n0.1, n1, n2.1), tokens_are)
 cancel_all_found (a ∷ b ∷ c ∷ d ∷ more) f e = absurd cc
 
 op_found : (tokens : List (List ℕ)) (f : Form) → op_of tokens ≡ Some f → SpellsForm (codes "op" ∷ tokens) f
@@ -131,8 +119,8 @@ op_found (op ∷ ud ∷ fl ∷ []) f e =
     let n0 = number_found (256) op s0.0 (omega arith) s0.1 in
     let n1 = number_found (2 ^ 64) ud s1.0 (omega arith) s1.1 in
     let n2 = flags_found fl s2.0 s2.1 in
-    let tokens_are : codes "op" ∷ op ∷ ud ∷ fl ∷ [] ≡ spelled (form.Op s0.0 s1.0 s2.0) fl = ap2 (λ w0 w1. codes "op" ∷ w0 ∷ w1 ∷ fl ∷ []) n0.0 n1.0 in
-    subst (SpellsForm (codes "op" ∷ op ∷ ud ∷ fl ∷ [])) (some_is (form.Op s0.0 s1.0 s2.0) f s2.2) (fl, (n0.1, n1.1, n2), tokens_are)
+    let tokens_are : codes "op" ∷ op ∷ ud ∷ fl ∷ [] ≡ spelled (form.Op s0.0 s1.0 s2.0) fl = ap₂ (λ w0 w1. codes "op" ∷ w0 ∷ w1 ∷ fl ∷ []) n0.0 n1.0 in
+    subst (SpellsForm (codes "op" ∷ op ∷ ud ∷ fl ∷ [])) (same_Some (form.Op s0.0 s1.0 s2.0) f s2.2) (fl, (n0.1, n1.1, n2), tokens_are)
 op_found (a ∷ b ∷ c ∷ d ∷ more) f e = absurd cc
 
 write_found : (tokens : List (List ℕ)) (f : Form) → write_of tokens ≡ Some f → SpellsForm (codes "write" ∷ tokens) f

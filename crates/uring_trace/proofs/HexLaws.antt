@@ -1,18 +1,19 @@
 -- Bytes are read of just the tokens that are their lower case digits.
-use Rattle.std.proofs.Common.{◌≡◌, ℕ, zero, suc, ◌+◌, ◌-◌, ◌*◌, ◌/◌, ◌%◌, ◌<◌, ◌≤◌, Bool, true, false, cond, ltb, eqb, ◌&&◌, ◌||◌, List, [], ◌∷◌, length, Option, Some, None, Result, Ok, Err, refl, sym, ap, subst, ◌∙◌, arith, inl, inr}
+use Rattle.std.proofs.Common.{◌≡◌, ℕ, zero, suc, ◌+◌, ◌-◌, ◌*◌, ◌/◌, ◌%◌, ◌<◌, ◌≤◌, true, false, cond, ltb, eqb, ◌&&◌, List, [], ◌∷◌, length, Option, Some, None, Result, Ok, Err, refl, sym, ap, subst, ◌∙◌, arith, inl, inr}
 use Rattle.std.specs.Prelude.{codes, slice_index, nat_le}
 use Rattle.std.specs.List.{AllByRecursion, list_any}
 use Rattle.std.specs.Result.{result_ok}
 use Rattle.std.specs.Str.{bytes_eq}
-use Rattle.std.proofs.lemmas.Bool.{ltb-false, le-ltb, eqb-false, ne_eqb, cases_Bool, leb-true, le-leb, and_parts, and_from, both_ways}
+use Rattle.std.proofs.lemmas.Bool.{ltb-false, le-ltb, eqb-false, ne_eqb, cases_Bool, leb-true, le-leb, and_parts, and_from, both_ways, or_parts}
 use Rattle.std.proofs.lemmas.Slice.Eq.{bytes_eq-Decides}
+use Rattle.std.proofs.lemmas.Option.{same_Some}
 use Rattle.hex.specs.declared.error.FromHexError.{FromHexError}
 use Rattle.hex.specs.Hex.{◌>>=◌, IsBytes, decode_sized, decode_of, decode_pairs, pair_value, value_at, digit_or_error, encode_with, encode_lower, lower_digits, hex_digit_value}
 use Rattle.hex.proofs.HexLemmas.{decode_sized-encode_lower, decode_sized-ok, decode_sized-twice, decode_of-ok, decode_of-even, length-encode_with}
 use Rattle.uring_trace.specs.Tokens.{hex_or_dash}
 use Rattle.uring_trace.specs.Spelling.{AreBytes}
 use Rattle.uring_trace.specs.Reading.{is_capital, hex_of, data_of}
-use Rattle.uring_trace.proofs.Options.{test_some, some_is, chosen}
+use Rattle.uring_trace.proofs.Options.{test_some, chosen}
 
 -- the digits, by their values
 letter_at : (w : ℕ) → w < 6 → slice_index lower_digits (10 + w) ≡ 97 + w
@@ -65,10 +66,6 @@ bytes_to : (bytes : List ℕ) → IsBytes bytes → AllByRecursion (λ b. b < 25
 bytes_to [] h = tt
 bytes_to (b ∷ bytes) h = (h 0, bytes_to bytes (λ i. h (suc i)))
 
-none_of_two : (x y : Bool) → (x || y) ≡ false → (x ≡ false) × (y ≡ false)
-none_of_two true y e = absurd cc
-none_of_two false y e = (refl, e)
-
 -- a digit that is no capital letter
 lower_digit : (c v : ℕ) → hex_digit_value c ≡ Some v → is_capital c ≡ false → (slice_index lower_digits v ≡ c) × (v < 16)
 lower_digit c v e small =
@@ -84,7 +81,7 @@ lower_digit c v e small =
             let b = and_parts (nat_le 97 c) (nat_le c 102) q.0 in
             let low : 97 ≤ c = leb-true 97 c b.0 in
             let high : c ≤ 102 = leb-true c 102 b.1 in
-            let value : c - 87 ≡ v = some_is (c - 87) v q.1 in
+            let value : c - 87 ≡ v = same_Some (c - 87) v q.1 in
             let at : v ≡ 10 + (c - 97) = omega arith in
             let back : 97 + (c - 97) ≡ c = omega arith in
             (ap (slice_index lower_digits) at ∙ letter_at (c - 97) (omega arith) ∙ back, omega arith)
@@ -93,7 +90,7 @@ lower_digit c v e small =
             let b = and_parts (nat_le 48 c) (nat_le c 57) t.0 in
             let low : 48 ≤ c = leb-true 48 c b.0 in
             let high : c ≤ 57 = leb-true c 57 b.1 in
-            let value : c - 48 ≡ v = some_is (c - 48) v t.1 in
+            let value : c - 48 ≡ v = same_Some (c - 48) v t.1 in
             let back : 48 + (c - 48) ≡ c = omega arith in
             (ap (slice_index lower_digits) (sym value) ∙ figure_at (c - 48) (omega arith) ∙ back, omega arith)
       ]
@@ -123,8 +120,8 @@ pairs_lower i (a ∷ b ∷ rest) bytes e n =
     let p1 = bind_ok (value_at a i) (λ h. value_at b (i + 1) >>= λ l. Ok (h * 16 + l)) p0.0 p0.1 in
     let p2 = bind_ok (value_at b (i + 1)) (λ l. Ok (p1.0 * 16 + l)) p0.0 p1.2 in
     let p3 = bind_ok (decode_pairs (i + 2) rest) (λ more. Ok (p0.0 ∷ more)) bytes p0.2 in
-    let small = none_of_two (is_capital a) (list_any is_capital (b ∷ rest)) n in
-    let smaller = none_of_two (is_capital b) (list_any is_capital rest) small.1 in
+    let small = or_parts (is_capital a) (list_any is_capital (b ∷ rest)) n in
+    let smaller = or_parts (is_capital b) (list_any is_capital rest) small.1 in
     let high = lower_digit a p1.0 (digit_read a i (hex_digit_value a) p1.0 p1.1) small.0 in
     let low = lower_digit b p2.0 (digit_read b (i + 1) (hex_digit_value b) p2.0 p2.1) smaller.0 in
     let byte : p1.0 * 16 + p2.0 ≡ p0.0 = ok_is (p1.0 * 16 + p2.0) p0.0 p2.2 in
@@ -137,7 +134,7 @@ pairs_lower i (a ∷ b ∷ rest) bytes e n =
     all ∙ ap encode_lower (ok_is (p0.0 ∷ p3.0) bytes p3.2)
 
 ok_from : (r : Result (List ℕ) FromHexError) (bytes : List ℕ) → result_ok r ≡ Some bytes → r ≡ Ok bytes
-ok_from (Ok x) bytes e = ap (λ (l : List ℕ). ok l) (some_is x bytes e)
+ok_from (Ok x) bytes e = ap (λ (l : List ℕ). ok l) (same_Some x bytes e)
 ok_from (Err d) bytes e = absurd cc
 
 pub hex_found : (count : ℕ) (token bytes : List ℕ) → hex_of count token ≡ Some bytes → (token ≡ encode_lower bytes) × AreBytes bytes count count
@@ -178,7 +175,7 @@ unfolding data_of
 data_found token bytes e =
     elim (chosen (bytes_eq token (codes "-")) (Some []) (cond (eqb (length token / 2) 0) None (cond (ltb 64 (length token / 2)) None (hex_of (length token / 2) token))) (Some bytes) e) [
       | inl p ↦
-          let none : [] ≡ bytes = some_is [] bytes p.1 in
+          let none : [] ≡ bytes = same_Some [] bytes p.1 in
           subst (λ (l : List ℕ). (token ≡ hex_or_dash l) × AreBytes l 0 64) none ((bytes_eq-Decides token (codes "-")).0 p.0, record { few = omega arith; enough = omega arith; each = tt })
       | inr p ↦ elim (chosen (eqb (length token / 2) 0) None (cond (ltb 64 (length token / 2)) None (hex_of (length token / 2) token)) (Some bytes) p.1) [
         | inl q ↦ absurd (let no : None ≡ Some bytes = q.1 in cc)

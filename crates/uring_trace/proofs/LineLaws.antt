@@ -1,5 +1,6 @@
 -- Bytes have lines in one way.
 use Rattle.std.proofs.Common.{◌≡◌, ℕ, List, [], ◌∷◌, ◌++◌, refl, sym, ap, subst, ◌∙◌, append_assoc}
+use mathlib.Core.List.{head-eq_of_cons-eq, tail-eq_of_cons-eq}
 use Rattle.std.specs.List.{AllByRecursion}
 use Rattle.uring_trace.specs.Lines.{IsUnbroken, Splits, joined}
 
@@ -8,20 +9,14 @@ broken : (a r : List ℕ) → IsUnbroken (a ++ 10 ∷ r) → ⊥
 broken [] r h = h.0 refl
 broken (b ∷ a) r h = broken a r h.1
 
-pub first_same : (b c : ℕ) (a d : List ℕ) → b ∷ a ≡ c ∷ d → b ≡ c
-first_same b c a d e = cc
-
-pub others_same : (b c : ℕ) (a d : List ℕ) → b ∷ a ≡ c ∷ d → a ≡ d
-others_same b c a d e = cc
-
 -- the last end of a line stands at one place
 last_end : (a b r s : List ℕ) → IsUnbroken r → IsUnbroken s → a ++ 10 ∷ r ≡ b ++ 10 ∷ s → (a ≡ b) × (r ≡ s)
-last_end [] [] r s hr hs e = (refl, others_same 10 10 r s e)
-last_end [] (c ∷ b) r s hr hs e = absurd (broken b s (subst IsUnbroken (others_same 10 c r (b ++ 10 ∷ s) e) hr))
-last_end (x ∷ a) [] r s hr hs e = absurd (broken a r (subst IsUnbroken (sym (others_same x 10 (a ++ 10 ∷ r) s e)) hs))
+last_end [] [] r s hr hs e = (refl, tail-eq_of_cons-eq e)
+last_end [] (c ∷ b) r s hr hs e = absurd (broken b s (subst IsUnbroken (tail-eq_of_cons-eq e) hr))
+last_end (x ∷ a) [] r s hr hs e = absurd (broken a r (subst IsUnbroken (sym (tail-eq_of_cons-eq e)) hs))
 last_end (x ∷ a) (c ∷ b) r s hr hs e =
-    let same = last_end a b r s hr hs (others_same x c (a ++ 10 ∷ r) (b ++ 10 ∷ s) e) in
-    (ap (λ (y : ℕ). y ∷ a) (first_same x c (a ++ 10 ∷ r) (b ++ 10 ∷ s) e) ∙ ap (λ (l : List ℕ). c ∷ l) same.0, same.1)
+    let same = last_end a b r s hr hs (tail-eq_of_cons-eq e) in
+    (ap (λ (y : ℕ). y ∷ a) (head-eq_of_cons-eq e) ∙ ap (λ (l : List ℕ). c ∷ l) same.0, same.1)
 
 -- the newest line, between what stands before it and behind it
 newest : (line rest : List ℕ) (before : List (List ℕ)) → joined (line ∷ before) ++ rest ≡ (joined before ++ line) ++ 10 ∷ rest

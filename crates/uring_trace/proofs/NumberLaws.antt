@@ -9,9 +9,10 @@ use Rattle.std.specs.Fmt.{decimal, signed_decimal}
 use Rattle.std.proofs.lemmas.Bool.{ltb-true, lt-ltb, eqb-true, eq-eqb, ne_eqb, cases_eq}
 use Rattle.std.proofs.lemmas.Fmt.{decimal-digits_value, digits_decimal, first_decimal, decimal_nonempty, decimal_digit, decimal_is_IsNumeral}
 use Rattle.std.proofs.lemmas.Str.Parse.{digit_at}
+use Rattle.std.proofs.lemmas.Option.{same_Some}
 use Rattle.uring_trace.specs.Spelling.{IsFile}
 use Rattle.uring_trace.specs.Reading.{◌>>=◌, is_numeral, number_of, negative_of, file_of}
-use Rattle.uring_trace.proofs.Options.{bind_some, test_some, some_is, chosen}
+use Rattle.uring_trace.proofs.Options.{bind_some, test_some, chosen, mapped}
 use Rattle.uring_trace.proofs.Numbers.{own, numeral_digits, some_length, number_parts, file_other}
 
 -- a numeral has no leading zero
@@ -62,11 +63,7 @@ negative_found : (n : ℕ) (fd : ℤ) → negative_of n ≡ Some fd → (k : ℕ
 negative_found zero fd e = absurd cc
 negative_found (suc k) fd e =
     let t = test_some (ltb k (2 ^ 31)) (Some (negsuc k)) fd e in
-    (k, refl, ltb-true k (2 ^ 31) t.0, sym (some_is (negsuc k) fd t.1))
-
-mapped : (o : Option ℕ) (fd : ℤ) → option_map (λ n. pos n) o ≡ Some fd → (n : ℕ) × (o ≡ Some n) × (fd ≡ pos n)
-mapped None fd e = absurd cc
-mapped (Some n) fd e = (n, refl, sym (some_is (pos n) fd e))
+    (k, refl, ltb-true k (2 ^ 31) t.0, sym (same_Some (negsuc k) fd t.1))
 
 abbrev IsSpelled : List ℕ → ℤ → Type 0
 IsSpelled w fd = (w ≡ signed_decimal fd) × IsFile fd
@@ -85,9 +82,9 @@ file_found (b ∷ bs) fd e =
           let same : b ∷ bs ≡ 45 ∷ decimal (suc m.0) = ap (λ (x : ℕ). x ∷ bs) minus ∙ ap (λ (l : List ℕ). 45 ∷ l) digits in
           subst (IsSpelled (b ∷ bs)) (sym m.3) (same, m.2)
       | inr p ↦
-          let m = mapped (number_of (2 ^ 31) (b ∷ bs)) fd p.1 in
+          let m = mapped (λ k. pos k) (number_of (2 ^ 31) (b ∷ bs)) fd p.1 in
           let n = number_found (2 ^ 31) (b ∷ bs) m.0 (omega arith) m.1 in
-          subst (IsSpelled (b ∷ bs)) (sym m.2) n
+          subst (IsSpelled (b ∷ bs)) m.2 n
     ]
 
 -- the decimal form of a number doesn't begin with a minus

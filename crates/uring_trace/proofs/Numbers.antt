@@ -13,7 +13,8 @@ use Rattle.std.specs.Option.{option_map}
 use Rattle.std.specs.Prelude.{pos}
 use Rattle.uring_trace.specs.Reading.{is_numeral, number_of, file_of}
 use Rattle.std.proofs.lemmas.List.{nil_from_length}
-use Rattle.uring_trace.proofs.Options.{test_some, some_is, chosen, some}
+use Rattle.std.proofs.lemmas.Option.{same_Some}
+use Rattle.uring_trace.proofs.Options.{test_some, chosen, some}
 
 pub own : IsNumeralModel (λ ds. list_all is_ascii_digit ds ≡ true) (digits_value 10)
 own = numerals_by_value _ (search rules)
@@ -62,7 +63,7 @@ unfolding number_of
 number_parts limit w n e =
     let t = test_some (is_numeral w && ltb (digits_value 10 w) limit) (Some (digits_value 10 w)) n e in
     let b = and_parts (is_numeral w) (ltb (digits_value 10 w) limit) t.0 in
-    let v = some_is (digits_value 10 w) n t.1 in
+    let v = same_Some (digits_value 10 w) n t.1 in
     (b.0, v, rw (← v) (ltb-true (digits_value 10 w) limit b.1))
 
 -- a number below a smaller limit

@@ -1,6 +1,6 @@
 -- What a session keeps, byte by byte and line by line.
 use Rattle.std.proofs.Common.{◌≡◌, ◌≢◌, ℕ, Bool, true, List, [], ◌∷◌, ◌++◌, Option, Some, None, Result, Ok, Err, refl, sym, ap, subst, ◌∙◌, append_assoc}
-use Rattle.std.specs.Prelude.{IfOk, OnOk, is_ok}
+use Rattle.std.specs.Prelude.{OnOk, is_ok}
 use Rattle.std.specs.List.{AllByRecursion}
 use Rattle.std.specs.Option.{option_to_list}
 use Rattle.std.proofs.lemmas.List.{append-nil}
@@ -18,11 +18,6 @@ use Rattle.uring_trace.specs.Exchanges.{Exchange, Manner, Answers, answer_text, 
 use Rattle.uring_trace.specs.KeptLine.{KeptLine, kept_of}
 use Rattle.uring_trace.specs.Sessions.{AppendsAnswer, Holds, with_event}
 use Rattle.uring_trace.specs.Traces.{IsWhole, IsBeginning, IsEnded}
-
--- a value's fact, whatever the value
-pub if_ok_map : {T E : Type 0} (r : Result T E) (P Q : T → Type 0) → ((x : T) → P x → Q x) → IfOk r P → IfOk r Q
-if_ok_map (Ok x) P Q f h = f x h
-if_ok_map (Err e) P Q f h = tt
 
 pub on_ok_from : {T E : Type 0} (r : Result T E) (Q : Type 0) → (is_ok r ≡ true → Q) → OnOk r Q
 on_ok_from (Ok x) Q f = f refl

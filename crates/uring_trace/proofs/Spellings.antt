@@ -8,15 +8,16 @@ use Rattle.std.specs.Fmt.{decimal}
 use Rattle.std.proofs.lemmas.Bool.{eqb-true}
 use Rattle.std.proofs.lemmas.List.{nil_from_length}
 use Rattle.std.proofs.lemmas.Slice.Eq.{bytes_eq-Decides}
+use Rattle.std.proofs.lemmas.Option.{same_Some}
 use Rattle.uring_entry.specs.Layout.{Sqe}
 use Rattle.uring_machine.specs.declared.step.Step.{Step}
 use Rattle.uring_machine.specs.declared.step.Step.TheVariants as step
 use Rattle.uring_trace.specs.Tokens.{tokens_of}
 use Rattle.uring_trace.specs.Spelling.{Form, Spells, SpellsForm, IsEntryOf, IsStep, IsBad, SpellsEntry, IsNoEntry, SpellsNumber, IsNoNumber}
 use Rattle.uring_trace.specs.Reading.{ReadsStep, ReadsFill, ReadsEntry, number_of, form_of, step_of_one, step_of_two}
-use Rattle.uring_trace.proofs.Options.{chosen, some_is}
+use Rattle.uring_trace.proofs.Options.{chosen, mapped}
 use Rattle.uring_trace.proofs.NumberLaws.{number_found, number_again}
-use Rattle.uring_trace.proofs.FormLaws.{named, mapped, form_found, form_again}
+use Rattle.uring_trace.proofs.FormLaws.{named, form_found, form_again}
 use Rattle.uring_trace.proofs.EntryLaws.{entry_once}
 
 -- one token
@@ -24,7 +25,7 @@ abbrev SpellsOne : Step → List ℕ → Type 0
 SpellsOne s name = Spells (name ∷ []) s
 
 one_is : (text : List ℕ) (t s : Step) → Spells (text ∷ []) t → Some t ≡ Some s → SpellsOne s text
-one_is text t s h e = subst (Spells (text ∷ [])) (some_is t s e) h
+one_is text t s h e = subst (Spells (text ∷ [])) (same_Some t s e) h
 
 one_found : (name : List ℕ) (s : Step) → step_of_one name ≡ Some s → Spells (name ∷ []) s
 unfolding step_of_one
@@ -66,7 +67,7 @@ fill_found token rest s (Some slot) (Some f) n r e =
     let number = number_found (2 ^ 32) token slot (omega arith) n in
     let filled : Spells (codes "fill" ∷ token ∷ rest) (step.Fill slot e.0) =
     (rest, ap (λ (w : List ℕ). codes "fill" ∷ w ∷ rest) number.0, number.1, record { form = f; spells = form_found rest f r; is_entry = e.2 }) in
-    subst (Spells (codes "fill" ∷ token ∷ rest)) (some_is (step.Fill slot e.0) s (sym e.1)) filled
+    subst (Spells (codes "fill" ∷ token ∷ rest)) (same_Some (step.Fill slot e.0) s (sym e.1)) filled
 
 some_of_more : (name token : List ℕ) (rest : List (List ℕ)) (s : Step) (b : Bool) → bytes_eq name (codes "fill") ≡ b → MatchBool b (ReadsFill (Some s) (number_of (2 ^ 32) token) (form_of rest)) (Some s ≡ cond (eqb (length rest) 0) (step_of_two name token) None) → Spells (name ∷ token ∷ rest) s
 some_of_more name token rest s true is e =
@@ -140,18 +141,18 @@ fill_once : (o : Option ℕ) (f : Option Form) (s t : Step) → ReadsFill (Some 
 fill_once None f s t r q = absurd cc
 fill_once (Some slot) None s t r q = absurd cc
 fill_once (Some slot) (Some f) s t r q =
-    let s_is : s ≡ step.Fill slot r.0 = some_is s (step.Fill slot r.0) r.1 in
-    let t_is : t ≡ step.Fill slot q.0 = some_is t (step.Fill slot q.0) q.1 in
+    let s_is : s ≡ step.Fill slot r.0 = same_Some s (step.Fill slot r.0) r.1 in
+    let t_is : t ≡ step.Fill slot q.0 = same_Some t (step.Fill slot q.0) q.1 in
     let same : r.0 ≡ q.0 = entry_once f r.0 q.0 r.2 q.2 in
     s_is ∙ ap (λ (entry : Sqe). step.Fill slot entry) same ∙ sym t_is
 
 more_once : (b : Bool) (o : Option ℕ) (f : Option Form) (other : Option Step) (s t : Step) → MatchBool b (ReadsFill (Some s) o f) (Some s ≡ other) → MatchBool b (ReadsFill (Some t) o f) (Some t ≡ other) → s ≡ t
 more_once true o f other s t r q = fill_once o f s t r q
-more_once false o f other s t r q = some_is s t (r ∙ sym q)
+more_once false o f other s t r q = same_Some s t (r ∙ sym q)
 
 read_once : (tokens : List (List ℕ)) (s t : Step) → ReadsStep (Some s) tokens → ReadsStep (Some t) tokens → s ≡ t
 read_once [] s t r q = absurd cc
-read_once (name ∷ []) s t r q = some_is s t (r ∙ sym q)
+read_once (name ∷ []) s t r q = same_Some s t (r ∙ sym q)
 read_once (name ∷ token ∷ rest) s t r q = more_once (bytes_eq name (codes "fill")) (number_of (2 ^ 32) token) (form_of rest) (cond (eqb (length rest) 0) (step_of_two name token) None) s t r q
 
 -- a line is one step at most
@@ -181,7 +182,7 @@ read_entry_tells tokens read h = entry_read tokens (form_of tokens) read refl h
 -- tokens spell one entry at most
 pub spelled_once : (tokens : List (List ℕ)) (a b : Sqe) → SpellsEntry tokens a → SpellsEntry tokens b → a ≡ b
 spelled_once tokens a b h k =
-    let same : h.form ≡ k.form = some_is h.form k.form (sym (form_again tokens h.form h.spells) ∙ form_again tokens k.form k.spells) in
+    let same : h.form ≡ k.form = same_Some h.form k.form (sym (form_again tokens h.form h.spells) ∙ form_again tokens k.form k.spells) in
     entry_once k.form a b (subst (λ (f : Form). IsEntryOf f a) same h.is_entry) k.is_entry
 
 number_read : (token : List ℕ) (n : Option ℕ) → number_of (2 ^ 32) token ≡ n → MatchOption n (IsNoNumber (2 ^ 32) token) (SpellsNumber (2 ^ 32) token)
@@ -193,4 +194,4 @@ read_number_tells token read e = number_read token read (sym e)
 
 -- a token is one number at most
 pub number_once : (token : List ℕ) (n m : ℕ) → SpellsNumber (2 ^ 32) token n → SpellsNumber (2 ^ 32) token m → n ≡ m
-number_once token n m h k = some_is n m (sym (number_again (2 ^ 32) n (omega arith) h.1) ∙ ap (number_of (2 ^ 32)) (sym h.0 ∙ k.0) ∙ number_again (2 ^ 32) m (omega arith) k.1)
+number_once token n m h k = same_Some n m (sym (number_again (2 ^ 32) n (omega arith) h.1) ∙ ap (number_of (2 ^ 32)) (sym h.0 ∙ k.0) ∙ number_again (2 ^ 32) m (omega arith) k.1)

@@ -1,8 +1,9 @@
 -- The same steps have the same answers, unless memory is refused.
-use Rattle.std.proofs.Common.{◌≡◌, ℕ, neg_ℤ, Bool, true, false, ◌||◌, List, [], ◌∷◌, ◌++◌, length, ◌⊎◌, inl, inr, refl, sym, subst, ◌∙◌, ap, arith}
+use Rattle.std.proofs.Common.{◌≡◌, ℕ, neg_ℤ, Bool, true, false, List, [], ◌∷◌, ◌++◌, length, ◌⊎◌, inl, inr, refl, sym, subst, ◌∙◌, ap, arith}
 use Rattle.std.proofs.lemmas.List.{append-nil}
 use Rattle.std.specs.List.{list_any, zip}
 use Rattle.std.specs.Ordering.{int_eq}
+use Rattle.std.proofs.lemmas.Bool.{or_left, or_right}
 use Rattle.uring_entry.specs.Setup.{Setup}
 use Rattle.uring_entry.specs.Requests.{Requests, is_running}
 use Rattle.uring_entry.specs.declared.errno.TheConstants.{ENOMEM}
@@ -56,19 +57,11 @@ first_before : (g : Setup) (h : History) (e : Event) (events : List Event) → I
     → IsLawful g (history_of events ++ e ∷ h)
 first_before g h e events lawful = subst (λ k. IsLawful g k) (history_of-cons e events h) lawful
 
-or_later : (first later : Bool) → later ≡ true → (first || later) ≡ true
-or_later true later e = refl
-or_later false later e = e
-
-or_first : (first later : Bool) → first ≡ true → (first || later) ≡ true
-or_first true later e = refl
-or_first false later e = cc
-
 -- one more answer, the same in both
 one_more : (x y : Answer) (xs ys : List Answer) → x ≡ y → AreReplays xs ys → AreReplays (x ∷ xs) (y ∷ ys)
 one_more x y xs ys same (inl rest) = inl (cc)
-one_more x y xs ys same (inr (inl refused)) = inr (inl (or_later (is_out_of_memory x) (list_any is_out_of_memory xs) refused))
-one_more x y xs ys same (inr (inr refused)) = inr (inr (or_later (is_out_of_memory y) (list_any is_out_of_memory ys) refused))
+one_more x y xs ys same (inr (inl refused)) = inr (inl (or_right (is_out_of_memory x) (list_any is_out_of_memory xs) refused))
+one_more x y xs ys same (inr (inr refused)) = inr (inr (or_right (is_out_of_memory y) (list_any is_out_of_memory ys) refused))
 
 -- the same steps after the same history
 replayed : (g : Setup) (h : History) (steps : List Step) (xs ys : List Answer) → length xs ≡ length steps
@@ -89,8 +82,8 @@ replayed g h (s ∷ steps) (x ∷ xs) (y ∷ ys) m n p q =
           one_more x y xs ys same
           (replayed g ((s, x) ∷ h) steps xs ys (omega (arith, m)) (omega (arith, n)) one (subst (λ a. IsLawful g (history_of (zip steps ys) ++ (s, a) ∷ h)) (sym same) two))
       | inr refused ↦ elim refused [
-        | inl e ↦ inr (inl (or_first (is_out_of_memory x) (list_any is_out_of_memory xs) e))
-        | inr e ↦ inr (inr (or_first (is_out_of_memory y) (list_any is_out_of_memory ys) e))
+        | inl e ↦ inr (inl (or_left (is_out_of_memory x) (list_any is_out_of_memory xs) e))
+        | inr e ↦ inr (inr (or_left (is_out_of_memory y) (list_any is_out_of_memory ys) e))
       ]
     ]
 

@@ -1,17 +1,13 @@
 -- What positions more do to the calls that positions hold.
 use Rattle.std.proofs.Common.{◌≡◌, ◌+◌, Bool, true, false, ◌||◌, not, List, [], ◌∷◌, ◌++◌, map, length, if◌then◌else◌, MatchBool, refl, sym, ◌∙◌, ap, subst, arith, append-nil}
 use Rattle.std.proofs.Math.Bool.{or_assoc}
-use Rattle.std.proofs.lemmas.Bool.{false≢true}
+use Rattle.std.proofs.lemmas.Bool.{false≢true, or_parts}
 use Rattle.uring_threads.specs.declared.item.Item.{Item}
 use Rattle.uring_threads.specs.Messages.{with_first}
 use Rattle.uring_threads.specs.Ports.{Put, items_of_calls, places_of, with_call, with_close, LeavesItems}
 use Rattle.uring_words.specs.Submission.Calls.{item_of, with_item, calls_of, has_close_mark, put_of, items_of, AreWholeFrom, AreWhole, AllGoOn}
 use Rattle.uring_words.specs.Submission.Layout.{closes, ends_call}
 use Rattle.uring_words.specs.declared.submission.view.Position.{Position}
-
-or_false : (a b : Bool) → a || b ≡ false → (a ≡ false) × (b ≡ false)
-or_false true b h = absurd (false≢true (sym h))
-or_false false b h = (refl, h)
 
 pub close_mark-append : (xs ys : List Position) → has_close_mark (xs ++ ys) ≡ has_close_mark xs || has_close_mark ys
 close_mark-append [] ys = refl
@@ -26,7 +22,7 @@ goes_on-snoc (q ∷ qs) p all open' on = (all.0, all.1, goes_on-snoc qs p all.2 
 pub whole-append : (b : Bool) (xs ys : List Position) → AreWholeFrom b xs → has_close_mark xs ≡ false → AreWhole ys → AreWholeFrom b (xs ++ ys)
 whole-append b [] ys h none w = let P : Bool → Type 0 = λ c. AreWholeFrom c ys in subst P (sym h) w
 whole-append b (p ∷ ps) ys h none w =
-    let c = or_false (closes p.mark) (has_close_mark ps) none in
+    let c = or_parts (closes p.mark) (has_close_mark ps) none in
     let h' = rw c.0 at h in
     rw c.0 (whole-append (not (ends_call p.mark)) ps ys h' c.1 w)
 
@@ -34,7 +30,7 @@ whole-append b (p ∷ ps) ys h none w =
 pub whole_rest : (b : Bool) (xs ys : List Position) → AreWholeFrom b xs → has_close_mark xs ≡ false → AreWholeFrom b (xs ++ ys) → AreWhole ys
 whole_rest b [] ys h none w = let P : Bool → Type 0 = λ c. AreWholeFrom c ys in subst P h w
 whole_rest b (p ∷ ps) ys h none w =
-    let c = or_false (closes p.mark) (has_close_mark ps) none in
+    let c = or_parts (closes p.mark) (has_close_mark ps) none in
     let h' = rw c.0 at h in
     let w' = rw c.0 at w in
     whole_rest (not (ends_call p.mark)) ps ys h' c.1 w'
@@ -48,13 +44,13 @@ item_append : (e : Bool) (x : Item) (ps : List Position) (ds : List (List Item))
 item_append true x ps ds h none = refl
 item_append false x [] ds h none = absurd (false≢true (sym h))
 item_append false x (p ∷ ps) ds h none =
-    let c = or_false (closes p.mark) (has_close_mark ps) none in
+    let c = or_parts (closes p.mark) (has_close_mark ps) none in
     rw c.0 (first_append (ends_call p.mark) x (item_of p) (calls_of ps) ds)
 
 pub calls-append : (b : Bool) (xs ys : List Position) → AreWholeFrom b xs → has_close_mark xs ≡ false → calls_of (xs ++ ys) ≡ calls_of xs ++ calls_of ys
 calls-append b [] ys h none = refl
 calls-append b (p ∷ ps) ys h none =
-    let c = or_false (closes p.mark) (has_close_mark ps) none in
+    let c = or_parts (closes p.mark) (has_close_mark ps) none in
     let h' = rw c.0 at h in
     rw c.0 (ap (with_item (ends_call p.mark) (item_of p)) (calls-append (not (ends_call p.mark)) ps ys h' c.1) ∙ item_append (ends_call p.mark) (item_of p) ps (calls_of ys) h' c.1)
 

@@ -1,5 +1,6 @@
 -- What each step of a seat of the completion ring's table asks.
 use Rattle.std.proofs.Common.{◌≡◌, ℕ, ◌+◌, ◌^◌, ◌<◌, true, List, ◌∷◌, ◌++◌, length, get_or, set, refl, sym, ◌∙◌, ap, subst, arith, length-append}
+use Rattle.std.proofs.lemmas.List.{set-get_or}
 use Rattle.atomic_table.specs.Table.{step, Allows}
 use mathlib.Core.Option.{none}
 use Rattle.uring_entry.specs.IndexWords.{word_of}
@@ -11,7 +12,7 @@ use Rattle.uring_words.specs.Places.{place_of}
 use Rattle.uring_words.specs.declared.completion.view.AppSide.{AppSide}
 use Rattle.uring_words.specs.declared.completion.view.KernelSide.{KernelSide}
 use Rattle.uring_words.proofs.CompletionSteps.{keeps-word_stored, keeps-tail_stored, keeps-dropped_stored, keeps-head_loaded, keeps-tail_loaded, keeps-dropped_loaded, known_stands, keeps-head_stored}
-use Rattle.uring_words.proofs.Seats.{set_same, app_step, kernel_step}
+use Rattle.uring_words.proofs.Seats.{app_step, kernel_step}
 
 -- a word of the next cell is stored
 pub stores_word : (slots id i : ℕ) (me : Holder) (word : ℕ) → me.0.is_kernel ≡ true → length me.0.kernel.put < me.0.kernel.head_seen + me.0.kernel.size → length me.0.kernel.cell < 10
@@ -47,7 +48,7 @@ loads_head slots id i me is_kernel is =
     kernel_step slots id i (λ n. n) me (LoadsHead (step slots i 0 0 none) me) is_kernel (λ words a h both.
     let P : List ℕ → Type 0 = λ ws. Agree ws a (head_loaded me.0.kernel (length a.got)) in (
       head_loaded me.0.kernel (length a.got),
-      subst P (sym (set_same words i)) (keeps-head_loaded words a me.0.kernel h),
+      subst P (sym (set-get_or words i 0)) (keeps-head_loaded words a me.0.kernel h),
       (length a.got, refl, ap (λ j. get_or words j 0) is ∙ h.head, h.head_seen, omega (arith, got_few words a me.0.kernel h)),
     ))
 
@@ -60,7 +61,7 @@ loads_tail slots id i me is_app is =
     let P : List ℕ → Type 0 = λ ws. Agree ws (tail_loaded a h.rest) d in
     let many = got_few words a d h in (
       tail_loaded a h.rest,
-      subst P (sym (set_same words i)) (keeps-tail_loaded words a d h),
+      subst P (sym (set-get_or words i 0)) (keeps-tail_loaded words a d h),
       (
         h.rest,
         refl,
@@ -79,7 +80,7 @@ loads_word slots id i me is_app =
     app_step slots id i (λ n. n) me (LoadsWord (step slots i 0 0 none) me) is_app (λ words d h both.
     let P : List ℕ → Type 0 = λ ws. Agree ws me.0.app d in (
       me.0.app,
-      subst P (sym (set_same words i)) h,
+      subst P (sym (set-get_or words i 0)) h,
       (
         refl,
         λ c cs k known within is.
@@ -106,6 +107,6 @@ loads_dropped slots id i me is_app is =
     let found : get_or words i 0 ≡ last_of 0 d.dropped = ap (λ j. get_or words j 0) (is ∙ ap dropped_index h.sized.size) ∙ h.dropped in
     let P : ℕ → List ℕ → Type 0 = λ n ws. Agree ws (dropped_loaded a n) d in (
       dropped_loaded a (get_or words i 0),
-      subst (P (get_or words i 0)) (sym (set_same words i)) (subst (λ (n : ℕ). P n words) (sym found) (keeps-dropped_loaded words a d h)),
+      subst (P (get_or words i 0)) (sym (set-get_or words i 0)) (subst (λ (n : ℕ). P n words) (sym found) (keeps-dropped_loaded words a d h)),
       (refl, rw found h.small),
     ))

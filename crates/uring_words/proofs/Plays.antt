@@ -1,5 +1,6 @@
 -- What each step of a seat asks.
 use Rattle.std.proofs.Common.{◌≡◌, ℕ, ◌+◌, ◌<◌, true, List, [], ◌∷◌, ◌++◌, length, get_or, refl, sym, ◌∙◌, ap, subst, arith, length-append}
+use Rattle.std.proofs.lemmas.List.{set-get_or}
 use Rattle.atomic_table.specs.Table.{step, Allows}
 use mathlib.Core.Option.{none}
 use Rattle.uring_entry.specs.IndexWords.{word_of}
@@ -13,7 +14,7 @@ use Rattle.uring_words.specs.declared.submission.view.KernelSide.{KernelSide}
 use Rattle.uring_words.specs.declared.submission.view.Position.{Position}
 use Rattle.uring_words.proofs.AppSteps.{keeps-word_stored, keeps-mark_stored, keeps-tail_stored, keeps-head_loaded}
 use Rattle.uring_words.proofs.KernelSteps.{keeps-tail_loaded, keeps-word_loaded, known_stands, keeps-head_stored}
-use Rattle.uring_words.proofs.Seats.{set_same, app_step, kernel_step}
+use Rattle.uring_words.proofs.Seats.{app_step, kernel_step}
 
 -- an entry word is stored for the next position
 pub stores_word : (slots id i : ℕ) (me : Holder) (word : ℕ) → me.0.is_app ≡ true → length (stored me.0.app) < me.0.app.head_seen + me.0.app.size → length me.0.app.entry < 16
@@ -48,7 +49,7 @@ loads_head slots id i me is_app is =
     let P : List ℕ → Type 0 = λ ws. Agree ws (head_loaded me.0.app d.taken) d in
     let o = h.ordered in (
       head_loaded me.0.app d.taken,
-      subst P (sym (set_same words i)) (keeps-head_loaded words me.0.app d h),
+      subst P (sym (set-get_or words i 0)) (keeps-head_loaded words me.0.app d h),
       (d.taken, refl, ap (λ j. get_or words j 0) is ∙ h.head, o.head_seen, omega (arith, o.taken, o.tail_seen)),
     ))
 
@@ -62,7 +63,7 @@ loads_tail slots id i me is_kernel is =
     let o = h.ordered in
     let many : length a.published ≡ tail_seen d + length h.rest = omega (arith, ap length h.begins, length-append (d.copied ++ d.known) h.rest, length-append d.copied d.known) in (
       tail_loaded d h.rest,
-      subst P (sym (set_same words i)) (keeps-tail_loaded words a d h),
+      subst P (sym (set-get_or words i 0)) (keeps-tail_loaded words a d h),
       (
         h.rest,
         refl,
@@ -85,7 +86,7 @@ loads_mark slots id i me p ps is_kernel known is =
     let P : List ℕ → Type 0 = λ ws. Agree ws a (word_loaded d) in
     let there = known_stands words a d p ps h known in (
       word_loaded d,
-      subst P (sym (set_same words i)) (keeps-word_loaded words a d h),
+      subst P (sym (set-get_or words i 0)) (keeps-word_loaded words a d h),
       (refl, record { first = p; others = ps; known = known; mark = ap (λ j. get_or words j 0) is ∙ there.0.mark; formed = there.1 }),
     ))
 
@@ -98,7 +99,7 @@ loads_word slots id i k me p ps is_kernel known loaded within is =
     let d : KernelSide = me.0.kernel in
     let P : List ℕ → Type 0 = λ ws. Agree ws a (word_loaded d) in (
       word_loaded d,
-      subst P (sym (set_same words i)) (keeps-word_loaded words a d h),
+      subst P (sym (set-get_or words i 0)) (keeps-word_loaded words a d h),
       (
         refl,
         λ q qs j known' loaded' inside.

@@ -31,10 +31,6 @@ item_with_words mark (w ∷ ws) many = refl
 pub words_of_mark : (size place : ℕ) (p : Position) → IsPosition size place p → (b : Bool) → has_entry size p.mark ≡ b → length p.entry ≡ (if b then 16 else 0)
 words_of_mark size place p formed b is = formed.entry ∙ ap (λ (c : Bool). if c then 16 else 0) is
 
-pub no_words : (words : List ℕ) → length words ≡ 0 → words ≡ []
-no_words [] none = refl
-no_words (w ∷ ws) none = absurd (omega arith)
-
 -- what the dispatcher knows once this many entry words of the first known position are loaded
 abbrev pub loaded_to : KernelSide → Position → List Position → ℕ → KernelSide
 loaded_to d p ps k = if eqb k (length p.entry) then copied_one d p ps else record d { loaded = k + 1 }

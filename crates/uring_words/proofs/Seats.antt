@@ -8,11 +8,6 @@ use Rattle.atomic_table.proofs.Lists.{at_set}
 use Rattle.uring_words.specs.Sides.{Knows, AgreeBy, both_know, with_app, with_kernel, app_part, kernel_part, both_parts, spent_with}
 use Rattle.uring_words.specs.declared.sides.View.{View}
 
-pub set_same : (words : List ℕ) (i : ℕ) → set words i (get_or words i 0) ≡ words
-set_same [] i = refl
-set_same (w ∷ ws) zero = refl
-set_same (w ∷ ws) (suc i) = ap (λ l. w ∷ l) (set_same ws i)
-
 -- a view at a place of a longer list is there in the shorter one, or is the last
 at_longer : {A : Type 0} (l : List A) (a b : A) (j : ℕ) → get_elem? (l ++ a ∷ []) j ≡ some b → (get_elem? l j ≡ some b) ⊎ ((j ≡ length l) × (a ≡ b))
 at_longer [] a b zero e = inr (refl, some-injective a b e)

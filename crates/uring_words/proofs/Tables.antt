@@ -1,5 +1,6 @@
 -- Numbers tell tables apart.
-use Rattle.std.proofs.Common.{◌≡◌, ℕ, List, [], ◌∷◌, ◌++◌, length, refl, arith}
+use Rattle.std.proofs.Common.{◌≡◌, ℕ, List, ◌++◌, length, take, drop, sym, ◌∙◌, ap₂, arith}
+use Rattle.std.proofs.Math.Seq.{take-append_seam, drop-append_seam}
 use Rattle.atomic_table.specs.Seated.{TableId}
 use Rattle.uring_words.specs.PortViews.{numbers_of_table, numbers_of_tables}
 
@@ -15,16 +16,10 @@ same_table z y e =
     λ i. record { words = words i; slots = slots i; views_name = views_name i; atom = atom i; block = block i; offset = offset i; slot_names = slot_names i }
 
 same_parts : (xs ys us vs : List ℕ) → length xs ≡ length us → xs ++ ys ≡ us ++ vs → (xs ≡ us) × (ys ≡ vs)
-same_parts [] ys [] vs many e = (refl, e)
-same_parts [] ys (u ∷ us) vs many e = absurd (omega arith)
-same_parts (x ∷ xs) ys [] vs many e = absurd (omega arith)
-same_parts (x ∷ xs) ys (u ∷ us) vs many e =
-    let first : x ≡ u = cc in
-    let others : xs ++ ys ≡ us ++ vs = cc in
-    let both = same_parts xs ys us vs (omega arith) others in
-    let xs' : xs ≡ us = both.0 in
-    let here : x ∷ xs ≡ u ∷ us = cc in
-    (here, both.1)
+same_parts xs ys us vs many e = (
+  sym (take-append_seam xs ys) ∙ ap₂ (λ (n : ℕ) (l : List ℕ). take n l) many e ∙ take-append_seam us vs,
+  sym (drop-append_seam xs ys) ∙ ap₂ (λ (n : ℕ) (l : List ℕ). drop n l) many e ∙ drop-append_seam us vs,
+)
 
 -- the numbers of a pair of tables are those of no other
 pub same_tables : (z y u v : TableId) → numbers_of_tables z y ≡ numbers_of_tables u v → (z ≡ u) × (y ≡ v)

@@ -1,17 +1,15 @@
-use Rattle.std.proofs.Common.{◌≡◌, ◌<◌, ◌∙◌, ap, arith, length, refl, sym, List, ℕ, Option, Some, get_or, ◌∷◌, ◌++◌}
+use Rattle.std.proofs.Common.{◌≡◌, ◌<◌, ◌∙◌, ap, arith, length, refl, sym}
 use Rattle.std.specs.Option.{option_to_list}
 use Rattle.std.specs.VecDeque.{deque_len}
 use Rattle.uring_dispatch.specs.NumberSet.{block_of}
+use Rattle.uring_dispatch.proofs.BarrierLemmas.{popped}
 use Rattle.uring_dispatch.proofs.BlockLemmas.{block_of-pop}
 use Rattle.uring_dispatch.proofs.blocks.drop_zeros.Goals as goal
-
-popped : (old new : List ℕ) (r : Option ℕ) (x : ℕ) → old ≡ option_to_list r ++ new → ((d : ℕ) → r ≡ Some (get_or old 0 d)) → x ≡ get_or old 0 x → x ≡ 0 → old ≡ 0 ∷ new
-popped old new r x e h l n = e ∙ ap (λ o. option_to_list o ++ new) (h x ∙ ap Some (sym l ∙ n))
 
 pub loop-first-preserved : goal.loop-first-preserved
 loop-first-preserved c =
     let some : 0 < deque_len c.loop-first.blocks = c.in-Some-eq0.ensures.variant.0 refl in
-    let is = popped _ _ _ c.in-Some-eq0.field-0.now c.pop_front.ensures.items (λ d. c.pop_front.ensures.value d some) c.in-Some-eq0.ensures.lookup c.in-Some-eq0.field-0-test in
+    let is = popped _ _ _ c.in-Some-eq0.field-0.now _ c.pop_front.ensures.items (λ d. c.pop_front.ensures.value d some) c.in-Some-eq0.ensures.lookup c.in-Some-eq0.field-0-test in
     let one : length (option_to_list c.pop_front.result) ≡ 1 = ap (λ o. length (option_to_list o)) (c.pop_front.ensures.value 0 some) in
     record {
       start = λ m from to. omega arith;

@@ -1,6 +1,6 @@
 use Rattle.std.proofs.Common.{arith, refl}
+use Rattle.uring_entry.proofs.BelowLemmas.{is_some_value}
 use Rattle.uring_dispatch.specs.Window.{at, chosen}
-use Rattle.uring_dispatch.proofs.HeldLemmas.{is_some_value}
 use Rattle.uring_dispatch.proofs.WaitingLemmas.{tell-outstanding, write-listed}
 use Rattle.uring_dispatch.proofs.Changes.{write-sound, choose-held}
 use Rattle.uring_dispatch.proofs.Choosing.{choose-same}

@@ -1,4 +1,5 @@
 use Rattle.std.proofs.Common.{sym, ◌∙◌, ap, is_some, Some, None, arith, refl, not, ◌&&◌, subst, ◌≡◌, ◌<◌, inl, inr}
+use Rattle.std.proofs.lemmas.Option.{same_Some}
 use Rattle.uring_entry.specs.Requests.{is_soft, entry_of}
 use Rattle.uring_entry.specs.Layout.{Sqe}
 use Rattle.uring_entry.specs.Groups.{earlier_of}
@@ -6,7 +7,6 @@ use Rattle.uring_dispatch.specs.Window.{end_of, one_if}
 use Rattle.uring_dispatch.specs.Groups.{Groups, IsBeyond}
 use Rattle.uring_dispatch.specs.Held.{HasLost}
 use Rattle.uring_dispatch.specs.declared.group.Group.{Group}
-use Rattle.uring_dispatch.proofs.HeldLemmas.{same_some}
 use Rattle.uring_dispatch.proofs.WaitingLemmas.{within-end, stands-ended_last, stands-ended_more}
 use Rattle.uring_dispatch.proofs.EndLemmas.{Ends, in-group, least-before, end-sound_last, end-sound_more}
 use Rattle.uring_dispatch.proofs.EndsHeld.{end-held, shows-none, shows-more}
@@ -82,7 +82,7 @@ returns-then-least-group-clause-others c = λ k ne head beside.
 pub behind_failure-doomed_end-requires : goal.behind_failure-doomed_end-requires
 behind_failure-doomed_end-requires c =
     let link = c.requires.sound.linked c.args.n _ c.end_one-request.ensures.request in
-    let one : link.group ≡ c.group_of-group.result = same_some _ _ (sym link.found ∙ c.group_of-group.ensures) in
+    let one : link.group ≡ c.group_of-group.result = same_Some _ _ (sym link.found ∙ c.group_of-group.ensures) in
     let P : Group → Type 0 = λ z. c.args.n < z.end in subst P one link.to
 
 pub returns-clause-doomed : goal.returns-clause-doomed

@@ -5,7 +5,7 @@ use Rattle.std.specs.List.{list_any}
 use Rattle.slab.specs.Slab.{get}
 use Rattle.uring_dispatch.specs.declared.group.Barrier.{Barrier}
 use Rattle.uring_dispatch.specs.Groups.{covers, IsSorted, IsBeyond, drain_of}
-use Rattle.uring_dispatch.proofs.BarrierLemmas.{popped-barrier, covered-pop, beyond-pop}
+use Rattle.uring_dispatch.proofs.BarrierLemmas.{popped, covered-pop, beyond-pop}
 use Rattle.uring_dispatch.proofs.GroupsKept.{sorted-pop, starts_at-no, starts_at-yes, head_at}
 use Rattle.uring_dispatch.proofs.groups.trim.Goals as goal
 
@@ -13,7 +13,7 @@ pub loop-barrier-preserved : goal.loop-barrier-preserved
 loop-barrier-preserved c =
     let some : 0 < deque_len c.loop-barrier.barriers = c.in-Some.ensures.variant.0 refl in
     let b : Barrier = c.in-Some.barrier.now in
-    let is = popped-barrier _ _ _ b c.pop_front.ensures.items (λ d. c.pop_front.ensures.value d some) c.in-Some.ensures.lookup in
+    let is = popped _ _ _ b b c.pop_front.ensures.items (λ d. c.pop_front.ensures.value d some) c.in-Some.ensures.lookup refl in
     let one : length (option_to_list c.pop_front.result) ≡ 1 = ap (λ o. length (option_to_list o)) (c.pop_front.ensures.value b some) in
     let dead = starts_at-no _ _ (sym c.is_live.ensures ∙ c.if-is_live.false) in
     record {

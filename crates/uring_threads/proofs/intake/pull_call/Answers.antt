@@ -1,17 +1,17 @@
 use Rattle.std.proofs.Common.{subst}
 use Rattle.uring_entry.specs.Setup.{Setup}
 use Rattle.uring_threads.specs.Kept.{now}
-use Rattle.uring_threads.specs.Taking.{TakesIn}
 use Rattle.uring_threads.specs.Turns.{Tied}
 use Rattle.uring_threads.proofs.Closing.{once_unmoved}
-use Rattle.uring_threads.proofs.Tying.{completions_behind, on_err, pulled_at, takes_behind, takes_nothing, tied_still}
+use Rattle.uring_threads.proofs.Tying.{completions_behind, pulled_at, takes_behind, takes_nothing, tied_still}
 use Rattle.uring_threads.proofs.intake.pull_call.Goals as goal
+use Rattle.uring_threads.proofs.Collecting.{on_err}
 
 pub returns-in_err-reserve-clause-tied : goal.returns-in_err-reserve-clause-tied
 returns-in_err-reserve-clause-tied g c = tied_still c.args.kept.now c.reserve.new.self (g.P.KernelPort.pulled c.args.port.now) c.args.intake.now c.reserve.ensures.unmoved c.requires.tied
 
 pub returns-in_err-reserve-clause-err : goal.returns-in_err-reserve-clause-err
-returns-in_err-reserve-clause-err g c = on_err c.from_residual.result (TakesIn c.args.kept.now c.reserve.new.self 0) (takes_nothing c.args.kept.now c.reserve.new.self c.reserve.ensures.unmoved)
+returns-in_err-reserve-clause-err g c = on_err c.from_residual.result (takes_nothing c.args.kept.now c.reserve.new.self c.reserve.ensures.unmoved)
 
 pub returns-in_err-reserve-clause-once : goal.returns-in_err-reserve-clause-once
 returns-in_err-reserve-clause-once g c = once_unmoved c.args.kept.now c.reserve.new.self c.args.intake.now c.reserve.ensures.unmoved

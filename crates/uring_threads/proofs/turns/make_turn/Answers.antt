@@ -6,9 +6,9 @@ use Rattle.uring_threads.specs.Dropped.{with_word}
 use Rattle.uring_threads.specs.Kept.{now}
 use Rattle.uring_threads.specs.Ports.{Sizes}
 use Rattle.uring_threads.specs.Tallies.{TakesFewResults, finishes_counted, issues_counted, reaps_counted}
-use Rattle.std.proofs.lemmas.Result.{IfOk-weaker}
+use Rattle.std.proofs.lemmas.Result.{IfOk-weaker, IfOk-from_err}
 use Rattle.uring_threads.specs.Turns.{AreTies, Counts}
-use Rattle.uring_threads.proofs.Collecting.{on_err, not_ok, not_on_ok}
+use Rattle.uring_threads.proofs.Collecting.{on_err}
 use Rattle.uring_threads.proofs.FewResults.{few_of_none, few_behind, few_before}
 use Rattle.uring_threads.proofs.TraceSteps.{appends_none}
 use Rattle.uring_threads.proofs.Turning.{ties_taken, ties_posted, ties_worked, ties_unmoved, ties_delivered, counts_all, some_then, lanes_then}
@@ -118,13 +118,13 @@ returns-clause-few_results g c =
     few_before (length c.args.lanes.now) c.args.kept.now c.issue_all.new.kept c.deliver.new.kept _ issued c.in_ok-delivered.ensures.tally refl
 
 pub returns-in_err-popped-clause-counts : goal.returns-in_err-popped-clause-counts
-returns-in_err-popped-clause-counts g c = not_ok c.from_residual.result _ c.from_residual.ensures.0
+returns-in_err-popped-clause-counts g c = IfOk-from_err c.from_residual.result _ c.from_residual.ensures.0
 
 pub returns-in_err-popped-clause-begun : goal.returns-in_err-popped-clause-begun
-returns-in_err-popped-clause-begun g c = not_on_ok c.from_residual.result _ c.from_residual.ensures.0
+returns-in_err-popped-clause-begun g c = IfOk-from_err c.from_residual.result _ c.from_residual.ensures.0
 
 pub returns-in_err-popped-clause-stored : goal.returns-in_err-popped-clause-stored
-returns-in_err-popped-clause-stored g c = not_on_ok c.from_residual.result _ c.from_residual.ensures.0
+returns-in_err-popped-clause-stored g c = IfOk-from_err c.from_residual.result _ c.from_residual.ensures.0
 
 pub returns-in_err-popped-clause-not_stored : goal.returns-in_err-popped-clause-not_stored
 returns-in_err-popped-clause-not_stored g c = on_err c.from_residual.result c.take_in.ensures.dropped
@@ -139,13 +139,13 @@ pub returns-in_err-popped-clause-sizes : goal.returns-in_err-popped-clause-sizes
 returns-in_err-popped-clause-sizes g c = c.take_in.ensures.sizes
 
 pub returns-in_err-finished-clause-counts : goal.returns-in_err-finished-clause-counts
-returns-in_err-finished-clause-counts g c = not_ok c.from_residual-in_err-finished.result _ c.from_residual-in_err-finished.ensures.0
+returns-in_err-finished-clause-counts g c = IfOk-from_err c.from_residual-in_err-finished.result _ c.from_residual-in_err-finished.ensures.0
 
 pub returns-in_err-finished-clause-begun : goal.returns-in_err-finished-clause-begun
-returns-in_err-finished-clause-begun g c = not_on_ok c.from_residual-in_err-finished.result _ c.from_residual-in_err-finished.ensures.0
+returns-in_err-finished-clause-begun g c = IfOk-from_err c.from_residual-in_err-finished.result _ c.from_residual-in_err-finished.ensures.0
 
 pub returns-in_err-finished-clause-stored : goal.returns-in_err-finished-clause-stored
-returns-in_err-finished-clause-stored g c = not_on_ok c.from_residual-in_err-finished.result _ c.from_residual-in_err-finished.ensures.0
+returns-in_err-finished-clause-stored g c = IfOk-from_err c.from_residual-in_err-finished.result _ c.from_residual-in_err-finished.ensures.0
 
 pub returns-in_err-finished-clause-not_stored : goal.returns-in_err-finished-clause-not_stored
 returns-in_err-finished-clause-not_stored g c = on_err c.from_residual-in_err-finished.result c.take_in.ensures.dropped
@@ -160,13 +160,13 @@ pub returns-in_err-finished-clause-sizes : goal.returns-in_err-finished-clause-s
 returns-in_err-finished-clause-sizes g c = c.take_in.ensures.sizes
 
 pub returns-in_err-issued-clause-counts : goal.returns-in_err-issued-clause-counts
-returns-in_err-issued-clause-counts g c = not_ok c.from_residual-in_err-issued.result _ c.from_residual-in_err-issued.ensures.0
+returns-in_err-issued-clause-counts g c = IfOk-from_err c.from_residual-in_err-issued.result _ c.from_residual-in_err-issued.ensures.0
 
 pub returns-in_err-issued-clause-begun : goal.returns-in_err-issued-clause-begun
-returns-in_err-issued-clause-begun g c = not_on_ok c.from_residual-in_err-issued.result _ c.from_residual-in_err-issued.ensures.0
+returns-in_err-issued-clause-begun g c = IfOk-from_err c.from_residual-in_err-issued.result _ c.from_residual-in_err-issued.ensures.0
 
 pub returns-in_err-issued-clause-stored : goal.returns-in_err-issued-clause-stored
-returns-in_err-issued-clause-stored g c = not_on_ok c.from_residual-in_err-issued.result _ c.from_residual-in_err-issued.ensures.0
+returns-in_err-issued-clause-stored g c = IfOk-from_err c.from_residual-in_err-issued.result _ c.from_residual-in_err-issued.ensures.0
 
 pub returns-in_err-issued-clause-not_stored : goal.returns-in_err-issued-clause-not_stored
 returns-in_err-issued-clause-not_stored g c = on_err c.from_residual-in_err-issued.result c.take_in.ensures.dropped
@@ -181,13 +181,13 @@ pub returns-in_err-issued-clause-sizes : goal.returns-in_err-issued-clause-sizes
 returns-in_err-issued-clause-sizes g c = c.take_in.ensures.sizes
 
 pub returns-in_err-delivered-clause-counts : goal.returns-in_err-delivered-clause-counts
-returns-in_err-delivered-clause-counts g c = not_ok c.from_residual-in_err-delivered.result _ c.from_residual-in_err-delivered.ensures.0
+returns-in_err-delivered-clause-counts g c = IfOk-from_err c.from_residual-in_err-delivered.result _ c.from_residual-in_err-delivered.ensures.0
 
 pub returns-in_err-delivered-clause-begun : goal.returns-in_err-delivered-clause-begun
-returns-in_err-delivered-clause-begun g c = not_on_ok c.from_residual-in_err-delivered.result _ c.from_residual-in_err-delivered.ensures.0
+returns-in_err-delivered-clause-begun g c = IfOk-from_err c.from_residual-in_err-delivered.result _ c.from_residual-in_err-delivered.ensures.0
 
 pub returns-in_err-delivered-clause-stored : goal.returns-in_err-delivered-clause-stored
-returns-in_err-delivered-clause-stored g c = not_on_ok c.from_residual-in_err-delivered.result _ c.from_residual-in_err-delivered.ensures.0
+returns-in_err-delivered-clause-stored g c = IfOk-from_err c.from_residual-in_err-delivered.result _ c.from_residual-in_err-delivered.ensures.0
 
 pub returns-in_err-delivered-clause-not_stored : goal.returns-in_err-delivered-clause-not_stored
 returns-in_err-delivered-clause-not_stored g c = on_err c.from_residual-in_err-delivered.result (c.deliver.ensures.dropped ∙ c.take_in.ensures.dropped)

@@ -27,7 +27,7 @@ use Rattle.std.proofs.BoxSteps.Form.{D, word, box_typed}
 use Rattle.std.proofs.BoxSteps.Steps.{box_out, box_in}
 use Rattle.uring_c.specs.Slots.{machine_row}
 use Rattle.uring_c.specs.contracts.machine_slot.MachineSlot as Slot
-use Rattle.uring_c.proofs.Slots.{some_of}
+use Rattle.uring_entry.proofs.BelowLemmas.{is_some_value}
 use Rattle.uring_c.proofs.MachineBox.{E, FromSlot as From}
 use Rattle.uring_c.specs.contracts.machine_slot.MachineSlot.into_parts as F
 use Rattle.uring_c.specs.contracts.machine_slot.MachineSlot.into_parts.Key.{name as #self}
@@ -47,7 +47,7 @@ module _ {M : Type 1} {𝓤 : Ura M} (𝓛 : Logic 𝓤) (at_mem : Memory → SP
       let To = type_at (F.signature).result tt in
       let slot = z.0.3.0 in
       qed 𝓛 ((‵ ftrue ⊛ ‵ (fsep ((Slot.the_row).own_val slot z.0.4.0) ftrue)) ∷ raw (fact 𝓤 (IsSome slot.machine)) ∷ []) ∵ move ! (1 ∷ []) $ heard ! (IsSome slot.machine) (λ full.
-      let there = some_of slot.machine full in
+      let there = is_some_value slot.machine full in
       let v : D E = record { ptr = slot.at; alloc = slot.alloc; value = there.0 } in
       let made : To.Denot = record { ptr = v.ptr; alloc = v.alloc; value = v.value } in
       split ! $ drop ! $ fsplit ! $

@@ -1,15 +1,15 @@
 use Rattle.std.proofs.Common.{◌≡◌, ◌≢◌, ℕ, List, [], false, refl}
 use Rattle.std.specs.Prelude.{IsTrue}
+use Rattle.std.proofs.lemmas.Result.{IfOk-weaker}
 use Rattle.uring_trace.specs.KeptLine.{kept_of}
-use Rattle.uring_trace.proofs.Sessions.{if_ok_map}
 use Rattle.uring_check.proofs.Readings.{ended_last, ended_none}
 use Rattle.uring_check.proofs.reading.Reading.end.Goals as goal
 
 pub returns-then-is_empty : goal.returns-then-is_empty
 returns-then-is_empty c =
-    if_ok_map c.end.result _ _ (λ verdict ends g all bytes h. ended_none g all c.args.self.now.line c.args.self.now.checker bytes c.end.new.self.report.items verdict (λ line e. (c.if-is_empty.ensures line e).0 refl) ends h) c.end.ensures
+    IfOk-weaker c.end.result _ _ (λ verdict ends g all bytes h. ended_none g all c.args.self.now.line c.args.self.now.checker bytes c.end.new.self.report.items verdict (λ line e. (c.if-is_empty.ensures line e).0 refl) ends h) c.end.ensures
 
 pub returns : goal.returns
 returns c =
     let some : (line : List ℕ) → c.args.self.now.line ≡ kept_of line → line ≢ [] = λ line e none. let is : IsTrue false = (c.if-is_empty.ensures line e).1 none in absurd cc in
-    if_ok_map c.end-2.result _ _ (λ verdict ends g all bytes h. ended_last g all c.args.self.now.line c.args.self.now.checker c.take_line.new.self bytes c.end-2.new.self.report.items verdict some c.in_ok-take_line.ensures ends h) c.end-2.ensures
+    IfOk-weaker c.end-2.result _ _ (λ verdict ends g all bytes h. ended_last g all c.args.self.now.line c.args.self.now.checker c.take_line.new.self bytes c.end-2.new.self.report.items verdict some c.in_ok-take_line.ensures ends h) c.end-2.ensures

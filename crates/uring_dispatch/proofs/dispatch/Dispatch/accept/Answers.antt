@@ -2,8 +2,8 @@ use Rattle.std.proofs.Common.{◌≡◌, arith, ap, refl, false, subst, sym, ◌
 use Rattle.uring_dispatch.specs.declared.group.Group.{Group}
 use Rattle.uring_dispatch.specs.declared.waiting.Waiting.{Waiting}
 use Rattle.uring_dispatch.specs.Waiting.{Starts}
-use Rattle.uring_dispatch.proofs.HeldLemmas.{same_some}
 use Rattle.std.proofs.lemmas.Bool.{false≢true}
+use Rattle.std.proofs.lemmas.Option.{same_Some}
 use Rattle.uring_dispatch.specs.declared.request.Request.{Request}
 use Rattle.uring_dispatch.specs.Dispatch.{Dispatch}
 use Rattle.uring_dispatch.proofs.Views.{held-from, shows-held}
@@ -27,7 +27,7 @@ accept-requires-clause-low c = λ p is.
     let e = c.accept-group.ensures in
     let s : Waiting = c.self.inside.waiting in
     let l = c.self.invariant.listed in
-    let one : _ ≡ p = same_some _ _ (sym e.changes.here ∙ is) in
+    let one : _ ≡ p = same_Some _ _ (sym e.changes.here ∙ is) in
     let own : Starts s c.end-number.result = record { heads = omega (arith, l.heads.start, c.end-number.ensures.value); doomed = omega (arith, l.doomed.start, c.end-number.ensures.value) } in
     let P : Group → Type 0 = λ q. Starts s q.least in
     subst P one

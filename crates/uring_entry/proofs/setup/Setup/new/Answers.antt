@@ -1,5 +1,6 @@
-use Rattle.std.proofs.Common.{refl, inl, inr, arith, IsNone}
-use Rattle.uring_entry.proofs.SetupLemmas.{not_outside, at_any_rounding, not_none}
+use Rattle.std.proofs.Common.{refl, ap, is_some, inl, inr, arith}
+use Rattle.std.proofs.lemmas.Bool.{both_ways}
+use Rattle.uring_entry.proofs.SetupLemmas.{not_outside, at_any_rounding}
 use Rattle.uring_entry.proofs.setup.Setup.new.Goals as goal
 use Rattle.uring_entry.proofs.setup.Setup.new.Goals.{then-files-lt1-via-then-files-lt1, then-files-lt1-via-else-files-lt1+then-files-gt-MAX_FILES}
 
@@ -17,8 +18,7 @@ returns-then-files-lt1-clause-bad_files c = (
   λ _. (
     not_outside 1 4096 c.args.sq (omega arith) (omega arith),
     (λ p rounded bad.
-        let none : IsNone c.completion_size.result = c.completion_size.ensures.none.1 (at_any_rounding c.args.sq p c.args.cq (omega arith) rounded bad _ c.submission_size-sq.ensures.rounded) in
-        not_none c.completion_size.result c.in-Some.cq c.in-Some.is none),
+        both_ways _ (c.completion_size.ensures.none.1 (at_any_rounding c.args.sq p c.args.cq (omega arith) rounded bad _ c.submission_size-sq.ensures.rounded)) (ap is_some c.in-Some.is)),
     elim c.then-files-lt1.branch [
       | then-files-lt1-via-then-files-lt1 w ↦ inl (omega arith)
       | then-files-lt1-via-else-files-lt1+then-files-gt-MAX_FILES w ↦ inr (omega arith)

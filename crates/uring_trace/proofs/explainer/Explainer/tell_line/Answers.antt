@@ -1,12 +1,11 @@
 use Rattle.std.proofs.Common.{sym, ◌∙◌}
-use Rattle.std.proofs.lemmas.Result.{on_ok_weaker}
-use Rattle.uring_trace.proofs.Sessions.{if_ok_map}
+use Rattle.std.proofs.lemmas.Result.{on_ok_weaker, IfOk-weaker}
 use Rattle.uring_trace.proofs.ExplainLines.{if_ok_both, line_made, line_asked, line_bad}
 use Rattle.uring_trace.proofs.explainer.Explainer.tell_line.Goals as goal
 
 pub returns-in-Some-clause-told : goal.returns-in-Some-clause-told
 returns-in-Some-clause-told c =
-    if_ok_map c.tell_step.result _ _
+    IfOk-weaker c.tell_step.result _ _
     (λ done h line k. line_made _ _ c.args.self.now.number c.args.self.now.has_bad line _ _ _ c.in-Some.step (rw c.in-Some.is at (c.in_ok-step.ensures line k)) h)
     c.tell_step.ensures
 

@@ -1,11 +1,12 @@
 use Rattle.std.proofs.Common.{◌≡◌, ℕ, ◌<◌, ◌%◌, true, false, length, arith, sym, ap, ◌∙◌, refl, ne_eqb}
+use Rattle.std.proofs.lemmas.List.{nil_from_length}
 use Rattle.uring_threads.specs.declared.item.Item.TheVariants as item
 use Rattle.uring_words.specs.Submission.Calls.{item_from}
 use Rattle.uring_words.specs.Submission.Ends.{copied_one}
 use Rattle.uring_words.specs.Submission.Layout.{close_mark, closes, slot_of, has_entry}
 use Rattle.uring_words.specs.Sides.{with_kernel}
 use Rattle.uring_words.specs.Submission.Steps.{Holder}
-use Rattle.uring_words.proofs.Positions.{words_of_mark, mark_is_loaded, not_all_loaded, all_is_loaded, no_words, item_with_words}
+use Rattle.uring_words.proofs.Positions.{words_of_mark, mark_is_loaded, not_all_loaded, all_is_loaded, item_with_words}
 use Rattle.uring_words.proofs.Standing.{some_size}
 use Rattle.uring_words.proofs.submission.kernel_steps.copy_one.Goals as goal
 
@@ -77,7 +78,7 @@ returns-clause-copied c =
       others = ps;
       known = told.known;
       is = is;
-      holds = c.copied_item-2.ensures p (sym told.mark) open' (ap (item_from p.mark) (no_words p.entry none) ∙ ap (λ n. item.Bad (slot_of n)) (sym told.mark));
+      holds = c.copied_item-2.ensures p (sym told.mark) open' (ap (item_from p.mark) (nil_from_length p.entry none) ∙ ap (λ n. item.Bad (slot_of n)) (sym told.mark));
     }
 
 pub returns-then-mark-eq-CLOSE_MARK-clause-copied : goal.returns-then-mark-eq-CLOSE_MARK-clause-copied
