@@ -1,10 +1,12 @@
 -- Glue. Taking in the results that came back from a worker. All of it is our own rule.
-use Rattle.std.specs.Prelude.{◌≡◌, ◌≢◌, ℕ, ◌<◌, ◌≤◌, Bool, true, false, List, [], ◌∷◌, ◌++◌, map, ◌+◌}
+use Rattle.std.specs.Prelude.{◌≡◌, ◌≢◌, ℕ, ◌<◌, ◌≤◌, Bool, true, false, List, [], ◌∷◌, ◌++◌, map, length, get_or, ◌+◌}
 use Rattle.uring_entry.specs.Preparation.{operation_of}
 use Rattle.uring_entry.specs.Requests.{entry_of, is_running}
 use Rattle.uring_laws.specs.Finishes.{Done}
 use Rattle.uring_threads.specs.declared.job.Job.{Job}
 use Rattle.uring_threads.specs.declared.job.JobResult.{JobResult}
+use Rattle.uring_threads.specs.declared.work_lanes.WorkLanes.{WorkLanes}
+use Rattle.rtrb.specs.Ring.{known_items}
 use Rattle.uring_threads.specs.Kept.{Kept, now, Grows, history}
 use Rattle.uring_threads.specs.Delivered.{OnlyPosts}
 use Rattle.uring_threads.specs.Tallies.{Appends, finishes_counted, most_results, results_taken_in}
@@ -25,6 +27,10 @@ pub record OthersStay (old new : Kept) (workers place : ℕ) : Type 0 where
 abbrev pub NextStays : Kept → ℕ → ℕ → List JobResult → Type 0
 NextStays kept workers place [] = Unit {0}
 NextStays kept workers place (r ∷ later) = CanBeTaken kept workers place r.number → ⊥
+
+-- the next result that is seen at this place can't be taken in, if one is seen
+abbrev pub SeesNoMore : Kept → List WorkLanes → ℕ → Type 0
+SeesNoMore kept lanes place = (d : WorkLanes) → NextStays kept (length lanes) place (known_items (get_or lanes place d).results)
 
 -- the next result was taken in, or nothing was, where it can't be
 abbrev pub TakesNext : Kept → Kept → ℕ → ℕ → List JobResult → List JobResult → List JobResult → Bool → Type 0

@@ -5,7 +5,7 @@ ghost use Rattle.uring_threads.specs.Dispatched.{HaveCarried, AreSameLanes, AreT
 ghost use Rattle.uring_threads.specs.Kept.{now};
 ghost use Rattle.uring_threads.specs.Tallies.{Appends, TakesFewResults, finishes_counted, most_results};
 ghost use Rattle.rtrb.specs.Ring.{received, known_items, SameConsumer};
-ghost use Rattle.uring_threads.specs.Collected.{CanBeTaken, Collects, CollectsFew, CollectsNext, CollectsSeen, OthersStay, TakesAll, TakesNext, Wait};
+ghost use Rattle.uring_threads.specs.Collected.{CanBeTaken, Collects, CollectsFew, CollectsNext, CollectsSeen, OthersStay, SeesNoMore, TakesAll, TakesNext, Wait};
 ghost use Rattle.uring_threads.specs.Kept.{Grows};
 ghost use Rattle.uring_threads.specs.Settled.{finish_of};
 ghost use Rattle.uring_threads.specs.declared.job.JobResult.{JobResult};
@@ -48,6 +48,9 @@ fn collect_at(kept: &mut Kept, lanes: &mut [WorkLanes], place: u32) -> Result<u6
     ensures few { CollectsFew kept.old kept.new (length lanes.old) place }
     ensures tally { IfOk result (λ count. Appends kept.old kept.new (finishes_counted count)) }
     ensures most { IfOk result (λ count. count ≤ 64) }
+
+    // Fewer than 64 only if no other result is seen, or the next can't be taken in.
+    ensures seen { IfOk result (λ count. count < 64 → SeesNoMore kept.new lanes.new place) }
     ensures idle { IfOk result (λ count. count ≡ 0 → kept.new.trace ≡ kept.old.trace) }
     ensures err { OnErr result ((count : ℕ) × Appends kept.old kept.new (finishes_counted count)) }
 {
