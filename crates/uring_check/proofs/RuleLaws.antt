@@ -71,19 +71,7 @@ finish_once n false a b e f same p q = e ∙ sym f
 apart_once : (g : Setup) (w : World) (s : Step) (a b : Answer) → CalledForApart g w s a → CalledForApart g w s b → text_of a ≡ text_of b → IsPlain a true s → IsPlain b true s → a ≡ b
 apart_once g w (step.Begin count) a b p q same x y = begin_once (begin_answer w count) a b p q same
 apart_once g w (step.Finish n) a b p q same x y = finish_once n (is_running w.requests n) a b p q same x y
-apart_once g w (step.Fill slot entry) a b p q same x y = p ∙ sym q
-apart_once g w (step.Index word) a b p q same x y = p ∙ sym q
-apart_once g w step.StoreTail a b p q same x y = p ∙ sym q
-apart_once g w step.LoadHead a b p q same x y = p ∙ sym q
-apart_once g w step.Take a b p q same x y = p ∙ sym q
-apart_once g w step.End a b p q same x y = p ∙ sym q
-apart_once g w (step.Issue n) a b p q same x y = p ∙ sym q
-apart_once g w step.Flush a b p q same x y = p ∙ sym q
-apart_once g w step.LoadCqTail a b p q same x y = p ∙ sym q
-apart_once g w step.Reap a b p q same x y = p ∙ sym q
-apart_once g w step.StoreCqHead a b p q same x y = p ∙ sym q
-apart_once g w step.Close a b p q same x y = p ∙ sym q
-apart_once g w step.Next a b p q same x y = p ∙ sym q
+apart_once g w _ a b p q same x y = p ∙ sym q
 
 pub called_once : (g : Rules) (h : History) (s : Step) (a b : Answer) → IsCalled g h s a → IsCalled g h s b → text_of a ≡ text_of b → IsPlain a g.is_apart s → IsPlain b g.is_apart s → a ≡ b
 called_once g h s a b p q same x y = go g.is_apart p q x y

@@ -23,40 +23,16 @@ use Rattle.uring_check.specs.declared.follower.Follower.TheVariants.{Whole, Apar
 
 -- one answer alone is called for, but to Begin and Finish
 one_apart : (g : Setup) (w : World) (s : Step) (a b : Answer) → HasOneAnswer s → CalledForApart g w s a → CalledForApart g w s b → a ≡ b
-one_apart g w (step.Fill slot entry) a b h p q = p ∙ sym q
-one_apart g w (step.Index word) a b h p q = p ∙ sym q
-one_apart g w step.StoreTail a b h p q = p ∙ sym q
-one_apart g w step.LoadHead a b h p q = p ∙ sym q
 one_apart g w (step.Begin count) a b h p q = absurd h
-one_apart g w step.Take a b h p q = p ∙ sym q
-one_apart g w step.End a b h p q = p ∙ sym q
-one_apart g w (step.Issue n) a b h p q = p ∙ sym q
 one_apart g w (step.Finish n) a b h p q = absurd h
-one_apart g w step.Flush a b h p q = p ∙ sym q
-one_apart g w step.LoadCqTail a b h p q = p ∙ sym q
-one_apart g w step.Reap a b h p q = p ∙ sym q
-one_apart g w step.StoreCqHead a b h p q = p ∙ sym q
-one_apart g w step.Close a b h p q = p ∙ sym q
-one_apart g w step.Next a b h p q = p ∙ sym q
+one_apart g w _ a b h p q = p ∙ sym q
 
 -- with files nothing else is called for to such a step
 as_apart : (apart : Bool) (g : Setup) (w : World) (s : Step) (a : Answer) → HasOneAnswer s → CalledIn apart g w s a → CalledForApart g w s a
 as_apart true g w s a h p = p
-as_apart false g w (step.Fill slot entry) a h p = p
-as_apart false g w (step.Index word) a h p = p
-as_apart false g w step.StoreTail a h p = p
-as_apart false g w step.LoadHead a h p = p
 as_apart false g w (step.Begin count) a h p = absurd h
-as_apart false g w step.Take a h p = p
-as_apart false g w step.End a h p = p
-as_apart false g w (step.Issue n) a h p = p
 as_apart false g w (step.Finish n) a h p = absurd h
-as_apart false g w step.Flush a h p = p
-as_apart false g w step.LoadCqTail a h p = p
-as_apart false g w step.Reap a h p = p
-as_apart false g w step.StoreCqHead a h p = p
-as_apart false g w step.Close a h p = p
-as_apart false g w step.Next a h p = p
+as_apart false g w _ a h p = p
 
 one_answer : (g : Rules) (h : History) (s : Step) (a b : Answer) → HasOneAnswer s → IsCalled g h s a → IsCalled g h s b → a ≡ b
 one_answer g h s a b one p q =

@@ -1,5 +1,5 @@
 -- The submission ring as lists of all that ever happened to it. io_uring(7), Submitting I/O requests; what is refused, and that a call goes on after a word that names no slot, is our own rule.
-use Rattle.std.specs.Prelude.{ℕ, ◌+◌, ◌-◌, ◌%◌, ◌^◌, Bool, ◌&&◌, ◌==◌, nat_lt, List, [], ◌∷◌, ◌++◌, length, take, drop, map, sum, count_by, Option, Some, None, is_none, if◌then◌else◌, min}
+use Rattle.std.specs.Prelude.{ℕ, ◌+◌, ◌-◌, ◌%◌, ◌^◌, ◌≤◌, Bool, ◌&&◌, ◌==◌, nat_lt, List, [], ◌∷◌, ◌++◌, length, take, drop, map, sum, count_by, Option, Some, None, is_none, if◌then◌else◌, min}
 use Rattle.std.specs.List.{list_any, filter_map}
 use Rattle.std.specs.Option.{option_map}
 use Rattle.uring_entry.specs.Setup.{Setup}
@@ -73,6 +73,25 @@ places_from l count = take count (drop (taken l) l.published)
 -- the entries that they have
 abbrev pub entries_from : Submission → ℕ → List Sqe
 entries_from l count = entries_of (places_from l count)
+
+-- What a published position holds: the entry of the slot that its word names, or a word that names none.
+pub data Published : Type 0 where
+  with_entry : Sqe → Published
+  bad_word : ℕ → Published
+
+-- a word, with its entry if it names a slot
+abbrev pub item_of : ℕ → Option Sqe → Published
+item_of word (Some entry) = with_entry entry
+item_of word None = bad_word word
+
+-- the published items, in order
+abbrev pub published_items : Submission → List Published
+published_items l = map (λ place. item_of place.word place.entry) l.published
+
+-- an item of a ring of this size: a bad word isn't below the size. Our own rule
+abbrev pub IsItem : ℕ → Published → Type 0
+IsItem size (with_entry entry) = Unit {0}
+IsItem size (bad_word word) = size ≤ word
 
 -- whether a slot may not be filled: a published position that the application doesn't know to be taken names it. Our own rule
 abbrev pub is_busy : Submission → ℕ → Bool

@@ -11,13 +11,13 @@ use Rattle.std.proofs.lemmas.List.Sums.{sum_by_push}
 use Rattle.std.proofs.lemmas.Option.{slice_get_within, get_or_from_slice_get}
 use Rattle.uring_entry.specs.Setup.{Setup}
 use Rattle.uring_entry.specs.Layout.{Sqe}
-use Rattle.uring_entry.specs.Submission.{Submission, Call, Place, place_of, taken, dropped_in}
+use Rattle.uring_entry.specs.Submission.{Submission, Call, Place, place_of, taken, dropped_in, item_of, published_items, IsItem}
 use Rattle.uring_machine.specs.World.{World, ending_of}
 use Rattle.uring_machine.specs.Events.{takes_position, entry_taken_by, closes_call}
 use Rattle.uring_laws.specs.Direct.{with_told, entries_taken, positions_taken, staged_words, published_words, published_entry, slot_content, before_published}
 use Rattle.uring_machine.specs.Histories.{Event, History, world, IsLawfulApart}
 use Rattle.uring_laws.specs.HistoryLists.{OwnSubmission}
-use Rattle.uring_laws.specs.Published.{item_of, published_items, IsItem, items_told, drops_position, positions_dropped, OwnPublished}
+use Rattle.uring_laws.specs.Published.{items_told, drops_position, positions_dropped, OwnPublished}
 use Rattle.uring_machine.specs.declared.step.Step.{Step}
 use Rattle.uring_machine.specs.declared.step.Step.TheVariants as step
 use Rattle.uring_machine.specs.declared.answer.Answer.{Answer}

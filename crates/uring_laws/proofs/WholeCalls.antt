@@ -6,11 +6,10 @@ use Rattle.std.proofs.lemmas.List.{length_push}
 use Rattle.uring_entry.specs.Setup.{Setup}
 use Rattle.uring_entry.specs.Layout.{Sqe}
 use Rattle.uring_entry.specs.IndexWords.{word_of}
-use Rattle.uring_entry.specs.Submission.{Submission, staged, with_published}
+use Rattle.uring_entry.specs.Submission.{Submission, staged, with_published, Published, with_entry, bad_word, published_items}
 use Rattle.uring_machine.specs.World.{World}
 use Rattle.uring_machine.specs.StepAnswers.{is_spent}
 use Rattle.uring_machine.specs.Histories.{Event, History, world, history_of, IsLawfulApart}
-use Rattle.uring_laws.specs.Published.{Published, with_entry, bad_word, published_items}
 use Rattle.uring_laws.specs.Standing.{Stands, with_items, item_steps, item_answers, after_items, TakesWholeCall}
 use Rattle.uring_machine.specs.declared.step.Step.TheVariants as step
 use Rattle.uring_machine.specs.declared.answer.Answer.{Answer}

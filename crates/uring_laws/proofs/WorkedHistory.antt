@@ -3,7 +3,7 @@
 use Rattle.std.proofs.Common.{◌≡◌, ◌+◌, ◌*◌, ◌^◌, pos, Some, true, false, List, [], ◌∷◌, ◌++◌, replicate, take, refl, inl}
 use Rattle.uring_entry.specs.Setup.{Setup}
 use Rattle.uring_entry.specs.Layout.{Sqe, Cqe}
-use Rattle.uring_entry.specs.Submission.{dropped}
+use Rattle.uring_entry.specs.Submission.{dropped, with_entry, bad_word, published_items}
 use Rattle.uring_entry.specs.Requests.{no_bytes}
 use Rattle.uring_entry.specs.Completions.{Completions, no_completion, with_posted}
 use Rattle.uring_entry.specs.declared.operation.Op.TheVariants.{Fsync}
@@ -13,7 +13,7 @@ use Rattle.uring_laws.specs.Direct.{call_counts, open_call}
 use Rattle.uring_laws.specs.Finishes.{done_in, files_left, first_files, AreDone, ends_of}
 use Rattle.uring_machine.specs.Histories.{Event, world, history_of}
 use Rattle.uring_laws.specs.Laws.{in_ring, in_overflow}
-use Rattle.uring_laws.specs.Published.{with_entry, bad_word, published_items, items_told, positions_dropped}
+use Rattle.uring_laws.specs.Published.{items_told, positions_dropped}
 use Rattle.uring_laws.specs.Standing.{Stands, after_items, item_answers}
 use Rattle.uring_machine.specs.declared.step.Step.TheVariants as step
 use Rattle.uring_machine.specs.declared.answer.Answer.TheVariants as answer

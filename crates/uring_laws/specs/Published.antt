@@ -2,32 +2,12 @@
 use Rattle.std.specs.Prelude.{◌≡◌, ℕ, ◌%◌, ◌^◌, ◌≤◌, Bool, true, false, List, map, count_by, Option, Some, None, All}
 use Rattle.std.specs.List.{enumerate_from}
 use Rattle.uring_entry.specs.Setup.{Setup}
-use Rattle.uring_entry.specs.Layout.{Sqe}
-use Rattle.uring_entry.specs.Submission.{Submission, dropped}
+use Rattle.uring_entry.specs.Submission.{dropped, IsItem, item_of, Published, published_items}
 use Rattle.uring_machine.specs.Events.{closes_call}
 use Rattle.uring_laws.specs.Direct.{before_last, published_words, published_entry, call_counts}
 use Rattle.uring_machine.specs.Histories.{Event, History, world}
 use Rattle.uring_machine.specs.declared.step.Step.TheVariants as step
 use Rattle.uring_machine.specs.declared.answer.Answer.TheVariants as answer
-
--- What a published position holds: the entry of the slot that its word names, or a word that names none.
-pub data Published : Type 0 where
-  with_entry : Sqe → Published
-  bad_word : ℕ → Published
-
--- a word, with its entry if it names a slot
-abbrev pub item_of : ℕ → Option Sqe → Published
-item_of word (Some entry) = with_entry entry
-item_of word None = bad_word word
-
--- the published items, in order
-abbrev pub published_items : Submission → List Published
-published_items l = map (λ place. item_of place.word place.entry) l.published
-
--- an item of a ring of this size: a bad word isn't below the size. Our own rule
-abbrev pub IsItem : ℕ → Published → Type 0
-IsItem size (with_entry entry) = Unit {0}
-IsItem size (bad_word word) = size ≤ word
 
 -- Read straight off a history.
 

@@ -1,7 +1,7 @@
 -- What holds of everything that a lawful history has made.
 use Rattle.std.proofs.Common.{ℕ, ◌+◌, [], ◌∷◌, refl, arith}
 use Rattle.uring_entry.specs.Setup.{Setup}
-use Rattle.uring_entry.specs.Submission.{with_taken, stops_at}
+use Rattle.uring_entry.specs.Submission.{with_taken, stops_at, no_submission}
 use Rattle.uring_machine.specs.World.{World, at_first}
 use Rattle.uring_machine.specs.Histories.{History, world, IsLawfulApart}
 use Rattle.uring_machine.specs.declared.step.Step.{Step}
@@ -13,7 +13,6 @@ use Rattle.uring_machine.proofs.SoundRings.{IsSoundCompletions, IsSoundSubmissio
 use Rattle.uring_machine.proofs.SoundRequests.{IsSoundRequests, first_requests, start_sound}
 use Rattle.uring_machine.proofs.RequestEnds.{finish_sound, doom_sound, cancel_sound}
 use Rattle.uring_machine.proofs.Groups.{call_sound}
-use Rattle.uring_entry.specs.Submission.{no_submission}
 use Rattle.uring_entry.specs.Completions.{no_completion}
 use Rattle.uring_entry.specs.Requests.{Requests}
 

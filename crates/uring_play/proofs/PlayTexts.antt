@@ -8,14 +8,14 @@ use Rattle.uring_entry.specs.Layout.{Cqe}
 use Rattle.uring_entry.specs.Setup.{Setup}
 use Rattle.uring_machine.specs.CalledFor.{IsLawful}
 use Rattle.uring_machine.specs.Histories.{Event, history_of}
-use Rattle.uring_threads.specs.declared.item.Item.{Item}
-use Rattle.uring_play.specs.Inputs.{ReadsCalls, lists_of}
-use Rattle.uring_play.specs.Outputs.{lines_text, counts_text, IsInOrder, IsWritten, Writes}
+use Rattle.uring_ports.specs.declared.item.Item.{Item}
+use Rattle.uring_play_text.specs.Inputs.{ReadsCalls, lists_of}
+use Rattle.uring_play_text.specs.Outputs.{lines_text, counts_text, IsInOrder, IsWritten, Writes}
 use Rattle.uring_play.specs.Plays.{IsPlay, IsTextOf, IsPlayText, WritesPlay, Plays, made_by}
 use Rattle.uring_play.specs.Totals.{accepted_in, dropped_last}
 use Rattle.uring_play.proofs.PlayedThrough.{accepted_total}
-use Rattle.uring_play.specs.declared.play_fault.PlayFault.{PlayFault}
-use Rattle.uring_play.specs.declared.play_fault.PlayFault.TheVariants as fault
+use Rattle.uring_play_text.specs.declared.play_fault.PlayFault.{PlayFault}
+use Rattle.uring_play_text.specs.declared.play_fault.PlayFault.TheVariants as fault
 
 -- nothing is written
 nothing_written : (held : Option (List ℕ)) → Appends held held []

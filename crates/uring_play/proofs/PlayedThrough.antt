@@ -10,19 +10,19 @@ use Rattle.uring_machine.specs.CalledFor.{IsLawful}
 use Rattle.uring_machine.specs.Events.{accepted_by}
 use Rattle.uring_laws.specs.Direct.{told, with_told}
 use Rattle.uring_machine.specs.Histories.{Event, History, world, history_of}
-use Rattle.uring_laws.specs.Published.{published_items}
+use Rattle.uring_entry.specs.Submission.{published_items}
 use Rattle.uring_laws.proofs.DirectRequests.{direct_requests}
 use Rattle.uring_machine.proofs.Following.{history_of-cons, history_of-append}
 use Rattle.uring_laws.proofs.WholeLaws.{lawful_apart}
-use Rattle.uring_threads.specs.AppEnd.{AppEnd}
-use Rattle.uring_threads.specs.Items.{all_published_as}
+use Rattle.uring_ports.specs.AppEnd.{AppEnd}
+use Rattle.uring_ports.specs.Items.{all_published_as}
+use Rattle.uring_ports.specs.Ports.{Put, items_of_calls}
+use Rattle.uring_ports.specs.declared.item.Item.{Item}
 use Rattle.uring_threads.specs.Kept.{now}
 use Rattle.uring_threads.specs.Kernel.{Kernel, IsIdle}
-use Rattle.uring_threads.specs.Ports.{Put, items_of_calls}
 use Rattle.uring_threads.specs.Report.{Report, AreTogether, left_by, FinishesAll, PublishesItems, ClosesOnlyAllTaken, DeliversReaped, ReapsPosted, all_waiting}
 use Rattle.uring_threads.specs.Settled.{finish_of}
 use Rattle.uring_threads.specs.Worker.{Worker}
-use Rattle.uring_threads.specs.declared.item.Item.{Item}
 use Rattle.uring_threads.specs.declared.job.JobResult.{JobResult}
 use Rattle.uring_play.specs.Plays.{IsPlay}
 use Rattle.uring_play.specs.Threads.{Applies, StaysKernel, StayWorkers}

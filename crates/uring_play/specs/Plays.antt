@@ -7,16 +7,16 @@ use Rattle.uring_entry.specs.Requests.{outstanding_in}
 use Rattle.uring_entry.specs.Setup.{Setup}
 use Rattle.uring_machine.specs.CalledFor.{IsLawful}
 use Rattle.uring_machine.specs.Histories.{Event, world, history_of}
-use Rattle.uring_laws.specs.Published.{published_items}
+use Rattle.uring_entry.specs.Submission.{published_items}
 use Rattle.uring_machine.specs.World.{World}
-use Rattle.uring_threads.specs.Items.{all_published_as}
-use Rattle.uring_threads.specs.Ports.{items_of_calls}
-use Rattle.uring_threads.specs.declared.item.Item.{Item}
-use Rattle.uring_play.specs.Inputs.{IsTold}
-use Rattle.uring_play.specs.Outputs.{lines_text, counts_text, IsInOrder, Writes}
+use Rattle.uring_ports.specs.Items.{all_published_as}
+use Rattle.uring_ports.specs.Ports.{items_of_calls}
+use Rattle.uring_ports.specs.declared.item.Item.{Item}
+use Rattle.uring_play_text.specs.Inputs.{IsTold}
+use Rattle.uring_play_text.specs.Outputs.{lines_text, counts_text, IsInOrder, Writes}
 use Rattle.uring_play.specs.Totals.{accepted_in, dropped_last}
-use Rattle.uring_play.specs.declared.play_fault.PlayFault.{PlayFault}
-use Rattle.uring_play.specs.declared.play_fault.PlayFault.TheVariants as fault
+use Rattle.uring_play_text.specs.declared.play_fault.PlayFault.{PlayFault}
+use Rattle.uring_play_text.specs.declared.play_fault.PlayFault.TheVariants as fault
 
 -- what a trace has made
 abbrev pub made_by : Setup → List Event → World

@@ -1,7 +1,7 @@
 //! The application's thread of a play: it submits calls, closes, and reaps.
 ghost use Rattle.std.specs.Prelude.{◌≡◌, ◌++◌, IsTrue};
-ghost use Rattle.uring_threads.specs.Ports.{nothing_put, with_call, with_close};
-ghost use Rattle.uring_play.specs.Inputs.{lists_of};
+ghost use Rattle.uring_ports.specs.Ports.{nothing_put, with_call, with_close};
+ghost use Rattle.uring_play_text.specs.Inputs.{lists_of};
 ghost use Rattle.uring_play.specs.Threads.{Applies};
 
 use std::sync::Wait;

@@ -1,14 +1,14 @@
 //! A play of calls: all ends are made, run in threads, and settled.
 ghost use Rattle.std.specs.Prelude.{◌≡◌, ◌<◌, ◌≤◌, ◌++◌, List, true, false, [], IfOk, IsTrue, OnOk};
 ghost use Rattle.uring_entry.specs.Requests.{outstanding_in};
-ghost use Rattle.uring_play.specs.Inputs.{lists_of};
+ghost use Rattle.uring_ports.specs.Ports.{nothing_put};
+ghost use Rattle.uring_ports.specs.declared.item.Item.{Item};
+ghost use Rattle.uring_play_text.specs.Inputs.{lists_of};
 ghost use Rattle.uring_play.specs.Plays.{IsPlay};
 ghost use Rattle.uring_play.specs.Threads.{IsWhole};
 ghost use Rattle.uring_threads.specs.Kept.{now};
 ghost use Rattle.uring_threads.specs.Kernel.{IsIdle};
-ghost use Rattle.uring_threads.specs.Ports.{nothing_put};
 ghost use Rattle.uring_threads.specs.Report.{AreTogether, left_by};
-ghost use Rattle.uring_threads.specs.declared.item.Item.{Item};
 
 use crate::application::Applied;
 use crate::running::{Ended, run_threads};
@@ -16,8 +16,9 @@ use std::alloc::{AllocError, Global};
 use std::sync::Wait;
 use std::thread::Threads;
 use uring_machine::Cqe;
-use uring_threads::{AppEnd, Item, Kernel, KernelPort, Open, Report, Setup, Worker, lanes, settle};
-use uring_words::words;
+use uring_threads::{
+    AppEnd, Item, Kernel, KernelPort, Open, Report, Setup, Worker, lanes, settle, words,
+};
 
 /// What a play leaves.
 #[derive(Drop)]

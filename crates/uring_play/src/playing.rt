@@ -3,15 +3,13 @@ ghost use Rattle.std.specs.Prelude.{◌≡◌, ◌<◌, ◌≤◌, false};
 ghost use Rattle.uring_play.specs.Plays.{Plays, WritesPlay};
 
 use crate::drive::{Played, drive_lanes, drive_words};
-use crate::play_fault::PlayFault;
-use crate::reading::read_calls;
 use crate::totals::dropped_last;
-use crate::writing::write_out;
 use std::alloc::Global;
 use std::io::{Read, Write};
 use std::sync::Wait;
 use std::thread::Threads;
 use uring_machine::Cqe;
+use uring_play_text::{PlayFault, read_calls, write_out};
 use uring_threads::{Open, Report, Setup};
 
 /// Reads all of `reader` as calls of a play over this set-up, plays them with so many workers, and writes the completions of all requests to `writer`, sorted, and then how many requests were accepted and how many words dropped. Conditions: there are 1 to 8 workers, and calls of the set-up go on behind an entry with a fault. Our own rule.

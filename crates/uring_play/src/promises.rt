@@ -1,7 +1,7 @@
 //! What each thread of a play promises of the ends that it gives back.
 ghost use Rattle.std.specs.Prelude.{◌≡◌, IfOk};
-ghost use Rattle.uring_threads.specs.Ports.{nothing_put};
-ghost use Rattle.uring_play.specs.Inputs.{lists_of};
+ghost use Rattle.uring_ports.specs.Ports.{nothing_put};
+ghost use Rattle.uring_play_text.specs.Inputs.{lists_of};
 ghost use Rattle.uring_play.specs.Threads.{Applies, StaysKernel, StaysWorker};
 
 use crate::application::{Applied, apply};
@@ -23,7 +23,7 @@ pub(crate) struct AppliesAll<P: AppPort> {
 }
 
 impl<P: AppPort> Promise<Applied<P>> for AppliesAll<P> {
-    ghost use Rattle.uring_play.specs.Inputs.{lists_of};
+    ghost use Rattle.uring_play_text.specs.Inputs.{lists_of};
     ghost use Rattle.uring_play.specs.Threads.{Applies};
 
     ghost kept_by = { λ p applied. Applies p.before.value (lists_of p.calls.value.items) applied };

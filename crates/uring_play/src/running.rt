@@ -1,7 +1,7 @@
 //! The threads of a play: each end in a thread of its own, from the start of all of them until all have ended.
 ghost use Rattle.std.specs.Prelude.{◌≡◌, ◌≤◌, [], length, IfOk, OnOk, vec_capacity};
-ghost use Rattle.uring_threads.specs.Ports.{nothing_put};
-ghost use Rattle.uring_play.specs.Inputs.{lists_of};
+ghost use Rattle.uring_ports.specs.Ports.{nothing_put};
+ghost use Rattle.uring_play_text.specs.Inputs.{lists_of};
 ghost use Rattle.uring_play.specs.Threads.{Applies, StaysKernel, StayWorkers, workers_of};
 
 use crate::application::Applied;

@@ -3,10 +3,6 @@ pub mod ItemSteps
 pub mod CallSteps
 pub mod IssueSteps
 pub mod Tying
-mod MessageLemmas
-mod MessageSteps
-mod LaneLemmas
-pub mod AppEndLemmas
 pub mod Dealing
 mod Times
 mod Sent

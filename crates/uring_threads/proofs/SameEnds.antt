@@ -3,10 +3,10 @@ use Rattle.std.proofs.Common.{◌≡◌, ℕ, suc, ◌<◌, List, [], ◌∷◌,
 use Rattle.std.specs.Prelude.{slice_set}
 use Rattle.std.proofs.lemmas.Bool.{cases_eq}
 use Rattle.std.proofs.lemmas.List.{get_or-map, length-map, length-set, get_or-set_same, get_or-set_other, get_or_default}
+use Rattle.uring_ports.specs.AppEnd.{AppEnd}
 use Rattle.uring_threads.specs.Dispatched.{AreSameLanes, HaveCarried, numbers_of_lanes}
 use Rattle.uring_threads.specs.Kept.{Kept}
 use Rattle.uring_threads.specs.Kernel.{Kernel, IsKernel}
-use Rattle.uring_threads.specs.AppEnd.{AppEnd}
 use Rattle.uring_threads.specs.Pairings.{pairing_of}
 use Rattle.uring_threads.specs.Report.{AreTogether, IsSameKernel}
 use Rattle.uring_threads.specs.SettledWorker.{HaveFiles, HaveLooked}

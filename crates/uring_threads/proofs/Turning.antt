@@ -4,15 +4,14 @@ use Rattle.std.specs.Prelude.{◌⊎◌, None, Result, IfOk}
 use Rattle.uring_entry.specs.Requests.{next_of}
 use Rattle.uring_entry.specs.Setup.{Setup}
 use Rattle.uring_entry.specs.Layout.{Cqe}
-use Rattle.uring_entry.specs.Submission.{Submission}
-use Rattle.uring_laws.specs.Published.{published_items}
+use Rattle.uring_entry.specs.Submission.{Submission, published_items}
 use Rattle.uring_laws.specs.Standing.{Stands}
+use Rattle.uring_ports.specs.Ports.{Put}
 use Rattle.uring_threads.specs.Delivered.{KeepsAllBut, OnlyPosts}
 use Rattle.uring_threads.specs.Dispatched.{HaveCarried, AreSameLanes, SomeIsFull}
 use Rattle.uring_machine.specs.World.{World}
 use Rattle.uring_threads.specs.Kept.{Kept, now, IsUnmoved}
 use Rattle.uring_threads.specs.Kernel.{Kernel, IsKernel}
-use Rattle.uring_threads.specs.Ports.{Put}
 use Rattle.uring_threads.specs.Taking.{TakesIn}
 use Rattle.uring_threads.specs.Tallies.{Tally, Appends, both, none_counted, issues_counted, finishes_counted, reaps_counted}
 use Rattle.uring_threads.specs.Turns.{AreTies, Counts, IsDelivered, Tied, ClosesOnce, waiting_in}

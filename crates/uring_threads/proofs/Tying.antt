@@ -2,32 +2,31 @@
 use Rattle.std.proofs.Common.{◌≡◌, ℕ, ◌+◌, ◌<◌, ◌≤◌, true, false, List, [], ◌∷◌, ◌++◌, length, refl, sym, subst, ap, ◌∙◌, arith, append_assoc, append-nil}
 use Rattle.std.proofs.lemmas.List.{map-append}
 use Rattle.std.proofs.lemmas.List.Sums.{sum_by_push}
-use Rattle.uring_entry.specs.Submission.{Submission}
+use Rattle.uring_entry.specs.Submission.{Submission, Published, with_entry, bad_word, IsItem}
 use Rattle.uring_machine.specs.World.{World, closing}
 use Rattle.uring_machine.specs.StepAnswers.{close_answer}
 use Rattle.uring_laws.specs.Standing.{Stands}
-use Rattle.uring_threads.specs.Items.{all_published_as}
-use Rattle.uring_threads.specs.Ports.{Put, items_of_calls}
+use Rattle.uring_ports.specs.Items.{all_published_as}
+use Rattle.uring_ports.specs.Ports.{Put, items_of_calls}
+use Rattle.uring_ports.specs.Items.{published_as}
+use Rattle.uring_ports.specs.Ports.{Pulls, with_call, with_close}
+use Rattle.uring_ports.specs.declared.pulled.Pulled.{Pulled}
+use Rattle.uring_ports.specs.declared.item.Item.{Item}
 use Rattle.uring_threads.specs.Rows.{with_begun_as}
 use Rattle.uring_threads.specs.Taking.{intake_after}
 use Rattle.uring_threads.specs.Turns.{Tied}
-use Rattle.uring_threads.specs.Items.{published_as}
 use Rattle.uring_entry.specs.Setup.{Setup}
 use Rattle.uring_machine.specs.declared.step.Step.TheVariants as step
 use Rattle.uring_machine.specs.declared.answer.Answer.{Answer}
 use Rattle.uring_machine.specs.declared.answer.Answer.TheVariants as answer
 use Rattle.uring_threads.specs.Kept.{Kept, IsUnmoved, Grows, now}
-use Rattle.uring_threads.specs.Ports.{Pulls, with_call, with_close}
-use Rattle.uring_threads.specs.declared.pulled.Pulled.{Pulled}
 use Rattle.uring_threads.specs.Rows.{with_items_published}
 use Rattle.uring_threads.specs.Taking.{TakesIn}
 use Rattle.uring_threads.specs.Tallies.{Appends, call_counted, whole_call_counted, close_counted}
 use Rattle.uring_threads.proofs.ItemSteps.{items_stand}
 use Rattle.uring_threads.proofs.TraceSteps.{grown, unmoved_now, appends_none, appends_one, appends_then}
-use Rattle.uring_laws.specs.Published.{Published, with_entry, bad_word, IsItem}
 use Rattle.uring_laws.specs.Standing.{with_item, with_items}
 use Rattle.uring_laws.proofs.Standing.{items_published, tail_publishes}
-use Rattle.uring_threads.specs.declared.item.Item.{Item}
 use Rattle.std.specs.Prelude.{All, Result, Ok, Err, IfOk, OnErr, None, is_some, if◌then◌else◌}
 use Rattle.std.proofs.lemmas.List.{length-map, length-append, get_or_append_left}
 use Rattle.std.proofs.lemmas.List.Elements.{All-tail}

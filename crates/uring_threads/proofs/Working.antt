@@ -10,12 +10,12 @@ use Rattle.uring_files.specs.Contents.{FileContents, written, with_writes_synced
 use Rattle.uring_files.specs.Operations.{after, with_changed, IsOutcome}
 use Rattle.uring_laws.specs.Finishes.{Done, files_left, AreDone}
 use Rattle.uring_laws.proofs.FileLaws.{left-snoc, done-snoc}
+use Rattle.uring_ports.specs.Lanes.{numbers_of, numbers_of_pointer}
 use Rattle.uring_threads.specs.declared.job.Job.{Job}
 use Rattle.uring_threads.specs.declared.job.JobResult.{JobResult}
 use Rattle.uring_threads.specs.Work.{job_of, result_of, jobs_of, results_of}
 use Rattle.rtrb.specs.Shared.{Names}
 use Rattle.rtrb.specs.declared.end.End.{End}
-use Rattle.uring_threads.specs.Lanes.{numbers_of, numbers_of_pointer}
 use Rattle.uring_threads.specs.Worker.{Worker, done_of, empty_files, IsWorking}
 
 -- as many files as before

@@ -3,9 +3,9 @@ use Rattle.std.specs.Prelude.{◌≡◌, ℕ, ◌<◌, ◌≤◌, true, List, le
 use Rattle.uring_entry.specs.Layout.{Cqe}
 use Rattle.uring_entry.specs.Requests.{outstanding_in}
 use Rattle.uring_machine.specs.World.{World}
+use Rattle.uring_ports.specs.Ports.{Put, Sizes}
 use Rattle.uring_threads.specs.Dispatched.{HoldJobs, HoldResults}
 use Rattle.uring_threads.specs.Kept.{Kept}
-use Rattle.uring_threads.specs.Ports.{Put, Sizes}
 use Rattle.uring_threads.specs.Turns.{AreTies}
 use Rattle.uring_threads.specs.declared.intake.Intake.{Intake}
 use Rattle.uring_threads.specs.declared.work_lanes.WorkLanes.{WorkLanes}

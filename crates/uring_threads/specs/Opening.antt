@@ -2,11 +2,11 @@
 use Rattle.std.specs.Prelude.{◌≡◌, ℕ, ◌<◌, List, [], length, get_or, ◌⊎◌, ◌≤◌}
 use Rattle.rtrb.specs.Ring.{consumer_capacity}
 use Rattle.uring_entry.specs.Setup.{Setup}
+use Rattle.uring_ports.specs.AppEnd.{AppEnd}
+use Rattle.uring_ports.specs.Ports.{nothing_put, sizes_of}
 use Rattle.uring_threads.specs.Pairings.{pairing_of}
-use Rattle.uring_threads.specs.AppEnd.{AppEnd}
 use Rattle.uring_threads.specs.Dispatched.{HaveCarriedNone, HoldJobs}
 use Rattle.uring_threads.specs.Kernel.{Kernel}
-use Rattle.uring_threads.specs.Ports.{nothing_put, sizes_of}
 use Rattle.uring_threads.specs.Report.{AreTogether}
 use Rattle.uring_threads.specs.Worker.{Worker, empty_files}
 use Rattle.uring_threads.specs.declared.intake.Intake.TheVariants as intake

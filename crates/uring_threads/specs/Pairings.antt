@@ -2,7 +2,7 @@
 use Rattle.std.specs.Prelude.{ℕ, List, [], ◌∷◌}
 use Rattle.rtrb.specs.declared.producer.Producer.{Producer}
 use Rattle.rtrb.specs.declared.consumer.Consumer.{Consumer}
-use Rattle.uring_threads.specs.Lanes.{numbers_of}
+use Rattle.uring_ports.specs.Lanes.{numbers_of}
 
 module _ {T A P : Type 0} where
   abbrev pub producer_numbers : Producer T A P → List ℕ

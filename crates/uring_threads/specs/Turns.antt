@@ -2,13 +2,13 @@
 use Rattle.std.specs.Prelude.{◌≡◌, ℕ, ◌+◌, Bool, true, false, List, [], ◌∷◌, ◌++◌, length, map, sum, count_by, if◌then◌else◌}
 use Rattle.uring_entry.specs.Completions.{Completions}
 use Rattle.uring_entry.specs.Layout.{Cqe}
-use Rattle.uring_laws.specs.Published.{published_items}
+use Rattle.uring_entry.specs.Submission.{published_items}
 use Rattle.uring_laws.specs.Standing.{Stands}
 use Rattle.uring_machine.specs.World.{World}
-use Rattle.uring_threads.specs.Items.{all_published_as, AreItems}
+use Rattle.uring_ports.specs.Items.{all_published_as, AreItems}
+use Rattle.uring_ports.specs.Ports.{Put, items_of_calls}
 use Rattle.uring_threads.specs.Dispatched.{HaveCarried}
 use Rattle.uring_threads.specs.Kept.{Kept, now}
-use Rattle.uring_threads.specs.Ports.{Put, items_of_calls}
 use Rattle.uring_threads.specs.Tallies.{Appends, closes_ring}
 use Rattle.uring_threads.specs.declared.intake.Intake.{Intake}
 use Rattle.uring_threads.specs.declared.intake.Intake.TheVariants as intake

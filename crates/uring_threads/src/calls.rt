@@ -2,15 +2,15 @@
 ghost use Rattle.std.specs.Prelude.{◌≡◌, ◌+◌, ◌*◌, ◌≤◌, [], length, false};
 ghost use Rattle.uring_laws.specs.Standing.{Stands, in_call};
 ghost use Rattle.uring_machine.specs.World.{World};
-ghost use Rattle.uring_threads.specs.Items.{all_published_as};
+ghost use Rattle.uring_ports.specs.Items.{all_published_as};
 ghost use Rattle.uring_threads.specs.Kept.{now};
 ghost use Rattle.uring_threads.specs.Rows.{with_items_published, with_begun_as};
 ghost use Rattle.uring_threads.specs.Tallies.{Appends, none_counted, call_counted, whole_call_counted};
 
-use crate::item::Item;
 use crate::kept::Kept;
 use crate::put_items::put_items;
 use uring_machine::{Answer, Step};
+use uring_ports::Item;
 
 /// How a call was begun.
 #[derive(Clone, Copy)]

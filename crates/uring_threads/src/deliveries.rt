@@ -6,9 +6,9 @@ ghost use Rattle.uring_threads.specs.Kept.{now, IsUnmoved};
 ghost use Rattle.uring_threads.specs.Tallies.{Appends, reaps_counted};
 
 use crate::kept::Kept;
-use crate::ports::KernelPort;
 use std::alloc::AllocError;
 use uring_machine::{Answer, Step};
+use uring_ports::KernelPort;
 
 /// Reaps so many completions and hands each to the port. Conditions: the tail that the application last loaded shows so many, the port has room for them, and the trace for an event each.
 fn reap_all<P: KernelPort>(kept: &mut Kept, port: &mut P, count: u64)

@@ -1,19 +1,17 @@
 //! Calls that the dispatcher takes in from its port, and the close mark.
 ghost use Rattle.std.specs.Prelude.{◌≡◌, ◌+◌, ◌*◌, ◌≤◌, length, IfOk, OnErr, vec_capacity};
+ghost use Rattle.uring_ports.specs.Ports.{Put, Pulls};
 ghost use Rattle.uring_threads.specs.Kept.{now};
 ghost use Rattle.uring_threads.specs.Taking.{TakesIn, intake_after};
 ghost use Rattle.uring_threads.specs.Turns.{ClosesOnce, Tied};
 ghost use Rattle.uring_threads.specs.Turns as turns;
-ghost use Rattle.uring_threads.specs.Ports.{Put, Pulls};
 ghost use Rattle.uring_threads.specs.declared.intake.Intake.TheVariants.{Ready};
 
 use crate::calls::{Begun, begin_call, take_call};
-use crate::item::Item;
 use crate::kept::Kept;
-use crate::ports::KernelPort;
-use crate::pulled::Pulled;
 use std::alloc::AllocError;
 use uring_machine::Step;
+use uring_ports::{Item, KernelPort, Pulled};
 
 /// How the dispatcher stands with what it pulls.
 #[derive(Clone, Copy, PartialEq, Eq)]

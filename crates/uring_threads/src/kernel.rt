@@ -3,27 +3,24 @@ ghost use Rattle.std.specs.Prelude.{◌≡◌, ◌↔◌, ◌+◌, ◌*◌, ◌<
 ghost use Rattle.uring_entry.specs.Completions.{unreaped};
 ghost use Rattle.uring_entry.specs.Requests.{next_of};
 ghost use Rattle.uring_entry.specs.Submission.{dropped};
+ghost use Rattle.uring_ports.specs.Dropped.{with_word, WereStored};
+ghost use Rattle.uring_ports.specs.Items.{AreItems};
+ghost use Rattle.uring_ports.specs.Ports.{nothing_put, sizes_of, items_of_calls, LeavesItems, LeavesCompletions};
 ghost use Rattle.uring_threads.specs.Dispatched.{AreSameLanes, HaveCarriedNone, HoldJobs, HoldResults, SomeIsFull, numbers_of_lanes};
-ghost use Rattle.uring_threads.specs.Dropped.{with_word, WereStored};
-ghost use Rattle.uring_threads.specs.Items.{AreItems};
 ghost use Rattle.uring_threads.specs.Kept.{now};
-ghost use Rattle.uring_threads.specs.Ports.{nothing_put, sizes_of, items_of_calls, LeavesItems, LeavesCompletions};
 ghost use Rattle.uring_threads.specs.Tallies.{Tally, Appends, TakesFewResults, starts_request};
 ghost use Rattle.uring_threads.specs.Turns.{Counts, awaits_memory};
 ghost use Rattle.uring_threads.specs.declared.intake.Intake.TheVariants.{Ready};
 
-use crate::app_end::AppEnd;
 use crate::intake::Intake;
-use crate::item::Item;
 use crate::kept::Kept;
-use crate::ports::KernelPort;
-use crate::pulled::Rests;
 use crate::report::room_to_settle;
 use crate::turns::{Turn, make_turn};
 use crate::work_lanes::{LANE_LENGTH, WorkLanes};
 use std::alloc::{AllocError, Global};
 use std::marker::Model;
 use uring_entry::Cqe;
+use uring_ports::{AppEnd, Item, KernelPort, Rests};
 
 /// The dispatcher's end over a port: it takes in what the application submits, sends jobs to workers and takes in their results, delivers completions, and records each step of this as its trace. It may run in a thread of its own.
 #[derive(Drop)]

@@ -1,19 +1,17 @@
 //! All the ends of a set-up.
-ghost use Rattle.std.specs.Prelude.{◌≡◌, ℕ, List, ◌↔◌, ◌<◌, ◌≤◌, [], length, true, false, None, IfOk, IsErrOf, OnOk, vec_capacity};
+ghost use Rattle.std.specs.Prelude.{◌≡◌, ℕ, List, ◌↔◌, ◌<◌, ◌≤◌, [], length, true, false, Some, None, IfOk, IsErrOf, OnOk, vec_capacity};
+ghost use Rattle.uring_ports.specs.Ports.{nothing_put, sizes_of};
 ghost use Rattle.uring_threads.specs.Opening.{AreBadWorkers, AreEnds, AreOpened};
-ghost use Rattle.uring_threads.specs.Ports.{nothing_put, sizes_of};
 
-use crate::app_end::AppEnd;
 use crate::gate::Gate;
-use crate::item::Item;
 use crate::kept::Kept;
 use crate::kernel::Kernel;
-use crate::port_lanes::{AppLanes, KernelLanes, lane_ports};
-use crate::ports::{AppPort, KernelPort};
 use crate::work_lanes::{WorkLanes, open_all};
 use crate::worker::Worker;
 use std::alloc::{AllocError, Global};
 use uring_entry::Setup;
+use uring_ports::{AppEnd, AppLanes, AppPort, Item, KernelLanes, KernelPort, lane_ports};
+use uring_words::{AppWords, KernelWords, word_ports};
 
 /// Why there are no ends.
 #[derive(Clone, Copy, Debug, PartialEq, Eq)]
@@ -69,6 +67,27 @@ pub fn lanes<G: Gate>(
 {
     check_ends(setup, gates.len())?;
     let Ok((app, kernel)) = lane_ports(alloc, setup) else {
+        return Err(LanesFault::NoMemory);
+    };
+    ends(alloc, setup, gates, app, kernel)
+}
+
+/// All the ends of this set-up over shared words: the application's, the dispatcher's, and those of the workers, one behind each gate, in the gates' order. A worker is known by its place, from 0.
+///
+/// `Stops` comes exactly if the set-up's calls stop, and is tested first; else `BadWorkers` exactly if there aren't 1 to 8 gates; else `NoMemory` if memory was refused.
+pub fn words<G: Gate>(
+    alloc: Global,
+    setup: &Setup,
+    gates: Vec<G>,
+) -> Result<(AppEnd<AppWords>, Kernel<KernelWords>, Vec<Worker<G>>), LanesFault>
+    ensures ok { IfOk result (λ ends. (numbers : List ℕ) × AreEnds setup.now (length gates.items) numbers ends.0 ends.1 ends.2.items) }
+    // No dropped word was stored or loaded.
+    ensures dropped { IfOk result (λ ends. (ends.0.dropped ≡ Some []) × (ends.1.dropped ≡ Some [])) }
+    ensures stops { IsErrOf result LanesFault.Stops ↔ (setup.now.stops ≡ true) }
+    ensures bad_workers { IsErrOf result LanesFault.BadWorkers ↔ ((setup.now.stops ≡ false) × AreBadWorkers (length gates.items)) }
+{
+    check_ends(setup, gates.len())?;
+    let Ok((app, kernel)) = word_ports(alloc, setup) else {
         return Err(LanesFault::NoMemory);
     };
     ends(alloc, setup, gates, app, kernel)

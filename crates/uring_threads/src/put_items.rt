@@ -1,14 +1,14 @@
 //! The application's items, put into the submission ring one by one.
 ghost use Rattle.std.specs.Prelude.{◌≡◌, ◌+◌, ◌*◌, ◌<◌, ◌≤◌, [], length};
 ghost use Rattle.uring_laws.specs.Standing.{Stands};
-ghost use Rattle.uring_threads.specs.Items.{published_as, all_published_as};
+ghost use Rattle.uring_ports.specs.Items.{published_as, all_published_as};
 ghost use Rattle.uring_threads.specs.Kept.{now};
 ghost use Rattle.uring_threads.specs.Rows.{with_item_put, with_items_put};
 ghost use Rattle.uring_threads.specs.Tallies.{Appends, items_counted};
 
-use crate::item::Item;
 use crate::kept::Kept;
 use uring_machine::Step;
+use uring_ports::Item;
 
 /// Puts an item into the ring: fills its slot and stages the slot, or stages its bad word. Conditions: no position waits, the ring has place for one more, and the trace has room for two events.
 pub fn put_item(kept: &mut Kept, slot: u32, item: Item)

@@ -12,9 +12,7 @@ ghost use Rattle.uring_threads.specs.Report.{left_by, FinishesAll, LeavesRunning
 ghost use Rattle.uring_threads.specs.Opening.{AreLanesOf};
 
 use crate::gate::Gate;
-use crate::item::Item;
 use crate::kept::Kept;
-use crate::pulled::Rests;
 use crate::settle_work::settle_workers;
 use crate::work_lanes::WorkLanes;
 use crate::worker::Worker;
@@ -24,6 +22,7 @@ use std::marker::Model;
 use uring_files::FileState;
 use uring_laws::reaped_begin_posted;
 use uring_machine::{Answer, Counts, Cqe, Setup, Step};
+use uring_ports::{Item, Rests};
 
 /// What all ends of a set-up leave: the trace of all that happened, what of it is still on its way, and the files.
 #[derive(Drop)]

@@ -2,8 +2,8 @@
 ghost use Rattle.std.specs.Prelude.{◌≡◌, ◌<◌, ◌≤◌, ◌⊎◌, length, false, None, IfOk, OnOk, OnErr, vec_capacity};
 ghost use Rattle.uring_entry.specs.Requests.{next_of};
 ghost use Rattle.uring_entry.specs.Submission.{dropped};
+ghost use Rattle.uring_ports.specs.Dropped.{with_word};
 ghost use Rattle.uring_threads.specs.Dispatched.{AreSameLanes, SomeIsFull};
-ghost use Rattle.uring_threads.specs.Dropped.{with_word};
 ghost use Rattle.uring_threads.specs.Kept.{now};
 ghost use Rattle.uring_threads.specs.Tallies.{Tally, Appends, TakesFewResults};
 ghost use Rattle.uring_threads.specs.Turns.{AreTies, Counts, awaits_memory};
@@ -12,11 +12,10 @@ use crate::collect::collect_all;
 use crate::deliveries::deliver;
 use crate::intake::{Intake, take_in};
 use crate::issues::issue_all;
-use crate::item::Item;
 use crate::kept::Kept;
-use crate::ports::KernelPort;
 use crate::work_lanes::WorkLanes;
 use std::alloc::AllocError;
+use uring_ports::{Item, KernelPort};
 
 /// What the dispatcher did in a turn.
 #[derive(Clone, Copy, Debug, PartialEq, Eq)]

@@ -2,7 +2,7 @@
 use Rattle.std.proofs.Common.{◌≡◌, ℕ, zero, suc, ◌<◌, List, [], ◌∷◌, ◌++◌, length, take, drop, get_or, refl, sym, subst, ap, ◌∙◌, arith}
 use Rattle.std.proofs.Math.Seq.{take-append_seam}
 use Rattle.std.proofs.lemmas.List.{length-map}
-use Rattle.uring_threads.specs.AppEnd.{AppEnd}
+use Rattle.uring_ports.specs.AppEnd.{AppEnd}
 use Rattle.uring_threads.specs.Kernel.{Kernel}
 use Rattle.uring_threads.specs.Report.{AreTogether}
 use Rattle.uring_threads.specs.Worker.{Worker}

@@ -2,9 +2,9 @@
 use Rattle.std.proofs.Common.{◌≡◌, ◌+◌, Bool, true, false, ◌||◌, not, List, [], ◌∷◌, ◌++◌, map, length, if◌then◌else◌, MatchBool, refl, sym, ◌∙◌, ap, subst, arith, append-nil}
 use Rattle.std.proofs.Math.Bool.{or_assoc}
 use Rattle.std.proofs.lemmas.Bool.{false≢true, or_parts}
-use Rattle.uring_threads.specs.declared.item.Item.{Item}
-use Rattle.uring_threads.specs.Messages.{with_first}
-use Rattle.uring_threads.specs.Ports.{Put, items_of_calls, places_of, with_call, with_close, LeavesItems}
+use Rattle.uring_ports.specs.declared.item.Item.{Item}
+use Rattle.uring_ports.specs.Messages.{with_first}
+use Rattle.uring_ports.specs.Ports.{Put, items_of_calls, places_of, with_call, with_close, LeavesItems}
 use Rattle.uring_words.specs.Submission.Calls.{item_of, with_item, calls_of, has_close_mark, put_of, items_of, AreWholeFrom, AreWhole, AllGoOn}
 use Rattle.uring_words.specs.Submission.Layout.{closes, ends_call}
 use Rattle.uring_words.specs.declared.submission.view.Position.{Position}

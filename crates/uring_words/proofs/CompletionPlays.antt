@@ -4,7 +4,7 @@ use Rattle.std.proofs.lemmas.List.{set-get_or}
 use Rattle.atomic_table.specs.Table.{step, Allows}
 use mathlib.Core.Option.{none}
 use Rattle.uring_entry.specs.IndexWords.{word_of}
-use Rattle.uring_threads.specs.Dropped.{WereHad}
+use Rattle.uring_ports.specs.Dropped.{WereHad}
 use Rattle.uring_words.specs.Completion.Layout.{cell_index, tail_index, head_index, dropped_index}
 use Rattle.uring_words.specs.Completion.Rule.{last_of, tail_seen, Agree, BothAgree}
 use Rattle.uring_words.specs.Completion.Steps.{Holder, word_stored, tail_stored, dropped_stored, head_loaded, tail_loaded, got_of, head_stored, dropped_loaded, StoresWord, StoresTail, StoresDropped, LoadsHead, LoadsTail, LoadsWord, StoresHead, LoadsDropped}

@@ -2,12 +2,12 @@
 use Rattle.std.proofs.Common.{◌≡◌, ℕ, ◌+◌, ◌<◌, ◌≤◌, true, false, List, [], ◌∷◌, ◌++◌, map, length, get_or, refl, sym, ◌∙◌, ap, subst, arith, append_assoc, append-nil, length-append}
 use Rattle.std.proofs.lemmas.List.{length-map}
 use mathlib.Core.List.{map-append}
-use Rattle.uring_threads.specs.declared.item.Item.{Item}
 use Rattle.std.proofs.lemmas.List.{get_or_append_left}
 use Rattle.std.proofs.Math.Seq.{get_or-append_seam}
-use Rattle.uring_laws.specs.Published.{Published, IsItem}
-use Rattle.uring_threads.specs.Items.{AreItems, published_as}
-use Rattle.uring_threads.specs.Ports.{with_call, with_close}
+use Rattle.uring_entry.specs.Submission.{Published, IsItem}
+use Rattle.uring_ports.specs.declared.item.Item.{Item}
+use Rattle.uring_ports.specs.Items.{AreItems, published_as}
+use Rattle.uring_ports.specs.Ports.{with_call, with_close}
 use Rattle.uring_words.specs.Submission.Calls.{item_of, put_of, has_close_mark, AreWhole, AllGoOn}
 use Rattle.uring_words.specs.Submission.Ends.{StagesCall, CopiesOne, InCall, copied_one}
 use Rattle.uring_words.specs.Submission.Layout.{close_mark, closes}

@@ -1,7 +1,7 @@
 -- Which words are a position's, what it holds, and what loading its words makes of what the dispatcher knows.
 use Rattle.std.proofs.Common.{◌≡◌, ℕ, eqb, ◌+◌, ◌<◌, ◌≤◌, Bool, true, false, nat_lt, List, [], ◌∷◌, length, if◌then◌else◌, refl, ◌∙◌, ap, arith, eq-eqb, ne_eqb}
 use Rattle.std.proofs.lemmas.Bool.Decides.{nat_tests}
-use Rattle.uring_threads.specs.declared.item.Item.TheVariants as item
+use Rattle.uring_ports.specs.declared.item.Item.TheVariants as item
 use Rattle.uring_words.specs.Submission.Calls.{item_from}
 use Rattle.uring_words.specs.Submission.Ends.{copied_one}
 use Rattle.uring_words.specs.Submission.Layout.{closes, slot_of, has_entry, IsPosition}

@@ -2,7 +2,7 @@
 use Rattle.std.specs.Prelude.{ℕ, List, ◌∷◌, ◌++◌, length}
 use Rattle.atomic_table.specs.Seated.{TableId}
 use Rattle.uring_entry.specs.Layout.{Cqe}
-use Rattle.uring_threads.specs.Ports.{Sizes, Put}
+use Rattle.uring_ports.specs.Ports.{Sizes, Put}
 
 -- the application's port: the numbers of its pair, the sizes, all that was put, every completion that was got, and every dropped word that was loaded
 pub record AppWords : Type 0 where

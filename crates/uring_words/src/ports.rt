@@ -1,7 +1,7 @@
 //! The two ports over shared words: submissions go through one table, completions through another.
 ghost use Rattle.std.specs.Prelude.{◌≡◌, [], ◌∷◌, ◌++◌, length, Some, IfOk, IfErr, OnOk};
-ghost use Rattle.uring_threads.specs.Dropped.{WereHad};
-ghost use Rattle.uring_threads.specs.Ports.{nothing_put, sizes_of, LeavesItems, LeavesCompletions};
+ghost use Rattle.uring_ports.specs.Dropped.{WereHad};
+ghost use Rattle.uring_ports.specs.Ports.{nothing_put, sizes_of, LeavesItems, LeavesCompletions};
 
 use crate::completion::app_calls::{get, load_dropped};
 use crate::completion::kernel_calls;
@@ -15,7 +15,7 @@ use std::alloc::{AllocError, Global};
 use std::marker::Model;
 use std::sync::Arc;
 use uring_entry::{Cqe, Setup};
-use uring_threads::{AppPort, Item, KernelPort, Pulled, Rests};
+use uring_ports::{AppPort, Item, KernelPort, Pulled, Rests};
 
 /// The application's port over shared words.
 #[derive(Drop)]

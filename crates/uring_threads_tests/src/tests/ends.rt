@@ -9,9 +9,9 @@ use std::thread::Threads;
 use uring_entry::{Cqe, Setup};
 use uring_threads::{
     AppEnd, Gate, Item, Kernel, KernelLanes, KernelPort, LanesFault, Open, Report, SubmitRefusal,
-    Turn, Worked, Worker, lanes, settle,
+    Turn, Worked, Worker, lanes, settle, words,
 };
-use uring_words::{KernelWords, words};
+use uring_words::KernelWords;
 
 /// All ends of one set-up over ports of this kind.
 #[derive(Drop)]

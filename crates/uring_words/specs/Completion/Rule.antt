@@ -3,7 +3,7 @@ use Rattle.std.specs.Prelude.{◌≡◌, ℕ, ◌+◌, ◌^◌, ◌<◌, ◌≤�
 use Rattle.std.specs.Int.{IsPowerOfTwo}
 use Rattle.atomic_table.specs.Table.{State}
 use Rattle.uring_entry.specs.IndexWords.{word_of}
-use Rattle.uring_threads.specs.Dropped.{WereHad}
+use Rattle.uring_ports.specs.Dropped.{WereHad}
 use Rattle.uring_words.specs.Completion.Layout.{cell_index, tail_index, head_index, dropped_index, word_count, StandsAt}
 use Rattle.uring_words.specs.Places.{place_of}
 use Rattle.uring_words.specs.Sides.{AgreeBy, both_know}

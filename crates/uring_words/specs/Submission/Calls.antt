@@ -1,9 +1,9 @@
 -- What the words of the places say: items, call by call, and the close mark behind all calls. Our own rule.
 use Rattle.std.specs.Prelude.{◌≡◌, ℕ, Bool, true, false, ◌||◌, not, List, [], ◌∷◌, if◌then◌else◌, MatchBool}
-use Rattle.uring_threads.specs.declared.item.Item.{Item}
-use Rattle.uring_threads.specs.declared.item.Item.TheVariants as item
-use Rattle.uring_threads.specs.Messages.{with_first}
-use Rattle.uring_threads.specs.Ports.{Put}
+use Rattle.uring_ports.specs.declared.item.Item.{Item}
+use Rattle.uring_ports.specs.declared.item.Item.TheVariants as item
+use Rattle.uring_ports.specs.Messages.{with_first}
+use Rattle.uring_ports.specs.Ports.{Put}
 use Rattle.uring_words.specs.Submission.Layout.{closes, ends_call, slot_of}
 use Rattle.uring_words.specs.declared.submission.view.Position.{Position}
 

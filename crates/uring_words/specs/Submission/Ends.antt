@@ -2,7 +2,7 @@
 use Rattle.std.specs.Prelude.{◌≡◌, ℕ, ◌+◌, ◌≤◌, Bool, true, false, List, [], ◌∷◌, ◌++◌, length, map}
 use Rattle.std.specs.Int.{IsPowerOfTwo}
 use Rattle.uring_entry.specs.IndexWords.{word_of}
-use Rattle.uring_threads.specs.declared.item.Item.{Item}
+use Rattle.uring_ports.specs.declared.item.Item.{Item}
 use Rattle.uring_words.specs.Submission.Calls.{item_of, AreWhole, AllGoOn}
 use Rattle.uring_words.specs.Submission.Layout.{closes, ends_call}
 use Rattle.uring_words.specs.Submission.Rule.{tail_seen}

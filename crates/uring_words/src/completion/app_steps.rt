@@ -1,7 +1,7 @@
 //! The application's steps on the table, from one word up to one completion.
 ghost use Rattle.std.specs.Prelude.{◌≡◌, ℕ, ◌+◌, ◌<◌, ◌≤◌, true, List, ◌∷◌, ◌++◌, length};
 ghost use Rattle.uring_entry.specs.IndexWords.{word_of};
-ghost use Rattle.uring_threads.specs.Dropped.{WereHad};
+ghost use Rattle.uring_ports.specs.Dropped.{WereHad};
 ghost use Rattle.uring_words.specs.Completion.Ends.{AppRests};
 ghost use Rattle.uring_words.specs.Completion.Layout.{word_count};
 ghost use Rattle.uring_words.specs.Completion.Steps.{head_stored};

@@ -1,7 +1,7 @@
 //! What is left on the table when both of its seats are in one hand.
 ghost use Rattle.std.specs.Prelude.{◌≡◌, ◌+◌, ◌≤◌, true, [], ◌∷◌, ◌++◌, length, vec_capacity, vec_len};
-ghost use Rattle.uring_threads.specs.Dropped.{WereHad};
-ghost use Rattle.uring_threads.specs.Ports.{LeavesCompletions};
+ghost use Rattle.uring_ports.specs.Dropped.{WereHad};
+ghost use Rattle.uring_ports.specs.Ports.{LeavesCompletions};
 ghost use Rattle.uring_words.specs.Completion.Ends.{completions_of, AppRests};
 ghost use Rattle.uring_words.specs.Completion.Layout.{word_count};
 

@@ -1,8 +1,8 @@
 //! The application's calls on the table: one call or the close mark, all or nothing.
 ghost use Rattle.std.specs.Prelude.{◌≡◌, ◌+◌, ◌<◌, ◌≤◌, false, true, length, map, MatchBool};
 ghost use Rattle.uring_entry.specs.IndexWords.{word_of};
-ghost use Rattle.uring_threads.specs.Items.{AreItems};
-ghost use Rattle.uring_threads.specs.Ports.{places_of, with_call, with_close};
+ghost use Rattle.uring_ports.specs.Items.{AreItems};
+ghost use Rattle.uring_ports.specs.Ports.{places_of, with_call, with_close};
 ghost use Rattle.uring_words.specs.Submission.Calls.{item_of, put_of, has_close_mark, AllGoOn};
 ghost use Rattle.uring_words.specs.Submission.Ends.{AppRests, SawHead, StagesCall};
 ghost use Rattle.uring_words.specs.Submission.Layout.{word_count};
@@ -10,7 +10,7 @@ ghost use Rattle.uring_words.specs.Sides.{with_app};
 
 use crate::submission::app_steps::{publish, stage_close, stage_item};
 use crate::submission::table::{LoadHead, Seat, Words};
-use uring_threads::Item;
+use uring_ports::Item;
 
 // How many places are free above the head that was last seen. The seat says only which head that is.
 fn free(_seat: &Seat, size: u32, head: u32, tail: u32) -> usize

@@ -2,8 +2,8 @@
 ghost use Rattle.std.specs.Prelude.{◌≡◌, ◌+◌, ◌<◌, ◌≤◌, true, false, [], length};
 ghost use Rattle.std.specs.Int.{IsPowerOfTwo};
 ghost use Rattle.uring_entry.specs.IndexWords.{word_of};
-ghost use Rattle.uring_laws.specs.Published.{IsItem};
-ghost use Rattle.uring_threads.specs.Items.{published_as};
+ghost use Rattle.uring_entry.specs.Submission.{IsItem};
+ghost use Rattle.uring_ports.specs.Items.{published_as};
 ghost use Rattle.uring_words.specs.Submission.Calls.{AreWhole};
 ghost use Rattle.uring_words.specs.Submission.Ends.{StagesItem};
 ghost use Rattle.uring_words.specs.Places.{place_of};
@@ -13,7 +13,7 @@ ghost use Rattle.uring_words.specs.Sides.{with_app};
 ghost use Rattle.uring_words.specs.Submission.Steps.{mark_stored, tail_stored};
 
 use crate::submission::table::{Seat, StoreMark, StoreTail, StoreWord, Words};
-use uring_threads::Item;
+use uring_ports::Item;
 
 /// The array word of the close mark.
 pub const CLOSE_MARK: u64 = 1 << 33;

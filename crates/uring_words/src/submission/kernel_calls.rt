@@ -1,7 +1,7 @@
 //! The dispatcher's calls on the table: one whole call, the close mark, or nothing.
 ghost use Rattle.std.specs.Prelude.{◌≡◌, ◌+◌, ◌<◌, ◌≤◌, true, false, [], ◌++◌, length, vec_capacity};
-ghost use Rattle.uring_threads.specs.Ports.{Pulls};
-ghost use Rattle.uring_threads.specs.declared.pulled.Pulled.{Pulled};
+ghost use Rattle.uring_ports.specs.Ports.{Pulls};
+ghost use Rattle.uring_ports.specs.declared.pulled.Pulled.{Pulled};
 ghost use Rattle.uring_words.specs.Submission.Calls.{put_of, has_close_mark, AreWhole};
 ghost use Rattle.uring_words.specs.Submission.Ends.{Copying, KernelRests};
 ghost use Rattle.uring_words.specs.Submission.Layout.{word_count};
@@ -10,7 +10,7 @@ ghost use Rattle.uring_words.specs.Submission.Steps.{head_stored};
 
 use crate::submission::kernel_steps::{Copied, copy_one};
 use crate::submission::table::{LoadTail, Seat, StoreHead, Words};
-use uring_threads::{Item, Pulled};
+use uring_ports::{Item, Pulled};
 
 // Loads the tail.
 pub fn load_tail(words: &Words, seat: &mut Seat, size: u32, tail: u32, head: u32) -> u32

@@ -12,7 +12,7 @@ ghost use Rattle.std.specs.Prelude.{List};
 use crate::submission::app_steps::{CLOSE_MARK, LAST_OF_CALL};
 use crate::submission::table::{LoadMark, LoadTail, LoadWord, Seat, StoreHead, Words};
 use uring_entry::Sqe;
-use uring_threads::{Item, Pulled};
+use uring_ports::{Item, Pulled};
 
 /// What a position holds.
 #[derive(Clone, Copy)]

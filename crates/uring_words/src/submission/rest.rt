@@ -1,6 +1,6 @@
 //! What is left on the table when both of its seats are in one hand.
 ghost use Rattle.std.specs.Prelude.{◌≡◌, ◌+◌, ◌<◌, ◌≤◌, true, [], ◌++◌, length, vec_capacity, vec_len};
-ghost use Rattle.uring_threads.specs.Ports.{LeavesItems};
+ghost use Rattle.uring_ports.specs.Ports.{LeavesItems};
 ghost use Rattle.uring_words.specs.Submission.Calls.{put_of, items_of, AreWhole};
 ghost use Rattle.uring_words.specs.Submission.Ends.{KernelRests};
 ghost use Rattle.uring_words.specs.Submission.Layout.{word_count};
@@ -8,7 +8,7 @@ ghost use Rattle.uring_words.specs.Submission.Layout.{word_count};
 use crate::submission::kernel_calls::load_tail;
 use crate::submission::kernel_steps::{Copied, copy_one};
 use crate::submission::table::{BothSides, Seat, Words};
-use uring_threads::Item;
+use uring_ports::Item;
 
 // Takes the items that are known to be there, up to the close mark.
 fn take_known(

@@ -1,5 +1,5 @@
 use Rattle.std.proofs.Common.{◌≡◌, ◌++◌, take}
-use Rattle.uring_play.specs.Inputs.{lists_of}
+use Rattle.uring_play_text.specs.Inputs.{lists_of}
 use Rattle.uring_play.proofs.application.submit_all.Given as goal
 
 -- so many calls were submitted, and all that was reaped is at hand

@@ -1,7 +1,7 @@
 use Rattle.std.proofs.Common.{◌≡◌, subst}
 use Rattle.std.specs.Prelude.{IfOk}
 use Rattle.uring_entry.specs.Setup.{Setup}
-use Rattle.uring_play.specs.Inputs.{lists_of}
+use Rattle.uring_play_text.specs.Inputs.{lists_of}
 use Rattle.uring_play.specs.Plays.{IsPlay}
 use Rattle.uring_play.proofs.PlayedThrough.{still_together}
 use Rattle.uring_play.proofs.drive.drive.Goals as goal

@@ -1,8 +1,8 @@
 use Rattle.std.proofs.Common.{◌∙◌, [], length, ap, refl, sum, sym, subst, arith}
 use Rattle.uring_laws.specs.Standing.{Stands}
 use Rattle.uring_machine.specs.World.{World}
+use Rattle.uring_ports.specs.Ports.{Pulls}
 use Rattle.uring_threads.specs.Kept.{now}
-use Rattle.uring_threads.specs.Ports.{Pulls}
 use Rattle.uring_threads.specs.Turns.{ClosesOnce, Tied, waiting_in}
 use Rattle.uring_threads.proofs.Closing.{once_begun, once_shut}
 use Rattle.uring_threads.proofs.Tying.{closed_world, taken_completions, takes_call, takes_nothing, takes_shut, tied_shut, tied_taken}

@@ -1,5 +1,5 @@
 use Rattle.std.proofs.Common.{◌≡◌, ◌+◌, ◌*◌, ◌≤◌, length, take}
-use Rattle.uring_threads.specs.Items.{all_published_as}
+use Rattle.uring_ports.specs.Items.{all_published_as}
 use Rattle.uring_threads.specs.Kept.{now}
 use Rattle.uring_threads.specs.Rows.{with_items_put}
 use Rattle.uring_threads.specs.Tallies.{Appends, items_counted}

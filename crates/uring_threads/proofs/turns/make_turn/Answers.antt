@@ -2,9 +2,9 @@ use Rattle.std.proofs.Common.{◌≡◌, ◌<◌, ◌≤◌, length, subst, sym,
 use Rattle.std.specs.Prelude.{OnOk, OnErr}
 use Rattle.uring_entry.specs.Setup.{Setup}
 use Rattle.uring_entry.specs.Submission.{dropped}
-use Rattle.uring_threads.specs.Dropped.{with_word}
+use Rattle.uring_ports.specs.Dropped.{with_word}
+use Rattle.uring_ports.specs.Ports.{Sizes}
 use Rattle.uring_threads.specs.Kept.{now}
-use Rattle.uring_threads.specs.Ports.{Sizes}
 use Rattle.uring_threads.specs.Tallies.{TakesFewResults, finishes_counted, issues_counted, reaps_counted}
 use Rattle.std.proofs.lemmas.Result.{IfOk-weaker, IfOk-from_err}
 use Rattle.uring_threads.specs.Turns.{AreTies, Counts}

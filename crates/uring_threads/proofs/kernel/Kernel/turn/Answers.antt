@@ -1,13 +1,13 @@
 use Rattle.std.proofs.Common.{◌≡◌, ◌<◌, ◌≤◌, length, arith, subst, sym, ap, ◌∙◌}
 use Rattle.std.specs.Prelude.{IfOk, OnOk, OnErr}
 use Rattle.uring_entry.specs.Submission.{dropped}
-use Rattle.uring_threads.specs.Dropped.{with_word}
+use Rattle.uring_ports.specs.Dropped.{with_word}
+use Rattle.uring_ports.specs.Ports.{Sizes}
 use Rattle.uring_threads.specs.Kept.{now}
 use Rattle.uring_threads.specs.Tallies.{Tally, Appends}
 use Rattle.uring_threads.specs.Dispatched.{HoldJobs, HoldResults, numbers_of_lanes}
 use Rattle.uring_entry.specs.Setup.{Setup}
 use Rattle.uring_threads.specs.Kernel.{Kernel}
-use Rattle.uring_threads.specs.Ports.{Sizes}
 use Rattle.uring_threads.specs.Turns.{AreTies, Counts}
 use Rattle.uring_threads.proofs.FewResults.{few_same}
 use Rattle.uring_threads.proofs.FullLanes.{hold_stays, short_stays, next_is_none, setup_stays}

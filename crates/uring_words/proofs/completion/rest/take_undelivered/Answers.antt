@@ -1,7 +1,7 @@
 use Rattle.std.proofs.Common.{◌++◌, arith, refl, sym, ap, ◌∙◌, subst, ◌∷◌}
 use mathlib.Core.List.{map-append}
 use Rattle.uring_entry.specs.Layout.{completion_of}
-use Rattle.uring_threads.specs.Dropped.{WereHad}
+use Rattle.uring_ports.specs.Dropped.{WereHad}
 use Rattle.uring_words.specs.Completion.Ends.{completions_of}
 use Rattle.uring_words.specs.Completion.Steps.{Holder}
 use Rattle.uring_words.proofs.Seats.{joins}

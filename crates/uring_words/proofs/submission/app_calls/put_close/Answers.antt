@@ -1,6 +1,6 @@
 use Rattle.std.proofs.Common.{◌≡◌, ℕ, ◌+◌, ◌%◌, ◌^◌, false, length, arith, refl, sym, ap, ◌∙◌}
 use Rattle.uring_entry.specs.IndexWords.{word_of}
-use Rattle.uring_threads.specs.Ports.{with_close}
+use Rattle.uring_ports.specs.Ports.{with_close}
 use Rattle.uring_words.specs.Submission.Calls.{put_of}
 use Rattle.uring_words.specs.Submission.Rule.{stored}
 use Rattle.uring_words.specs.Submission.Steps.{Holder}

@@ -1,6 +1,6 @@
 use Rattle.std.proofs.Common.{[], ◌∷◌, ◌++◌, map, take, rules, sym, ap, ◌∙◌}
 use Rattle.std.proofs.lemmas.List.{take_more, map-append}
-use Rattle.uring_threads.proofs.AppEndLemmas.{item_at}
+use Rattle.uring_ports.proofs.AppEndLemmas.{item_at}
 use Rattle.uring_words.specs.Submission.Calls.{item_of}
 use Rattle.uring_words.specs.Sides.{with_app}
 use Rattle.uring_words.specs.Submission.Steps.{Holder}

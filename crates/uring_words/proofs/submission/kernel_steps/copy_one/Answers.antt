@@ -1,6 +1,6 @@
 use Rattle.std.proofs.Common.{◌≡◌, ℕ, ◌<◌, ◌%◌, true, false, length, arith, sym, ap, ◌∙◌, refl, ne_eqb}
 use Rattle.std.proofs.lemmas.List.{nil_from_length}
-use Rattle.uring_threads.specs.declared.item.Item.TheVariants as item
+use Rattle.uring_ports.specs.declared.item.Item.TheVariants as item
 use Rattle.uring_words.specs.Submission.Calls.{item_from}
 use Rattle.uring_words.specs.Submission.Ends.{copied_one}
 use Rattle.uring_words.specs.Submission.Layout.{close_mark, closes, slot_of, has_entry}

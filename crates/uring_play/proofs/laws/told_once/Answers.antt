@@ -1,5 +1,0 @@
-use Rattle.uring_play.proofs.OnceLaws as laws
-use Rattle.uring_play.proofs.laws.told_once.Goals as goal
-
-pub returns : goal.returns
-returns c = laws.told_once

@@ -1,6 +1,0 @@
-use Rattle.std.proofs.Common.{refl}
-use Rattle.uring_play.proofs.ScriptLaws.{at_start}
-use Rattle.uring_play.proofs.script.Script.new.Goals as goal
-
-pub returns : goal.returns
-returns c = rw (c.new.ensures.items, c.new-2.ensures.items) (refl, at_start c.args.size)

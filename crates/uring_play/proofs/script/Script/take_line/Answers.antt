@@ -1,9 +1,0 @@
-use Rattle.std.proofs.Common.{rules}
-use Rattle.std.specs.Prelude.{IsSome}
-use Rattle.uring_play.proofs.ScriptLaws.{stays}
-use Rattle.uring_play.proofs.script.Script.take_line.Goals as goal
-
-pub returns-then-is_some-clause-lines : goal.returns-then-is_some-clause-lines
-returns-then-is_some-clause-lines c =
-    let some : IsSome c.args.self.now.fault = search rules in
-    λ size lines text given h. (h.0, stays size lines text _ _ _ _ some h.1)

@@ -1,8 +1,0 @@
-use Rattle.std.proofs.Common.{◌≡◌, ◌++◌, take}
-use Rattle.std.specs.Prelude.{string_bytes}
-use Rattle.uring_play.specs.Outputs.{lines_text}
-use Rattle.uring_play.proofs.writing.push_all.Given as goal
-
--- the lines so far
-abbrev pub invariant-loop-completion : goal.invariant-loop-completion
-invariant-loop-completion l = string_bytes l.text ≡ string_bytes l.fn.text ++ lines_text (take l.completion-index l.completions)

@@ -1,0 +1,221 @@
+-- All bytes tell something.
+use Rattle.std.proofs.Common.{◌≡◌, ℕ, zero, suc, ◌+◌, ◌*◌, ◌-◌, ◌<◌, ◌≤◌, ◌^◌, ltb, eqb, List, [], ◌∷◌, ◌++◌, length, take, drop, get_or, Option, Some, None, Ok, Err, refl, sym, ap, subst, ◌∙◌, append_assoc, arith, length-append, length-drop, reverse, ◌⊎◌, inl, inr}
+use mathlib.Core.List.{head-eq_of_cons-eq}
+use Rattle.std.specs.Prelude.{codes, replicate, pos, MatchOption}
+use Rattle.std.specs.List.{AllByRecursion}
+use Rattle.std.specs.Str.{bytes_eq}
+use Rattle.std.specs.Int.{w64, to_le_bytes, from_le_bytes}
+use Rattle.std.proofs.lemmas.Nat.{le_bytes_8}
+use Rattle.std.proofs.lemmas.Bool.{ltb-true, ltb-false, eqb-true, eqb-false, cases_Bool, true≢false}
+use Rattle.std.proofs.lemmas.Slice.Eq.{bytes_eq-Decides}
+use Rattle.std.proofs.lemmas.List.{append-nil, nil_from_length, take-append-drop, length-take, reverse-append}
+use Rattle.uring_entry.specs.Layout.{Sqe, header, without_data, padded, bytes_of, AreWords}
+use Rattle.uring_entry.specs.declared.opcode.TheConstants.{NOP, FSYNC, ASYNC_CANCEL, ASYNC_CANCEL_ALL, READ, WRITE}
+use Rattle.uring_trace.specs.Lines.{Splits, with_last}
+use Rattle.uring_trace.specs.Tokens.{tokens_of}
+use Rattle.uring_trace.specs.Spelling.{Form, IsForm, IsEntryOf, AreBytes, HasBytes, SpellsEntry, IsNoEntry, SpellsNumber, IsNoNumber}
+use Rattle.uring_trace.specs.Spelling as form
+use Rattle.uring_trace.specs.Reading.{form_of, number_of}
+use Rattle.uring_trace.proofs.FormLaws.{form_found, form_again}
+use Rattle.uring_trace.proofs.Spellings.{read_number_tells}
+use Rattle.uring_trace.proofs.Sessions.{split_more, split_end}
+use Rattle.uring_ports.specs.declared.item.Item.{Item}
+use Rattle.uring_ports.specs.declared.item.Item.TheVariants as item
+use Rattle.uring_play_text.specs.declared.play_fault.PlayFault.{PlayFault}
+use Rattle.uring_play_text.specs.ItemLines.{SpellsItem, IsItemLine, IsBadLine}
+use Rattle.uring_play_text.specs.LineReads.{IsBadWord, IsNoBadWord, IsNoItem}
+use Rattle.uring_play_text.specs.Inputs.{Told, Tells, IsTold}
+use Rattle.uring_play_text.specs.Scripts.{Goes, one_call}
+use Rattle.uring_play_text.specs.declared.play_fault.PlayFault.TheVariants as fault
+use Rattle.uring_play_text.proofs.ItemLaws.{bad_is_none, below}
+use Rattle.uring_play_text.proofs.ScriptLaws.{at_start, so_far, blank_more, item_more, bad_first, long_first, fault_stays}
+
+-- ---- each form has an entry
+
+abbrev AreSmall : List ℕ → Type 0
+AreSmall bytes = AllByRecursion (λ b. b < 256) bytes
+
+byte_at : (bytes : List ℕ) (i : ℕ) → AreSmall bytes → get_or bytes i 0 < 256
+byte_at [] i h = omega arith
+byte_at (b ∷ bytes) zero h = h.0
+byte_at (b ∷ bytes) (suc i) h = byte_at bytes i h.1
+
+small_take : (n : ℕ) (bytes : List ℕ) → AreSmall bytes → AreSmall (take n bytes)
+small_take zero bytes h = tt
+small_take (suc n) [] h = tt
+small_take (suc n) (b ∷ bytes) h = (h.0, small_take n bytes h.1)
+
+small_drop : (n : ℕ) (bytes : List ℕ) → AreSmall bytes → AreSmall (drop n bytes)
+small_drop zero bytes h = h
+small_drop (suc n) [] h = tt
+small_drop (suc n) (b ∷ bytes) h = small_drop n bytes h.1
+
+small_append : (a b : List ℕ) → AreSmall a → AreSmall b → AreSmall (a ++ b)
+small_append [] b h k = k
+small_append (x ∷ a) b h k = (h.0, small_append a b h.1 k)
+
+abbrev zeros : ℕ → List ℕ
+zeros n = replicate n 0
+
+zeros_length : (n : ℕ) → length (zeros n) ≡ n
+zeros_length zero = refl
+zeros_length (suc n) = ap (λ m. suc m) (zeros_length n)
+
+small_zeros : (n : ℕ) → AreSmall (zeros n)
+small_zeros zero = tt
+small_zeros (suc n) = (omega arith, small_zeros n)
+
+-- the word that eight bytes hold
+word_of : (bytes : List ℕ) → length bytes ≡ 8 → AreSmall bytes → (w : ℕ) × (w < 2 ^ 64) × (to_le_bytes w64 w ≡ bytes)
+word_of (a ∷ b ∷ c ∷ d ∷ e ∷ f ∷ g ∷ h ∷ []) l s = (from_le_bytes w64 (a ∷ b ∷ c ∷ d ∷ e ∷ f ∷ g ∷ h ∷ []), omega (arith, s.0, s.1.0, s.1.1.0, s.1.1.1.0, s.1.1.1.1.0, s.1.1.1.1.1.0, s.1.1.1.1.1.1.0, s.1.1.1.1.1.1.1.0), le_bytes_8 (a ∷ b ∷ c ∷ d ∷ e ∷ f ∷ g ∷ h ∷ []) _ l (λ i. byte_at (a ∷ b ∷ c ∷ d ∷ e ∷ f ∷ g ∷ h ∷ []) i s) refl)
+word_of [] l s = absurd (omega arith)
+word_of (a ∷ []) l s = absurd (omega arith)
+word_of (a ∷ b ∷ []) l s = absurd (omega arith)
+word_of (a ∷ b ∷ c ∷ []) l s = absurd (omega arith)
+word_of (a ∷ b ∷ c ∷ d ∷ []) l s = absurd (omega arith)
+word_of (a ∷ b ∷ c ∷ d ∷ e ∷ []) l s = absurd (omega arith)
+word_of (a ∷ b ∷ c ∷ d ∷ e ∷ f ∷ []) l s = absurd (omega arith)
+word_of (a ∷ b ∷ c ∷ d ∷ e ∷ f ∷ g ∷ []) l s = absurd (omega arith)
+word_of (a ∷ b ∷ c ∷ d ∷ e ∷ f ∷ g ∷ h ∷ i ∷ more) l s = absurd (omega arith)
+
+-- the words that bytes are
+words_of : (n : ℕ) (bytes : List ℕ) → length bytes ≡ 8 * n → AreSmall bytes → (ws : List ℕ) × (length ws ≡ n) × AreWords ws × (bytes_of ws ≡ bytes)
+words_of zero bytes l s = ([], refl, tt, sym (nil_from_length bytes (omega arith)))
+words_of (suc n) bytes l s =
+    let first = word_of (take 8 bytes) (omega (arith, length-take 8 bytes)) (small_take 8 bytes s) in
+    let rest = words_of n (drop 8 bytes) (omega (arith, length-drop 8 bytes)) (small_drop 8 bytes s) in
+    (first.0 ∷ rest.0, ap (λ m. suc m) rest.1, (first.1, rest.2), ap (λ (l : List ℕ). l ++ bytes_of rest.0) first.2 ∙ ap (λ (l : List ℕ). take 8 bytes ++ l) rest.3 ∙ take-append-drop 8 bytes)
+
+entry_of : (f : Form) (flags : List ℕ) → IsForm f flags → (e : Sqe) × IsEntryOf f e
+entry_of (form.Nop user_data fl) flags h = (without_data (header NOP fl (pos 0) 0 0 0 user_data), refl)
+entry_of (form.Fsync user_data fl fd) flags h = (without_data (header FSYNC fl fd 0 0 0 user_data), refl)
+entry_of (form.Read user_data fl fd off len) flags h = (without_data (header READ fl fd off 0 len user_data), refl)
+entry_of (form.Write user_data fl fd off bytes) flags h =
+    let most : length bytes ≤ 64 = h.4.enough in
+    let words = words_of 8 (padded bytes) (omega (arith, length-append bytes (zeros (64 - length bytes)), zeros_length (64 - length bytes))) (small_append bytes _ h.4.each (small_zeros (64 - length bytes))) in
+    (header WRITE fl fd off 0 (length bytes) user_data ++ words.0, record { size = omega (arith, words.1); first = refl; rest = words.2; payload = words.3 })
+entry_of (form.Cancel user_data fl target) flags h = (without_data (header ASYNC_CANCEL fl (pos 0) 0 target 0 user_data), refl)
+entry_of (form.CancelAll user_data fl target) flags h = (without_data (header ASYNC_CANCEL fl (pos 0) 0 target (2 ^ 32 * ASYNC_CANCEL_ALL) user_data), refl)
+entry_of (form.Op code user_data fl) flags h = (without_data (header code fl (pos 0) 0 0 0 user_data), refl)
+entry_of (form.Raw bytes) flags h =
+    let few : 128 ≤ length bytes = h.few in
+    let most : length bytes ≤ 128 = h.enough in
+    let words = words_of 16 bytes (omega arith) h.each in
+    (words.0, record { size = words.1; words = words.2; all = words.3 })
+
+-- ---- each line says something
+
+entry_or : (tokens : List (List ℕ)) (f : Option Form) → form_of tokens ≡ f → ((e : Sqe) × SpellsEntry tokens e) ⊎ IsNoEntry tokens
+entry_or tokens None e = inr (λ entry s. absurd (let no : None ≡ Some s.form = sym e ∙ form_again tokens s.form s.spells in cc))
+entry_or tokens (Some f) e =
+    let spells = form_found tokens f e in
+    let entry = entry_of f spells.0 spells.1 in
+    inl (entry.0, record { form = f; spells = spells; is_entry = entry.1 })
+
+word_or : (size : ℕ) (token : List ℕ) (n : Option ℕ) → MatchOption n (IsNoNumber (2 ^ 32) token) (SpellsNumber (2 ^ 32) token) → ((w : ℕ) × IsBadWord size token w) ⊎ IsNoBadWord size token
+word_or size token None h = inr (λ w k. h w k.0)
+word_or size token (Some n) h =
+    elim (cases_Bool (ltb n size)) [
+      | inl t ↦ inr (below size token n h (ltb-true n size t))
+      | inr f ↦ inl (n, (h, ltb-false n size f))
+    ]
+
+abbrev IsBadNamed : List (List ℕ) → List ℕ → Type 0
+IsBadNamed tokens token = tokens ≡ codes "bad" ∷ token ∷ []
+
+named_or : (tokens : List (List ℕ)) → ((token : List ℕ) × IsBadNamed tokens token) ⊎ ((token : List ℕ) → IsBadNamed tokens token → ⊥)
+named_or [] = inr (λ token e. absurd (let no : [] ≡ codes "bad" ∷ token ∷ [] = e in cc))
+named_or (t ∷ []) = inr (λ token e. absurd (let no : t ∷ [] ≡ codes "bad" ∷ token ∷ [] = e in cc))
+named_or (t ∷ u ∷ v ∷ more) = inr (λ token e. absurd (let no : t ∷ u ∷ v ∷ more ≡ codes "bad" ∷ token ∷ [] = e in cc))
+named_or (t ∷ u ∷ []) =
+    elim (cases_Bool (bytes_eq t (codes "bad"))) [
+      | inl is ↦ inl (u, ap (λ (l : List ℕ). l ∷ u ∷ []) ((bytes_eq-Decides t (codes "bad")).0 is))
+      | inr not ↦ inr (λ token e. absurd (true≢false (sym ((bytes_eq-Decides t (codes "bad")).1 (head-eq_of_cons-eq e)) ∙ not)))
+    ]
+
+item_or : (size : ℕ) (tokens : List (List ℕ)) → ((i : Item) × SpellsItem size tokens i) ⊎ IsNoItem size tokens
+item_or size tokens =
+    elim (named_or tokens) [
+      | inl named ↦ elim (word_or size named.0 (number_of (2 ^ 32) named.0) (read_number_tells named.0 (number_of (2 ^ 32) named.0) refl)) [
+        | inl w ↦ inl (item.Bad w.0, (named.0, named.1, w.1.0, w.1.1))
+        | inr none ↦ inr (bad_is_none size named.0 tokens named.1 none)
+      ]
+      | inr other ↦ elim (entry_or tokens (form_of tokens) refl) [
+        | inl e ↦ inl (item.Entry e.0, e.1)
+        | inr none ↦ inr (no_item size tokens other none)
+      ]
+    ]
+  where
+    no_item : (size : ℕ) (tokens : List (List ℕ)) → ((token : List ℕ) → IsBadNamed tokens token → ⊥) → IsNoEntry tokens → IsNoItem size tokens
+    no_item size tokens other none (item.Entry e) h = none e h
+    no_item size tokens other none (item.Bad w) h = other h.0 h.1
+
+line_or : (size : ℕ) (line : List ℕ) → (line ≡ []) ⊎ (((i : Item) × IsItemLine size line i) ⊎ IsBadLine size line)
+line_or size [] = inl refl
+line_or size (b ∷ line) =
+    elim (cases_Bool (ltb 300 (length (b ∷ line)))) [
+      | inl long ↦ inr (inr (record { some = λ e. absurd (let no : b ∷ line ≡ [] = e in cc); none = λ i h. too_long (b ∷ line) i (ltb-true 300 (length (b ∷ line)) long) h }))
+      | inr short ↦ elim (item_or size (tokens_of (b ∷ line))) [
+        | inl i ↦ inr (inl (i.0, record { short = ltb-false 300 (length (b ∷ line)) short; spells = i.1 }))
+        | inr none ↦ inr (inr (record { some = λ e. absurd (let no : b ∷ line ≡ [] = e in cc); none = λ i h. none i h.spells }))
+      ]
+    ]
+  where
+    too_long : (line : List ℕ) (i : Item) → 300 < length line → IsItemLine size line i → ⊥
+    too_long line i lt h =
+        let le : length line ≤ 300 = h.short in
+        absurd (omega arith)
+
+-- ---- all lines
+
+abbrev Stands : ℕ → List (List ℕ) → Type 0
+Stands size lines = ((n : ℕ) × (calls : List (List Item)) × (call : List Item) × Goes size lines n calls call) ⊎ ((f : PlayFault) × Tells size lines (Err f))
+
+item_step : (size : ℕ) (lines : List (List ℕ)) (line : List ℕ) (n : ℕ) (calls : List (List Item)) (call : List Item) (i : Item) → IsItemLine size line i → Goes size lines n calls call → Stands size (lines ++ line ∷ [])
+item_step size lines line n calls call i is h =
+    elim (cases_Bool (ltb (length call) size)) [
+      | inl t ↦ inl (n + 1, calls, call ++ i ∷ [], item_more size lines line n calls call i is (ltb-true (length call) size t) h)
+      | inr f ↦ inr (fault.Long (n + 1), long_first size lines line n calls call i is (ltb-false (length call) size f) h)
+    ]
+
+step : (size : ℕ) (lines : List (List ℕ)) (line : List ℕ) → Stands size lines → Stands size (lines ++ line ∷ [])
+step size lines line (inr f) = inr (f.0, fault_stays size lines line f.0 f.1)
+step size lines line (inl s) =
+    elim (line_or size line) [
+      | inl blank ↦ inl (s.0 + 1, s.1 ++ one_call s.2, [], blank_more size lines line s.0 s.1 s.2 blank s.3)
+      | inr some ↦ elim some [
+        | inl i ↦ item_step size lines line s.0 s.1 s.2 i.0 i.1 s.3
+        | inr bad ↦ inr (fault.Line (s.0 + 1), bad_first size lines line s.0 s.1 s.2 bad s.3)
+      ]
+    ]
+
+-- lines, the newest first
+stands : (size : ℕ) (lines : List (List ℕ)) → Stands size (reverse lines)
+stands size [] = inl (0, [], [], at_start size)
+stands size (line ∷ lines) = subst (Stands size) (sym (reverse-append (line ∷ []) lines)) (step size (reverse lines) line (stands size lines))
+
+tells : (size : ℕ) (lines : List (List ℕ)) → Stands size lines → (told : Told) × Tells size lines told
+tells size lines (inl s) = (Ok (s.1 ++ one_call s.2), so_far size lines s.0 s.1 s.2 s.3)
+tells size lines (inr f) = (Err f.0, f.1)
+
+-- ---- all bytes
+
+abbrev HasSplit : List ℕ → Type 0
+HasSplit bytes = (lines : List (List ℕ)) × (rest : List ℕ) × Splits bytes lines rest
+
+split_byte : (before : List ℕ) (b : ℕ) → HasSplit before → HasSplit (before ++ b ∷ [])
+split_byte before b h =
+    elim (cases_Bool (eqb b 10)) [
+      | inl t ↦ (h.1 ∷ h.0, [], subst (λ (x : ℕ). Splits (before ++ x ∷ []) (h.1 ∷ h.0) []) (sym (eqb-true b 10 t)) (split_end before h.0 h.1 h.2))
+      | inr f ↦ (h.0, h.1 ++ b ∷ [], split_more before h.0 h.1 b (eqb-false b 10 f) h.2)
+    ]
+
+split_all : (before more : List ℕ) → HasSplit before → HasSplit (before ++ more)
+split_all before [] h = subst HasSplit (sym (append-nil before)) h
+split_all before (b ∷ more) h = subst HasSplit (append_assoc before (b ∷ []) more) (split_all (before ++ b ∷ []) more (split_byte before b h))
+
+pub always_told : (size : ℕ) (bytes : List ℕ) → (told : Told) × IsTold size bytes told
+always_told size bytes =
+    let split = split_all [] bytes ([], [], record { whole = refl; each = tt; unbroken = tt }) in
+    let told = tells size (reverse (with_last split.0 split.1)) (stands size (with_last split.0 split.1)) in
+    (told.0, (reverse (with_last split.0 split.1), record { ended = split.0; rest = split.1; splits = split.2; all = refl }, told.1))

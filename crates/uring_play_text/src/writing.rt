@@ -1,0 +1,70 @@
+//! The text of completions.
+
+ghost use Rattle.std.specs.Prelude.{◌≡◌, ◌++◌, OnOk, string_bytes};
+ghost use Rattle.std.specs.List.Sorted.{IsPermutation};
+ghost use Rattle.uring_play_text.specs.Outputs.{Writes, lines_text, counts_text, IsInOrder};
+
+use crate::play_fault::PlayFault;
+use std::alloc::{AllocError, Global};
+use std::fmt::Write as _;
+use std::io::Write;
+use uring_entry::Cqe;
+use uring_trace::{Calls, push_completion, write_all};
+
+/// Writes the completions, a line each, sorted by user data, result and data, and then a line with how many requests were accepted and how many words dropped: `taken 3 dropped 0`. The line of a completion is that of a trace. That they are sorted is our own rule: threads end requests in no promised order.
+///
+/// The completions are sorted in place.
+///
+/// - `Write`: a write failed or took no byte, or 2^64 - 1 writes were made. What was written is the beginning of the text.
+/// - `Memory`: memory was refused, and nothing was written.
+pub fn write_out<W: Write>(
+    alloc: Global,
+    writer: &mut W,
+    completions: &mut [Cqe],
+    taken: u64,
+    dropped: u32,
+) -> Result<(), PlayFault>
+    ensures sorted { IsPermutation completions.old completions.new × IsInOrder completions.new }
+    ensures text { Writes result (W.contents writer.old) (W.contents writer.new) (lines_text completions.new ++ counts_text taken dropped) }
+{
+    sort(completions);
+    let mut text = String::new(alloc);
+    push_all(alloc, &mut text, completions)?;
+    push_counts(&mut text, taken, dropped)?;
+    match write_all(writer, text.as_bytes(), &mut Calls::new()) {
+        Ok(()) => Ok(()),
+        Err(_) => Err(PlayFault::Write),
+    }
+}
+
+/// Sorts completions by user data, result and data.
+fn sort(completions: &mut [Cqe])
+    ensures same { IsPermutation completions.old completions.new }
+    ensures order { IsInOrder completions.new }
+{
+    completions.sort_unstable_by_key(|completion| {
+        (
+            completion.user_data(),
+            completion.res(),
+            completion.payload(),
+        )
+    });
+}
+
+/// Appends the lines of completions.
+fn push_all(alloc: Global, text: &mut String, completions: &[Cqe]) -> Result<(), AllocError>
+    ensures { OnOk result (string_bytes text.new ≡ string_bytes text.old ++ lines_text completions.now) }
+{
+    for completion in completions {
+        push_completion(alloc, text, completion)?;
+        text.push_str("\n")?;
+    }
+    Ok(())
+}
+
+/// Appends the line of the counts.
+fn push_counts(text: &mut String, taken: u64, dropped: u32) -> Result<(), AllocError>
+    ensures { OnOk result (string_bytes text.new ≡ string_bytes text.old ++ counts_text taken dropped) }
+{
+    write!(text, "taken {taken} dropped {dropped}\n")
+}

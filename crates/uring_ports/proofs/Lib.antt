@@ -1,0 +1,4 @@
+mod MessageLemmas
+mod MessageSteps
+mod LaneLemmas
+pub mod AppEndLemmas

@@ -1,0 +1,6 @@
+pub mod Items
+pub mod Dropped
+pub mod Ports
+pub mod Messages
+pub mod Lanes
+pub mod AppEnd

@@ -1,0 +1,185 @@
+//! The application's end: it submits calls, reaps completions and closes.
+ghost use Rattle.std.specs.Prelude.{◌≡◌, ◌<◌, ◌≤◌, ◌↔◌, true, false, None, is_some, IsTrue, length, OnOk, IfOk, IfErr, MatchOption};
+ghost use Rattle.uring_entry.specs.Submission.{IsItem};
+ghost use Rattle.uring_ports.specs.Dropped.{WereStored};
+ghost use Rattle.uring_ports.specs.Items.{AreItems, published_as};
+ghost use Rattle.uring_ports.specs.Ports.{nothing_put, items_of_calls, LeavesItems, LeavesCompletions};
+ghost use Rattle.uring_ports.specs.AppEnd.{submits, closes, reaps, loads, IsSound, IsAmiss, RefusesCall, RefusesClose};
+
+use crate::item::Item;
+use crate::ports::{AppPort, KernelPort};
+use crate::pulled::Rests;
+use crate::refusals::{CloseRefusal, SubmitRefusal};
+use std::alloc::Global;
+use std::marker::Model;
+use uring_entry::Cqe;
+
+/// The application's end. Its calls wait for nobody, hold no lock and take no memory.
+#[derive(Drop)]
+pub struct AppEnd<P: AppPort> {
+    port: P,
+    // The submission ring's size.
+    size: u32,
+    // Whether the close mark was put.
+    closed: bool,
+}
+
+impl<P: AppPort> Model for AppEnd<P> {
+    ghost use Rattle.uring_ports.specs.AppEnd.{AppEnd};
+
+    ghost Value = { AppEnd };
+
+    ghost use Rattle.std.specs.Prelude.{◌≡◌};
+    ghost use Rattle.uring_ports.specs.Items.{AreItems};
+    ghost use Rattle.uring_ports.specs.Ports.{items_of_calls};
+
+    ghost view = { λ e. record { pairing = P.pairing e.port; sizes = P.sizes e.port; submitted = P.put e.port; received = P.got e.port; dropped = P.dropped e.port } };
+
+    ghost invariant = { λ e. (e.size ≡ (P.sizes e.port).sq) × (e.closed ≡ (P.put e.port).closed) × AreItems e.size (items_of_calls (P.put e.port).calls) };
+}
+
+impl<P: AppPort> AppEnd<P> {
+    /// The end over a fresh port of a submission ring with `size` entries.
+    pub fn new(port: P, size: u32) -> AppEnd<P>
+        requires fresh { P.put port ≡ nothing_put }
+        requires size { size ≡ (P.sizes port).sq }
+        ensures { result ≡ record { pairing = P.pairing port; sizes = P.sizes port; submitted = nothing_put; received = P.got port; dropped = P.dropped port } }
+    {
+        AppEnd {
+            port,
+            size,
+            closed: false,
+        }
+    }
+
+    /// Submits the items as one call, all of them, or none.
+    ///
+    /// It refuses with `Closed`, `Empty`, `TooLong`, `NotBad`, `Full`, in this order, each exactly if what `SubmitRefusal` says of it stands. io_uring_enter(2), for a call; that a call has an item and fits the ring is our own rule.
+    pub fn submit(&mut self, items: &[Item]) -> Result<(), SubmitRefusal>
+        // Ok: each item is submitted.
+        ensures ok { OnOk result (IsSound self.old items.now × (self.new ≡ submits self.old items.now)) }
+        // A refusal: nothing changes.
+        ensures refused { IfErr result (λ refusal. RefusesCall self.old items.now refusal × (self.new ≡ self.old)) }
+        // Of one pair it stays.
+        ensures pairing { self.new.pairing ≡ self.old.pairing }
+        ensures sizes { self.new.sizes ≡ self.old.sizes }
+    {
+        if self.closed {
+            return Err(SubmitRefusal::Closed);
+        }
+        if let Err(refusal) = check_call(items, self.size) {
+            return Err(refusal);
+        }
+        if !self.port.put(items) {
+            return Err(SubmitRefusal::Full);
+        }
+        Ok(())
+    }
+
+    /// The oldest completion that was delivered and not reaped. `None` says only that this end saw none.
+    pub fn reap(&mut self) -> Option<Cqe>
+        ensures reaped { MatchOption result (self.new ≡ self.old) (λ completion. self.new ≡ reaps self.old completion) }
+        // Of one pair it stays.
+        ensures pairing { self.new.pairing ≡ self.old.pairing }
+        ensures sizes { self.new.sizes ≡ self.old.sizes }
+    {
+        self.port.get()
+    }
+
+    /// The dropped word as it is now: how many positions were dropped, modulo 2^32, as of the dispatcher's last turn that returned Ok, and 0 before there was one. `None` if no such word lies between the ends: over lanes none does. io_uring_setup(2), on `dropped`.
+    pub fn dropped(&mut self) -> Option<u32>
+        ensures loaded { MatchOption result ((self.old.dropped ≡ None) × (self.new ≡ self.old)) (λ word. (is_some self.old.dropped ≡ true) × (self.new ≡ loads self.old word)) }
+        // Of one pair it stays.
+        ensures pairing { self.new.pairing ≡ self.old.pairing }
+        ensures sizes { self.new.sizes ≡ self.old.sizes }
+    {
+        self.port.load_dropped()
+    }
+
+    /// Closes the end: no call comes after those submitted.
+    ///
+    /// It refuses with `Closed` exactly after an Ok, and else with `Full` if there is no free place for the close mark.
+    pub fn close(&mut self) -> Result<(), CloseRefusal>
+        ensures ok { OnOk result ((self.old.submitted.closed ≡ false) × (self.new ≡ closes self.old)) }
+        // A refusal: nothing changes.
+        ensures refused { IfErr result (λ refusal. RefusesClose self.old refusal × (self.new ≡ self.old)) }
+        // Of one pair it stays.
+        ensures pairing { self.new.pairing ≡ self.old.pairing }
+        ensures sizes { self.new.sizes ≡ self.old.sizes }
+    {
+        if self.closed {
+            return Err(CloseRefusal::Closed);
+        }
+        if !self.port.close() {
+            return Err(CloseRefusal::Full);
+        }
+        self.closed = true;
+        Ok(())
+    }
+
+    /// Ends this end and the dispatcher's port of the same pair, and hands out what the ports still held.
+    ///
+    /// `Err` says that the system is out of memory, which is asked for first: both come back unchanged.
+    pub fn settle<K: KernelPort<App = P>>(
+        self,
+        alloc: Global,
+        kernel: K,
+    ) -> Result<Rests, (AppEnd<P>, K)>
+        requires { K.pairing kernel ≡ self.pairing }
+        // What was pulled begins what was submitted, and what was reaped begins what was delivered.
+        ensures items { IfOk result (λ rests. LeavesItems self.submitted (K.pulled kernel) rests.unsent.items) }
+        ensures completions { IfOk result (λ rests. LeavesCompletions (K.delivered kernel) self.received rests.undelivered.items) }
+        // The dropped words that were loaded are words that were stored, in order, or the 0 before them.
+        ensures dropped { OnOk result (WereStored (K.dropped kernel) self.dropped) }
+        // No bad word that was submitted is below the submission ring's size.
+        ensures submitted { OnOk result (AreItems self.sizes.sq (items_of_calls self.submitted.calls)) }
+        ensures unchanged { IfErr result (λ ends. (ends.0 ≡ self) × (ends.1 ≡ kernel)) }
+    {
+        let AppEnd { port, size, closed } = self;
+        match kernel.settle(alloc, port) {
+            Ok(rests) => Ok(rests),
+            Err((port, kernel)) => {
+                let app = AppEnd { port, size, closed };
+                Err((app, kernel))
+            }
+        }
+    }
+}
+
+// The refusals of an open end that hang on the call alone.
+fn check_call(items: &[Item], size: u32) -> Result<(), SubmitRefusal>
+    ensures ok { OnOk result ((0 < length items.now) × (length items.now ≤ size) × AreItems size items.now) }
+    ensures refused { IfErr result (λ refusal. IsAmiss size items.now refusal) }
+{
+    if items.is_empty() {
+        return Err(SubmitRefusal::Empty);
+    }
+    if items.len() > size as usize {
+        return Err(SubmitRefusal::TooLong);
+    }
+    if !are_items(items, size) {
+        return Err(SubmitRefusal::NotBad);
+    }
+    Ok(())
+}
+
+// Whether no bad word is below the size.
+fn are_items(items: &[Item], size: u32) -> bool
+    ensures { IsTrue result ↔ AreItems size items.now }
+{
+    for item in items {
+        if !is_item(item, size) {
+            return false;
+        }
+    }
+    true
+}
+
+fn is_item(item: &Item, size: u32) -> bool
+    ensures { IsTrue result ↔ IsItem size (published_as item.now) }
+{
+    match item {
+        Item::Entry(_) => true,
+        Item::Bad(word) => *word >= size,
+    }
+}
