@@ -9,7 +9,7 @@ use Rattle.uring_machine.specs.declared.answer.Answer.{Answer}
 use Rattle.uring_machine.proofs.Moves.{Move, stays, accepts, starts, ends_doomed, ends_cancel, ends_run, move_of}
 use Rattle.uring_machine.proofs.SubmissionMoves.{SubmissionMove, stays as stays_off_submission, fills, stages, stores, loads, begins, takes, drops, closes, submission_move}
 use Rattle.uring_machine.proofs.CompletionMoves.{CompletionMove, stays as stays_off_completions, ends, flushes, sees_tail, reaps, stores_head, completion_move}
-use Rattle.uring_machine.proofs.SoundRings.{IsSoundCompletions, IsSoundSubmission, end_sound, flush_sound, see_tail_sound, reap_sound, store_head_sound, stage_sound, store_sound, load_sound, begin_sound, take_sound, stop_sound, close_sound}
+use Rattle.uring_machine.proofs.SoundRings.{IsSoundCompletions, IsSoundSubmission, end_sound, reap_sound, stage_sound, store_sound, take_sound, stop_sound, close_sound}
 use Rattle.uring_machine.proofs.SoundRequests.{IsSoundRequests, first_requests, start_sound}
 use Rattle.uring_machine.proofs.RequestEnds.{finish_sound, doom_sound, cancel_sound}
 use Rattle.uring_machine.proofs.Groups.{call_sound}
@@ -36,8 +36,8 @@ submission_kept g w s a v (stays_off_submission _ _ r c is_closed off left) i = 
 submission_kept g w s a v (fills slot entry) i = assumption i
 submission_kept g w s a v (stages word room) i = stage_sound g.sq w.submission word room i
 submission_kept g w s a v (stores tail) i = store_sound g.sq w.submission i
-submission_kept g w s a v (loads head) i = load_sound g.sq w.submission i
-submission_kept g w s a v (begins count is_open no_call unspent) i = begin_sound g.sq w.submission count i
+submission_kept g w s a v (loads head) i = grind arith
+submission_kept g w s a v (begins count is_open no_call unspent) i = grind arith
 submission_kept g w s a v (takes entry call place opened left at valid) i =
     stop_sound g.sq (with_taken w.submission call) (record call { taken = call.taken + 1 }) (stops_at g entry) refl (take_sound g.sq w.submission call opened left i)
 submission_kept g w s a v (drops call place opened left at invalid) i = take_sound g.sq w.submission call opened left i
@@ -47,10 +47,10 @@ submission_kept g w s a v (closes accepted missed head call opened all counted) 
 completions_kept : (g : Setup) (w : World) (s : Step) (a : Answer) (v : World) → CompletionMove g w s a v → IsSoundCompletions g.cq w.completions → IsSoundCompletions g.cq v.completions
 completions_kept g w s a v (stays_off_completions _ _ l r is_closed off no_end left) i = i
 completions_kept g w s a v (ends _ _ n res bytes r off told same_accepted one_more) i = end_sound g.cq w.completions _ _ i
-completions_kept g w s a v (flushes moved) i = flush_sound g.cq w.completions i
-completions_kept g w s a v (sees_tail tail) i = see_tail_sound g.cq w.completions i
+completions_kept g w s a v (flushes moved) i = grind arith
+completions_kept g w s a v (sees_tail tail) i = grind arith
 completions_kept g w s a v (reaps completion next) i = reap_sound g.cq w.completions completion next i
-completions_kept g w s a v (stores_head head) i = store_head_sound g.cq w.completions i
+completions_kept g w s a v (stores_head head) i = grind arith
 
 -- a change keeps the requests sound
 requests_kept : (r : Requests) (s : Step) (a : Answer) (later : Requests) → Move r s a later → IsSoundRequests r → IsSoundRequests later

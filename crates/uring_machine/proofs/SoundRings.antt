@@ -6,8 +6,8 @@ use Rattle.std.proofs.lemmas.List.{length_push, length-append, length-map, take-
 use Rattle.std.proofs.lemmas.List.Sums.{sum_by_push}
 use Rattle.std.proofs.lemmas.Option.{slice_get_within, get_or_from_slice_get}
 use Rattle.uring_entry.specs.Layout.{Cqe}
-use Rattle.uring_entry.specs.Submission.{Submission, Call, staged, taken, is_full, with_staged, with_published, with_head_loaded, with_begun, with_taken, stopped, with_stopped, with_closed}
-use Rattle.uring_entry.specs.Completions.{Completions, has_room, next_to_reap, with_posted, with_flushed, with_tail_loaded, with_reaped, with_head_stored}
+use Rattle.uring_entry.specs.Submission.{Submission, Call, staged, taken, is_full, with_staged, with_published, with_taken, stopped, with_stopped, with_closed}
+use Rattle.uring_entry.specs.Completions.{Completions, has_room, next_to_reap, with_posted, with_reaped}
 
 -- The completion ring.
 
@@ -53,12 +53,6 @@ pub end_sound : (size : ℕ) (l : Completions) (c : Cqe) (told : Bool) → IsSou
 end_sound size l c true s = post_sound size l c s
 end_sound size l c false s = s
 
-pub flush_sound : (size : ℕ) (l : Completions) → IsSoundCompletions size l → IsSoundCompletions size (with_flushed size l)
-flush_sound size l s = grind arith
-
-pub see_tail_sound : (size : ℕ) (l : Completions) → IsSoundCompletions size l → IsSoundCompletions size (with_tail_loaded l)
-see_tail_sound size l s = grind arith
-
 next_tells : (l : Completions) (c : Cqe) → next_to_reap l ≡ Some c → (eqb (length l.reaped) l.seen_tail ≡ false) × (slice_get l.posted (length l.reaped) ≡ Some c)
 next_tells l c e = by_end (eqb (length l.reaped) l.seen_tail) e where
   by_end : (at_end : Bool) → cond at_end None (slice_get l.posted (length l.reaped)) ≡ Some c → (at_end ≡ false) × (slice_get l.posted (length l.reaped) ≡ Some c)
@@ -74,9 +68,6 @@ reap_sound size l c e s =
     let begins : l.reaped ++ c ∷ [] ≡ take (length (l.reaped ++ c ∷ [])) l.posted =
     ap (λ xs. xs ++ c ∷ []) s.begins ∙ ap (λ x. take (length l.reaped) l.posted ++ x ∷ []) (sym (get_or_from_slice_get l.posted (length l.reaped) c c t.1)) ∙ sym (take_more l.posted (length l.reaped) c within) ∙ ap (λ k. take k l.posted) (sym n) in
     grind (arith, begins, n)
-
-pub store_head_sound : (size : ℕ) (l : Completions) → IsSoundCompletions size l → IsSoundCompletions size (with_head_stored l)
-store_head_sound size l s = grind arith
 
 -- The submission ring.
 
@@ -105,12 +96,6 @@ store_sound size l s =
     let n = length-append l.published (map (Rattle.uring_entry.specs.Submission.place_of size l.content) l.fresh) in
     let m = length-map l.fresh (Rattle.uring_entry.specs.Submission.place_of size l.content) in
     grind arith
-
-pub load_sound : (size : ℕ) (l : Submission) → IsSoundSubmission size l → IsSoundSubmission size (with_head_loaded l)
-load_sound size l s = grind arith
-
-pub begin_sound : (size : ℕ) (l : Submission) (count : ℕ) → IsSoundSubmission size l → IsSoundSubmission size (with_begun l count)
-begin_sound size l count s = grind arith
 
 pub take_sound : (size : ℕ) (l : Submission) (call : Call) → l.call ≡ Some call → eqb call.taken call.count ≡ false → IsSoundSubmission size l → IsSoundSubmission size (with_taken l call)
 take_sound size l call e f s =
