@@ -1,12 +1,16 @@
 -- What is sent and taken in, as a result is taken in: the operation is the last of its worker's, and all else stays.
-use Rattle.std.proofs.Common.{◌≡◌, ℕ, ◌+◌, ◌<◌, arith, Bool, true, false, List, [], ◌∷◌, ◌++◌, length, if◌then◌else◌, refl, sym, subst, ap, ap₂, ◌∙◌}
+use Rattle.std.proofs.Common.{◌≡◌, ℕ, ◌+◌, ◌<◌, arith, Bool, true, false, List, [], ◌∷◌, ◌++◌, length, if◌then◌else◌, refl, sym, subst, ap, ap₂, ◌∙◌, inl, inr}
 use Rattle.std.specs.Prelude.{slice_index_or, Result, Ok, Err, OnErr}
 use mathlib.Core.List.{IsPrefix}
+use Rattle.std.proofs.lemmas.Bool.{both_ways, cases_eq}
 use Rattle.std.proofs.lemmas.List.{map-append, length_push}
 use Rattle.uring_entry.specs.Preparation.{operation_of}
-use Rattle.uring_entry.specs.Requests.{entry_of, is_running}
+use Rattle.uring_entry.specs.Requests.{entry_of, is_running, with_ended}
+use Rattle.uring_entry.specs.Setup.{Setup}
+use Rattle.uring_entry.proofs.RequestLemmas.{is_running-ended_same, is_running-ended_other}
 use Rattle.uring_entry.specs.declared.operation.Outcome.{Outcome}
 use Rattle.uring_machine.specs.Core.{IsFinished}
+use Rattle.uring_machine.specs.World.{World}
 use Rattle.uring_laws.specs.Finishes.{Done, done_in}
 use Rattle.uring_machine.specs.Histories.{Event, history_of, IsLawfulApart}
 use Rattle.uring_machine.specs.declared.step.Step.TheVariants as step
@@ -14,7 +18,7 @@ use Rattle.uring_machine.specs.declared.answer.Answer.{Answer}
 use Rattle.uring_machine.specs.declared.answer.Answer.TheVariants as answer
 use Rattle.uring_machine.proofs.Following.{history_of-snoc}
 use Rattle.uring_threads.specs.declared.job.JobResult.{JobResult}
-use Rattle.uring_threads.specs.Collected.{CanBeTaken, OthersStay, Collects, CollectsNext, CollectsSeen, NextStays, TakesNext, Wait}
+use Rattle.uring_threads.specs.Collected.{CanBeTaken, OthersStay, Collects, CollectsNext, CollectsSeen, NextStays, NoneComes, TakesNext, Wait}
 use Rattle.uring_threads.specs.Dispatched.{AreTakenIn}
 use Rattle.uring_threads.specs.Delivered.{OnlyPosts}
 use Rattle.uring_threads.specs.Kept.{Kept, now, Grows, IsUnmoved, history}
@@ -91,6 +95,30 @@ posts_end a b r g =
     let p = end_posts a.setup.cq (now a).completions (entry_of (now a).requests r.number) r.outcome.res r.outcome.bytes in
     subst (OnlyPosts (now a)) (sym (grown a b (step.Finish r.number) (answer.Ended r.outcome.res r.outcome.bytes) g)) (record { submission = refl; is_closed = refl; reaped = p.0; head = p.1 })
 
+-- what couldn't be taken in still can't where nothing happened
+same_comes : (a b : Kept) (workers : ℕ) → IsUnmoved a b → NoneComes a b workers
+same_comes a b workers u = λ k number can.
+    record {
+      runs = subst (λ (w : World). is_running w.requests number ≡ true) (unmoved_now a b u) can.runs;
+      own = sym (ap₂ (λ (g : Setup) (w : World). place_of workers g.files (operation_of (entry_of w.requests number))) u.setup (unmoved_now a b u)) ∙ can.own;
+    }
+
+-- and where a request ended: no other runs by it
+end_comes : (a b : Kept) (workers : ℕ) (r : JobResult) → Grows a b (finish_of r) → NoneComes a b workers
+end_comes a b workers r grows = λ k number can.
+    let n = r.number in
+    let res = r.outcome.res in
+    let bytes = r.outcome.bytes in
+    let ended = grown a b (step.Finish n) (answer.Ended res bytes) grows in
+    let runs : is_running (with_ended (now a).requests n res bytes) number ≡ true = subst (λ (w : World). is_running w.requests number ≡ true) ended can.runs in
+    record {
+      runs = elim (cases_eq number n) [
+        | inl same ↦ absurd (both_ways _ (ap (is_running (with_ended (now a).requests n res bytes)) same ∙ is_running-ended_same (now a).requests n res bytes) runs)
+        | inr other ↦ sym (is_running-ended_other (now a).requests n res bytes number other) ∙ runs
+      ];
+      own = sym (ap₂ (λ (g : Setup) (w : World). place_of workers g.files (operation_of (entry_of w.requests number))) grows.setup ended) ∙ can.own;
+    }
+
 -- none, and one more
 pub collects_none : (a b : Kept) (workers place : ℕ) → IsUnmoved a b → Collects a b workers place 0
 collects_none a b workers place u =
@@ -100,6 +128,7 @@ collects_none a b workers place u =
       idle = λ none. u.trace;
       own = let same : results_taken_in workers place b ≡ results_taken_in workers place a = same_taken_in a b workers place u in omega (arith, same);
       others = same_others a b workers place u;
+      none_comes = same_comes a b workers u;
     }
 
 pub collects_then : (a b c : Kept) (workers place n m sum : ℕ) → n + m ≡ sum → Collects a b workers place n → Collects b c workers place m → Collects a c workers place sum
@@ -110,6 +139,7 @@ collects_then a b c workers place n m sum e p q =
       idle = λ none. q.idle (omega (arith, none, e)) ∙ p.idle (omega (arith, none, e));
       own = omega (arith, p.own, q.own, e);
       others = then_others a b c workers place p.others q.others;
+      none_comes = λ k number can. p.none_comes k number (q.none_comes k number can);
     }
 
 -- the next one, after more room was asked for
@@ -122,6 +152,7 @@ collects_one a b c workers place before after seen true u others (r, _, can, gro
       idle = λ none. absurd (omega (arith, none));
       own = one_taken_in b c workers place r can grows;
       others = others;
+      none_comes = end_comes b c workers r grows;
     })
 collects_one a b c workers place before after seen false u others (same, _, stays) = (
   subst (λ k. Collects a k workers place 0) (sym same) (collects_none a b workers place u),

@@ -1,5 +1,5 @@
--- How many results of each worker are taken in, by the parts of a turn.
-use Rattle.std.proofs.Common.{◌≡◌, ℕ, ◌+◌, ◌<◌, ◌≤◌, ◌==◌, arith, List, [], ◌∷◌, ◌++◌, length, cond, count_by, refl, sym, subst, ap, ap₂, ◌∙◌, inl, inr, append-nil}
+-- How many results of each worker are taken in, by the parts of a turn, and that those which are seen are.
+use Rattle.std.proofs.Common.{◌≡◌, ℕ, ◌+◌, ◌<◌, ◌≤◌, ◌==◌, arith, List, [], ◌∷◌, ◌++◌, length, get_or, cond, count_by, refl, sym, subst, ap, ap₂, ◌∙◌, inl, inr, append-nil}
 use Rattle.std.specs.Prelude.{Result, Ok, Err, IfOk, OnErr, None}
 use Rattle.std.specs.List.{filter}
 use Rattle.std.proofs.lemmas.Bool.{cases_eq, cases_lt}
@@ -11,7 +11,8 @@ use Rattle.uring_machine.specs.Histories.{Event, History, world, history_of}
 use Rattle.uring_machine.specs.World.{World}
 use Rattle.uring_machine.specs.declared.step.Step.TheVariants as step
 use Rattle.uring_machine.proofs.Following.{history_of-cons, history_of-append}
-use Rattle.uring_threads.specs.Collected.{Collects, CollectsFew, CollectsSeen}
+use Rattle.rtrb.specs.Ring.{known_items}
+use Rattle.uring_threads.specs.Collected.{Collects, CollectsFew, CollectsSeen, NextStays, NoneComes, OtherLanesStay, SeesNoMore, TakesSeen}
 use Rattle.uring_threads.specs.Dispatched.{AreSameLanes}
 use Rattle.uring_threads.specs.Kept.{Kept, history}
 use Rattle.uring_threads.specs.Tallies.{Tally, Appends, TakesFewResults, most_results, results_taken_in, takes_result}
@@ -40,6 +41,11 @@ none_taken_in a b t p none workers k =
     ap length (ap₂ (λ (s : Setup) h. done_by_worker s workers k h) p.setup told_so ∙ ap (filter (λ d. place_of workers a.setup.files d.op == k)) same)
 
 -- Results of one worker were.
+
+-- as many as the answer says
+pub own_collected : {E : Type 0} (r : Result ℕ E) (a b : Kept) (workers place : ℕ) (seen : List JobResult) → IfOk r (λ n. CollectsSeen a b workers place n seen) → IfOk r (λ n. results_taken_in workers place b ≡ results_taken_in workers place a + n)
+own_collected (Ok n) a b workers place seen ok = ok.collected.own
+own_collected (Err e) a b workers place seen ok = tt
 
 few_of : (a b : Kept) (workers place n : ℕ) → n ≤ most_results → Collects a b workers place n → CollectsFew a b workers place
 few_of a b workers place n most p = record { own = omega (arith, p.own, most); others = λ k other. ap length (p.others.results k other) }
@@ -79,6 +85,47 @@ few_at old lanes place a b c same p q = few_more (length old) place a b c p (sub
 -- of all
 pub few_in_all : (workers place : ℕ) (a b : Kept) → FewBefore workers place a b → TakesFewResults workers a b
 few_in_all workers place a b p = λ k. elim (cases_lt k place) [ inl low ↦ p.before k low | inr high ↦ (let none = p.others k high in omega (arith, none)) ]
+
+-- Of the workers before this place, what was seen was taken in.
+
+-- what couldn't be taken in next still can't
+next_stays : (a b : Kept) (workers k : ℕ) (seen : List JobResult) → NoneComes a b workers → NextStays a workers k seen → NextStays b workers k seen
+next_stays a b workers k [] none stays = tt
+next_stays a b workers k (r ∷ later) none stays = λ can. stays (none k r.number can)
+
+-- of each of them, fewer were taken in only if no other result is seen, or the next can't be taken in
+abbrev pub SeenBefore : ℕ → ℕ → Kept → Kept → List WorkLanes → Type 0
+SeenBefore workers place a b lanes = (k : ℕ) → k < place → results_taken_in workers k b < results_taken_in workers k a + most_results → (d : WorkLanes) → NextStays b workers k (known_items (get_or lanes k d).results)
+
+seen_more : (workers place count : ℕ) (a b c : Kept) (lanes later : List WorkLanes) → FewBefore workers place a b → CollectsFew b c workers place → results_taken_in workers place c ≡ results_taken_in workers place b + count → NoneComes b c workers
+    → OtherLanesStay lanes later place → (count < most_results → (d : WorkLanes) → NextStays c workers place (known_items (get_or later place d).results)) → SeenBefore workers place a b lanes → SeenBefore workers (place + 1) a c later
+seen_more workers place count a b c lanes later p q own none others sees seen = λ k low fewer d.
+    elim (cases_eq k place) [
+      | inl here ↦
+          let fewer' : results_taken_in workers place c < results_taken_in workers place a + most_results = subst (λ i. results_taken_in workers i c < results_taken_in workers i a + most_results) here fewer in
+          let same : results_taken_in workers place b ≡ results_taken_in workers place a = p.others place (omega arith) in
+          subst (λ i. NextStays c workers i (known_items (get_or later i d).results)) (sym here) (sees (omega (arith, fewer', same, own)) d)
+      | inr other ↦
+          let same : results_taken_in workers k c ≡ results_taken_in workers k b = q.others k other in
+          subst (λ (l : WorkLanes). NextStays c workers k (known_items l.results)) (sym (others k other d))
+          (next_stays b c workers k (known_items (get_or lanes k d).results) none (seen k (omega (arith, low, other)) (omega (arith, fewer, same)) d))
+    ]
+
+-- the same, of lanes that stay the same
+pub seen_at : (old lanes later : List WorkLanes) (place count : ℕ) (a b c : Kept) → AreSameLanes old lanes → AreSameLanes lanes later → FewBefore (length old) place a b → CollectsFew b c (length lanes) place
+    → results_taken_in (length lanes) place c ≡ results_taken_in (length lanes) place b + count → NoneComes b c (length lanes) → OtherLanesStay lanes later place → (count < most_results → SeesNoMore c later place)
+    → SeenBefore (length old) place a b lanes → SeenBefore (length old) (place + 1) a c later
+seen_at old lanes later place count a b c same stay p q own none others sees =
+    seen_more (length old) place count a b c lanes later p
+    (subst (λ n. CollectsFew b c n place) same.many q)
+    (subst (λ n. results_taken_in n place c ≡ results_taken_in n place b + count) same.many own)
+    (subst (NoneComes b c) same.many none)
+    others
+    (subst (λ n. count < most_results → (d : WorkLanes) → NextStays c n place (known_items (get_or later place d).results)) (stay.many ∙ same.many) sees)
+
+-- of all
+pub seen_in_all : (old lanes : List WorkLanes) (a b : Kept) → AreSameLanes old lanes → SeenBefore (length old) (length old) a b lanes → TakesSeen a b lanes
+seen_in_all old lanes a b same seen = subst (λ n. SeenBefore n n a b lanes) (sym same.many) seen
 
 -- The parts of a turn, all but one of which take none in.
 

@@ -32,6 +32,18 @@ NextStays kept workers place (r ∷ later) = CanBeTaken kept workers place r.num
 abbrev pub SeesNoMore : Kept → List WorkLanes → ℕ → Type 0
 SeesNoMore kept lanes place = (d : WorkLanes) → NextStays kept (length lanes) place (known_items (get_or lanes place d).results)
 
+-- of each of these workers, fewer than 64 were taken in only if no other result is seen, or the next can't be taken in
+abbrev pub TakesSeen : Kept → Kept → List WorkLanes → Type 0
+TakesSeen old new lanes = (place : ℕ) → place < length lanes → results_taken_in (length lanes) place new < results_taken_in (length lanes) place old + most_results → SeesNoMore new lanes place
+
+-- what couldn't be taken in of a worker still can't
+abbrev pub NoneComes : Kept → Kept → ℕ → Type 0
+NoneComes old new workers = (k number : ℕ) → CanBeTaken new workers k number → CanBeTaken old workers k number
+
+-- the lanes of each worker but this one stay as they were
+abbrev pub OtherLanesStay : List WorkLanes → List WorkLanes → ℕ → Type 0
+OtherLanesStay old new place = (k : ℕ) → k ≢ place → (d : WorkLanes) → get_or new k d ≡ get_or old k d
+
 -- the next result was taken in, or nothing was, where it can't be
 abbrev pub TakesNext : Kept → Kept → ℕ → ℕ → List JobResult → List JobResult → List JobResult → Bool → Type 0
 TakesNext old new workers place before after seen true = (r : JobResult) × (after ≡ before ++ r ∷ []) × CanBeTaken old workers place r.number × Grows old new (finish_of r)
@@ -44,6 +56,7 @@ pub record Collects (old new : Kept) (workers place count : ℕ) : Type 0 where
   pub idle : count ≡ 0 → new.trace ≡ old.trace
   pub own : results_taken_in workers place new ≡ results_taken_in workers place old + count
   pub others : OthersStay old new workers place
+  pub none_comes : NoneComes old new workers
 
 -- one more result was taken in, or none, where none is seen or the next can't be taken in
 abbrev pub CollectsNext : Kept → Kept → ℕ → ℕ → List JobResult → Bool → Type 0

@@ -1,11 +1,11 @@
 //! Results that came back from workers.
-ghost use Rattle.std.specs.Prelude.{◌≡◌, ℕ, ◌+◌, ◌<◌, ◌≤◌, ◌↔◌, [], ◌∷◌, ◌++◌, length, IsTrue, IfOk, OnErr};
+ghost use Rattle.std.specs.Prelude.{◌≡◌, ℕ, ◌+◌, ◌<◌, ◌≤◌, ◌↔◌, [], ◌∷◌, ◌++◌, length, IsTrue, IfOk, OnOk, OnErr};
 ghost use Rattle.uring_threads.specs.Delivered.{OnlyPosts};
 ghost use Rattle.uring_threads.specs.Dispatched.{HaveCarried, AreSameLanes, AreTakenIn};
 ghost use Rattle.uring_threads.specs.Kept.{now};
-ghost use Rattle.uring_threads.specs.Tallies.{Appends, TakesFewResults, finishes_counted, most_results};
+ghost use Rattle.uring_threads.specs.Tallies.{Appends, TakesFewResults, finishes_counted, most_results, results_taken_in};
 ghost use Rattle.rtrb.specs.Ring.{received, known_items, SameConsumer};
-ghost use Rattle.uring_threads.specs.Collected.{CanBeTaken, Collects, CollectsFew, CollectsNext, CollectsSeen, OthersStay, SeesNoMore, TakesAll, TakesNext, Wait};
+ghost use Rattle.uring_threads.specs.Collected.{CanBeTaken, Collects, CollectsFew, CollectsNext, CollectsSeen, NoneComes, OtherLanesStay, OthersStay, SeesNoMore, TakesAll, TakesNext, TakesSeen, Wait};
 ghost use Rattle.uring_threads.specs.Kept.{Grows};
 ghost use Rattle.uring_threads.specs.Settled.{finish_of};
 ghost use Rattle.uring_threads.specs.declared.job.JobResult.{JobResult};
@@ -26,6 +26,9 @@ pub fn collect_all(kept: &mut Kept, lanes: &mut [WorkLanes]) -> Result<u64, Allo
     ensures lanes { AreSameLanes lanes.old lanes.new }
     ensures posts { OnlyPosts (now kept.old) (now kept.new) }
     ensures few { TakesFewResults (length lanes.old) kept.old kept.new }
+
+    // Of each worker, fewer than 64 only if no other result is seen, or the next can't be taken in.
+    ensures seen { OnOk result (TakesSeen kept.old kept.new lanes.new) }
     ensures tally { IfOk result (λ count. Appends kept.old kept.new (finishes_counted count)) }
     ensures idle { IfOk result (λ count. count ≡ 0 → kept.new.trace ≡ kept.old.trace) }
     ensures err { OnErr result ((count : ℕ) × Appends kept.old kept.new (finishes_counted count)) }
@@ -46,6 +49,9 @@ fn collect_at(kept: &mut Kept, lanes: &mut [WorkLanes], place: u32) -> Result<u6
     ensures lanes { AreSameLanes lanes.old lanes.new }
     ensures posts { OnlyPosts (now kept.old) (now kept.new) }
     ensures few { CollectsFew kept.old kept.new (length lanes.old) place }
+    ensures own { IfOk result (λ count. results_taken_in (length lanes.old) place kept.new ≡ results_taken_in (length lanes.old) place kept.old + count) }
+    ensures none_comes { NoneComes kept.old kept.new (length lanes.old) }
+    ensures others { OtherLanesStay lanes.old lanes.new place }
     ensures tally { IfOk result (λ count. Appends kept.old kept.new (finishes_counted count)) }
     ensures most { IfOk result (λ count. count ≤ 64) }
 

@@ -1,8 +1,8 @@
-use Rattle.std.proofs.Common.{◌+◌, length, refl, ◌∙◌, arith}
+use Rattle.std.proofs.Common.{rules, ◌≡◌, ◌+◌, length, refl, subst, ◌∙◌, arith}
 use Rattle.uring_threads.specs.Kept.{now}
 use Rattle.uring_threads.specs.Tallies.{finishes_counted}
 use Rattle.uring_threads.proofs.Collecting.{on_err}
-use Rattle.uring_threads.proofs.FewResults.{few_at, few_in_all}
+use Rattle.uring_threads.proofs.FewResults.{SeenBefore, few_at, few_in_all, seen_at, seen_in_all}
 use Rattle.uring_threads.proofs.Posting.{posts_then}
 use Rattle.uring_threads.proofs.TraceSteps.{appends_then}
 use Rattle.uring_threads.proofs.Turning.{lanes_then}
@@ -21,6 +21,12 @@ returns-in_err-count-clause-few c =
     few_in_all (length c.args.lanes.now) (c.loop-place.place + 1) c.args.kept.now c.collect_at.new.kept
     (few_at c.args.lanes.now c.loop-place.lanes c.loop-place.place c.args.kept.now c.loop-place.kept c.collect_at.new.kept c.loop-place.invariant.lanes c.loop-place.invariant.few c.collect_at.ensures.few)
 
+pub returns-clause-seen : goal.returns-clause-seen
+returns-clause-seen c =
+    let end : c.loop-place.place ≡ length c.args.lanes.now = search (rules, arith) in
+    seen_in_all c.args.lanes.now c.loop-place.lanes c.args.kept.now c.loop-place.kept c.loop-place.invariant.lanes
+    (subst (λ n. SeenBefore (length c.args.lanes.now) n c.args.kept.now c.loop-place.kept c.loop-place.lanes) end c.loop-place.invariant.seen)
+
 pub loop-place-preserved : goal.loop-place-preserved
 loop-place-preserved c =
     record {
@@ -30,5 +36,7 @@ loop-place-preserved c =
       posts = posts_then (now c.args.kept.now) (now c.loop-place.kept) (now c.collect_at.new.kept) c.loop-place.invariant.posts c.collect_at.ensures.posts;
       tally = appends_then c.args.kept.now c.loop-place.kept c.collect_at.new.kept (finishes_counted c.loop-place.count) (finishes_counted c.in_ok-count.field-0) (finishes_counted (c.loop-place.count + c.in_ok-count.field-0)) c.loop-place.invariant.tally c.in_ok-count.ensures.tally refl;
       few = few_at c.args.lanes.now c.loop-place.lanes c.loop-place.place c.args.kept.now c.loop-place.kept c.collect_at.new.kept c.loop-place.invariant.lanes c.loop-place.invariant.few c.collect_at.ensures.few;
+      seen = seen_at c.args.lanes.now c.loop-place.lanes c.collect_at.new.lanes c.loop-place.place c.in_ok-count.field-0 c.args.kept.now c.loop-place.kept c.collect_at.new.kept c.loop-place.invariant.lanes c.collect_at.ensures.lanes c.loop-place.invariant.few c.collect_at.ensures.few
+          c.in_ok-count.ensures.own c.collect_at.ensures.none_comes c.collect_at.ensures.others c.in_ok-count.ensures.seen c.loop-place.invariant.seen;
       idle = λ none. c.in_ok-count.ensures.idle (omega (arith, none)) ∙ c.loop-place.invariant.idle (omega (arith, none));
     }

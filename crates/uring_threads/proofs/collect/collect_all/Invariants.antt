@@ -3,7 +3,7 @@ use Rattle.uring_threads.specs.Delivered.{OnlyPosts}
 use Rattle.uring_threads.specs.Dispatched.{HaveCarried, AreSameLanes}
 use Rattle.uring_threads.specs.Kept.{now}
 use Rattle.uring_threads.specs.Tallies.{Appends, finishes_counted}
-use Rattle.uring_threads.proofs.FewResults.{FewBefore}
+use Rattle.uring_threads.proofs.FewResults.{FewBefore, SeenBefore}
 use Rattle.uring_threads.proofs.collect.collect_all.Given as goal
 
 -- at most 64 of each worker so far
@@ -15,5 +15,6 @@ invariant-loop-place l = record {
   posts : OnlyPosts (now l.initial.kept) (now l.kept);
   tally : Appends l.initial.kept l.kept (finishes_counted l.count);
   few : FewBefore (length l.initial.lanes) l.place l.initial.kept l.kept;
+  seen : SeenBefore (length l.initial.lanes) l.place l.initial.kept l.kept l.lanes;
   idle : l.count ≡ 0 → l.kept.trace ≡ l.initial.kept.trace;
 }

@@ -1,7 +1,8 @@
 use Rattle.std.proofs.Common.{refl, length}
+use Rattle.std.proofs.lemmas.List.{get_or-set_other}
 use Rattle.rtrb.specs.Ring.{known_items}
 use Rattle.uring_threads.proofs.Carrying.{some_collected, carried_set}
-use Rattle.uring_threads.proofs.FewResults.{few_collected}
+use Rattle.uring_threads.proofs.FewResults.{few_collected, own_collected}
 use Rattle.uring_threads.proofs.collect.collect_at.Goals as goal
 
 pub returns-clause-carried : goal.returns-clause-carried
@@ -11,3 +12,14 @@ returns-clause-carried c =
 
 pub returns-clause-few : goal.returns-clause-few
 returns-clause-few c = few_collected c.collect.result c.args.kept.now c.collect.new.kept (length c.args.lanes.now) c.args.place (known_items c.collect.new.results) c.collect.ensures.ok c.collect.ensures.err
+
+pub returns-clause-own : goal.returns-clause-own
+returns-clause-own c = own_collected c.collect.result c.args.kept.now c.collect.new.kept (length c.args.lanes.now) c.args.place (known_items c.collect.new.results) c.collect.ensures.ok
+
+pub returns-clause-none_comes : goal.returns-clause-none_comes
+returns-clause-none_comes c =
+    let p = some_collected c.collect.result c.args.kept.now c.collect.new.kept (length c.args.lanes.now) c.args.place (known_items c.collect.new.results) c.collect.ensures.ok c.collect.ensures.err in
+    p.1.none_comes
+
+pub returns-clause-others : goal.returns-clause-others
+returns-clause-others c = λ k other d. get_or-set_other c.args.lanes.now c.args.place k _ d other
