@@ -1,5 +1,5 @@
 -- The set-up that words ask for.
-use Rattle.std.specs.Prelude.{◌≡◌, ◌*◌, ℕ, false, Option, Some, None, if◌then◌else◌}
+use Rattle.std.specs.Prelude.{◌≡◌, ℕ, false, Option, Some, None, if◌then◌else◌}
 use Rattle.uring_entry.specs.Setup.{Setup, IsSetupFor}
 use Rattle.uring_c.specs.declared.set_up_words.SetupWords.{SetupWords}
 

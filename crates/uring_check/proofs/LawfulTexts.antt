@@ -6,7 +6,7 @@ use Rattle.uring_machine.specs.declared.answer.Answer.{Answer}
 use Rattle.uring_machine.specs.declared.step.Step.{Step}
 use Rattle.uring_trace.specs.Text.{text_of}
 use Rattle.uring_check.specs.Checks.{Says}
-use Rattle.uring_check.specs.Findings.{Found, Finding, AreFound, IsFinding, IsFindingBehind, first_fault, has_stopped, history_behind, judged, lines_of, stops, verdict_of, with_finding}
+use Rattle.uring_check.specs.Findings.{Found, Finding, AreFound, IsFinding, IsFindingBehind, first_fault, has_stopped, history_behind, judged, lines_of, verdict_of}
 use Rattle.uring_check.specs.Findings as finding
 use Rattle.uring_check.specs.Records.{AreRecorded, IsLawfulText, Records}
 use Rattle.uring_check.specs.Rules.{Rules, IsCalled, IsLawfulBy, IsPlain}

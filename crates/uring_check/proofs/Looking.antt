@@ -14,7 +14,7 @@ use Rattle.uring_trace.specs.Explanations.{line_number}
 use Rattle.uring_trace.specs.Lines.{ended}
 use Rattle.uring_trace.specs.Remarks.{is_remark}
 use Rattle.uring_check.specs.Checking.{FitsBy, Judges, Looks, Looked, LooksAt, rules_of}
-use Rattle.uring_check.specs.Findings.{Found, Finding, IsFinding, IsFindingBehind, first_fault, has_stopped, history_behind, judged, stops, with_finding}
+use Rattle.uring_check.specs.Findings.{IsFinding, IsFindingBehind, first_fault, has_stopped, history_behind, judged, stops, with_finding}
 use Rattle.uring_check.specs.Findings as finding
 use Rattle.uring_check.specs.Records.{IsRecord, IsNoRecord}
 use Rattle.uring_check.specs.Reports.{counted_with, line_text, told_of, told_of_all, wanted_text, why_asked, why_told}

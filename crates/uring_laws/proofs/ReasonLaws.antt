@@ -1,5 +1,5 @@
 -- What why says, from what each case of it says: proofs of the laws on reasons.
-use Rattle.std.proofs.Common.{◌≡◌, ℕ, ◌<◌, length, Bool, true, false, not, ◌&&◌, ◌||◌, Option, Some, None, is_some, refl, sym, ◌∙◌, ap, subst, arith, inl, inr, ℤ}
+use Rattle.std.proofs.Common.{◌≡◌, ℕ, ◌<◌, length, Bool, true, false, not, ◌&&◌, ◌||◌, Option, Some, None, is_some, refl, sym, ◌∙◌, ap, subst, arith, inl, inr}
 use Rattle.std.specs.Prelude.{if◌then◌else◌, ◌⊎◌}
 use Rattle.std.proofs.lemmas.Bool.{cases_lt, cases_Bool, and_from, and_left, and_right, and_parts, or_left, or_right, or_parts, or_from, both_ways, lt-ltb, le-ltb, not-true, ltb-true, false_from_ne_true}
 use Rattle.uring_entry.specs.Below.{least_below}
@@ -17,10 +17,10 @@ use Rattle.uring_entry.proofs.RequestLemmas.{is_joined-yes, is_joined-inside, is
 use Rattle.uring_entry.proofs.WhyLemmas.{StillWaits, IsTold, told, told-as, why-waiting}
 use Rattle.uring_entry.specs.Preparation.{is_cancel}
 use Rattle.uring_machine.specs.World.{World}
-use Rattle.uring_machine.specs.StepAnswers.{IsEnded, issue_answer}
+use Rattle.uring_machine.specs.StepAnswers.{issue_answer}
 use Rattle.uring_machine.specs.declared.answer.Answer.{Answer}
 use Rattle.uring_machine.specs.declared.answer.Answer.TheVariants as answer
-use Rattle.uring_laws.specs.Reasons.{AgreesWith, can_be_issued, IsUnstarted, CanStart, IsSince, IsWaiting, IsLeastOf, IsDoomOf, GoesOn}
+use Rattle.uring_laws.specs.Reasons.{answer_told, can_be_issued, IsUnstarted, CanStart, IsSince, IsWaiting, IsLeastOf, IsDoomOf, GoesOn}
 
 -- Standing.
 
@@ -231,19 +231,14 @@ unstarted-answer w n s = let u = unstarted-told w.requests n s in ap (by_outstan
 ready-answer : (w : World) (n : ℕ) (ready : Bool) → StillWaits w.requests n → is_doomed w.requests n ≡ false → is_ready w.requests n ≡ ready → issue_answer w n ≡ by_ready w n ready
 ready-answer w n ready s free e = unstarted-answer w n s ∙ ap (by_doomed w n) free ∙ ap (by_ready w n) e
 
-start-agrees : (a : Answer) (cancel : Bool) (res : ℤ) → a ≡ (if cancel then answer.Ended res no_bytes else answer.Run) → (a ≡ answer.Run) ⊎ IsEnded a
-start-agrees a true res e = inr (subst IsEnded (sym e) tt)
-start-agrees a false res e = inl e
-
-agrees-told : (w : World) (n : ℕ) (why : Why) → IsTold w.requests n why → AgreesWith (issue_answer w n) why
+agrees-told : (w : World) (n : ℕ) (why : Why) → IsTold w.requests n why → issue_answer w n ≡ answer_told w.requests n why
 agrees-told w n NeverAccepted le = unknown-answer w n (and_left _ _ (le-ltb n (length w.requests.accepted) le))
 agrees-told w n HasEnded t = unknown-answer w n (and_right _ _ (ap not t.1))
 agrees-told w n Runs t =
     ap (by_outstanding w n) (and_from _ _ (lt-ltb n (length w.requests.accepted) t.0) (ap not t.1)) ∙ ap (by_running w n) t.2
-agrees-told w n (IsDoomed doom) t = subst IsEnded (sym (unstarted-answer w n t.0 ∙ ap (by_doomed w n) t.1)) tt
+agrees-told w n (IsDoomed doom) t = unstarted-answer w n t.0 ∙ ap (by_doomed w n) t.1
 agrees-told w n (Waits m since) t = ready-answer w n false t.0 t.1 (ready-some w.requests n m t.2)
-agrees-told w n MayStart t =
-    start-agrees (issue_answer w n) (is_cancel (entry_of w.requests n)) (cancel_result w.requests n) (ready-answer w n true t.0 t.1 (ready-none w.requests n t.2))
+agrees-told w n MayStart t = ready-answer w n true t.0 t.1 (ready-none w.requests n t.2)
 
-pub answer-agrees : (w : World) (n : ℕ) → AgreesWith (issue_answer w n) (why_of w.requests n)
+pub answer-agrees : (w : World) (n : ℕ) → issue_answer w n ≡ answer_told w.requests n (why_of w.requests n)
 answer-agrees w n = agrees-told w n (why_of w.requests n) (told w.requests n)

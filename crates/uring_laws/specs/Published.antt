@@ -1,5 +1,5 @@
 -- What the application published, and what the calls took and dropped of it.
-use Rattle.std.specs.Prelude.{◌≡◌, ℕ, ◌%◌, ◌^◌, ◌≤◌, Bool, true, false, List, map, count_by, Option, Some, None, All}
+use Rattle.std.specs.Prelude.{◌≡◌, ℕ, ◌%◌, ◌^◌, Bool, true, false, List, map, count_by, All}
 use Rattle.std.specs.List.{enumerate_from}
 use Rattle.uring_entry.specs.Setup.{Setup}
 use Rattle.uring_entry.specs.Submission.{dropped, IsItem, item_of, Published, published_items}

@@ -1,6 +1,6 @@
 -- What it says of a request why it stands as it does: laws of any requests.
-use Rattle.std.specs.Prelude.{◌≡◌, ◌↔◌, ℕ, ◌<◌, ℤ, pos, neg_ℤ, Bool, true, false, length, Some, ◌⊎◌}
-use Rattle.uring_entry.specs.Requests.{Requests, entry_of, is_outstanding, is_running, is_candidate, cancel_result, is_issuable, is_doomed, is_ready, is_in_faulty_group, is_behind_failure, is_cancelled, is_joined, is_draining, holds_back}
+use Rattle.std.specs.Prelude.{◌≡◌, ◌↔◌, ℕ, ◌<◌, ℤ, pos, neg_ℤ, Bool, true, false, if◌then◌else◌, length, Some, ◌⊎◌}
+use Rattle.uring_entry.specs.Requests.{Requests, entry_of, is_outstanding, is_running, is_candidate, cancel_result, doomed_result, no_bytes, is_issuable, is_doomed, is_ready, is_in_faulty_group, is_behind_failure, is_cancelled, is_joined, is_draining, holds_back}
 use Rattle.uring_entry.specs.Preparation.{fault_of, is_faulty, is_cancel, is_cancel_all}
 use Rattle.uring_entry.specs.declared.errno.TheConstants.{ENOENT, EALREADY}
 use Rattle.uring_entry.specs.Why.{is_faulty_member, is_failure_before, why_of}
@@ -8,7 +8,7 @@ use Rattle.uring_dispatch.specs.Cancels.{found_by}
 use Rattle.uring_dispatch.specs.declared.answers.Found.{Found}
 use Rattle.uring_dispatch.specs.declared.answers.Found.TheVariants as found
 use Rattle.uring_machine.specs.World.{World}
-use Rattle.uring_machine.specs.StepAnswers.{IsEnded, issue_answer}
+use Rattle.uring_machine.specs.StepAnswers.{issue_answer}
 use Rattle.uring_machine.specs.declared.answer.Answer.{Answer}
 use Rattle.uring_machine.specs.declared.answer.Answer.TheVariants as answer
 use Rattle.uring_entry.specs.declared.why.Why.{Why}
@@ -85,18 +85,18 @@ GoesOn r n = (is_running r n ≡ true) ⊎ (is_issuable r n ≡ true)
 abbrev pub TwoSteps : Type 0
 TwoSteps = (r : Requests) (n m : ℕ) (since : Since) → why_of r n ≡ Waits m since → GoesOn r m ⊎ ((k : ℕ) × (other : Since) × (why_of r m ≡ Waits k other) × GoesOn r k)
 
--- an Issue so answered agrees with what is told of its request
-abbrev pub AgreesWith : Answer → Why → Type 0
-AgreesWith a NeverAccepted = a ≡ answer.Unknown
-AgreesWith a HasEnded = a ≡ answer.Unknown
-AgreesWith a Runs = a ≡ answer.Running
-AgreesWith a (IsDoomed doom) = IsEnded a
-AgreesWith a (Waits m since) = a ≡ answer.NotReady
-AgreesWith a MayStart = (a ≡ answer.Run) ⊎ IsEnded a
+-- the answer to an Issue of a request of which this is told
+abbrev pub answer_told : Requests → ℕ → Why → Answer
+answer_told r n NeverAccepted = answer.Unknown
+answer_told r n HasEnded = answer.Unknown
+answer_told r n Runs = answer.Running
+answer_told r n (IsDoomed doom) = answer.Ended (doomed_result r n) no_bytes
+answer_told r n (Waits m since) = answer.NotReady
+answer_told r n MayStart = if is_cancel (entry_of r n) then answer.Ended (cancel_result r n) no_bytes else answer.Run
 
--- The answer called for by an Issue agrees with what is told just before.
+-- The answer called for by an Issue is the one that goes with what is told just before.
 abbrev pub AnswerAgrees : Type 0
-AnswerAgrees = (w : World) (n : ℕ) → AgreesWith (issue_answer w n) (why_of w.requests n)
+AnswerAgrees = (w : World) (n : ℕ) → issue_answer w n ≡ answer_told w.requests n (why_of w.requests n)
 
 -- What a cancel of one request finds.
 

@@ -1,5 +1,5 @@
--- What a core shows as a submission call closes, as a request ends, and as the ring is closed.
-use Rattle.std.proofs.Common.{◌≡◌, ℕ, ◌+◌, ◌-◌, ◌^◌, ◌≤◌, ℤ, Bool, true, false, not, cond, eqb, nat_lt, if◌then◌else◌, List, [], ◌∷◌, length, Option, Some, None, is_some, refl, sym, ap, subst, ◌∙◌, arith, inl, inr, IfSome}
+-- What a core shows as a submission call closes, as a request ends, and as it is made.
+use Rattle.std.proofs.Common.{◌≡◌, ℕ, ◌+◌, ◌-◌, ◌^◌, ◌≤◌, ℤ, Bool, true, false, not, cond, eqb, nat_lt, if◌then◌else◌, List, [], ◌∷◌, length, Option, Some, None, refl, sym, ap, subst, ◌∙◌, arith, inl, inr, IfSome}
 use Rattle.std.proofs.lemmas.Bool.{cases_Bool, eqb-true, eqb-false, lt-ltb, le-ltb}
 use Rattle.std.proofs.lemmas.List.{length-append}
 use Rattle.std.proofs.lemmas.Option.{cond_some}
@@ -234,15 +234,6 @@ skipped_end g q l entry res bytes e s = go (posts_completion entry res) e
     go : (b : Bool) → posts.Nothing ≡ cond b (posts.Completion (user_data_of entry)) posts.Nothing → ShowsCompletions g q (cond b (with_posted g.cq l (record { user_data = user_data_of entry; res = res; payload = bytes })) l)
     go true x = absurd (let f : posts.Nothing ≡ posts.Completion (user_data_of entry) = x in cc)
     go false x = s
-
--- Close.
-
-pub close_goes : (p : Core) → ((g : Setup) (l : Submission) → ShowsSubmission g p.sq l → false ≡ is_some l.call)
-    → (h : History) → FitsApart p h → FitsApart (record p { is_closed = true }) ((step.Close, answer.Shut) ∷ h)
-close_goes p no_call h f = record {
-  shows = let closed : true ≡ true = refl in assumption (f.shows, closed);
-  lawful = (ap (λ b. cond b answer.InCall answer.Shut) (no_call p.setup _ f.shows.submission), f.lawful);
-}
 
 -- the entries accepted are those held
 pub accepts_held : (p : Core) (d : Dispatch) (entries : List Sqe) → entries ≡ p.held → ((r : Requests) → ShowsRequests p.dispatch r → ShowsRequests d (with_call r entries))

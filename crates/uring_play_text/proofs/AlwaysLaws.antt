@@ -13,7 +13,7 @@ use Rattle.uring_entry.specs.Layout.{Sqe, header, without_data, padded, bytes_of
 use Rattle.uring_entry.specs.declared.opcode.TheConstants.{NOP, FSYNC, ASYNC_CANCEL, ASYNC_CANCEL_ALL, READ, WRITE}
 use Rattle.uring_trace.specs.Lines.{Splits, with_last}
 use Rattle.uring_trace.specs.Tokens.{tokens_of}
-use Rattle.uring_trace.specs.Spelling.{Form, IsForm, IsEntryOf, AreBytes, HasBytes, SpellsEntry, IsNoEntry, SpellsNumber, IsNoNumber}
+use Rattle.uring_trace.specs.Spelling.{Form, IsForm, IsEntryOf, SpellsEntry, IsNoEntry, SpellsNumber, IsNoNumber}
 use Rattle.uring_trace.specs.Spelling as form
 use Rattle.uring_trace.specs.Reading.{form_of, number_of}
 use Rattle.uring_trace.proofs.FormLaws.{form_found, form_again}

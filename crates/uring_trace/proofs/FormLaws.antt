@@ -5,7 +5,7 @@ use Rattle.std.specs.Option.{option_map}
 use Rattle.std.specs.Str.{bytes_eq}
 use Rattle.std.proofs.lemmas.Slice.Eq.{bytes_eq-Decides}
 use Rattle.std.proofs.lemmas.Option.{same_Some}
-use Rattle.uring_trace.specs.Spelling.{Form, spelled, IsForm, SpellsForm, IsFile, AreBytes}
+use Rattle.uring_trace.specs.Spelling.{Form, spelled, IsForm, SpellsForm}
 use Rattle.uring_trace.specs.Spelling as form
 use Rattle.uring_trace.specs.Reading.{◌>>=◌, number_of, file_of, flags_of, data_of, hex_of, nop_of, fsync_of, read_of, write_of, cancel_of, cancel_all_of, op_of, raw_of, bytes_form_of, form_of}
 use Rattle.uring_trace.proofs.Options.{bind_some, chosen, mapped}
