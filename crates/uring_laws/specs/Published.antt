@@ -1,4 +1,4 @@
--- What the application published, and what the calls took and dropped of it.
+-- What the application published, and what the calls took and dropped of it, read straight off a history.
 use Rattle.std.specs.Prelude.{◌≡◌, ℕ, ◌%◌, ◌^◌, Bool, true, false, List, map, count_by, All}
 use Rattle.std.specs.List.{enumerate_from}
 use Rattle.uring_entry.specs.Setup.{Setup}
@@ -8,8 +8,6 @@ use Rattle.uring_laws.specs.Direct.{before_last, published_words, published_entr
 use Rattle.uring_machine.specs.Histories.{Event, History, world}
 use Rattle.uring_machine.specs.declared.step.Step.TheVariants as step
 use Rattle.uring_machine.specs.declared.answer.Answer.TheVariants as answer
-
--- Read straight off a history.
 
 -- the items published: at each position its word, with the entry that the word's slot held as it was published
 abbrev pub items_told : ℕ → History → List Published

@@ -26,7 +26,7 @@ pub fn two_steps_lead_on()
     ensures { TwoSteps }
 {}
 
-/// What is told of a request just before its `Issue` agrees with the answer called for: `Unknown` of one that was never accepted or has ended, `Running` of one that runs, the doomed end of a doomed one, `NotReady` of one that waits, and of one that may start the cancel's end if it is a cancel, else a start.
+/// The answer called for by an `Issue` is exactly the one that goes with what is told of its request just before: `Unknown` of one that was never accepted or has ended, `Running` of one that runs, the doomed end of a doomed one, `NotReady` of one that waits, and of one that may start the cancel's end if it is a cancel, else a start.
 pub fn answer_agrees()
     ensures { AnswerAgrees }
 {}

@@ -1,4 +1,4 @@
-//! Plays: whole submissions are read as lines of text, run in threads, and their completions written.
+//! Plays: submissions that were read as lines are run in threads, and their completions written. The text is that of `uring_play_text`.
 #![tactic(auto)]
 
 mod application;

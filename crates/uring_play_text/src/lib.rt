@@ -1,4 +1,4 @@
-//! The text of plays: submissions are read as lines, and completions written.
+//! The text of plays: submissions are read as lines, and completions written in order.
 #![tactic(auto)]
 
 pub mod laws;

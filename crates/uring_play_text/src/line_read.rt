@@ -1,6 +1,6 @@
 //! The lines of a play.
 
-ghost use Rattle.std.specs.Prelude.{◌<◌, ℕ, List, IfOk, MatchOption, map};
+ghost use Rattle.std.specs.Prelude.{ℕ, List, IfOk, MatchOption, map};
 ghost use Rattle.uring_play_text.specs.ItemLines.{SpellsItem};
 ghost use Rattle.uring_play_text.specs.LineReads.{IsReadAs, IsGiven, IsBadWord, IsNoBadWord, IsNoItem};
 

@@ -24,7 +24,7 @@ const CHUNK: usize = 512;
 /// - `Line(k)`: line k, counted from 1, is the first faulty one, and is no item of this ring.
 /// - `Long(k)`: line k is the first faulty one, and is an item past the ring's size in its call.
 /// - `Read`: a read failed, or 2^64 - 1 reads were made, or 2^64 - 1 lines were read without a fault and there was another.
-/// - `Memory`: memory was refused. What is left of the input isn't read.
+/// - `Memory`: memory was refused. Some of the input may be unread.
 pub fn read_calls<R: Read>(
     alloc: Global,
     reader: &mut R,

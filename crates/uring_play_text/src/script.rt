@@ -1,6 +1,6 @@
 //! The calls that lines spell, gathered line by line.
 
-ghost use Rattle.std.specs.Prelude.{◌≡◌, ◌<◌, ◌-◌, ◌+◌, ◌^◌, ℕ, List, [], ◌∷◌, ◌++◌, Err, IfErr, OnOk, None};
+ghost use Rattle.std.specs.Prelude.{◌≡◌, ◌-◌, ◌+◌, ◌^◌, ℕ, List, [], ◌∷◌, ◌++◌, Err, IfErr, OnOk, None};
 ghost use Rattle.uring_play_text.specs.LineReads.{IsGiven, IsReadAs};
 ghost use Rattle.uring_play_text.specs.Scripts.{Gathers, Returns, IsEarly, Adds, EndsCall};
 

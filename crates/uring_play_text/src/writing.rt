@@ -15,7 +15,7 @@ use uring_trace::{Calls, push_completion, write_all};
 ///
 /// The completions are sorted in place.
 ///
-/// - `Write`: a write failed or took no byte, or 2^64 - 1 writes were made. What was written is the beginning of the text.
+/// - `Write`: a write failed or took no byte, or 2^64 - 1 writes were made. What was written is the beginning of the text, and something of it is missing.
 /// - `Memory`: memory was refused, and nothing was written.
 pub fn write_out<W: Write>(
     alloc: Global,

@@ -1,4 +1,4 @@
--- One message more on the lane of calls, at either end, and room on a lane.
+-- One message more on the lane of calls, at either end, and a whole call or the close mark taken.
 use Rattle.std.proofs.Common.{◌≡◌, ℕ, suc, ◌+◌, ◌-◌, ◌<◌, true, false, List, [], ◌∷◌, ◌++◌, length, get_or, take, sym, ◌∙◌, ap, arith, append_assoc, zero-add}
 use Rattle.std.proofs.lemmas.List.{take_more}
 use mathlib.Core.List.{IsPrefix}

@@ -14,7 +14,7 @@ use std::alloc::Global;
 use std::marker::Model;
 use uring_entry::Cqe;
 
-/// The application's end. Its calls wait for nobody, hold no lock and take no memory.
+/// The application's end. Over lanes and over shared words its calls wait for nobody and hold no lock, and none but `settle` takes memory.
 #[derive(Drop)]
 pub struct AppEnd<P: AppPort> {
     port: P,
@@ -54,7 +54,7 @@ impl<P: AppPort> AppEnd<P> {
 
     /// Submits the items as one call, all of them, or none.
     ///
-    /// It refuses with `Closed`, `Empty`, `TooLong`, `NotBad`, `Full`, in this order, each exactly if what `SubmitRefusal` says of it stands. io_uring_enter(2), for a call; that a call has an item and fits the ring is our own rule.
+    /// It refuses with `Closed`, `Empty`, `TooLong`, `NotBad`, in this order, each exactly if what `SubmitRefusal` says of it stands; and else with `Full`, only if all items submitted and these are more than the ring's size. io_uring_enter(2), for a call; that a call has an item and fits the ring is our own rule.
     pub fn submit(&mut self, items: &[Item]) -> Result<(), SubmitRefusal>
         // Ok: each item is submitted.
         ensures ok { OnOk result (IsSound self.old items.now × (self.new ≡ submits self.old items.now)) }
@@ -86,7 +86,7 @@ impl<P: AppPort> AppEnd<P> {
         self.port.get()
     }
 
-    /// The dropped word as it is now: how many positions were dropped, modulo 2^32, as of the dispatcher's last turn that returned Ok, and 0 before there was one. `None` if no such word lies between the ends: over lanes none does. io_uring_setup(2), on `dropped`.
+    /// The dropped word: how many positions were dropped, modulo 2^32, when the dispatcher stored it, and 0 before it first did. `None` exactly if no such word lies between the ends: over lanes none does. io_uring_setup(2), on `dropped`.
     pub fn dropped(&mut self) -> Option<u32>
         ensures loaded { MatchOption result ((self.old.dropped ≡ None) × (self.new ≡ self.old)) (λ word. (is_some self.old.dropped ≡ true) × (self.new ≡ loads self.old word)) }
         // Of one pair it stays.
@@ -98,7 +98,7 @@ impl<P: AppPort> AppEnd<P> {
 
     /// Closes the end: no call comes after those submitted.
     ///
-    /// It refuses with `Closed` exactly after an Ok, and else with `Full` if there is no free place for the close mark.
+    /// It refuses with `Closed` exactly after an Ok, and else with `Full`, only if as many items as the submission ring's size were submitted.
     pub fn close(&mut self) -> Result<(), CloseRefusal>
         ensures ok { OnOk result ((self.old.submitted.closed ≡ false) × (self.new ≡ closes self.old)) }
         // A refusal: nothing changes.

@@ -63,7 +63,7 @@ pub trait AppPort: Drop {
         ensures put { put self.new ≡ put self.old }
         ensures dropped { dropped self.new ≡ dropped self.old };
 
-    /// The dropped word as it is now: how many positions the dispatcher had dropped when it last stored it, and 0 before it first did. `None` if no such word lies between the ends.
+    /// A dropped word that was stored, never older than the one loaded before, or 0 if none was: how many positions the dispatcher had dropped then. `None` if no such word lies between the ends.
     fn load_dropped(&mut self) -> Option<u32>
         ensures dropped { MatchOption result ((dropped self.old ≡ None) × (dropped self.new ≡ dropped self.old)) (λ word. (is_some (dropped self.old) ≡ true) × (dropped self.new ≡ with_word (dropped self.old) word)) }
         // Nothing else changes.
@@ -102,11 +102,11 @@ pub trait KernelPort: Sized + Drop {
 
     /// Takes one whole call, or the close mark, or nothing. The items of the call replace what `items` held.
     ///
-    /// `Nothing` says only that this end saw no whole call.
+    /// `Nothing` says only that this end saw no whole call and no close mark.
     fn pull(&mut self, items: &mut Vec<Item>) -> Pulled
         requires { (sizes self.old).sq ≤ vec_capacity items.old }
         ensures pulled { Pulls (sizes self.old).sq (pulled self.old) result items.new.items (pulled self.new) }
-        ensures room { vec_capacity items.old ≤ vec_capacity items.new }
+        ensures room { vec_capacity items.new ≡ vec_capacity items.old }
         // Nothing else changes.
         ensures pairing { pairing self.new ≡ pairing self.old }
         ensures sizes { sizes self.new ≡ sizes self.old }
@@ -114,7 +114,7 @@ pub trait KernelPort: Sized + Drop {
         ensures free { free self.new ≡ free self.old }
         ensures dropped { dropped self.new ≡ dropped self.old };
 
-    /// How many completions there is room for. The application may make more at any time.
+    /// How many completions there is certainly room for. The application may make more at any time.
     ///
     /// It is at least the completion ring's size less all that were delivered.
     fn room(&mut self) -> usize
@@ -138,7 +138,7 @@ pub trait KernelPort: Sized + Drop {
         ensures pulled { pulled self.new ≡ pulled self.old }
         ensures dropped { dropped self.new ≡ dropped self.old };
 
-    /// Stores the dropped word: how many positions were dropped, modulo 2^32. Does nothing if no such word lies between the ends.
+    /// Stores this word as the dropped word. Does nothing if no such word lies between the ends.
     fn store_dropped(&mut self, word: u32)
         ensures dropped { dropped self.new ≡ with_word (dropped self.old) word }
         // Nothing else changes.

@@ -12,7 +12,7 @@ pub enum Pulled {
     /// The close mark, behind all calls.
     Close,
 
-    /// Nothing: this end saw no whole call.
+    /// Nothing: this end saw no whole call and no close mark.
     Nothing,
 }
 

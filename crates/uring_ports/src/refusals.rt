@@ -15,7 +15,7 @@ pub enum SubmitRefusal {
     /// A bad word of the call is below the submission ring's size, so it would name a slot.
     NotBad,
 
-    /// There are fewer free places than items. It doesn't come while all items submitted and these are at most the submission ring's size.
+    /// This end saw fewer free places than the call has items. It doesn't come while all items submitted and these are at most the submission ring's size.
     Full,
 }
 
@@ -25,6 +25,6 @@ pub enum CloseRefusal {
     /// It was closed before.
     Closed,
 
-    /// There is no free place for the close mark. It doesn't come while fewer items than the submission ring's size were submitted.
+    /// This end saw no free place for the close mark. It doesn't come while fewer items than the submission ring's size were submitted.
     Full,
 }

@@ -1,4 +1,4 @@
-//! Application, dispatcher and workers as ends that threads own: submissions, completions, jobs and results go from end to end, and the dispatcher records its steps as a trace.
+//! Dispatcher and workers as ends that threads own, and all ends of a set-up with the application's: submissions, completions, jobs and results go from end to end, and the dispatcher records its steps as a trace.
 #![tactic(auto)]
 
 pub mod laws;

@@ -1,4 +1,4 @@
-//! All the ends of a set-up.
+//! All the ends of a set-up: over lanes, over shared words, or over two ports of one's own.
 ghost use Rattle.std.specs.Prelude.{◌≡◌, ℕ, List, ◌↔◌, ◌<◌, ◌≤◌, [], length, true, false, Some, None, IfOk, IsErrOf, OnOk, vec_capacity};
 ghost use Rattle.uring_ports.specs.Ports.{nothing_put, sizes_of};
 ghost use Rattle.uring_threads.specs.Opening.{AreBadWorkers, AreEnds, AreOpened};

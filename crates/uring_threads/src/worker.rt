@@ -1,5 +1,5 @@
 //! A worker: it carries out jobs on files that it alone has.
-ghost use Rattle.std.specs.Prelude.{◌≡◌, ◌+◌, ◌<◌, [], ◌∷◌, ◌++◌, length};
+ghost use Rattle.std.specs.Prelude.{◌≡◌, [], ◌∷◌, ◌++◌, length};
 ghost use Rattle.rtrb.specs.Ring.{sent, known_free, received, known_items};
 ghost use Rattle.uring_files.specs.Operations.{state_of, byte_of, IsForFiles};
 ghost use Rattle.uring_threads.specs.Pairings.{producer_numbers, consumer_numbers, pairing_of};
@@ -10,7 +10,7 @@ use crate::gate::Gate;
 use crate::job::{Job, JobResult};
 use crate::work_lanes::WorkLanes;
 use rtrb::{Consumer, Producer, Protocol};
-use std::alloc::{AllocError, Global};
+use std::alloc::Global;
 use std::marker::Model;
 use uring_files::{FileState, Files};
 

@@ -1,5 +1,5 @@
 //! The files of all workers together: each file is that of its worker.
-ghost use Rattle.std.specs.Prelude.{◌<◌, ◌≤◌, length};
+ghost use Rattle.std.specs.Prelude.{◌≤◌, length};
 ghost use Rattle.uring_threads.specs.SettledWorker.{HaveFiles, TellsByte, TellsState};
 
 use crate::gate::Gate;

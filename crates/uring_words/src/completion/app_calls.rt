@@ -1,5 +1,5 @@
 //! The application's calls on the table: one completion, the dropped word.
-ghost use Rattle.std.specs.Prelude.{◌≡◌, ◌+◌, ◌<◌, true, [], ◌∷◌, ◌++◌, length, MatchOption};
+ghost use Rattle.std.specs.Prelude.{◌≡◌, ◌<◌, true, [], ◌∷◌, ◌++◌, length, MatchOption};
 ghost use Rattle.uring_words.specs.Completion.Ends.{completions_of, AppRests, GetsOne};
 ghost use Rattle.uring_words.specs.Completion.Layout.{word_count};
 ghost use Rattle.uring_words.specs.Completion.Steps.{dropped_loaded};

@@ -1,5 +1,5 @@
 //! A new table, with a seat for each side.
-ghost use Rattle.std.specs.Prelude.{◌≡◌, ◌<◌, ◌≤◌, [], length, slice_index, IfOk};
+ghost use Rattle.std.specs.Prelude.{◌≡◌, ◌≤◌, [], length, slice_index, IfOk};
 ghost use Rattle.std.specs.Int.{IsPowerOfTwo};
 ghost use Rattle.uring_words.specs.Completion.Layout.{tail_index, head_index, dropped_index, word_count};
 ghost use Rattle.uring_words.specs.Completion.Rule.{at_first};

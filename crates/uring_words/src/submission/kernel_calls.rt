@@ -1,7 +1,6 @@
 //! The dispatcher's calls on the table: one whole call, the close mark, or nothing.
-ghost use Rattle.std.specs.Prelude.{◌≡◌, ◌+◌, ◌<◌, ◌≤◌, true, false, [], ◌++◌, length, vec_capacity};
+ghost use Rattle.std.specs.Prelude.{◌≡◌, ◌<◌, ◌≤◌, true, false, [], ◌++◌, length, vec_capacity};
 ghost use Rattle.uring_ports.specs.Ports.{Pulls};
-ghost use Rattle.uring_ports.specs.declared.pulled.Pulled.{Pulled};
 ghost use Rattle.uring_words.specs.Submission.Calls.{put_of, has_close_mark, AreWhole};
 ghost use Rattle.uring_words.specs.Submission.Ends.{Copying, KernelRests};
 ghost use Rattle.uring_words.specs.Submission.Layout.{word_count};

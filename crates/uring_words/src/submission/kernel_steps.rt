@@ -1,5 +1,5 @@
 //! The dispatcher's steps on the table, from one word up to one call.
-ghost use Rattle.std.specs.Prelude.{◌≡◌, ◌+◌, ◌<◌, ◌≤◌, true, false, ◌∷◌, length};
+ghost use Rattle.std.specs.Prelude.{◌≡◌, ◌<◌, ◌≤◌, true, false, ◌∷◌, length};
 ghost use Rattle.uring_words.specs.Submission.Ends.{Copying, CopiesOne, HoldsAs, copied_one};
 ghost use Rattle.uring_words.specs.Submission.Calls.{item_of};
 ghost use Rattle.uring_words.specs.Places.{place_of};
@@ -10,9 +10,9 @@ ghost use Rattle.uring_words.specs.declared.submission.view.Position.{Position};
 ghost use Rattle.std.specs.Prelude.{List};
 
 use crate::submission::app_steps::{CLOSE_MARK, LAST_OF_CALL};
-use crate::submission::table::{LoadMark, LoadTail, LoadWord, Seat, StoreHead, Words};
+use crate::submission::table::{LoadMark, LoadWord, Seat, Words};
 use uring_entry::Sqe;
-use uring_ports::{Item, Pulled};
+use uring_ports::Item;
 
 /// What a position holds.
 #[derive(Clone, Copy)]

@@ -1,5 +1,5 @@
 //! What is left on the table when both of its seats are in one hand.
-ghost use Rattle.std.specs.Prelude.{◌≡◌, ◌+◌, ◌<◌, ◌≤◌, true, [], ◌++◌, length, vec_capacity, vec_len};
+ghost use Rattle.std.specs.Prelude.{◌≡◌, ◌+◌, ◌≤◌, true, [], ◌++◌, length, vec_capacity, vec_len};
 ghost use Rattle.uring_ports.specs.Ports.{LeavesItems};
 ghost use Rattle.uring_words.specs.Submission.Calls.{put_of, items_of, AreWhole};
 ghost use Rattle.uring_words.specs.Submission.Ends.{KernelRests};
