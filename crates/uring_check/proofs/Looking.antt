@@ -11,8 +11,8 @@ use Rattle.uring_machine.specs.World.{World}
 use Rattle.uring_machine.specs.declared.step.Step.{Step}
 use Rattle.uring_machine.specs.declared.wanted.Wanted.{Wanted}
 use Rattle.uring_trace.specs.Explanations.{line_number}
-use Rattle.uring_trace.specs.Lines.{ended}
-use Rattle.uring_trace.specs.Remarks.{is_remark}
+use Rattle.uring_text.specs.Lines.{ended}
+use Rattle.uring_text.specs.Remarks.{is_remark}
 use Rattle.uring_check.specs.Checking.{FitsBy, Judges, Looks, Looked, LooksAt, rules_of}
 use Rattle.uring_check.specs.Findings.{IsFinding, IsFindingBehind, first_fault, has_stopped, history_behind, judged, stops, with_finding}
 use Rattle.uring_check.specs.Findings as finding

@@ -4,12 +4,12 @@ use Rattle.std.specs.Io.KnownBytes.{Consumes, Appends, IsAtEnd, Keeps}
 use Rattle.std.proofs.KnownBytes.{Consumes-nil, Consumes-trans, Consumes-kept, Appends-nil}
 use Rattle.std.proofs.lemmas.List.{append-nil}
 use Rattle.uring_check.specs.Rules.{Rules}
-use Rattle.uring_trace.specs.KeptLine.{KeptLine, kept_of}
-use Rattle.uring_trace.specs.Lines.{with_last}
-use Rattle.uring_trace.specs.Traces.{WritesText}
-use Rattle.uring_trace.specs.declared.trace_fault.TraceFault.{TraceFault}
-use Rattle.uring_trace.specs.declared.trace_fault.TraceFault.TheVariants as fault
-use Rattle.uring_trace.proofs.Sessions.{split_end, last_some}
+use Rattle.uring_text.specs.KeptLine.{KeptLine, kept_of}
+use Rattle.uring_text.specs.Lines.{with_last}
+use Rattle.uring_text.specs.Writing.{WritesText}
+use Rattle.uring_text.specs.declared.trace_fault.TraceFault.{TraceFault}
+use Rattle.uring_text.specs.declared.trace_fault.TraceFault.TheVariants as fault
+use Rattle.uring_text.proofs.Splits.{split_end, last_some}
 use Rattle.uring_check.specs.Checking.{Looks, Holds, Has, IsTold, TakesIn, ReadsIn}
 use Rattle.uring_check.specs.Checks.{AreLinesOf, IsVerdict, Writes, ReadsAll, IsChecked}
 use Rattle.uring_check.specs.declared.checker.Checker.{Checker}

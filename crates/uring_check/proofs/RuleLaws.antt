@@ -13,7 +13,7 @@ use Rattle.uring_machine.specs.declared.answer.Answer.{Answer}
 use Rattle.uring_machine.specs.declared.answer.Answer.TheVariants as answer
 use Rattle.uring_machine.specs.declared.step.Step.{Step}
 use Rattle.uring_machine.specs.declared.step.Step.TheVariants as step
-use Rattle.uring_trace.specs.Spelling.{IsFile}
+use Rattle.uring_text.specs.Spelling.{IsFile}
 use Rattle.uring_trace.specs.Text.{text_of}
 use Rattle.uring_check.specs.Rules.{Rules, CalledIn, LawfulIn, IsCalled, IsLawfulBy, IsPlain}
 use Rattle.uring_check.proofs.SameTexts.{answer_once, begin_once}

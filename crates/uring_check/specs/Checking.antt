@@ -16,11 +16,11 @@ use Rattle.uring_machine.specs.declared.wanted.Refusal.TheVariants as refusal
 use Rattle.uring_machine.specs.declared.wanted.Wanted.{Wanted}
 use Rattle.uring_machine.specs.declared.wanted.Wanted.TheVariants.{Only}
 use Rattle.uring_trace.specs.Explanations.{line_number}
-use Rattle.uring_trace.specs.KeptLine.{KeptLine, kept_of}
-use Rattle.uring_trace.specs.Lines.{Splits}
+use Rattle.uring_text.specs.KeptLine.{KeptLine, kept_of}
+use Rattle.uring_text.specs.Lines.{Splits}
 use Rattle.uring_trace.specs.Text.{text_of}
-use Rattle.uring_trace.specs.declared.trace_fault.TraceFault.{TraceFault}
-use Rattle.uring_trace.specs.declared.trace_fault.TraceFault.TheVariants as fault
+use Rattle.uring_text.specs.declared.trace_fault.TraceFault.{TraceFault}
+use Rattle.uring_text.specs.declared.trace_fault.TraceFault.TheVariants as fault
 use Rattle.uring_check.specs.Findings.{Found, Finding, IsWrongText, IsFinding, AreFound, lines_of, history_behind, has_stopped, stops, judged, with_finding, verdict_of}
 use Rattle.uring_check.specs.Reports.{report, told_of, told_of_all, counted_with, steps_of, wanted_text}
 use Rattle.uring_check.specs.Rules.{Rules, IsCalled, IsPlain}

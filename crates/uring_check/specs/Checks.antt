@@ -1,9 +1,9 @@
 -- What a check reads, returns and writes.
 use Rattle.std.specs.Prelude.{◌≡◌, ℕ, ◌<◌, Bool, List, [], ◌++◌, length, Option, Result, Ok, Err}
 use Rattle.std.specs.Io.KnownBytes.{Consumes, Appends, IsAtEnd}
-use Rattle.uring_trace.specs.Lines.{Splits, with_last}
-use Rattle.uring_trace.specs.declared.trace_fault.TraceFault.{TraceFault}
-use Rattle.uring_trace.specs.declared.trace_fault.TraceFault.TheVariants as fault
+use Rattle.uring_text.specs.Lines.{Splits, with_last}
+use Rattle.uring_text.specs.declared.trace_fault.TraceFault.{TraceFault}
+use Rattle.uring_text.specs.declared.trace_fault.TraceFault.TheVariants as fault
 use Rattle.uring_check.specs.Findings.{Found, AreFound, lines_of, verdict_of}
 use Rattle.uring_check.specs.Records.{IsLawfulText}
 use Rattle.uring_check.specs.Reports.{report}

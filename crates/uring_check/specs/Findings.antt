@@ -7,7 +7,7 @@ use Rattle.uring_machine.specs.declared.answer.Answer.{Answer}
 use Rattle.uring_machine.specs.declared.step.Step.{Step}
 use Rattle.uring_machine.specs.declared.wanted.Refusal.TheVariants as refusal
 use Rattle.uring_machine.specs.declared.wanted.Wanted.{Wanted}
-use Rattle.uring_trace.specs.Remarks.{is_remark}
+use Rattle.uring_text.specs.Remarks.{is_remark}
 use Rattle.uring_trace.specs.Text.{text_of}
 use Rattle.uring_check.specs.Records.{IsRecord, IsNoRecord, IsPassed}
 use Rattle.uring_check.specs.Rules.{Rules, IsCalled, IsPlain}

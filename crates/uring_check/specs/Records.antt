@@ -3,7 +3,7 @@ use Rattle.std.specs.Prelude.{◌≡◌, ◌≢◌, ℕ, ◌≤◌, ◌⊎◌, t
 use Rattle.std.specs.List.{AllByRecursion}
 use Rattle.uring_machine.specs.Histories.{Event, History}
 use Rattle.uring_machine.specs.declared.step.Step.{Step}
-use Rattle.uring_trace.specs.Remarks.{is_remark}
+use Rattle.uring_text.specs.Remarks.{is_remark}
 use Rattle.uring_trace.specs.Spelling.{IsStep}
 use Rattle.uring_trace.specs.Text.{text_of}
 use Rattle.uring_check.specs.Rules.{Rules, IsLawfulBy, IsPlain}

@@ -11,7 +11,7 @@ use Rattle.uring_machine.specs.declared.step.Step.TheVariants as step
 use Rattle.uring_machine.specs.declared.wanted.Wanted.{Wanted}
 use Rattle.uring_machine.specs.declared.wanted.Wanted.TheVariants.{Only, CallOrAgain, AnyEnd, EndOrNoMemory}
 use Rattle.uring_trace.specs.Explanations.{line_number}
-use Rattle.uring_trace.specs.Lines.{ended}
+use Rattle.uring_text.specs.Lines.{ended}
 use Rattle.uring_trace.specs.Reasons.{why_text}
 use Rattle.uring_trace.specs.Text.{text_of}
 use Rattle.uring_check.specs.Findings.{Found, Finding, history_behind, verdict_of}

@@ -10,7 +10,7 @@ use Rattle.uring_machine.specs.declared.answer.Answer.{Answer}
 use Rattle.uring_machine.specs.declared.answer.Answer.TheVariants as answer
 use Rattle.uring_machine.specs.declared.step.Step.{Step}
 use Rattle.uring_machine.specs.declared.step.Step.TheVariants as step
-use Rattle.uring_trace.specs.Spelling.{IsFile}
+use Rattle.uring_text.specs.Spelling.{IsFile}
 
 -- A set-up, and whether a trace is judged apart from what operations give: by a ring without files, whose requests end with any result.
 pub record Rules : Type 0 where

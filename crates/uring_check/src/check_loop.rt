@@ -10,7 +10,7 @@ use crate::verdict::Verdict;
 use std::alloc::Global;
 use std::io::{Read, Write};
 use uring_machine::Setup;
-use uring_trace::{Calls, TraceFault, write_all};
+use uring_text::{Calls, TraceFault, write_all};
 
 /// Reads all of `reader`, a recorded trace with a line `STEP = ANSWER` for each step, and writes to `writer` whether it is the text of a history that can happen on a new machine of this set-up: `lawful: N steps`, or the first line that isn't lawful with its number, from 1 on. Steps and answers are written as in a trace, and the form of the lines is our own rule.
 ///

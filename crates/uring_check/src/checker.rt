@@ -2,8 +2,8 @@
 
 ghost use Rattle.std.specs.Prelude.{◌≡◌, ◌∷◌, ◌++◌, [], false, not, ℕ, List, Bool, IfOk, OnOk, codes};
 ghost use Rattle.uring_machine.specs.Histories.{History, world};
-ghost use Rattle.uring_trace.specs.KeptLine.{kept_of};
-ghost use Rattle.uring_trace.specs.Lines.{ended};
+ghost use Rattle.uring_text.specs.KeptLine.{kept_of};
+ghost use Rattle.uring_text.specs.Lines.{ended};
 ghost use Rattle.uring_check.specs.Checking.{FitsBy, rules_of, Looks, LooksAt, IsTold};
 ghost use Rattle.uring_check.specs.Findings.{first_fault};
 ghost use Rattle.uring_check.specs.Rules.{Rules};
@@ -18,7 +18,8 @@ use crate::telling::{tell_bad, tell_end, tell_wrong};
 use crate::verdict::Verdict;
 use std::alloc::{AllocError, Global};
 use uring_machine::{Setup, Step, Why};
-use uring_trace::{KeptLine, read_step};
+use uring_text::KeptLine;
+use uring_trace::read_step;
 
 /// A follower that goes along with the lines, and what they came to so far.
 #[derive(Drop)]

@@ -4,7 +4,7 @@ ghost use Rattle.std.specs.Prelude.{◌≡◌, ◌∷◌, ℤ, IfOk, MatchOption
 ghost use Rattle.uring_entry.specs.Requests.{no_bytes};
 ghost use Rattle.uring_machine.specs.Histories.{History};
 ghost use Rattle.uring_machine.specs.declared.answer.Answer.TheVariants as answer;
-ghost use Rattle.uring_trace.specs.Spelling.{IsFile};
+ghost use Rattle.uring_text.specs.Spelling.{IsFile};
 ghost use Rattle.uring_trace.specs.Text.{text_of};
 ghost use Rattle.uring_check.specs.Rules.{IsPlain};
 ghost use Rattle.uring_check.specs.Reports.{wanted_text};
@@ -16,7 +16,7 @@ use crate::telling::push_wanted;
 use std::alloc::{AllocError, Global};
 use uring_entry::errno;
 use uring_machine::{Answer, Refusal, Step, Wanted};
-use uring_trace::spelled_signed;
+use uring_text::spelled_signed;
 
 /// Makes a step with an answer of this text, if one is called for: `None`. Else it tells which answers are; if that is one alone, the machine goes on as though it had been given, and else as though the step hadn't been made. `AllocError`: memory was refused, to the step or to a text.
 fn judge(

@@ -14,5 +14,5 @@ mod verdict;
 
 pub use check_loop::check;
 pub use uring_entry::Setup;
-pub use uring_trace::TraceFault;
+pub use uring_text::TraceFault;
 pub use verdict::Verdict;

@@ -1,7 +1,7 @@
 //! The lines of bytes, given to a checker one by one.
 
 ghost use Rattle.std.specs.Prelude.{◌≡◌, ◌≢◌, ℕ, List, [], ◌∷◌, ◌++◌, Bool, Err, IfErr, IfOk, OnOk};
-ghost use Rattle.uring_trace.specs.Streams.{AreOver};
+ghost use Rattle.uring_text.specs.Streams.{AreOver};
 ghost use Rattle.uring_check.specs.Checking.{Has, ReadsIn};
 ghost use Rattle.uring_check.specs.Checks.{IsVerdict};
 ghost use Rattle.uring_check.specs.Rules.{Rules};
@@ -11,7 +11,7 @@ use crate::verdict::Verdict;
 use std::alloc::{AllocError, Global};
 use std::io::Read;
 use uring_machine::Setup;
-use uring_trace::{Calls, KeptLine, TraceFault, read_once};
+use uring_text::{Calls, KeptLine, TraceFault, read_once};
 
 /// Most bytes that are read at once.
 const CHUNK: usize = 512;

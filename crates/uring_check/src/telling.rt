@@ -1,7 +1,7 @@
 //! The lines of a report.
 
 ghost use Rattle.std.specs.Prelude.{◌≡◌, [], ◌++◌, OnOk, string_bytes, codes};
-ghost use Rattle.uring_trace.specs.Lines.{ended};
+ghost use Rattle.uring_text.specs.Lines.{ended};
 ghost use Rattle.uring_check.specs.Reports.{closing, line_text, wanted_text, why_told};
 
 use crate::verdict::Verdict;

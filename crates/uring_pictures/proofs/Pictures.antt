@@ -6,7 +6,7 @@ use Rattle.uring_entry.specs.Setup.{Setup}
 use Rattle.uring_machine.specs.Histories.{History, history_of, world}
 use Rattle.uring_machine.specs.Machine.{Machine, Fits}
 use Rattle.uring_trace.specs.declared.explainer.Explainer.{Explainer}
-use Rattle.uring_trace.specs.Traces.{WritesText}
+use Rattle.uring_text.specs.Writing.{WritesText}
 use Rattle.uring_trace.specs.Explanations.{events_in}
 use Rattle.uring_pictures.specs.Graphs.{graph_of}
 use Rattle.uring_pictures.specs.Drawings.{Draws, last_graph}

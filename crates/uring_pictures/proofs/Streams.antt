@@ -5,9 +5,9 @@ use Rattle.std.specs.Io.KnownBytes.{Consumes, Appends, Keeps, IsAtEnd}
 use Rattle.std.proofs.KnownBytes.{Consumes-nil, Appends-nil, Appends-trans, Consumes-trans, Consumes-kept}
 use Rattle.std.proofs.lemmas.List.{append-nil}
 use Rattle.uring_entry.specs.Setup.{Setup}
-use Rattle.uring_trace.specs.declared.trace_fault.TraceFault.{TraceFault}
+use Rattle.uring_text.specs.declared.trace_fault.TraceFault.{TraceFault}
 use Rattle.uring_trace.specs.declared.explainer.Explainer.{Explainer}
-use Rattle.uring_trace.specs.Traces.{WritesText}
+use Rattle.uring_text.specs.Writing.{WritesText}
 use Rattle.uring_trace.specs.Explaining.{HasTold, HasEnded}
 use Rattle.uring_trace.proofs.ExplainStreams.{nothing_yet}
 use Rattle.uring_pictures.specs.Readings.{TakesIn, EndsIn, EndsLine, ReadsAll}

@@ -14,7 +14,8 @@ use crate::graph_text::push_graph;
 use std::alloc::Global;
 use std::io::{Read, Write};
 use uring_machine::{Machine, Setup};
-use uring_trace::{Calls, Explainer, TraceFault, read_once, write_all};
+use uring_text::{Calls, TraceFault, read_once, write_all};
+use uring_trace::Explainer;
 
 /// Most bytes that are read at once.
 const CHUNK: usize = 512;

@@ -7,5 +7,5 @@ mod rows;
 mod watching;
 
 pub use drawing::graph;
-pub use uring_trace::TraceFault;
+pub use uring_text::TraceFault;
 pub use watching::timeline;

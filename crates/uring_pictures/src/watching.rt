@@ -4,7 +4,8 @@ use crate::rows::Timeline;
 use std::alloc::Global;
 use std::io::{Read, Write};
 use uring_machine::Setup;
-use uring_trace::{Calls, Explainer, TraceFault, read_once, write_all};
+use uring_text::{Calls, TraceFault, read_once, write_all};
+use uring_trace::Explainer;
 
 /// Most bytes that are read at once.
 const CHUNK: usize = 512;

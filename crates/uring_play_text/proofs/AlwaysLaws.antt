@@ -11,14 +11,14 @@ use Rattle.std.proofs.lemmas.Slice.Eq.{bytes_eq-Decides}
 use Rattle.std.proofs.lemmas.List.{append-nil, nil_from_length, take-append-drop, length-take, reverse-append}
 use Rattle.uring_entry.specs.Layout.{Sqe, header, without_data, padded, bytes_of, AreWords}
 use Rattle.uring_entry.specs.declared.opcode.TheConstants.{NOP, FSYNC, ASYNC_CANCEL, ASYNC_CANCEL_ALL, READ, WRITE}
-use Rattle.uring_trace.specs.Lines.{Splits, with_last}
-use Rattle.uring_trace.specs.Tokens.{tokens_of}
-use Rattle.uring_trace.specs.Spelling.{Form, IsForm, IsEntryOf, SpellsEntry, IsNoEntry, SpellsNumber, IsNoNumber}
-use Rattle.uring_trace.specs.Spelling as form
-use Rattle.uring_trace.specs.Reading.{form_of, number_of}
-use Rattle.uring_trace.proofs.FormLaws.{form_found, form_again}
-use Rattle.uring_trace.proofs.Spellings.{read_number_tells}
-use Rattle.uring_trace.proofs.Sessions.{split_more, split_end}
+use Rattle.uring_text.specs.Lines.{Splits, with_last}
+use Rattle.uring_text.specs.Tokens.{tokens_of}
+use Rattle.uring_text.specs.Spelling.{Form, IsForm, IsEntryOf, SpellsEntry, IsNoEntry, SpellsNumber, IsNoNumber}
+use Rattle.uring_text.specs.Spelling as form
+use Rattle.uring_text.specs.Reading.{form_of, number_of}
+use Rattle.uring_text.proofs.FormLaws.{form_found, form_again}
+use Rattle.uring_text.proofs.Spellings.{read_number_tells}
+use Rattle.uring_text.proofs.Splits.{split_more, split_end}
 use Rattle.uring_ports.specs.declared.item.Item.{Item}
 use Rattle.uring_ports.specs.declared.item.Item.TheVariants as item
 use Rattle.uring_play_text.specs.declared.play_fault.PlayFault.{PlayFault}
@@ -136,7 +136,7 @@ named_or (t ∷ u ∷ []) =
 item_or : (size : ℕ) (tokens : List (List ℕ)) → ((i : Item) × SpellsItem size tokens i) ⊎ IsNoItem size tokens
 item_or size tokens =
     elim (named_or tokens) [
-      | inl named ↦ elim (word_or size named.0 (number_of (2 ^ 32) named.0) (read_number_tells named.0 (number_of (2 ^ 32) named.0) refl)) [
+      | inl named ↦ elim (word_or size named.0 (number_of (2 ^ 32) named.0) (read_number_tells (2 ^ 32) named.0 (number_of (2 ^ 32) named.0) (omega arith) refl)) [
         | inl w ↦ inl (item.Bad w.0, (named.0, named.1, w.1.0, w.1.1))
         | inr none ↦ inr (bad_is_none size named.0 tokens named.1 none)
       ]

@@ -3,10 +3,10 @@ use Rattle.std.proofs.Common.{◌≡◌, ℕ, ◌<◌, ◌≤◌, ◌^◌, false
 use mathlib.Core.List.{head-eq_of_cons-eq, tail-eq_of_cons-eq}
 use Rattle.std.specs.Prelude.{codes}
 use Rattle.std.proofs.lemmas.Bool.{ne_eqb}
-use Rattle.uring_trace.specs.Tokens.{tokens_of}
-use Rattle.uring_trace.specs.Spelling.{Form, spelled, SpellsEntry, SpellsNumber}
-use Rattle.uring_trace.specs.Spelling as form
-use Rattle.uring_trace.proofs.Spellings.{number_once, spelled_once}
+use Rattle.uring_text.specs.Tokens.{tokens_of}
+use Rattle.uring_text.specs.Spelling.{Form, spelled, SpellsEntry, SpellsNumber}
+use Rattle.uring_text.specs.Spelling as form
+use Rattle.uring_text.proofs.Spellings.{number_once, spelled_once}
 use Rattle.uring_entry.specs.Layout.{Sqe}
 use Rattle.uring_ports.specs.declared.item.Item.{Item}
 use Rattle.uring_ports.specs.declared.item.Item.TheVariants as item
@@ -41,7 +41,7 @@ bad_is_none size token tokens is none (item.Bad word) h =
 -- a number below the size
 pub below : (size : ℕ) (token : List ℕ) (word : ℕ) → SpellsNumber (2 ^ 32) token word → word < size → IsNoBadWord size token
 below size token word h lt other k =
-    let same : other ≡ word = number_once token other word k.0 h in
+    let same : other ≡ word = number_once (2 ^ 32) token other word (omega arith) k.0 h in
     let le : size ≤ other = k.1 in
     absurd (omega arith)
 
@@ -52,7 +52,7 @@ item_once size tokens (item.Entry a) (item.Bad word) h k = absurd (no_entry (k.0
 item_once size tokens (item.Bad word) (item.Entry b) h k = absurd (no_entry (h.0 ∷ []) b (subst (λ (l : List (List ℕ)). SpellsEntry l b) h.1 k))
 item_once size tokens (item.Bad word) (item.Bad other) h k =
     let same : h.0 ≡ k.0 = head-eq_of_cons-eq (tail-eq_of_cons-eq (sym h.1 ∙ k.1)) in
-    ap (λ (w : ℕ). item.Bad w) (number_once k.0 word other (subst (λ (t : List ℕ). SpellsNumber (2 ^ 32) t word) same h.2) k.2)
+    ap (λ (w : ℕ). item.Bad w) (number_once (2 ^ 32) k.0 word other (omega arith) (subst (λ (t : List ℕ). SpellsNumber (2 ^ 32) t word) same h.2) k.2)
 
 pub line_once : (size : ℕ) (line : List ℕ) (i j : Item) → IsItemLine size line i → IsItemLine size line j → i ≡ j
 line_once size line i j h k = item_once size _ i j h.spells k.spells

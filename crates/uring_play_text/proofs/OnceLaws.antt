@@ -3,8 +3,8 @@ use Rattle.std.proofs.Common.{◌≡◌, ℕ, ◌+◌, ◌<◌, ◌≤◌, Bool,
 use Rattle.std.specs.List.{slice_split, onto_first}
 use Rattle.std.proofs.lemmas.List.Splits.{slice_split-cons_no, length-slice_split}
 use Rattle.std.proofs.lemmas.Bool.{ne_eqb}
-use Rattle.uring_trace.specs.Lines.{with_last}
-use Rattle.uring_trace.proofs.LineLaws.{split_once}
+use Rattle.uring_text.specs.Lines.{with_last}
+use Rattle.uring_text.proofs.LineLaws.{split_once}
 use Rattle.uring_ports.specs.declared.item.Item.{Item}
 use Rattle.uring_play_text.specs.declared.play_fault.PlayFault.{PlayFault}
 use Rattle.uring_play_text.specs.declared.play_fault.PlayFault.TheVariants as fault

@@ -2,8 +2,8 @@
 use Rattle.std.proofs.Common.{◌≡◌, ℕ, ◌+◌, ◌<◌, List, [], ◌∷◌, ◌++◌, length, take, get_or, sym, ap, ◌∙◌, append_assoc}
 use Rattle.std.proofs.lemmas.List.{append-nil, take_more}
 use Rattle.uring_entry.specs.Layout.{Cqe}
-use Rattle.uring_trace.specs.Text.{completion_text}
-use Rattle.uring_trace.specs.Lines.{ended}
+use Rattle.uring_text.specs.Completions.{completion_text}
+use Rattle.uring_text.specs.Lines.{ended}
 use Rattle.uring_play_text.specs.Outputs.{lines_text}
 
 lines_append : (cs : List Cqe) (c : Cqe) → lines_text (cs ++ c ∷ []) ≡ lines_text cs ++ ended (completion_text c)

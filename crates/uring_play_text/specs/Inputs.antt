@@ -4,7 +4,7 @@ use Rattle.std.specs.Io.KnownBytes.{Consumes, IsAtEnd}
 use Rattle.std.specs.declared.vec.Vec.{Vec}
 use Rattle.std.specs.declared.alloc.Global.{Global}
 use Rattle.uring_entry.specs.Setup.{Setup}
-use Rattle.uring_trace.specs.Lines.{Splits, with_last}
+use Rattle.uring_text.specs.Lines.{Splits, with_last}
 use Rattle.uring_ports.specs.declared.item.Item.{Item}
 use Rattle.uring_play_text.specs.Calls.{SpellsCalls}
 use Rattle.uring_play_text.specs.Faults.{IsBadFirst, IsLongFirst}

@@ -1,7 +1,7 @@
 -- Glue. What a line is read as.
 use Rattle.std.specs.Prelude.{◌≡◌, ℕ, ◌^◌, ◌<◌, ◌≤◌, List, [], length, Option, MatchOption}
 use Rattle.std.specs.Borrow.{Bor}
-use Rattle.uring_trace.specs.Spelling.{SpellsNumber}
+use Rattle.uring_text.specs.Spelling.{SpellsNumber}
 use Rattle.uring_ports.specs.declared.item.Item.{Item}
 use Rattle.uring_play_text.specs.ItemLines.{IsItemLine, IsBadLine, SpellsItem}
 use Rattle.uring_play_text.specs.declared.line_read.LineRead.{LineRead}

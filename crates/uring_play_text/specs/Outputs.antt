@@ -7,8 +7,8 @@ use Rattle.std.specs.Cmp.Lexicographic.{slice_cmp}
 use Rattle.std.specs.List.Sorted.{IsSortedBy}
 use Rattle.std.specs.Io.KnownBytes.{Appends}
 use Rattle.uring_entry.specs.Layout.{Cqe}
-use Rattle.uring_trace.specs.Text.{completion_text}
-use Rattle.uring_trace.specs.Lines.{ended}
+use Rattle.uring_text.specs.Completions.{completion_text}
+use Rattle.uring_text.specs.Lines.{ended}
 use Rattle.uring_play_text.specs.declared.play_fault.PlayFault.{PlayFault}
 use Rattle.uring_play_text.specs.declared.play_fault.PlayFault.TheVariants as fault
 

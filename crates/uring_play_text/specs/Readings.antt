@@ -1,8 +1,8 @@
 -- Glue. What a reading has taken in.
 use Rattle.std.specs.Prelude.{◌≡◌, ℕ, List, reverse, Option, Result, Ok, Err}
 use Rattle.std.specs.Io.KnownBytes.{Consumes, IsAtEnd}
-use Rattle.uring_trace.specs.Lines.{Splits}
-use Rattle.uring_trace.specs.KeptLine.{KeptLine, kept_of}
+use Rattle.uring_text.specs.Lines.{Splits}
+use Rattle.uring_text.specs.KeptLine.{KeptLine, kept_of}
 use Rattle.uring_play_text.specs.declared.play_fault.PlayFault.{PlayFault}
 use Rattle.uring_play_text.specs.declared.script.Script.{Script}
 use Rattle.uring_play_text.specs.declared.reading.Reading.{Reading}

@@ -6,7 +6,7 @@ ghost use Rattle.uring_play_text.specs.LineReads.{IsReadAs, IsGiven, IsBadWord, 
 
 use std::alloc::{AllocError, Global};
 use uring_ports::Item;
-use uring_trace::{spelled_entry, spelled_number, split_tokens};
+use uring_text::{spelled_entry, spelled_number, split_tokens};
 
 /// What a line of a play says.
 #[derive(Clone, Copy)]

@@ -1,7 +1,7 @@
 //! The calls that the bytes of a reader spell.
 
 ghost use Rattle.std.specs.Prelude.{◌≡◌, ◌⊎◌, ◌-◌, ◌^◌, ℕ, List, [], ◌∷◌, ◌++◌, Err, IfErr, IfOk, OnOk};
-ghost use Rattle.uring_trace.specs.Streams.{AreOver};
+ghost use Rattle.uring_text.specs.Streams.{AreOver};
 ghost use Rattle.uring_play_text.specs.Inputs.{ReadsCalls, IsReturned};
 ghost use Rattle.uring_play_text.specs.Readings.{Has, ReadsIn};
 ghost use Rattle.uring_play_text.specs.Scripts.{IsEarly};
@@ -12,7 +12,7 @@ use std::alloc::{AllocError, Global};
 use std::io::Read;
 use uring_entry::Setup;
 use uring_ports::Item;
-use uring_trace::{Calls, KeptLine, read_once};
+use uring_text::{Calls, KeptLine, read_once};
 
 /// Most bytes that are read at once.
 const CHUNK: usize = 512;

@@ -9,7 +9,7 @@ use std::alloc::{AllocError, Global};
 use std::fmt::Write as _;
 use std::io::Write;
 use uring_entry::Cqe;
-use uring_trace::{Calls, push_completion, write_all};
+use uring_text::{Calls, push_completion, write_all};
 
 /// Writes the completions, a line each, sorted by user data, result and data, and then a line with how many requests were accepted and how many words dropped: `taken 3 dropped 0`. The line of a completion is that of a trace. That they are sorted is our own rule: threads end requests in no promised order.
 ///

@@ -15,9 +15,9 @@ use Rattle.uring_trace.specs.Reasons.{kept_reason, reason_text}
 use Rattle.uring_trace.specs.Text.{text_of}
 use Rattle.uring_trace.specs.declared.reason_text.Reason.{Reason}
 use Rattle.uring_trace.specs.Spelling.{IsStep, IsBad}
-use Rattle.uring_trace.specs.Lines.{with_last, joined, ended}
-use Rattle.uring_trace.specs.KeptLine.{KeptLine, kept_of}
-use Rattle.uring_trace.specs.Remarks.{is_remark}
+use Rattle.uring_text.specs.Lines.{with_last, joined, ended}
+use Rattle.uring_text.specs.KeptLine.{KeptLine, kept_of}
+use Rattle.uring_text.specs.Remarks.{is_remark}
 use Rattle.uring_trace.specs.Sessions.{with_event}
 use Rattle.std.specs.Prelude.{codes}
 use Rattle.std.proofs.Math.Bool.{or-false, or-true, or_comm}
@@ -25,7 +25,8 @@ use Rattle.uring_trace.specs.Questions.{IsQuestion, IsNoQuestion}
 use Rattle.uring_trace.specs.declared.questions.Question.{Question}
 use Rattle.uring_trace.specs.Explanations.{Saying, Made, Asked, Bad, event_in, lines_in, events_in, Explains, ExplainsWhole, ExplainsEnded, ExplainsBeginning, told_of, noted_of, bad_note, line_number, is_bad}
 use Rattle.uring_trace.specs.Explaining.{AppendsLine, TellsStep, TellsShown, Explaining}
-use Rattle.uring_trace.proofs.Sessions.{split_more, split_end, split_whole, one_more, last_some}
+use Rattle.uring_text.proofs.Splits.{split_more, split_end, split_whole, last_some}
+use Rattle.uring_trace.proofs.Sessions.{one_more}
 
 -- two facts of a value, whatever the value
 pub if_ok_both : {T E : Type 0} (r : Result T E) (P Q R : T → Type 0) → ((x : T) → P x → Q x → R x) → IfOk r P → IfOk r Q → IfOk r R

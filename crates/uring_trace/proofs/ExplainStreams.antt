@@ -4,10 +4,10 @@ use Rattle.std.specs.Io.KnownBytes.{Consumes, Appends, Keeps, IsAtEnd}
 use Rattle.std.proofs.KnownBytes.{Consumes-nil, Appends-nil, Appends-trans, Consumes-trans, Consumes-kept}
 use Rattle.std.proofs.lemmas.List.{append-nil}
 use Rattle.uring_entry.specs.Setup.{Setup}
-use Rattle.uring_trace.specs.declared.trace_fault.TraceFault.{TraceFault}
-use Rattle.uring_trace.specs.declared.trace_fault.TraceFault.TheVariants as fault
+use Rattle.uring_text.specs.declared.trace_fault.TraceFault.{TraceFault}
+use Rattle.uring_text.specs.declared.trace_fault.TraceFault.TheVariants as fault
 use Rattle.uring_trace.specs.declared.explainer.Explainer.{Explainer}
-use Rattle.uring_trace.specs.Traces.{WritesText}
+use Rattle.uring_text.specs.Writing.{WritesText}
 use Rattle.uring_trace.specs.Explanations.{IsExplained, ExplainsWhole, ExplainsBeginning, ExplainsLess, WritesBoth, ReadsWhole}
 use Rattle.uring_trace.specs.Explaining.{HasTold, TookBoth, WritesTexts, WritesPair, WroteBoth}
 use Rattle.uring_trace.proofs.ExplainLines.{explain_beginning, explain_ended}

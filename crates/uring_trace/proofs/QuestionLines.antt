@@ -2,10 +2,10 @@
 use Rattle.std.proofs.Common.{◌≡◌, ℕ, List, ◌++◌, drop, Option, Some, None, sym, ap, ◌∙◌}
 use Rattle.std.specs.Prelude.{ℤ, codes, MatchOption}
 use Rattle.std.specs.Fmt.{signed_decimal}
-use Rattle.uring_trace.specs.Reading.{file_of}
+use Rattle.uring_text.specs.Reading.{file_of}
 use Rattle.uring_trace.specs.Questions.{Asks}
 use Rattle.uring_trace.specs.declared.questions.Question.TheVariants as question
-use Rattle.uring_trace.proofs.NumberLaws.{file_found, file_again}
+use Rattle.uring_text.proofs.NumberLaws.{file_found, file_again}
 
 abbrev pub IsFileAsked : List ℕ → Option ℤ → Type 0
 IsFileAsked line read = MatchOption read ((fd : ℤ) → ¬ Asks line (question.File fd)) (λ fd. Asks line (question.File fd))

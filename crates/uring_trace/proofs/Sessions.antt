@@ -13,39 +13,15 @@ use Rattle.uring_machine.specs.declared.answer.Answer.{Answer}
 use Rattle.uring_machine.specs.declared.step.Step.{Step}
 use Rattle.uring_trace.specs.Spelling.{IsStep}
 use Rattle.uring_trace.specs.Text.{text_of}
-use Rattle.uring_trace.specs.Lines.{IsUnbroken, Splits, with_last, joined, ended}
+use Rattle.uring_text.specs.Lines.{IsUnbroken, Splits, with_last, joined, ended}
 use Rattle.uring_trace.specs.Exchanges.{Exchange, Manner, Answers, answer_text, lines_of, events_of, step_text}
-use Rattle.uring_trace.specs.KeptLine.{KeptLine, kept_of}
+use Rattle.uring_text.specs.KeptLine.{KeptLine, kept_of}
 use Rattle.uring_trace.specs.Sessions.{AppendsAnswer, Holds, with_event}
 use Rattle.uring_trace.specs.Traces.{IsWhole, IsBeginning, IsEnded}
 
 pub on_ok_from : {T E : Type 0} (r : Result T E) (Q : Type 0) → (is_ok r ≡ true → Q) → OnOk r Q
 on_ok_from (Ok x) Q f = f refl
 on_ok_from (Err e) Q f = tt
-
-unbroken_more : (line : List ℕ) (b : ℕ) → b ≢ 10 → IsUnbroken line → IsUnbroken (line ++ b ∷ [])
-unbroken_more [] b ne h = (ne, tt)
-unbroken_more (c ∷ line) b ne h = (h.0, unbroken_more line b ne h.1)
-
--- a byte more of the rest
-pub split_more : (bytes : List ℕ) (lines : List (List ℕ)) (rest : List ℕ) (b : ℕ) → b ≢ 10 → Splits bytes lines rest → Splits (bytes ++ b ∷ []) lines (rest ++ b ∷ [])
-split_more bytes lines rest b ne h = record {
-  whole = ap (λ (l : List ℕ). l ++ b ∷ []) h.whole ∙ append_assoc (joined lines) rest (b ∷ []);
-  each = h.each;
-  unbroken = unbroken_more rest b ne h.unbroken;
-}
-
--- the end of the rest
-pub split_end : (bytes : List ℕ) (lines : List (List ℕ)) (rest : List ℕ) → Splits bytes lines rest → Splits (bytes ++ 10 ∷ []) (rest ∷ lines) []
-split_end bytes lines rest h = record {
-  whole = ap (λ (l : List ℕ). l ++ 10 ∷ []) h.whole ∙ simp (append_assoc, append-nil);
-  each = (h.unbroken, h.each);
-  unbroken = tt;
-}
-
--- lines with their ends
-pub split_whole : (lines : List (List ℕ)) → AllByRecursion IsUnbroken lines → Splits (joined lines) lines []
-split_whole lines each = record { whole = sym (append-nil (joined lines)); each = each; unbroken = tt }
 
 -- one byte more of a line
 pub took_byte : (manner : Manner) (m : Machine) (is_echo : Bool) (kept kept' : KeptLine) (before text : List ℕ) (b : ℕ) → b ≢ 10 → ((line : List ℕ) → kept ≡ kept_of line → kept' ≡ kept_of (line ++ b ∷ []))
@@ -106,10 +82,6 @@ ended_line manner m m' is_echo kept bytes text before after answer h =
       echoes = h.echoes;
       fits = subst (λ (k : History). Fits m' k) (one_more a.event (events_of h.exchanges)) (a.fits (history_of (events_of h.exchanges)) h.fits);
     }
-
-pub last_some : (lines : List (List ℕ)) (rest : List ℕ) → rest ≢ [] → with_last lines rest ≡ rest ∷ lines
-last_some lines [] some = absurd (some refl)
-last_some lines (b ∷ rest) some = refl
 
 -- the answer to a last line that has begun
 pub ended_last : (manner : Manner) (m m' : Machine) (is_echo : Bool) (kept : KeptLine) (bytes text before after : List ℕ) → ((line : List ℕ) → kept ≡ kept_of line → line ≡ [] → ⊥) → ((line : List ℕ) → kept ≡ kept_of line → AppendsAnswer m m' is_echo line before after)

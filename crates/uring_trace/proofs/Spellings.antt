@@ -12,13 +12,15 @@ use Rattle.std.proofs.lemmas.Option.{same_Some}
 use Rattle.uring_entry.specs.Layout.{Sqe}
 use Rattle.uring_machine.specs.declared.step.Step.{Step}
 use Rattle.uring_machine.specs.declared.step.Step.TheVariants as step
-use Rattle.uring_trace.specs.Tokens.{tokens_of}
-use Rattle.uring_trace.specs.Spelling.{Form, Spells, SpellsForm, IsEntryOf, IsStep, IsBad, SpellsEntry, IsNoEntry, SpellsNumber, IsNoNumber}
-use Rattle.uring_trace.specs.Reading.{ReadsStep, ReadsFill, ReadsEntry, number_of, form_of, step_of_one, step_of_two}
-use Rattle.uring_trace.proofs.Options.{chosen, mapped}
-use Rattle.uring_trace.proofs.NumberLaws.{number_found, number_again}
-use Rattle.uring_trace.proofs.FormLaws.{named, form_found, form_again}
-use Rattle.uring_trace.proofs.EntryLaws.{entry_once}
+use Rattle.uring_text.specs.Tokens.{tokens_of}
+use Rattle.uring_text.specs.Spelling.{Form, SpellsForm, IsEntryOf, SpellsEntry, IsNoEntry, SpellsNumber, IsNoNumber}
+use Rattle.uring_trace.specs.Spelling.{Spells, IsStep, IsBad}
+use Rattle.uring_text.specs.Reading.{ReadsEntry, number_of, form_of}
+use Rattle.uring_trace.specs.Reading.{ReadsStep, ReadsFill, step_of_one, step_of_two}
+use Rattle.uring_text.proofs.Options.{chosen, mapped}
+use Rattle.uring_text.proofs.NumberLaws.{number_found, number_again}
+use Rattle.uring_text.proofs.FormLaws.{named, form_found, form_again}
+use Rattle.uring_text.proofs.EntryLaws.{entry_once}
 
 -- one token
 abbrev SpellsOne : Step → List ℕ → Type 0
@@ -163,35 +165,3 @@ step_once line s t h k = read_once (tokens_of line) s t (step_again (tokens_of l
 pub read_line : (line : List ℕ) (read : Option Step) → length line ≤ 300 → ReadsStep read (tokens_of line) → MatchOption read (IsBad line) (IsStep line)
 read_line line None le e = λ s h. none_and_step (tokens_of line) s e (step_again (tokens_of line) s h.spells)
 read_line line (Some s) le e = record { short = le; spells = step_found (tokens_of line) s e }
-
--- ---- entries and numbers alone
-
-some_entry : (entry : Sqe) (f : Form) → ReadsEntry (Some entry) (Some f) → IsEntryOf f entry
-some_entry entry f h = h
-
--- what a reader of an entry's tokens tells
-entry_read : (tokens : List (List ℕ)) (f : Option Form) (read : Option Sqe) → form_of tokens ≡ f → ReadsEntry read f → MatchOption read (IsNoEntry tokens) (SpellsEntry tokens)
-entry_read tokens None None e h = λ entry s. absurd (let no : None ≡ Some s.form = sym e ∙ form_again tokens s.form s.spells in cc)
-entry_read tokens None (Some entry) e h = absurd (let no : Some entry ≡ None = h in cc)
-entry_read tokens (Some f) None e h = absurd h
-entry_read tokens (Some f) (Some entry) e h = record { form = f; spells = form_found tokens f e; is_entry = some_entry entry f h }
-
-pub read_entry_tells : (tokens : List (List ℕ)) (read : Option Sqe) → ReadsEntry read (form_of tokens) → MatchOption read (IsNoEntry tokens) (SpellsEntry tokens)
-read_entry_tells tokens read h = entry_read tokens (form_of tokens) read refl h
-
--- tokens spell one entry at most
-pub spelled_once : (tokens : List (List ℕ)) (a b : Sqe) → SpellsEntry tokens a → SpellsEntry tokens b → a ≡ b
-spelled_once tokens a b h k =
-    let same : h.form ≡ k.form = same_Some h.form k.form (sym (form_again tokens h.form h.spells) ∙ form_again tokens k.form k.spells) in
-    entry_once k.form a b (subst (λ (f : Form). IsEntryOf f a) same h.is_entry) k.is_entry
-
-number_read : (token : List ℕ) (n : Option ℕ) → number_of (2 ^ 32) token ≡ n → MatchOption n (IsNoNumber (2 ^ 32) token) (SpellsNumber (2 ^ 32) token)
-number_read token None e = λ n s. absurd (let no : None ≡ Some n = sym e ∙ ap (number_of (2 ^ 32)) s.0 ∙ number_again (2 ^ 32) n (omega arith) s.1 in cc)
-number_read token (Some n) e = number_found (2 ^ 32) token n (omega arith) e
-
-pub read_number_tells : (token : List ℕ) (read : Option ℕ) → read ≡ number_of (2 ^ 32) token → MatchOption read (IsNoNumber (2 ^ 32) token) (SpellsNumber (2 ^ 32) token)
-read_number_tells token read e = number_read token read (sym e)
-
--- a token is one number at most
-pub number_once : (token : List ℕ) (n m : ℕ) → SpellsNumber (2 ^ 32) token n → SpellsNumber (2 ^ 32) token m → n ≡ m
-number_once token n m h k = same_Some n m (sym (number_again (2 ^ 32) n (omega arith) h.1) ∙ ap (number_of (2 ^ 32)) (sym h.0 ∙ k.0) ∙ number_again (2 ^ 32) m (omega arith) k.1)

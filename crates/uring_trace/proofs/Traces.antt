@@ -3,12 +3,13 @@ use Rattle.std.proofs.Common.{◌≡◌, ℕ, ◌<◌, List, length, [], ◌++�
 use Rattle.std.specs.Io.KnownBytes.{Consumes, Appends, Keeps, IsAtEnd}
 use Rattle.std.proofs.KnownBytes.{Consumes-nil, Appends-nil, Appends-trans, Consumes-trans, Consumes-kept}
 use Rattle.std.proofs.lemmas.List.{append-nil, take-append-drop}
-use Rattle.uring_trace.specs.declared.trace_fault.TraceFault.{TraceFault}
-use Rattle.uring_trace.specs.declared.trace_fault.TraceFault.TheVariants as fault
+use Rattle.uring_text.specs.declared.trace_fault.TraceFault.{TraceFault}
+use Rattle.uring_text.specs.declared.trace_fault.TraceFault.TheVariants as fault
 use Rattle.uring_trace.specs.declared.session.Session.{Session}
 use Rattle.uring_trace.specs.Exchanges.{Manner}
 use Rattle.uring_trace.specs.Sessions.{Has, TookIn}
-use Rattle.uring_trace.specs.Traces.{Traces, Writes, ReadsAll, WritesText, IsWhole, IsBeginning, IsCutShort}
+use Rattle.uring_text.specs.Writing.{WritesText}
+use Rattle.uring_trace.specs.Traces.{Traces, Writes, ReadsAll, IsWhole, IsBeginning, IsCutShort}
 use Rattle.uring_trace.proofs.Sessions.{held_beginning, held_ended}
 
 abbrev Answer : Type 0
@@ -16,12 +17,6 @@ Answer = Result (Unit {0}) TraceFault
 
 abbrev Known : Type 0
 Known = Option (List ℕ)
-
--- some bytes more of a text
-pub wrote_more : (a b d : Known) (text rest : List ℕ) (n : ℕ) → (written : List ℕ) → Appends a b written → text ≡ written ++ rest → Appends b d (take n rest)
-    → (x : List ℕ) × Appends a d x × (text ≡ x ++ drop n rest)
-wrote_more a b d text rest n written before same now =
-    (written ++ take n rest, Appends-trans a b d written (take n rest) before now, same ∙ ap (λ (l : List ℕ). written ++ l) (sym (take-append-drop n rest)) ∙ sym (append_assoc written (take n rest) (drop n rest)))
 
 -- What was read and written so far: the reader had a left and has r, the writer held d and holds w.
 abbrev pub So : Manner → Known → Known → Known → Known → Session → Type 0

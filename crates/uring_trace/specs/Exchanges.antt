@@ -7,7 +7,7 @@ use Rattle.uring_machine.specs.Histories.{Event, history_of}
 use Rattle.uring_machine.specs.CalledFor.{IsLawful}
 use Rattle.uring_trace.specs.Spelling.{IsStep, IsBad}
 use Rattle.uring_trace.specs.Text.{text_of}
-use Rattle.uring_trace.specs.Lines.{joined}
+use Rattle.uring_text.specs.Lines.{joined}
 
 -- a line, and the step that it is with its answer, or none
 pub record Exchange : Type 0 where

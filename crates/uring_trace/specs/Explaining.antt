@@ -3,8 +3,8 @@ use Rattle.std.specs.Prelude.{◌≡◌, ℕ, ◌+◌, ◌<◌, Bool, List, ◌�
 use Rattle.std.specs.List.{list_any}
 use Rattle.std.specs.Io.KnownBytes.{Appends}
 use Rattle.uring_trace.specs.declared.explainer.Explainer.{Explainer}
-use Rattle.uring_trace.specs.declared.trace_fault.TraceFault.{TraceFault}
-use Rattle.uring_trace.specs.declared.trace_fault.TraceFault.TheVariants as fault
+use Rattle.uring_text.specs.declared.trace_fault.TraceFault.{TraceFault}
+use Rattle.uring_text.specs.declared.trace_fault.TraceFault.TheVariants as fault
 use Rattle.uring_entry.specs.Setup.{Setup}
 use Rattle.uring_machine.specs.Histories.{History, world, history_of}
 use Rattle.uring_machine.specs.Machine.{Machine, Fits}
@@ -12,8 +12,8 @@ use Rattle.uring_machine.specs.declared.step.Step.{Step}
 use Rattle.uring_machine.specs.declared.answer.Answer.{Answer}
 use Rattle.uring_trace.specs.Text.{text_of}
 use Rattle.uring_trace.specs.Reasons.{reason_of, reason_text}
-use Rattle.uring_trace.specs.Lines.{ended, Splits}
-use Rattle.uring_trace.specs.KeptLine.{KeptLine, kept_of}
+use Rattle.uring_text.specs.Lines.{ended, Splits}
+use Rattle.uring_text.specs.KeptLine.{KeptLine, kept_of}
 use Rattle.uring_trace.specs.Sessions.{with_event}
 use Rattle.uring_trace.specs.Shown.{shown}
 use Rattle.uring_trace.specs.declared.questions.Question.{Question}

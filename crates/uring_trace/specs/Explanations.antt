@@ -8,11 +8,11 @@ use Rattle.uring_entry.specs.Setup.{Setup}
 use Rattle.uring_machine.specs.World.{World}
 use Rattle.uring_machine.specs.Histories.{Event, world, history_of}
 use Rattle.uring_machine.specs.CalledFor.{IsLawful}
-use Rattle.uring_trace.specs.declared.trace_fault.TraceFault.{TraceFault}
-use Rattle.uring_trace.specs.declared.trace_fault.TraceFault.TheVariants as fault
+use Rattle.uring_text.specs.declared.trace_fault.TraceFault.{TraceFault}
+use Rattle.uring_text.specs.declared.trace_fault.TraceFault.TheVariants as fault
 use Rattle.uring_trace.specs.Text.{text_of}
-use Rattle.uring_trace.specs.Remarks.{is_remark}
-use Rattle.uring_trace.specs.Lines.{ended, Splits, with_last}
+use Rattle.uring_text.specs.Remarks.{is_remark}
+use Rattle.uring_text.specs.Lines.{ended, Splits, with_last}
 use Rattle.uring_trace.specs.Spelling.{IsStep, IsBad}
 use Rattle.uring_trace.specs.Questions.{IsQuestion, IsNoQuestion}
 use Rattle.uring_trace.specs.Shown.{shown}

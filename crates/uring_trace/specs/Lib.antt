@@ -1,15 +1,10 @@
-pub mod Tokens
 pub mod Spelling
 pub mod Reading
 pub mod Text
-pub mod Lines
 pub mod Exchanges
 pub mod Traces
-pub mod KeptLine
 pub mod Sessions
-pub mod Streams
 pub mod Reasons
-pub mod Remarks
 pub mod Questions
 pub mod Shown
 pub mod Explanations

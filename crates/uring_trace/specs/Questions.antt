@@ -1,7 +1,7 @@
 -- The lines of an explanation that ask to be shown something. Our own rule.
 use Rattle.std.specs.Prelude.{◌≡◌, ℕ, ◌≤◌, List, ◌++◌, length, codes}
 use Rattle.std.specs.Fmt.{signed_decimal}
-use Rattle.uring_trace.specs.Spelling.{IsFile}
+use Rattle.uring_text.specs.Spelling.{IsFile}
 use Rattle.uring_trace.specs.declared.questions.Question.{Question}
 use Rattle.uring_trace.specs.declared.questions.Question.TheVariants as question
 

@@ -1,12 +1,12 @@
 -- Glue. What a session keeps of the lines that it took in.
 use Rattle.std.specs.Prelude.{◌≡◌, ℕ, Bool, List, ◌∷◌, ◌++◌, Option, Some, None, Result, Ok, Err}
 use Rattle.uring_trace.specs.declared.session.Session.{Session}
-use Rattle.uring_trace.specs.declared.trace_fault.TraceFault.{TraceFault}
+use Rattle.uring_text.specs.declared.trace_fault.TraceFault.{TraceFault}
 use Rattle.uring_machine.specs.Histories.{Event, History, history_of}
 use Rattle.uring_machine.specs.Machine.{Machine, Fits}
-use Rattle.uring_trace.specs.Lines.{Splits}
+use Rattle.uring_text.specs.Lines.{Splits}
 use Rattle.uring_trace.specs.Exchanges.{Exchange, Manner, Answers, IsReadAs, answer_text, lines_of, events_of}
-use Rattle.uring_trace.specs.KeptLine.{KeptLine, kept_of}
+use Rattle.uring_text.specs.KeptLine.{KeptLine, kept_of}
 use Rattle.uring_trace.specs.Traces.{Writes}
 
 -- a history with one event more, if there is one

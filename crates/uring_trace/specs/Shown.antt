@@ -10,7 +10,7 @@ use Rattle.uring_files.specs.declared.file.FileState.{FileState}
 use Rattle.uring_machine.specs.World.{World}
 use Rattle.uring_machine.specs.CalledFor.{files_of}
 use Rattle.uring_machine.specs.declared.cores.Counts.{Counts}
-use Rattle.uring_trace.specs.Text.{completion_text}
+use Rattle.uring_text.specs.Completions.{completion_text}
 use Rattle.uring_trace.specs.declared.questions.Question.{Question}
 use Rattle.uring_trace.specs.declared.questions.Question.TheVariants as question
 

@@ -1,29 +1,14 @@
 -- The text of an answer. The language of a trace is our own rule.
-use Rattle.std.specs.Prelude.{ℕ, zero, suc, List, [], ◌∷◌, ◌++◌, codes}
+use Rattle.std.specs.Prelude.{ℕ, List, ◌++◌, codes}
 use Rattle.std.specs.Fmt.{decimal, signed_decimal}
-use Rattle.uring_entry.specs.Layout.{Sqe, Cqe, user_data_of}
+use Rattle.uring_entry.specs.Layout.{Sqe, user_data_of}
 use Rattle.uring_machine.specs.declared.answer.Answer.{Answer}
 use Rattle.uring_machine.specs.declared.answer.Answer.TheVariants as answer
-use Rattle.uring_trace.specs.Tokens.{hex_or_dash}
-
--- a byte put before others; a zero before none is dropped
-abbrev pub before_others : ℕ → List ℕ → List ℕ
-before_others zero [] = []
-before_others (suc b) [] = suc b ∷ []
-before_others b (c ∷ bytes) = b ∷ c ∷ bytes
-
--- bytes without the zeros at their end
-abbrev pub trimmed : List ℕ → List ℕ
-trimmed [] = []
-trimmed (b ∷ bytes) = before_others b (trimmed bytes)
+use Rattle.uring_text.specs.Completions.{completion_text}
 
 -- an entry: its user data
 abbrev pub entry_text : Sqe → List ℕ
 entry_text e = codes "entry " ++ decimal (user_data_of e)
-
--- a completion: its user data, its result, and its bytes without the zeros at their end
-abbrev pub completion_text : Cqe → List ℕ
-completion_text c = codes "cqe " ++ decimal c.user_data ++ 32 ∷ [] ++ signed_decimal c.res ++ 32 ∷ [] ++ hex_or_dash (trimmed c.payload)
 
 -- the text of an answer
 abbrev pub text_of : Answer → List ℕ

@@ -1,9 +1,9 @@
 -- What a trace wrote for the bytes that it read.
 use Rattle.std.specs.Prelude.{◌≡◌, ℕ, ◌<◌, ◌⊎◌, List, [], ◌++◌, length, Option, Result, Ok, Err}
 use Rattle.std.specs.Io.KnownBytes.{Consumes, Appends, IsAtEnd}
-use Rattle.uring_trace.specs.declared.trace_fault.TraceFault.{TraceFault}
-use Rattle.uring_trace.specs.declared.trace_fault.TraceFault.TheVariants as fault
-use Rattle.uring_trace.specs.Lines.{Splits, with_last}
+use Rattle.uring_text.specs.declared.trace_fault.TraceFault.{TraceFault}
+use Rattle.uring_text.specs.declared.trace_fault.TraceFault.TheVariants as fault
+use Rattle.uring_text.specs.Lines.{Splits, with_last}
 use Rattle.uring_trace.specs.Exchanges.{Exchange, Manner, Answers, lines_of}
 
 -- the text answers every line of the bytes, of which the last may lack its end
@@ -42,8 +42,3 @@ pub record Traces (manner : Manner) (answer : Result (Unit {0}) TraceFault) (lef
   pub appended : Appends held_before held_after text
   pub written : Writes manner answer bytes text
   pub whole : ReadsAll answer left_after
-
--- What a write of a text did: at `Ok` it appended the text, and else a part of it, from its beginning on.
-abbrev pub WritesText : Result (Unit {0}) TraceFault → List ℕ → List ℕ → Type 0
-WritesText (Ok done) text written = written ≡ text
-WritesText (Err e) text written = (e ≡ fault.Write) × (more : List ℕ) × (0 < length more) × (text ≡ written ++ more)

@@ -2,12 +2,12 @@
 
 ghost use Rattle.std.specs.Prelude.{◌≡◌, ◌++◌, OnOk, string_bytes, decimal};
 ghost use Rattle.uring_machine.specs.declared.answer.Answer.TheVariants as answer;
-ghost use Rattle.uring_trace.specs.Tokens.{hex_or_dash};
-ghost use Rattle.uring_trace.specs.Text.{text_of, completion_text, trimmed};
+ghost use Rattle.uring_trace.specs.Text.{text_of};
 
 use std::alloc::{AllocError, Global};
 use std::fmt::Write;
-use uring_machine::{Answer, Cqe};
+use uring_machine::Answer;
+use uring_text::push_completion;
 
 /// Appends the text of an answer, without the end of its line.
 pub fn push_answer(alloc: Global, text: &mut String, answer: &Answer) -> Result<(), AllocError>
@@ -61,37 +61,4 @@ fn push_taken(text: &mut String, accepted: u32, dropped: u32, head: u32) -> Resu
     ensures { OnOk result (string_bytes text.new ≡ string_bytes text.old ++ text_of (answer.Taken accepted dropped head)) }
 {
     write!(text, "taken {accepted} dropped {dropped} head {head}")
-}
-
-/// Appends a completion: its user data, its result and its data, without the end of the line.
-pub fn push_completion(alloc: Global, text: &mut String, completion: &Cqe) -> Result<(), AllocError>
-    ensures { OnOk result (string_bytes text.new ≡ string_bytes text.old ++ completion_text completion.now) }
-{
-    let user_data = completion.user_data();
-    let res = completion.res();
-    write!(text, "cqe {user_data} {res} ")?;
-    let payload = completion.payload();
-    push_data(alloc, text, without_zeros(&payload))
-}
-
-/// Appends bytes as two lower case hexadecimal digits each, or `-` for none.
-fn push_data(alloc: Global, text: &mut String, bytes: &[u8]) -> Result<(), AllocError>
-    ensures { OnOk result (string_bytes text.new ≡ string_bytes text.old ++ hex_or_dash bytes.now) }
-{
-    if bytes.is_empty() {
-        return text.push_str("-");
-    }
-    let digits = hex::encode(alloc, bytes)?;
-    text.push_str(digits.as_str())
-}
-
-/// The bytes without the zeros at their end.
-fn without_zeros(bytes: &[u8]) -> &[u8]
-    ensures { result.now ≡ trimmed bytes.now }
-{
-    let mut used = bytes.len();
-    while used > 0 && bytes[used - 1] == 0 {
-        used -= 1;
-    }
-    &bytes[..used]
 }

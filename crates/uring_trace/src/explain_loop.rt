@@ -6,12 +6,11 @@ ghost use Rattle.uring_trace.specs.Explaining.{HasTold, TookBoth, WritesPair, Wr
 ghost use Rattle.uring_trace.specs.Explanations.{IsExplained, WritesBoth};
 
 use crate::explainer::Explainer;
-use crate::streams::{Calls, read_once};
-use crate::trace_fault::TraceFault;
-use crate::trace_loop::{CHUNK, write_all};
+use crate::trace_loop::CHUNK;
 use std::alloc::Global;
 use std::io::{Read, Write};
 use uring_machine::Setup;
+use uring_text::{Calls, TraceFault, read_once, write_all};
 
 /// Reads steps from `reader`, one a line, makes them on a new machine of this set-up, and writes to `writer` the answers, one a line, each with its reason if it has one, until the input ends. `Ok` tells whether a line was bad.
 ///

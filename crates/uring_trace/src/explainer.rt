@@ -2,21 +2,20 @@
 
 ghost use Rattle.std.specs.Prelude.{◌≡◌, ◌≢◌, ℕ, ◌+◌, ◌-◌, ◌^◌, min, List, [], ◌∷◌, ◌++◌, IfOk, IfErr, OnOk, string_bytes, codes};
 ghost use Rattle.uring_entry.specs.Setup.{Setup};
-ghost use Rattle.uring_trace.specs.KeptLine.{kept_of};
-ghost use Rattle.uring_trace.specs.Lines.{ended};
+ghost use Rattle.uring_text.specs.KeptLine.{kept_of};
+ghost use Rattle.uring_text.specs.Lines.{ended};
 ghost use Rattle.uring_trace.specs.Explanations.{bad_note};
 ghost use Rattle.uring_trace.specs.Explaining.{TellsStep, TellsShown};
 
 use crate::answer_text::push_answer;
-use crate::kept_line::KeptLine;
 use crate::questions::{Question, read_question};
 use crate::reason_text::{ask, keep, push_reason, seek};
 use crate::shown_text::push_shown;
 use crate::step_lines::read_line;
-use crate::trace_fault::TraceFault;
 use std::alloc::{AllocError, Global};
 use std::fmt::Write;
 use uring_machine::{Machine, Setup, Step};
+use uring_text::{KeptLine, TraceFault};
 
 /// Explains lines as their bytes come: a machine, what is kept of the unfinished line, and the number of that line.
 #[derive(Drop)]

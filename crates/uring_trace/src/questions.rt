@@ -1,13 +1,11 @@
 //! The lines of an explanation that ask to be shown something.
 
 ghost use Rattle.std.specs.Prelude.{◌≡◌, ◌≤◌, ℕ, ℤ, List, MatchOption, length};
-ghost use Rattle.uring_trace.specs.KeptLine.{kept_of};
+ghost use Rattle.uring_text.specs.KeptLine.{kept_of};
 ghost use Rattle.uring_trace.specs.Questions.{Asks, IsQuestion, IsNoQuestion};
 ghost use Rattle.uring_trace.specs.declared.questions.Question.TheVariants as question;
 
-use crate::entry_tokens::is;
-use crate::kept_line::KeptLine;
-use crate::number_tokens::file;
+use uring_text::{KeptLine, is_name, spelled_signed};
 
 /// What a line asks to be shown. Our own rule.
 #[derive(Clone, Copy, Debug, PartialEq, Eq)]
@@ -38,9 +36,9 @@ fn question_of(line: &[u8]) -> Option<Question>
     ensures { MatchOption result (IsNoQuestion line.now) (IsQuestion line.now) }
 {
     match line {
-        _ if is(line, "show counts") => Some(Question::Counts),
-        _ if is(line, "show sizes") => Some(Question::Sizes),
-        _ if is(line, "show overflow") => Some(Question::Overflow),
+        _ if is_name(line, "show counts") => Some(Question::Counts),
+        _ if is_name(line, "show sizes") => Some(Question::Sizes),
+        _ if is_name(line, "show overflow") => Some(Question::Overflow),
         _ => Some(Question::File(file_asked(line)?)),
     }
 }
@@ -49,5 +47,5 @@ fn question_of(line: &[u8]) -> Option<Question>
 fn file_asked(line: &[u8]) -> Option<i32>
     ensures { MatchOption result ((fd : ℤ) → ¬ Asks line.now (question.File fd)) (λ fd. Asks line.now (question.File fd)) }
 {
-    file(line.strip_prefix(b"show file ")?)
+    spelled_signed(line.strip_prefix(b"show file ")?)
 }

@@ -2,15 +2,14 @@
 
 ghost use Rattle.std.specs.Prelude.{◌≡◌, ◌≢◌, ℕ, List, [], ◌∷◌, ◌++◌, IfOk, IfErr, OnOk, length, ◌≤◌};
 ghost use Rattle.uring_trace.specs.Exchanges.{Manner, step_text};
-ghost use Rattle.uring_trace.specs.KeptLine.{kept_of};
+ghost use Rattle.uring_text.specs.KeptLine.{kept_of};
 ghost use Rattle.uring_trace.specs.Traces.{IsWhole};
 
 use crate::answer_text::push_answer;
-use crate::kept_line::KeptLine;
 use crate::step_lines::read_line;
-use crate::trace_fault::TraceFault;
 use std::alloc::{AllocError, Global};
 use uring_machine::{Machine, Setup};
+use uring_text::{KeptLine, TraceFault};
 
 /// A machine, and what is kept of the unfinished line.
 #[derive(Drop)]

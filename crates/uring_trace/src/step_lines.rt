@@ -1,16 +1,15 @@
 //! The lines that are steps.
 
 ghost use Rattle.std.specs.Prelude.{◌≡◌, ◌≤◌, ◌^◌, ℕ, List, IfOk, MatchOption, length, map};
-ghost use Rattle.uring_trace.specs.KeptLine.{kept_of};
-ghost use Rattle.uring_trace.specs.Tokens.{tokens_of};
+ghost use Rattle.uring_text.specs.KeptLine.{kept_of};
+ghost use Rattle.uring_text.specs.Tokens.{tokens_of};
 ghost use Rattle.uring_trace.specs.Spelling.{IsStep, IsBad};
-ghost use Rattle.uring_trace.specs.Reading.{ReadsStep, ReadsFill, form_of, number_of, step_of_one, step_of_two};
+ghost use Rattle.uring_text.specs.Reading.{form_of, number_of};
+ghost use Rattle.uring_trace.specs.Reading.{ReadsStep, ReadsFill, step_of_one, step_of_two};
 
-use crate::entry_tokens::{is, read_entry};
-use crate::kept_line::KeptLine;
-use crate::number_tokens::{number, small_number};
 use std::alloc::{AllocError, Global};
 use uring_machine::Step;
+use uring_text::{KeptLine, is_name, spelled_entry, spelled_long, spelled_number, split_tokens};
 
 /// The step that a line is, if it is one. A line of more than 300 bytes is none.
 pub(crate) fn read_line(alloc: Global, line: &KeptLine) -> Result<Option<Step>, AllocError>
@@ -31,13 +30,6 @@ pub fn read_step(alloc: Global, line: &[u8]) -> Result<Option<Step>, AllocError>
     Ok(read_words(tokens.as_slice()))
 }
 
-/// The tokens of a line: what stands between its spaces.
-pub fn split_tokens(alloc: Global, line: &[u8]) -> Result<Vec<&[u8]>, AllocError>
-    ensures { IfOk result (λ tokens. map (λ token. token.now) tokens.items ≡ tokens_of line.now) }
-{
-    line.split(|byte| *byte == b' ').collect(alloc)
-}
-
 /// The step that these tokens spell.
 fn read_words(tokens: &[&[u8]]) -> Option<Step>
     ensures { ReadsStep result (map (λ token. token.now) tokens.now) }
@@ -46,7 +38,7 @@ fn read_words(tokens: &[&[u8]]) -> Option<Step>
     let Some((token, tokens)) = tokens.split_first() else {
         return step_of_name(name);
     };
-    if is(name, "fill") {
+    if is_name(name, "fill") {
         fill(token, tokens)
     } else if tokens.is_empty() {
         step_of_number(name, token)
@@ -61,16 +53,16 @@ fn step_of_name(name: &[u8]) -> Option<Step>
     ensures { result ≡ step_of_one name.now }
 {
     match name {
-        _ if is(name, "tail") => Some(Step::StoreTail),
-        _ if is(name, "head") => Some(Step::LoadHead),
-        _ if is(name, "take") => Some(Step::Take),
-        _ if is(name, "end") => Some(Step::End),
-        _ if is(name, "flush") => Some(Step::Flush),
-        _ if is(name, "cqtail") => Some(Step::LoadCqTail),
-        _ if is(name, "reap") => Some(Step::Reap),
-        _ if is(name, "cqhead") => Some(Step::StoreCqHead),
-        _ if is(name, "close") => Some(Step::Close),
-        _ if is(name, "next") => Some(Step::Next),
+        _ if is_name(name, "tail") => Some(Step::StoreTail),
+        _ if is_name(name, "head") => Some(Step::LoadHead),
+        _ if is_name(name, "take") => Some(Step::Take),
+        _ if is_name(name, "end") => Some(Step::End),
+        _ if is_name(name, "flush") => Some(Step::Flush),
+        _ if is_name(name, "cqtail") => Some(Step::LoadCqTail),
+        _ if is_name(name, "reap") => Some(Step::Reap),
+        _ if is_name(name, "cqhead") => Some(Step::StoreCqHead),
+        _ if is_name(name, "close") => Some(Step::Close),
+        _ if is_name(name, "next") => Some(Step::Next),
         _ => None,
     }
 }
@@ -81,17 +73,17 @@ fn step_of_number(name: &[u8], token: &[u8]) -> Option<Step>
     ensures { result ≡ step_of_two name.now token.now }
 {
     match name {
-        _ if is(name, "index") => Some(Step::Index {
-            word: small_number(token)?,
+        _ if is_name(name, "index") => Some(Step::Index {
+            word: spelled_number(token)?,
         }),
-        _ if is(name, "begin") => Some(Step::Begin {
-            count: small_number(token)?,
+        _ if is_name(name, "begin") => Some(Step::Begin {
+            count: spelled_number(token)?,
         }),
-        _ if is(name, "issue") => Some(Step::Issue {
-            number: number(token)?,
+        _ if is_name(name, "issue") => Some(Step::Issue {
+            number: spelled_long(token)?,
         }),
-        _ if is(name, "finish") => Some(Step::Finish {
-            number: number(token)?,
+        _ if is_name(name, "finish") => Some(Step::Finish {
+            number: spelled_long(token)?,
         }),
         _ => None,
     }
@@ -102,7 +94,7 @@ fn fill(slot: &[u8], entry: &[&[u8]]) -> Option<Step>
     ensures { ReadsFill result (number_of (2 ^ 32) slot.now) (form_of (map (λ token. token.now) entry.now)) }
 {
     Some(Step::Fill {
-        slot: small_number(slot)?,
-        entry: read_entry(entry)?,
+        slot: spelled_number(slot)?,
+        entry: spelled_entry(entry)?,
     })
 }

@@ -4,15 +4,15 @@ ghost use Rattle.std.specs.Prelude.{◌≡◌, ◌≢◌, ℕ, List, [], ◌++�
 ghost use Rattle.std.specs.Io.KnownBytes.{Appends};
 ghost use Rattle.uring_trace.specs.Exchanges.{Manner};
 ghost use Rattle.uring_trace.specs.Sessions.{Has, TookIn};
-ghost use Rattle.uring_trace.specs.Streams.{AreOver};
-ghost use Rattle.uring_trace.specs.Traces.{Traces, Writes, WritesText};
+ghost use Rattle.uring_text.specs.Streams.{AreOver};
+ghost use Rattle.uring_text.specs.Writing.{WritesText};
+ghost use Rattle.uring_trace.specs.Traces.{Traces, Writes};
 
 use crate::session::Session;
-use crate::streams::{Calls, read_once, write_once};
-use crate::trace_fault::TraceFault;
 use std::alloc::Global;
 use std::io::{Read, Write};
 use uring_machine::Setup;
+use uring_text::{Calls, TraceFault, read_once, write_all};
 
 /// Most bytes that are read at once.
 pub(crate) const CHUNK: usize = 512;
@@ -103,25 +103,4 @@ fn answer_last<W: Write>(
     let mut text = Vec::new(alloc);
     session.finish(&mut text)?;
     write_all(writer, text.as_slice(), writes)
-}
-
-/// Writes all these bytes. An interrupted write is made again. `Write`: a write failed or took no byte, or 2^64 - 1 writes were made.
-pub fn write_all<W: Write>(
-    writer: &mut W,
-    bytes: &[u8],
-    writes: &mut Calls,
-) -> Result<(), TraceFault>
-    ensures text { (written : List ℕ) × Appends (W.contents writer.old) (W.contents writer.new) written × WritesText result bytes.now written }
-    ensures write { IfErr result (λ _. AreOver writes.new) }
-{
-    let mut rest = bytes;
-    while !rest.is_empty() {
-        if writes.are_over() {
-            return Err(TraceFault::Write);
-        }
-        if let Ok(count) = write_once(writer, rest, writes) {
-            rest = rest.split_at(count).1;
-        }
-    }
-    Ok(())
 }

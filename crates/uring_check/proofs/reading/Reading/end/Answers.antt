@@ -1,7 +1,7 @@
 use Rattle.std.proofs.Common.{◌≡◌, ◌≢◌, ℕ, List, [], false, refl}
 use Rattle.std.specs.Prelude.{IsTrue}
 use Rattle.std.proofs.lemmas.Result.{IfOk-weaker}
-use Rattle.uring_trace.specs.KeptLine.{kept_of}
+use Rattle.uring_text.specs.KeptLine.{kept_of}
 use Rattle.uring_check.proofs.Readings.{ended_last, ended_none}
 use Rattle.uring_check.proofs.reading.Reading.end.Goals as goal
 

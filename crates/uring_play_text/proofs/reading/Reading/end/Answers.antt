@@ -1,6 +1,6 @@
 use Rattle.std.proofs.Common.{◌≡◌, ◌≢◌, ℕ, List, [], false, refl}
 use Rattle.std.specs.Prelude.{IsTrue}
-use Rattle.uring_trace.specs.KeptLine.{kept_of}
+use Rattle.uring_text.specs.KeptLine.{kept_of}
 use Rattle.uring_play_text.proofs.Readings.{given_of, ended_last, ended_none}
 use Rattle.uring_play_text.proofs.reading.Reading.end.Goals as goal
 

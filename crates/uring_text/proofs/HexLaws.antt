@@ -1,0 +1,214 @@
+-- Bytes are read of just the tokens that are their lower case digits.
+use Rattle.std.proofs.Common.{◌≡◌, ℕ, zero, suc, ◌+◌, ◌-◌, ◌*◌, ◌/◌, ◌%◌, ◌<◌, ◌≤◌, true, false, cond, ltb, eqb, ◌&&◌, List, [], ◌∷◌, length, Option, Some, None, Result, Ok, Err, refl, sym, ap, subst, ◌∙◌, arith, inl, inr}
+use Rattle.std.specs.Prelude.{codes, slice_index, nat_le}
+use Rattle.std.specs.List.{AllByRecursion, list_any}
+use Rattle.std.specs.Result.{result_ok}
+use Rattle.std.specs.Str.{bytes_eq}
+use Rattle.std.proofs.lemmas.Bool.{ltb-false, le-ltb, eqb-false, ne_eqb, cases_Bool, leb-true, le-leb, and_parts, and_from, both_ways, or_parts}
+use Rattle.std.proofs.lemmas.Slice.Eq.{bytes_eq-Decides}
+use Rattle.std.proofs.lemmas.Option.{same_Some}
+use Rattle.hex.specs.declared.error.FromHexError.{FromHexError}
+use Rattle.hex.specs.Hex.{◌>>=◌, IsBytes, decode_sized, decode_of, decode_pairs, pair_value, value_at, digit_or_error, encode_with, encode_lower, lower_digits, hex_digit_value}
+use Rattle.hex.proofs.HexLemmas.{decode_sized-encode_lower, decode_sized-ok, decode_sized-twice, decode_of-ok, decode_of-even, length-encode_with}
+use Rattle.uring_text.specs.Tokens.{hex_or_dash}
+use Rattle.uring_text.specs.Spelling.{AreBytes}
+use Rattle.uring_text.specs.Reading.{is_capital, hex_of, data_of}
+use Rattle.uring_text.proofs.Options.{test_some, chosen}
+
+-- the digits, by their values
+letter_at : (w : ℕ) → w < 6 → slice_index lower_digits (10 + w) ≡ 97 + w
+letter_at zero lt = refl
+letter_at (suc zero) lt = refl
+letter_at (suc (suc zero)) lt = refl
+letter_at (suc (suc (suc zero))) lt = refl
+letter_at (suc (suc (suc (suc zero)))) lt = refl
+letter_at (suc (suc (suc (suc (suc zero))))) lt = refl
+letter_at (suc (suc (suc (suc (suc (suc w)))))) lt = absurd (omega arith)
+
+figure_at : (w : ℕ) → w < 10 → slice_index lower_digits w ≡ 48 + w
+figure_at zero lt = refl
+figure_at (suc zero) lt = refl
+figure_at (suc (suc zero)) lt = refl
+figure_at (suc (suc (suc zero))) lt = refl
+figure_at (suc (suc (suc (suc zero)))) lt = refl
+figure_at (suc (suc (suc (suc (suc zero))))) lt = refl
+figure_at (suc (suc (suc (suc (suc (suc zero)))))) lt = refl
+figure_at (suc (suc (suc (suc (suc (suc (suc zero))))))) lt = refl
+figure_at (suc (suc (suc (suc (suc (suc (suc (suc zero)))))))) lt = refl
+figure_at (suc (suc (suc (suc (suc (suc (suc (suc (suc zero))))))))) lt = refl
+figure_at (suc (suc (suc (suc (suc (suc (suc (suc (suc (suc w)))))))))) lt = absurd (omega arith)
+
+no_capital : (v : ℕ) → v < 16 → is_capital (slice_index lower_digits v) ≡ false
+no_capital zero lt = refl
+no_capital (suc zero) lt = refl
+no_capital (suc (suc zero)) lt = refl
+no_capital (suc (suc (suc zero))) lt = refl
+no_capital (suc (suc (suc (suc zero)))) lt = refl
+no_capital (suc (suc (suc (suc (suc zero))))) lt = refl
+no_capital (suc (suc (suc (suc (suc (suc zero)))))) lt = refl
+no_capital (suc (suc (suc (suc (suc (suc (suc zero))))))) lt = refl
+no_capital (suc (suc (suc (suc (suc (suc (suc (suc zero)))))))) lt = refl
+no_capital (suc (suc (suc (suc (suc (suc (suc (suc (suc zero))))))))) lt = refl
+no_capital (suc (suc (suc (suc (suc (suc (suc (suc (suc (suc zero)))))))))) lt = refl
+no_capital (suc (suc (suc (suc (suc (suc (suc (suc (suc (suc (suc zero))))))))))) lt = refl
+no_capital (suc (suc (suc (suc (suc (suc (suc (suc (suc (suc (suc (suc zero)))))))))))) lt = refl
+no_capital (suc (suc (suc (suc (suc (suc (suc (suc (suc (suc (suc (suc (suc zero))))))))))))) lt = refl
+no_capital (suc (suc (suc (suc (suc (suc (suc (suc (suc (suc (suc (suc (suc (suc zero)))))))))))))) lt = refl
+no_capital (suc (suc (suc (suc (suc (suc (suc (suc (suc (suc (suc (suc (suc (suc (suc zero))))))))))))))) lt = refl
+no_capital (suc (suc (suc (suc (suc (suc (suc (suc (suc (suc (suc (suc (suc (suc (suc (suc v)))))))))))))))) lt = absurd (omega arith)
+
+bytes_from : (bytes : List ℕ) → AllByRecursion (λ b. b < 256) bytes → IsBytes bytes
+bytes_from [] h i = omega arith
+bytes_from (b ∷ bytes) h zero = h.0
+bytes_from (b ∷ bytes) h (suc i) = bytes_from bytes h.1 i
+
+bytes_to : (bytes : List ℕ) → IsBytes bytes → AllByRecursion (λ b. b < 256) bytes
+bytes_to [] h = tt
+bytes_to (b ∷ bytes) h = (h 0, bytes_to bytes (λ i. h (suc i)))
+
+-- a digit that is no capital letter
+lower_digit : (c v : ℕ) → hex_digit_value c ≡ Some v → is_capital c ≡ false → (slice_index lower_digits v ≡ c) × (v < 16)
+lower_digit c v e small =
+    elim (chosen (nat_le 65 c && nat_le c 70) (Some (c - 55)) (cond (nat_le 97 c && nat_le c 102) (Some (c - 87)) (cond (nat_le 48 c && nat_le c 57) (Some (c - 48)) None)) (Some v) e) [
+      | inl p ↦
+          let b = and_parts (nat_le 65 c) (nat_le c 70) p.0 in
+          let low : 65 ≤ c = leb-true 65 c b.0 in
+          let high : c ≤ 70 = leb-true c 70 b.1 in
+          let capital : is_capital c ≡ true = and_from (nat_le 65 c) (nat_le c 90) (le-leb 65 c low) (le-leb c 90 (omega arith)) in
+          absurd (both_ways (is_capital c) small capital)
+      | inr p ↦ elim (chosen (nat_le 97 c && nat_le c 102) (Some (c - 87)) (cond (nat_le 48 c && nat_le c 57) (Some (c - 48)) None) (Some v) p.1) [
+        | inl q ↦
+            let b = and_parts (nat_le 97 c) (nat_le c 102) q.0 in
+            let low : 97 ≤ c = leb-true 97 c b.0 in
+            let high : c ≤ 102 = leb-true c 102 b.1 in
+            let value : c - 87 ≡ v = same_Some (c - 87) v q.1 in
+            let at : v ≡ 10 + (c - 97) = omega arith in
+            let back : 97 + (c - 97) ≡ c = omega arith in
+            (ap (slice_index lower_digits) at ∙ letter_at (c - 97) (omega arith) ∙ back, omega arith)
+        | inr q ↦
+            let t = test_some (nat_le 48 c && nat_le c 57) (Some (c - 48)) v q.1 in
+            let b = and_parts (nat_le 48 c) (nat_le c 57) t.0 in
+            let low : 48 ≤ c = leb-true 48 c b.0 in
+            let high : c ≤ 57 = leb-true c 57 b.1 in
+            let value : c - 48 ≡ v = same_Some (c - 48) v t.1 in
+            let back : 48 + (c - 48) ≡ c = omega arith in
+            (ap (slice_index lower_digits) (sym value) ∙ figure_at (c - 48) (omega arith) ∙ back, omega arith)
+      ]
+    ]
+
+bind_ok : {A B : Type 0} (r : Result A FromHexError) (f : A → Result B FromHexError) (y : B) → (r >>= f) ≡ Ok y → (x : A) × (r ≡ Ok x) × (f x ≡ Ok y)
+bind_ok (Ok x) f y h = (x, refl, h)
+bind_ok (Err e) f y h = absurd cc
+
+abbrev ok : {A : Type 0} → A → Result A FromHexError
+ok x = Ok x
+
+ok_is : {A : Type 0} (x y : A) → ok x ≡ ok y → x ≡ y
+ok_is x y e = cc
+
+digit_read : (c i : ℕ) (o : Option ℕ) (v : ℕ) → digit_or_error c i o ≡ Ok v → o ≡ Some v
+digit_read c i (Some w) v h = ap (λ (k : ℕ). Some k) (ok_is w v h)
+digit_read c i None v h = absurd cc
+
+-- what decodes, and has no capital letter
+pairs_lower : (i : ℕ) (s bytes : List ℕ) → decode_pairs i s ≡ Ok bytes → list_any is_capital s ≡ false → s ≡ encode_lower bytes
+unfolding decode_pairs encode_with
+pairs_lower i [] bytes e n = ap encode_lower (ok_is [] bytes e)
+pairs_lower i (a ∷ []) bytes e n = absurd cc
+pairs_lower i (a ∷ b ∷ rest) bytes e n =
+    let p0 = bind_ok (pair_value a b i) (λ byte. decode_pairs (i + 2) rest >>= λ more. Ok (byte ∷ more)) bytes e in
+    let p1 = bind_ok (value_at a i) (λ h. value_at b (i + 1) >>= λ l. Ok (h * 16 + l)) p0.0 p0.1 in
+    let p2 = bind_ok (value_at b (i + 1)) (λ l. Ok (p1.0 * 16 + l)) p0.0 p1.2 in
+    let p3 = bind_ok (decode_pairs (i + 2) rest) (λ more. Ok (p0.0 ∷ more)) bytes p0.2 in
+    let small = or_parts (is_capital a) (list_any is_capital (b ∷ rest)) n in
+    let smaller = or_parts (is_capital b) (list_any is_capital rest) small.1 in
+    let high = lower_digit a p1.0 (digit_read a i (hex_digit_value a) p1.0 p1.1) small.0 in
+    let low = lower_digit b p2.0 (digit_read b (i + 1) (hex_digit_value b) p2.0 p2.1) smaller.0 in
+    let byte : p1.0 * 16 + p2.0 ≡ p0.0 = ok_is (p1.0 * 16 + p2.0) p0.0 p2.2 in
+    let first : p0.0 / 16 ≡ p1.0 = omega (arith, high.1, low.1) in
+    let second : p0.0 % 16 ≡ p2.0 = omega (arith, high.1, low.1) in
+    let a_is : a ≡ slice_index lower_digits (p0.0 / 16) = sym (ap (slice_index lower_digits) first ∙ high.0) in
+    let b_is : b ≡ slice_index lower_digits (p0.0 % 16) = sym (ap (slice_index lower_digits) second ∙ low.0) in
+    let rest_is : rest ≡ encode_lower p3.0 = pairs_lower (i + 2) rest p3.0 p3.1 smaller.1 in
+    let all : a ∷ b ∷ rest ≡ encode_lower (p0.0 ∷ p3.0) = ap (λ (x : ℕ). x ∷ b ∷ rest) a_is ∙ ap (λ (x : ℕ). slice_index lower_digits (p0.0 / 16) ∷ x ∷ rest) b_is ∙ ap (λ (l : List ℕ). slice_index lower_digits (p0.0 / 16) ∷ slice_index lower_digits (p0.0 % 16) ∷ l) rest_is in
+    all ∙ ap encode_lower (ok_is (p0.0 ∷ p3.0) bytes p3.2)
+
+ok_from : (r : Result (List ℕ) FromHexError) (bytes : List ℕ) → result_ok r ≡ Some bytes → r ≡ Ok bytes
+ok_from (Ok x) bytes e = ap (λ (l : List ℕ). ok l) (same_Some x bytes e)
+ok_from (Err d) bytes e = absurd cc
+
+pub hex_found : (count : ℕ) (token bytes : List ℕ) → hex_of count token ≡ Some bytes → (token ≡ encode_lower bytes) × AreBytes bytes count count
+unfolding hex_of
+hex_found count token bytes e =
+    elim (chosen (list_any is_capital token) None (result_ok (decode_sized token count)) (Some bytes) e) [
+      | inl p ↦ absurd (let no : None ≡ Some bytes = p.1 in cc)
+      | inr p ↦
+          let decoded : decode_sized token count ≡ Ok bytes = ok_from (decode_sized token count) bytes p.1 in
+          let size : length token ≡ 2 * count = decode_sized-ok token count bytes decoded in
+          let whole : decode_of token ≡ Ok bytes = sym (decode_sized-twice token count size) ∙ decoded in
+          let facts = decode_of-ok token bytes whole in
+          let pairs : decode_pairs 0 token ≡ Ok bytes = sym (decode_of-even token facts.0) ∙ whole in
+          let both : length token ≡ 2 * length bytes = facts.2 in
+          (pairs_lower 0 token bytes pairs p.0, record { few = omega arith; enough = omega arith; each = bytes_to bytes facts.3 })
+    ]
+
+encoded_small : (bytes : List ℕ) → AllByRecursion (λ b. b < 256) bytes → list_any is_capital (encode_lower bytes) ≡ false
+unfolding encode_with
+encoded_small [] h = refl
+encoded_small (b ∷ bytes) h =
+    let small : b < 256 = h.0 in
+    rw (no_capital (b / 16) (omega arith), no_capital (b % 16) (omega arith)) (encoded_small bytes h.1)
+
+pub hex_again : (count : ℕ) (bytes : List ℕ) → AreBytes bytes count count → hex_of count (encode_lower bytes) ≡ Some bytes
+unfolding hex_of
+hex_again count bytes h =
+    let few : count ≤ length bytes = h.few in
+    let enough : length bytes ≤ count = h.enough in
+    rw (encoded_small bytes h.each, decode_sized-encode_lower bytes count (omega arith) (bytes_from bytes h.each)) refl
+
+shown : (bytes : List ℕ) → 0 < length bytes → hex_or_dash bytes ≡ encode_lower bytes
+shown [] lt = absurd (omega arith)
+shown (b ∷ bytes) lt = refl
+
+pub data_found : (token bytes : List ℕ) → data_of token ≡ Some bytes → (token ≡ hex_or_dash bytes) × AreBytes bytes 0 64
+unfolding data_of
+data_found token bytes e =
+    elim (chosen (bytes_eq token (codes "-")) (Some []) (cond (eqb (length token / 2) 0) None (cond (ltb 64 (length token / 2)) None (hex_of (length token / 2) token))) (Some bytes) e) [
+      | inl p ↦
+          let none : [] ≡ bytes = same_Some [] bytes p.1 in
+          subst (λ (l : List ℕ). (token ≡ hex_or_dash l) × AreBytes l 0 64) none ((bytes_eq-Decides token (codes "-")).0 p.0, record { few = omega arith; enough = omega arith; each = tt })
+      | inr p ↦ elim (chosen (eqb (length token / 2) 0) None (cond (ltb 64 (length token / 2)) None (hex_of (length token / 2) token)) (Some bytes) p.1) [
+        | inl q ↦ absurd (let no : None ≡ Some bytes = q.1 in cc)
+        | inr q ↦ elim (chosen (ltb 64 (length token / 2)) None (hex_of (length token / 2) token) (Some bytes) q.1) [
+          | inl s ↦ absurd (let no : None ≡ Some bytes = s.1 in cc)
+          | inr s ↦
+              let found = hex_found (length token / 2) token bytes s.1 in
+              let few : length token / 2 ≤ length bytes = found.1.few in
+              let enough : length bytes ≤ length token / 2 = found.1.enough in
+              let most : length token / 2 ≤ 64 = ltb-false 64 (length token / 2) s.0 in
+              let some : length token / 2 ≡ 0 → ⊥ = eqb-false (length token / 2) 0 q.0 in
+              (found.0 ∙ sym (shown bytes (omega arith)), record { few = omega arith; enough = omega arith; each = found.1.each })
+        ]
+      ]
+    ]
+
+no_dash : (token : List ℕ) → (length token ≡ 1 → ⊥) → bytes_eq token (codes "-") ≡ false
+no_dash token h =
+    elim (cases_Bool (bytes_eq token (codes "-"))) [
+      | inr f ↦ f
+      | inl t ↦ absurd (h (ap length ((bytes_eq-Decides token (codes "-")).0 t)))
+    ]
+
+data_again_of : (bytes token : List ℕ) → 0 < length bytes → token ≡ encode_lower bytes → AreBytes bytes 0 64 → data_of token ≡ Some bytes
+unfolding data_of
+data_again_of bytes token lt is h =
+    let size : length token ≡ 2 * length bytes = ap length is ∙ length-encode_with lower_digits bytes in
+    let most : length bytes ≤ 64 = h.enough in
+    let half : length token / 2 ≡ length bytes = omega arith in
+    let all : hex_of (length bytes) token ≡ Some bytes = ap (hex_of (length bytes)) is ∙ hex_again (length bytes) bytes (record { few = omega arith; enough = omega arith; each = h.each }) in
+    rw (no_dash token (λ one. absurd (omega arith)), half, ne_eqb (length bytes) 0 (λ none. absurd (omega arith)), le-ltb 64 (length bytes) most) all
+
+pub data_again : (bytes : List ℕ) → AreBytes bytes 0 64 → data_of (hex_or_dash bytes) ≡ Some bytes
+unfolding data_of
+data_again [] h = refl
+data_again (b ∷ bytes) h = data_again_of (b ∷ bytes) (encode_lower (b ∷ bytes)) (omega arith) refl h

@@ -1,0 +1,14 @@
+pub mod Options
+pub mod Numbers
+pub mod Bytes
+pub mod Trimming
+pub mod NumberLaws
+pub mod FlagLaws
+pub mod HexLaws
+pub mod FormLaws
+pub mod EntryLaws
+pub mod Spellings
+pub mod KeptLines
+pub mod LineLaws
+pub mod Splits
+pub mod Writing

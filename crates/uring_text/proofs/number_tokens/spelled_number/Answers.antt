@@ -1,0 +1,6 @@
+use Rattle.std.proofs.Common.{◌^◌, arith}
+use Rattle.uring_text.proofs.Spellings.{read_number_tells}
+use Rattle.uring_text.proofs.number_tokens.spelled_number.Goals as goal
+
+pub returns-clause-spells : goal.returns-clause-spells
+returns-clause-spells c = read_number_tells (2 ^ 32) c.args.token.now c.small_number.result (omega arith) c.small_number.ensures

@@ -1,0 +1,9 @@
+pub mod Tokens
+pub mod Spelling
+pub mod Reading
+pub mod Completions
+pub mod Lines
+pub mod KeptLine
+pub mod Remarks
+pub mod Streams
+pub mod Writing

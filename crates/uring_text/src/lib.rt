@@ -1,0 +1,21 @@
+//! The text that traces, checks and plays share: lines as they are read, the tokens that entries and numbers are written as, and the text of a completion.
+#![tactic(auto)]
+
+mod completion_text;
+mod entry_tokens;
+mod flag_tokens;
+mod hex_tokens;
+mod kept_line;
+pub mod laws;
+mod number_tokens;
+mod streams;
+mod tokens;
+mod trace_fault;
+
+pub use completion_text::push_completion;
+pub use entry_tokens::spelled_entry;
+pub use kept_line::KeptLine;
+pub use number_tokens::{spelled_long, spelled_number, spelled_signed};
+pub use streams::{Calls, read_once, write_all};
+pub use tokens::{is_name, split_tokens};
+pub use trace_fault::TraceFault;

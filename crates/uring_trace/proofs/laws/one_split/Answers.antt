@@ -1,5 +1,0 @@
-use Rattle.uring_trace.proofs.LineLaws.{split_once}
-use Rattle.uring_trace.proofs.laws.one_split.Goals as goal
-
-pub returns : goal.returns
-returns c = split_once
