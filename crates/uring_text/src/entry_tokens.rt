@@ -1,8 +1,7 @@
 //! The tokens of a line that spell an entry.
 
-ghost use Rattle.std.specs.Prelude.{◌≡◌, map, MatchOption};
+ghost use Rattle.std.specs.Prelude.{map, MatchOption};
 ghost use Rattle.std.specs.Option.{option_map};
-ghost use Rattle.std.specs.Str.{bytes_eq};
 ghost use Rattle.uring_text.specs.Spelling as form;
 ghost use Rattle.uring_text.specs.Spelling.{SpellsEntry, IsNoEntry};
 ghost use Rattle.uring_text.specs.Reading.{ReadsEntry, form_of, nop_of, fsync_of, read_of, write_of, cancel_of, cancel_all_of, op_of, raw_of, data_of};

@@ -1,7 +1,6 @@
 -- What a session keeps, byte by byte and line by line.
 use Rattle.std.proofs.Common.{◌≡◌, ◌≢◌, ℕ, Bool, true, List, [], ◌∷◌, ◌++◌, Option, Some, None, Result, Ok, Err, refl, sym, ap, subst, ◌∙◌, append_assoc}
 use Rattle.std.specs.Prelude.{OnOk, is_ok}
-use Rattle.std.specs.List.{AllByRecursion}
 use Rattle.std.specs.Option.{option_to_list}
 use Rattle.std.proofs.lemmas.List.{append-nil}
 use Rattle.uring_entry.specs.Setup.{Setup}
@@ -13,11 +12,12 @@ use Rattle.uring_machine.specs.declared.answer.Answer.{Answer}
 use Rattle.uring_machine.specs.declared.step.Step.{Step}
 use Rattle.uring_trace.specs.Spelling.{IsStep}
 use Rattle.uring_trace.specs.Text.{text_of}
-use Rattle.uring_text.specs.Lines.{IsUnbroken, Splits, with_last, joined, ended}
+use Rattle.uring_text.specs.Lines.{joined, ended}
 use Rattle.uring_trace.specs.Exchanges.{Exchange, Manner, Answers, answer_text, lines_of, events_of, step_text}
 use Rattle.uring_text.specs.KeptLine.{KeptLine, kept_of}
 use Rattle.uring_trace.specs.Sessions.{AppendsAnswer, Holds, with_event}
 use Rattle.uring_trace.specs.Traces.{IsWhole, IsBeginning, IsEnded}
+use Rattle.uring_text.proofs.Splits.{split_more, split_end, split_whole, last_some}
 
 pub on_ok_from : {T E : Type 0} (r : Result T E) (Q : Type 0) → (is_ok r ≡ true → Q) → OnOk r Q
 on_ok_from (Ok x) Q f = f refl

@@ -13,9 +13,9 @@ use Rattle.uring_entry.specs.Layout.{Sqe}
 use Rattle.uring_machine.specs.declared.step.Step.{Step}
 use Rattle.uring_machine.specs.declared.step.Step.TheVariants as step
 use Rattle.uring_text.specs.Tokens.{tokens_of}
-use Rattle.uring_text.specs.Spelling.{Form, SpellsForm, IsEntryOf, SpellsEntry, IsNoEntry, SpellsNumber, IsNoNumber}
+use Rattle.uring_text.specs.Spelling.{Form, SpellsForm, IsEntryOf}
 use Rattle.uring_trace.specs.Spelling.{Spells, IsStep, IsBad}
-use Rattle.uring_text.specs.Reading.{ReadsEntry, number_of, form_of}
+use Rattle.uring_text.specs.Reading.{number_of, form_of}
 use Rattle.uring_trace.specs.Reading.{ReadsStep, ReadsFill, step_of_one, step_of_two}
 use Rattle.uring_text.proofs.Options.{chosen, mapped}
 use Rattle.uring_text.proofs.NumberLaws.{number_found, number_again}

@@ -5,11 +5,11 @@ ghost use Rattle.uring_machine.specs.Histories.{History, world};
 ghost use Rattle.uring_machine.specs.Machine.{Fits};
 ghost use Rattle.uring_trace.specs.Shown.{shown, counts_text, sizes_text, overflow_of, overflow_text, listed_text, file_text};
 
-use crate::answer_text::push_completion;
 use crate::questions::Question;
 use std::alloc::{AllocError, Global};
 use std::fmt::Write;
 use uring_machine::{Counts, Cqe, FileState, Machine, Setup};
+use uring_text::push_completion;
 
 /// Appends what is answered to a question, without the end of its line.
 pub(crate) fn push_shown(

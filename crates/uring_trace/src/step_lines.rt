@@ -2,7 +2,6 @@
 
 ghost use Rattle.std.specs.Prelude.{◌≡◌, ◌≤◌, ◌^◌, ℕ, List, IfOk, MatchOption, length, map};
 ghost use Rattle.uring_text.specs.KeptLine.{kept_of};
-ghost use Rattle.uring_text.specs.Tokens.{tokens_of};
 ghost use Rattle.uring_trace.specs.Spelling.{IsStep, IsBad};
 ghost use Rattle.uring_text.specs.Reading.{form_of, number_of};
 ghost use Rattle.uring_trace.specs.Reading.{ReadsStep, ReadsFill, step_of_one, step_of_two};

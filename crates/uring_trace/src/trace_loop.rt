@@ -5,7 +5,6 @@ ghost use Rattle.std.specs.Io.KnownBytes.{Appends};
 ghost use Rattle.uring_trace.specs.Exchanges.{Manner};
 ghost use Rattle.uring_trace.specs.Sessions.{Has, TookIn};
 ghost use Rattle.uring_text.specs.Streams.{AreOver};
-ghost use Rattle.uring_text.specs.Writing.{WritesText};
 ghost use Rattle.uring_trace.specs.Traces.{Traces, Writes};
 
 use crate::session::Session;

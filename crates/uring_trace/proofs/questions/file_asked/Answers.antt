@@ -8,4 +8,4 @@ use Rattle.uring_trace.proofs.questions.file_asked.Goals as goal
 pub returns : goal.returns
 returns c =
     let begins : c.args.line.now ≡ codes "show file " ++ c.in_ok-strip_prefix.field-0.now = strip_prefix_is Decides-eqb c.args.line.now (codes "show file ") (Some c.in_ok-strip_prefix.field-0) c.in_ok-strip_prefix.ensures.cases in
-    file_words c.args.line.now c.in_ok-strip_prefix.field-0.now c.file.result begins c.file.ensures
+    file_words c.args.line.now c.in_ok-strip_prefix.field-0.now c.spelled_signed.result begins c.spelled_signed.ensures.read
