@@ -7,9 +7,9 @@ use crate::blocks::{Blocks, lowest};
 use std::alloc::{AllocError, Global};
 use std::marker::Model;
 
-/// A set of numbers in a window that moves up, with the set of the blocks that aren't empty: our own structure.
+/// A set of numbers in a window that moves up: our own structure. It keeps blocks, each with the bits of 64 numbers, and the set of those blocks that aren't empty.
 ///
-/// It covers the numbers of the window, from a multiple of 64 on and below another, and those of them that are in it were put in. Only `reserve` takes memory. A block has the bits of 64 numbers.
+/// It covers the numbers of its window, from one multiple of 64 on and below another; only a number that is covered can be in it. `reserve` alone takes memory.
 #[derive(Drop)]
 pub struct NumberSet {
     numbers: Blocks,
