@@ -6,16 +6,16 @@ use Rattle.uring_entry.specs.Layout.{Sqe}
 use Rattle.uring_entry.specs.Preparation.{is_faulty}
 use Rattle.uring_entry.specs.Groups.{is_before}
 use Rattle.uring_entry.specs.Requests.{is_drain}
+use Rattle.uring_number_set.specs.NumberSet.{NumberSet, holds, start_of, stop_of, HasSame}
+use Rattle.uring_number_set.proofs.BlockLemmas.{holds-same}
 use Rattle.uring_dispatch.specs.declared.request.Request.{Request}
 use Rattle.uring_dispatch.specs.declared.group.Group.{Group}
 use Rattle.uring_dispatch.specs.declared.waiting.Waiting.{Waiting}
-use Rattle.uring_dispatch.specs.NumberSet.{NumberSet, holds, start_of, stop_of, HasSame}
 use Rattle.uring_dispatch.specs.Window.{Window, at, end_of}
 use Rattle.uring_dispatch.specs.Groups.{Groups, group_at, with_member}
 use Rattle.uring_dispatch.specs.Held.{IsSound}
 use Rattle.uring_dispatch.specs.Waiting.{waits_at_head, waits_doomed, IsListedAt, Reaches, IsListed, GrowsTo, Starts, CanGrow, StandsAsBefore}
 use Rattle.uring_dispatch.proofs.WindowFront.{at-room}
-use Rattle.uring_dispatch.proofs.BlockLemmas.{holds-same}
 use Rattle.uring_dispatch.proofs.HeldLemmas.{some_none}
 use Rattle.uring_dispatch.proofs.Accepts.{Accepts}
 use Rattle.uring_dispatch.proofs.WaitingLemmas.{told-before, stands-apart, stands-in}

@@ -1,7 +1,6 @@
 -- The queue of barriers: what is added at its end and dropped from its front.
 use Rattle.std.proofs.Common.{◌≡◌, ◌≢◌, ℕ, ◌+◌, ◌≤◌, List, [], ◌∷◌, ◌++◌, Bool, true, ◌==◌, leb, ltb, Option, Some, None, refl, sym, ◌∙◌, ap, arith, inl, inr, get_or}
 use Rattle.std.specs.List.{list_any, list_all}
-use Rattle.std.specs.Option.{option_to_list}
 use Rattle.std.proofs.lemmas.Bool.{and_parts, and_from, or_cases, or_left, or_right, eqb-true, eq-eqb, leb-true, ltb-true, lt-ltb, le-leb, false≢true}
 use Rattle.uring_entry.proofs.RequestLemmas.{added-same}
 use Rattle.uring_dispatch.specs.declared.group.Group.{Group}
@@ -86,7 +85,3 @@ covered-pop records b rest key number dead drains any =
 
 pub beyond-pop : (b : Barrier) (rest : List Barrier) (n : ℕ) → IsBeyond (b ∷ rest) n → IsBeyond rest n
 beyond-pop b rest n all = (and_parts (ltb b.number n) _ all).1
-
--- what is dropped from the front of a queue
-pub popped : {X : Type 0} (old new : List X) (r : Option X) (x y : X) → old ≡ option_to_list r ++ new → ((d : X) → r ≡ Some (get_or old 0 d)) → x ≡ get_or old 0 x → x ≡ y → old ≡ y ∷ new
-popped old new r x y e h l is = e ∙ ap (λ o. option_to_list o ++ new) (h x ∙ ap Some (sym l ∙ is))

@@ -1,5 +1,4 @@
 pub mod Counting
-pub mod BlockLemmas
 pub mod WaitingLemmas
 pub mod NextLemmas
 pub mod WindowLemmas

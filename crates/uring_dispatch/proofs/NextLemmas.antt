@@ -7,10 +7,10 @@ use Rattle.uring_entry.specs.Below.{least_below}
 use Rattle.uring_entry.specs.Requests.{Requests, is_outstanding, is_running, is_doomed, is_ready, is_issuable, next_of}
 use Rattle.uring_entry.proofs.BelowLemmas.{least_below-none, least_below-some}
 use Rattle.uring_entry.proofs.GroupLemmas.{ready-not_later}
+use Rattle.uring_number_set.specs.NumberSet.{NumberSet, holds, IsLeastIn}
 use Rattle.uring_dispatch.specs.declared.request.Request.{Request}
 use Rattle.uring_dispatch.specs.declared.group.Group.{Group}
 use Rattle.uring_dispatch.specs.declared.waiting.Waiting.{Waiting}
-use Rattle.uring_dispatch.specs.NumberSet.{NumberSet, holds, IsLeastIn}
 use Rattle.uring_dispatch.specs.Window.{Window, at}
 use Rattle.uring_dispatch.specs.Groups.{Groups, group_at}
 use Rattle.uring_dispatch.specs.Held.{IsSound, AreHeld}

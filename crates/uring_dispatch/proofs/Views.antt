@@ -4,6 +4,7 @@ use Rattle.std.specs.Prelude.{if◌then◌else◌, MatchOption, OnOk, OnErr}
 use Rattle.uring_entry.specs.Preparation.{operation_of}
 use Rattle.uring_entry.specs.Requests.{Requests, no_request, entry_of, is_outstanding, is_running, least_of, operation_running, entry_outstanding}
 use Rattle.uring_entry.proofs.BelowLemmas.{least_below-none, least_below-some, is_some_value}
+use Rattle.uring_number_set.specs.NumberSet.{HasSame}
 use Rattle.uring_dispatch.specs.declared.request.Request.{Request}
 use Rattle.uring_dispatch.specs.Window.{Window, at, end_of, IsFirst}
 use Rattle.uring_dispatch.specs.Groups.{Groups, group_at, IsBeyond}
@@ -13,7 +14,6 @@ use Rattle.uring_dispatch.specs.declared.answers.Issued.{Issued}
 use Rattle.uring_dispatch.specs.declared.answers.Issued.TheVariants.{Run, Ended, NotReady, Running, Unknown}
 use Rattle.uring_dispatch.specs.declared.answers.Posts.{Posts}
 use Rattle.uring_dispatch.specs.declared.waiting.Waiting.{Waiting}
-use Rattle.uring_dispatch.specs.NumberSet.{HasSame}
 use Rattle.uring_dispatch.proofs.WindowFront.{at-room}
 use Rattle.uring_dispatch.proofs.AcceptsListed.{room-listed, same-listed}
 use Rattle.uring_dispatch.proofs.HeldLemmas.{some_none, shown-within, outstanding-none, outstanding-some, running-some}

@@ -2,7 +2,6 @@
 #![tactic(auto)]
 
 mod answers;
-mod blocks;
 mod cancels;
 mod dispatch;
 mod errors;
@@ -12,7 +11,6 @@ mod group;
 mod groups;
 pub mod laws;
 mod next;
-mod number_set;
 mod request;
 mod standing;
 mod waiting;

@@ -1,16 +1,16 @@
 //! Which of the outstanding requests wait at the head of their group, and which are doomed: among these is the next to be issued.
 
 ghost use Rattle.std.specs.Prelude.{◌≡◌, ℕ, ◌+◌, ◌^◌, ◌<◌, ◌≤◌, false, Some, OnOk};
-ghost use Rattle.uring_dispatch.specs.NumberSet.{holds, start_of, stop_of, Puts, HasSame, HasMoved};
+ghost use Rattle.uring_number_set.specs.NumberSet.{holds, start_of, stop_of, Puts, HasSame, HasMoved};
 ghost use Rattle.uring_dispatch.specs.Window.{at};
 ghost use Rattle.uring_dispatch.specs.Groups.{group_at};
 ghost use Rattle.uring_dispatch.specs.Waiting.{waits_at_head, waits_doomed, dooms, IsListedAt, CanTell, Keeps, CanGrow, GrowsTo, Starts, IsFirstTold};
 
 use crate::group::{Group, is_before};
 use crate::groups::Groups;
-use crate::number_set::NumberSet;
 use crate::window::Window;
 use std::alloc::{AllocError, Global};
+use uring_number_set::NumberSet;
 
 /// The requests that wait at the head of their group, and those that wait and are doomed, by their numbers.
 #[derive(Drop)]

@@ -3,9 +3,10 @@ use Rattle.std.specs.Option.{option_to_list}
 use Rattle.std.specs.VecDeque.{deque_len}
 use Rattle.std.specs.List.{list_any}
 use Rattle.slab.specs.Slab.{get}
+use Rattle.uring_number_set.proofs.BlockLemmas.{popped}
 use Rattle.uring_dispatch.specs.declared.group.Barrier.{Barrier}
 use Rattle.uring_dispatch.specs.Groups.{covers, IsSorted, IsBeyond, drain_of}
-use Rattle.uring_dispatch.proofs.BarrierLemmas.{popped, covered-pop, beyond-pop}
+use Rattle.uring_dispatch.proofs.BarrierLemmas.{covered-pop, beyond-pop}
 use Rattle.uring_dispatch.proofs.GroupsKept.{sorted-pop, starts_at-no, starts_at-yes, head_at}
 use Rattle.uring_dispatch.proofs.groups.trim.Goals as goal
 

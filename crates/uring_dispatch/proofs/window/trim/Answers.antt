@@ -1,9 +1,9 @@
 use Rattle.std.proofs.Common.{◌≡◌, ◌<◌, sym, ◌∙◌, ap, arith, length, None, refl}
 use Rattle.std.specs.Option.{option_to_list}
 use Rattle.std.specs.VecDeque.{deque_len}
+use Rattle.uring_number_set.proofs.BlockLemmas.{popped}
 use Rattle.uring_dispatch.specs.Window.{key_at}
 use Rattle.uring_dispatch.proofs.WindowLemmas.{key_at-pop}
-use Rattle.uring_dispatch.proofs.BarrierLemmas.{popped}
 use Rattle.uring_dispatch.proofs.window.trim.Goals as goal
 
 pub loop-keys-preserved : goal.loop-keys-preserved

@@ -1,5 +1,5 @@
 use Rattle.std.proofs.Common.{◌∙◌}
-use Rattle.uring_dispatch.proofs.BlockLemmas.{holds-same}
+use Rattle.uring_number_set.proofs.BlockLemmas.{holds-same}
 use Rattle.uring_dispatch.proofs.waiting.Waiting.accept.Goals as goal
 
 pub returns-clause-told : goal.returns-clause-told

@@ -1,0 +1,257 @@
+-- Sets of numbers as blocks: what is found at a place, and what a write of a block does to the set. `uring_dispatch` imports `holds-same` and `popped`.
+use Rattle.std.proofs.Common.{◌≡◌, ◌≢◌, ℕ, suc, ◌+◌, ◌-◌, ◌*◌, ◌/◌, ◌%◌, ◌^◌, ◌<◌, ◌≤◌, List, [], ◌∷◌, ◌++◌, length, get_or, set, Bool, true, false, not, eqb, bit_and, bit_or, refl, sym, ◌∙◌, ap, arith, inl, inr, w64, length-set, length-append, Option, Some}
+use Rattle.std.specs.Prelude.{if◌then◌else◌}
+use Rattle.std.specs.Int.{bit_at, bit_not, trailing_zeros}
+use Rattle.std.specs.Option.{option_to_list}
+use Rattle.std.proofs.lemmas.Bool.{cases_lt, cases_eq, lt-ltb, le-ltb, eq-eqb, ne_eqb, both_ways}
+use Rattle.std.proofs.lemmas.List.{get_or_past, get_or-set_same, get_or-set_other}
+use Rattle.std.proofs.lemmas.Nat.Bits.{bit_at-zero, bit_at_set_same, bit_at_set_other, bit_at_clear_same, bit_at_clear_other, bit_at-trailing_zeros}
+use Rattle.std.proofs.Math.ListN.{get_or-append}
+use Rattle.std.proofs.Math.Seq.{get_or-append_seam}
+use Rattle.uring_number_set.specs.NumberSet.{NumberSet, block_of, block_at, holds, Covers, start_of, stop_of, Puts, IsSameSet, IsLeastIn, IsFilled}
+
+pub block_of-low : (first : ℕ) (blocks : List ℕ) (i : ℕ) → i < first → block_of first blocks i ≡ 0
+unfolding block_of
+block_of-low first blocks i lt = ap (λ b. if b then 0 else get_or blocks (i - first) 0) (lt-ltb i first lt)
+
+pub block_of-high : (first : ℕ) (blocks : List ℕ) (i : ℕ) → first ≤ i → block_of first blocks i ≡ get_or blocks (i - first) 0
+unfolding block_of
+block_of-high first blocks i le = ap (λ b. if b then 0 else get_or blocks (i - first) 0) (le-ltb i first le)
+
+pub block_of-past : (first : ℕ) (blocks : List ℕ) (i : ℕ) → first + length blocks ≤ i → block_of first blocks i ≡ 0
+block_of-past first blocks i le = block_of-high first blocks i (omega arith) ∙ get_or_past blocks (i - first) 0 (omega arith)
+
+-- a block that is added is zero, as what isn't kept
+pub block_of-push : (first : ℕ) (blocks : List ℕ) (i : ℕ) → block_of first (blocks ++ 0 ∷ []) i ≡ block_of first blocks i
+block_of-push first blocks i =
+    elim (cases_lt i first) [
+      | inl low ↦ block_of-low first _ i low ∙ sym (block_of-low first blocks i low)
+      | inr high ↦
+          block_of-high first (blocks ++ 0 ∷ []) i high
+          ∙ elim (cases_eq (i - first) (length blocks)) [
+            | inl same ↦
+                ap (λ k. get_or (blocks ++ 0 ∷ []) k 0) same ∙ get_or-append_seam blocks 0 [] 0
+                ∙ sym (get_or_past blocks (i - first) 0 (omega arith))
+            | inr other ↦
+                elim (cases_lt (i - first) (length blocks)) [
+                  | inl inside ↦ get_or-append blocks (0 ∷ []) 0 (i - first) inside
+                  | inr past ↦
+                      get_or_past (blocks ++ 0 ∷ []) (i - first) 0 (omega (arith, length-append blocks (0 ∷ [])))
+                      ∙ sym (get_or_past blocks (i - first) 0 past)
+                ]
+          ]
+          ∙ sym (block_of-high first blocks i high)
+    ]
+
+pub block_of-pop : (first : ℕ) (blocks : List ℕ) (i : ℕ) → block_of (first + 1) blocks i ≡ block_of first (0 ∷ blocks) i
+block_of-pop first blocks i =
+    elim (cases_lt i first) [
+      | inl low ↦ block_of-low (first + 1) blocks i (omega arith) ∙ sym (block_of-low first (0 ∷ blocks) i low)
+      | inr high ↦
+          elim (cases_eq i first) [
+            | inl same ↦
+                let zeroth : i - first ≡ 0 = omega arith in
+                block_of-low (first + 1) blocks i (omega arith)
+                ∙ sym (block_of-high first (0 ∷ blocks) i high ∙ ap (λ k. get_or (0 ∷ blocks) k 0) zeroth)
+            | inr other ↦
+                let place : i - first ≡ suc (i - (first + 1)) = omega arith in
+                block_of-high (first + 1) blocks i (omega arith)
+                ∙ sym (block_of-high first (0 ∷ blocks) i high ∙ ap (λ k. get_or (0 ∷ blocks) k 0) place)
+          ]
+    ]
+
+block_of-set_here : (first : ℕ) (blocks : List ℕ) (i block : ℕ) → first ≤ i → i < first + length blocks → block_of first (set blocks (i - first) block) i ≡ block
+block_of-set_here first blocks i block le lt = block_of-high first _ i le ∙ get_or-set_same blocks (i - first) block 0 (omega arith)
+
+block_of-set_other : (first : ℕ) (blocks : List ℕ) (i k block : ℕ) → first ≤ i → k ≢ i → block_of first (set blocks (i - first) block) k ≡ block_of first blocks k
+block_of-set_other first blocks i k block le ne =
+    elim (cases_lt k first) [
+      | inl low ↦ block_of-low first _ k low ∙ sym (block_of-low first blocks k low)
+      | inr high ↦
+          block_of-high first (set blocks (i - first) block) k high
+          ∙ get_or-set_other blocks (i - first) (k - first) block 0 (λ e. ne (omega (arith, e)))
+          ∙ sym (block_of-high first blocks k high)
+    ]
+
+-- what is dropped from the front of a queue
+pub popped : {X : Type 0} (old new : List X) (r : Option X) (x y : X) → old ≡ option_to_list r ++ new → ((d : X) → r ≡ Some (get_or old 0 d)) → x ≡ get_or old 0 x → x ≡ y → old ≡ y ∷ new
+popped old new r x y e h l is = e ∙ ap (λ o. option_to_list o ++ new) (h x ∙ ap Some (sym l ∙ is))
+
+-- What is in the set.
+
+pub holds-block : (s : NumberSet) (n block : ℕ) → block_at s (n / 64) ≡ block → holds s n ≡ eqb (bit_at block (n % 64)) 1
+unfolding holds
+holds-block s n block e = ap (λ b. eqb (bit_at b (n % 64)) 1) e
+
+pub holds-zero : (s : NumberSet) (n : ℕ) → block_at s (n / 64) ≡ 0 → holds s n ≡ false
+holds-zero s n e = holds-block s n 0 e ∙ ap (λ b. eqb b 1) (bit_at-zero (n % 64))
+
+-- the same blocks are the same set
+pub holds-same : (s t : NumberSet) → ((i : ℕ) → block_at t i ≡ block_at s i) → (n : ℕ) → holds t n ≡ holds s n
+holds-same s t same n = holds-block t n (block_at s (n / 64)) (same (n / 64)) ∙ sym (holds-block s n (block_at s (n / 64)) refl)
+
+-- a block is written, in which one bit changes
+written : (s t : NumberSet) (n block : ℕ) (now : Bool) → Covers s n → t.first ≡ s.first → t.blocks ≡ set s.blocks (n / 64 - s.first) block → t.limit ≡ s.limit → eqb (bit_at block (n % 64)) 1 ≡ now → ((i : ℕ) → i < 64 → i ≢ n % 64 → bit_at block i ≡ bit_at (block_at s (n / 64)) i) → Puts s t n now
+written s t n block now c first blocks limit here others =
+    let from = c.from in
+    let to = c.to in
+    let place : s.first ≤ n / 64 = omega arith in
+    let inside : n / 64 < s.first + length s.blocks = omega arith in
+    let at_place : (k : ℕ) → block_at t k ≡ block_of s.first (set s.blocks (n / 64 - s.first) block) k =
+    λ k. ap (λ f. block_of f t.blocks k) first ∙ ap (λ bs. block_of s.first bs k) blocks
+    in
+    let wrote : block_at t (n / 64) ≡ block = at_place (n / 64) ∙ block_of-set_here s.first s.blocks (n / 64) block place inside in
+    record {
+      here = holds-block t n block wrote ∙ here;
+      others = λ k ne.
+          elim (cases_eq (k / 64) (n / 64)) [
+            | inl same ↦
+                holds-block t k block (ap (block_at t) same ∙ wrote)
+                ∙ ap (λ b. eqb b 1) (others (k % 64) (omega arith) (λ e. absurd (ne (omega (arith, e)))))
+                ∙ ap (λ i. eqb (bit_at (block_at s i) (k % 64)) 1) (sym same)
+                ∙ sym (holds-block s k (block_at s (k / 64)) refl)
+            | inr apart ↦
+                holds-block t k (block_at s (k / 64)) (at_place (k / 64) ∙ block_of-set_other s.first s.blocks (n / 64) (k / 64) block place apart)
+                ∙ sym (holds-block s k (block_at s (k / 64)) refl)
+          ];
+      blocks = λ i ne. at_place i ∙ block_of-set_other s.first s.blocks (n / 64) i block place ne;
+      start = first;
+      stop = ap length blocks ∙ length-set s.blocks (n / 64 - s.first) block;
+      limit = limit;
+    }
+
+pub insert-puts : (s t : NumberSet) (n block : ℕ) → Covers s n → block ≡ block_at s (n / 64) → t.first ≡ s.first → t.blocks ≡ set s.blocks (n / 64 - s.first) (bit_or block (1 * 2 ^ (n % 64) % 2 ^ 64)) → t.limit ≡ s.limit → Puts s t n true
+insert-puts s t n block c was first blocks limit =
+    let low : n % 64 < 64 = omega arith in
+    written s t n _ true c first blocks limit (eq-eqb _ 1 (bit_at_set_same w64 block (n % 64) low))
+    (λ i lt ne. bit_at_set_other w64 block (n % 64) low i ne ∙ ap (λ b. bit_at b i) was)
+
+pub remove-puts : (s t : NumberSet) (n block : ℕ) → Covers s n → block ≡ block_at s (n / 64) → t.first ≡ s.first → t.blocks ≡ set s.blocks (n / 64 - s.first) (bit_and block (bit_not w64 (1 * 2 ^ (n % 64) % 2 ^ 64))) → t.limit ≡ s.limit → Puts s t n false
+remove-puts s t n block c was first blocks limit =
+    let low : n % 64 < 64 = omega arith in
+    let none = bit_at_clear_same w64 block (n % 64) low in
+    written s t n _ false c first blocks limit (ap (λ b. eqb b 1) none)
+    (λ i lt ne. bit_at_clear_other w64 block (n % 64) low i lt ne ∙ ap (λ b. bit_at b i) was)
+
+-- The lowest bit of the first block that isn't zero is the least number.
+pub lowest-least : (s : NumberSet) (place block : ℕ) → block ≡ block_at s place → 0 < block → block < 2 ^ 64 → ((k : ℕ) → k < place → block_at s k ≡ 0) → IsLeastIn s (64 * place + trailing_zeros w64 block)
+lowest-least s place block is some fits before =
+    let t : ℕ = trailing_zeros w64 block in
+    let low = bit_at-trailing_zeros w64 block some fits in
+    let small : t < 64 = low.0 in
+    let at_place : (64 * place + t) / 64 ≡ place = omega arith in
+    let at_bit : (64 * place + t) % 64 ≡ t = omega arith in
+    record {
+      here =
+          holds-block s (64 * place + t) block (ap (block_at s) at_place ∙ sym is)
+          ∙ ap (λ i. eqb (bit_at block i) 1) at_bit ∙ eq-eqb _ 1 low.1;
+      before = λ k lt.
+          elim (cases_lt (k / 64) place) [
+            | inl lower ↦ holds-zero s k (before (k / 64) lower)
+            | inr not_lower ↦
+                let same : k / 64 ≡ place = omega arith in
+                holds-block s k block (ap (block_at s) same ∙ sym is)
+                ∙ ap (λ b. eqb b 1) (low.2 (k % 64) (omega arith))
+          ];
+    }
+
+pub block-not_zero : (s : NumberSet) (n : ℕ) → holds s n ≡ true → block_at s (n / 64) ≢ 0
+block-not_zero s n e zero = both_ways _ (holds-zero s n zero) e
+
+-- The filled blocks.
+
+pub filled-some : (s f : NumberSet) (i : ℕ) → IsFilled s f → holds f i ≡ true → block_at s i ≢ 0
+filled-some s f i h e zero = both_ways _ (h.places i ∙ ap not (eq-eqb (block_at s i) 0 zero)) e
+
+pub filled-none : (s f : NumberSet) (i : ℕ) → IsFilled s f → holds f i ≡ false → block_at s i ≡ 0
+filled-none s f i h e =
+    elim (cases_eq (block_at s i) 0) [
+      | inl zero ↦ zero
+      | inr other ↦ absurd (both_ways _ e (h.places i ∙ ap not (ne_eqb (block_at s i) 0 other)))
+    ]
+
+-- a number is put into the set
+pub insert-filled : (s t f g : NumberSet) (n : ℕ) → IsFilled s f → Puts s t n true → Puts f g (n / 64) true → IsFilled t g
+insert-filled s t f g n h p q =
+    let x = h.start in
+    let y = h.stop in
+    let a = p.start in
+    let b = p.stop in
+    let c = q.start in
+    let d = q.stop in
+    record {
+      places = λ i.
+          elim (cases_eq i (n / 64)) [
+            | inl same ↦
+                ap (holds g) same ∙ q.here
+                ∙ sym (ap (λ k. not (eqb (block_at t k) 0)) same ∙ ap not (ne_eqb _ 0 (block-not_zero t n p.here)))
+            | inr other ↦ q.others i other ∙ h.places i ∙ ap (λ b. not (eqb b 0)) (sym (p.blocks i other))
+          ];
+      start = omega arith;
+      stop = omega arith;
+    }
+
+-- a number is taken out, and its block is zero then
+pub remove-filled_zero : (s t f g : NumberSet) (n : ℕ) → IsFilled s f → Puts s t n false → block_at t (n / 64) ≡ 0 → Puts f g (n / 64) false → IsFilled t g
+remove-filled_zero s t f g n h p zero q =
+    let x = h.start in
+    let y = h.stop in
+    let a = p.start in
+    let b = p.stop in
+    let c = q.start in
+    let d = q.stop in
+    record {
+      places = λ i.
+          elim (cases_eq i (n / 64)) [
+            | inl same ↦ ap (holds g) same ∙ q.here ∙ sym (ap (λ k. not (eqb (block_at t k) 0)) same ∙ ap not (eq-eqb _ 0 zero))
+            | inr other ↦ q.others i other ∙ h.places i ∙ ap (λ b. not (eqb b 0)) (sym (p.blocks i other))
+          ];
+      start = omega arith;
+      stop = omega arith;
+    }
+
+-- a number is taken out, and others of its block stay
+pub remove-filled_some : (s t f : NumberSet) (n : ℕ) → IsFilled s f → Puts s t n false → block_at t (n / 64) ≢ 0 → block_at s (n / 64) ≢ 0 → IsFilled t f
+remove-filled_some s t f n h p some was =
+    let x = h.start in
+    let y = h.stop in
+    let a = p.start in
+    let b = p.stop in
+    record {
+      places = λ i.
+          elim (cases_eq i (n / 64)) [
+            | inl same ↦
+                ap (holds f) same ∙ h.places (n / 64) ∙ ap not (ne_eqb _ 0 was)
+                ∙ sym (ap (λ k. not (eqb (block_at t k) 0)) same ∙ ap not (ne_eqb _ 0 some))
+            | inr other ↦ h.places i ∙ ap (λ b. not (eqb b 0)) (sym (p.blocks i other))
+          ];
+      start = omega arith;
+      stop = omega arith;
+    }
+
+-- the same blocks have the same places
+pub same-filled : (s t f g : NumberSet) → IsFilled s f → IsSameSet s t → IsSameSet f g → start_of g ≤ t.first → t.first + length t.blocks ≤ stop_of g → IsFilled t g
+same-filled s t f g h p q start stop = record {
+  places = λ i. holds-same f g q.same i ∙ h.places i ∙ ap (λ b. not (eqb b 0)) (sym (p.same i));
+  start = start;
+  stop = stop;
+}
+
+-- The memory isn't part of the set.
+
+pub limit-puts : (s t : NumberSet) (n : ℕ) (now : Bool) (a b : ℕ) → Puts s t n now → b ≡ a → Puts (record s { limit = a }) (record t { limit = b }) n now
+unfolding holds
+limit-puts s t n now a b p same =
+    record { here = p.here; others = p.others; blocks = p.blocks; start = p.start; stop = p.stop; limit = same }
+
+pub limit-least : (s : NumberSet) (a n : ℕ) → IsLeastIn s n → IsLeastIn (record s { limit = a }) n
+unfolding holds
+limit-least s a n l = record { here = l.here; before = l.before }
+
+-- a number whose block is zero needn't be taken out
+pub zero-puts : (s : NumberSet) (n : ℕ) → block_at s (n / 64) ≡ 0 → Puts s s n false
+zero-puts s n zero =
+    record { here = holds-zero s n zero; others = λ k ne. refl; blocks = λ i ne. refl; start = refl; stop = refl; limit = refl }
+
+pub same-set : (s : NumberSet) → IsSameSet s s
+same-set s = record { same = λ i. refl; limit = omega arith }

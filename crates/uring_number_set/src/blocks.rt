@@ -1,0 +1,200 @@
+//! A set of numbers as a queue of blocks, 64 numbers to a block.
+
+ghost use Rattle.std.specs.Prelude.{◌≡◌, ℕ, ◌+◌, ◌*◌, ◌/◌, ◌^◌, ◌<◌, ◌≤◌, true, false, OnOk, MatchOption, slice_index_or, slice_set};
+ghost use Rattle.std.specs.VecDeque.{deque_len, deque_capacity};
+ghost use Rattle.std.specs.Int.{trailing_zeros, w64};
+ghost use Rattle.uring_number_set.specs.NumberSet.{block_of, block_at, holds, start_of, stop_of, Covers, Puts, HasLetGo, IsSameSet, IsLeastIn, IsFirstFilled, IsFirstBlock};
+
+use std::alloc::{AllocError, Global};
+use std::collections::VecDeque;
+use std::marker::Model;
+
+/// A set of numbers in a window that moves up.
+#[derive(Drop)]
+pub(crate) struct Blocks {
+    // The place of the first block that is kept: it has the numbers from 64 times this on.
+    first: u64,
+    // A number's bit is set if the number is in the set.
+    blocks: VecDeque<u64>,
+}
+
+impl Model for Blocks {
+    ghost use Rattle.std.specs.Prelude.{◌+◌, ◌*◌, ◌^◌, ◌<◌};
+    ghost use Rattle.std.specs.VecDeque.{deque_len, deque_capacity};
+    ghost use Rattle.uring_number_set.specs.NumberSet.{NumberSet};
+
+    ghost Value = { NumberSet };
+
+    ghost view = { λ s. record {
+      first = s.first;
+      blocks = s.blocks.items;
+      limit = 64 * (s.first + deque_capacity s.blocks);
+    } };
+
+    ghost invariant = { λ s. 64 * (s.first + deque_len s.blocks) < 2 ^ 64 };
+}
+
+impl Blocks {
+    /// The empty set. It takes no memory.
+    pub(crate) fn new(alloc: Global) -> Blocks
+        ensures none { (i : ℕ) → block_at result i ≡ 0 }
+        ensures start { start_of result ≡ 0 }
+        ensures stop { stop_of result ≡ 0 }
+    {
+        Blocks {
+            first: 0,
+            blocks: VecDeque::new(alloc),
+        }
+    }
+
+    /// Asks for the memory of `count` numbers more than are covered.
+    pub(crate) fn reserve(&mut self, count: u64) -> Result<(), AllocError>
+        requires { count < 2 ^ 63 }
+        ensures ok { OnOk result (stop_of self.old + count ≤ self.new.limit) }
+        ensures same { IsSameSet self.old self.new }
+        ensures start { self.new.first ≡ self.old.first }
+        ensures stop { stop_of self.new ≡ stop_of self.old }
+    {
+        self.blocks.reserve((count / 64 + 1) as usize)
+    }
+
+    /// The place of the first block that is kept.
+    pub(crate) fn first(&self) -> u64
+        ensures { result ≡ self.now.first }
+    {
+        self.first
+    }
+
+    /// Covers the number `n`, which is at most the one behind those that are covered.
+    pub(crate) fn extend(&mut self, n: u64)
+        requires follows { n ≤ stop_of self.old }
+        requires room { n < self.old.limit }
+        requires fits { n < 2 ^ 63 }
+        ensures covered { n < stop_of self.new }
+        ensures longer { stop_of self.old ≤ stop_of self.new }
+        ensures no_more { (m : ℕ) → stop_of self.old ≤ 64 * m → n < 64 * m → stop_of self.new ≤ 64 * m }
+        ensures same { IsSameSet self.old self.new }
+        ensures start { self.new.first ≡ self.old.first }
+    {
+        if n / 64 >= self.first + self.blocks.len() as u64 {
+            self.blocks.push_back_reserved(0);
+        }
+    }
+
+    /// The block at this place.
+    pub(crate) fn block(&self, place: u64) -> u64
+        ensures value { result ≡ block_at self.now place }
+        ensures fits { 0 < result → 64 * place + 64 ≤ 2 ^ 64 }
+    {
+        block_of(self.first, &self.blocks, place)
+    }
+
+    /// Puts the number `n` into the set.
+    pub(crate) fn insert(&mut self, n: u64)
+        requires { Covers self.old n }
+        ensures { Puts self.old self.new n true }
+    {
+        let block = block_of(self.first, &self.blocks, n / 64) | (1u64 << (n % 64));
+        write(&mut self.blocks, (n / 64 - self.first) as usize, block);
+    }
+
+    /// Takes the number `n` out of the set.
+    pub(crate) fn remove(&mut self, n: u64)
+        requires { Covers self.old n }
+        ensures { Puts self.old self.new n false }
+    {
+        let block = block_of(self.first, &self.blocks, n / 64) & !(1u64 << (n % 64));
+        write(&mut self.blocks, (n / 64 - self.first) as usize, block);
+    }
+
+    /// The least number in the set.
+    pub(crate) fn least(&self) -> Option<u64>
+        ensures { MatchOption result ((n : ℕ) → holds self.now n ≡ false) (IsLeastIn self.now) }
+    {
+        let place = self.first_filled()?;
+        Some(lowest(place, self.block(place)))
+    }
+
+    /// The place of the first block that isn't zero.
+    fn first_filled(&self) -> Option<u64>
+        ensures { MatchOption result ((i : ℕ) → block_at self.now i ≡ 0) (IsFirstBlock self.now) }
+    {
+        match first_filled(&self.blocks) {
+            Some(place) => Some(self.first + place as u64),
+            None => None,
+        }
+    }
+
+    /// Drops blocks that are zero, from the front on, and below the number `n`.
+    pub(crate) fn drop_before(&mut self, n: u64)
+        ensures start { (m : ℕ) → start_of self.old ≤ m → n ≤ m → start_of self.new ≤ m }
+        ensures up { self.old.first ≤ self.new.first }
+        ensures stop { stop_of self.new ≡ stop_of self.old }
+        ensures same { IsSameSet self.old self.new }
+        ensures far { HasLetGo self.new.first self.new.blocks (n / 64) }
+    {
+        drop_zeros(&mut self.first, &mut self.blocks, n / 64);
+    }
+}
+
+/// The number of the lowest bit of a block that isn't zero.
+pub(crate) fn lowest(place: u64, block: u64) -> u64
+    requires some { 0 < block }
+    requires fits { 64 * place + 64 ≤ 2 ^ 64 }
+    ensures { result ≡ 64 * place + trailing_zeros w64 block }
+{
+    64 * place + block.trailing_zeros() as u64
+}
+
+/// The block at this place, or zero.
+fn block_of(first: u64, blocks: &VecDeque<u64>, place: u64) -> u64
+    ensures { result ≡ block_of first blocks.now.items place }
+{
+    if place < first {
+        return 0;
+    }
+    match blocks.get((place - first) as usize) {
+        Some(block) => *block,
+        None => 0,
+    }
+}
+
+/// Writes a block.
+fn write(blocks: &mut VecDeque<u64>, place: usize, block: u64)
+    requires { place < deque_len blocks.old }
+    ensures items { blocks.new.items ≡ slice_set blocks.old.items place block }
+    ensures len { deque_len blocks.new ≡ deque_len blocks.old }
+    ensures capacity { deque_capacity blocks.new ≡ deque_capacity blocks.old }
+{
+    blocks[place] = block;
+}
+
+/// The place of the first block that isn't zero.
+fn first_filled(blocks: &VecDeque<u64>) -> Option<usize>
+    ensures { MatchOption result ((k : ℕ) → slice_index_or blocks.now.items k 0 ≡ 0) (IsFirstFilled blocks.now.items) }
+{
+    for place in 0..blocks.len() {
+        if blocks[place] != 0 {
+            return Some(place);
+        }
+    }
+    None
+}
+
+/// Drops blocks that are zero from the front on, up to this place.
+fn drop_zeros(first: &mut u64, blocks: &mut VecDeque<u64>, place: u64)
+    ensures start { (m : ℕ) → first.old ≤ m → place ≤ m → first.new ≤ m }
+    ensures same { (i : ℕ) → block_of first.new blocks.new.items i ≡ block_of first.old blocks.old.items i }
+    ensures stop { first.new + deque_len blocks.new ≡ first.old + deque_len blocks.old }
+    ensures longer { first.old ≤ first.new }
+    ensures far { HasLetGo first.new blocks.new.items place }
+    ensures capacity { deque_capacity blocks.new ≡ deque_capacity blocks.old }
+{
+    while *first < place {
+        let Some(0) = blocks.front() else {
+            return;
+        };
+        blocks.pop_front();
+        *first += 1;
+    }
+}

@@ -1,0 +1,119 @@
+//! A set of numbers that gives its least one at once.
+
+ghost use Rattle.std.specs.Prelude.{◌≡◌, ℕ, ◌+◌, ◌^◌, ◌<◌, ◌≤◌, true, false, OnOk, MatchOption};
+ghost use Rattle.uring_number_set.specs.NumberSet.{holds, start_of, stop_of, Covers, Puts, IsLeastIn, HasSame, HasGrown, HasMoved};
+
+use crate::blocks::{Blocks, lowest};
+use std::alloc::{AllocError, Global};
+use std::marker::Model;
+
+/// A set of numbers in a window that moves up: our own structure. It keeps blocks, each with the bits of 64 numbers, and the set of those blocks that aren't empty.
+///
+/// It covers the numbers of its window, from one multiple of 64 on and below another; only a number that is covered can be in it. `reserve` alone takes memory.
+#[derive(Drop)]
+pub struct NumberSet {
+    numbers: Blocks,
+    // The places of the blocks in which a number is.
+    filled: Blocks,
+}
+
+impl Model for NumberSet {
+    ghost use Rattle.std.specs.Prelude.{◌*◌, min};
+    ghost use Rattle.uring_number_set.specs.NumberSet.{NumberSet as Numbers, IsFilled};
+
+    ghost Value = { Numbers };
+
+    ghost view = { λ s. record {
+      first = s.numbers.first;
+      blocks = s.numbers.blocks;
+      limit = min s.numbers.limit (64 * s.filled.limit);
+    } };
+
+    ghost invariant = { λ s. IsFilled s.numbers s.filled };
+}
+
+impl NumberSet {
+    /// The empty set, which covers no number. It takes no memory.
+    pub fn new(alloc: Global) -> NumberSet
+        ensures none { (n : ℕ) → holds result n ≡ false }
+        ensures start { start_of result ≡ 0 }
+        ensures stop { stop_of result ≡ 0 }
+    {
+        NumberSet {
+            numbers: Blocks::new(alloc),
+            filled: Blocks::new(alloc),
+        }
+    }
+
+    /// Asks for the memory of `count` numbers more than are covered, fewer than 2^63. The only error is that memory for them was refused. What is in the set and what it covers stay as they were, and no memory is given back, also then.
+    pub fn reserve(&mut self, count: u64) -> Result<(), AllocError>
+        requires { count < 2 ^ 63 }
+        ensures ok { OnOk result (stop_of self.old + count ≤ self.new.limit) }
+        ensures same { HasSame self.old self.new }
+    {
+        self.filled.reserve(count / 64 + 2)?;
+        self.numbers.reserve(count)
+    }
+
+    /// Covers the number `n`, which is at most the one behind those that are covered, and below 2^63. There has to be memory for it, as `reserve` gives. No number comes into the set or leaves it.
+    pub fn extend(&mut self, n: u64)
+        requires follows { n ≤ stop_of self.old }
+        requires room { n < self.old.limit }
+        requires fits { n < 2 ^ 63 }
+        ensures { HasGrown self.old self.new n }
+    {
+        self.numbers.extend(n);
+        self.filled.extend(n / 64);
+    }
+
+    /// Puts the number `n` into the set.
+    fn insert(&mut self, n: u64)
+        requires { Covers self.old n }
+        ensures { Puts self.old self.new n true }
+    {
+        self.numbers.insert(n);
+        self.filled.insert(n / 64);
+    }
+
+    /// Takes the number `n` out of the set.
+    fn remove(&mut self, n: u64)
+        requires { Covers self.old n }
+        ensures { Puts self.old self.new n false }
+    {
+        if self.numbers.block(n / 64) == 0 {
+            return;
+        }
+        self.numbers.remove(n);
+        if self.numbers.block(n / 64) == 0 {
+            self.filled.remove(n / 64);
+        }
+    }
+
+    /// Puts the number `n`, which is covered, into the set if `is_in` holds, and takes it out otherwise. Every other number stays as it was.
+    pub fn put(&mut self, n: u64, is_in: bool)
+        requires { Covers self.old n }
+        ensures { Puts self.old self.new n is_in }
+    {
+        if is_in {
+            self.insert(n);
+        } else {
+            self.remove(n);
+        }
+    }
+
+    /// The least number in the set: `None` exactly if none is in it. It looks once at each 4,096 numbers that are covered, up to the least.
+    pub fn least(&self) -> Option<u64>
+        ensures { MatchOption result ((n : ℕ) → holds self.now n ≡ false) (IsLeastIn self.now) }
+    {
+        let place = self.filled.least()?;
+        Some(lowest(place, self.numbers.block(place)))
+    }
+
+    /// Lets go what is kept for numbers before `n`, any number, 64 at a time, as far as none of them is in the set. No number leaves the set, and those from `n` on that are covered stay so.
+    pub fn drop_before(&mut self, n: u64)
+        ensures { HasMoved self.old self.new n }
+    {
+        self.numbers.drop_before(n);
+        self.filled.drop_before(self.numbers.first());
+    }
+}
