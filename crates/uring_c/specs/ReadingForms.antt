@@ -12,7 +12,13 @@ words_of_completion c = record { user_data = c.user_data; res = c.res; bytes = c
 
 -- the counts that words tell
 abbrev pub counts_told : CountWords → Counts
-counts_told w = record { accepted = w.accepted; outstanding = w.outstanding; running = w.running; posted = w.posted; reaped = w.reaped }
+counts_told w = record {
+  accepted = w.accepted;
+  outstanding = w.outstanding;
+  running = w.running;
+  posted = w.posted;
+  reaped = w.reaped;
+}
 
 -- the words of how a file stands
 abbrev pub words_of_state : FileState → StateWords

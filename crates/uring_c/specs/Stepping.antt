@@ -17,7 +17,8 @@ pub record SteppedApart (s : Step) (a : Answer) (old new : Core) : Type 0 where
   pub setup : new.setup ≡ old.setup
   pub fits : (h : History) → FitsApart old h → FitsApart new ((s, a) ∷ h)
   -- Again comes only if memory is short, and memory that was once had is never refused again
-  pub again : (h : History) → FitsApart old h → a ≡ answer.Again → IsShortOfMemory old (world old.setup h) s
+  pub again : (h : History) → FitsApart old h → a ≡ answer.Again
+      → IsShortOfMemory old (world old.setup h) s
   pub memory : HasNoLessMemory old new
 
 -- A core was told how this request ended, and answered so: the request ends with that outcome exactly if it was running.
@@ -33,7 +34,8 @@ pub record Stepped (s : Step) (a : Answer) (old new : Machine) : Type 0 where
   pub fits : (h : History) → Fits old h → Fits new ((s, a) ∷ h)
   pub called : (h : History) → Fits old h → CalledFor old.core.setup (world old.core.setup h) s a
   -- Again comes only if memory is short, and memory that was once had is never refused again
-  pub again : (h : History) → Fits old h → a ≡ answer.Again → IsShortOfMemory old.core (world old.core.setup h) s
+  pub again : (h : History) → Fits old h → a ≡ answer.Again
+      → IsShortOfMemory old.core (world old.core.setup h) s
   pub memory : HasNoLessMemory old.core new.core
 
 -- The core of a place has made this step, and these words tell its answer.

@@ -11,7 +11,12 @@ use Rattle.uring_entry.specs.declared.why.Since.TheVariants.{SameGroup, ItDrains
 use Rattle.uring_c.specs.declared.why_words.WhyWords.{WhyWords}
 
 abbrev pub told : (kind reason fault number : ℕ) → WhyWords
-told kind reason fault number = record { number = number; kind = kind; reason = reason; fault = fault }
+told kind reason fault number = record {
+  number = number;
+  kind = kind;
+  reason = reason;
+  fault = fault;
+}
 
 abbrev pub word_of_fault : Fault → ℕ
 word_of_fault Flags = 1

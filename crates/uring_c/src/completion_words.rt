@@ -21,7 +21,8 @@ pub struct OutcomeBytes {
 
 /// The words of a completion.
 pub(crate) fn completion_words(completion: &Cqe) -> CompletionWords
-    ensures { result ≡ record { user_data = completion.now.user_data; res = completion.now.res; bytes = completion.now.payload } }
+    ensures { result
+        ≡ record { user_data = completion.now.user_data; res = completion.now.res; bytes = completion.now.payload } }
 {
     CompletionWords {
         user_data: completion.user_data(),

@@ -24,7 +24,8 @@ impl CorePlace {
     pub(crate) fn step(&mut self, alloc: Global, step: Step) -> Answer
         requires full { IsSome (core_in self.old) }
         requires no_finish { IsNoFinish step }
-        ensures { IsSomeAnd (core_in self.old) (λ old. IsSomeAnd (core_in self.new) (SteppedApart step result old)) }
+        ensures { IsSomeAnd (core_in self.old)
+            (λ old. IsSomeAnd (core_in self.new) (SteppedApart step result old)) }
     {
         let Some(mut core) = self.take(alloc) else {
             unreachable!()
@@ -37,7 +38,8 @@ impl CorePlace {
     /// Ends a running request with an outcome from outside.
     pub(crate) fn finish(&mut self, alloc: Global, number: u64, outcome: Outcome) -> Answer
         requires { IsSome (core_in self.old) }
-        ensures { IsSomeAnd (core_in self.old) (λ old. IsSomeAnd (core_in self.new) (FinishedApart number outcome result old)) }
+        ensures { IsSomeAnd (core_in self.old)
+            (λ old. IsSomeAnd (core_in self.new) (FinishedApart number outcome result old)) }
     {
         let Some(mut core) = self.take(alloc) else {
             unreachable!()
@@ -51,7 +53,8 @@ impl CorePlace {
     pub(crate) fn counts(&mut self, alloc: Global) -> Counts
         requires { IsSome (core_in self.old) }
         ensures kept { core_in self.new ≡ core_in self.old }
-        ensures counts { IsSomeAnd (core_in self.old) (λ core. (h : History) → FitsApart core h → IsCounts (world core.setup h) result) }
+        ensures counts { IsSomeAnd (core_in self.old)
+            (λ core. (h : History) → FitsApart core h → IsCounts (world core.setup h) result) }
     {
         let Some(core) = self.take(alloc) else {
             unreachable!()
@@ -65,7 +68,9 @@ impl CorePlace {
     pub(crate) fn rest(&mut self, alloc: Global, place: u64) -> Option<Cqe>
         requires { IsSome (core_in self.old) }
         ensures kept { core_in self.new ≡ core_in self.old }
-        ensures completion { IsSomeAnd (core_in self.old) (λ core. (h : History) → FitsApart core h → result ≡ slice_get (unreaped (world core.setup h).completions) place) }
+        ensures completion { IsSomeAnd (core_in self.old)
+            (λ core. (h : History) → FitsApart core h
+            → result ≡ slice_get (unreaped (world core.setup h).completions) place) }
     {
         let Some(core) = self.take(alloc) else {
             unreachable!()
@@ -79,7 +84,9 @@ impl CorePlace {
     pub(crate) fn least(&mut self, alloc: Global) -> Option<u64>
         requires { IsSome (core_in self.old) }
         ensures kept { core_in self.new ≡ core_in self.old }
-        ensures least { IsSomeAnd (core_in self.old) (λ core. (h : History) → FitsApart core h → result ≡ least_of (world core.setup h).requests) }
+        ensures least { IsSomeAnd (core_in self.old)
+            (λ core. (h : History) → FitsApart core h
+            → result ≡ least_of (world core.setup h).requests) }
     {
         let Some(core) = self.take(alloc) else {
             unreachable!()
@@ -93,7 +100,9 @@ impl CorePlace {
     pub(crate) fn running_op(&mut self, alloc: Global, number: u64) -> Option<Op>
         requires { IsSome (core_in self.old) }
         ensures kept { core_in self.new ≡ core_in self.old }
-        ensures operation { IsSomeAnd (core_in self.old) (λ core. (h : History) → FitsApart core h → result ≡ operation_running (world core.setup h).requests number) }
+        ensures operation { IsSomeAnd (core_in self.old)
+            (λ core. (h : History) → FitsApart core h
+            → result ≡ operation_running (world core.setup h).requests number) }
     {
         let Some(core) = self.take(alloc) else {
             unreachable!()
@@ -107,7 +116,9 @@ impl CorePlace {
     pub(crate) fn why(&mut self, alloc: Global, number: u64) -> Why
         requires { IsSome (core_in self.old) }
         ensures kept { core_in self.new ≡ core_in self.old }
-        ensures why { IsSomeAnd (core_in self.old) (λ core. (h : History) → FitsApart core h → result ≡ why_of (world core.setup h).requests number) }
+        ensures why { IsSomeAnd (core_in self.old)
+            (λ core. (h : History) → FitsApart core h
+            → result ≡ why_of (world core.setup h).requests number) }
     {
         let Some(core) = self.take(alloc) else {
             unreachable!()

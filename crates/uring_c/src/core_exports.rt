@@ -35,7 +35,9 @@ pub extern "C" fn wulgach_core_new(alloc: Global, place: &mut CorePlace, setup: 
     ensures refused { (result ≡ neg_ℤ EINVAL) ↔ IsRefused setup.now }
     ensures results { (result ≡ pos 0 → ⊥) → (result ≡ neg_ℤ EINVAL → ⊥) → result ≡ neg_ℤ ENOMEM }
     ensures kept { (result ≡ pos 0 → ⊥) → core_in place.new ≡ core_in place.old }
-    ensures made { result ≡ pos 0 → IsSomeAnd (core_in place.new) (λ core. IsAskedFor setup.now core.setup × FitsApart core []) }
+    ensures made { result ≡ pos 0
+        → IsSomeAnd (core_in place.new)
+        (λ core. IsAskedFor setup.now core.setup × FitsApart core []) }
 {
     let Some(setup) = setup.set_up() else {
         return -errno::EINVAL;
@@ -56,9 +58,14 @@ pub extern "C" fn wulgach_core_step(
     answer: &mut AnswerWords,
 ) -> i32
     ensures empty { (result ≡ neg_ℤ EBADF) ↔ (core_in place.old ≡ None) }
-    ensures no_step { (result ≡ neg_ℤ EINVAL) ↔ (IsSome (core_in place.old) × (core_step_of step.now ≡ None)) }
-    ensures kept { (result ≡ pos 0 → ⊥) → (core_in place.new ≡ core_in place.old) × (answer.new ≡ answer.old) }
-    ensures made { IsSome (core_in place.old) → IfSome (core_step_of step.now) (λ s. (result ≡ pos 0) × TellsStepApart s (core_in place.old) (core_in place.new) answer.new) }
+    ensures no_step { (result ≡ neg_ℤ EINVAL)
+        ↔ (IsSome (core_in place.old) × (core_step_of step.now ≡ None)) }
+    ensures kept { (result ≡ pos 0 → ⊥)
+        → (core_in place.new ≡ core_in place.old) × (answer.new ≡ answer.old) }
+    ensures made { IsSome (core_in place.old)
+        → IfSome (core_step_of step.now)
+        (λ s. (result ≡ pos 0)
+        × TellsStepApart s (core_in place.old) (core_in place.new) answer.new) }
 {
     if !place.is_full {
         return -errno::EBADF;
@@ -81,8 +88,12 @@ pub extern "C" fn wulgach_core_finish(
     answer: &mut AnswerWords,
 ) -> i32
     ensures empty { (result ≡ neg_ℤ EBADF) ↔ (core_in place.old ≡ None) }
-    ensures kept { core_in place.old ≡ None → (core_in place.new ≡ None) × (answer.new ≡ answer.old) }
-    ensures made { IsSome (core_in place.old) → (result ≡ pos 0) × TellsFinish number (record { res = res; bytes = bytes.now.bytes }) (core_in place.old) (core_in place.new) answer.new }
+    ensures kept { core_in place.old ≡ None
+        → (core_in place.new ≡ None) × (answer.new ≡ answer.old) }
+    ensures made { IsSome (core_in place.old)
+        → (result ≡ pos 0)
+        × TellsFinish number (record { res = res; bytes = bytes.now.bytes }) (core_in place.old)
+        (core_in place.new) answer.new }
 {
     if !place.is_full {
         return -errno::EBADF;
@@ -104,7 +115,9 @@ pub extern "C" fn wulgach_core_counts(
 ) -> i32
     ensures empty { (result ≡ neg_ℤ EBADF) ↔ (core_in place.old ≡ None) }
     ensures kept { core_in place.new ≡ core_in place.old }
-    ensures counts { IfSome (core_in place.old) (λ core. (result ≡ pos 0) × ((h : History) → FitsApart core h → IsCounts (world core.setup h) (counts_told counts.new))) }
+    ensures counts { IfSome (core_in place.old)
+        (λ core. (result ≡ pos 0)
+        × ((h : History) → FitsApart core h → IsCounts (world core.setup h) (counts_told counts.new))) }
 {
     if !place.is_full {
         return -errno::EBADF;
@@ -123,7 +136,9 @@ pub extern "C" fn wulgach_core_rest(
 ) -> i32
     ensures empty { (result ≡ neg_ℤ EBADF) ↔ (core_in place.old ≡ None) }
     ensures kept { core_in place.new ≡ core_in place.old }
-    ensures completion { IfSome (core_in place.old) (λ core. (h : History) → FitsApart core h → MatchOption (slice_get (unreaped (world core.setup h).completions) index) ((result ≡ neg_ℤ ENOENT) × (completion.new ≡ completion.old)) (λ c. (result ≡ pos 0) × (completion.new ≡ words_of_completion c))) }
+    ensures completion { IfSome (core_in place.old)
+        (λ core. (h : History) → FitsApart core h
+        → MatchOption (slice_get (unreaped (world core.setup h).completions) index) ((result ≡ neg_ℤ ENOENT) × (completion.new ≡ completion.old)) (λ c. (result ≡ pos 0) × (completion.new ≡ words_of_completion c))) }
 {
     if !place.is_full {
         return -errno::EBADF;
@@ -140,7 +155,9 @@ pub extern "C" fn wulgach_core_rest(
 pub extern "C" fn wulgach_core_least(alloc: Global, place: &mut CorePlace, number: &mut u64) -> i32
     ensures empty { (result ≡ neg_ℤ EBADF) ↔ (core_in place.old ≡ None) }
     ensures kept { core_in place.new ≡ core_in place.old }
-    ensures least { IfSome (core_in place.old) (λ core. (h : History) → FitsApart core h → MatchOption (least_of (world core.setup h).requests) ((result ≡ neg_ℤ ENOENT) × (number.new ≡ number.old)) (λ least. (result ≡ pos 0) × (number.new ≡ least))) }
+    ensures least { IfSome (core_in place.old)
+        (λ core. (h : History) → FitsApart core h
+        → MatchOption (least_of (world core.setup h).requests) ((result ≡ neg_ℤ ENOENT) × (number.new ≡ number.old)) (λ least. (result ≡ pos 0) × (number.new ≡ least))) }
 {
     if !place.is_full {
         return -errno::EBADF;
@@ -162,7 +179,9 @@ pub extern "C" fn wulgach_core_running_op(
 ) -> i32
     ensures empty { (result ≡ neg_ℤ EBADF) ↔ (core_in place.old ≡ None) }
     ensures kept { core_in place.new ≡ core_in place.old }
-    ensures operation { IfSome (core_in place.old) (λ core. (h : History) → FitsApart core h → MatchOption (operation_running (world core.setup h).requests number) ((result ≡ neg_ℤ ENOENT) × (operation.new ≡ operation.old)) (λ op. (result ≡ pos 0) × (operation.new ≡ words_of_operation op))) }
+    ensures operation { IfSome (core_in place.old)
+        (λ core. (h : History) → FitsApart core h
+        → MatchOption (operation_running (world core.setup h).requests number) ((result ≡ neg_ℤ ENOENT) × (operation.new ≡ operation.old)) (λ op. (result ≡ pos 0) × (operation.new ≡ words_of_operation op))) }
 {
     if !place.is_full {
         return -errno::EBADF;
@@ -185,7 +204,9 @@ pub extern "C" fn wulgach_core_why(
     ensures empty { (result ≡ neg_ℤ EBADF) ↔ (core_in place.old ≡ None) }
     ensures kept { core_in place.new ≡ core_in place.old }
     ensures refused { core_in place.old ≡ None → why.new ≡ why.old }
-    ensures why { IfSome (core_in place.old) (λ core. (result ≡ pos 0) × ((h : History) → FitsApart core h → why.new ≡ words_of_why (why_of (world core.setup h).requests number))) }
+    ensures why { IfSome (core_in place.old)
+        (λ core. (result ≡ pos 0)
+        × ((h : History) → FitsApart core h → why.new ≡ words_of_why (why_of (world core.setup h).requests number))) }
 {
     if !place.is_full {
         return -errno::EBADF;

@@ -16,7 +16,8 @@ pub struct CountWords {
 
 /// The words of counts.
 pub(crate) fn count_words(counts: &Counts) -> CountWords
-    ensures { result ≡ record { accepted = counts.now.accepted; outstanding = counts.now.outstanding; running = counts.now.running; posted = counts.now.posted; reaped = counts.now.reaped } }
+    ensures { result
+        ≡ record { accepted = counts.now.accepted; outstanding = counts.now.outstanding; running = counts.now.running; posted = counts.now.posted; reaped = counts.now.reaped } }
 {
     CountWords {
         accepted: counts.accepted,

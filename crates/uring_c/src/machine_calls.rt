@@ -17,7 +17,8 @@ use uring_machine::{Answer, Counts, Cqe, FileState, Machine, Op, Setup, Step, Wh
 
 /// A new machine, in a box. `AllocError`: out of memory.
 pub(crate) fn new_machine(alloc: Global, setup: &Setup) -> Result<Box<Machine, Global>, AllocError>
-    ensures { IfOk result (λ machine. (machine.value.core.setup ≡ setup.now) × Fits machine.value []) }
+    ensures { IfOk result
+        (λ machine. (machine.value.core.setup ≡ setup.now) × Fits machine.value []) }
 {
     Ok(Box::new(alloc, Machine::new(alloc, setup)?)?)
 }
@@ -26,7 +27,8 @@ impl MachinePlace {
     /// Makes one step.
     pub(crate) fn step(&mut self, alloc: Global, step: Step) -> Answer
         requires { IsSome (machine_in self.old) }
-        ensures { IsSomeAnd (machine_in self.old) (λ old. IsSomeAnd (machine_in self.new) (Stepped step result old)) }
+        ensures { IsSomeAnd (machine_in self.old)
+            (λ old. IsSomeAnd (machine_in self.new) (Stepped step result old)) }
     {
         let Some(mut machine) = self.take(alloc) else {
             unreachable!()
@@ -40,7 +42,9 @@ impl MachinePlace {
     pub(crate) fn counts(&mut self, alloc: Global) -> Counts
         requires { IsSome (machine_in self.old) }
         ensures kept { machine_in self.new ≡ machine_in self.old }
-        ensures counts { IsSomeAnd (machine_in self.old) (λ machine. (h : History) → Fits machine h → IsCounts (world machine.core.setup h) result) }
+        ensures counts { IsSomeAnd (machine_in self.old)
+            (λ machine. (h : History) → Fits machine h
+            → IsCounts (world machine.core.setup h) result) }
     {
         let Some(machine) = self.take(alloc) else {
             unreachable!()
@@ -54,7 +58,9 @@ impl MachinePlace {
     pub(crate) fn rest(&mut self, alloc: Global, place: u64) -> Option<Cqe>
         requires { IsSome (machine_in self.old) }
         ensures kept { machine_in self.new ≡ machine_in self.old }
-        ensures completion { IsSomeAnd (machine_in self.old) (λ machine. (h : History) → Fits machine h → result ≡ slice_get (unreaped (world machine.core.setup h).completions) place) }
+        ensures completion { IsSomeAnd (machine_in self.old)
+            (λ machine. (h : History) → Fits machine h
+            → result ≡ slice_get (unreaped (world machine.core.setup h).completions) place) }
     {
         let Some(machine) = self.take(alloc) else {
             unreachable!()
@@ -68,7 +74,9 @@ impl MachinePlace {
     pub(crate) fn least(&mut self, alloc: Global) -> Option<u64>
         requires { IsSome (machine_in self.old) }
         ensures kept { machine_in self.new ≡ machine_in self.old }
-        ensures least { IsSomeAnd (machine_in self.old) (λ machine. (h : History) → Fits machine h → result ≡ least_of (world machine.core.setup h).requests) }
+        ensures least { IsSomeAnd (machine_in self.old)
+            (λ machine. (h : History) → Fits machine h
+            → result ≡ least_of (world machine.core.setup h).requests) }
     {
         let Some(machine) = self.take(alloc) else {
             unreachable!()
@@ -82,7 +90,9 @@ impl MachinePlace {
     pub(crate) fn running_op(&mut self, alloc: Global, number: u64) -> Option<Op>
         requires { IsSome (machine_in self.old) }
         ensures kept { machine_in self.new ≡ machine_in self.old }
-        ensures operation { IsSomeAnd (machine_in self.old) (λ machine. (h : History) → Fits machine h → result ≡ operation_running (world machine.core.setup h).requests number) }
+        ensures operation { IsSomeAnd (machine_in self.old)
+            (λ machine. (h : History) → Fits machine h
+            → result ≡ operation_running (world machine.core.setup h).requests number) }
     {
         let Some(machine) = self.take(alloc) else {
             unreachable!()
@@ -96,7 +106,9 @@ impl MachinePlace {
     pub(crate) fn why(&mut self, alloc: Global, number: u64) -> Why
         requires { IsSome (machine_in self.old) }
         ensures kept { machine_in self.new ≡ machine_in self.old }
-        ensures why { IsSomeAnd (machine_in self.old) (λ machine. (h : History) → Fits machine h → result ≡ why_of (world machine.core.setup h).requests number) }
+        ensures why { IsSomeAnd (machine_in self.old)
+            (λ machine. (h : History) → Fits machine h
+            → result ≡ why_of (world machine.core.setup h).requests number) }
     {
         let Some(machine) = self.take(alloc) else {
             unreachable!()
@@ -110,7 +122,9 @@ impl MachinePlace {
     pub(crate) fn state(&mut self, alloc: Global, fd: i32) -> Option<FileState>
         requires { IsSome (machine_in self.old) }
         ensures kept { machine_in self.new ≡ machine_in self.old }
-        ensures state { IsSomeAnd (machine_in self.old) (λ machine. (h : History) → Fits machine h → result ≡ state_of (files_of machine.core.setup (world machine.core.setup h)) fd) }
+        ensures state { IsSomeAnd (machine_in self.old)
+            (λ machine. (h : History) → Fits machine h
+            → result ≡ state_of (files_of machine.core.setup (world machine.core.setup h)) fd) }
     {
         let Some(machine) = self.take(alloc) else {
             unreachable!()
@@ -124,7 +138,9 @@ impl MachinePlace {
     pub(crate) fn byte(&mut self, alloc: Global, fd: i32, at: u64) -> Option<u8>
         requires { IsSome (machine_in self.old) }
         ensures kept { machine_in self.new ≡ machine_in self.old }
-        ensures byte { IsSomeAnd (machine_in self.old) (λ machine. (h : History) → Fits machine h → result ≡ byte_of (files_of machine.core.setup (world machine.core.setup h)) fd at) }
+        ensures byte { IsSomeAnd (machine_in self.old)
+            (λ machine. (h : History) → Fits machine h
+            → result ≡ byte_of (files_of machine.core.setup (world machine.core.setup h)) fd at) }
     {
         let Some(machine) = self.take(alloc) else {
             unreachable!()

@@ -42,7 +42,9 @@ pub extern "C" fn wulgach_machine_new(
     ensures refused { (result ≡ neg_ℤ EINVAL) ↔ IsRefused setup.now }
     ensures results { (result ≡ pos 0 → ⊥) → (result ≡ neg_ℤ EINVAL → ⊥) → result ≡ neg_ℤ ENOMEM }
     ensures kept { (result ≡ pos 0 → ⊥) → machine_in place.new ≡ machine_in place.old }
-    ensures made { result ≡ pos 0 → IsSomeAnd (machine_in place.new) (λ machine. IsAskedFor setup.now machine.core.setup × Fits machine []) }
+    ensures made { result ≡ pos 0
+        → IsSomeAnd (machine_in place.new)
+        (λ machine. IsAskedFor setup.now machine.core.setup × Fits machine []) }
 {
     let Some(setup) = setup.set_up() else {
         return -errno::EINVAL;
@@ -63,9 +65,14 @@ pub extern "C" fn wulgach_machine_step(
     answer: &mut AnswerWords,
 ) -> i32
     ensures empty { (result ≡ neg_ℤ EBADF) ↔ (machine_in place.old ≡ None) }
-    ensures no_step { (result ≡ neg_ℤ EINVAL) ↔ (IsSome (machine_in place.old) × (step_of step.now ≡ None)) }
-    ensures kept { (result ≡ pos 0 → ⊥) → (machine_in place.new ≡ machine_in place.old) × (answer.new ≡ answer.old) }
-    ensures made { IsSome (machine_in place.old) → IfSome (step_of step.now) (λ s. (result ≡ pos 0) × TellsStep s (machine_in place.old) (machine_in place.new) answer.new) }
+    ensures no_step { (result ≡ neg_ℤ EINVAL)
+        ↔ (IsSome (machine_in place.old) × (step_of step.now ≡ None)) }
+    ensures kept { (result ≡ pos 0 → ⊥)
+        → (machine_in place.new ≡ machine_in place.old) × (answer.new ≡ answer.old) }
+    ensures made { IsSome (machine_in place.old)
+        → IfSome (step_of step.now)
+        (λ s. (result ≡ pos 0)
+        × TellsStep s (machine_in place.old) (machine_in place.new) answer.new) }
 {
     if !place.is_full {
         return -errno::EBADF;
@@ -86,7 +93,9 @@ pub extern "C" fn wulgach_machine_counts(
 ) -> i32
     ensures empty { (result ≡ neg_ℤ EBADF) ↔ (machine_in place.old ≡ None) }
     ensures kept { machine_in place.new ≡ machine_in place.old }
-    ensures counts { IfSome (machine_in place.old) (λ machine. (result ≡ pos 0) × ((h : History) → Fits machine h → IsCounts (world machine.core.setup h) (counts_told counts.new))) }
+    ensures counts { IfSome (machine_in place.old)
+        (λ machine. (result ≡ pos 0)
+        × ((h : History) → Fits machine h → IsCounts (world machine.core.setup h) (counts_told counts.new))) }
 {
     if !place.is_full {
         return -errno::EBADF;
@@ -105,7 +114,9 @@ pub extern "C" fn wulgach_machine_rest(
 ) -> i32
     ensures empty { (result ≡ neg_ℤ EBADF) ↔ (machine_in place.old ≡ None) }
     ensures kept { machine_in place.new ≡ machine_in place.old }
-    ensures completion { IfSome (machine_in place.old) (λ machine. (h : History) → Fits machine h → MatchOption (slice_get (unreaped (world machine.core.setup h).completions) index) ((result ≡ neg_ℤ ENOENT) × (completion.new ≡ completion.old)) (λ c. (result ≡ pos 0) × (completion.new ≡ words_of_completion c))) }
+    ensures completion { IfSome (machine_in place.old)
+        (λ machine. (h : History) → Fits machine h
+        → MatchOption (slice_get (unreaped (world machine.core.setup h).completions) index) ((result ≡ neg_ℤ ENOENT) × (completion.new ≡ completion.old)) (λ c. (result ≡ pos 0) × (completion.new ≡ words_of_completion c))) }
 {
     if !place.is_full {
         return -errno::EBADF;
@@ -126,7 +137,9 @@ pub extern "C" fn wulgach_machine_least(
 ) -> i32
     ensures empty { (result ≡ neg_ℤ EBADF) ↔ (machine_in place.old ≡ None) }
     ensures kept { machine_in place.new ≡ machine_in place.old }
-    ensures least { IfSome (machine_in place.old) (λ machine. (h : History) → Fits machine h → MatchOption (least_of (world machine.core.setup h).requests) ((result ≡ neg_ℤ ENOENT) × (number.new ≡ number.old)) (λ least. (result ≡ pos 0) × (number.new ≡ least))) }
+    ensures least { IfSome (machine_in place.old)
+        (λ machine. (h : History) → Fits machine h
+        → MatchOption (least_of (world machine.core.setup h).requests) ((result ≡ neg_ℤ ENOENT) × (number.new ≡ number.old)) (λ least. (result ≡ pos 0) × (number.new ≡ least))) }
 {
     if !place.is_full {
         return -errno::EBADF;
@@ -148,7 +161,9 @@ pub extern "C" fn wulgach_machine_running_op(
 ) -> i32
     ensures empty { (result ≡ neg_ℤ EBADF) ↔ (machine_in place.old ≡ None) }
     ensures kept { machine_in place.new ≡ machine_in place.old }
-    ensures operation { IfSome (machine_in place.old) (λ machine. (h : History) → Fits machine h → MatchOption (operation_running (world machine.core.setup h).requests number) ((result ≡ neg_ℤ ENOENT) × (operation.new ≡ operation.old)) (λ op. (result ≡ pos 0) × (operation.new ≡ words_of_operation op))) }
+    ensures operation { IfSome (machine_in place.old)
+        (λ machine. (h : History) → Fits machine h
+        → MatchOption (operation_running (world machine.core.setup h).requests number) ((result ≡ neg_ℤ ENOENT) × (operation.new ≡ operation.old)) (λ op. (result ≡ pos 0) × (operation.new ≡ words_of_operation op))) }
 {
     if !place.is_full {
         return -errno::EBADF;
@@ -170,7 +185,9 @@ pub extern "C" fn wulgach_machine_state(
 ) -> i32
     ensures empty { (result ≡ neg_ℤ EBADF) ↔ (machine_in place.old ≡ None) }
     ensures kept { machine_in place.new ≡ machine_in place.old }
-    ensures state { IfSome (machine_in place.old) (λ machine. (h : History) → Fits machine h → MatchOption (state_of (files_of machine.core.setup (world machine.core.setup h)) fd) ((result ≡ neg_ℤ ENOENT) × (state.new ≡ state.old)) (λ s. (result ≡ pos 0) × (state.new ≡ words_of_state s))) }
+    ensures state { IfSome (machine_in place.old)
+        (λ machine. (h : History) → Fits machine h
+        → MatchOption (state_of (files_of machine.core.setup (world machine.core.setup h)) fd) ((result ≡ neg_ℤ ENOENT) × (state.new ≡ state.old)) (λ s. (result ≡ pos 0) × (state.new ≡ words_of_state s))) }
 {
     if !place.is_full {
         return -errno::EBADF;
@@ -193,7 +210,9 @@ pub extern "C" fn wulgach_machine_byte(
 ) -> i32
     ensures empty { (result ≡ neg_ℤ EBADF) ↔ (machine_in place.old ≡ None) }
     ensures kept { machine_in place.new ≡ machine_in place.old }
-    ensures byte { IfSome (machine_in place.old) (λ machine. (h : History) → Fits machine h → MatchOption (byte_of (files_of machine.core.setup (world machine.core.setup h)) fd at) ((result ≡ neg_ℤ ENOENT) × (byte.new ≡ byte.old)) (λ b. (result ≡ pos 0) × (byte.new ≡ b))) }
+    ensures byte { IfSome (machine_in place.old)
+        (λ machine. (h : History) → Fits machine h
+        → MatchOption (byte_of (files_of machine.core.setup (world machine.core.setup h)) fd at) ((result ≡ neg_ℤ ENOENT) × (byte.new ≡ byte.old)) (λ b. (result ≡ pos 0) × (byte.new ≡ b))) }
 {
     if !place.is_full {
         return -errno::EBADF;
@@ -216,7 +235,9 @@ pub extern "C" fn wulgach_machine_why(
     ensures empty { (result ≡ neg_ℤ EBADF) ↔ (machine_in place.old ≡ None) }
     ensures kept { machine_in place.new ≡ machine_in place.old }
     ensures refused { machine_in place.old ≡ None → why.new ≡ why.old }
-    ensures why { IfSome (machine_in place.old) (λ machine. (result ≡ pos 0) × ((h : History) → Fits machine h → why.new ≡ words_of_why (why_of (world machine.core.setup h).requests number))) }
+    ensures why { IfSome (machine_in place.old)
+        (λ machine. (result ≡ pos 0)
+        × ((h : History) → Fits machine h → why.new ≡ words_of_why (why_of (world machine.core.setup h).requests number))) }
 {
     if !place.is_full {
         return -errno::EBADF;

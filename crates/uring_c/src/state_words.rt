@@ -14,7 +14,8 @@ pub struct StateWords {
 
 /// The words of how a file stands.
 pub(crate) fn state_words(state: &FileState) -> StateWords
-    ensures { result ≡ record { writes = state.now.writes; synced = state.now.synced; len = state.now.len } }
+    ensures { result
+        ≡ record { writes = state.now.writes; synced = state.now.synced; len = state.now.len } }
 {
     StateWords {
         writes: state.writes,

@@ -57,8 +57,10 @@ FitsBy (Apart c) h = FitsApart c h
 
 -- What is found behind a history of a step with the text of an answer, and what the machine then fits: `None` where the text is that of an answer that is called for.
 abbrev pub IsJudged : Rules → History → Follower → Step → List ℕ → Option Wanted → Type 0
-IsJudged g h m s text None = (a : Answer) × (text_of a ≡ text) × IsPlain a g.is_apart s × FitsBy m ((s, a) ∷ h)
-IsJudged g h m s text (Some wanted) = IsWrongText g h s text wanted × FitsBy m (resumed s (refusal.Wrong wanted) h)
+IsJudged g h m s text None =
+    (a : Answer) × (text_of a ≡ text) × IsPlain a g.is_apart s × FitsBy m ((s, a) ∷ h)
+IsJudged g h m s text (Some wanted) =
+    IsWrongText g h s text wanted × FitsBy m (resumed s (refusal.Wrong wanted) h)
 
 -- the text is that of the one answer that is called for, or isn't
 abbrev pub IsOneJudged : Answer → List ℕ → Option Wanted → Type 0
@@ -67,16 +69,19 @@ IsOneJudged x text (Some wanted) = (wanted ≡ Only x) × (text_of x ≡ text �
 
 -- a machine judges, whatever the history that it fits
 abbrev pub Judges : Follower → Follower → Step → List ℕ → Option Wanted → Type 0
-Judges old new s text found = (h : History) → FitsBy old h → IsJudged (rules_of old) h new s text found
+Judges old new s text found =
+    (h : History) → FitsBy old h → IsJudged (rules_of old) h new s text found
 
 -- the same, with the text of the answers that are called for
 abbrev pub JudgesTold : Follower → Follower → Step → List ℕ → Option (Vec ℕ Global) → Type 0
 JudgesTold old new s text None = Judges old new s text None
-JudgesTold old new s text (Some told) = (wanted : Wanted) × (told.items ≡ wanted_text wanted) × Judges old new s text (Some wanted)
+JudgesTold old new s text (Some told) =
+    (wanted : Wanted) × (told.items ≡ wanted_text wanted) × Judges old new s text (Some wanted)
 
 -- a refusal told that these answers are wanted, and the machine goes on from there
 abbrev pub IsWanted : History → Follower → Step → Wanted → Type 0
-IsWanted h m s wanted = IsWrong (IsCalled (rules_of m) h s) answer.Filled wanted × FitsBy m (resumed s (refusal.Wrong wanted) h)
+IsWanted h m s wanted = IsWrong (IsCalled (rules_of m) h s) answer.Filled wanted
+    × FitsBy m (resumed s (refusal.Wrong wanted) h)
 
 -- either of two answers is wanted, and so a refusal makes nothing
 pub record IsEither (wanted : Wanted) (one other : Answer) : Type 0 where
@@ -118,7 +123,8 @@ pub record Looked (old new : Checker) (line : List ℕ) (h : History) : Type 0 w
   pub counted : new.steps ≡ counted_with finding old.steps
   pub decided : new.verdict ≡ judged old.verdict finding
   pub stopped : new.is_over ≡ stops old.is_all finding
-  pub told : new.report.items ≡ old.report.items ++ told_of (world (rules_of old.machine).setup h) old.number line finding
+  pub told : new.report.items
+      ≡ old.report.items ++ told_of (world (rules_of old.machine).setup h) old.number line finding
 
 -- a line was looked at, whatever the history
 abbrev pub LooksAt : Checker → Checker → List ℕ → Type 0
@@ -137,10 +143,13 @@ abbrev pub Has : Rules → Bool → Reading → List ℕ → Type 0
 Has g all r bytes = Holds g all r.line r.checker bytes
 
 -- all bytes are taken in, or a fault came before
-abbrev pub TakesIn : Rules → Bool → Result (Unit {0}) TraceFault → Option (List ℕ) → Reading → List ℕ → Type 0
+abbrev pub TakesIn : Rules → Bool → Result (Unit {0}) TraceFault → Option (List ℕ) → Reading
+    → List ℕ → Type 0
 TakesIn g all (Ok done) left r bytes = Has g all r bytes × IsAtEnd left
 TakesIn g all (Err e) left r bytes = e ≢ fault.Write
 
 -- what was read and taken in: the reader had `left_before` left and has `left_after`
-abbrev pub ReadsIn : Rules → Bool → Result (Unit {0}) TraceFault → Option (List ℕ) → Option (List ℕ) → Reading → Type 0
-ReadsIn g all answer left_before left_after r = (bytes : List ℕ) × Consumes left_before left_after bytes × TakesIn g all answer left_after r bytes
+abbrev pub ReadsIn : Rules → Bool → Result (Unit {0}) TraceFault → Option (List ℕ) → Option (List ℕ)
+    → Reading → Type 0
+ReadsIn g all answer left_before left_after r = (bytes : List ℕ)
+    × Consumes left_before left_after bytes × TakesIn g all answer left_after r bytes

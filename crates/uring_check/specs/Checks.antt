@@ -13,7 +13,8 @@ use Rattle.uring_check.specs.declared.verdict.Verdict.TheVariants as verdict
 
 -- the lines of the bytes, the newest first: those that have their ends, and a rest without one if it has some byte
 abbrev pub AreLinesOf : List ℕ → List (List ℕ) → Type 0
-AreLinesOf bytes lines = (whole : List (List ℕ)) × (rest : List ℕ) × Splits bytes whole rest × (lines ≡ with_last whole rest)
+AreLinesOf bytes lines = (whole : List (List ℕ)) × (rest : List ℕ) × Splits bytes whole rest
+    × (lines ≡ with_last whole rest)
 
 -- What a verdict says of lines as a whole: that they are the text of a lawful history, or that they are that of none.
 abbrev pub Says : Rules → List (List ℕ) → Verdict → Type 0
@@ -34,7 +35,8 @@ abbrev pub Writes : Rules → Bool → Result Verdict TraceFault → List ℕ �
 Writes g all (Ok v) bytes text = IsVerdict g all bytes text v
 Writes g all (Err fault.Read) bytes text = text ≡ []
 Writes g all (Err fault.Memory) bytes text = text ≡ []
-Writes g all (Err fault.Write) bytes text = (v : Verdict) × (more : List ℕ) × (0 < length more) × IsVerdict g all bytes (text ++ more) v
+Writes g all (Err fault.Write) bytes text =
+    (v : Verdict) × (more : List ℕ) × (0 < length more) × IsVerdict g all bytes (text ++ more) v
 
 -- the reader has nothing left, unless it failed or memory was refused
 abbrev pub ReadsAll : Result Verdict TraceFault → Option (List ℕ) → Type 0

@@ -58,8 +58,10 @@ stops all _ = false
 -- the finding is so in a world
 abbrev pub IsFinding : Rules → History → List ℕ → Finding → Type 0
 IsFinding g h line Passed = IsPassed line
-IsFinding g h line (Right s a) = IsRecord line s (text_of a) × IsPlain a g.is_apart s × IsCalled g h s a
-IsFinding g h line (Wrong s wanted) = (text : List ℕ) × IsRecord line s text × IsWrongText g h s text wanted
+IsFinding g h line (Right s a) =
+    IsRecord line s (text_of a) × IsPlain a g.is_apart s × IsCalled g h s a
+IsFinding g h line (Wrong s wanted) =
+    (text : List ℕ) × IsRecord line s text × IsWrongText g h s text wanted
 IsFinding g h line Bad = IsNoRecord line × (is_remark line ≡ false)
 IsFinding g h line Skipped = ⊥
 
@@ -74,7 +76,9 @@ has_stopped all xs = list_any (λ x. stops all x.finding) xs
 -- Each line, the newest first, with what is found of it behind those before.
 abbrev pub AreFound : Rules → Bool → List Found → Type 0
 AreFound g all [] = Unit {0}
-AreFound g all (x ∷ before) = IsFindingBehind (has_stopped all before) g (history_behind before) x.line x.finding × AreFound g all before
+AreFound g all (x ∷ before) =
+    IsFindingBehind (has_stopped all before) g (history_behind before) x.line x.finding
+    × AreFound g all before
 
 -- a fault, unless there was one before
 abbrev pub first_fault : Verdict → Verdict → Verdict

@@ -32,7 +32,8 @@ IsPassed line = IsNoRecord line × (is_remark line ≡ true)
 abbrev pub AreRecorded : Rules → List (List ℕ) → History → Type 0
 AreRecorded g [] h = h ≡ []
 AreRecorded g (line ∷ before) h =
-    (IsPassed line × AreRecorded g before h) ⊎ ((event : Event) × (past : History) × (h ≡ event ∷ past) × Records g line event × AreRecorded g before past)
+    (IsPassed line × AreRecorded g before h)
+    ⊎ ((event : Event) × (past : History) × (h ≡ event ∷ past) × Records g line event × AreRecorded g before past)
 
 -- The lines are the text of a lawful history.
 abbrev pub IsLawfulText : Rules → List (List ℕ) → Type 0

@@ -44,7 +44,8 @@ line_text number = codes "line " ++ decimal number ++ codes ": "
 
 -- What is told of the line with this number, by the world before it: of a wrong one the line, the answers that are called for, and why; and that a line is bad.
 abbrev pub told_of : World → ℕ → List ℕ → Finding → List ℕ
-told_of w number line (finding.Wrong s wanted) = line_text number ++ ended line ++ codes "wanted: " ++ ended (wanted_text wanted) ++ why_told (why_asked w.requests s)
+told_of w number line (finding.Wrong s wanted) =
+    line_text number ++ ended line ++ codes "wanted: " ++ ended (wanted_text wanted) ++ why_told (why_asked w.requests s)
 told_of w number line finding.Bad = line_text number ++ ended (codes "bad line")
 told_of w number line _ = []
 
@@ -61,7 +62,8 @@ steps_of (x ∷ before) = counted_with x.finding (steps_of before)
 -- what is told of all of them
 abbrev pub told_of_all : Rules → List Found → List ℕ
 told_of_all g [] = []
-told_of_all g (x ∷ before) = told_of_all g before ++ told_of (world g.setup (history_behind before)) (line_number (length before)) x.line x.finding
+told_of_all g (x ∷ before) =
+    told_of_all g before ++ told_of (world g.setup (history_behind before)) (line_number (length before)) x.line x.finding
 
 -- the last line, where all is lawful: how many steps there were
 abbrev pub closing : Verdict → ℕ → List ℕ

@@ -31,7 +31,9 @@ pub fn check<R: Read, W: Write>(
     is_all: bool,
     is_apart: bool,
 ) -> Result<Verdict, TraceFault>
-    ensures { IsChecked (record { setup = setup.now; is_apart = is_apart }) is_all result (R.remaining reader.old) (R.remaining reader.new) (W.contents writer.old) (W.contents writer.new) }
+    ensures { IsChecked (record { setup = setup.now; is_apart = is_apart }) is_all result
+        (R.remaining reader.old) (R.remaining reader.new) (W.contents writer.old)
+        (W.contents writer.new) }
 {
     let mut reading = Reading::new(alloc, setup, is_all, is_apart)?;
     let checked = check_all(&mut reading, reader, writer);
@@ -45,7 +47,9 @@ fn check_all<R: Read, W: Write>(
     reader: &mut R,
     writer: &mut W,
 ) -> Result<Verdict, TraceFault>
-    ensures { (g : Rules) (all : Bool) → Has g all reading.old [] → IsChecked g all result (R.remaining reader.old) (R.remaining reader.new) (W.contents writer.old) (W.contents writer.new) }
+    ensures { (g : Rules) (all : Bool) → Has g all reading.old []
+        → IsChecked g all result (R.remaining reader.old) (R.remaining reader.new)
+        (W.contents writer.old) (W.contents writer.new) }
 {
     read_all(reader, reading, &mut Calls::new())?;
     let verdict = reading.end()?;

@@ -47,7 +47,8 @@ impl Checker {
         is_all: bool,
         is_apart: bool,
     ) -> Result<Checker, AllocError>
-        ensures { IfOk result (Looks (record { setup = setup.now; is_apart = is_apart }) is_all []) }
+        ensures { IfOk result
+            (Looks (record { setup = setup.now; is_apart = is_apart }) is_all []) }
     {
         Ok(Checker {
             alloc,
@@ -64,7 +65,10 @@ impl Checker {
 
     /// Takes in the next line.
     pub(crate) fn take_line(&mut self, line: &KeptLine) -> Result<(), AllocError>
-        ensures { OnOk result ((g : Rules) (all : Bool) (lines : List (List ℕ)) (text : List ℕ) → line.now ≡ kept_of text → Looks g all lines self.old → Looks g all (text ∷ lines) self.new) }
+        ensures { OnOk result
+            ((g : Rules) (all : Bool) (lines : List (List ℕ)) (text : List ℕ)
+            → line.now ≡ kept_of text → Looks g all lines self.old
+            → Looks g all (text ∷ lines) self.new) }
     {
         if !self.is_over {
             self.look(line)?;
@@ -75,7 +79,9 @@ impl Checker {
 
     /// Ends the report, and returns the verdict on all lines.
     pub(crate) fn end(&mut self) -> Result<Verdict, AllocError>
-        ensures { IfOk result (λ verdict. (g : Rules) (all : Bool) (lines : List (List ℕ)) → Looks g all lines self.old → IsTold g all lines verdict self.new.report.items) }
+        ensures { IfOk result
+            (λ verdict. (g : Rules) (all : Bool) (lines : List (List ℕ))
+            → Looks g all lines self.old → IsTold g all lines verdict self.new.report.items) }
     {
         tell_end(self.alloc, &mut self.report, self.verdict, self.steps)?;
         Ok(self.verdict)
@@ -92,7 +98,8 @@ impl Checker {
     #[tactic(auto, using(std::proofs::lemmas::Result::on_ok_weaker, crate::proofs::Splitting::long_none, crate::proofs::Splitting::unsplit_none, crate::proofs::Splitting::recorded))]
     fn look(&mut self, line: &KeptLine) -> Result<(), AllocError>
         requires { self.old.is_over ≡ false }
-        ensures { OnOk result ((text : List ℕ) → line.now ≡ kept_of text → LooksAt self.old self.new text) }
+        ensures { OnOk result
+            ((text : List ℕ) → line.now ≡ kept_of text → LooksAt self.old self.new text) }
     {
         let Some(bytes) = line.whole() else {
             return self.find_none(line);
@@ -109,7 +116,9 @@ impl Checker {
     /// Finds a line that is no step with an answer: it is passed over, or bad.
     fn find_none(&mut self, line: &KeptLine) -> Result<(), AllocError>
         requires { self.old.is_over ≡ false }
-        ensures { OnOk result ((text : List ℕ) → line.now ≡ kept_of text → IsNoRecord text → LooksAt self.old self.new text) }
+        ensures { OnOk result
+            ((text : List ℕ) → line.now ≡ kept_of text → IsNoRecord text
+            → LooksAt self.old self.new text) }
     {
         if line.is_remark() {
             return Ok(());
@@ -122,7 +131,8 @@ impl Checker {
     /// Finds a line that is this step with this text for its answer.
     fn find_record(&mut self, step: &Step, text: &[u8], line: &[u8]) -> Result<(), AllocError>
         requires { self.old.is_over ≡ false }
-        ensures { OnOk result (IsRecord line.now step.now text.now → LooksAt self.old self.new line.now) }
+        ensures { OnOk result
+            (IsRecord line.now step.now text.now → LooksAt self.old self.new line.now) }
     {
         let why = ask(&self.machine, step);
         match judge_told(self.alloc, &mut self.told, &mut self.machine, step, text)? {
@@ -141,8 +151,12 @@ impl Checker {
         wanted: &[u8],
         why: Option<(u64, Why)>,
     ) -> Result<(), AllocError>
-        ensures kept { OnOk result (self.new ≡ record self.old { verdict = first_fault self.old.verdict Verdict.Wrong; is_over = not self.old.is_all; report = self.new.report }) }
-        ensures told { OnOk result (self.new.report.items ≡ self.old.report.items ++ line_text self.old.number ++ ended line.now ++ codes "wanted: " ++ ended wanted.now ++ why_told why) }
+        ensures kept { OnOk result
+            (self.new
+            ≡ record self.old { verdict = first_fault self.old.verdict Verdict.Wrong; is_over = not self.old.is_all; report = self.new.report }) }
+        ensures told { OnOk result
+            (self.new.report.items
+            ≡ self.old.report.items ++ line_text self.old.number ++ ended line.now ++ codes "wanted: " ++ ended wanted.now ++ why_told why) }
     {
         self.fault(Verdict::Wrong);
         self.is_over = !self.is_all;
@@ -161,7 +175,8 @@ impl Checker {
 
 /// Why the request that a step issues or finishes stands as it does, with its number, asked before the step.
 fn ask(machine: &Follower, step: &Step) -> Option<(u64, Why)>
-    ensures { (h : History) → FitsBy machine.now h → result ≡ why_asked (world (rules_of machine.now).setup h).requests step.now }
+    ensures { (h : History) → FitsBy machine.now h
+        → result ≡ why_asked (world (rules_of machine.now).setup h).requests step.now }
 {
     match step {
         Step::Issue { number } => Some((*number, machine.why(*number))),

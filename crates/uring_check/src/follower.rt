@@ -23,7 +23,8 @@ pub(crate) enum Follower {
 impl Follower {
     /// A follower on which nothing has happened.
     pub(crate) fn new(alloc: Global, setup: &Setup, is_apart: bool) -> Result<Follower, AllocError>
-        ensures rules { IfOk result (λ follower. rules_of follower ≡ record { setup = setup.now; is_apart = is_apart }) }
+        ensures rules { IfOk result
+            (λ follower. rules_of follower ≡ record { setup = setup.now; is_apart = is_apart }) }
         ensures fits { IfOk result (λ follower. FitsBy follower []) }
     {
         if is_apart {
@@ -48,7 +49,8 @@ impl Follower {
     pub(crate) fn step(&mut self, step: &Step) -> Answer
         requires { HasOneAnswer step.now }
         ensures rules { rules_of self.new ≡ rules_of self.old }
-        ensures fits { (h : History) → FitsBy self.old h → FitsBy self.new ((step.now, result) ∷ h) }
+        ensures fits { (h : History) → FitsBy self.old h
+            → FitsBy self.new ((step.now, result) ∷ h) }
     {
         match self {
             Follower::Whole(machine) => machine.step(*step),
@@ -59,9 +61,14 @@ impl Follower {
     /// Follows a step with an answer, any.
     pub(crate) fn follow(&mut self, step: &Step, given: &Answer) -> Result<(), Refusal>
         ensures rules { rules_of self.new ≡ rules_of self.old }
-        ensures ok { OnOk result ((h : History) → FitsBy self.old h → FitsBy self.new ((step.now, given.now) ∷ h)) }
-        ensures refused { IfErr result (λ refusal. (h : History) → FitsBy self.old h → IsRefused (IsCalled (rules_of self.old) h step.now) given.now refusal) }
-        ensures resumed { IfErr result (λ refusal. (h : History) → FitsBy self.old h → FitsBy self.new (resumed step.now refusal h)) }
+        ensures ok { OnOk result
+            ((h : History) → FitsBy self.old h → FitsBy self.new ((step.now, given.now) ∷ h)) }
+        ensures refused { IfErr result
+            (λ refusal. (h : History) → FitsBy self.old h
+            → IsRefused (IsCalled (rules_of self.old) h step.now) given.now refusal) }
+        ensures resumed { IfErr result
+            (λ refusal. (h : History) → FitsBy self.old h
+            → FitsBy self.new (resumed step.now refusal h)) }
     {
         match self {
             Follower::Whole(machine) => machine.follow(*step, *given),
@@ -71,7 +78,8 @@ impl Follower {
 
     /// Why a request stands as it does.
     pub(crate) fn why(&self, number: u64) -> Why
-        ensures { (h : History) → FitsBy self.now h → result ≡ why_of (world (rules_of self.now).setup h).requests number }
+        ensures { (h : History) → FitsBy self.now h
+            → result ≡ why_of (world (rules_of self.now).setup h).requests number }
     {
         match self {
             Follower::Whole(machine) => machine.why(number),

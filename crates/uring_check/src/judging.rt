@@ -104,7 +104,9 @@ fn judge_wanted(
     text: &[u8],
 ) -> Result<Option<Wanted>, AllocError>
     ensures rules { rules_of machine.new ≡ rules_of machine.old }
-    ensures judges { IfOk result (λ found. (h : History) → IsWanted h machine.old step.now wanted → IsJudged (rules_of machine.old) h machine.new step.now text.now found) }
+    ensures judges { IfOk result
+        (λ found. (h : History) → IsWanted h machine.old step.now wanted
+        → IsJudged (rules_of machine.old) h machine.new step.now text.now found) }
 {
     match wanted {
         Wanted::Only(answer) => judge_one(told, answer, text),
@@ -161,7 +163,9 @@ fn judge_either(
     requires plain { IsPlain one.now (rules_of machine.old).is_apart step.now }
     requires other_plain { IsPlain other.now (rules_of machine.old).is_apart step.now }
     ensures rules { rules_of machine.new ≡ rules_of machine.old }
-    ensures judges { IfOk result (λ found. (h : History) → IsWanted h machine.old step.now wanted → IsJudged (rules_of machine.old) h machine.new step.now text.now found) }
+    ensures judges { IfOk result
+        (λ found. (h : History) → IsWanted h machine.old step.now wanted
+        → IsJudged (rules_of machine.old) h machine.new step.now text.now found) }
 {
     if told.is(one, text)? {
         make(machine, step, one)?;
@@ -177,7 +181,9 @@ fn judge_either(
 /// Judges a Finish of a running request, which may end with any result. A follower with files knows each end, and never comes here.
 fn judge_end(machine: &mut Follower, step: &Step, text: &[u8]) -> Result<Option<Wanted>, AllocError>
     ensures rules { rules_of machine.new ≡ rules_of machine.old }
-    ensures judges { IfOk result (λ found. (h : History) → IsWanted h machine.old step.now Wanted.AnyEnd → IsJudged (rules_of machine.old) h machine.new step.now text.now found) }
+    ensures judges { IfOk result
+        (λ found. (h : History) → IsWanted h machine.old step.now Wanted.AnyEnd
+        → IsJudged (rules_of machine.old) h machine.new step.now text.now found) }
 {
     let Step::Finish { number } = step else {
         return Err(AllocError);
@@ -194,7 +200,9 @@ fn judge_end(machine: &mut Follower, step: &Step, text: &[u8]) -> Result<Option<
 
 /// The result of the end that has this text, if it is that of one.
 fn end_of(text: &[u8]) -> Option<i32>
-    ensures { MatchOption result ((res : ℤ) → IsFile res → text_of (answer.Ended res no_bytes) ≡ text.now → ⊥) (λ res. (text_of (answer.Ended res no_bytes) ≡ text.now) × IsFile res) }
+    ensures { MatchOption result
+        ((res : ℤ) → IsFile res → text_of (answer.Ended res no_bytes) ≡ text.now → ⊥)
+        (λ res. (text_of (answer.Ended res no_bytes) ≡ text.now) × IsFile res) }
 {
     spelled_signed(text.strip_prefix(b"ended ")?)
 }
@@ -202,7 +210,8 @@ fn end_of(text: &[u8]) -> Option<i32>
 /// Makes a step with an answer that is called for.
 fn make(machine: &mut Follower, step: &Step, answer: &Answer) -> Result<(), AllocError>
     ensures rules { rules_of machine.new ≡ rules_of machine.old }
-    ensures made { OnOk result ((h : History) → FitsBy machine.old h → FitsBy machine.new ((step.now, answer.now) ∷ h)) }
+    ensures made { OnOk result
+        ((h : History) → FitsBy machine.old h → FitsBy machine.new ((step.now, answer.now) ∷ h)) }
 {
     match machine.follow(step, answer) {
         Ok(()) => Ok(()),

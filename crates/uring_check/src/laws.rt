@@ -7,5 +7,6 @@ ghost use Rattle.uring_check.specs.Rules.{Rules, IsLawfulBy};
 
 /// Lines are the text of one lawful history at most: no two answers that are called for to one step have the same text.
 pub fn one_history()
-    ensures { (g : Rules) (lines : List (List ℕ)) (h k : History) → IsLawfulBy g h → AreRecorded g lines h → IsLawfulBy g k → AreRecorded g lines k → h ≡ k }
+    ensures { (g : Rules) (lines : List (List ℕ)) (h k : History) → IsLawfulBy g h
+        → AreRecorded g lines h → IsLawfulBy g k → AreRecorded g lines k → h ≡ k }
 {}

@@ -22,7 +22,8 @@ pub(crate) fn read_all<R: Read>(
     reading: &mut Reading,
     reads: &mut Calls,
 ) -> Result<(), TraceFault>
-    ensures bytes { (g : Rules) (all : Bool) → Has g all reading.old [] → ReadsIn g all result (R.remaining reader.old) (R.remaining reader.new) reading.new }
+    ensures bytes { (g : Rules) (all : Bool) → Has g all reading.old []
+        → ReadsIn g all result (R.remaining reader.old) (R.remaining reader.new) reading.new }
 
     // The reader is blamed only if it gave up.
     ensures read { result ≡ Err TraceFault.Read → AreOver reads.new }
@@ -54,7 +55,8 @@ impl Reading {
         is_all: bool,
         is_apart: bool,
     ) -> Result<Reading, AllocError>
-        ensures { IfOk result (λ r. Has (record { setup = setup.now; is_apart = is_apart }) is_all r []) }
+        ensures { IfOk result
+            (λ r. Has (record { setup = setup.now; is_apart = is_apart }) is_all r []) }
     {
         Ok(Reading {
             line: KeptLine::new(alloc)?,
@@ -64,7 +66,9 @@ impl Reading {
 
     /// Takes in the next bytes.
     fn feed(&mut self, bytes: &[u8]) -> Result<(), TraceFault>
-        ensures ok { OnOk result ((g : Rules) (all : Bool) (before : List ℕ) → Has g all self.old before → Has g all self.new (before ++ bytes.now)) }
+        ensures ok { OnOk result
+            ((g : Rules) (all : Bool) (before : List ℕ) → Has g all self.old before
+            → Has g all self.new (before ++ bytes.now)) }
         ensures err { IfErr result (λ e. e ≡ TraceFault.Memory) }
     {
         for byte in bytes {
@@ -75,7 +79,9 @@ impl Reading {
 
     /// Ends the input, and returns the verdict on it. A last line without an end counts if it has some byte.
     pub(crate) fn end(&mut self) -> Result<Verdict, AllocError>
-        ensures { IfOk result (λ verdict. (g : Rules) (all : Bool) (bytes : List ℕ) → Has g all self.old bytes → IsVerdict g all bytes self.new.checker.report.items verdict) }
+        ensures { IfOk result
+            (λ verdict. (g : Rules) (all : Bool) (bytes : List ℕ) → Has g all self.old bytes
+            → IsVerdict g all bytes self.new.checker.report.items verdict) }
     {
         if self.line.is_empty() {
             return self.checker.end();
@@ -93,7 +99,9 @@ impl Reading {
 
     /// Takes in one byte.
     fn take(&mut self, byte: u8) -> Result<(), TraceFault>
-        ensures ok { OnOk result ((g : Rules) (all : Bool) (before : List ℕ) → Has g all self.old before → Has g all self.new (before ++ byte ∷ [])) }
+        ensures ok { OnOk result
+            ((g : Rules) (all : Bool) (before : List ℕ) → Has g all self.old before
+            → Has g all self.new (before ++ byte ∷ [])) }
         ensures err { IfErr result (λ e. e ≡ TraceFault.Memory) }
     {
         if byte == b'\n' {
@@ -107,14 +115,17 @@ impl Reading {
     /// Takes in one byte of a line, which isn't its end.
     fn keep(&mut self, byte: u8)
         requires { byte ≢ 10 }
-        ensures { (g : Rules) (all : Bool) (before : List ℕ) → Has g all self.old before → Has g all self.new (before ++ byte ∷ []) }
+        ensures { (g : Rules) (all : Bool) (before : List ℕ) → Has g all self.old before
+            → Has g all self.new (before ++ byte ∷ []) }
     {
         self.line.push(byte);
     }
 
     /// Gives the line to the checker, and begins the next line.
     fn end_line(&mut self) -> Result<(), AllocError>
-        ensures { OnOk result ((g : Rules) (all : Bool) (before : List ℕ) → Has g all self.old before → Has g all self.new (before ++ 10 ∷ [])) }
+        ensures { OnOk result
+            ((g : Rules) (all : Bool) (before : List ℕ) → Has g all self.old before
+            → Has g all self.new (before ++ 10 ∷ [])) }
     {
         self.checker.take_line(&self.line)?;
         self.line.clear();

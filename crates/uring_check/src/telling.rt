@@ -19,7 +19,9 @@ pub(crate) fn tell_wrong(
     wanted: &[u8],
     why: Option<(u64, Why)>,
 ) -> Result<(), AllocError>
-    ensures { OnOk result (report.new.items ≡ report.old.items ++ line_text number ++ ended line.now ++ codes "wanted: " ++ ended wanted.now ++ why_told why) }
+    ensures { OnOk result
+        (report.new.items
+        ≡ report.old.items ++ line_text number ++ ended line.now ++ codes "wanted: " ++ ended wanted.now ++ why_told why) }
 {
     tell_line(alloc, report, number)?;
     report.extend_from_slice(line)?;
@@ -28,7 +30,8 @@ pub(crate) fn tell_wrong(
 
 /// Appends that the line with this number is bad.
 pub(crate) fn tell_bad(alloc: Global, report: &mut Vec<u8>, number: u64) -> Result<(), AllocError>
-    ensures { OnOk result (report.new.items ≡ report.old.items ++ line_text number ++ ended (codes "bad line")) }
+    ensures { OnOk result
+        (report.new.items ≡ report.old.items ++ line_text number ++ ended (codes "bad line")) }
 {
     tell_line(alloc, report, number)?;
     report.extend_from_slice(b"bad line\n")
@@ -74,7 +77,9 @@ fn tell_reasons(
     wanted: &[u8],
     why: Option<(u64, Why)>,
 ) -> Result<(), AllocError>
-    ensures { OnOk result (report.new.items ≡ report.old.items ++ ended [] ++ codes "wanted: " ++ ended wanted.now ++ why_told why) }
+    ensures { OnOk result
+        (report.new.items
+        ≡ report.old.items ++ ended [] ++ codes "wanted: " ++ ended wanted.now ++ why_told why) }
 {
     report.extend_from_slice(b"\nwanted: ")?;
     report.extend_from_slice(wanted)?;
@@ -90,7 +95,8 @@ pub(crate) fn push_wanted(
     text: &mut String,
     wanted: &Wanted,
 ) -> Result<(), AllocError>
-    ensures { OnOk result (string_bytes text.new ≡ string_bytes text.old ++ wanted_text wanted.now) }
+    ensures { OnOk result
+        (string_bytes text.new ≡ string_bytes text.old ++ wanted_text wanted.now) }
 {
     match wanted {
         Wanted::Only(answer) => push_answer(alloc, text, answer),

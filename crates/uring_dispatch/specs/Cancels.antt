@@ -14,7 +14,9 @@ found_as r (Some m) = if is_running r m then Running m else Chosen m
 
 -- what n is to do, if it is outstanding and without a fault
 abbrev pub operation_outstanding : Requests → ℕ → Option Op
-operation_outstanding r n = if is_outstanding r n && not (is_faulty (entry_of r n)) then Some (operation_of (entry_of r n)) else None
+operation_outstanding r n =
+    if is_outstanding r n && not (is_faulty (entry_of r n)) then Some (operation_of (entry_of r n)) else
+    None
 
 -- what n finds, if this is what it is to do
 abbrev pub found_for : Requests → ℕ → Option Op → Option Found

@@ -28,8 +28,16 @@ drain_of (Some q) = q.drain
 
 -- a group with one more member
 abbrev pub with_member : Option Group → ℕ → Bool → Bool → Group
-with_member None n drains faulty = record { from = n; end = n + 1; least = n; fault = found_or None faulty n; drain = found_or None drains n; broken = None }
-with_member (Some q) n drains faulty = record q { end = n + 1; fault = found_or q.fault faulty n; drain = found_or q.drain drains n }
+with_member None n drains faulty = record {
+  from = n;
+  end = n + 1;
+  least = n;
+  fault = found_or None faulty n;
+  drain = found_or None drains n;
+  broken = None;
+}
+with_member (Some q) n drains faulty =
+    record q { end = n + 1; fault = found_or q.fault faulty n; drain = found_or q.drain drains n }
 
 -- whether it drains from just this member on
 abbrev pub starts_at : Option ℕ → ℕ → Bool
@@ -38,7 +46,8 @@ starts_at (Some number) n = number == n
 
 -- the barriers, with one more if the group of this key drains from its member n on
 abbrev pub with_barrier : List Barrier → Option ℕ → ℕ → ℕ → List Barrier
-with_barrier barriers drain n key = if starts_at drain n then barriers ++ record { number = n; key = key } ∷ [] else barriers
+with_barrier barriers drain n key =
+    if starts_at drain n then barriers ++ record { number = n; key = key } ∷ [] else barriers
 
 -- the barrier of the group of this key that drains from this member on
 abbrev pub covers : ℕ → ℕ → Barrier → Bool
@@ -55,13 +64,15 @@ IsBeyond barriers n = list_all (λ b. nat_lt b.number n) barriers ≡ true
 
 -- What is so whatever happened: each draining group has its barrier, in order, and the last group is kept.
 pub record AreGroups (records : List (Option Group)) (barriers : List Barrier) (last : Option ℕ) : Type 0 where
-  pub covered : (key number : ℕ) → drain_of (slice_index_or records key None) ≡ Some number → list_any (covers key number) barriers ≡ true
+  pub covered : (key number : ℕ) → drain_of (slice_index_or records key None) ≡ Some number
+      → list_any (covers key number) barriers ≡ true
   pub sorted : IsSorted barriers
   pub opened : (key : ℕ) → last ≡ Some key → is_some (slice_index_or records key None) ≡ true
 
 -- the first barrier's group has an outstanding member
 abbrev pub IsLiveFront : List (Option Group) → List Barrier → Type 0
-IsLiveFront records barriers = (b : Barrier) (rest : List Barrier) → barriers ≡ b ∷ rest → drain_of (slice_index_or records b.key None) ≡ Some b.number
+IsLiveFront records barriers = (b : Barrier) (rest : List Barrier) → barriers ≡ b ∷ rest
+    → drain_of (slice_index_or records b.key None) ≡ Some b.number
 
 -- At the key there is this now, and every other key keeps what it had.
 pub record Exchanges (old new : Groups) (key : ℕ) (now : Option Group) : Type 0 where

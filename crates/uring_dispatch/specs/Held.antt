@@ -33,7 +33,8 @@ pub record IsKept (w : Window) (q : Group) : Type 0 where
 -- What is so of the requests and the groups together, whatever happened.
 pub record IsSound (w : Window) (g : Groups) : Type 0 where
   pub linked : (n : ℕ) (q : Request) → at w n ≡ Some q → HasGroup g q.group n
-  pub members : (key : ℕ) (q : Group) (n : ℕ) (request : Request) → group_at g key ≡ Some q → q.from ≤ n → n < q.end → at w n ≡ Some request → request.group ≡ key
+  pub members : (key : ℕ) (q : Group) (n : ℕ) (request : Request) → group_at g key ≡ Some q
+      → q.from ≤ n → n < q.end → at w n ≡ Some request → request.group ≡ key
   pub kept : (key : ℕ) (q : Group) → group_at g key ≡ Some q → IsKept w q
   pub beyond : IsBeyond g.barriers (end_of w)
   pub last : (key : ℕ) (q : Group) → g.last ≡ Some key → group_at g key ≡ Some q → q.end ≡ end_of w

@@ -7,7 +7,8 @@ use Rattle.uring_dispatch.specs.IssueAndFinish.{issued}
 
 -- With something outstanding, the least outstanding request is running or can be issued: nothing waits for ever.
 abbrev pub LeastGoesOn : Type 0
-LeastGoesOn = (r : Requests) (n : ℕ) → least_of r ≡ Some n → (is_running r n ≡ true) ⊎ (is_issuable r n ≡ true)
+LeastGoesOn = (r : Requests) (n : ℕ) → least_of r ≡ Some n
+    → (is_running r n ≡ true) ⊎ (is_issuable r n ≡ true)
 
 -- whether an issue was refused, and so changed nothing
 abbrev pub is_refusal : Issued → Bool

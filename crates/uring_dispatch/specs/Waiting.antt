@@ -100,7 +100,8 @@ pub record IsFirstTold (g : Groups) (n key from : ℕ) : Type 0 where
 -- The first request that waits at the head of its group, if it is ready; else no request is that isn't doomed.
 pub record IsReadyHead (r : Requests) (found : Option ℕ) : Type 0 where
   pub some : (n : ℕ) → found ≡ Some n → is_issuable r n ≡ true
-  pub all : (k : ℕ) → is_outstanding r k ≡ true → is_running r k ≡ false → is_ready r k ≡ true → (n : ℕ) × (found ≡ Some n) × (n ≤ k)
+  pub all : (k : ℕ) → is_outstanding r k ≡ true → is_running r k ≡ false → is_ready r k ≡ true
+      → (n : ℕ) × (found ≡ Some n) × (n ≤ k)
 
 -- What both sets keep of numbers before this one begins with some that are in them, 64 at a time.
 pub record HaveLetGo (s : Waiting) (n : ℕ) : Type 0 where

@@ -42,8 +42,10 @@ IsTrimmed keys = 0 < length keys → is_some (slice_index_or keys 0 None) ≡ tr
 
 -- What is so whatever happened: each key has a request, and none stands twice, and the running requests are counted.
 pub record IsWindow (w : Window) : Type 0 where
-  pub present : (n key : ℕ) → key_at w.first w.keys n ≡ Some key → is_some (slice_index_or w.requests key None) ≡ true
-  pub distinct : (m n key : ℕ) → key_at w.first w.keys m ≡ Some key → key_at w.first w.keys n ≡ Some key → m ≡ n
+  pub present : (n key : ℕ) → key_at w.first w.keys n ≡ Some key
+      → is_some (slice_index_or w.requests key None) ≡ true
+  pub distinct : (m n key : ℕ) → key_at w.first w.keys m ≡ Some key
+      → key_at w.first w.keys n ≡ Some key → m ≡ n
   pub counted : w.running ≡ count_below (λ n. runs (at w n)) (end_of w)
   pub fits : end_of w + w.room < 2 ^ 63
 

@@ -48,7 +48,8 @@ pub enum Posts {
 impl Posts {
     /// What the end of a request of this entry posts, if it succeeded or not as told.
     pub fn of(entry: &Sqe, is_success: bool) -> Posts
-        ensures { (res : ℤ) → is_success ≡ success.is_success entry.now res → result ≡ posts_of entry.now res }
+        ensures { (res : ℤ) → is_success ≡ success.is_success entry.now res
+            → result ≡ posts_of entry.now res }
     {
         if posts_completion(entry, is_success) {
             Posts::Completion(entry.user_data())

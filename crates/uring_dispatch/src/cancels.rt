@@ -36,8 +36,13 @@ pub(crate) fn cancel(
     ensures groups_room { groups.new.room ≡ groups.old.room }
     ensures listed { IsListed window.new groups.new waiting.new }
     ensures waiting_room { HasMemory waiting.old waiting.new }
-    ensures answer { (r : Requests) → AreHeld window.old groups.old r → user_data ≡ addr_of (entry_of r n) → all ≡ is_cancel_all (entry_of r n) → result ≡ spec.cancel_result r n }
-    ensures held { (r : Requests) → AreHeld window.old groups.old r → user_data ≡ addr_of (entry_of r n) → is_cancel (entry_of r n) ≡ true → all ≡ is_cancel_all (entry_of r n) → AreHeld window.new groups.new (with_issued_end r n result) }
+    ensures answer { (r : Requests) → AreHeld window.old groups.old r
+        → user_data ≡ addr_of (entry_of r n) → all ≡ is_cancel_all (entry_of r n)
+        → result ≡ spec.cancel_result r n }
+    ensures held { (r : Requests) → AreHeld window.old groups.old r
+        → user_data ≡ addr_of (entry_of r n) → is_cancel (entry_of r n) ≡ true
+        → all ≡ is_cancel_all (entry_of r n)
+        → AreHeld window.new groups.new (with_issued_end r n result) }
     ensures counts { HasLost window.old window.new 0 }
 {
     let res = make_choices(window, groups, waiting, n, user_data, all);
@@ -57,8 +62,13 @@ fn make_choices(
     requires sound { IsSound window.old groups.now }
     requires listed { IsListed window.old groups.now waiting.old }
     ensures chosen { HasChosen window.old window.new groups.now waiting.old waiting.new }
-    ensures answer { (r : Requests) → AreHeld window.old groups.now r → user_data ≡ addr_of (entry_of r n) → all ≡ is_cancel_all (entry_of r n) → result ≡ spec.cancel_result r n }
-    ensures held { (r : Requests) → AreHeld window.old groups.now r → user_data ≡ addr_of (entry_of r n) → is_cancel (entry_of r n) ≡ true → all ≡ is_cancel_all (entry_of r n) → AreHeld window.new groups.now (with_cancelled r (chosen_by r n result)) }
+    ensures answer { (r : Requests) → AreHeld window.old groups.now r
+        → user_data ≡ addr_of (entry_of r n) → all ≡ is_cancel_all (entry_of r n)
+        → result ≡ spec.cancel_result r n }
+    ensures held { (r : Requests) → AreHeld window.old groups.now r
+        → user_data ≡ addr_of (entry_of r n) → is_cancel (entry_of r n) ≡ true
+        → all ≡ is_cancel_all (entry_of r n)
+        → AreHeld window.new groups.now (with_cancelled r (chosen_by r n result)) }
 {
     if all {
         count_result(choose_targets(window, groups, waiting, n, user_data))
@@ -78,8 +88,12 @@ fn choose_target(
     requires sound { IsSound window.old groups.now }
     requires listed { IsListed window.old groups.now waiting.old }
     ensures chosen { HasChosen window.old window.new groups.now waiting.old waiting.new }
-    ensures answer { (r : Requests) → AreHeld window.old groups.now r → user_data ≡ addr_of (entry_of r n) → result ≡ result_for r (target_of r n) }
-    ensures held { (r : Requests) → AreHeld window.old groups.now r → user_data ≡ addr_of (entry_of r n) → is_cancel (entry_of r n) ≡ true → is_cancel_all (entry_of r n) ≡ false → AreHeld window.new groups.now (with_cancelled r (chosen_by r n result)) }
+    ensures answer { (r : Requests) → AreHeld window.old groups.now r
+        → user_data ≡ addr_of (entry_of r n) → result ≡ result_for r (target_of r n) }
+    ensures held { (r : Requests) → AreHeld window.old groups.now r
+        → user_data ≡ addr_of (entry_of r n) → is_cancel (entry_of r n) ≡ true
+        → is_cancel_all (entry_of r n) ≡ false
+        → AreHeld window.new groups.now (with_cancelled r (chosen_by r n result)) }
 {
     let Some(m) = target(window, groups, n, user_data) else {
         return -errno::ENOENT;
@@ -102,8 +116,11 @@ fn choose_targets(
     requires sound { IsSound window.old groups.now }
     requires listed { IsListed window.old groups.now waiting.old }
     ensures chosen { HasChosen window.old window.new groups.now waiting.old waiting.new }
-    ensures count { (r : Requests) → AreHeld window.old groups.now r → user_data ≡ addr_of (entry_of r n) → result ≡ length (targets_of r n) }
-    ensures held { (r : Requests) → AreHeld window.old groups.now r → user_data ≡ addr_of (entry_of r n) → AreHeld window.new groups.now (with_cancelled r (targets_of r n)) }
+    ensures count { (r : Requests) → AreHeld window.old groups.now r
+        → user_data ≡ addr_of (entry_of r n) → result ≡ length (targets_of r n) }
+    ensures held { (r : Requests) → AreHeld window.old groups.now r
+        → user_data ≡ addr_of (entry_of r n)
+        → AreHeld window.new groups.now (with_cancelled r (targets_of r n)) }
 {
     let mut count = 0;
     for m in window.first()..window.end() {
@@ -128,7 +145,8 @@ fn choose(window: &mut Window, groups: &Groups, waiting: &mut Waiting, m: u64)
     requires listed { IsListed window.old groups.now waiting.old }
     requires there { is_some (at window.old m) ≡ true }
     ensures chosen { HasChosen window.old window.new groups.now waiting.old waiting.new }
-    ensures held { (r : Requests) → AreHeld window.old groups.now r → AreHeld window.new groups.now (with_cancelled r (m ∷ [])) }
+    ensures held { (r : Requests) → AreHeld window.old groups.now r
+        → AreHeld window.new groups.now (with_cancelled r (m ∷ [])) }
 {
     window.choose(m);
     waiting.relist(window, groups, m);

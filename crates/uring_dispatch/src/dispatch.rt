@@ -65,7 +65,8 @@ impl Dispatch {
     pub fn reserve(&mut self, count: u64) -> Result<(), ReserveError>
         requires { IsTrue self.old.is_between_calls }
         ensures ok { OnOk result (count ≤ self.new.room) }
-        ensures spent { IsErrOf result ReserveError.Spent ↔ (2 ^ 63 - 1 < self.old.accepted + count) }
+        ensures spent { IsErrOf result ReserveError.Spent
+            ↔ (2 ^ 63 - 1 < self.old.accepted + count) }
         ensures no_memory { IsErrOf result ReserveError.NoMemory → self.old.room < count }
         ensures err { OnErr result (self.new ≡ self.old) }
         ensures counts { IsSameCount self.old self.new }
@@ -96,7 +97,8 @@ impl Dispatch {
     /// Condition: its memory was asked for by `reserve`.
     pub fn accept(&mut self, entry: Sqe)
         requires { 0 < self.old.room }
-        ensures shows { (r : Requests) → ShowsRequests self.old r → ShowsRequests self.new (with_accepted r entry) }
+        ensures shows { (r : Requests) → ShowsRequests self.old r
+            → ShowsRequests self.new (with_accepted r entry) }
         ensures counts { HasAccepted self.old self.new }
         ensures between { self.new.is_between_calls ≡ false }
     {
@@ -118,7 +120,8 @@ impl Dispatch {
 
     /// Ends a submission call: no group goes on past it. io_uring_enter(2), IOSQE_IO_LINK.
     pub fn end_call(&mut self)
-        ensures shows { (r : Requests) → ShowsRequests self.old r → ShowsRequests self.new (with_cut r) }
+        ensures shows { (r : Requests) → ShowsRequests self.old r
+            → ShowsRequests self.new (with_cut r) }
         ensures counts { IsSameCount self.old self.new }
         ensures between { self.new.is_between_calls ≡ true }
     {
@@ -132,7 +135,8 @@ impl Dispatch {
     pub fn issue(&mut self, n: u64) -> Issued
         requires { IsTrue self.old.is_between_calls }
         ensures answer { (r : Requests) → ShowsRequests self.old r → result ≡ issued r n }
-        ensures shows { (r : Requests) → ShowsRequests self.old r → ShowsRequests self.new (after_issue r n result) }
+        ensures shows { (r : Requests) → ShowsRequests self.old r
+            → ShowsRequests self.new (after_issue r n result) }
         ensures counts { IssueCounts result self.old self.new }
     {
         events::issue(&mut self.window, &mut self.groups, &mut self.waiting, n)
@@ -142,7 +146,8 @@ impl Dispatch {
     pub fn finish(&mut self, n: u64, outcome: Outcome) -> Finished
         requires { IsTrue self.old.is_between_calls }
         ensures answer { (r : Requests) → ShowsRequests self.old r → result ≡ finished r n }
-        ensures shows { (r : Requests) → ShowsRequests self.old r → ShowsRequests self.new (after_finish r n outcome result) }
+        ensures shows { (r : Requests) → ShowsRequests self.old r
+            → ShowsRequests self.new (after_finish r n outcome result) }
         ensures counts { FinishCounts result self.old self.new }
     {
         match self.end_running(n, outcome.res) {
@@ -155,7 +160,8 @@ impl Dispatch {
     pub fn end_running(&mut self, n: u64, res: i32) -> Option<Posts>
         requires { IsTrue self.old.is_between_calls }
         ensures answer { (r : Requests) → ShowsRequests self.old r → result ≡ posted_by r n res }
-        ensures shows { (r : Requests) (bytes : List ℕ) → ShowsRequests self.old r → ShowsRequests self.new (after_end r n res bytes result) }
+        ensures shows { (r : Requests) (bytes : List ℕ) → ShowsRequests self.old r
+            → ShowsRequests self.new (after_end r n res bytes result) }
         ensures counts { EndCounts result self.old self.new }
     {
         events::end_running(

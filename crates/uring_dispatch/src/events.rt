@@ -39,7 +39,9 @@ pub(crate) fn end(
     ensures listed { IsListed window.new groups.new waiting.new }
     ensures waiting_room { HasMemory waiting.old waiting.new }
     ensures far { HaveLetGo waiting.new window.new.first }
-    ensures held { (r : Requests) (res : ℤ) (bytes : List ℕ) → AreHeld window.old groups.old r → is_success ≡ success.is_success (entry_of r n) res → AreHeld window.new groups.new (with_ended r n res bytes) }
+    ensures held { (r : Requests) (res : ℤ) (bytes : List ℕ) → AreHeld window.old groups.old r
+        → is_success ≡ success.is_success (entry_of r n) res
+        → AreHeld window.new groups.new (with_ended r n res bytes) }
     ensures counts { HasLost window.old window.new (one_if (runs (at window.old n))) }
 {
     let Some(key) = window.key(n) else {
@@ -68,7 +70,9 @@ fn end_by_key(
     ensures listed { IsListed window.new groups.new waiting.new }
     ensures waiting_room { HasMemory waiting.old waiting.new }
     ensures far { HaveLetGo waiting.new window.new.first }
-    ensures held { (r : Requests) (res : ℤ) (bytes : List ℕ) → AreHeld window.old groups.old r → is_success ≡ success.is_success (entry_of r n) res → AreHeld window.new groups.new (with_ended r n res bytes) }
+    ensures held { (r : Requests) (res : ℤ) (bytes : List ℕ) → AreHeld window.old groups.old r
+        → is_success ≡ success.is_success (entry_of r n) res
+        → AreHeld window.new groups.new (with_ended r n res bytes) }
     ensures counts { HasLost window.old window.new (one_if (runs (at window.old n))) }
 {
     let others = take_out(window, groups, n, key, is_success);
@@ -102,12 +106,15 @@ fn take_out(
     ensures sound { IsSound window.new groups.new }
     ensures closed { groups.new.last ≡ None }
     ensures groups_room { groups.new.room ≡ groups.old.room }
-    ensures held { (r : Requests) (res : ℤ) (bytes : List ℕ) → AreHeld window.old groups.old r → is_success ≡ success.is_success (entry_of r n) res → AreHeld window.new groups.new (with_ended r n res bytes) }
+    ensures held { (r : Requests) (res : ℤ) (bytes : List ℕ) → AreHeld window.old groups.old r
+        → is_success ≡ success.is_success (entry_of r n) res
+        → AreHeld window.new groups.new (with_ended r n res bytes) }
     ensures counts { HasLost window.old window.new (one_if (runs (at window.old n))) }
     ensures gone { Changes window.old window.new n None }
     ensures head { is_some (at window.old result.head) ≡ true }
     ensures doomed { result.doomed_end ≤ end_of window.old }
-    ensures others { (k : ℕ) → k ≢ n → k ≢ result.head → (k < n) ⊎ (result.doomed_end ≤ k) → StandsAsBefore window.old window.new groups.old groups.new k }
+    ensures others { (k : ℕ) → k ≢ n → k ≢ result.head → (k < n) ⊎ (result.doomed_end ≤ k)
+        → StandsAsBefore window.old window.new groups.old groups.new k }
 {
     let request = window.end_one(n, key);
     let group = group_of(groups, &request);
@@ -138,7 +145,8 @@ fn take_out(
 fn behind_failure(group: &Group, is_break: bool, n: u64) -> u64
     requires { n < group.now.end }
     ensures within { result ≤ group.now.end }
-    ensures doomed { is_break ≡ true → (k : ℕ) → result ≤ k → k < group.now.end → is_before group.now.broken k ≡ true }
+    ensures doomed { is_break ≡ true → (k : ℕ) → result ≤ k → k < group.now.end
+        → is_before group.now.broken k ≡ true }
 {
     if !is_break {
         return n;
@@ -199,8 +207,11 @@ pub(crate) fn issue(
     ensures listed { IsListed window.new groups.new waiting.new }
     ensures waiting_room { HasMemory waiting.old waiting.new }
     ensures answer { (r : Requests) → AreHeld window.old groups.old r → result ≡ issued r n }
-    ensures held { (r : Requests) → AreHeld window.old groups.old r → AreHeld window.new groups.new (after_issue r n result) }
-    ensures counts { (room : ℕ) (between : Bool) → IssueCounts result (dispatch_of window.old groups.old room between) (dispatch_of window.new groups.new room between) }
+    ensures held { (r : Requests) → AreHeld window.old groups.old r
+        → AreHeld window.new groups.new (after_issue r n result) }
+    ensures counts { (room : ℕ) (between : Bool)
+        → IssueCounts result (dispatch_of window.old groups.old room between)
+        (dispatch_of window.new groups.new room between) }
     ensures room { window.new.room ≡ window.old.room }
 {
     let Some(request) = window.get(n) else {
@@ -231,9 +242,13 @@ fn issue_waiting(
     ensures groups_room { groups.new.room ≡ groups.old.room }
     ensures listed { IsListed window.new groups.new waiting.new }
     ensures waiting_room { HasMemory waiting.old waiting.new }
-    ensures answer { (r : Requests) → AreHeld window.old groups.old r → result ≡ issued_waiting r n }
-    ensures held { (r : Requests) → AreHeld window.old groups.old r → AreHeld window.new groups.new (after_issue r n result) }
-    ensures counts { (room : ℕ) (between : Bool) → IssueCounts result (dispatch_of window.old groups.old room between) (dispatch_of window.new groups.new room between) }
+    ensures answer { (r : Requests) → AreHeld window.old groups.old r
+        → result ≡ issued_waiting r n }
+    ensures held { (r : Requests) → AreHeld window.old groups.old r
+        → AreHeld window.new groups.new (after_issue r n result) }
+    ensures counts { (room : ℕ) (between : Bool)
+        → IssueCounts result (dispatch_of window.old groups.old room between)
+        (dispatch_of window.new groups.new room between) }
     ensures room { window.new.room ≡ window.old.room }
 {
     let Some(op) = request.op else {
@@ -273,8 +288,11 @@ pub(crate) fn end_running(
     ensures listed { IsListed window.new groups.new waiting.new }
     ensures waiting_room { HasMemory waiting.old waiting.new }
     ensures answer { (r : Requests) → AreHeld window.old groups.old r → result ≡ posted_by r n res }
-    ensures held { (r : Requests) (bytes : List ℕ) → AreHeld window.old groups.old r → AreHeld window.new groups.new (after_end r n res bytes result) }
-    ensures counts { (room : ℕ) (between : Bool) → EndCounts result (dispatch_of window.old groups.old room between) (dispatch_of window.new groups.new room between) }
+    ensures held { (r : Requests) (bytes : List ℕ) → AreHeld window.old groups.old r
+        → AreHeld window.new groups.new (after_end r n res bytes result) }
+    ensures counts { (room : ℕ) (between : Bool)
+        → EndCounts result (dispatch_of window.old groups.old room between)
+        (dispatch_of window.new groups.new room between) }
     ensures room { window.new.room ≡ window.old.room }
 {
     let Some(key) = window.key(n) else {

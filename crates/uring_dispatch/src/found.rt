@@ -35,7 +35,8 @@ pub(crate) fn would_find(window: &Window, groups: &Groups, n: u64) -> Option<Fou
 /// What the cancel `n` of one request with these user data finds.
 fn find(window: &Window, groups: &Groups, n: u64, user_data: u64) -> Found
     requires { IsSound window.now groups.now }
-    ensures { (r : Requests) → AreHeld window.now groups.now r → user_data ≡ addr_of (entry_of r n) → result ≡ found_as r (target_of r n) }
+    ensures { (r : Requests) → AreHeld window.now groups.now r → user_data ≡ addr_of (entry_of r n)
+        → result ≡ found_as r (target_of r n) }
 {
     let Some(m) = target(window, groups, n, user_data) else {
         return Found::Nobody;

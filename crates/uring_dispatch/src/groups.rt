@@ -87,7 +87,8 @@ impl Groups {
         ensures joins { group_at self.old result ≡ last_group self.old.records self.old.last }
         ensures key { (k : ℕ) → self.old.last ≡ Some k → result ≡ k }
         ensures kept { is_some (last_group self.old.records self.old.last) ≡ is_some self.old.last }
-        ensures changes { Exchanges self.old self.new result (Some (with_member (last_group self.old.records self.old.last) n (is_drain entry.now) is_faulty)) }
+        ensures changes { Exchanges self.old self.new result
+            (Some (with_member (last_group self.old.records self.old.last) n (is_drain entry.now) is_faulty)) }
         ensures beyond { IsBeyond self.new.barriers (n + 1) }
         ensures last { self.new.last ≡ (if is_linked entry.now then Some result else None) }
         ensures room { self.new.room + 1 ≡ self.old.room }
@@ -133,7 +134,8 @@ impl Groups {
     /// Whether some group drains that began to before the number `n`.
     pub(crate) fn has_barrier_before(&self, n: u64) -> bool
         ensures held { result ≡ true → HasBarrierBefore self.now n }
-        ensures free { result ≡ false → (key number : ℕ) → drain_of (group_at self.now key) ≡ Some number → n ≤ number }
+        ensures free { result ≡ false → (key number : ℕ)
+            → drain_of (group_at self.now key) ≡ Some number → n ≤ number }
     {
         match self.barriers.front() {
             Some(barrier) => barrier.number < n,
@@ -227,7 +229,9 @@ fn drains_from(group: &Group, n: u64) -> bool
 
 /// Drops the barriers of groups that are over, up to the first of one that isn't.
 fn trim(groups: &Slab<Group>, barriers: &mut VecDeque<Barrier>)
-    ensures covered { (key number : ℕ) → drain_of (get groups.now key) ≡ Some number → list_any (covers key number) barriers.old.items ≡ true → list_any (covers key number) barriers.new.items ≡ true }
+    ensures covered { (key number : ℕ) → drain_of (get groups.now key) ≡ Some number
+        → list_any (covers key number) barriers.old.items ≡ true
+        → list_any (covers key number) barriers.new.items ≡ true }
     ensures sorted { IsSorted barriers.old.items → IsSorted barriers.new.items }
     ensures beyond { (n : ℕ) → IsBeyond barriers.old.items n → IsBeyond barriers.new.items n }
     ensures live { IsLiveFront groups.now.slots barriers.new.items }

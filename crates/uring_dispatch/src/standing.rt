@@ -62,7 +62,8 @@ pub(crate) fn is_ready(window: &Window, groups: &Groups, n: u64, request: &Reque
 /// The request that the cancel `n` of these user data chooses: the least that is outstanding, another one, has the user data, and isn't doomed. Our own rule.
 pub(crate) fn target(window: &Window, groups: &Groups, n: u64, user_data: u64) -> Option<u64>
     requires { IsSound window.now groups.now }
-    ensures target { (r : Requests) → AreHeld window.now groups.now r → user_data ≡ addr_of (entry_of r n) → result ≡ spec.target_of r n }
+    ensures target { (r : Requests) → AreHeld window.now groups.now r
+        → user_data ≡ addr_of (entry_of r n) → result ≡ spec.target_of r n }
     ensures there { IfSome result (λ m. is_some (at window.now m) ≡ true) }
 {
     for m in window.first()..window.end() {
@@ -76,7 +77,8 @@ pub(crate) fn target(window: &Window, groups: &Groups, n: u64, user_data: u64) -
 /// Whether the cancel `n` of all requests with these user data has request `m` as a target: what a cancel may choose, if it isn't running. Our own rule.
 pub(crate) fn is_target(window: &Window, groups: &Groups, n: u64, m: u64, user_data: u64) -> bool
     requires { IsSound window.now groups.now }
-    ensures target { (r : Requests) → AreHeld window.now groups.now r → user_data ≡ addr_of (entry_of r n) → result ≡ spec.is_target r n m }
+    ensures target { (r : Requests) → AreHeld window.now groups.now r
+        → user_data ≡ addr_of (entry_of r n) → result ≡ spec.is_target r n m }
     ensures there { result ≡ true → is_some (at window.now m) ≡ true }
 {
     is_candidate(window, groups, n, m, user_data) && !window.is_running(m)
@@ -85,7 +87,8 @@ pub(crate) fn is_target(window: &Window, groups: &Groups, n: u64, m: u64, user_d
 /// Whether the cancel `n` of these user data may choose request `m`.
 fn is_candidate(window: &Window, groups: &Groups, n: u64, m: u64, user_data: u64) -> bool
     requires { IsSound window.now groups.now }
-    ensures candidate { (r : Requests) → AreHeld window.now groups.now r → user_data ≡ addr_of (entry_of r n) → result ≡ spec.is_candidate r n m }
+    ensures candidate { (r : Requests) → AreHeld window.now groups.now r
+        → user_data ≡ addr_of (entry_of r n) → result ≡ spec.is_candidate r n m }
     ensures there { result ≡ true → is_some (at window.now m) ≡ true }
 {
     let Some(request) = window.get(m) else {

@@ -61,8 +61,10 @@ impl Waiting {
         requires fits { n < 2 ^ 63 }
         requires low { (p : Group) → group_at groups.now key ≡ Some p → Starts self.old p.least }
         ensures own { IsListedAt window.now groups.now self.new n }
-        ensures members { (p : Group) → group_at groups.now key ≡ Some p → p.fault ≡ Some n → (k : ℕ) → p.least ≤ k → k < n → IsListedAt window.now groups.now self.new k }
-        ensures told { (k : ℕ) → IsListedAt window.now groups.now self.old k → IsListedAt window.now groups.now self.new k }
+        ensures members { (p : Group) → group_at groups.now key ≡ Some p → p.fault ≡ Some n
+            → (k : ℕ) → p.least ≤ k → k < n → IsListedAt window.now groups.now self.new k }
+        ensures told { (k : ℕ) → IsListedAt window.now groups.now self.old k
+            → IsListedAt window.now groups.now self.new k }
         ensures heads_reach { GrowsTo self.old.heads self.new.heads n }
         ensures doomed_reach { GrowsTo self.old.doomed self.new.doomed n }
     {
@@ -96,7 +98,8 @@ impl Waiting {
     /// Tells anew of request `m`, unless it is `n`, of which it was told.
     pub(crate) fn relist_other(&mut self, window: &Window, groups: &Groups, m: u64, n: u64)
         requires { CanTell self.old m }
-        ensures here { IsListedAt window.now groups.now self.old n → IsListedAt window.now groups.now self.new m }
+        ensures here { IsListedAt window.now groups.now self.old n
+            → IsListedAt window.now groups.now self.new m }
         ensures keeps { Keeps window.now groups.now self.old self.new }
     {
         if m == n {

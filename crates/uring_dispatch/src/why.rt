@@ -66,7 +66,8 @@ fn doom(window: &Window, groups: &Groups, n: u64, request: &Request) -> Doom
 fn waiting(window: &Window, groups: &Groups, n: u64, request: &Request) -> Why
     requires sound { IsSound window.now groups.now }
     requires there { at window.now n ≡ Some request.now }
-    ensures { (r : Requests) → AreHeld window.now groups.now r → result ≡ waiting_for r n (holder_of r n) }
+    ensures { (r : Requests) → AreHeld window.now groups.now r
+        → result ≡ waiting_for r n (holder_of r n) }
 {
     for m in window.first()..n {
         if let Some(since) = wait(window, groups, n, request, m) {

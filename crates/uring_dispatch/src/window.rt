@@ -131,7 +131,8 @@ impl Window {
     /// The key of request `n`, if it is outstanding. It stays until the request ends.
     pub(crate) fn key(&self, n: u64) -> Option<usize>
         ensures value { result ≡ key_at self.now.first self.now.keys n }
-        ensures there { IfSome result (λ key. is_some (found_by self.now.requests (Some key)) ≡ true) }
+        ensures there { IfSome result
+            (λ key. is_some (found_by self.now.requests (Some key)) ≡ true) }
     {
         key_of(self.first, &self.keys, n)
     }
@@ -188,7 +189,8 @@ impl Window {
     pub(crate) fn start(&mut self, n: u64)
         requires there { is_some (at self.old n) ≡ true }
         requires waits { runs (at self.old n) ≡ false }
-        ensures changes { (q : Request) → at self.old n ≡ Some q → Changes self.old self.new n (Some (started q)) }
+        ensures changes { (q : Request) → at self.old n ≡ Some q
+            → Changes self.old self.new n (Some (started q)) }
         ensures running { self.new.running ≡ self.old.running + 1 }
         ensures same { IsAsBefore self.old self.new }
     {
@@ -202,7 +204,8 @@ impl Window {
     /// Notes that a cancel chose request `n`.
     pub(crate) fn choose(&mut self, n: u64)
         requires { is_some (at self.old n) ≡ true }
-        ensures changes { (q : Request) → at self.old n ≡ Some q → Changes self.old self.new n (Some (chosen q)) }
+        ensures changes { (q : Request) → at self.old n ≡ Some q
+            → Changes self.old self.new n (Some (chosen q)) }
         ensures running { self.new.running ≡ self.old.running }
         ensures same { IsAsBefore self.old self.new }
     {
@@ -233,7 +236,8 @@ impl Window {
 /// Notes that the request of this key was started.
 fn mark_running(requests: &mut Slab<Request>, key: usize)
     requires { ContainsKey requests.old key }
-    ensures here { (q : Request) → get requests.old key ≡ Some q → get requests.new key ≡ Some (started q) }
+    ensures here { (q : Request) → get requests.old key ≡ Some q
+        → get requests.new key ≡ Some (started q) }
     ensures others { (other : ℕ) → other ≢ key → get requests.new other ≡ get requests.old other }
     ensures len { slab_len requests.new ≡ slab_len requests.old }
     ensures capacity { requests.new.capacity ≡ requests.old.capacity }
@@ -244,7 +248,8 @@ fn mark_running(requests: &mut Slab<Request>, key: usize)
 /// Notes that a cancel chose the request of this key.
 fn mark_cancelled(requests: &mut Slab<Request>, key: usize)
     requires { ContainsKey requests.old key }
-    ensures here { (q : Request) → get requests.old key ≡ Some q → get requests.new key ≡ Some (chosen q) }
+    ensures here { (q : Request) → get requests.old key ≡ Some q
+        → get requests.new key ≡ Some (chosen q) }
     ensures others { (other : ℕ) → other ≢ key → get requests.new other ≡ get requests.old other }
     ensures len { slab_len requests.new ≡ slab_len requests.old }
     ensures capacity { requests.new.capacity ≡ requests.old.capacity }

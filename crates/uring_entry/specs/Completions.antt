@@ -32,7 +32,8 @@ put_by_flush size l = min (length l.posted) (l.head + size)
 
 -- the next to be reaped, if the tail last loaded shows one
 abbrev pub next_to_reap : Completions → Option Cqe
-next_to_reap l = if length l.reaped == l.seen_tail then None else slice_get l.posted (length l.reaped)
+next_to_reap l =
+    if length l.reaped == l.seen_tail then None else slice_get l.posted (length l.reaped)
 
 -- the posted ones that aren't reaped
 abbrev pub unreaped : Completions → List Cqe
@@ -47,7 +48,11 @@ with_posted size l completion =
 
 -- the completion of a request of this entry that ended with this result and these bytes
 abbrev pub completion_for : Sqe → ℤ → List ℕ → Cqe
-completion_for entry res bytes = record { user_data = user_data_of entry; res = res; payload = bytes }
+completion_for entry res bytes = record {
+  user_data = user_data_of entry;
+  res = res;
+  payload = bytes;
+}
 
 -- the end of a request with this entry: its completion is posted, unless it is to be skipped. io_uring(7), DESCRIPTION, and io_uring_enter(2), IOSQE_CQE_SKIP_SUCCESS
 abbrev pub with_end : ℕ → Completions → Sqe → ℤ → List ℕ → Completions

@@ -7,4 +7,5 @@ word_of start count = (start + count) % 2 ^ 32
 
 -- Counts less than 2^32 apart have one word only if they are equal.
 abbrev pub WordTellsCount : Type 0
-WordTellsCount = (start a b : ℕ) → word_of start a ≡ word_of start b → a ≤ b → b < a + 2 ^ 32 → a ≡ b
+WordTellsCount =
+    (start a b : ℕ) → word_of start a ≡ word_of start b → a ≤ b → b < a + 2 ^ 32 → a ≡ b

@@ -100,7 +100,11 @@ pub record HasWords (c : Cqe) (words : List ℕ) : Type 0 where
 -- the completion that ten words hold, whatever flags stand in the high half of the second
 abbrev pub completion_of : List ℕ → Cqe
 completion_of words =
-    record { user_data = slice_index words 0; res = cast_signed w32 (slice_index words 1 % 2 ^ 32); payload = bytes_of (drop 2 words) }
+    record {
+      user_data = slice_index words 0;
+      res = cast_signed w32 (slice_index words 1 % 2 ^ 32);
+      payload = bytes_of (drop 2 words);
+    }
 
 -- the same words with no flags
 abbrev pub without_flags : List ℕ → List ℕ
@@ -108,12 +112,15 @@ without_flags words = slice_set words 1 (slice_index words 1 % 2 ^ 32)
 
 -- The words of a completion, whose result has 32 bits, give it back.
 abbrev pub WordsGiveBack : Type 0
-WordsGiveBack = (c : Cqe) (words : List ℕ) → FitsSigned w32 c.res → HasWords c words → completion_of words ≡ c
+WordsGiveBack =
+    (c : Cqe) (words : List ℕ) → FitsSigned w32 c.res → HasWords c words → completion_of words ≡ c
 
 -- So they are no other completion's.
 abbrev pub WordsDetermine : Type 0
-WordsDetermine = (c d : Cqe) (words : List ℕ) → FitsSigned w32 c.res → FitsSigned w32 d.res → HasWords c words → HasWords d words → c ≡ d
+WordsDetermine = (c d : Cqe) (words : List ℕ) → FitsSigned w32 c.res → FitsSigned w32 d.res
+    → HasWords c words → HasWords d words → c ≡ d
 
 -- Ten words of 64 bits are, but for their flags, the words of the completion that they hold, and no other words are.
 abbrev pub WordsAreKept : Type 0
-WordsAreKept = (words again : List ℕ) → length words ≡ 10 → AreWords words → HasWords (completion_of words) again ↔ (again ≡ without_flags words)
+WordsAreKept = (words again : List ℕ) → length words ≡ 10 → AreWords words
+    → HasWords (completion_of words) again ↔ (again ≡ without_flags words)

@@ -101,7 +101,8 @@ is_in_faulty_group r n = some_member r is_faulty n
 
 -- an earlier member of n's group has a soft link and failed. io_uring_enter(2), IOSQE_IO_LINK; that it reaches all later members is our own rule
 unfoldable pub is_behind_failure : Requests → ℕ → Bool
-is_behind_failure r n = some_below (λ m. is_joined r m n && is_soft (entry_of r m) && has_failed r m) n
+is_behind_failure r n =
+    some_below (λ m. is_joined r m n && is_soft (entry_of r m) && has_failed r m) n
 
 -- a cancel chose n before it started
 abbrev pub is_cancelled : Requests → ℕ → Bool
@@ -145,7 +146,8 @@ doomed_result r n = if is_faulty (entry_of r n) then neg_ℤ EINVAL else neg_ℤ
 
 -- whether the cancel n may choose m: it is outstanding, another request, has the user data that the cancel names, and isn't doomed
 abbrev pub is_candidate : Requests → ℕ → ℕ → Bool
-is_candidate r n m = is_outstanding r m && not (m == n) && (user_data_of (entry_of r m) == addr_of (entry_of r n)) && not (is_doomed r m)
+is_candidate r n m =
+    is_outstanding r m && not (m == n) && (user_data_of (entry_of r m) == addr_of (entry_of r n)) && not (is_doomed r m)
 
 -- the request that the cancel n chooses: the least that it may. Our own rule
 unfoldable pub target_of : Requests → ℕ → Option ℕ
@@ -170,11 +172,14 @@ count_result count = pos (min count (2 ^ 31 - 1))
 
 -- what the cancel n ends with
 abbrev pub cancel_result : Requests → ℕ → ℤ
-cancel_result r n = if is_cancel_all (entry_of r n) then count_result (length (targets_of r n)) else result_for r (target_of r n)
+cancel_result r n =
+    if is_cancel_all (entry_of r n) then count_result (length (targets_of r n)) else
+    result_for r (target_of r n)
 
 -- whom the cancel n chooses: each of its targets if it is one of all, and else one at most
 abbrev pub choices_of : Requests → ℕ → List ℕ
-choices_of r n = if is_cancel_all (entry_of r n) then targets_of r n else option_to_list (target_of r n)
+choices_of r n =
+    if is_cancel_all (entry_of r n) then targets_of r n else option_to_list (target_of r n)
 
 -- What is told of them.
 
@@ -213,7 +218,8 @@ with_started r n = record r { started = r.started ++ n ∷ [] }
 
 -- a request ends
 abbrev pub with_ended : Requests → ℕ → ℤ → List ℕ → Requests
-with_ended r n res bytes = record r { ended = r.ended ++ record { number = n; res = res; bytes = bytes } ∷ [] }
+with_ended r n res bytes =
+    record r { ended = r.ended ++ record { number = n; res = res; bytes = bytes } ∷ [] }
 
 -- the bytes of an end that gives none
 abbrev pub no_bytes : List ℕ
@@ -225,7 +231,8 @@ with_cancelled r chosen = record r { cancelled = r.cancelled ++ chosen }
 
 -- who is doomed by the end of n with this result: whom a cancel chose that succeeded. Our own rule, also for one that waits in a chain or for a drain
 abbrev pub chosen_by : Requests → ℕ → ℤ → List ℕ
-chosen_by r n res = if is_cancel (entry_of r n) && is_success (entry_of r n) res then choices_of r n else []
+chosen_by r n res =
+    if is_cancel (entry_of r n) && is_success (entry_of r n) res then choices_of r n else []
 
 -- a request ends as it is issued, and a cancel that succeeded dooms whom it chose
 abbrev pub with_issued_end : Requests → ℕ → ℤ → Requests

@@ -34,7 +34,14 @@ pub record Submission : Type 0 where
 -- nothing has happened: every slot holds the zero entry
 abbrev pub no_submission : Submission
 no_submission =
-    record { content = λ slot. zero_entry; published = []; fresh = []; call = None; calls = []; seen_head = 0 }
+    record {
+      content = λ slot. zero_entry;
+      published = [];
+      fresh = [];
+      call = None;
+      calls = [];
+      seen_head = 0;
+    }
 
 -- Counts and lists that follow from it.
 
@@ -121,11 +128,15 @@ with_staged l word = record l { fresh = l.fresh ++ word ∷ [] }
 
 -- the place of a word when it is published, in a ring of this size
 abbrev pub place_of : ℕ → (ℕ → Sqe) → ℕ → Place
-place_of size content word = record { word = word; entry = if nat_lt word size then Some (content word) else None }
+place_of size content word = record {
+  word = word;
+  entry = if nat_lt word size then Some (content word) else None;
+}
 
 -- the tail is stored: everything staged is published. io_uring(7), Submitting I/O requests
 abbrev pub with_published : ℕ → Submission → Submission
-with_published size l = record l { published = l.published ++ map (place_of size l.content) l.fresh; fresh = [] }
+with_published size l =
+    record l { published = l.published ++ map (place_of size l.content) l.fresh; fresh = [] }
 
 -- the application loads the head
 abbrev pub with_head_loaded : Submission → Submission

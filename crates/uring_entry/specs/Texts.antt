@@ -7,7 +7,8 @@ use Rattle.uring_entry.specs.declared.fault.Fault.TheVariants.{Flags, Opcode, Io
 
 abbrev pub refusal_text : BadSetup → List ℕ
 refusal_text BadSq = codes "the submission ring has 1 to 4096 entries"
-refusal_text BadCq = codes "the completion ring has 1 to 8192 entries, and not fewer than the submission ring"
+refusal_text BadCq =
+    codes "the completion ring has 1 to 8192 entries, and not fewer than the submission ring"
 refusal_text BadFiles = codes "there are 1 to 64 files"
 
 abbrev pub fault_text : Fault → List ℕ

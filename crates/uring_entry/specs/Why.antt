@@ -48,7 +48,8 @@ holder_of r n = least_below (holds_back r n) n
 
 -- why n waits for m, an earlier one, if it does
 abbrev pub since_of : Requests → ℕ → ℕ → Since
-since_of r n m = if is_joined r m n then SameGroup else if is_draining r m then ItDrains else OwnDrains
+since_of r n m =
+    if is_joined r m n then SameGroup else if is_draining r m then ItDrains else OwnDrains
 
 -- how n stands if this keeps it from starting, or nothing does
 abbrev pub waiting_for : Requests → ℕ → Option ℕ → Why

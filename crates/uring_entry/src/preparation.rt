@@ -14,7 +14,8 @@ use bitflags::Flags;
 ///
 /// Which operation takes which fields is that of io_uring_enter(2). The faults are our own rule but for `Opcode` and an invalid flag (CQE ERRORS, EINVAL), and so are their order and the fields that may hold anything.
 pub fn prepare(entry: &Sqe) -> Result<Op, Fault>
-    ensures right { IfOk result (λ op. (fault_of entry.now ≡ None) × (op ≡ operation_of entry.now)) }
+    ensures right { IfOk result
+        (λ op. (fault_of entry.now ≡ None) × (op ≡ operation_of entry.now)) }
     ensures faulty { IfErr result (λ fault. fault_of entry.now ≡ Some fault) }
 {
     match first_fault(entry) {

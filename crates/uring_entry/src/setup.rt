@@ -22,7 +22,8 @@ impl Model for Setup {
 
     ghost view = { λ s. record { sq = s.sq; cq = s.cq; files = s.files; start = s.start; stops = s.stops } };
 
-    ghost invariant = { λ s. IsWithinLimits (record { sq = s.sq; cq = s.cq; files = s.files; start = s.start; stops = s.stops }) };
+    ghost invariant = { λ s. IsWithinLimits
+        (record { sq = s.sq; cq = s.cq; files = s.files; start = s.start; stops = s.stops }) };
 
     ghost inverse = { λ s. record { sq = s.sq; cq = s.cq; files = s.files; start = s.start; stops = s.stops } };
 }
@@ -47,8 +48,10 @@ impl Setup {
     pub fn new(sq: u32, cq: Option<u32>, files: u32, start: u32) -> Result<Setup, BadSetup>
         ensures ok { IfOk result (λ s. IsSetupFor sq cq files start s) }
         ensures bad_sq { IsErrOf result BadSetup.BadSq ↔ IsBadSq sq }
-        ensures bad_cq { IsErrOf result BadSetup.BadCq ↔ ((IsBadSq sq → ⊥) × ((p : ℕ) → IsNextPowerOfTwo sq p → IsBadCq p cq)) }
-        ensures bad_files { IsErrOf result BadSetup.BadFiles ↔ ((IsBadSq sq → ⊥) × ((p : ℕ) → IsNextPowerOfTwo sq p → IsBadCq p cq → ⊥) × IsBadFiles files) }
+        ensures bad_cq { IsErrOf result BadSetup.BadCq
+            ↔ ((IsBadSq sq → ⊥) × ((p : ℕ) → IsNextPowerOfTwo sq p → IsBadCq p cq)) }
+        ensures bad_files { IsErrOf result BadSetup.BadFiles
+            ↔ ((IsBadSq sq → ⊥) × ((p : ℕ) → IsNextPowerOfTwo sq p → IsBadCq p cq → ⊥) × IsBadFiles files) }
     {
         if sq < 1 || sq > Setup::MAX_SQ {
             return Err(BadSetup::BadSq);
@@ -133,7 +136,8 @@ fn submission_size(asked: u32) -> u32
 fn completion_size(sq: u32, asked: Option<u32>) -> Option<u32>
     requires { IsPowerOfTwo sq × (sq ≤ 4096) }
     ensures none { IsNone result ↔ IsBadCq sq asked }
-    ensures some { IfSome result (λ size. IsNextPowerOfTwo (unwrap_or asked (2 * sq)) size × (sq ≤ size) × (size ≤ 8192)) }
+    ensures some { IfSome result
+        (λ size. IsNextPowerOfTwo (unwrap_or asked (2 * sq)) size × (sq ≤ size) × (size ≤ 8192)) }
 {
     let Some(asked) = asked else {
         return Some(2 * sq);

@@ -180,7 +180,8 @@ impl Sqe {
     /// A write of 0 to 64 bytes to file `fd` at offset `off`, in bytes. io_uring_enter(2), IORING_OP_WRITE. At offset 2^64 - 1 it is a faulty entry.
     pub fn write(user_data: u64, flags: u8, fd: i32, off: u64, bytes: &[u8]) -> Sqe
         requires { length bytes.now ≤ 64 }
-        ensures { HasData result (header WRITE flags fd off 0 (length bytes.now) user_data) bytes.now }
+        ensures { HasData result
+            (header WRITE flags fd off 0 (length bytes.now) user_data) bytes.now }
     {
         let first = word_zero(opcode::WRITE, flags, fd);
         let len = bytes.len() as u64;
@@ -209,7 +210,9 @@ impl Sqe {
 
     /// A cancel of all requests with the user data `target` that aren't running. io_uring_prep_cancel(3), IORING_ASYNC_CANCEL_ALL; that those that run go on is our own rule.
     pub fn cancel_all(user_data: u64, flags: u8, target: u64) -> Sqe
-        ensures { result ≡ without_data (header ASYNC_CANCEL flags (pos 0) 0 target (2 ^ 32 * ASYNC_CANCEL_ALL) user_data) }
+        ensures { result
+            ≡ without_data
+            (header ASYNC_CANCEL flags (pos 0) 0 target (2 ^ 32 * ASYNC_CANCEL_ALL) user_data) }
     {
         let first = word_zero(opcode::ASYNC_CANCEL, flags, 0);
         let operation_flags = u64::from(opcode::ASYNC_CANCEL_ALL) << 32;

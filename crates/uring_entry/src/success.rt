@@ -24,7 +24,8 @@ pub fn succeeded(entry: &Sqe, res: i32) -> bool
 
 /// Whether the end of a request of this entry posts a completion, if it succeeded or not as told: each does but a success that the entry asks to skip. io_uring_enter(2), IOSQE_CQE_SKIP_SUCCESS.
 pub fn posts_completion(entry: &Sqe, is_success: bool) -> bool
-    ensures { (res : ℤ) → is_success ≡ spec.is_success entry.now res → result ≡ spec.posts_completion entry.now res }
+    ensures { (res : ℤ) → is_success ≡ spec.is_success entry.now res
+        → result ≡ spec.posts_completion entry.now res }
 {
     !(entry.has(SqeFlags::CQE_SKIP_SUCCESS) && is_success)
 }

@@ -45,7 +45,8 @@ overwritten old off new =
 
 -- a file after a successful write
 abbrev pub written : ℕ → List ℕ → FileContents → FileContents
-written off new file = record file { bytes = overwritten file.bytes off new; writes = (file.writes + 1) % 2 ^ 64 }
+written off new file =
+    record file { bytes = overwritten file.bytes off new; writes = (file.writes + 1) % 2 ^ 64 }
 
 -- a file after a sync: its successful writes so far are noted as safe. io_uring_enter(2), IORING_OP_FSYNC
 abbrev pub with_writes_synced : FileContents → FileContents

@@ -9,19 +9,24 @@ use Rattle.uring_files.specs.Operations.{file_of, result_of, is_lengthening, aft
 -- Bytes that were written over: each offset under the write has the new byte, and each other the old one. Past the end of the old bytes each counts as 0
 pub record IsWrittenOver (old new : List ℕ) (off : ℕ) (now : List ℕ) : Type 0 where
   pub len : length now ≡ max (length old) (off + length new)
-  pub bytes : (k : ℕ) → slice_index now k ≡ (if nat_le off k && nat_lt k (off + length new) then slice_index new (k - off) else slice_index old k)
+  pub bytes : (k : ℕ)
+      → slice_index now k
+      ≡ (if nat_le off k && nat_lt k (off + length new) then slice_index new (k - off) else slice_index old k)
 
 -- a write of some bytes writes over what is there, and changes nothing else
 abbrev pub WritesOver : Type 0
-WritesOver = (old new : List ℕ) (off : ℕ) → 1 ≤ length new → IsWrittenOver old new off (overwritten old off new)
+WritesOver = (old new : List ℕ) (off : ℕ) → 1 ≤ length new
+    → IsWrittenOver old new off (overwritten old off new)
 
 -- what was written is read back
 abbrev pub ReadsBack : Type 0
-ReadsBack = (file : FileContents) (new : List ℕ) (off : ℕ) → bytes_at off (length new) (written off new file) ≡ new
+ReadsBack = (file : FileContents) (new : List ℕ) (off : ℕ)
+    → bytes_at off (length new) (written off new file) ≡ new
 
 -- an end with a negative result changes no file
 abbrev pub FailureChangesNothing : Type 0
-FailureChangesNothing = (files : List FileContents) (op : Op) (below : ℕ) → after files op (negsuc below) ≡ files
+FailureChangesNothing =
+    (files : List FileContents) (op : Op) (below : ℕ) → after files op (negsuc below) ≡ files
 
 -- Lists of files with the same file of this descriptor.
 abbrev pub AgreeAt : ℤ → List FileContents → List FileContents → Type 0
@@ -36,13 +41,17 @@ is_on own other = false
 
 -- an operation leaves the files as they are that it isn't on
 abbrev pub OthersStay : Type 0
-OthersStay = (files : List FileContents) (op : Op) (res : ℤ) (fd : ℤ) → is_on fd op ≡ false → AgreeAt fd (after files op res) files
+OthersStay = (files : List FileContents) (op : Op) (res : ℤ) (fd : ℤ) → is_on fd op ≡ false
+    → AgreeAt fd (after files op res) files
 
 -- what becomes of a file by an operation doesn't depend on the other files
 abbrev pub FilesStandAlone : Type 0
-FilesStandAlone = (files others : List FileContents) (op : Op) (res : ℤ) (fd : ℤ) → AgreeAt fd files others → AgreeAt fd (after files op res) (after others op res)
+FilesStandAlone = (files others : List FileContents) (op : Op) (res : ℤ) (fd : ℤ)
+    → AgreeAt fd files others → AgreeAt fd (after files op res) (after others op res)
 
 -- how an operation ends doesn't depend on the files that it isn't on
 abbrev pub EndsStandAlone : Type 0
-EndsStandAlone = (files others : List FileContents) (op : Op) → ((fd : ℤ) → is_on fd op ≡ true → AgreeAt fd files others)
-    → (result_of files op ≡ result_of others op) × (is_lengthening files op ≡ is_lengthening others op)
+EndsStandAlone = (files others : List FileContents) (op : Op)
+    → ((fd : ℤ) → is_on fd op ≡ true → AgreeAt fd files others)
+    → (result_of files op ≡ result_of others op)
+    × (is_lengthening files op ≡ is_lengthening others op)

@@ -17,7 +17,8 @@ file_of files (negsuc below) = None
 
 -- the files with that of a descriptor changed, where it has one
 abbrev pub with_changed : List FileContents → ℤ → (FileContents → FileContents) → List FileContents
-with_changed files (pos fd) change = slice_set files fd (change (slice_index_or files fd empty_file))
+with_changed files (pos fd) change =
+    slice_set files fd (change (slice_index_or files fd empty_file))
 with_changed files (negsuc below) change = files
 
 -- what can be asked of files: anything but a cancel, and no transfer of more than 64 bytes
@@ -53,13 +54,15 @@ is_lengthening files other = false
 -- The outcomes that an operation may have on these files: that called for, and ENOMEM for a write that makes its file longer. Our own rule
 abbrev pub IsOutcome : List FileContents → Op → Outcome → Type 0
 IsOutcome files op outcome =
-    (outcome ≡ result_of files op) ⊎ ((is_lengthening files op ≡ true) × (outcome ≡ ended_with (neg_ℤ ENOMEM)))
+    (outcome ≡ result_of files op)
+    ⊎ ((is_lengthening files op ≡ true) × (outcome ≡ ended_with (neg_ℤ ENOMEM)))
 
 -- The files after an end of an operation with this result: a write and a sync change their file where they succeeded, and nothing else changes any. io_uring_enter(2), IORING_OP_WRITE and IORING_OP_FSYNC
 abbrev pub after : List FileContents → Op → ℤ → List FileContents
 after files (Write fd off len bytes) res =
     if int_eq res (pos len) then with_changed files fd (written off (take len bytes)) else files
-after files (Fsync fd) res = if int_eq res (pos 0) then with_changed files fd with_writes_synced else files
+after files (Fsync fd) res =
+    if int_eq res (pos 0) then with_changed files fd with_writes_synced else files
 after files other res = files
 
 -- what is told of the file of a descriptor

@@ -66,7 +66,8 @@ impl File {
 
     /// How the file stands.
     pub(crate) fn state(&self) -> FileState
-        ensures value { result ≡ record { len = length self.now.bytes; writes = self.now.writes; synced = self.now.synced } }
+        ensures value { result
+            ≡ record { len = length self.now.bytes; writes = self.now.writes; synced = self.now.synced } }
         ensures limit { result.len ≤ max_len }
     {
         FileState {
@@ -110,8 +111,10 @@ impl File {
         requires { length bytes.now ≤ 64 }
         ensures ok { OnOk result (self.new ≡ written off bytes.now self.old) }
         ensures err { OnErr result (self.new ≡ self.old) }
-        ensures too_long { IsErrOf result WriteFault.TooLong ↔ IsTrue (is_too_long off (length bytes.now)) }
-        ensures no_memory { IsErrOf result WriteFault.NoMemory → IsTrue (is_past_end off (length bytes.now) self.old) }
+        ensures too_long { IsErrOf result WriteFault.TooLong
+            ↔ IsTrue (is_too_long off (length bytes.now)) }
+        ensures no_memory { IsErrOf result WriteFault.NoMemory
+            → IsTrue (is_past_end off (length bytes.now) self.old) }
     {
         if !bytes.is_empty() {
             if off > u64::from(File::MAX_LEN) - bytes.len() as u64 {

@@ -109,7 +109,8 @@ impl Files {
     /// Writes the first `len` of the bytes to the file of a descriptor at `off`, and returns the result.
     fn write(&mut self, fd: i32, off: u64, len: u32, bytes: &[u8; 64]) -> i32
         requires { len ≤ 64 }
-        ensures outcome { IsOutcome self.old (Op.Write fd off len bytes.now) (spec.ended_with result) }
+        ensures outcome { IsOutcome self.old (Op.Write fd off len bytes.now)
+            (spec.ended_with result) }
         ensures files { self.new ≡ after self.old (Op.Write fd off len bytes.now) result }
     {
         let Some(place) = self.place(fd) else {

@@ -36,7 +36,8 @@ before_last is_kind (event ∷ before) = if is_kind event then before else befor
 -- what stands after the last event of this kind: everything, if there is none
 abbrev pub since_last : (Event → Bool) → History → History
 since_last is_kind [] = []
-since_last is_kind (event ∷ before) = if is_kind event then [] else event ∷ since_last is_kind before
+since_last is_kind (event ∷ before) =
+    if is_kind event then [] else event ∷ since_last is_kind before
 
 -- The lists.
 
@@ -93,7 +94,8 @@ taken_since h = count_by takes_position (since_last opens_call h)
 -- how many positions each call took that was closed, in order
 abbrev pub call_counts : History → List ℕ
 call_counts [] = []
-call_counts (event ∷ before) = if closes_call event then call_counts before ++ taken_since before ∷ [] else call_counts before
+call_counts (event ∷ before) =
+    if closes_call event then call_counts before ++ taken_since before ∷ [] else call_counts before
 
 -- how many positions closed calls took
 abbrev pub taken_count : History → ℕ

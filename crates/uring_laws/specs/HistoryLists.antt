@@ -17,7 +17,8 @@ posted_count g h = length (posts (world g h).requests.accepted h)
 
 -- whether an event that comes next posts a completion
 abbrev pub posts_one : Setup → History → Event → Bool
-posts_one g before event = is_some (option_and_then (completion_of (world g before).requests.accepted) (end_told_by event))
+posts_one g before event =
+    is_some (option_and_then (completion_of (world g before).requests.accepted) (end_told_by event))
 
 -- How many completions were put into the ring. One that is posted goes there if none waits in the overflow list and the ring has room above the head last loaded; a flush puts as many as fit above the head last stored. io_uring_setup(2), IORING_FEAT_NODROP; that flushing is a step of its own is our own rule
 abbrev pub put_count : Setup → History → ℕ
@@ -33,7 +34,9 @@ pub record OwnSubmission (g : Setup) (h : History) : Type 0 where
   pub content : (slot : ℕ) → (world g h).submission.content slot ≡ slot_content h slot
   pub published : map (λ place. place.word) (world g h).submission.published ≡ published_words h
   pub staged : published_words h ++ (world g h).submission.fresh ≡ staged_words h
-  pub entries : (position : ℕ) (place : Place) → slice_get (world g h).submission.published position ≡ Some place → place.entry ≡ published_entry g.sq h position
+  pub entries : (position : ℕ) (place : Place)
+      → slice_get (world g h).submission.published position ≡ Some place
+      → place.entry ≡ published_entry g.sq h position
   pub call : (world g h).submission.call ≡ open_call g h
   pub calls : (world g h).submission.calls ≡ call_counts h
   pub seen_head : (world g h).submission.seen_head ≡ loaded_head h

@@ -22,7 +22,8 @@ use Rattle.uring_machine.specs.declared.answer.Answer.TheVariants as answer
 -- The entries that calls took are the ones that a beginning of the published positions has, each position once, in order: that beginning is as long as positions were taken.
 pub record TakenOnceInOrder (g : Setup) (h : History) : Type 0 where
   pub beginning : positions_taken h ≤ length (world g h).submission.published
-  pub in_order : entries_taken h ≡ entries_of (take (positions_taken h) (world g h).submission.published)
+  pub in_order : entries_taken h
+      ≡ entries_of (take (positions_taken h) (world g h).submission.published)
 
 -- how often a request was started, and how often it ended
 abbrev pub times_started : History → ℕ → ℕ
@@ -37,21 +38,26 @@ pub record EachEndsOnce (g : Setup) (h : History) : Type 0 where
   pub ends_once : (n : ℕ) → times_ended h n ≤ 1
   pub accepted_start : (n : ℕ) → 0 < times_started h n → n < length (world g h).requests.accepted
   pub accepted_end : (n : ℕ) → 0 < times_ended h n → n < length (world g h).requests.accepted
-  pub all_end : ((n : ℕ) → is_outstanding (world g h).requests n ≡ false) → (n : ℕ) → n < length (world g h).requests.accepted → times_ended h n ≡ 1
+  pub all_end : ((n : ℕ) → is_outstanding (world g h).requests n ≡ false) → (n : ℕ)
+      → n < length (world g h).requests.accepted → times_ended h n ≡ 1
 
 -- A doomed request was never started, and each end of it has the result of the doomed: EINVAL if it has a fault itself, else ECANCELED.
 pub record DoomedNeverRun (g : Setup) (h : History) : Type 0 where
   pub never_run : (n : ℕ) → is_doomed (world g h).requests n ≡ true → times_started h n ≡ 0
-  pub ends_so : (k : ℕ) (e : Ending) → slice_get (ends h) k ≡ Some e → is_doomed (world g h).requests e.number ≡ true → e.res ≡ doomed_result (world g h).requests e.number
+  pub ends_so : (k : ℕ) (e : Ending) → slice_get (ends h) k ≡ Some e
+      → is_doomed (world g h).requests e.number ≡ true
+      → e.res ≡ doomed_result (world g h).requests e.number
 
 -- A doomed request stays doomed.
 abbrev pub DoomedStayDoomed : Setup → Type 0
-DoomedStayDoomed g = (after before : History) (n : ℕ) → IsLawfulApart g (after ++ before) → n < length (world g before).requests.accepted → is_doomed (world g before).requests n ≡ true
+DoomedStayDoomed g = (after before : History) (n : ℕ) → IsLawfulApart g (after ++ before)
+    → n < length (world g before).requests.accepted → is_doomed (world g before).requests n ≡ true
     → is_doomed (world g (after ++ before)).requests n ≡ true
 
 -- An Issue that ends with ECANCELED is that of a request that was doomed just before.
 abbrev pub CancelledWereDoomed : Setup → Type 0
-CancelledWereDoomed g = (after before : History) (n : ℕ) (bytes : List ℕ) → IsLawfulApart g (after ++ (step.Issue n, answer.Ended (neg_ℤ ECANCELED) bytes) ∷ before)
+CancelledWereDoomed g = (after before : History) (n : ℕ) (bytes : List ℕ)
+    → IsLawfulApart g (after ++ (step.Issue n, answer.Ended (neg_ℤ ECANCELED) bytes) ∷ before)
     → is_doomed (world g before).requests n ≡ true
 
 -- an Issue of n so answered starts it: it runs, or it ends at once and isn't doomed, as a cancel does
@@ -60,8 +66,11 @@ IsStart r n a = (a ≡ answer.Run) ⊎ (IsEnded a × (is_doomed r n ≡ false))
 
 -- Links and drains: when a request starts, each earlier one that it waits for has ended, once.
 abbrev pub LinksAndDrainsHold : Setup → Type 0
-LinksAndDrainsHold g = (after before : History) (m n : ℕ) (a : Answer) → IsLawfulApart g (after ++ (step.Issue n, a) ∷ before) → IsStart (world g before).requests n a → m < n
-    → waits_for (world g (after ++ (step.Issue n, a) ∷ before)).requests n m ≡ true → times_ended before m ≡ 1
+LinksAndDrainsHold g = (after before : History) (m n : ℕ) (a : Answer)
+    → IsLawfulApart g (after ++ (step.Issue n, a) ∷ before) → IsStart (world g before).requests n a
+    → m < n
+    → waits_for (world g (after ++ (step.Issue n, a) ∷ before)).requests n m ≡ true
+    → times_ended before m ≡ 1
 
 -- the completions that stand in the ring: put there, and not reaped
 abbrev pub in_ring : Completions → List Cqe
@@ -82,11 +91,14 @@ pub record ReapedBeginPosted (size : ℕ) (l : Completions) : Type 0 where
 
 -- After the ring is closed, no call opens or closes.
 abbrev pub NothingAfterClose : Setup → Type 0
-NothingAfterClose g = (after before : History) → IsLawfulApart g (after ++ (step.Close, answer.Shut) ∷ before) → list_any takes_in after ≡ false
+NothingAfterClose g = (after before : History)
+    → IsLawfulApart g (after ++ (step.Close, answer.Shut) ∷ before)
+    → list_any takes_in after ≡ false
 
 -- A flush puts all that was posted, if the ring has room for it above the head that the application stored.
 abbrev pub FlushPutsAll : Type 0
-FlushPutsAll = (size : ℕ) (l : Completions) → length l.posted ≤ l.head + size → (with_flushed size l).put ≡ length l.posted
+FlushPutsAll = (size : ℕ) (l : Completions) → length l.posted ≤ l.head + size
+    → (with_flushed size l).put ≡ length l.posted
 
 -- The count of the outstanding requests is 0 exactly if none is outstanding.
 abbrev pub NoneIsOutstanding : Type 0
@@ -96,7 +108,8 @@ NoneIsOutstanding = (r : Requests) → (outstanding_in r ≡ 0) ↔ ((n : ℕ) �
 pub record LeastCanGoOn (w : World) : Type 0 where
   pub least : ℕ
   pub is_least : least_of w.requests ≡ Some least
-  pub goes_on : (is_running w.requests least ≡ true) ⊎ ((next_of w.requests ≡ Some least) × IsIssued (issue_answer w least))
+  pub goes_on : (is_running w.requests least ≡ true)
+      ⊎ ((next_of w.requests ≡ Some least) × IsIssued (issue_answer w least))
 
 -- What is lawful is lawful apart from what operations gave, so that every law holds of it.
 abbrev pub LawfulStandsApart : Setup → Type 0
@@ -104,7 +117,8 @@ LawfulStandsApart g = (h : History) → IsLawful g h → IsLawfulApart g h
 
 -- No Finish ends with ECANCELED: no operation gives it.
 abbrev pub NoFinishCancels : Setup → Type 0
-NoFinishCancels g = (after before : History) (n : ℕ) (bytes : List ℕ) → IsLawful g (after ++ (step.Finish n, answer.Ended (neg_ℤ ECANCELED) bytes) ∷ before) → ⊥
+NoFinishCancels g = (after before : History) (n : ℕ) (bytes : List ℕ)
+    → IsLawful g (after ++ (step.Finish n, answer.Ended (neg_ℤ ECANCELED) bytes) ∷ before) → ⊥
 
 -- What runs can be carried out on files: it is no cancel, and its operation can be asked of them.
 pub record RunsOnFiles (r : Requests) (n : ℕ) : Type 0 where
@@ -113,4 +127,5 @@ pub record RunsOnFiles (r : Requests) (n : ℕ) : Type 0 where
 
 -- Whatever runs in a lawful history can be carried out on files.
 abbrev pub WhatRunsIsForFiles : Setup → Type 0
-WhatRunsIsForFiles g = (h : History) (n : ℕ) → IsLawfulApart g h → is_running (world g h).requests n ≡ true → RunsOnFiles (world g h).requests n
+WhatRunsIsForFiles g = (h : History) (n : ℕ) → IsLawfulApart g h
+    → is_running (world g h).requests n ≡ true → RunsOnFiles (world g h).requests n

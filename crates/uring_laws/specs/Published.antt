@@ -11,7 +11,8 @@ use Rattle.uring_machine.specs.declared.answer.Answer.TheVariants as answer
 
 -- the items published: at each position its word, with the entry that the word's slot held as it was published
 abbrev pub items_told : ℕ → History → List Published
-items_told size h = map (λ place. item_of place.1 (published_entry size h place.0)) (enumerate_from 0 (published_words h))
+items_told size h =
+    map (λ place. item_of place.1 (published_entry size h place.0)) (enumerate_from 0 (published_words h))
 
 -- whether a call drops a position, whose word names no slot
 abbrev pub drops_position : Event → Bool

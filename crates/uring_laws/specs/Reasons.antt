@@ -47,7 +47,8 @@ MayStartIsSaid = (r : Requests) (n : ℕ) → (why_of r n ≡ MayStart) ↔ CanS
 abbrev pub IsSince : Requests → ℕ → ℕ → Since → Type 0
 IsSince r n m SameGroup = is_joined r m n ≡ true
 IsSince r n m ItDrains = (is_joined r m n ≡ false) × (is_draining r m ≡ true)
-IsSince r n m OwnDrains = (is_joined r m n ≡ false) × (is_draining r m ≡ false) × (is_draining r n ≡ true)
+IsSince r n m OwnDrains =
+    (is_joined r m n ≡ false) × (is_draining r m ≡ false) × (is_draining r n ≡ true)
 
 -- n waits for m, the least request that keeps it from starting, for this reason.
 pub record IsWaiting (r : Requests) (n m : ℕ) (since : Since) : Type 0 where
@@ -59,7 +60,8 @@ pub record IsWaiting (r : Requests) (n m : ℕ) (since : Since) : Type 0 where
   pub reason : IsSince r n m since
 
 abbrev pub WaitsIsSaid : Type 0
-WaitsIsSaid = (r : Requests) (n m : ℕ) (since : Since) → why_of r n ≡ Waits m since → IsWaiting r n m since
+WaitsIsSaid =
+    (r : Requests) (n m : ℕ) (since : Since) → why_of r n ≡ Waits m since → IsWaiting r n m since
 
 -- m is the least number below this bound of which p holds
 pub record IsLeastOf (p : ℕ → Bool) (bound m : ℕ) : Type 0 where
@@ -70,12 +72,16 @@ pub record IsLeastOf (p : ℕ → Bool) (bound m : ℕ) : Type 0 where
 -- this dooms n, and nothing that is told before it does
 abbrev pub IsDoomOf : Requests → ℕ → Doom → Type 0
 IsDoomOf r n (OwnFault fault) = fault_of (entry_of r n) ≡ Some fault
-IsDoomOf r n (FaultOf m) = (is_faulty (entry_of r n) ≡ false) × IsLeastOf (is_faulty_member r n) (length r.accepted) m
-IsDoomOf r n (FailureOf m) = (is_in_faulty_group r n ≡ false) × IsLeastOf (is_failure_before r n) n m
-IsDoomOf r n Cancel = (is_in_faulty_group r n ≡ false) × (is_behind_failure r n ≡ false) × (is_cancelled r n ≡ true)
+IsDoomOf r n (FaultOf m) =
+    (is_faulty (entry_of r n) ≡ false) × IsLeastOf (is_faulty_member r n) (length r.accepted) m
+IsDoomOf r n (FailureOf m) =
+    (is_in_faulty_group r n ≡ false) × IsLeastOf (is_failure_before r n) n m
+IsDoomOf r n Cancel =
+    (is_in_faulty_group r n ≡ false) × (is_behind_failure r n ≡ false) × (is_cancelled r n ≡ true)
 
 abbrev pub DoomIsSaid : Type 0
-DoomIsSaid = (r : Requests) (n : ℕ) (doom : Doom) → why_of r n ≡ IsDoomed doom → IsUnstarted r n × (is_doomed r n ≡ true) × IsDoomOf r n doom
+DoomIsSaid = (r : Requests) (n : ℕ) (doom : Doom) → why_of r n ≡ IsDoomed doom
+    → IsUnstarted r n × (is_doomed r n ≡ true) × IsDoomOf r n doom
 
 -- it runs, or it can be issued
 abbrev pub GoesOn : Requests → ℕ → Type 0
@@ -83,7 +89,8 @@ GoesOn r n = (is_running r n ≡ true) ⊎ (is_issuable r n ≡ true)
 
 -- Whoever waits, waits for one that runs or can be issued, or for one that waits for such a one.
 abbrev pub TwoSteps : Type 0
-TwoSteps = (r : Requests) (n m : ℕ) (since : Since) → why_of r n ≡ Waits m since → GoesOn r m ⊎ ((k : ℕ) × (other : Since) × (why_of r m ≡ Waits k other) × GoesOn r k)
+TwoSteps = (r : Requests) (n m : ℕ) (since : Since) → why_of r n ≡ Waits m since
+    → GoesOn r m ⊎ ((k : ℕ) × (other : Since) × (why_of r m ≡ Waits k other) × GoesOn r k)
 
 -- the answer to an Issue of a request of which this is told
 abbrev pub answer_told : Requests → ℕ → Why → Answer
@@ -92,19 +99,23 @@ answer_told r n HasEnded = answer.Unknown
 answer_told r n Runs = answer.Running
 answer_told r n (IsDoomed doom) = answer.Ended (doomed_result r n) no_bytes
 answer_told r n (Waits m since) = answer.NotReady
-answer_told r n MayStart = if is_cancel (entry_of r n) then answer.Ended (cancel_result r n) no_bytes else answer.Run
+answer_told r n MayStart =
+    if is_cancel (entry_of r n) then answer.Ended (cancel_result r n) no_bytes else answer.Run
 
 -- The answer called for by an Issue is the one that goes with what is told just before.
 abbrev pub AnswerAgrees : Type 0
-AnswerAgrees = (w : World) (n : ℕ) → issue_answer w n ≡ answer_told w.requests n (why_of w.requests n)
+AnswerAgrees =
+    (w : World) (n : ℕ) → issue_answer w n ≡ answer_told w.requests n (why_of w.requests n)
 
 -- What a cancel of one request finds.
 
 -- the cancel n finds this: the least request that it may choose, running or not, or that there is none
 abbrev pub IsFound : Requests → ℕ → Found → Type 0
 IsFound r n found.Nobody = (m : ℕ) → m < length r.accepted → is_candidate r n m ≡ false
-IsFound r n (found.Running m) = IsLeastOf (is_candidate r n) (length r.accepted) m × (is_running r m ≡ true)
-IsFound r n (found.Chosen m) = IsLeastOf (is_candidate r n) (length r.accepted) m × (is_running r m ≡ false)
+IsFound r n (found.Running m) =
+    IsLeastOf (is_candidate r n) (length r.accepted) m × (is_running r m ≡ true)
+IsFound r n (found.Chosen m) =
+    IsLeastOf (is_candidate r n) (length r.accepted) m × (is_running r m ≡ false)
 
 -- what a cancel that finds this ends with, if it is carried out. io_uring_enter(2), IORING_OP_ASYNC_CANCEL
 abbrev pub ends_with : Found → ℤ

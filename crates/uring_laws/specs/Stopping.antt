@@ -9,13 +9,18 @@ use Rattle.uring_machine.specs.declared.answer.Answer.TheVariants as answer
 
 -- The open call, which opened with so many positions, takes no more exactly if it took them all, or an entry behind which it stops; and exactly then it may close. io_uring_setup(2), IORING_SETUP_SUBMIT_ALL
 pub record EndsThere (g : Setup) (h : History) (opened : ℕ) : Type 0 where
-  pub no_more : (take_answer (world g h) ≡ answer.NoMore) ↔ ((taken_since h ≡ opened) ⊎ (has_stopped g h ≡ true))
-  pub closes : (end_answer g (world g h) ≡ answer.NotAll → ⊥) ↔ (take_answer (world g h) ≡ answer.NoMore)
+  pub no_more : (take_answer (world g h) ≡ answer.NoMore)
+      ↔ ((taken_since h ≡ opened) ⊎ (has_stopped g h ≡ true))
+  pub closes : (end_answer g (world g h) ≡ answer.NotAll → ⊥)
+      ↔ (take_answer (world g h) ≡ answer.NoMore)
 
 -- It is so of each call that is open in a lawful history.
 abbrev pub OpenCallEndsThere : Setup → Type 0
-OpenCallEndsThere g = (h : History) (opened : ℕ) → IsLawfulApart g h → is_some (world g h).submission.call ≡ true → last_told opened_by h ≡ Some opened → EndsThere g h opened
+OpenCallEndsThere g = (h : History) (opened : ℕ) → IsLawfulApart g h
+    → is_some (world g h).submission.call ≡ true → last_told opened_by h ≡ Some opened
+    → EndsThere g h opened
 
 -- In a ring that goes on, each call that closed took as many positions as it opened with.
 abbrev pub CallsTakeAll : Setup → Type 0
-CallsTakeAll g = (h : History) → g.stops ≡ false → IsLawfulApart g h → call_counts h ≡ take (count_by closes_call h) (told opened_by h)
+CallsTakeAll g = (h : History) → g.stops ≡ false → IsLawfulApart g h
+    → call_counts h ≡ take (count_by closes_call h) (told opened_by h)

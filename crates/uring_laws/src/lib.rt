@@ -16,10 +16,14 @@ pub mod recorded;
 
 /// Each list and count that a history has made is the one that is read straight off its events; of the cancelled, who is among them, by what stood before each cancel.
 pub fn lists_are_the_historys_own()
-    ensures submission { (g : Setup) (h : History) → IsWithinLimits g → IsLawfulApart g h → OwnSubmission g h }
-    ensures requests { (g : Setup) (h : History) → IsWithinLimits g → IsLawfulApart g h → OwnRequests g h }
-    ensures completions { (g : Setup) (h : History) → IsWithinLimits g → IsLawfulApart g h → OwnCompletions g h }
-    ensures cancelled { (g : Setup) (h : History) → IsWithinLimits g → IsLawfulApart g h → OwnCancelled g h }
+    ensures submission { (g : Setup) (h : History) → IsWithinLimits g → IsLawfulApart g h
+        → OwnSubmission g h }
+    ensures requests { (g : Setup) (h : History) → IsWithinLimits g → IsLawfulApart g h
+        → OwnRequests g h }
+    ensures completions { (g : Setup) (h : History) → IsWithinLimits g → IsLawfulApart g h
+        → OwnCompletions g h }
+    ensures cancelled { (g : Setup) (h : History) → IsWithinLimits g → IsLawfulApart g h
+        → OwnCancelled g h }
 {}
 
 /// What the application published is told by the events: its items, the lengths of the calls that closed, and how many positions these dropped, modulo 2^32.
@@ -29,7 +33,8 @@ pub fn published_is_told()
 
 /// The entries that calls took are those of a beginning of the published positions, in order, each once.
 pub fn taken_once_in_order()
-    ensures { (g : Setup) (h : History) → IsWithinLimits g → IsLawfulApart g h → TakenOnceInOrder g h }
+    ensures { (g : Setup) (h : History) → IsWithinLimits g → IsLawfulApart g h
+        → TakenOnceInOrder g h }
 {}
 
 /// Each request is started at most once and ends at most once, and with none outstanding each accepted one ended exactly once.
@@ -39,7 +44,8 @@ pub fn each_ends_once()
 
 /// A doomed request is never started, and its end has the result of the doomed; it stays doomed. An `Issue` that ends with -125 (`ECANCELED`) is that of a request that was doomed just before.
 pub fn doomed_never_run()
-    ensures never_run { (g : Setup) (h : History) → IsWithinLimits g → IsLawfulApart g h → DoomedNeverRun g h }
+    ensures never_run { (g : Setup) (h : History) → IsWithinLimits g → IsLawfulApart g h
+        → DoomedNeverRun g h }
     ensures stay_doomed { (g : Setup) → IsWithinLimits g → DoomedStayDoomed g }
     ensures were_doomed { (g : Setup) → IsWithinLimits g → CancelledWereDoomed g }
 {}
@@ -51,7 +57,8 @@ pub fn links_and_drains_hold()
 
 /// What was reaped begins what was posted; of the rest the older part stands in the completion ring, the newer in the overflow list, and waits there only while the ring is full above the head that the dispatcher last loaded.
 pub fn reaped_begin_posted()
-    ensures { (g : Setup) (h : History) → IsWithinLimits g → IsLawfulApart g h → ReapedBeginPosted g.cq (world g h).completions }
+    ensures { (g : Setup) (h : History) → IsWithinLimits g → IsLawfulApart g h
+        → ReapedBeginPosted g.cq (world g h).completions }
 {}
 
 /// A flush puts all that was posted into the completion ring, if there is room for it above the head that the application stored.
@@ -71,7 +78,8 @@ pub fn none_is_outstanding()
 
 /// With something outstanding, the least outstanding request is running, or else it is the next to be issued and `Issue` doesn't refuse it.
 pub fn least_can_go_on()
-    ensures { (g : Setup) (h : History) (n : ℕ) → is_outstanding (world g h).requests n ≡ true → LeastCanGoOn (world g h) }
+    ensures { (g : Setup) (h : History) (n : ℕ) → is_outstanding (world g h).requests n ≡ true
+        → LeastCanGoOn (world g h) }
 {}
 
 /// What is lawful is lawful apart from what operations gave, so that every law holds of it. In a lawful history no finish ends with -125 (`ECANCELED`), so that each such end is that of a request that was doomed just before.

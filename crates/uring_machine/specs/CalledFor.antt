@@ -16,7 +16,8 @@ use Rattle.uring_machine.specs.declared.answer.Answer.TheVariants as answer
 -- the files after the ends of requests, in their order
 abbrev pub files_after : Requests → List FileContents → List Ending → List FileContents
 files_after r files [] = files
-files_after r files (e ∷ later) = files_after r (after files (operation_of (entry_of r e.number)) e.res) later
+files_after r files (e ∷ later) =
+    files_after r (after files (operation_of (entry_of r e.number)) e.res) later
 
 -- The files as the ends so far have left them: each empty at first.
 abbrev pub files_of : Setup → World → List FileContents
@@ -24,7 +25,8 @@ files_of g w = files_after w.requests (replicate g.files empty_file) w.requests.
 
 -- an end gives what its operation calls for on these files, or that memory was refused for a write that lengthens its file
 abbrev pub EndsOn : List FileContents → Requests → ℕ → Bool → Answer → Type 0
-EndsOn files r n true (answer.Ended res bytes) = IsOutcome files (operation_of (entry_of r n)) (record { res = res; bytes = bytes })
+EndsOn files r n true (answer.Ended res bytes) =
+    IsOutcome files (operation_of (entry_of r n)) (record { res = res; bytes = bytes })
 EndsOn files r n true _ = ⊥
 EndsOn files r n false a = a ≡ answer.NotRunning
 

@@ -73,7 +73,8 @@ IsShortOfMemory p w _ = ⊥
 
 -- No memory was given back: as many requests have memory, accepted or not, and as many completions in the overflow list, waiting or not. Our own rule
 pub record HasNoLessMemory (old new : Core) : Type 0 where
-  pub requests : old.dispatch.accepted + old.dispatch.room ≤ new.dispatch.accepted + new.dispatch.room
+  pub requests : old.dispatch.accepted + old.dispatch.room
+      ≤ new.dispatch.accepted + new.dispatch.room
   pub completions : length old.cq.overflow + old.cq.spare ≤ length new.cq.overflow + new.cq.spare
 
 -- any step but a finish
@@ -83,7 +84,8 @@ IsNoFinish _ = Unit {0}
 
 -- a running request ends with this outcome, and another is refused
 abbrev pub IsFinished : World → ℕ → Outcome → Answer → Type 0
-IsFinished w n outcome a = a ≡ (if is_running w.requests n then answer.Ended outcome.res outcome.bytes else answer.NotRunning)
+IsFinished w n outcome a = a
+    ≡ (if is_running w.requests n then answer.Ended outcome.res outcome.bytes else answer.NotRunning)
 
 -- The counts of what has happened.
 pub record IsCounts (w : World) (c : Counts) : Type 0 where

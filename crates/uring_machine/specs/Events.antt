@@ -16,8 +16,10 @@ started_by _ = None
 
 -- the end of a request
 abbrev pub end_told_by : Event → Option Ending
-end_told_by (step.Issue n, answer.Ended res bytes) = Some (record { number = n; res = res; bytes = bytes })
-end_told_by (step.Finish n, answer.Ended res bytes) = Some (record { number = n; res = res; bytes = bytes })
+end_told_by (step.Issue n, answer.Ended res bytes) =
+    Some (record { number = n; res = res; bytes = bytes })
+end_told_by (step.Finish n, answer.Ended res bytes) =
+    Some (record { number = n; res = res; bytes = bytes })
 end_told_by _ = None
 
 -- the completion that the application reaps

@@ -22,7 +22,8 @@ world g ((step, answer) ∷ before) = happens g (world g before) step answer
 -- each answer is called for by what came before it, apart from what operations gave
 abbrev pub IsLawfulApart : Setup → History → Type 0
 IsLawfulApart g [] = Unit {0}
-IsLawfulApart g ((step, answer) ∷ before) = CalledForApart g (world g before) step answer × IsLawfulApart g before
+IsLawfulApart g ((step, answer) ∷ before) =
+    CalledForApart g (world g before) step answer × IsLawfulApart g before
 
 -- the history of events that are written in the order in which they happened
 abbrev pub history_of : List Event → History

@@ -25,7 +25,8 @@ abbrev pub Meets : Wanted → Answer → Type 0
 Meets (Only x) a = a ≡ x
 Meets (CallOrAgain length) a = (a ≡ answer.Call length) ⊎ (a ≡ answer.Again)
 Meets AnyEnd a = IsEnded a
-Meets (EndOrNoMemory res) a = (a ≡ answer.Ended res no_bytes) ⊎ (a ≡ answer.Ended (neg_ℤ ENOMEM) no_bytes)
+Meets (EndOrNoMemory res) a =
+    (a ≡ answer.Ended res no_bytes) ⊎ (a ≡ answer.Ended (neg_ℤ ENOMEM) no_bytes)
 
 -- The answer isn't called for, and exactly those that are wanted are.
 pub record IsWrong (Called : Answer → Type 0) (a : Answer) (wanted : Wanted) : Type 0 where
@@ -49,7 +50,8 @@ resumed s _ h = h
 
 -- memory may be short to follow an answer to this step: at a Begin as for the step itself, and at the Finish of a write that makes its file longer
 abbrev pub MayLackMemory : Machine → World → Step → Type 0
-MayLackMemory m w (step.Finish n) = is_lengthening (files_of m.core.setup w) (operation_of (entry_of w.requests n)) ≡ true
+MayLackMemory m w (step.Finish n) =
+    is_lengthening (files_of m.core.setup w) (operation_of (entry_of w.requests n)) ≡ true
 MayLackMemory m w s = IsShortOfMemory m.core w s
 
 -- What stands before this place of a list of steps with their answers, the oldest first, is lawful, and the answer there is wrong.
@@ -61,8 +63,10 @@ pub record IsFirstWrong (Lawful : History → Type 0) (Called : History → Step
 
 -- the first wrong answer, with what operations give
 abbrev pub IsFirstWrongAnswer : Setup → List Event → ℕ → Wanted → Type 0
-IsFirstWrongAnswer g events place wanted = IsFirstWrong (IsLawful g) (λ h s a. CalledFor g (world g h) s a) events place wanted
+IsFirstWrongAnswer g events place wanted =
+    IsFirstWrong (IsLawful g) (λ h s a. CalledFor g (world g h) s a) events place wanted
 
 -- the first wrong answer, apart from what operations give
 abbrev pub IsFirstWrongApart : Setup → List Event → ℕ → Wanted → Type 0
-IsFirstWrongApart g events place wanted = IsFirstWrong (IsLawfulApart g) (λ h s a. CalledForApart g (world g h) s a) events place wanted
+IsFirstWrongApart g events place wanted =
+    IsFirstWrong (IsLawfulApart g) (λ h s a. CalledForApart g (world g h) s a) events place wanted

@@ -32,7 +32,8 @@ abbrev pub AreSettling : Setup → History → Option ℕ → List Event → Typ
 AreSettling g before started [] = Unit {0}
 AreSettling g before started ((s, a) ∷ later) =
     let r = (world g before).requests in
-    (settling_step started (next_of r) (least_of r) ≡ Some s) × AreSettling g ((s, a) ∷ before) (started_by (s, a)) later
+    (settling_step started (next_of r) (least_of r) ≡ Some s)
+    × AreSettling g ((s, a) ∷ before) (started_by (s, a)) later
 
 -- So many events, the oldest first, each the Issue or the Finish that settles further: a machine that fits the history followed by them.
 pub record Settles (now : Machine) (before : History) (count : ℕ) : Type 0 where
@@ -53,4 +54,6 @@ pub record HasSettled (old new : Machine) (before : History) (count ended : ℕ)
 pub record IsSettled (idle : Machine) (before : History) (count : ℕ) : Type 0 where
   pub settles : Settles idle before count
   pub few : count ≤ 2 * outstanding_in (world idle.core.setup before).requests
-  pub none_outstanding : (n : ℕ) → is_outstanding (world idle.core.setup (history_of settles.events ++ before)).requests n ≡ false
+  pub none_outstanding : (n : ℕ)
+      → is_outstanding (world idle.core.setup (history_of settles.events ++ before)).requests n
+      ≡ false

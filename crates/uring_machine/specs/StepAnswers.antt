@@ -121,9 +121,11 @@ CalledForApart g w step.Take a = a ≡ take_answer w
 CalledForApart g w step.End a = a ≡ end_answer g w
 CalledForApart g w (step.Issue n) a = a ≡ issue_answer w n
 CalledForApart g w (step.Finish n) a = FinishesApart (is_running w.requests n) a
-CalledForApart g w step.Flush a = a ≡ answer.Moved (put_by_flush g.cq w.completions - w.completions.put)
+CalledForApart g w step.Flush a =
+    a ≡ answer.Moved (put_by_flush g.cq w.completions - w.completions.put)
 CalledForApart g w step.LoadCqTail a = a ≡ answer.Tail (word_of g.start w.completions.put)
 CalledForApart g w step.Reap a = a ≡ reap_answer_of (next_to_reap w.completions)
-CalledForApart g w step.StoreCqHead a = a ≡ answer.Head (word_of g.start (length w.completions.reaped))
+CalledForApart g w step.StoreCqHead a =
+    a ≡ answer.Head (word_of g.start (length w.completions.reaped))
 CalledForApart g w step.Close a = a ≡ close_answer w
 CalledForApart g w step.Next a = a ≡ next_answer_of (next_of w.requests)

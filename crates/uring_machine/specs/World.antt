@@ -18,7 +18,12 @@ pub record World : Type 0 where
 
 -- nothing has happened
 abbrev pub at_first : World
-at_first = record { submission = no_submission; requests = no_request; completions = no_completion; is_closed = false }
+at_first = record {
+  submission = no_submission;
+  requests = no_request;
+  completions = no_completion;
+  is_closed = false;
+}
 
 -- A step that was refused, or only answers, makes nothing. What each other makes, by its answer:
 
@@ -42,7 +47,8 @@ taking_of w (Some call) = record w { submission = with_taken w.submission call }
 -- the open call takes this entry, and stops behind it if it stops there
 abbrev pub taking_entry_of : Setup → World → Sqe → Option Call → World
 taking_entry_of g w entry None = w
-taking_entry_of g w entry (Some call) = record w { submission = with_stopped (stops_at g entry) (with_taken w.submission call) }
+taking_entry_of g w entry (Some call) =
+    record w { submission = with_stopped (stops_at g entry) (with_taken w.submission call) }
 
 -- a position was taken: an entry, or a word that names no slot, behind which no call stops
 abbrev pub taking : Setup → World → Answer → World
@@ -83,7 +89,8 @@ finishing g w n (answer.Ended res bytes) =
 finishing g w n _ = w
 
 abbrev pub reaping : World → Answer → World
-reaping w (answer.Reaped completion) = record w { completions = with_reaped w.completions completion }
+reaping w (answer.Reaped completion) =
+    record w { completions = with_reaped w.completions completion }
 reaping w _ = w
 
 abbrev pub closing : World → Answer → World

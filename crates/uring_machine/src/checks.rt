@@ -21,7 +21,8 @@ pub fn check(
     setup: &Setup,
     events: &[(Step, Answer)],
 ) -> Result<Option<(usize, Wanted)>, AllocError>
-    ensures { IfOk result (λ found. MatchOption found (IsLawful setup.now (history_of events.now)) (λ at. IsFirstWrongAnswer setup.now events.now at.0 at.1)) }
+    ensures { IfOk result
+        (λ found. MatchOption found (IsLawful setup.now (history_of events.now)) (λ at. IsFirstWrongAnswer setup.now events.now at.0 at.1)) }
 {
     let mut machine = Machine::new(alloc, setup)?;
     let found = first_wrong(&mut machine, events);
@@ -35,7 +36,8 @@ pub fn check_apart(
     setup: &Setup,
     events: &[(Step, Answer)],
 ) -> Result<Option<(usize, Wanted)>, AllocError>
-    ensures { IfOk result (λ found. MatchOption found (IsLawfulApart setup.now (history_of events.now)) (λ at. IsFirstWrongApart setup.now events.now at.0 at.1)) }
+    ensures { IfOk result
+        (λ found. MatchOption found (IsLawfulApart setup.now (history_of events.now)) (λ at. IsFirstWrongApart setup.now events.now at.0 at.1)) }
 {
     let mut core = Core::new(alloc, setup)?;
     let found = first_wrong_apart(&mut core, events);
@@ -49,7 +51,8 @@ fn first_wrong(
     events: &[(Step, Answer)],
 ) -> Result<Option<(usize, Wanted)>, AllocError>
     requires { Fits machine.old [] }
-    ensures { IfOk result (λ found. MatchOption found (IsLawful machine.old.core.setup (history_of events.now)) (λ at. IsFirstWrongAnswer machine.old.core.setup events.now at.0 at.1)) }
+    ensures { IfOk result
+        (λ found. MatchOption found (IsLawful machine.old.core.setup (history_of events.now)) (λ at. IsFirstWrongAnswer machine.old.core.setup events.now at.0 at.1)) }
 {
     for (place, event) in events.iter().enumerate() {
         let (step, given) = *event;
@@ -66,7 +69,8 @@ fn first_wrong_apart(
     events: &[(Step, Answer)],
 ) -> Result<Option<(usize, Wanted)>, AllocError>
     requires { FitsApart core.old [] }
-    ensures { IfOk result (λ found. MatchOption found (IsLawfulApart core.old.setup (history_of events.now)) (λ at. IsFirstWrongApart core.old.setup events.now at.0 at.1)) }
+    ensures { IfOk result
+        (λ found. MatchOption found (IsLawfulApart core.old.setup (history_of events.now)) (λ at. IsFirstWrongApart core.old.setup events.now at.0 at.1)) }
 {
     for (place, event) in events.iter().enumerate() {
         let (step, given) = *event;
@@ -79,7 +83,8 @@ fn first_wrong_apart(
 
 /// What is told of a list of which the answer at this place was refused.
 fn stopped(place: usize, refusal: Refusal) -> Result<Option<(usize, Wanted)>, AllocError>
-    ensures wrong { (wanted : Wanted) → refusal ≡ Refusal.Wrong wanted → result ≡ Ok (Some (place, wanted)) }
+    ensures wrong { (wanted : Wanted) → refusal ≡ Refusal.Wrong wanted
+        → result ≡ Ok (Some (place, wanted)) }
     ensures no_memory { refusal ≡ Refusal.NoMemory → OnOk result ⊥ }
 {
     match refusal {

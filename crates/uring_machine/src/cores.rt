@@ -45,7 +45,9 @@ impl Model for Core {
 
     ghost view = { λ c. record { setup = c.setup; sq = c.sq; cq = c.cq; dispatch = c.dispatch; held = c.held.items; is_closed = c.is_closed } };
 
-    ghost invariant = { λ c. (c.setup.sq ≤ vec_capacity c.held) × IsCore (record { setup = c.setup; sq = c.sq; cq = c.cq; dispatch = c.dispatch; held = c.held.items; is_closed = c.is_closed }) };
+    ghost invariant = { λ c. (c.setup.sq ≤ vec_capacity c.held)
+        × IsCore
+        (record { setup = c.setup; sq = c.sq; cq = c.cq; dispatch = c.dispatch; held = c.held.items; is_closed = c.is_closed }) };
 }
 
 impl Core {
@@ -71,10 +73,12 @@ impl Core {
     pub fn step(&mut self, step: Step) -> Answer
         requires { IsNoFinish step }
         ensures setup { self.new.setup ≡ self.old.setup }
-        ensures fits { (h : History) → FitsApart self.old h → FitsApart self.new ((step, result) ∷ h) }
+        ensures fits { (h : History) → FitsApart self.old h
+            → FitsApart self.new ((step, result) ∷ h) }
 
         // Memory that was once had is never refused again.
-        ensures again { (h : History) → FitsApart self.old h → result ≡ answer.Again → IsShortOfMemory self.old (world self.old.setup h) step }
+        ensures again { (h : History) → FitsApart self.old h → result ≡ answer.Again
+            → IsShortOfMemory self.old (world self.old.setup h) step }
         ensures memory { HasNoLessMemory self.old self.new }
     {
         match step {
@@ -99,9 +103,11 @@ impl Core {
     /// Ends the running request of this number with an outcome from outside, any one, and posts its completion, unless it succeeded and is to be skipped; `NotRunning` if it isn't running, and then nothing changes.
     pub fn finish(&mut self, number: u64, outcome: Outcome) -> Answer
         ensures setup { self.new.setup ≡ self.old.setup }
-        ensures fits { (h : History) → FitsApart self.old h → FitsApart self.new ((step.Finish number, result) ∷ h) }
+        ensures fits { (h : History) → FitsApart self.old h
+            → FitsApart self.new ((step.Finish number, result) ∷ h) }
         ensures memory { HasNoLessMemory self.old self.new }
-        ensures outcome { (h : History) → FitsApart self.old h → IsFinished (world self.old.setup h) number outcome result }
+        ensures outcome { (h : History) → FitsApart self.old h
+            → IsFinished (world self.old.setup h) number outcome result }
     {
         let Outcome { res, bytes } = outcome;
         match self.dispatch.end_running(number, res) {
@@ -116,7 +122,8 @@ impl Core {
     /// The application writes an entry to a slot.
     fn fill(&mut self, slot: u32, entry: Sqe) -> Answer
         ensures setup { self.new.setup ≡ self.old.setup }
-        ensures fits { (h : History) → FitsApart self.old h → FitsApart self.new ((step.Fill slot entry, result) ∷ h) }
+        ensures fits { (h : History) → FitsApart self.old h
+            → FitsApart self.new ((step.Fill slot entry, result) ∷ h) }
         ensures memory { HasNoLessMemory self.old self.new }
     {
         Answer::from(self.sq.fill(slot, entry))
@@ -125,7 +132,8 @@ impl Core {
     /// The application stages a word.
     fn index(&mut self, word: u32) -> Answer
         ensures setup { self.new.setup ≡ self.old.setup }
-        ensures fits { (h : History) → FitsApart self.old h → FitsApart self.new ((step.Index word, result) ∷ h) }
+        ensures fits { (h : History) → FitsApart self.old h
+            → FitsApart self.new ((step.Index word, result) ∷ h) }
         ensures memory { HasNoLessMemory self.old self.new }
     {
         Answer::from(self.sq.index(word))
@@ -134,7 +142,8 @@ impl Core {
     /// The application publishes what is staged.
     fn store_tail(&mut self) -> Answer
         ensures setup { self.new.setup ≡ self.old.setup }
-        ensures fits { (h : History) → FitsApart self.old h → FitsApart self.new ((step.StoreTail, result) ∷ h) }
+        ensures fits { (h : History) → FitsApart self.old h
+            → FitsApart self.new ((step.StoreTail, result) ∷ h) }
         ensures memory { HasNoLessMemory self.old self.new }
     {
         Answer::Tail(self.sq.store_tail())
@@ -143,7 +152,8 @@ impl Core {
     /// The application loads the submission ring's head.
     fn load_head(&mut self) -> Answer
         ensures setup { self.new.setup ≡ self.old.setup }
-        ensures fits { (h : History) → FitsApart self.old h → FitsApart self.new ((step.LoadHead, result) ∷ h) }
+        ensures fits { (h : History) → FitsApart self.old h
+            → FitsApart self.new ((step.LoadHead, result) ∷ h) }
         ensures memory { HasNoLessMemory self.old self.new }
     {
         Answer::Head(self.sq.load_head())
@@ -152,9 +162,11 @@ impl Core {
     /// The dispatcher opens a call, once there is room for all its requests and for the ends of these and of all outstanding ones.
     fn begin(&mut self, count: u32) -> Answer
         ensures setup { self.new.setup ≡ self.old.setup }
-        ensures fits { (h : History) → FitsApart self.old h → FitsApart self.new ((step.Begin count, result) ∷ h) }
+        ensures fits { (h : History) → FitsApart self.old h
+            → FitsApart self.new ((step.Begin count, result) ∷ h) }
         ensures memory { HasNoLessMemory self.old self.new }
-        ensures again { (h : History) → FitsApart self.old h → result ≡ answer.Again → IsShortOfMemory self.old (world self.old.setup h) (step.Begin count) }
+        ensures again { (h : History) → FitsApart self.old h → result ≡ answer.Again
+            → IsShortOfMemory self.old (world self.old.setup h) (step.Begin count) }
     {
         let wanted = self.would_begin(count);
         let Answer::Call(length) = wanted else {
@@ -176,7 +188,8 @@ impl Core {
     /// The dispatcher copies the call's next position. A call that stops behind its entry takes no more.
     fn take(&mut self) -> Answer
         ensures setup { self.new.setup ≡ self.old.setup }
-        ensures fits { (h : History) → FitsApart self.old h → FitsApart self.new ((step.Take, result) ∷ h) }
+        ensures fits { (h : History) → FitsApart self.old h
+            → FitsApart self.new ((step.Take, result) ∷ h) }
         ensures memory { HasNoLessMemory self.old self.new }
     {
         let answer = self.sq.take();
@@ -190,7 +203,8 @@ impl Core {
     /// The dispatcher closes the call, and accepts its entries.
     fn end(&mut self) -> Answer
         ensures setup { self.new.setup ≡ self.old.setup }
-        ensures fits { (h : History) → FitsApart self.old h → FitsApart self.new ((step.End, result) ∷ h) }
+        ensures fits { (h : History) → FitsApart self.old h
+            → FitsApart self.new ((step.End, result) ∷ h) }
         ensures memory { HasNoLessMemory self.old self.new }
     {
         let answer = self.sq.end();
@@ -204,7 +218,8 @@ impl Core {
     /// The dispatcher issues a request.
     fn issue(&mut self, number: u64) -> Answer
         ensures setup { self.new.setup ≡ self.old.setup }
-        ensures fits { (h : History) → FitsApart self.old h → FitsApart self.new ((step.Issue number, result) ∷ h) }
+        ensures fits { (h : History) → FitsApart self.old h
+            → FitsApart self.new ((step.Issue number, result) ∷ h) }
         ensures memory { HasNoLessMemory self.old self.new }
     {
         let entry = self.dispatch.entry(number);
@@ -226,7 +241,8 @@ impl Core {
     /// The dispatcher loads the completion ring's head, and moves what fits out of the overflow list.
     fn flush(&mut self) -> Answer
         ensures setup { self.new.setup ≡ self.old.setup }
-        ensures fits { (h : History) → FitsApart self.old h → FitsApart self.new ((step.Flush, result) ∷ h) }
+        ensures fits { (h : History) → FitsApart self.old h
+            → FitsApart self.new ((step.Flush, result) ∷ h) }
         ensures memory { HasNoLessMemory self.old self.new }
     {
         Answer::Moved(self.cq.flush())
@@ -235,7 +251,8 @@ impl Core {
     /// The application loads the completion ring's tail.
     fn load_cq_tail(&mut self) -> Answer
         ensures setup { self.new.setup ≡ self.old.setup }
-        ensures fits { (h : History) → FitsApart self.old h → FitsApart self.new ((step.LoadCqTail, result) ∷ h) }
+        ensures fits { (h : History) → FitsApart self.old h
+            → FitsApart self.new ((step.LoadCqTail, result) ∷ h) }
         ensures memory { HasNoLessMemory self.old self.new }
     {
         Answer::Tail(self.cq.load_tail())
@@ -244,7 +261,8 @@ impl Core {
     /// The application copies the next completion.
     fn reap(&mut self) -> Answer
         ensures setup { self.new.setup ≡ self.old.setup }
-        ensures fits { (h : History) → FitsApart self.old h → FitsApart self.new ((step.Reap, result) ∷ h) }
+        ensures fits { (h : History) → FitsApart self.old h
+            → FitsApart self.new ((step.Reap, result) ∷ h) }
         ensures memory { HasNoLessMemory self.old self.new }
     {
         reaped(self.cq.reap())
@@ -253,7 +271,8 @@ impl Core {
     /// The application stores the completion ring's head.
     fn store_cq_head(&mut self) -> Answer
         ensures setup { self.new.setup ≡ self.old.setup }
-        ensures fits { (h : History) → FitsApart self.old h → FitsApart self.new ((step.StoreCqHead, result) ∷ h) }
+        ensures fits { (h : History) → FitsApart self.old h
+            → FitsApart self.new ((step.StoreCqHead, result) ∷ h) }
         ensures memory { HasNoLessMemory self.old self.new }
     {
         Answer::Head(self.cq.store_head())
@@ -262,7 +281,8 @@ impl Core {
     /// The dispatcher closes the ring.
     fn close(&mut self) -> Answer
         ensures setup { self.new.setup ≡ self.old.setup }
-        ensures fits { (h : History) → FitsApart self.old h → FitsApart self.new ((step.Close, result) ∷ h) }
+        ensures fits { (h : History) → FitsApart self.old h
+            → FitsApart self.new ((step.Close, result) ∷ h) }
         ensures memory { HasNoLessMemory self.old self.new }
     {
         if self.sq.in_call() {
@@ -275,7 +295,8 @@ impl Core {
     /// The dispatcher asks for the least request that can be issued.
     fn ask_next(&mut self) -> Answer
         ensures setup { self.new.setup ≡ self.old.setup }
-        ensures fits { (h : History) → FitsApart self.old h → FitsApart self.new ((step.Next, result) ∷ h) }
+        ensures fits { (h : History) → FitsApart self.old h
+            → FitsApart self.new ((step.Next, result) ∷ h) }
         ensures memory { HasNoLessMemory self.old self.new }
     {
         next_answer(self.next())
@@ -303,7 +324,8 @@ pub struct Counts {
 
 /// Stops the open call, if a call of this set-up stops behind this entry.
 fn stop_behind(sq: &mut Sq, setup: Setup, entry: &Sqe)
-    ensures { (g : Setup) (l : Submission) → ShowsSubmission g sq.old l → ShowsSubmission g sq.new (with_stopped (stops_at setup entry.now) l) }
+    ensures { (g : Setup) (l : Submission) → ShowsSubmission g sq.old l
+        → ShowsSubmission g sq.new (with_stopped (stops_at setup entry.now) l) }
 {
     if setup.stops() && prepare(entry).is_err() {
         sq.stop();
@@ -313,10 +335,12 @@ fn stop_behind(sq: &mut Sq, setup: Setup, entry: &Sqe)
 /// Accepts the entries of a call, in order, and ends it.
 fn accept_call(dispatch: &mut Dispatch, entries: &[Sqe])
     requires { length entries.now ≤ dispatch.old.room }
-    ensures shows { (r : Requests) → ShowsRequests dispatch.old r → ShowsRequests dispatch.new (with_call r entries.now) }
+    ensures shows { (r : Requests) → ShowsRequests dispatch.old r
+        → ShowsRequests dispatch.new (with_call r entries.now) }
     ensures accepted { dispatch.new.accepted ≡ dispatch.old.accepted + length entries.now }
     ensures outstanding { dispatch.new.outstanding ≡ dispatch.old.outstanding + length entries.now }
-    ensures memory { dispatch.old.accepted + dispatch.old.room ≤ dispatch.new.accepted + dispatch.new.room }
+    ensures memory { dispatch.old.accepted + dispatch.old.room
+        ≤ dispatch.new.accepted + dispatch.new.room }
     ensures between { dispatch.new.is_between_calls ≡ true }
 {
     for entry in entries {
@@ -328,7 +352,9 @@ fn accept_call(dispatch: &mut Dispatch, entries: &[Sqe])
 /// Posts what the end of a request is to post.
 fn post_end(cq: &mut Cq, posts: Posts, res: i32, bytes: [u8; 64])
     requires { 0 < cq.old.room }
-    ensures shows { (g : Setup) (l : Completions) (entry : Sqe) → posts ≡ posts_of entry res → ShowsCompletions g cq.old l → ShowsCompletions g cq.new (with_end g.cq l entry res bytes) }
+    ensures shows { (g : Setup) (l : Completions) (entry : Sqe) → posts ≡ posts_of entry res
+        → ShowsCompletions g cq.old l
+        → ShowsCompletions g cq.new (with_end g.cq l entry res bytes) }
     ensures room { cq.old.room ≤ cq.new.room + 1 }
     ensures promised { cq.old.room ≤ cq.old.spare → cq.new.room ≤ cq.new.spare }
     ensures kept { length cq.old.overflow + cq.old.spare ≤ length cq.new.overflow + cq.new.spare }

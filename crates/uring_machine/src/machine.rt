@@ -70,10 +70,12 @@ impl Machine {
     pub fn step(&mut self, step: Step) -> Answer
         ensures setup { self.new.core.setup ≡ self.old.core.setup }
         ensures fits { (h : History) → Fits self.old h → Fits self.new ((step, result) ∷ h) }
-        ensures called { (h : History) → Fits self.old h → CalledFor self.old.core.setup (world self.old.core.setup h) step result }
+        ensures called { (h : History) → Fits self.old h
+            → CalledFor self.old.core.setup (world self.old.core.setup h) step result }
 
         // Memory that was once had is never refused again.
-        ensures again { (h : History) → Fits self.old h → result ≡ answer.Again → IsShortOfMemory self.old.core (world self.old.core.setup h) step }
+        ensures again { (h : History) → Fits self.old h → result ≡ answer.Again
+            → IsShortOfMemory self.old.core (world self.old.core.setup h) step }
         ensures memory { HasNoLessMemory self.old.core self.new.core }
     {
         match step {
@@ -87,10 +89,15 @@ impl Machine {
     /// If it is called for, the step is made with it: a `Begin` that was answered `Again` makes nothing, and a write that lengthens its file may end with -12 (ENOMEM), and then changes no file. Else it is `Wrong`, and tells the answers that are called for; if that is one alone, the machine goes on as though it had been given, and else as though the step hadn't been made. `NoMemory` comes only to `Begin`, if a call is recorded, and to the `Finish` of a write that lengthens its file, if its success is recorded, and memory is refused; then the step isn't made.
     pub fn follow(&mut self, step: Step, given: Answer) -> Result<(), Refusal>
         ensures setup { self.new.core.setup ≡ self.old.core.setup }
-        ensures ok { OnOk result ((h : History) → Fits self.old h → Fits self.new ((step, given) ∷ h)) }
-        ensures refused { IfErr result (λ refusal. (h : History) → Fits self.old h → IsRefused (CalledFor self.old.core.setup (world self.old.core.setup h) step) given refusal) }
-        ensures resumed { IfErr result (λ refusal. (h : History) → Fits self.old h → Fits self.new (resumed step refusal h)) }
-        ensures no_memory { IsErrOf result Refusal.NoMemory → (h : History) → Fits self.old h → MayLackMemory self.old (world self.old.core.setup h) step }
+        ensures ok { OnOk result
+            ((h : History) → Fits self.old h → Fits self.new ((step, given) ∷ h)) }
+        ensures refused { IfErr result
+            (λ refusal. (h : History) → Fits self.old h
+            → IsRefused (CalledFor self.old.core.setup (world self.old.core.setup h) step) given refusal) }
+        ensures resumed { IfErr result
+            (λ refusal. (h : History) → Fits self.old h → Fits self.new (resumed step refusal h)) }
+        ensures no_memory { IsErrOf result Refusal.NoMemory → (h : History) → Fits self.old h
+            → MayLackMemory self.old (world self.old.core.setup h) step }
         ensures memory { HasNoLessMemory self.old.core self.new.core }
     {
         match step {
@@ -101,28 +108,36 @@ impl Machine {
 
     /// What a Begin of this many positions, any number, is answered if memory is there: the answer of `Step::Begin`, unless that is `Again`. It is no step, and so not part of a history.
     pub fn would_begin(&self, count: u32) -> Answer
-        ensures { (h : History) → Fits self.now h → result ≡ begin_answer (world self.now.core.setup h) count }
+        ensures { (h : History) → Fits self.now h
+            → result ≡ begin_answer (world self.now.core.setup h) count }
     {
         self.core.would_begin(count)
     }
 
     /// The completion at this place, from 0, among those posted and not reaped, the oldest first: `None` past the last.
     pub fn rest(&self, place: u64) -> Option<Cqe>
-        ensures { (h : History) → Fits self.now h → result ≡ slice_get (unreaped (world self.now.core.setup h).completions) place }
+        ensures { (h : History) → Fits self.now h
+            → result ≡ slice_get (unreaped (world self.now.core.setup h).completions) place }
     {
         self.core.rest(place)
     }
 
     /// How many completions wait in the overflow list.
     pub fn overflowing(&self) -> u64
-        ensures { (h : History) → Fits self.now h → result ≡ length (drop (world self.now.core.setup h).completions.put (world self.now.core.setup h).completions.posted) }
+        ensures { (h : History) → Fits self.now h
+            → result
+            ≡ length
+            (drop (world self.now.core.setup h).completions.put (world self.now.core.setup h).completions.posted) }
     {
         self.core.overflowing()
     }
 
     /// The completion at this place, from 0, of those that wait in the overflow list, the oldest first: `None` past the last.
     pub fn overflow(&self, place: u64) -> Option<Cqe>
-        ensures { (h : History) → Fits self.now h → result ≡ slice_get (drop (world self.now.core.setup h).completions.put (world self.now.core.setup h).completions.posted) place }
+        ensures { (h : History) → Fits self.now h
+            → result
+            ≡ slice_get
+            (drop (world self.now.core.setup h).completions.put (world self.now.core.setup h).completions.posted) place }
     {
         self.core.overflow(place)
     }
@@ -136,7 +151,8 @@ impl Machine {
 
     /// The operation of the request of this number: `Some` exactly if it is running. It can be carried out on files.
     pub fn running_op(&self, number: u64) -> Option<Op>
-        ensures value { (h : History) → Fits self.now h → result ≡ operation_running (world self.now.core.setup h).requests number }
+        ensures value { (h : History) → Fits self.now h
+            → result ≡ operation_running (world self.now.core.setup h).requests number }
         ensures asks { IfSome result IsForFiles }
     {
         self.core.running_op(number)
@@ -144,28 +160,32 @@ impl Machine {
 
     /// The least request that can be issued: what `Step::Next` is answered. It is no step, and so not part of a history.
     pub fn next(&self) -> Option<u64>
-        ensures { (h : History) → Fits self.now h → result ≡ next_of (world self.now.core.setup h).requests }
+        ensures { (h : History) → Fits self.now h
+            → result ≡ next_of (world self.now.core.setup h).requests }
     {
         self.core.next()
     }
 
     /// The least outstanding request.
     pub fn least(&self) -> Option<u64>
-        ensures { (h : History) → Fits self.now h → result ≡ least_of (world self.now.core.setup h).requests }
+        ensures { (h : History) → Fits self.now h
+            → result ≡ least_of (world self.now.core.setup h).requests }
     {
         self.core.least()
     }
 
     /// Why the request of this number, any number, stands as it does. It is no step, and so not part of a history.
     pub fn why(&self, number: u64) -> Why
-        ensures { (h : History) → Fits self.now h → result ≡ why_of (world self.now.core.setup h).requests number }
+        ensures { (h : History) → Fits self.now h
+            → result ≡ why_of (world self.now.core.setup h).requests number }
     {
         self.core.why(number)
     }
 
     /// What the request of this number, any number, would find if it were carried out now: `Some` exactly if it is an outstanding cancel of one request, without a fault. It is no step, and so not part of a history.
     pub fn would_find(&self, number: u64) -> Option<Found>
-        ensures { (h : History) → Fits self.now h → result ≡ found_by (world self.now.core.setup h).requests number }
+        ensures { (h : History) → Fits self.now h
+            → result ≡ found_by (world self.now.core.setup h).requests number }
     {
         self.core.would_find(number)
     }
@@ -180,14 +200,16 @@ impl Machine {
 
     /// How the file of a descriptor stands: `None` if there is none.
     pub fn state(&self, fd: i32) -> Option<FileState>
-        ensures { (h : History) → Fits self.now h → result ≡ state_of (files_of self.now.core.setup (world self.now.core.setup h)) fd }
+        ensures { (h : History) → Fits self.now h
+            → result ≡ state_of (files_of self.now.core.setup (world self.now.core.setup h)) fd }
     {
         self.files.state(fd)
     }
 
     /// The byte at offset `at` of the file of a descriptor: `None` if there is no such file, or the offset isn't below its length.
     pub fn byte(&self, fd: i32, at: u64) -> Option<u8>
-        ensures { (h : History) → Fits self.now h → result ≡ byte_of (files_of self.now.core.setup (world self.now.core.setup h)) fd at }
+        ensures { (h : History) → Fits self.now h
+            → result ≡ byte_of (files_of self.now.core.setup (world self.now.core.setup h)) fd at }
     {
         self.files.byte(fd, at)
     }
@@ -212,7 +234,8 @@ impl Machine {
         requires { 1 ≤ self.old.core.dispatch.outstanding }
         ensures setup { self.new.core.setup ≡ self.old.core.setup }
         ensures steps { result ≤ 2 }
-        ensures settled { (h : History) → Fits self.old h → HasSettled self.old self.new h result 1 }
+        ensures settled { (h : History) → Fits self.old h
+            → HasSettled self.old self.new h result 1 }
     {
         let Some(least) = self.core.least() else {
             unreachable!()
@@ -235,7 +258,8 @@ impl Machine {
     /// Carries out the operation of a running request on the files, and ends the request with what that gave.
     fn finish(&mut self, number: u64) -> Answer
         ensures setup { self.new.core.setup ≡ self.old.core.setup }
-        ensures fits { (h : History) → Fits self.old h → Fits self.new ((step.Finish number, result) ∷ h) }
+        ensures fits { (h : History) → Fits self.old h
+            → Fits self.new ((step.Finish number, result) ∷ h) }
         ensures memory { HasNoLessMemory self.old.core self.new.core }
     {
         match self.core.running_op(number) {
@@ -250,10 +274,16 @@ impl Machine {
     /// Follows a Finish.
     fn follow_finish(&mut self, number: u64, given: Answer) -> Result<(), Refusal>
         ensures setup { self.new.core.setup ≡ self.old.core.setup }
-        ensures ok { OnOk result ((h : History) → Fits self.old h → Fits self.new ((step.Finish number, given) ∷ h)) }
-        ensures refused { IfErr result (λ refusal. (h : History) → Fits self.old h → IsRefused (CalledFor self.old.core.setup (world self.old.core.setup h) (step.Finish number)) given refusal) }
-        ensures resumed { IfErr result (λ refusal. (h : History) → Fits self.old h → Fits self.new (resumed (step.Finish number) refusal h)) }
-        ensures no_memory { IsErrOf result Refusal.NoMemory → (h : History) → Fits self.old h → MayLackMemory self.old (world self.old.core.setup h) (step.Finish number) }
+        ensures ok { OnOk result
+            ((h : History) → Fits self.old h → Fits self.new ((step.Finish number, given) ∷ h)) }
+        ensures refused { IfErr result
+            (λ refusal. (h : History) → Fits self.old h
+            → IsRefused (CalledFor self.old.core.setup (world self.old.core.setup h) (step.Finish number)) given refusal) }
+        ensures resumed { IfErr result
+            (λ refusal. (h : History) → Fits self.old h
+            → Fits self.new (resumed (step.Finish number) refusal h)) }
+        ensures no_memory { IsErrOf result Refusal.NoMemory → (h : History) → Fits self.old h
+            → MayLackMemory self.old (world self.old.core.setup h) (step.Finish number) }
         ensures memory { HasNoLessMemory self.old.core self.new.core }
     {
         let Some(op) = self.core.running_op(number) else {
@@ -269,13 +299,20 @@ impl Machine {
     /// Follows the Finish of a write that makes its file longer.
     fn follow_growth(&mut self, number: u64, op: &Op, given: Answer) -> Result<(), Refusal>
         requires asks { IsForFiles op.now }
-        requires running { (h : History) → Fits self.old h → Some op.now ≡ operation_running (world self.old.core.setup h).requests number }
+        requires running { (h : History) → Fits self.old h
+            → Some op.now ≡ operation_running (world self.old.core.setup h).requests number }
         requires lengthens { is_lengthening self.old.files op.now ≡ true }
         ensures setup { self.new.core.setup ≡ self.old.core.setup }
-        ensures ok { OnOk result ((h : History) → Fits self.old h → Fits self.new ((step.Finish number, given) ∷ h)) }
-        ensures refused { IfErr result (λ refusal. (h : History) → Fits self.old h → IsRefused (CalledFor self.old.core.setup (world self.old.core.setup h) (step.Finish number)) given refusal) }
-        ensures resumed { IfErr result (λ refusal. (h : History) → Fits self.old h → Fits self.new (resumed (step.Finish number) refusal h)) }
-        ensures no_memory { IsErrOf result Refusal.NoMemory → (h : History) → Fits self.old h → MayLackMemory self.old (world self.old.core.setup h) (step.Finish number) }
+        ensures ok { OnOk result
+            ((h : History) → Fits self.old h → Fits self.new ((step.Finish number, given) ∷ h)) }
+        ensures refused { IfErr result
+            (λ refusal. (h : History) → Fits self.old h
+            → IsRefused (CalledFor self.old.core.setup (world self.old.core.setup h) (step.Finish number)) given refusal) }
+        ensures resumed { IfErr result
+            (λ refusal. (h : History) → Fits self.old h
+            → Fits self.new (resumed (step.Finish number) refusal h)) }
+        ensures no_memory { IsErrOf result Refusal.NoMemory → (h : History) → Fits self.old h
+            → MayLackMemory self.old (world self.old.core.setup h) (step.Finish number) }
         ensures memory { HasNoLessMemory self.old.core self.new.core }
     {
         let refused = Outcome {
@@ -302,7 +339,8 @@ impl Machine {
 /// How many bytes a write writes if it succeeds, 0 for any other operation.
 fn written_length(op: &Op) -> i32
     requires { IsForFiles op.now }
-    ensures { (files : List FileContents) → is_lengthening files op.now ≡ true → result_of files op.now ≡ ended_with result }
+    ensures { (files : List FileContents) → is_lengthening files op.now ≡ true
+        → result_of files op.now ≡ ended_with result }
 {
     match op {
         Op::Write { len, .. } => *len as i32,

@@ -12,7 +12,9 @@ use std::alloc::{AllocError, Global};
 pub fn run(alloc: Global, machine: &mut Machine, steps: &[Step]) -> Result<Vec<Answer>, AllocError>
     ensures setup { machine.new.core.setup ≡ machine.old.core.setup }
     ensures answers { IfOk result (λ answers. length answers.items ≡ length steps.now) }
-    ensures fits { IfOk result (λ answers. (h : History) → Fits machine.old h → Fits machine.new (history_of (zip steps.now answers.items) ++ h)) }
+    ensures fits { IfOk result
+        (λ answers. (h : History) → Fits machine.old h
+        → Fits machine.new (history_of (zip steps.now answers.items) ++ h)) }
     ensures err { OnErr result (machine.new ≡ machine.old) }
     ensures some { OnErr result (0 < length steps.now) }
 {

@@ -85,7 +85,8 @@ pub record HasGrown (old new : NumberSet) (n : ℕ) : Type 0 where
 
 -- These blocks begin at this place or behind it, or with one that isn't zero; or there are none.
 abbrev pub HasLetGo : ℕ → List ℕ → ℕ → Type 0
-HasLetGo first blocks place = (place ≤ first) ⊎ ((length blocks ≡ 0) ⊎ (slice_index_or blocks 0 0 ≢ 0))
+HasLetGo first blocks place =
+    (place ≤ first) ⊎ ((length blocks ≡ 0) ⊎ (slice_index_or blocks 0 0 ≢ 0))
 
 -- The same set, which may cover fewer numbers, but no fewer of those from n on. What is kept before n begins with a block that isn't zero.
 pub record HasMoved (old new : NumberSet) (n : ℕ) : Type 0 where

@@ -72,7 +72,8 @@ impl Blocks {
         requires fits { n < 2 ^ 63 }
         ensures covered { n < stop_of self.new }
         ensures longer { stop_of self.old ≤ stop_of self.new }
-        ensures no_more { (m : ℕ) → stop_of self.old ≤ 64 * m → n < 64 * m → stop_of self.new ≤ 64 * m }
+        ensures no_more { (m : ℕ) → stop_of self.old ≤ 64 * m → n < 64 * m
+            → stop_of self.new ≤ 64 * m }
         ensures same { IsSameSet self.old self.new }
         ensures start { self.new.first ≡ self.old.first }
     {
@@ -171,7 +172,8 @@ fn write(blocks: &mut VecDeque<u64>, place: usize, block: u64)
 
 /// The place of the first block that isn't zero.
 fn first_filled(blocks: &VecDeque<u64>) -> Option<usize>
-    ensures { MatchOption result ((k : ℕ) → slice_index_or blocks.now.items k 0 ≡ 0) (IsFirstFilled blocks.now.items) }
+    ensures { MatchOption result ((k : ℕ) → slice_index_or blocks.now.items k 0 ≡ 0)
+        (IsFirstFilled blocks.now.items) }
 {
     for place in 0..blocks.len() {
         if blocks[place] != 0 {
@@ -184,7 +186,8 @@ fn first_filled(blocks: &VecDeque<u64>) -> Option<usize>
 /// Drops blocks that are zero from the front on, up to this place.
 fn drop_zeros(first: &mut u64, blocks: &mut VecDeque<u64>, place: u64)
     ensures start { (m : ℕ) → first.old ≤ m → place ≤ m → first.new ≤ m }
-    ensures same { (i : ℕ) → block_of first.new blocks.new.items i ≡ block_of first.old blocks.old.items i }
+    ensures same { (i : ℕ)
+        → block_of first.new blocks.new.items i ≡ block_of first.old blocks.old.items i }
     ensures stop { first.new + deque_len blocks.new ≡ first.old + deque_len blocks.old }
     ensures longer { first.old ≤ first.new }
     ensures far { HasLetGo first.new blocks.new.items place }

@@ -20,7 +20,8 @@ use Rattle.uring_options.specs.declared.answers.OptionsFault.TheVariants.{Small,
 
 -- an option of this name that takes a number, as clap's parser checks it
 abbrev pub option_rule : Text → ValueParser → Rule
-option_rule id parser = record (new_rule id) { long = Some id; value_names = 1; action = Some Set; parser = Some parser }
+option_rule id parser =
+    record (new_rule id) { long = Some id; value_names = 1; action = Some Set; parser = Some parser }
 
 -- a command with the four options of a set-up, each of which takes a number
 abbrev pub with_numbers_of : App → App
@@ -41,7 +42,8 @@ with_set_up_of app = with_rule (with_numbers_of app) (flag_rule (codes "stop"))
 
 -- a command with the options of the pictures
 abbrev pub with_pictures_of : App → App
-with_pictures_of app = with_rule (with_rule app (flag_rule (codes "graph"))) (flag_rule (codes "timeline"))
+with_pictures_of app =
+    with_rule (with_rule app (flag_rule (codes "graph"))) (flag_rule (codes "timeline"))
 
 -- a command with the options of a check
 abbrev pub with_checks_of : App → App
@@ -49,7 +51,8 @@ with_checks_of app = with_rule (with_rule app (flag_rule (codes "all"))) (flag_r
 
 -- a command with the options of a play
 abbrev pub with_plays_of : App → App
-with_plays_of app = with_rule (with_rule app (option_rule (codes "workers") (Signed (pos 1) (pos 8)))) (flag_rule (codes "shared"))
+with_plays_of app =
+    with_rule (with_rule app (option_rule (codes "workers") (Signed (pos 1) (pos 8)))) (flag_rule (codes "shared"))
 
 -- `uring trace`, with the option by which steps are written too
 abbrev pub trace_app : App
@@ -69,7 +72,8 @@ play_app = with_plays_of (with_numbers_of (new_app (codes "play")))
 
 -- the program's command line, as clap sees a command
 abbrev pub uring : App
-uring = with_subcommand (with_subcommand (with_subcommand (with_subcommand (new_app (codes "uring")) trace_app.top) explain_app.top) check_app.top) play_app.top
+uring =
+    with_subcommand (with_subcommand (with_subcommand (with_subcommand (new_app (codes "uring")) trace_app.top) explain_app.top) check_app.top) play_app.top
 
 -- what a command runs
 pub data Run : Type 0 where
@@ -158,17 +162,25 @@ IsGiven rows id false = (one_of id rows ≡ None) ⊎ (one_of id rows ≡ Some (
 
 -- the set-up of these numbers, whose calls stop exactly if `--stop` is given
 abbrev pub IsTracedOver : List Row → Numbers → Setup → Type 0
-IsTracedOver rows n s = IsSetupOver n (record s { stops = false }) × IsGiven rows (codes "stop") s.stops
+IsTracedOver rows n s =
+    IsSetupOver n (record s { stops = false }) × IsGiven rows (codes "stop") s.stops
 
 -- what a command runs, over the set-up that these rows and numbers give: `uring explain` the graph where `--graph` is given, else the timeline where `--timeline` is, and else the answers; `uring play` a play over shared words where `--shared` is given, and else one over lanes
 abbrev pub IsRunOver : Run → List Row → Numbers → Options → Type 0
-IsRunOver run rows n (Trace s echo) = (run ≡ Traces) × IsTracedOver rows n s × IsGiven rows (codes "echo") echo
-IsRunOver run rows n (Explain s) = (run ≡ Explains) × IsTracedOver rows n s × IsGiven rows (codes "graph") false × IsGiven rows (codes "timeline") false
-IsRunOver run rows n (Graph s) = (run ≡ Explains) × IsTracedOver rows n s × IsGiven rows (codes "graph") true
-IsRunOver run rows n (Timeline s) = (run ≡ Explains) × IsTracedOver rows n s × IsGiven rows (codes "graph") false × IsGiven rows (codes "timeline") true
-IsRunOver run rows n (Check s all apart) = (run ≡ Checks) × IsTracedOver rows n s × IsGiven rows (codes "all") all × IsGiven rows (codes "apart") apart
-IsRunOver run rows n (Play s workers) = (run ≡ Plays) × IsSetupOver n s × AreWorkers rows workers × IsGiven rows (codes "shared") false
-IsRunOver run rows n (Shared s workers) = (run ≡ Plays) × IsSetupOver n s × AreWorkers rows workers × IsGiven rows (codes "shared") true
+IsRunOver run rows n (Trace s echo) =
+    (run ≡ Traces) × IsTracedOver rows n s × IsGiven rows (codes "echo") echo
+IsRunOver run rows n (Explain s) = (run ≡ Explains) × IsTracedOver rows n s
+    × IsGiven rows (codes "graph") false × IsGiven rows (codes "timeline") false
+IsRunOver run rows n (Graph s) =
+    (run ≡ Explains) × IsTracedOver rows n s × IsGiven rows (codes "graph") true
+IsRunOver run rows n (Timeline s) = (run ≡ Explains) × IsTracedOver rows n s
+    × IsGiven rows (codes "graph") false × IsGiven rows (codes "timeline") true
+IsRunOver run rows n (Check s all apart) = (run ≡ Checks) × IsTracedOver rows n s
+    × IsGiven rows (codes "all") all × IsGiven rows (codes "apart") apart
+IsRunOver run rows n (Play s workers) =
+    (run ≡ Plays) × IsSetupOver n s × AreWorkers rows workers × IsGiven rows (codes "shared") false
+IsRunOver run rows n (Shared s workers) =
+    (run ≡ Plays) × IsSetupOver n s × AreWorkers rows workers × IsGiven rows (codes "shared") true
 
 -- a completion ring is given, and is smaller after rounding than the submission ring
 pub record IsTooSmall (n : Numbers) : Type 0 where
@@ -182,7 +194,8 @@ pub record IsTooSmall (n : Numbers) : Type 0 where
 
 -- the words write numbers, and ask for a command over them
 abbrev pub AskFor : List Text → Options → Type 0
-AskFor words o = (n : Numbers) × Writes words n × IsRunOver (run_of (subcommand_of uring words)) (command_rows (subcommand_of uring words)) n o
+AskFor words o = (n : Numbers) × Writes words n
+    × IsRunOver (run_of (subcommand_of uring words)) (command_rows (subcommand_of uring words)) n o
 
 -- the words write numbers of which the completion ring's is too small
 abbrev pub AskForTooSmall : List Text → Type 0

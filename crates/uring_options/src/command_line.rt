@@ -43,9 +43,13 @@ pub fn options<'a>(alloc: Global, args: &'a [&'a str]) -> Result<Options, Option
 
 /// What the words ask for of which clap has these matches.
 fn asked(matches: &ArgMatches<'_>) -> Result<Options, OptionsFault>
-    requires { (words : List Text) × HasMatchesOf uring words matches.now × (fault_of uring words ≡ []) }
-    ensures ok { (words : List Text) → HasMatchesOf uring words matches.now → fault_of uring words ≡ [] → IfOk result (AskFor words) }
-    ensures err { (words : List Text) → HasMatchesOf uring words matches.now → fault_of uring words ≡ [] → IfErr result (λ e. (e ≡ OptionsFault.Small) × AskForTooSmall words) }
+    requires { (words : List Text) × HasMatchesOf uring words matches.now
+        × (fault_of uring words ≡ []) }
+    ensures ok { (words : List Text) → HasMatchesOf uring words matches.now
+        → fault_of uring words ≡ [] → IfOk result (AskFor words) }
+    ensures err { (words : List Text) → HasMatchesOf uring words matches.now
+        → fault_of uring words ≡ []
+        → IfErr result (λ e. (e ≡ OptionsFault.Small) × AskForTooSmall words) }
 {
     if let Some(matches) = matches.subcommand_matches("explain") {
         return explained(matches);
@@ -78,8 +82,12 @@ fn traced(matches: &ArgMatches<'_>) -> Result<Options, OptionsFault>
     requires numbers { (n : Numbers) × GivesNumbers (rows_of (found_of matches.now)) n }
     requires stop { (stops : Bool) × IsGiven (rows_of (found_of matches.now)) (codes "stop") stops }
     requires echo { (given : Bool) × IsGiven (rows_of (found_of matches.now)) (codes "echo") given }
-    ensures ok { IfOk result (λ o. (n : Numbers) × GivesNumbers (rows_of (found_of matches.now)) n × IsRunOver Traces (rows_of (found_of matches.now)) n o) }
-    ensures err { IfErr result (λ e. (e ≡ OptionsFault.Small) × ((n : Numbers) × GivesNumbers (rows_of (found_of matches.now)) n × IsTooSmall n)) }
+    ensures ok { IfOk result
+        (λ o. (n : Numbers) × GivesNumbers (rows_of (found_of matches.now)) n
+        × IsRunOver Traces (rows_of (found_of matches.now)) n o) }
+    ensures err { IfErr result
+        (λ e. (e ≡ OptionsFault.Small)
+        × ((n : Numbers) × GivesNumbers (rows_of (found_of matches.now)) n × IsTooSmall n)) }
 {
     let setup = traced_setup_of(matches)?;
     let is_echo = is_given(matches, "echo");
@@ -91,9 +99,14 @@ fn checked(matches: &ArgMatches<'_>) -> Result<Options, OptionsFault>
     requires numbers { (n : Numbers) × GivesNumbers (rows_of (found_of matches.now)) n }
     requires stop { (stops : Bool) × IsGiven (rows_of (found_of matches.now)) (codes "stop") stops }
     requires every { (given : Bool) × IsGiven (rows_of (found_of matches.now)) (codes "all") given }
-    requires apart { (given : Bool) × IsGiven (rows_of (found_of matches.now)) (codes "apart") given }
-    ensures ok { IfOk result (λ o. (n : Numbers) × GivesNumbers (rows_of (found_of matches.now)) n × IsRunOver Checks (rows_of (found_of matches.now)) n o) }
-    ensures err { IfErr result (λ e. (e ≡ OptionsFault.Small) × ((n : Numbers) × GivesNumbers (rows_of (found_of matches.now)) n × IsTooSmall n)) }
+    requires apart { (given : Bool)
+        × IsGiven (rows_of (found_of matches.now)) (codes "apart") given }
+    ensures ok { IfOk result
+        (λ o. (n : Numbers) × GivesNumbers (rows_of (found_of matches.now)) n
+        × IsRunOver Checks (rows_of (found_of matches.now)) n o) }
+    ensures err { IfErr result
+        (λ e. (e ≡ OptionsFault.Small)
+        × ((n : Numbers) × GivesNumbers (rows_of (found_of matches.now)) n × IsTooSmall n)) }
 {
     let setup = traced_setup_of(matches)?;
     let is_all = is_given(matches, "all");
@@ -109,10 +122,16 @@ fn checked(matches: &ArgMatches<'_>) -> Result<Options, OptionsFault>
 fn explained(matches: &ArgMatches<'_>) -> Result<Options, OptionsFault>
     requires numbers { (n : Numbers) × GivesNumbers (rows_of (found_of matches.now)) n }
     requires stop { (stops : Bool) × IsGiven (rows_of (found_of matches.now)) (codes "stop") stops }
-    requires graph { (given : Bool) × IsGiven (rows_of (found_of matches.now)) (codes "graph") given }
-    requires timeline { (given : Bool) × IsGiven (rows_of (found_of matches.now)) (codes "timeline") given }
-    ensures ok { IfOk result (λ o. (n : Numbers) × GivesNumbers (rows_of (found_of matches.now)) n × IsRunOver Explains (rows_of (found_of matches.now)) n o) }
-    ensures err { IfErr result (λ e. (e ≡ OptionsFault.Small) × ((n : Numbers) × GivesNumbers (rows_of (found_of matches.now)) n × IsTooSmall n)) }
+    requires graph { (given : Bool)
+        × IsGiven (rows_of (found_of matches.now)) (codes "graph") given }
+    requires timeline { (given : Bool)
+        × IsGiven (rows_of (found_of matches.now)) (codes "timeline") given }
+    ensures ok { IfOk result
+        (λ o. (n : Numbers) × GivesNumbers (rows_of (found_of matches.now)) n
+        × IsRunOver Explains (rows_of (found_of matches.now)) n o) }
+    ensures err { IfErr result
+        (λ e. (e ≡ OptionsFault.Small)
+        × ((n : Numbers) × GivesNumbers (rows_of (found_of matches.now)) n × IsTooSmall n)) }
 {
     let setup = traced_setup_of(matches)?;
     let graph = is_given(matches, "graph");
@@ -122,7 +141,8 @@ fn explained(matches: &ArgMatches<'_>) -> Result<Options, OptionsFault>
 
 /// What is written of a trace over the set-up: a picture if one is asked for, and else the answers with their reasons.
 fn explained_over(setup: Setup, graph: bool, timeline: bool) -> Options
-    ensures { result ≡ (if graph then Options.Graph setup else if timeline then Options.Timeline setup else Options.Explain setup) }
+    ensures { result
+        ≡ (if graph then Options.Graph setup else if timeline then Options.Timeline setup else Options.Explain setup) }
 {
     if graph {
         Options::Graph(setup)
@@ -137,9 +157,14 @@ fn explained_over(setup: Setup, graph: bool, timeline: bool) -> Options
 fn played(matches: &ArgMatches<'_>) -> Result<Options, OptionsFault>
     requires numbers { (n : Numbers) × GivesNumbers (rows_of (found_of matches.now)) n }
     requires workers { (n : Option ℕ) × GivesWorkers (rows_of (found_of matches.now)) n }
-    requires shared { (given : Bool) × IsGiven (rows_of (found_of matches.now)) (codes "shared") given }
-    ensures ok { IfOk result (λ o. (n : Numbers) × GivesNumbers (rows_of (found_of matches.now)) n × IsRunOver Plays (rows_of (found_of matches.now)) n o) }
-    ensures err { IfErr result (λ e. (e ≡ OptionsFault.Small) × ((n : Numbers) × GivesNumbers (rows_of (found_of matches.now)) n × IsTooSmall n)) }
+    requires shared { (given : Bool)
+        × IsGiven (rows_of (found_of matches.now)) (codes "shared") given }
+    ensures ok { IfOk result
+        (λ o. (n : Numbers) × GivesNumbers (rows_of (found_of matches.now)) n
+        × IsRunOver Plays (rows_of (found_of matches.now)) n o) }
+    ensures err { IfErr result
+        (λ e. (e ≡ OptionsFault.Small)
+        × ((n : Numbers) × GivesNumbers (rows_of (found_of matches.now)) n × IsTooSmall n)) }
 {
     let setup = setup_of(matches)?;
     let workers = workers_of(matches);
@@ -149,7 +174,8 @@ fn played(matches: &ArgMatches<'_>) -> Result<Options, OptionsFault>
 
 /// The play over the set-up, with so many workers: over shared words if that is asked for, and else over lanes.
 fn played_over(setup: Setup, workers: u32, shared: bool) -> Options
-    ensures { result ≡ (if shared then Options.Shared setup workers else Options.Play setup workers) }
+    ensures { result
+        ≡ (if shared then Options.Shared setup workers else Options.Play setup workers) }
 {
     if shared {
         Options::Shared(setup, workers)
@@ -162,8 +188,12 @@ fn played_over(setup: Setup, workers: u32, shared: bool) -> Options
 fn traced_setup_of(matches: &ArgMatches<'_>) -> Result<Setup, OptionsFault>
     requires numbers { (n : Numbers) × GivesNumbers (rows_of (found_of matches.now)) n }
     requires stop { (stops : Bool) × IsGiven (rows_of (found_of matches.now)) (codes "stop") stops }
-    ensures ok { IfOk result (λ s. (n : Numbers) × GivesNumbers (rows_of (found_of matches.now)) n × IsTracedOver (rows_of (found_of matches.now)) n s) }
-    ensures err { IfErr result (λ e. (e ≡ OptionsFault.Small) × ((n : Numbers) × GivesNumbers (rows_of (found_of matches.now)) n × IsTooSmall n)) }
+    ensures ok { IfOk result
+        (λ s. (n : Numbers) × GivesNumbers (rows_of (found_of matches.now)) n
+        × IsTracedOver (rows_of (found_of matches.now)) n s) }
+    ensures err { IfErr result
+        (λ e. (e ≡ OptionsFault.Small)
+        × ((n : Numbers) × GivesNumbers (rows_of (found_of matches.now)) n × IsTooSmall n)) }
 {
     let setup = setup_of(matches)?;
     Ok(stopping_if(setup, is_given(matches, "stop")))
@@ -179,7 +209,8 @@ fn stopping_if(setup: Setup, stops: bool) -> Setup
 
 /// Whether an option that takes no value is given: clap has taken its text, so that it is one of the two.
 fn is_given(matches: &ArgMatches<'_>, id: &str) -> bool
-    ensures { (given : Bool) → IsGiven (rows_of (found_of matches.now)) id.now given → result ≡ given }
+    ensures { (given : Bool) → IsGiven (rows_of (found_of matches.now)) id.now given
+        → result ≡ given }
 {
     matches.get_flag(id)
 }
@@ -187,8 +218,11 @@ fn is_given(matches: &ArgMatches<'_>, id: &str) -> bool
 /// The set-up of the numbers that the options give.
 fn setup_of(matches: &ArgMatches<'_>) -> Result<Setup, OptionsFault>
     requires { (n : Numbers) × GivesNumbers (rows_of (found_of matches.now)) n }
-    ensures ok { IfOk result (λ s. (n : Numbers) × GivesNumbers (rows_of (found_of matches.now)) n × IsSetupOver n s) }
-    ensures err { IfErr result (λ e. (e ≡ OptionsFault.Small) × ((n : Numbers) × GivesNumbers (rows_of (found_of matches.now)) n × IsTooSmall n)) }
+    ensures ok { IfOk result
+        (λ s. (n : Numbers) × GivesNumbers (rows_of (found_of matches.now)) n × IsSetupOver n s) }
+    ensures err { IfErr result
+        (λ e. (e ≡ OptionsFault.Small)
+        × ((n : Numbers) × GivesNumbers (rows_of (found_of matches.now)) n × IsTooSmall n)) }
 {
     let sq = given_number(matches, "sq");
     let cq = given_number(matches, "cq");
@@ -213,8 +247,11 @@ fn setup_over(
     start: Option<u32>,
 ) -> Result<Setup, OptionsFault>
     requires { AreInRange (record { sq = sq; cq = cq; files = files; start = start }) }
-    ensures ok { IfOk result (IsSetupOver (record { sq = sq; cq = cq; files = files; start = start })) }
-    ensures err { IfErr result (λ e. (e ≡ OptionsFault.Small) × IsTooSmall (record { sq = sq; cq = cq; files = files; start = start })) }
+    ensures ok { IfOk result
+        (IsSetupOver (record { sq = sq; cq = cq; files = files; start = start })) }
+    ensures err { IfErr result
+        (λ e. (e ≡ OptionsFault.Small)
+        × IsTooSmall (record { sq = sq; cq = cq; files = files; start = start })) }
 {
     let sq = sq.unwrap_or(DEFAULT_SQ);
     let files = files.unwrap_or(DEFAULT_FILES);
@@ -228,7 +265,8 @@ fn setup_over(
 
 /// The number given for an option, if any: clap has taken its text, so that it is one.
 fn given_number(matches: &ArgMatches<'_>, id: &str) -> Option<u32>
-    ensures { (n : Option ℕ) → Gives (rows_of (found_of matches.now)) id.now n → IsWithin 0 4294967295 n → result ≡ n }
+    ensures { (n : Option ℕ) → Gives (rows_of (found_of matches.now)) id.now n
+        → IsWithin 0 4294967295 n → result ≡ n }
 {
     matches.get_one::<u32>(id)
 }

@@ -155,7 +155,8 @@ fn with_command<'a>(
     command: Command<'a>,
     row: &CommandRow,
 ) -> Result<Command<'a>, AllocError>
-    ensures { IfOk result (λ more. app_of more ≡ with_subcommand (app_of command.entry) (app_of_row row.now).top) }
+    ensures { IfOk result
+        (λ more. app_of more ≡ with_subcommand (app_of command.entry) (app_of_row row.now).top) }
 {
     let sub = command_of(alloc, row)?;
     command.subcommand(sub)
@@ -179,7 +180,8 @@ fn with_options<'a>(
     rows: &[OptionRow],
 ) -> Result<Command<'a>, AllocError>
     ensures app { IfOk result (λ more. app_of more ≡ with_rows_of (app_of command.entry) rows.now) }
-    ensures local { IfOk result (λ more. (out-Command more).has_globals ≡ (out-Command command.entry).has_globals) }
+    ensures local { IfOk result
+        (λ more. (out-Command more).has_globals ≡ (out-Command command.entry).has_globals) }
 {
     for row in rows {
         command = with_option(alloc, command, *row)?;
@@ -193,8 +195,10 @@ fn with_option<'a>(
     command: Command<'a>,
     row: OptionRow,
 ) -> Result<Command<'a>, AllocError>
-    ensures app { IfOk result (λ more. app_of more ≡ with_rule (app_of command.entry) (rule_of_row row)) }
-    ensures local { IfOk result (λ more. (out-Command more).has_globals ≡ (out-Command command.entry).has_globals) }
+    ensures app { IfOk result
+        (λ more. app_of more ≡ with_rule (app_of command.entry) (rule_of_row row)) }
+    ensures local { IfOk result
+        (λ more. (out-Command more).has_globals ≡ (out-Command command.entry).has_globals) }
 {
     command.arg(option_of(alloc, row))
 }

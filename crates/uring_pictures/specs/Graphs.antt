@@ -21,11 +21,13 @@ standing_text why = why_text why
 
 -- the line of a node
 abbrev pub node_text : ℕ → Why → List ℕ
-node_text n why = codes "  " ++ decimal n ++ codes " [shape=" ++ shape_of why ++ codes ", label=\"" ++ decimal n ++ codes ": " ++ standing_text why ++ codes "\"];\n"
+node_text n why =
+    codes "  " ++ decimal n ++ codes " [shape=" ++ shape_of why ++ codes ", label=\"" ++ decimal n ++ codes ": " ++ standing_text why ++ codes "\"];\n"
 
 -- the line of the edge from a request that waits
 abbrev pub edge_text : ℕ → Why → List ℕ
-edge_text n (Waits m since) = codes "  " ++ decimal n ++ codes " -> " ++ decimal m ++ codes " [label=\"" ++ since_text m since ++ codes "\"];\n"
+edge_text n (Waits m since) =
+    codes "  " ++ decimal n ++ codes " -> " ++ decimal m ++ codes " [label=\"" ++ since_text m since ++ codes "\"];\n"
 edge_text n _ = []
 
 -- the lines of a request: none, if it was never accepted or has ended

@@ -9,13 +9,15 @@ use Rattle.uring_trace.specs.Explaining.{HasTold, HasEnded}
 abbrev pub TakesIn : Explainer → Explainer → List ℕ → Option (List ℕ) → Option (List ℕ) → Type 0
 TakesIn old new bytes e e' =
     (setup : Setup) (before told noted : List ℕ) → HasTold setup old before told noted
-    → (more : List ℕ) × (more_notes : List ℕ) × Appends e e' more_notes × HasTold setup new (before ++ bytes) (told ++ more) (noted ++ more_notes)
+    → (more : List ℕ) × (more_notes : List ℕ) × Appends e e' more_notes
+    × HasTold setup new (before ++ bytes) (told ++ more) (noted ++ more_notes)
 
 -- the input was ended, and what is noted of its last line was written
 abbrev pub EndsLine : Explainer → Explainer → Option (List ℕ) → Option (List ℕ) → Type 0
 EndsLine old new e e' =
     (setup : Setup) (before told noted : List ℕ) → HasTold setup old before told noted
-    → (more : List ℕ) × (more_notes : List ℕ) × Appends e e' more_notes × HasEnded setup new before (told ++ more) (noted ++ more_notes)
+    → (more : List ℕ) × (more_notes : List ℕ) × Appends e e' more_notes
+    × HasEnded setup new before (told ++ more) (noted ++ more_notes)
 
 -- and it is told whether a line was bad
 abbrev pub EndsIn : Bool → Explainer → Explainer → Option (List ℕ) → Option (List ℕ) → Type 0

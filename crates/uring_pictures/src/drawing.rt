@@ -34,7 +34,8 @@ pub fn graph<R: Read, W: Write, E: Write>(
     errors: &mut E,
     setup: &Setup,
 ) -> Result<bool, TraceFault>
-    ensures { IfOk result (λ bad. Draws last_graph setup.now bad (R.remaining reader.old) (R.remaining reader.new) (W.contents writer.old) (W.contents writer.new) (E.contents errors.old) (E.contents errors.new)) }
+    ensures { IfOk result
+        (λ bad. Draws last_graph setup.now bad (R.remaining reader.old) (R.remaining reader.new) (W.contents writer.old) (W.contents writer.new) (E.contents errors.old) (E.contents errors.new)) }
 {
     let mut explainer = Explainer::new(alloc, setup)?;
     let drawn = draw_all(alloc, &mut explainer, reader, writer, errors);
@@ -50,7 +51,9 @@ fn draw_all<R: Read, W: Write, E: Write>(
     writer: &mut W,
     errors: &mut E,
 ) -> Result<bool, TraceFault>
-    ensures { IfOk result (λ bad. (setup : Setup) → HasTold setup explainer.old [] [] [] → Draws last_graph setup bad (R.remaining reader.old) (R.remaining reader.new) (W.contents writer.old) (W.contents writer.new) (E.contents errors.old) (E.contents errors.new)) }
+    ensures { IfOk result
+        (λ bad. (setup : Setup) → HasTold setup explainer.old [] [] []
+        → Draws last_graph setup bad (R.remaining reader.old) (R.remaining reader.new) (W.contents writer.old) (W.contents writer.new) (E.contents errors.old) (E.contents errors.new)) }
 {
     let bad = read_all(alloc, explainer, reader, errors)?;
     write_graph(alloc, explainer.machine(), writer)?;
@@ -59,7 +62,9 @@ fn draw_all<R: Read, W: Write, E: Write>(
 
 /// Writes the graph of the outstanding requests.
 fn write_graph<W: Write>(alloc: Global, machine: &Machine, writer: &mut W) -> Result<(), TraceFault>
-    ensures { OnOk result ((h : History) → Fits machine.now h → Appends (W.contents writer.old) (W.contents writer.new) (graph_of (world machine.now.core.setup h).requests)) }
+    ensures { OnOk result
+        ((h : History) → Fits machine.now h
+        → Appends (W.contents writer.old) (W.contents writer.new) (graph_of (world machine.now.core.setup h).requests)) }
 {
     let mut text = String::new(alloc);
     push_graph(&mut text, machine)?;
@@ -73,7 +78,9 @@ fn read_all<R: Read, E: Write>(
     reader: &mut R,
     errors: &mut E,
 ) -> Result<bool, TraceFault>
-    ensures { IfOk result (λ bad. (setup : Setup) → HasTold setup explainer.old [] [] [] → ReadsAll setup bad explainer.new (R.remaining reader.old) (R.remaining reader.new) (E.contents errors.old) (E.contents errors.new)) }
+    ensures { IfOk result
+        (λ bad. (setup : Setup) → HasTold setup explainer.old [] [] []
+        → ReadsAll setup bad explainer.new (R.remaining reader.old) (R.remaining reader.new) (E.contents errors.old) (E.contents errors.new)) }
 {
     let mut reads = Calls::new();
     let mut writes = Calls::new();
@@ -96,7 +103,8 @@ fn take_in<E: Write>(
     errors: &mut E,
     writes: &mut Calls,
 ) -> Result<(), TraceFault>
-    ensures { OnOk result (TakesIn explainer.old explainer.new bytes.now (E.contents errors.old) (E.contents errors.new)) }
+    ensures { OnOk result
+        (TakesIn explainer.old explainer.new bytes.now (E.contents errors.old) (E.contents errors.new)) }
 {
     let mut text = String::new(alloc);
     let mut notes = String::new(alloc);
@@ -111,7 +119,8 @@ fn end_in<E: Write>(
     errors: &mut E,
     writes: &mut Calls,
 ) -> Result<bool, TraceFault>
-    ensures { IfOk result (λ bad. EndsIn bad explainer.old explainer.new (E.contents errors.old) (E.contents errors.new)) }
+    ensures { IfOk result
+        (λ bad. EndsIn bad explainer.old explainer.new (E.contents errors.old) (E.contents errors.new)) }
 {
     note_last(alloc, explainer, errors, writes)?;
     Ok(explainer.has_bad())
@@ -124,7 +133,8 @@ fn note_last<E: Write>(
     errors: &mut E,
     writes: &mut Calls,
 ) -> Result<(), TraceFault>
-    ensures { OnOk result (EndsLine explainer.old explainer.new (E.contents errors.old) (E.contents errors.new)) }
+    ensures { OnOk result
+        (EndsLine explainer.old explainer.new (E.contents errors.old) (E.contents errors.new)) }
 {
     let mut text = String::new(alloc);
     let mut notes = String::new(alloc);

@@ -12,7 +12,9 @@ use uring_trace::{push_since, push_why};
 
 /// Appends the graph of the outstanding requests.
 pub(crate) fn push_graph(text: &mut String, machine: &Machine) -> Result<(), AllocError>
-    ensures { OnOk result ((h : History) → Fits machine.now h → string_bytes text.new ≡ string_bytes text.old ++ graph_of (world machine.now.core.setup h).requests) }
+    ensures { OnOk result
+        ((h : History) → Fits machine.now h
+        → string_bytes text.new ≡ string_bytes text.old ++ graph_of (world machine.now.core.setup h).requests) }
 {
     text.push_str("digraph requests {\n")?;
     let accepted = machine.counts().accepted;
@@ -24,7 +26,8 @@ pub(crate) fn push_graph(text: &mut String, machine: &Machine) -> Result<(), All
 
 /// Appends the lines of a request, if it is outstanding.
 fn push_request(text: &mut String, number: u64, why: Why) -> Result<(), AllocError>
-    ensures { OnOk result (string_bytes text.new ≡ string_bytes text.old ++ request_text number why) }
+    ensures { OnOk result
+        (string_bytes text.new ≡ string_bytes text.old ++ request_text number why) }
 {
     match why {
         Why::NeverAccepted | Why::HasEnded => Ok(()),

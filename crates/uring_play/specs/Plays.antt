@@ -25,7 +25,8 @@ made_by g trace = world g (history_of trace)
 -- A play of these calls: a lawful trace that published exactly their items, in order, and took them in by calls of these lengths; of its requests none is outstanding, and these are all the completions that it posted, in the order in which it reaped them: none waits.
 pub record IsPlay (g : Setup) (calls : List (List Item)) (trace : List Event) (completions : List Cqe) : Type 0 where
   pub lawful : IsLawful g (history_of trace)
-  pub published : published_items (made_by g trace).submission ≡ all_published_as (items_of_calls calls)
+  pub published : published_items (made_by g trace).submission
+      ≡ all_published_as (items_of_calls calls)
   pub cut : (made_by g trace).submission.calls ≡ map length calls
   pub none_outstanding : outstanding_in (made_by g trace).requests ≡ 0
   pub reaped : (made_by g trace).completions.reaped ≡ completions
@@ -39,8 +40,10 @@ pub record IsTextOf (trace : List Event) (completions : List Cqe) (text : List �
   pub is : text ≡ lines_text sorted ++ counts_text (accepted_in trace) (dropped_last trace)
 
 -- what is written of a play: its text, or its beginning, or nothing, by what is returned
-abbrev pub WritesPlay : Result (Unit {0}) PlayFault → Option (List ℕ) → Option (List ℕ) → List Event → List Cqe → Type 0
-WritesPlay answer before after trace completions = (text : List ℕ) × IsTextOf trace completions text × Writes answer before after text
+abbrev pub WritesPlay : Result (Unit {0}) PlayFault → Option (List ℕ) → Option (List ℕ) → List Event
+    → List Cqe → Type 0
+WritesPlay answer before after trace completions =
+    (text : List ℕ) × IsTextOf trace completions text × Writes answer before after text
 
 -- These bytes tell calls, and this is the text of a play of them.
 pub record IsPlayText (g : Setup) (bytes text : List ℕ) : Type 0 where
@@ -54,9 +57,12 @@ pub record IsPlayText (g : Setup) (bytes text : List ℕ) : Type 0 where
 -- What is written of bytes, by what is returned: all of the text, or its beginning after a write that failed, and after another fault nothing. A faulty line is the first of the bytes.
 abbrev pub AnswersPlay : Setup → List ℕ → Result (Unit {0}) PlayFault → List ℕ → Type 0
 AnswersPlay g bytes (Ok done) written = IsPlayText g bytes written
-AnswersPlay g bytes (Err fault.Write) written = (more : List ℕ) × (0 < length more) × IsPlayText g bytes (written ++ more)
-AnswersPlay g bytes (Err (fault.Line k)) written = IsTold g.sq bytes (Err (fault.Line k)) × (written ≡ [])
-AnswersPlay g bytes (Err (fault.Long k)) written = IsTold g.sq bytes (Err (fault.Long k)) × (written ≡ [])
+AnswersPlay g bytes (Err fault.Write) written =
+    (more : List ℕ) × (0 < length more) × IsPlayText g bytes (written ++ more)
+AnswersPlay g bytes (Err (fault.Line k)) written =
+    IsTold g.sq bytes (Err (fault.Line k)) × (written ≡ [])
+AnswersPlay g bytes (Err (fault.Long k)) written =
+    IsTold g.sq bytes (Err (fault.Long k)) × (written ≡ [])
 AnswersPlay g bytes (Err fault.Read) written = written ≡ []
 AnswersPlay g bytes (Err fault.Memory) written = written ≡ []
 

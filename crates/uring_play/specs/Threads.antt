@@ -18,7 +18,10 @@ pub record Applies {P : Type 0} (before : AppEnd) (calls : List (List Item)) (ap
   pub pairing : applied.app.pairing ≡ before.pairing
   pub sizes : applied.app.sizes ≡ before.sizes
   pub reaped : applied.app.received ≡ applied.completions.items
-  pub submitted : applied.done ≡ true → applied.app.submitted ≡ record { calls = calls; closed = true }
+  pub submitted : applied.done ≡ true → applied.app.submitted ≡ record {
+    calls = calls;
+    closed = true;
+  }
 
 -- The dispatcher's end is still over the same port and lanes, and of the same set-up.
 pub record StaysKernel (before after : Kernel) : Type 0 where

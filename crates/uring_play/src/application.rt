@@ -55,7 +55,9 @@ fn submit_all<R: Wait, P: AppPort>(
     stop: &AtomicBool,
 ) -> bool
     requires { app.old.received ≡ completions.old.items }
-    ensures submitted { IsTrue result → app.new.submitted ≡ record { calls = app.old.submitted.calls ++ lists_of calls.now; closed = app.old.submitted.closed } }
+    ensures submitted { IsTrue result
+        → app.new.submitted
+        ≡ record { calls = app.old.submitted.calls ++ lists_of calls.now; closed = app.old.submitted.closed } }
     ensures pairing { app.new.pairing ≡ app.old.pairing }
     ensures sizes { app.new.sizes ≡ app.old.sizes }
     ensures reaped { app.new.received ≡ completions.new.items }

@@ -41,7 +41,8 @@ pub(crate) fn drive_lanes<R: Threads + Wait + Copy + Send + 'static>(
     requires few { workers ≤ 8 }
     requires goes_on { setup.now.stops ≡ false }
     ensures setup { IfOk result (λ played. played.report.setup ≡ setup.now) }
-    ensures play { IfOk result (λ played. IsPlay setup.now (lists_of calls.items) played.report.trace played.completions.items) }
+    ensures play { IfOk result
+        (λ played. IsPlay setup.now (lists_of calls.items) played.report.trace played.completions.items) }
 {
     let gates = vec![in alloc; Open; workers as usize]?;
     match lanes(alloc, setup, gates) {
@@ -62,7 +63,8 @@ pub(crate) fn drive_words<R: Threads + Wait + Copy + Send + 'static>(
     requires few { workers ≤ 8 }
     requires goes_on { setup.now.stops ≡ false }
     ensures setup { IfOk result (λ played. played.report.setup ≡ setup.now) }
-    ensures play { IfOk result (λ played. IsPlay setup.now (lists_of calls.items) played.report.trace played.completions.items) }
+    ensures play { IfOk result
+        (λ played. IsPlay setup.now (lists_of calls.items) played.report.trace played.completions.items) }
 {
     let gates = vec![in alloc; Open; workers as usize]?;
     match words(alloc, setup, gates) {
@@ -86,7 +88,8 @@ where
     requires reaped { app.received ≡ [] }
     requires together { AreTogether app kernel workers.items }
     ensures setup { IfOk result (λ played. played.report.setup ≡ kernel.kept.setup) }
-    ensures play { IfOk result (λ played. IsPlay kernel.kept.setup (lists_of calls.items) played.report.trace played.completions.items) }
+    ensures play { IfOk result
+        (λ played. IsPlay kernel.kept.setup (lists_of calls.items) played.report.trace played.completions.items) }
 {
     let ended = run_threads(rt, alloc, app, kernel, workers, calls)?;
     settle_all(alloc, ended)
@@ -97,7 +100,10 @@ fn settle_all<K: KernelPort>(alloc: Global, ended: Ended<K>) -> Result<Played, A
     requires together { AreTogether ended.applied.app ended.kernel ended.workers.items }
     requires reaped { ended.applied.app.received ≡ ended.applied.completions.items }
     ensures setup { IfOk result (λ played. played.report.setup ≡ ended.kernel.kept.setup) }
-    ensures play { (calls : List (List Item)) → (ended.applied.done ≡ true → ended.applied.app.submitted ≡ record { calls = calls; closed = true }) → IfOk result (λ played. IsPlay ended.kernel.kept.setup calls played.report.trace played.completions.items) }
+    ensures play { (calls : List (List Item))
+        → (ended.applied.done ≡ true → ended.applied.app.submitted ≡ record { calls = calls; closed = true })
+        → IfOk result
+        (λ played. IsPlay ended.kernel.kept.setup calls played.report.trace played.completions.items) }
 {
     let Ended {
         applied,
@@ -141,7 +147,8 @@ fn add_undelivered(
     ensures over { OnOk result (is_over ≡ true) }
     ensures none_outstanding { OnOk result (outstanding_in (left_by report.now).requests ≡ 0) }
     ensures none_waits { OnOk result (report.now.waiting ≡ []) }
-    ensures completions { OnOk result (completions.new.items ≡ completions.old.items ++ report.now.undelivered) }
+    ensures completions { OnOk result
+        (completions.new.items ≡ completions.old.items ++ report.now.undelivered) }
 {
     if !is_over || !is_empty(report) {
         return Err(AllocError);

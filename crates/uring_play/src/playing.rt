@@ -30,7 +30,8 @@ pub fn play<R: Threads + Wait + Copy + Send + 'static, I: Read, O: Write>(
     requires some { 0 < workers }
     requires few { workers ≤ 8 }
     requires goes_on { setup.now.stops ≡ false }
-    ensures { Plays setup.now result (I.remaining reader.old) (I.remaining reader.new) (O.contents writer.old) (O.contents writer.new) }
+    ensures { Plays setup.now result (I.remaining reader.old) (I.remaining reader.new)
+        (O.contents writer.old) (O.contents writer.new) }
 {
     let calls = read_calls(alloc, reader, setup)?;
     let played = drive_lanes(rt, alloc, setup, workers, calls)?;
@@ -51,7 +52,8 @@ pub fn play_shared<R: Threads + Wait + Copy + Send + 'static, I: Read, O: Write>
     requires some { 0 < workers }
     requires few { workers ≤ 8 }
     requires goes_on { setup.now.stops ≡ false }
-    ensures { Plays setup.now result (I.remaining reader.old) (I.remaining reader.new) (O.contents writer.old) (O.contents writer.new) }
+    ensures { Plays setup.now result (I.remaining reader.old) (I.remaining reader.new)
+        (O.contents writer.old) (O.contents writer.new) }
 {
     let calls = read_calls(alloc, reader, setup)?;
     let played = drive_words(rt, alloc, setup, workers, calls)?;
@@ -60,7 +62,8 @@ pub fn play_shared<R: Threads + Wait + Copy + Send + 'static, I: Read, O: Write>
 
 /// Writes the completions of a play, and its counts.
 fn write_played<O: Write>(alloc: Global, writer: &mut O, played: Played) -> Result<(), PlayFault>
-    ensures { WritesPlay result (O.contents writer.old) (O.contents writer.new) played.report.trace played.completions.items }
+    ensures { WritesPlay result (O.contents writer.old)
+        (O.contents writer.new) played.report.trace played.completions.items }
 {
     let Played {
         report,
@@ -78,7 +81,8 @@ fn write_report<O: Write>(
     report: &Report<Open>,
     completions: &mut [Cqe],
 ) -> Result<(), PlayFault>
-    ensures { WritesPlay result (O.contents writer.old) (O.contents writer.new) report.now.trace completions.old }
+    ensures { WritesPlay result (O.contents writer.old)
+        (O.contents writer.new) report.now.trace completions.old }
 {
     report.is_lawful();
     let taken = report.counts().accepted;

@@ -17,7 +17,8 @@ abbrev pub AreItemLines : ℕ → List (List ℕ) → List Item → Type 0
 AreItemLines size [] [] = Unit {0}
 AreItemLines size [] (i ∷ items) = ⊥
 AreItemLines size (line ∷ lines) [] = ⊥
-AreItemLines size (line ∷ lines) (i ∷ items) = IsItemLine size line i × AreItemLines size lines items
+AreItemLines size (line ∷ lines) (i ∷ items) =
+    IsItemLine size line i × AreItemLines size lines items
 
 -- the lines are the items of one call, of which a ring of this size has room for all
 pub record IsCall (size : ℕ) (lines : List (List ℕ)) (items : List Item) : Type 0 where
@@ -30,7 +31,8 @@ AreCalls size [] [] = Unit {0}
 AreCalls size [] (call ∷ calls) = ⊥
 AreCalls size ([] ∷ blocks) calls = AreCalls size blocks calls
 AreCalls size ((line ∷ lines) ∷ blocks) [] = ⊥
-AreCalls size ((line ∷ lines) ∷ blocks) (call ∷ calls) = IsCall size (line ∷ lines) call × AreCalls size blocks calls
+AreCalls size ((line ∷ lines) ∷ blocks) (call ∷ calls) =
+    IsCall size (line ∷ lines) call × AreCalls size blocks calls
 
 -- The lines, in order, spell the calls: an empty line ends a call, and so does the end; calls of no item are passed over.
 abbrev pub SpellsCalls : ℕ → List (List ℕ) → List (List Item) → Type 0

@@ -30,4 +30,5 @@ IsBadFirst size lines k = (r : Reaches size lines k) × IsBadLine size r.line
 
 -- The k-th line is the first faulty one: it is an item, and as many as the ring has entries stand before it in its call.
 abbrev pub IsLongFirst : ℕ → List (List ℕ) → ℕ → Type 0
-IsLongFirst size lines k = (r : Reaches size lines k) × (i : Item) × IsItemLine size r.line i × (size ≤ length (open_block r.before))
+IsLongFirst size lines k = (r : Reaches size lines k) × (i : Item) × IsItemLine size r.line i
+    × (size ≤ length (open_block r.before))

@@ -8,7 +8,8 @@ use Rattle.uring_ports.specs.declared.item.Item.TheVariants as item
 -- The tokens spell the item, for a submission ring of this size: an entry as behind `fill SLOT` in a trace, or `bad` and a word that isn't below the size.
 abbrev pub SpellsItem : ℕ → List (List ℕ) → Item → Type 0
 SpellsItem size tokens (item.Entry entry) = SpellsEntry tokens entry
-SpellsItem size tokens (item.Bad word) = (token : List ℕ) × (tokens ≡ codes "bad" ∷ token ∷ []) × SpellsNumber (2 ^ 32) token word × (size ≤ word)
+SpellsItem size tokens (item.Bad word) = (token : List ℕ) × (tokens ≡ codes "bad" ∷ token ∷ [])
+    × SpellsNumber (2 ^ 32) token word × (size ≤ word)
 
 -- the line is the item: it has at most 300 bytes, and its tokens spell the item
 pub record IsItemLine (size : ℕ) (line : List ℕ) (i : Item) : Type 0 where

@@ -9,7 +9,8 @@ use Rattle.uring_play_text.specs.declared.line_read.LineRead.TheVariants as read
 
 -- the line as a reader is given it: whole, or not at all where it has more than 300 bytes
 abbrev pub IsGiven : List ℕ → Option (Bor (List ℕ)) → Type 0
-IsGiven line given = MatchOption given (300 < length line) (λ bytes. (bytes.now ≡ line) × (length line ≤ 300))
+IsGiven line given =
+    MatchOption given (300 < length line) (λ bytes. (bytes.now ≡ line) × (length line ≤ 300))
 
 -- the token is a number that isn't below the size
 abbrev pub IsBadWord : ℕ → List ℕ → ℕ → Type 0

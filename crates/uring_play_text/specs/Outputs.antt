@@ -14,7 +14,8 @@ use Rattle.uring_play_text.specs.declared.play_fault.PlayFault.TheVariants as fa
 
 -- completions are compared by user data, then by result, then by their bytes from the first on
 abbrev pub completion_cmp : Cqe → Cqe → Ordering
-completion_cmp c d = ordering_then (ordering_then (nat_cmp c.user_data d.user_data) (int_cmp c.res d.res)) (slice_cmp nat_cmp c.payload d.payload)
+completion_cmp c d =
+    ordering_then (ordering_then (nat_cmp c.user_data d.user_data) (int_cmp c.res d.res)) (slice_cmp nat_cmp c.payload d.payload)
 
 -- none comes before the one in front of it
 abbrev pub IsInOrder : List Cqe → Type 0
@@ -27,17 +28,21 @@ lines_text (c ∷ completions) = ended (completion_text c) ++ lines_text complet
 
 -- the line of the counts
 abbrev pub counts_text : ℕ → ℕ → List ℕ
-counts_text taken dropped = codes "taken " ++ decimal taken ++ codes " dropped " ++ decimal dropped ++ 10 ∷ []
+counts_text taken dropped =
+    codes "taken " ++ decimal taken ++ codes " dropped " ++ decimal dropped ++ 10 ∷ []
 
 -- what a text became, by what is returned: it was written, or its beginning, or nothing
 abbrev pub IsWritten : Result (Unit {0}) PlayFault → List ℕ → List ℕ → Type 0
 IsWritten (Ok done) text written = written ≡ text
-IsWritten (Err fault.Write) text written = (more : List ℕ) × (0 < length more) × (text ≡ written ++ more)
+IsWritten (Err fault.Write) text written =
+    (more : List ℕ) × (0 < length more) × (text ≡ written ++ more)
 IsWritten (Err fault.Memory) text written = written ≡ []
 IsWritten (Err fault.Read) text written = ⊥
 IsWritten (Err (fault.Line k)) text written = ⊥
 IsWritten (Err (fault.Long k)) text written = ⊥
 
 -- What was written of a text: the writer held `before` and holds `after`.
-abbrev pub Writes : Result (Unit {0}) PlayFault → Option (List ℕ) → Option (List ℕ) → List ℕ → Type 0
-Writes answer before after text = (written : List ℕ) × Appends before after written × IsWritten answer text written
+abbrev pub Writes : Result (Unit {0}) PlayFault → Option (List ℕ) → Option (List ℕ) → List ℕ
+    → Type 0
+Writes answer before after text =
+    (written : List ℕ) × Appends before after written × IsWritten answer text written

@@ -26,5 +26,7 @@ TakesIn size (Ok done) left r bytes = Has size r bytes × IsAtEnd left
 TakesIn size (Err f) left r bytes = IsEarly f
 
 -- what was read and taken in: the reader had `left_before` left and has `left_after`
-abbrev pub ReadsIn : ℕ → Result (Unit {0}) PlayFault → Option (List ℕ) → Option (List ℕ) → Reading → Type 0
-ReadsIn size answer left_before left_after r = (bytes : List ℕ) × Consumes left_before left_after bytes × TakesIn size answer left_after r bytes
+abbrev pub ReadsIn : ℕ → Result (Unit {0}) PlayFault → Option (List ℕ) → Option (List ℕ) → Reading
+    → Type 0
+ReadsIn size answer left_before left_after r = (bytes : List ℕ)
+    × Consumes left_before left_after bytes × TakesIn size answer left_after r bytes

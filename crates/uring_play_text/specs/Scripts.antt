@@ -30,7 +30,8 @@ IsAt size lines (Some f) number calls call = Tells size lines (Err f)
 
 -- The script has taken in these lines, in order, for a submission ring of this size.
 abbrev pub Gathers : ℕ → List (List ℕ) → Script → Type 0
-Gathers size lines s = (s.size ≡ size) × IsAt size lines s.fault s.number (lists_of s.calls.items) s.call.items
+Gathers size lines s =
+    (s.size ≡ size) × IsAt size lines s.fault s.number (lists_of s.calls.items) s.call.items
 
 -- what is returned of lines; a fault of the reader or of memory may come at any of them
 abbrev pub Returns : ℕ → List (List ℕ) → Result (Vec (Vec Item Global) Global) PlayFault → Type 0

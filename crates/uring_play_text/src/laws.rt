@@ -5,7 +5,8 @@ ghost use Rattle.uring_play_text.specs.Inputs.{IsTold, Told};
 
 /// Bytes tell one thing at most, for a ring of a given size: calls, or one first faulty line.
 pub fn told_once()
-    ensures { (size : ℕ) (bytes : List ℕ) (a b : Told) → IsTold size bytes a → IsTold size bytes b → a ≡ b }
+    ensures { (size : ℕ) (bytes : List ℕ) (a b : Told) → IsTold size bytes a → IsTold size bytes b
+        → a ≡ b }
 {}
 
 /// All bytes tell something.

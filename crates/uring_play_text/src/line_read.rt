@@ -27,7 +27,8 @@ pub(crate) fn read_line(
     size: u32,
     line: Option<&[u8]>,
 ) -> Result<LineRead, AllocError>
-    ensures { IfOk result (λ read. (text : List ℕ) → IsGiven text line.entry → IsReadAs size text read) }
+    ensures { IfOk result
+        (λ read. (text : List ℕ) → IsGiven text line.entry → IsReadAs size text read) }
 {
     let Some(line) = line else {
         return Ok(LineRead::Bad);
@@ -44,7 +45,8 @@ pub(crate) fn read_line(
 
 /// The item that these tokens spell, if they spell one.
 fn read_item(size: u32, tokens: &[&[u8]]) -> Option<Item>
-    ensures { MatchOption result (IsNoItem size (map (λ token. token.now) tokens.now)) (SpellsItem size (map (λ token. token.now) tokens.now)) }
+    ensures { MatchOption result (IsNoItem size (map (λ token. token.now) tokens.now))
+        (SpellsItem size (map (λ token. token.now) tokens.now)) }
 {
     if let [b"bad", token] = tokens {
         return Some(Item::Bad(bad_word(size, token)?));
@@ -55,7 +57,8 @@ fn read_item(size: u32, tokens: &[&[u8]]) -> Option<Item>
 
 /// The word that this token is, if it isn't below the size.
 fn bad_word(size: u32, token: &[u8]) -> Option<u32>
-    ensures { MatchOption result (IsNoBadWord size token.now) (λ word. IsBadWord size token.now word) }
+    ensures { MatchOption result (IsNoBadWord size token.now)
+        (λ word. IsBadWord size token.now word) }
 {
     let word = spelled_number(token)?;
     if word < size { None } else { Some(word) }

@@ -43,10 +43,12 @@ fn read_all<R: Read>(
     reading: &mut Reading,
     reads: &mut Calls,
 ) -> Result<(), PlayFault>
-    ensures bytes { (size : ℕ) → Has size reading.old [] → ReadsIn size result (R.remaining reader.old) (R.remaining reader.new) reading.new }
+    ensures bytes { (size : ℕ) → Has size reading.old []
+        → ReadsIn size result (R.remaining reader.old) (R.remaining reader.new) reading.new }
 
     // The reader is blamed only if it gave up, or has more lines than can be counted.
-    ensures read { result ≡ Err PlayFault.Read → AreOver reads.new ⊎ (reading.new.script.number ≡ 2 ^ 64 - 1) }
+    ensures read { result ≡ Err PlayFault.Read
+        → AreOver reads.new ⊎ (reading.new.script.number ≡ 2 ^ 64 - 1) }
 {
     let mut chunk = [0; CHUNK];
     while !reads.are_over() {
@@ -80,7 +82,9 @@ impl Reading {
 
     /// Takes in the next bytes.
     fn feed(&mut self, bytes: &[u8]) -> Result<(), PlayFault>
-        ensures ok { OnOk result ((size : ℕ) (before : List ℕ) → Has size self.old before → Has size self.new (before ++ bytes.now)) }
+        ensures ok { OnOk result
+            ((size : ℕ) (before : List ℕ) → Has size self.old before
+            → Has size self.new (before ++ bytes.now)) }
         ensures early { IfErr result IsEarly }
         ensures read { result ≡ Err PlayFault.Read → self.new.script.number ≡ 2 ^ 64 - 1 }
     {
@@ -103,7 +107,9 @@ impl Reading {
 
     /// Takes in one byte.
     fn take(&mut self, byte: u8) -> Result<(), PlayFault>
-        ensures ok { OnOk result ((size : ℕ) (before : List ℕ) → Has size self.old before → Has size self.new (before ++ byte ∷ [])) }
+        ensures ok { OnOk result
+            ((size : ℕ) (before : List ℕ) → Has size self.old before
+            → Has size self.new (before ++ byte ∷ [])) }
         ensures early { IfErr result IsEarly }
         ensures read { result ≡ Err PlayFault.Read → self.new.script.number ≡ 2 ^ 64 - 1 }
     {
@@ -117,7 +123,9 @@ impl Reading {
 
     /// Gives the line to the script, and begins the next line.
     fn end_line(&mut self) -> Result<(), PlayFault>
-        ensures ok { OnOk result ((size : ℕ) (before : List ℕ) → Has size self.old before → Has size self.new (before ++ 10 ∷ [])) }
+        ensures ok { OnOk result
+            ((size : ℕ) (before : List ℕ) → Has size self.old before
+            → Has size self.new (before ++ 10 ∷ [])) }
         ensures early { IfErr result IsEarly }
         ensures read { result ≡ Err PlayFault.Read → self.new.script.number ≡ 2 ^ 64 - 1 }
     {

@@ -43,7 +43,9 @@ impl Script {
 
     /// Takes in the next line, which is none if it has more than 300 bytes. Behind a faulty line no line counts.
     pub(crate) fn take_line(&mut self, line: Option<&[u8]>) -> Result<(), PlayFault>
-        ensures lines { OnOk result ((size : ℕ) (lines : List (List ℕ)) (text : List ℕ) → IsGiven text line.entry → Gathers size lines self.old → Gathers size (lines ++ text ∷ []) self.new) }
+        ensures lines { OnOk result
+            ((size : ℕ) (lines : List (List ℕ)) (text : List ℕ) → IsGiven text line.entry
+            → Gathers size lines self.old → Gathers size (lines ++ text ∷ []) self.new) }
         ensures early { IfErr result IsEarly }
 
         // Reading stops only where no further line can be counted.
@@ -62,7 +64,8 @@ impl Script {
 
     /// The calls of all lines, or the first faulty line.
     pub(crate) fn end(mut self) -> Result<Vec<Vec<Item>>, PlayFault>
-        ensures { (size : ℕ) (lines : List (List ℕ)) → Gathers size lines self → Returns size lines result }
+        ensures { (size : ℕ) (lines : List (List ℕ)) → Gathers size lines self
+            → Returns size lines result }
     {
         self.end_call()?;
         match self.fault {
@@ -75,7 +78,9 @@ impl Script {
     fn take(&mut self, read: LineRead, number: u64) -> Result<(), AllocError>
         requires none { self.old.fault ≡ None }
         requires next { number ≡ self.old.number + 1 }
-        ensures { OnOk result ((size : ℕ) (lines : List (List ℕ)) (text : List ℕ) → IsReadAs self.old.size text read → Gathers size lines self.old → Gathers size (lines ++ text ∷ []) self.new) }
+        ensures { OnOk result
+            ((size : ℕ) (lines : List (List ℕ)) (text : List ℕ) → IsReadAs self.old.size text read
+            → Gathers size lines self.old → Gathers size (lines ++ text ∷ []) self.new) }
     {
         self.number = number;
         match read {

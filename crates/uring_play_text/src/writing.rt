@@ -25,7 +25,8 @@ pub fn write_out<W: Write>(
     dropped: u32,
 ) -> Result<(), PlayFault>
     ensures sorted { IsPermutation completions.old completions.new × IsInOrder completions.new }
-    ensures text { Writes result (W.contents writer.old) (W.contents writer.new) (lines_text completions.new ++ counts_text taken dropped) }
+    ensures text { Writes result (W.contents writer.old) (W.contents writer.new)
+        (lines_text completions.new ++ counts_text taken dropped) }
 {
     sort(completions);
     let mut text = String::new(alloc);
@@ -53,7 +54,8 @@ fn sort(completions: &mut [Cqe])
 
 /// Appends the lines of completions.
 fn push_all(alloc: Global, text: &mut String, completions: &[Cqe]) -> Result<(), AllocError>
-    ensures { OnOk result (string_bytes text.new ≡ string_bytes text.old ++ lines_text completions.now) }
+    ensures { OnOk result
+        (string_bytes text.new ≡ string_bytes text.old ++ lines_text completions.now) }
 {
     for completion in completions {
         push_completion(alloc, text, completion)?;
@@ -64,7 +66,8 @@ fn push_all(alloc: Global, text: &mut String, completions: &[Cqe]) -> Result<(),
 
 /// Appends the line of the counts.
 fn push_counts(text: &mut String, taken: u64, dropped: u32) -> Result<(), AllocError>
-    ensures { OnOk result (string_bytes text.new ≡ string_bytes text.old ++ counts_text taken dropped) }
+    ensures { OnOk result
+        (string_bytes text.new ≡ string_bytes text.old ++ counts_text taken dropped) }
 {
     write!(text, "taken {taken} dropped {dropped}\n")
 }

@@ -36,20 +36,23 @@ loads a word = record a { dropped = with_word a.dropped word }
 
 -- these items can be a call: the end is open, and there is at least one item, at most the ring's size of them, and no bad word that is below the size
 abbrev pub IsSound : AppEnd → List Item → Type 0
-IsSound a items = (a.submitted.closed ≡ false) × (0 < length items) × (length items ≤ a.sizes.sq) × AreItems a.sizes.sq items
+IsSound a items = (a.submitted.closed ≡ false) × (0 < length items) × (length items ≤ a.sizes.sq)
+    × AreItems a.sizes.sq items
 
 -- what is wrong with a call by itself, for a ring of this size: each refusal only if those above it don't stand
 abbrev pub IsAmiss : ℕ → List Item → SubmitRefusal → Type 0
 IsAmiss size items submit.Closed = ⊥
 IsAmiss size items submit.Empty = items ≡ []
 IsAmiss size items submit.TooLong = size < length items
-IsAmiss size items submit.NotBad = (0 < length items) × (length items ≤ size) × (AreItems size items → ⊥)
+IsAmiss size items submit.NotBad =
+    (0 < length items) × (length items ≤ size) × (AreItems size items → ⊥)
 IsAmiss size items submit.Full = ⊥
 
 -- when a call is refused so: each refusal only if those above it don't stand
 abbrev pub RefusesCall : AppEnd → List Item → SubmitRefusal → Type 0
 RefusesCall a items submit.Closed = a.submitted.closed ≡ true
-RefusesCall a items submit.Full = IsSound a items × (a.sizes.sq < places_of a.submitted + length items)
+RefusesCall a items submit.Full =
+    IsSound a items × (a.sizes.sq < places_of a.submitted + length items)
 RefusesCall a items refusal = (a.submitted.closed ≡ false) × IsAmiss a.sizes.sq items refusal
 
 -- when the close mark is refused so

@@ -27,4 +27,5 @@ numbers_of_pointer null_ptr = 0 ∷ 0 ∷ 0 ∷ []
 
 -- the nine numbers that the two ends of a lane have in common, and no others
 abbrev pub numbers_of : {T A P : Type 0} → End T A P → List ℕ
-numbers_of e = numbers_of_pointer e.words ++ numbers_of_pointer e.slots ++ (e.names.0 ∷ e.names.1.0 ∷ e.names.1.1 ∷ [])
+numbers_of e =
+    numbers_of_pointer e.words ++ numbers_of_pointer e.slots ++ (e.names.0 ∷ e.names.1.0 ∷ e.names.1.1 ∷ [])

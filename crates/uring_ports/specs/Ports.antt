@@ -43,7 +43,8 @@ places_of p = length (items_of_calls p.calls) + (if p.closed then 1 else 0)
 
 -- what a pull of a ring of this size took: one whole call, the close mark behind all calls, or nothing
 abbrev pub Pulls : ℕ → Put → Pulled → List Item → Put → Type 0
-Pulls size old pulled.Call items new = (0 < length items) × (length items ≤ size) × (old.closed ≡ false) × (new ≡ with_call old items)
+Pulls size old pulled.Call items new =
+    (0 < length items) × (length items ≤ size) × (old.closed ≡ false) × (new ≡ with_call old items)
 Pulls size old pulled.Close items new = (items ≡ []) × (old.closed ≡ false) × (new ≡ with_close old)
 Pulls size old pulled.Nothing items new = (items ≡ []) × (new ≡ old)
 

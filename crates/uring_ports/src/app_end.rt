@@ -35,7 +35,8 @@ impl<P: AppPort> Model for AppEnd<P> {
 
     ghost view = { λ e. record { pairing = P.pairing e.port; sizes = P.sizes e.port; submitted = P.put e.port; received = P.got e.port; dropped = P.dropped e.port } };
 
-    ghost invariant = { λ e. (e.size ≡ (P.sizes e.port).sq) × (e.closed ≡ (P.put e.port).closed) × AreItems e.size (items_of_calls (P.put e.port).calls) };
+    ghost invariant = { λ e. (e.size ≡ (P.sizes e.port).sq) × (e.closed ≡ (P.put e.port).closed)
+        × AreItems e.size (items_of_calls (P.put e.port).calls) };
 }
 
 impl<P: AppPort> AppEnd<P> {
@@ -43,7 +44,8 @@ impl<P: AppPort> AppEnd<P> {
     pub fn new(port: P, size: u32) -> AppEnd<P>
         requires fresh { P.put port ≡ nothing_put }
         requires size { size ≡ (P.sizes port).sq }
-        ensures { result ≡ record { pairing = P.pairing port; sizes = P.sizes port; submitted = nothing_put; received = P.got port; dropped = P.dropped port } }
+        ensures { result
+            ≡ record { pairing = P.pairing port; sizes = P.sizes port; submitted = nothing_put; received = P.got port; dropped = P.dropped port } }
     {
         AppEnd {
             port,
@@ -57,9 +59,11 @@ impl<P: AppPort> AppEnd<P> {
     /// It refuses with `Closed`, `Empty`, `TooLong`, `NotBad`, in this order, each exactly if what `SubmitRefusal` says of it stands; and else with `Full`, only if all items submitted and these are more than the ring's size. io_uring_enter(2), for a call; that a call has an item and fits the ring is our own rule.
     pub fn submit(&mut self, items: &[Item]) -> Result<(), SubmitRefusal>
         // Ok: each item is submitted.
-        ensures ok { OnOk result (IsSound self.old items.now × (self.new ≡ submits self.old items.now)) }
+        ensures ok { OnOk result
+            (IsSound self.old items.now × (self.new ≡ submits self.old items.now)) }
         // A refusal: nothing changes.
-        ensures refused { IfErr result (λ refusal. RefusesCall self.old items.now refusal × (self.new ≡ self.old)) }
+        ensures refused { IfErr result
+            (λ refusal. RefusesCall self.old items.now refusal × (self.new ≡ self.old)) }
         // Of one pair it stays.
         ensures pairing { self.new.pairing ≡ self.old.pairing }
         ensures sizes { self.new.sizes ≡ self.old.sizes }
@@ -78,7 +82,8 @@ impl<P: AppPort> AppEnd<P> {
 
     /// The oldest completion that was delivered and not reaped. `None` says only that this end saw none.
     pub fn reap(&mut self) -> Option<Cqe>
-        ensures reaped { MatchOption result (self.new ≡ self.old) (λ completion. self.new ≡ reaps self.old completion) }
+        ensures reaped { MatchOption result (self.new ≡ self.old)
+            (λ completion. self.new ≡ reaps self.old completion) }
         // Of one pair it stays.
         ensures pairing { self.new.pairing ≡ self.old.pairing }
         ensures sizes { self.new.sizes ≡ self.old.sizes }
@@ -88,7 +93,8 @@ impl<P: AppPort> AppEnd<P> {
 
     /// The dropped word: how many positions were dropped, modulo 2^32, when the dispatcher stored it, and 0 before it first did. `None` exactly if no such word lies between the ends: over lanes none does. io_uring_setup(2), on `dropped`.
     pub fn dropped(&mut self) -> Option<u32>
-        ensures loaded { MatchOption result ((self.old.dropped ≡ None) × (self.new ≡ self.old)) (λ word. (is_some self.old.dropped ≡ true) × (self.new ≡ loads self.old word)) }
+        ensures loaded { MatchOption result ((self.old.dropped ≡ None) × (self.new ≡ self.old))
+            (λ word. (is_some self.old.dropped ≡ true) × (self.new ≡ loads self.old word)) }
         // Of one pair it stays.
         ensures pairing { self.new.pairing ≡ self.old.pairing }
         ensures sizes { self.new.sizes ≡ self.old.sizes }
@@ -100,9 +106,11 @@ impl<P: AppPort> AppEnd<P> {
     ///
     /// It refuses with `Closed` exactly after an Ok, and else with `Full`, only if as many items as the submission ring's size were submitted.
     pub fn close(&mut self) -> Result<(), CloseRefusal>
-        ensures ok { OnOk result ((self.old.submitted.closed ≡ false) × (self.new ≡ closes self.old)) }
+        ensures ok { OnOk result
+            ((self.old.submitted.closed ≡ false) × (self.new ≡ closes self.old)) }
         // A refusal: nothing changes.
-        ensures refused { IfErr result (λ refusal. RefusesClose self.old refusal × (self.new ≡ self.old)) }
+        ensures refused { IfErr result
+            (λ refusal. RefusesClose self.old refusal × (self.new ≡ self.old)) }
         // Of one pair it stays.
         ensures pairing { self.new.pairing ≡ self.old.pairing }
         ensures sizes { self.new.sizes ≡ self.old.sizes }
@@ -127,12 +135,15 @@ impl<P: AppPort> AppEnd<P> {
     ) -> Result<Rests, (AppEnd<P>, K)>
         requires { K.pairing kernel ≡ self.pairing }
         // What was pulled begins what was submitted, and what was reaped begins what was delivered.
-        ensures items { IfOk result (λ rests. LeavesItems self.submitted (K.pulled kernel) rests.unsent.items) }
-        ensures completions { IfOk result (λ rests. LeavesCompletions (K.delivered kernel) self.received rests.undelivered.items) }
+        ensures items { IfOk result
+            (λ rests. LeavesItems self.submitted (K.pulled kernel) rests.unsent.items) }
+        ensures completions { IfOk result
+            (λ rests. LeavesCompletions (K.delivered kernel) self.received rests.undelivered.items) }
         // The dropped words that were loaded are words that were stored, in order, or the 0 before them.
         ensures dropped { OnOk result (WereStored (K.dropped kernel) self.dropped) }
         // No bad word that was submitted is below the submission ring's size.
-        ensures submitted { OnOk result (AreItems self.sizes.sq (items_of_calls self.submitted.calls)) }
+        ensures submitted { OnOk result
+            (AreItems self.sizes.sq (items_of_calls self.submitted.calls)) }
         ensures unchanged { IfErr result (λ ends. (ends.0 ≡ self) × (ends.1 ≡ kernel)) }
     {
         let AppEnd { port, size, closed } = self;
@@ -148,7 +159,8 @@ impl<P: AppPort> AppEnd<P> {
 
 // The refusals of an open end that hang on the call alone.
 fn check_call(items: &[Item], size: u32) -> Result<(), SubmitRefusal>
-    ensures ok { OnOk result ((0 < length items.now) × (length items.now ≤ size) × AreItems size items.now) }
+    ensures ok { OnOk result
+        ((0 < length items.now) × (length items.now ≤ size) × AreItems size items.now) }
     ensures refused { IfErr result (λ refusal. IsAmiss size items.now refusal) }
 {
     if items.is_empty() {

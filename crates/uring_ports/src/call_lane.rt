@@ -27,7 +27,10 @@ pub fn put_call(lane: &mut Producer<Message, Global, WholeCalls>, items: &[Item]
     requires some { 0 < length items.now }
     ensures ring { SameProducer lane.old lane.new }
     ensures whole { AreWhole (sent lane.new) }
-    ensures put { MatchBool result (put_of (sent lane.new) ≡ with_call (put_of (sent lane.old)) items.now) ((put_of (sent lane.new) ≡ put_of (sent lane.old)) × (producer_capacity lane.old < places_of (put_of (sent lane.old)) + length items.now)) }
+    ensures put { MatchBool result
+        (put_of (sent lane.new) ≡ with_call (put_of (sent lane.old)) items.now)
+        ((put_of (sent lane.new) ≡ put_of (sent lane.old))
+        × (producer_capacity lane.old < places_of (put_of (sent lane.old)) + length items.now)) }
 {
     if !has_room_for(lane, items.len()) {
         return false;
@@ -60,7 +63,9 @@ pub fn put_close(lane: &mut Producer<Message, Global, WholeCalls>) -> bool
     requires open { has_close_mark (sent lane.old) ≡ false }
     ensures ring { SameProducer lane.old lane.new }
     ensures whole { AreWhole (sent lane.new) }
-    ensures put { MatchBool result (put_of (sent lane.new) ≡ with_close (put_of (sent lane.old))) ((put_of (sent lane.new) ≡ put_of (sent lane.old)) × (producer_capacity lane.old < places_of (put_of (sent lane.old)) + 1)) }
+    ensures put { MatchBool result (put_of (sent lane.new) ≡ with_close (put_of (sent lane.old)))
+        ((put_of (sent lane.new) ≡ put_of (sent lane.old))
+        × (producer_capacity lane.old < places_of (put_of (sent lane.old)) + 1)) }
 {
     if !has_room_for(lane, 1) {
         return false;
@@ -77,7 +82,8 @@ pub fn pull(lane: &mut Consumer<Message, Global, WholeCalls>, items: &mut Vec<It
     ensures ring { SameConsumer lane.old lane.new }
     ensures whole { AreWhole (received lane.new) }
     ensures room { vec_capacity items.new ≡ vec_capacity items.old }
-    ensures pulled { Pulls (consumer_capacity lane.old) (put_of (received lane.old)) result items.new.items (put_of (received lane.new)) }
+    ensures pulled { Pulls (consumer_capacity lane.old)
+        (put_of (received lane.old)) result items.new.items (put_of (received lane.new)) }
 {
     items.clear();
     let seen = lane.slots();
@@ -106,7 +112,9 @@ fn pull_rest(lane: &mut Consumer<Message, Global, WholeCalls>, items: &mut Vec<I
     ensures ring { SameConsumer lane.old lane.new }
     ensures room { vec_capacity items.new ≡ vec_capacity items.old }
     ensures count { vec_len items.new ≡ vec_len items.old + left }
-    ensures items { (before : List Message) → received lane.old ≡ before ++ items_before left items.old.items → received lane.new ≡ before ++ items_before 0 items.new.items }
+    ensures items { (before : List Message)
+        → received lane.old ≡ before ++ items_before left items.old.items
+        → received lane.new ≡ before ++ items_before 0 items.new.items }
 {
     for _ in 0..left {
         items.push_reserved(lane.pop_known().item);

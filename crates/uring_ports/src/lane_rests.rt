@@ -58,7 +58,8 @@ pub fn take_undelivered(
 
 // Takes the completions that are known to be there.
 fn take_known(lane: &mut Consumer<Cqe>, completions: &mut Vec<Cqe>)
-    requires room { vec_len completions.old + length (known_items lane.old) ≤ vec_capacity completions.old }
+    requires room { vec_len completions.old + length (known_items lane.old)
+        ≤ vec_capacity completions.old }
     ensures { completions.new.items ≡ completions.old.items ++ known_items lane.old }
 {
     for _ in 0..lane.cached_slots() {

@@ -56,14 +56,19 @@ impl Model for KernelLanes {
 
     ghost view = { λ p. record { pairing = numbers_of p.calls.end ++ numbers_of p.completions.end; sizes = record { sq = consumer_capacity p.calls; cq = producer_capacity p.completions }; pulled = put_of (received p.calls); delivered = sent p.completions; free = known_free p.completions } };
 
-    ghost invariant = { λ p. AreWhole (received p.calls) × (p.closed ≡ has_close_mark (received p.calls)) };
+    ghost invariant = { λ p. AreWhole (received p.calls)
+        × (p.closed ≡ has_close_mark (received p.calls)) };
 }
 
 /// The two ports of a new pair, with the sizes of this set-up's rings. `AllocError`: out of memory.
 pub fn lane_ports(alloc: Global, setup: &Setup) -> Result<(AppLanes, KernelLanes), AllocError>
     ensures pair { IfOk result (λ ports. ports.1.pairing ≡ ports.0.pairing) }
-    ensures app { IfOk result (λ ports. (ports.0.sizes ≡ sizes_of setup.now) × (ports.0.put ≡ nothing_put) × (ports.0.got ≡ [])) }
-    ensures kernel { IfOk result (λ ports. (ports.1.sizes ≡ sizes_of setup.now) × (ports.1.pulled ≡ nothing_put) × (ports.1.delivered ≡ []) × (ports.1.free ≡ setup.now.cq)) }
+    ensures app { IfOk result
+        (λ ports. (ports.0.sizes ≡ sizes_of setup.now) × (ports.0.put ≡ nothing_put)
+        × (ports.0.got ≡ [])) }
+    ensures kernel { IfOk result
+        (λ ports. (ports.1.sizes ≡ sizes_of setup.now) × (ports.1.pulled ≡ nothing_put)
+        × (ports.1.delivered ≡ []) × (ports.1.free ≡ setup.now.cq)) }
 {
     let (sender, receiver) = RingBuffer::with_protocol::<Global, WholeCalls>(
         alloc,

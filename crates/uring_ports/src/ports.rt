@@ -35,7 +35,9 @@ pub trait AppPort: Drop {
         requires some { 0 < length items.now }
         requires items { AreItems (sizes self.old).sq items.now }
         // All or nothing, and never refused before the ring's size was put.
-        ensures put { MatchBool result (put self.new ≡ with_call (put self.old) items.now) ((put self.new ≡ put self.old) × ((sizes self.old).sq < places_of (put self.old) + length items.now)) }
+        ensures put { MatchBool result (put self.new ≡ with_call (put self.old) items.now)
+            ((put self.new ≡ put self.old)
+            × ((sizes self.old).sq < places_of (put self.old) + length items.now)) }
         // Nothing else changes.
         ensures pairing { pairing self.new ≡ pairing self.old }
         ensures sizes { sizes self.new ≡ sizes self.old }
@@ -47,7 +49,8 @@ pub trait AppPort: Drop {
     /// It puts the mark if fewer items than the submission ring's size were put.
     fn close(&mut self) -> bool
         requires { (put self.old).closed ≡ false }
-        ensures put { MatchBool result (put self.new ≡ with_close (put self.old)) ((put self.new ≡ put self.old) × ((sizes self.old).sq < places_of (put self.old) + 1)) }
+        ensures put { MatchBool result (put self.new ≡ with_close (put self.old))
+            ((put self.new ≡ put self.old) × ((sizes self.old).sq < places_of (put self.old) + 1)) }
         // Nothing else changes.
         ensures pairing { pairing self.new ≡ pairing self.old }
         ensures sizes { sizes self.new ≡ sizes self.old }
@@ -56,7 +59,8 @@ pub trait AppPort: Drop {
 
     /// The oldest completion that was delivered and not got. `None` says only that this end saw none.
     fn get(&mut self) -> Option<Cqe>
-        ensures got { MatchOption result (got self.new ≡ got self.old) (λ completion. got self.new ≡ got self.old ++ completion ∷ []) }
+        ensures got { MatchOption result (got self.new ≡ got self.old)
+            (λ completion. got self.new ≡ got self.old ++ completion ∷ []) }
         // Nothing else changes.
         ensures pairing { pairing self.new ≡ pairing self.old }
         ensures sizes { sizes self.new ≡ sizes self.old }
@@ -65,7 +69,10 @@ pub trait AppPort: Drop {
 
     /// A dropped word that was stored, never older than the one loaded before, or 0 if none was: how many positions the dispatcher had dropped then. `None` if no such word lies between the ends.
     fn load_dropped(&mut self) -> Option<u32>
-        ensures dropped { MatchOption result ((dropped self.old ≡ None) × (dropped self.new ≡ dropped self.old)) (λ word. (is_some (dropped self.old) ≡ true) × (dropped self.new ≡ with_word (dropped self.old) word)) }
+        ensures dropped { MatchOption result
+            ((dropped self.old ≡ None) × (dropped self.new ≡ dropped self.old))
+            (λ word. (is_some (dropped self.old) ≡ true)
+            × (dropped self.new ≡ with_word (dropped self.old) word)) }
         // Nothing else changes.
         ensures pairing { pairing self.new ≡ pairing self.old }
         ensures sizes { sizes self.new ≡ sizes self.old }
@@ -105,7 +112,8 @@ pub trait KernelPort: Sized + Drop {
     /// `Nothing` says only that this end saw no whole call and no close mark.
     fn pull(&mut self, items: &mut Vec<Item>) -> Pulled
         requires { (sizes self.old).sq ≤ vec_capacity items.old }
-        ensures pulled { Pulls (sizes self.old).sq (pulled self.old) result items.new.items (pulled self.new) }
+        ensures pulled { Pulls (sizes self.old).sq (pulled self.old) result items.new.items
+            (pulled self.new) }
         ensures room { vec_capacity items.new ≡ vec_capacity items.old }
         // Nothing else changes.
         ensures pairing { pairing self.new ≡ pairing self.old }
@@ -153,8 +161,10 @@ pub trait KernelPort: Sized + Drop {
     /// `Err` says that the system is out of memory, which is asked for first: both ports come back unchanged.
     fn settle(self, alloc: Global, app: Self::App) -> Result<Rests, (Self::App, Self)>
         requires { pairing self ≡ Self.App.pairing app }
-        ensures items { IfOk result (λ rests. LeavesItems (Self.App.put app) (pulled self) rests.unsent.items) }
-        ensures completions { IfOk result (λ rests. LeavesCompletions (delivered self) (Self.App.got app) rests.undelivered.items) }
+        ensures items { IfOk result
+            (λ rests. LeavesItems (Self.App.put app) (pulled self) rests.unsent.items) }
+        ensures completions { IfOk result
+            (λ rests. LeavesCompletions (delivered self) (Self.App.got app) rests.undelivered.items) }
         ensures dropped { OnOk result (WereStored (dropped self) (Self.App.dropped app)) }
         ensures unchanged { IfErr result (λ ports. (ports.0 ≡ app) × (ports.1 ≡ self)) };
 }

@@ -47,7 +47,8 @@ pub record ShowsCompletions (g : Setup) (q : Cq) (l : Completions) : Type 0 wher
   pub few : l.put ≤ l.seen_head + g.cq
   -- what was reaped begins what was posted; between reaped and put it stands in the ring, and the rest waits
   pub in_order : l.reaped ≡ take (length l.reaped) l.posted
-  pub cells : (k : ℕ) (d : Cqe) → length l.reaped ≤ k → k < l.put → slice_index_or q.cells (word_of g.start k % g.cq) d ≡ slice_index_or l.posted k d
+  pub cells : (k : ℕ) (d : Cqe) → length l.reaped ≤ k → k < l.put
+      → slice_index_or q.cells (word_of g.start k % g.cq) d ≡ slice_index_or l.posted k d
   pub waiting : q.overflow ≡ drop l.put l.posted
 
 -- What every call keeps of the memory: there is enough for the posts that are promised, and none is given back. What waits and what there is memory for make up the memory of the overflow list. Our own rule

@@ -55,9 +55,11 @@ pub record ShowsSubmission (g : Setup) (q : Sq) (l : Submission) : Type 0 where
   pub call_fits : IfSome l.call (λ call. (call.taken ≤ call.count) × (call.count ≤ pending l))
   -- each slot, and each position above the head last loaded, is held
   pub slots : (s : ℕ) → s < g.sq → slice_get q.table s ≡ Some (l.content s)
-  pub cells : (k : ℕ) → l.seen_head ≤ k → k < staged l → slice_index q.array (word_of g.start k % g.sq) ≡ slice_index (words l) k
+  pub cells : (k : ℕ) → l.seen_head ≤ k → k < staged l
+      → slice_index q.array (word_of g.start k % g.sq) ≡ slice_index (words l) k
   -- a position above the head last loaded has what its slot holds
-  pub places : (k : ℕ) (p : Place) → l.seen_head ≤ k → slice_get l.published k ≡ Some p → p ≡ place_of g.sq l.content p.word
+  pub places : (k : ℕ) (p : Place) → l.seen_head ≤ k → slice_get l.published k ≡ Some p
+      → p ≡ place_of g.sq l.content p.word
 
 -- What always holds of the lists that a ring of this size shows: the head last loaded, the positions taken, those published and those staged are in this order, and no more than the size is staged above the first of them.
 pub record IsOrderedSubmission (size : ℕ) (l : Submission) : Type 0 where

@@ -18,7 +18,8 @@ use Rattle.uring_rings.specs.declared.answers.EndAnswer.TheVariants.{NoCall as N
 
 -- A slot is filled unless there is no such slot, or a position that the application doesn't know to be taken names it. Our own rule
 abbrev pub fill_answer : ℕ → Submission → ℕ → FillAnswer
-fill_answer size l slot = if nat_lt slot size then (if is_busy l slot then Busy else Filled) else NoSlot
+fill_answer size l slot =
+    if nat_lt slot size then (if is_busy l slot then Busy else Filled) else NoSlot
 
 -- the lists after a fill that was answered so
 abbrev pub after_fill : Submission → ℕ → Sqe → FillAnswer → Submission

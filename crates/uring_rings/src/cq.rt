@@ -163,7 +163,8 @@ impl Cq {
 
     /// Copies the next completion. None, with nothing changed, if all that stood in the ring when the tail was last loaded were reaped. io_uring(7), Reading completion events.
     pub fn reap(&mut self) -> Option<Cqe>
-        ensures answer { (g : Setup) (l : Completions) → ShowsCompletions g self.old l → result ≡ next_to_reap l }
+        ensures answer { (g : Setup) (l : Completions) → ShowsCompletions g self.old l
+            → result ≡ next_to_reap l }
         ensures shows { (g : Setup) (l : Completions) → ShowsCompletions g self.old l →
             ShowsCompletions g self.new (after_reap l result) }
         ensures none { result ≡ None → self.new ≡ self.old }
@@ -242,7 +243,8 @@ impl Cq {
 
     /// Whether a completion that is posted goes into the ring: none waits, and the ring holds fewer than its size above the head last loaded.
     fn has_free_cell(&self) -> bool
-        ensures { (g : Setup) (l : Completions) → ShowsCompletions g self.now l → result ≡ has_room g.cq l }
+        ensures { (g : Setup) (l : Completions) → ShowsCompletions g self.now l
+            → result ≡ has_room g.cq l }
     {
         self.overflow.is_empty() && self.tail.distance(self.seen_head) < self.size
     }
@@ -253,7 +255,8 @@ impl Cq {
             result ≡ nat_lt l.put (min (length l.posted) (l.seen_head + g.cq)) }
         ensures shows { (g : Setup) (l : Completions) → ShowsCompletions g self.old l →
             ShowsCompletions g self.new (record l { put = if result then l.put + 1 else l.put }) }
-        ensures fewer { length self.new.overflow + (if result then 1 else 0) ≡ length self.old.overflow }
+        ensures fewer { length self.new.overflow + (if result then 1 else 0)
+            ≡ length self.old.overflow }
         ensures room { self.new.room ≡ self.old.room }
         ensures memory { KeepsMemory self.old self.new }
     {

@@ -151,8 +151,10 @@ impl Sq {
 
     /// The positions published and not taken by a closed call: 0 to the ring's size.
     pub fn pending(&self) -> u32
-        ensures value { (g : Setup) (l : Submission) → ShowsSubmission g self.now l → result ≡ pending l }
-        ensures ordered { (g : Setup) (l : Submission) → ShowsSubmission g self.now l → IsOrderedSubmission g.sq l }
+        ensures value { (g : Setup) (l : Submission) → ShowsSubmission g self.now l
+            → result ≡ pending l }
+        ensures ordered { (g : Setup) (l : Submission) → ShowsSubmission g self.now l
+            → IsOrderedSubmission g.sq l }
     {
         self.published.distance(self.head)
     }
@@ -166,7 +168,8 @@ impl Sq {
 
     /// Whether a call is open.
     pub fn in_call(&self) -> bool
-        ensures { (g : Setup) (l : Submission) → ShowsSubmission g self.now l → result ≡ is_some l.call }
+        ensures { (g : Setup) (l : Submission) → ShowsSubmission g self.now l
+            → result ≡ is_some l.call }
     {
         self.call.is_some()
     }
@@ -175,7 +178,8 @@ impl Sq {
     ///
     /// Refused with `InCall` if a call is open: our own rule.
     pub fn begin(&mut self, n: u32) -> BeginAnswer
-        ensures answer { (g : Setup) (l : Submission) → ShowsSubmission g self.old l → result ≡ begin_answer l n }
+        ensures answer { (g : Setup) (l : Submission) → ShowsSubmission g self.old l
+            → result ≡ begin_answer l n }
         ensures shows { (g : Setup) (l : Submission) → ShowsSubmission g self.old l →
             ShowsSubmission g self.new (after_begin l n result) }
         ensures refused { result ≡ BeginAnswer.InCall → self.new ≡ self.old }
@@ -196,7 +200,8 @@ impl Sq {
     ///
     /// Refused with `NoCall` if no call is open, and with `NoMore` if all positions of the open call are taken.
     pub fn take(&mut self) -> TakeAnswer
-        ensures answer { (g : Setup) (l : Submission) → ShowsSubmission g self.old l → result ≡ take_answer l }
+        ensures answer { (g : Setup) (l : Submission) → ShowsSubmission g self.old l
+            → result ≡ take_answer l }
         ensures shows { (g : Setup) (l : Submission) → ShowsSubmission g self.old l →
             ShowsSubmission g self.new (after_take l result) }
         ensures no_call { result ≡ TakeAnswer.NoCall → self.new ≡ self.old }
@@ -241,7 +246,8 @@ impl Sq {
     ///
     /// Refused with `NoCall` if no call is open, and with `NotAll` if positions of the open call remain.
     pub fn end(&mut self) -> EndAnswer
-        ensures answer { (g : Setup) (l : Submission) → ShowsSubmission g self.old l → result ≡ end_answer g l }
+        ensures answer { (g : Setup) (l : Submission) → ShowsSubmission g self.old l
+            → result ≡ end_answer g l }
         ensures shows { (g : Setup) (l : Submission) → ShowsSubmission g self.old l →
             ShowsSubmission g self.new (after_end l result) }
         ensures no_call { result ≡ EndAnswer.NoCall → self.new ≡ self.old }
@@ -265,7 +271,8 @@ impl Sq {
 
     /// Whether a published position at or after the head last loaded names the slot.
     fn is_busy(&self, slot: u32) -> bool
-        ensures { (g : Setup) (l : Submission) → ShowsSubmission g self.now l → result ≡ is_busy l slot }
+        ensures { (g : Setup) (l : Submission) → ShowsSubmission g self.now l
+            → result ≡ is_busy l slot }
     {
         let count = self.published.distance(self.seen_head);
         for k in 0..count {

@@ -17,4 +17,5 @@ trimmed (b ∷ bytes) = before_others b (trimmed bytes)
 
 -- a completion: its user data, its result, and its bytes without the zeros at their end
 abbrev pub completion_text : Cqe → List ℕ
-completion_text c = codes "cqe " ++ decimal c.user_data ++ 32 ∷ [] ++ signed_decimal c.res ++ 32 ∷ [] ++ hex_or_dash (trimmed c.payload)
+completion_text c =
+    codes "cqe " ++ decimal c.user_data ++ 32 ∷ [] ++ signed_decimal c.res ++ 32 ∷ [] ++ hex_or_dash (trimmed c.payload)

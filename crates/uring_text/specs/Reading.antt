@@ -25,7 +25,9 @@ is_numeral (b ∷ bs) = if b == 48 then length bs == 0 else list_all is_ascii_di
 
 -- the number below the limit that a token is
 unfoldable pub number_of : ℕ → List ℕ → Option ℕ
-number_of limit token = if is_numeral token && nat_lt (digits_value 10 token) limit then Some (digits_value 10 token) else None
+number_of limit token =
+    if is_numeral token && nat_lt (digits_value 10 token) limit then Some (digits_value 10 token) else
+    None
 
 -- the negative of a number from 1 to 2 ^ 31
 abbrev pub negative_of : ℕ → Option ℤ
@@ -35,7 +37,9 @@ negative_of (suc n) = if nat_lt n (2 ^ 31) then Some (negsuc n) else None
 -- the signed number of 32 bits that a token is
 unfoldable pub file_of : List ℕ → Option ℤ
 file_of [] = None
-file_of (b ∷ bs) = if b == 45 then (number_of (2 ^ 64) bs >>= negative_of) else option_map (λ n. pos n) (number_of (2 ^ 31) (b ∷ bs))
+file_of (b ∷ bs) =
+    if b == 45 then (number_of (2 ^ 64) bs >>= negative_of) else
+    option_map (λ n. pos n) (number_of (2 ^ 31) (b ∷ bs))
 
 -- the flags so far, and those of these letters
 unfoldable pub letters_of : ℕ → List ℕ → Option ℕ
@@ -45,14 +49,18 @@ letters_of flags (b ∷ bs) =
     if bit_and flags (flag_value b) == 0 then letters_of (bit_or flags (flag_value b)) bs else None
 
 unfoldable pub flags_of : List ℕ → Option ℕ
-flags_of token = if bytes_eq token (codes "-") then Some 0 else if bytes_eq token [] then None else letters_of 0 token
+flags_of token =
+    if bytes_eq token (codes "-") then Some 0 else
+    if bytes_eq token [] then None else
+    letters_of 0 token
 
 abbrev pub is_capital : ℕ → Bool
 is_capital digit = nat_le 65 digit && nat_le digit 90
 
 -- the bytes, so many of them, whose lower case digits the token is
 unfoldable pub hex_of : ℕ → List ℕ → Option (List ℕ)
-hex_of count token = if list_any is_capital token then None else result_ok (decode_sized token count)
+hex_of count token =
+    if list_any is_capital token then None else result_ok (decode_sized token count)
 
 unfoldable pub data_of : List ℕ → Option (List ℕ)
 data_of token =

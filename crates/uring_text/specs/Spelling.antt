@@ -21,11 +21,16 @@ pub data Form : Type 0 where
 -- the tokens of a form, with this token for its flags
 abbrev pub spelled : Form → List ℕ → List (List ℕ)
 spelled (Nop user_data flags) token = codes "nop" ∷ decimal user_data ∷ token ∷ []
-spelled (Fsync user_data flags fd) token = codes "fsync" ∷ decimal user_data ∷ token ∷ signed_decimal fd ∷ []
-spelled (Read user_data flags fd off len) token = codes "read" ∷ decimal user_data ∷ token ∷ signed_decimal fd ∷ decimal off ∷ decimal len ∷ []
-spelled (Write user_data flags fd off bytes) token = codes "write" ∷ decimal user_data ∷ token ∷ signed_decimal fd ∷ decimal off ∷ hex_or_dash bytes ∷ []
-spelled (Cancel user_data flags target) token = codes "cancel" ∷ decimal user_data ∷ token ∷ decimal target ∷ []
-spelled (CancelAll user_data flags target) token = codes "cancelall" ∷ decimal user_data ∷ token ∷ decimal target ∷ []
+spelled (Fsync user_data flags fd) token =
+    codes "fsync" ∷ decimal user_data ∷ token ∷ signed_decimal fd ∷ []
+spelled (Read user_data flags fd off len) token =
+    codes "read" ∷ decimal user_data ∷ token ∷ signed_decimal fd ∷ decimal off ∷ decimal len ∷ []
+spelled (Write user_data flags fd off bytes) token =
+    codes "write" ∷ decimal user_data ∷ token ∷ signed_decimal fd ∷ decimal off ∷ hex_or_dash bytes ∷ []
+spelled (Cancel user_data flags target) token =
+    codes "cancel" ∷ decimal user_data ∷ token ∷ decimal target ∷ []
+spelled (CancelAll user_data flags target) token =
+    codes "cancelall" ∷ decimal user_data ∷ token ∷ decimal target ∷ []
 spelled (Op code user_data flags) token = codes "op" ∷ decimal code ∷ decimal user_data ∷ token ∷ []
 spelled (Raw bytes) token = codes "raw" ∷ encode_lower bytes ∷ []
 
@@ -44,10 +49,14 @@ pub record AreBytes (bytes : List ℕ) (least most : ℕ) : Type 0 where
 abbrev pub IsForm : Form → List ℕ → Type 0
 IsForm (Nop user_data flags) token = (user_data < 2 ^ 64) × AreFlags token flags
 IsForm (Fsync user_data flags fd) token = (user_data < 2 ^ 64) × AreFlags token flags × IsFile fd
-IsForm (Read user_data flags fd off len) token = (user_data < 2 ^ 64) × AreFlags token flags × IsFile fd × (off < 2 ^ 64) × (len < 2 ^ 32)
-IsForm (Write user_data flags fd off bytes) token = (user_data < 2 ^ 64) × AreFlags token flags × IsFile fd × (off < 2 ^ 64) × AreBytes bytes 0 64
-IsForm (Cancel user_data flags target) token = (user_data < 2 ^ 64) × AreFlags token flags × (target < 2 ^ 64)
-IsForm (CancelAll user_data flags target) token = (user_data < 2 ^ 64) × AreFlags token flags × (target < 2 ^ 64)
+IsForm (Read user_data flags fd off len) token =
+    (user_data < 2 ^ 64) × AreFlags token flags × IsFile fd × (off < 2 ^ 64) × (len < 2 ^ 32)
+IsForm (Write user_data flags fd off bytes) token =
+    (user_data < 2 ^ 64) × AreFlags token flags × IsFile fd × (off < 2 ^ 64) × AreBytes bytes 0 64
+IsForm (Cancel user_data flags target) token =
+    (user_data < 2 ^ 64) × AreFlags token flags × (target < 2 ^ 64)
+IsForm (CancelAll user_data flags target) token =
+    (user_data < 2 ^ 64) × AreFlags token flags × (target < 2 ^ 64)
 IsForm (Op code user_data flags) token = (code < 256) × (user_data < 2 ^ 64) × AreFlags token flags
 IsForm (Raw bytes) token = AreBytes bytes 128 128
 
@@ -63,13 +72,20 @@ pub record HasBytes (entry : Sqe) (bytes : List ℕ) : Type 0 where
 
 -- the entry of a form
 abbrev pub IsEntryOf : Form → Sqe → Type 0
-IsEntryOf (Nop user_data flags) entry = entry ≡ without_data (header NOP flags (pos 0) 0 0 0 user_data)
-IsEntryOf (Fsync user_data flags fd) entry = entry ≡ without_data (header FSYNC flags fd 0 0 0 user_data)
-IsEntryOf (Read user_data flags fd off len) entry = entry ≡ without_data (header READ flags fd off 0 len user_data)
-IsEntryOf (Write user_data flags fd off bytes) entry = HasData entry (header WRITE flags fd off 0 (length bytes) user_data) bytes
-IsEntryOf (Cancel user_data flags target) entry = entry ≡ without_data (header ASYNC_CANCEL flags (pos 0) 0 target 0 user_data)
-IsEntryOf (CancelAll user_data flags target) entry = entry ≡ without_data (header ASYNC_CANCEL flags (pos 0) 0 target (2 ^ 32 * ASYNC_CANCEL_ALL) user_data)
-IsEntryOf (Op code user_data flags) entry = entry ≡ without_data (header code flags (pos 0) 0 0 0 user_data)
+IsEntryOf (Nop user_data flags) entry =
+    entry ≡ without_data (header NOP flags (pos 0) 0 0 0 user_data)
+IsEntryOf (Fsync user_data flags fd) entry =
+    entry ≡ without_data (header FSYNC flags fd 0 0 0 user_data)
+IsEntryOf (Read user_data flags fd off len) entry =
+    entry ≡ without_data (header READ flags fd off 0 len user_data)
+IsEntryOf (Write user_data flags fd off bytes) entry =
+    HasData entry (header WRITE flags fd off 0 (length bytes) user_data) bytes
+IsEntryOf (Cancel user_data flags target) entry =
+    entry ≡ without_data (header ASYNC_CANCEL flags (pos 0) 0 target 0 user_data)
+IsEntryOf (CancelAll user_data flags target) entry = entry
+    ≡ without_data (header ASYNC_CANCEL flags (pos 0) 0 target (2 ^ 32 * ASYNC_CANCEL_ALL) user_data)
+IsEntryOf (Op code user_data flags) entry =
+    entry ≡ without_data (header code flags (pos 0) 0 0 0 user_data)
 IsEntryOf (Raw bytes) entry = HasBytes entry bytes
 
 -- the tokens of an entry's form

@@ -6,4 +6,5 @@ use Rattle.uring_text.specs.declared.trace_fault.TraceFault.TheVariants as fault
 -- At `Ok` it appended the text, and else a part of it, from its beginning on.
 abbrev pub WritesText : Result (Unit {0}) TraceFault → List ℕ → List ℕ → Type 0
 WritesText (Ok done) text written = written ≡ text
-WritesText (Err e) text written = (e ≡ fault.Write) × (more : List ℕ) × (0 < length more) × (text ≡ written ++ more)
+WritesText (Err e) text written =
+    (e ≡ fault.Write) × (more : List ℕ) × (0 < length more) × (text ≡ written ++ more)

@@ -10,7 +10,8 @@ use uring_entry::Cqe;
 
 /// Appends a completion: its user data, its result and its data, without the end of the line.
 pub fn push_completion(alloc: Global, text: &mut String, completion: &Cqe) -> Result<(), AllocError>
-    ensures { OnOk result (string_bytes text.new ≡ string_bytes text.old ++ completion_text completion.now) }
+    ensures { OnOk result
+        (string_bytes text.new ≡ string_bytes text.old ++ completion_text completion.now) }
 {
     let user_data = completion.user_data();
     let res = completion.res();

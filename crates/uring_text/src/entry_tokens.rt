@@ -17,7 +17,8 @@ const DATA: usize = 64;
 
 /// The entry that these tokens spell, if they spell one: a name, as `nop` or `write`, and what follows it in a line behind `fill SLOT`.
 pub fn spelled_entry(tokens: &[&[u8]]) -> Option<Sqe>
-    ensures spells { MatchOption result (IsNoEntry (map (λ token. token.now) tokens.now)) (λ entry. SpellsEntry (map (λ token. token.now) tokens.now) entry) }
+    ensures spells { MatchOption result (IsNoEntry (map (λ token. token.now) tokens.now))
+        (λ entry. SpellsEntry (map (λ token. token.now) tokens.now) entry) }
 
     // Glue: the same, as the reader finds it.
     ensures read { ReadsEntry result (form_of (map (λ token. token.now) tokens.now)) }
@@ -149,7 +150,8 @@ fn raw(tokens: &[&[u8]]) -> Option<Sqe>
 /// A write of the bytes that a token spells: `-` for none, else 1 to 64 bytes.
 #[tactic(auto, unfolding(crate::specs::Reading::data_of))]
 fn write_of_data(user_data: u64, flags: u8, fd: i32, off: u64, token: &[u8]) -> Option<Sqe>
-    ensures { ReadsEntry result (option_map (λ bytes. form.Write user_data flags fd off bytes) (data_of token.now)) }
+    ensures { ReadsEntry result
+        (option_map (λ bytes. form.Write user_data flags fd off bytes) (data_of token.now)) }
 {
     if let b"-" = token {
         return Some(Sqe::write(user_data, flags, fd, off, &[]));

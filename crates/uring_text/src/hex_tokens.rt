@@ -24,7 +24,8 @@ pub(crate) fn raw_entry(token: &[u8]) -> Option<Sqe>
 /// Puts the bytes that a token spells into `bytes`, which they must fill.
 #[tactic(auto, unfolding(crate::specs::Reading::hex_of))]
 pub(crate) fn decode(token: &[u8], bytes: &mut [u8]) -> Option<()>
-    ensures { MatchOption result (hex_of (length bytes.old) token.now ≡ None) (λ _. hex_of (length bytes.old) token.now ≡ Some bytes.new) }
+    ensures { MatchOption result (hex_of (length bytes.old) token.now ≡ None)
+        (λ _. hex_of (length bytes.old) token.now ≡ Some bytes.new) }
 {
     if has_capitals(token) {
         return None;

@@ -41,7 +41,8 @@ impl KeptLine {
 
     /// Takes in the next byte of the line.
     pub fn push(&mut self, byte: u8)
-        ensures { (line : List ℕ) → self.old ≡ kept_of line → self.new ≡ kept_of (line ++ byte ∷ []) }
+        ensures { (line : List ℕ) → self.old ≡ kept_of line
+            → self.new ≡ kept_of (line ++ byte ∷ []) }
     {
         if self.first.len() < LONGEST_LINE {
             let Ok(()) = self.first.push(byte) else {
@@ -79,7 +80,8 @@ impl KeptLine {
 
     /// The line, or none if it has more than 300 bytes.
     pub fn whole(&self) -> Option<&[u8]>
-        ensures line { (line : List ℕ) → self.now ≡ kept_of line → MatchOption result (300 < length line) (λ bytes. bytes.now ≡ line) }
+        ensures line { (line : List ℕ) → self.now ≡ kept_of line
+            → MatchOption result (300 < length line) (λ bytes. bytes.now ≡ line) }
         ensures short { IfSome result (λ bytes. length bytes.now ≤ 300) }
     {
         if self.is_long {

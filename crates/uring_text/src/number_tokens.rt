@@ -11,7 +11,8 @@ use std::str;
 
 /// The number up to 2^64 - 1 that a token is, if it is one: `0`, or decimal digits of which the first isn't `0`.
 pub fn spelled_long(token: &[u8]) -> Option<u64>
-    ensures spells { MatchOption result (IsNoNumber (2 ^ 64) token.now) (λ n. SpellsNumber (2 ^ 64) token.now n) }
+    ensures spells { MatchOption result (IsNoNumber (2 ^ 64) token.now)
+        (λ n. SpellsNumber (2 ^ 64) token.now n) }
 
     // Glue: the same, as the reader finds it.
     ensures read { result ≡ number_of (2 ^ 64) token.now }
@@ -21,7 +22,8 @@ pub fn spelled_long(token: &[u8]) -> Option<u64>
 
 /// The number up to 2^32 - 1 that a token is, if it is one: `0`, or decimal digits of which the first isn't `0`.
 pub fn spelled_number(token: &[u8]) -> Option<u32>
-    ensures spells { MatchOption result (IsNoNumber (2 ^ 32) token.now) (λ n. SpellsNumber (2 ^ 32) token.now n) }
+    ensures spells { MatchOption result (IsNoNumber (2 ^ 32) token.now)
+        (λ n. SpellsNumber (2 ^ 32) token.now n) }
 
     // Glue: the same, as the reader finds it.
     ensures read { result ≡ number_of (2 ^ 32) token.now }
@@ -31,7 +33,8 @@ pub fn spelled_number(token: &[u8]) -> Option<u32>
 
 /// The number of 32 bits with a sign that a token is, if it is one: a number up to 2^31 - 1, or `-` and a number from 1 to 2^31.
 pub fn spelled_signed(token: &[u8]) -> Option<i32>
-    ensures spells { MatchOption result ((z : ℤ) → IsFile z → signed_decimal z ≡ token.now → ⊥) (λ z. (signed_decimal z ≡ token.now) × IsFile z) }
+    ensures spells { MatchOption result ((z : ℤ) → IsFile z → signed_decimal z ≡ token.now → ⊥)
+        (λ z. (signed_decimal z ≡ token.now) × IsFile z) }
 
     // Glue: the same, as the reader finds it.
     ensures read { result ≡ file_of token.now }

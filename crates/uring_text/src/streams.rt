@@ -87,7 +87,9 @@ pub fn write_all<W: Write>(
     bytes: &[u8],
     writes: &mut Calls,
 ) -> Result<(), TraceFault>
-    ensures text { (written : List ℕ) × Appends (W.contents writer.old) (W.contents writer.new) written × WritesText result bytes.now written }
+    ensures text { (written : List ℕ)
+        × Appends (W.contents writer.old) (W.contents writer.new) written
+        × WritesText result bytes.now written }
     ensures write { IfErr result (λ _. AreOver writes.new) }
 {
     let mut rest = bytes;

@@ -16,12 +16,16 @@ use Rattle.uring_threads.specs.Settled.{IsWork, finish_of}
 -- The result of a request can be taken in from a worker: the request runs, and is that worker's.
 pub record CanBeTaken (kept : Kept) (workers place number : ℕ) : Type 0 where
   pub runs : is_running (now kept).requests number ≡ true
-  pub own : place_of workers kept.setup.files (operation_of (entry_of (now kept).requests number)) ≡ place
+  pub own : place_of workers kept.setup.files (operation_of (entry_of (now kept).requests number))
+      ≡ place
 
 -- what was sent to each worker, and taken in of each but this one, stays
 pub record OthersStay (old new : Kept) (workers place : ℕ) : Type 0 where
-  pub jobs : (k : ℕ) → jobs_to new.setup workers k (history new) ≡ jobs_to old.setup workers k (history old)
-  pub results : (k : ℕ) → k ≢ place → done_by_worker new.setup workers k (history new) ≡ done_by_worker old.setup workers k (history old)
+  pub jobs : (k : ℕ)
+      → jobs_to new.setup workers k (history new) ≡ jobs_to old.setup workers k (history old)
+  pub results : (k : ℕ) → k ≢ place
+      → done_by_worker new.setup workers k (history new)
+      ≡ done_by_worker old.setup workers k (history old)
 
 -- the next of these results can't be taken in, if there is one
 abbrev pub NextStays : Kept → ℕ → ℕ → List JobResult → Type 0
@@ -30,24 +34,34 @@ NextStays kept workers place (r ∷ later) = CanBeTaken kept workers place r.num
 
 -- the next result that is seen at this place can't be taken in, if one is seen
 abbrev pub SeesNoMore : Kept → List WorkLanes → ℕ → Type 0
-SeesNoMore kept lanes place = (d : WorkLanes) → NextStays kept (length lanes) place (known_items (get_or lanes place d).results)
+SeesNoMore kept lanes place = (d : WorkLanes)
+    → NextStays kept (length lanes) place (known_items (get_or lanes place d).results)
 
 -- of each of these workers, fewer than 64 were taken in only if no other result is seen, or the next can't be taken in
 abbrev pub TakesSeen : Kept → Kept → List WorkLanes → Type 0
-TakesSeen old new lanes = (place : ℕ) → place < length lanes → results_taken_in (length lanes) place new < results_taken_in (length lanes) place old + most_results → SeesNoMore new lanes place
+TakesSeen old new lanes = (place : ℕ) → place < length lanes
+    → results_taken_in (length lanes) place new
+    < results_taken_in (length lanes) place old + most_results
+    → SeesNoMore new lanes place
 
 -- what couldn't be taken in of a worker still can't
 abbrev pub NoneComes : Kept → Kept → ℕ → Type 0
-NoneComes old new workers = (k number : ℕ) → CanBeTaken new workers k number → CanBeTaken old workers k number
+NoneComes old new workers =
+    (k number : ℕ) → CanBeTaken new workers k number → CanBeTaken old workers k number
 
 -- the lanes of each worker but this one stay as they were
 abbrev pub OtherLanesStay : List WorkLanes → List WorkLanes → ℕ → Type 0
-OtherLanesStay old new place = (k : ℕ) → k ≢ place → (d : WorkLanes) → get_or new k d ≡ get_or old k d
+OtherLanesStay old new place =
+    (k : ℕ) → k ≢ place → (d : WorkLanes) → get_or new k d ≡ get_or old k d
 
 -- the next result was taken in, or nothing was, where it can't be
-abbrev pub TakesNext : Kept → Kept → ℕ → ℕ → List JobResult → List JobResult → List JobResult → Bool → Type 0
-TakesNext old new workers place before after seen true = (r : JobResult) × (after ≡ before ++ r ∷ []) × CanBeTaken old workers place r.number × Grows old new (finish_of r)
-TakesNext old new workers place before after seen false = (new ≡ old) × (after ≡ before) × NextStays old workers place seen
+abbrev pub TakesNext : Kept → Kept → ℕ → ℕ → List JobResult → List JobResult → List JobResult → Bool
+    → Type 0
+TakesNext old new workers place before after seen true = (r : JobResult)
+    × (after ≡ before ++ r ∷ []) × CanBeTaken old workers place r.number
+    × Grows old new (finish_of r)
+TakesNext old new workers place before after seen false =
+    (new ≡ old) × (after ≡ before) × NextStays old workers place seen
 
 -- so many results of a worker were taken in, and recorded as Finishes
 pub record Collects (old new : Kept) (workers place count : ℕ) : Type 0 where
@@ -61,7 +75,8 @@ pub record Collects (old new : Kept) (workers place count : ℕ) : Type 0 where
 -- one more result was taken in, or none, where none is seen or the next can't be taken in
 abbrev pub CollectsNext : Kept → Kept → ℕ → ℕ → List JobResult → Bool → Type 0
 CollectsNext old new workers place seen true = Collects old new workers place 1
-CollectsNext old new workers place seen false = Collects old new workers place 0 × NextStays new workers place seen
+CollectsNext old new workers place seen false =
+    Collects old new workers place 0 × NextStays new workers place seen
 
 -- results were taken in: at most 64, and fewer only if none is seen or the next can't be taken in
 pub record CollectsSeen (old new : Kept) (workers place count : ℕ) (seen : List JobResult) : Type 0 where
@@ -76,7 +91,8 @@ pub record CollectsFew (old new : Kept) (workers place : ℕ) : Type 0 where
 
 -- these results are all that wait at some worker
 abbrev pub Wait : Kept → List JobResult → Type 0
-Wait kept waiting = (workers : ℕ) × (k : ℕ) × (done : List Done) × (untaken : List Job) × IsWork kept.setup workers (history kept) k (record { done = done; untaken = untaken; waiting = waiting })
+Wait kept waiting = (workers : ℕ) × (k : ℕ) × (done : List Done) × (untaken : List Job)
+    × IsWork kept.setup workers (history kept) k (record { done = done; untaken = untaken; waiting = waiting })
 
 -- these results were taken in, in order, each by a Finish
 pub record TakesAll (old new : Kept) (results : List JobResult) : Type 0 where

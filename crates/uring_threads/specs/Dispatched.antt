@@ -10,7 +10,8 @@ use Rattle.uring_threads.specs.declared.work_lanes.WorkLanes.{WorkLanes}
 
 -- the results received from a worker are those that the trace has taken in of it
 abbrev pub AreTakenIn : Kept → ℕ → ℕ → List JobResult → Type 0
-AreTakenIn kept workers place results = results ≡ results_of (done_by_worker kept.setup workers place (history kept))
+AreTakenIn kept workers place results =
+    results ≡ results_of (done_by_worker kept.setup workers place (history kept))
 
 -- A worker's lanes have carried what the trace has of this worker: the jobs of its requests that run, and the results that were taken in.
 pub record HasCarried (kept : Kept) (workers k : ℕ) (lanes : WorkLanes) : Type 0 where
@@ -19,19 +20,23 @@ pub record HasCarried (kept : Kept) (workers k : ℕ) (lanes : WorkLanes) : Type
 
 -- and so have all, the lanes of worker 0 first
 abbrev pub HaveCarried : Kept → List WorkLanes → Type 0
-HaveCarried kept lanes = (k : ℕ) (d : WorkLanes) → k < length lanes → HasCarried kept (length lanes) k (get_or lanes k d)
+HaveCarried kept lanes =
+    (k : ℕ) (d : WorkLanes) → k < length lanes → HasCarried kept (length lanes) k (get_or lanes k d)
 
 -- nothing went through any of these lanes
 abbrev pub HaveCarriedNone : List WorkLanes → Type 0
-HaveCarriedNone lanes = (k : ℕ) (d : WorkLanes) → k < length lanes → (sent (get_or lanes k d).jobs ≡ []) × (received (get_or lanes k d).results ≡ [])
+HaveCarriedNone lanes = (k : ℕ) (d : WorkLanes) → k < length lanes
+    → (sent (get_or lanes k d).jobs ≡ []) × (received (get_or lanes k d).results ≡ [])
 
 -- each worker's lane for jobs holds 64
 abbrev pub HoldJobs : List WorkLanes → Type 0
-HoldJobs lanes = (k : ℕ) (d : WorkLanes) → k < length lanes → producer_capacity (get_or lanes k d).jobs ≡ 64
+HoldJobs lanes =
+    (k : ℕ) (d : WorkLanes) → k < length lanes → producer_capacity (get_or lanes k d).jobs ≡ 64
 
 -- each worker's lane for results holds at most 64
 abbrev pub HoldResults : List WorkLanes → Type 0
-HoldResults lanes = (k : ℕ) (d : WorkLanes) → k < length lanes → consumer_capacity (get_or lanes k d).results ≤ 64
+HoldResults lanes =
+    (k : ℕ) (d : WorkLanes) → k < length lanes → consumer_capacity (get_or lanes k d).results ≤ 64
 
 -- which lanes these are, as numbers that the workers' ends of them have too, worker 0's first
 abbrev pub numbers_of_lanes : List WorkLanes → List (List (List ℕ))
@@ -43,7 +48,8 @@ ShowRoom lanes = (k : ℕ) (d : WorkLanes) → k < length lanes → 0 < known_fr
 
 -- some worker's lane for jobs shows none
 abbrev pub SomeIsFull : List WorkLanes → Type 0
-SomeIsFull lanes = (k : ℕ) × (k < length lanes) × ((d : WorkLanes) → known_free (get_or lanes k d).jobs ≡ 0)
+SomeIsFull lanes =
+    (k : ℕ) × (k < length lanes) × ((d : WorkLanes) → known_free (get_or lanes k d).jobs ≡ 0)
 
 -- the same lanes, and nothing was sent or received
 pub record IsLookedAt (old new : WorkLanes) : Type 0 where
@@ -60,5 +66,7 @@ pub record IsSent (job : Job) (old new : WorkLanes) : Type 0 where
 -- The same lanes still, of each worker.
 pub record AreSameLanes (old new : List WorkLanes) : Type 0 where
   pub many : length new ≡ length old
-  pub jobs : (k : ℕ) (d : WorkLanes) → k < length old → SameProducer (get_or old k d).jobs (get_or new k d).jobs
-  pub results : (k : ℕ) (d : WorkLanes) → k < length old → SameConsumer (get_or old k d).results (get_or new k d).results
+  pub jobs : (k : ℕ) (d : WorkLanes) → k < length old
+      → SameProducer (get_or old k d).jobs (get_or new k d).jobs
+  pub results : (k : ℕ) (d : WorkLanes) → k < length old
+      → SameConsumer (get_or old k d).results (get_or new k d).results

@@ -11,5 +11,6 @@ use Rattle.uring_threads.specs.Kept.{Kept, Grows, now}
 
 -- It runs, and this is its operation; or, without one, it ended at once.
 abbrev pub IssuedAs : Kept → Kept → ℕ → Option Op → Type 0
-IssuedAs old new n (Some op) = Grows old new (step.Issue n, answer.Run) × (op ≡ operation_of (entry_of (now old).requests n))
+IssuedAs old new n (Some op) =
+    Grows old new (step.Issue n, answer.Run) × (op ≡ operation_of (entry_of (now old).requests n))
 IssuedAs old new n None = (a : Answer) × Grows old new (step.Issue n, a) × IsEnded a

@@ -24,13 +24,16 @@ pub record IsFreshWorker (files k : ℕ) (worker : Worker) : Type 0 where
 
 -- the workers, in their order
 abbrev pub AreFreshWorkers : ℕ → List Worker → Type 0
-AreFreshWorkers files workers = (k : ℕ) (e : Worker) → k < length workers → IsFreshWorker files k (get_or workers k e)
+AreFreshWorkers files workers =
+    (k : ℕ) (e : Worker) → k < length workers → IsFreshWorker files k (get_or workers k e)
 
 -- the dispatcher's ends of the lanes of these workers, worker 0's first: each holds at most 64 results
 pub record AreLanesOf (files : ℕ) (lanes : List WorkLanes) (workers : List Worker) : Type 0 where
   pub many : length workers ≡ length lanes
-  pub pairing : (k : ℕ) (d : WorkLanes) (e : Worker) → k < length lanes → (get_or workers k e).pairing ≡ pairing_of (get_or lanes k d).jobs (get_or lanes k d).results
-  pub short : (k : ℕ) (d : WorkLanes) → k < length lanes → consumer_capacity (get_or lanes k d).results ≤ 64
+  pub pairing : (k : ℕ) (d : WorkLanes) (e : Worker) → k < length lanes
+      → (get_or workers k e).pairing ≡ pairing_of (get_or lanes k d).jobs (get_or lanes k d).results
+  pub short : (k : ℕ) (d : WorkLanes) → k < length lanes
+      → consumer_capacity (get_or lanes k d).results ≤ 64
   pub have : (k : ℕ) (e : Worker) → k < length lanes → length (get_or workers k e).files ≡ files
 
 -- the dispatcher's ends of fresh lanes, and their workers, in their order
@@ -56,7 +59,13 @@ kernel_at_first g pairing k = record {
 -- All ends of a set-up over two ports with these numbers, before anything is done with them: one worker for each gate, in the gates' order; nothing was submitted, recorded, sent or carried out, and each file is empty.
 pub record AreEnds (g : Setup) (gates : ℕ) (numbers : List ℕ) (app : AppEnd) (kernel : Kernel) (workers : List Worker) : Type 0 where
   pub many : length workers ≡ gates
-  pub application : app ≡ record { pairing = numbers; sizes = sizes_of g; submitted = nothing_put; received = []; dropped = app.dropped }
+  pub application : app ≡ record {
+    pairing = numbers;
+    sizes = sizes_of g;
+    submitted = nothing_put;
+    received = [];
+    dropped = app.dropped;
+  }
   pub dispatcher : kernel ≡ kernel_at_first g numbers kernel
   pub opened : AreOpened g.files kernel.lanes workers
   pub together : AreTogether app kernel workers

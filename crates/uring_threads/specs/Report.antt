@@ -69,11 +69,13 @@ has_job jobs n = list_any (λ job. job.number == n) jobs
 
 -- The requests that run are those whose jobs were sent and taken by no worker.
 abbrev pub LeavesRunning : List WorkLanes → List Worker → Report → Type 0
-LeavesRunning lanes workers r = (n : ℕ) → (is_running (left_by r).requests n ≡ true) ↔ (has_job (all_untaken lanes workers) n ≡ true)
+LeavesRunning lanes workers r = (n : ℕ)
+    → (is_running (left_by r).requests n ≡ true) ↔ (has_job (all_untaken lanes workers) n ≡ true)
 
 -- What was published and then what is unsent is what was submitted, in order.
 abbrev pub PublishesItems : Put → Report → Type 0
-PublishesItems submitted r = published_items (left_by r).submission ++ all_published_as r.unsent ≡ all_published_as (items_of_calls submitted.calls)
+PublishesItems submitted r = published_items (left_by r).submission ++ all_published_as r.unsent
+    ≡ all_published_as (items_of_calls submitted.calls)
 
 -- The calls begin the calls that were submitted, each as long as it was submitted.
 abbrev pub BeginsCalls : Put → Report → Type 0

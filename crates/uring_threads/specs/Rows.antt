@@ -20,7 +20,8 @@ with_items_put w items = on_submission w (with_items w.submission 0 items)
 
 -- and published
 abbrev pub with_items_published : ℕ → World → List Published → World
-with_items_published size w items = on_submission w (with_published size (with_items w.submission 0 items))
+with_items_published size w items =
+    on_submission w (with_published size (with_items w.submission 0 items))
 
 -- a call of all positions that wait was begun: it took them and closed, or nothing changed
 abbrev pub with_begun_as : World → ℕ → Begun → World

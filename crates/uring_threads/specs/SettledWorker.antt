@@ -31,7 +31,8 @@ works_of workers e k = settled_work (get_or workers k e)
 
 -- all of them are settled: the history is lawful, the files are these workers', and what runs is what none of them has taken
 abbrev pub AreSettled : Kept → List Worker → Type 0
-AreSettled kept workers = (e : Worker) → IsSettled kept.setup (length workers) (history kept) (works_of workers e)
+AreSettled kept workers =
+    (e : Worker) → IsSettled kept.setup (length workers) (history kept) (works_of workers e)
 
 -- the same workers, which did nothing since
 pub record HaveLooked (old new : List Worker) : Type 0 where
@@ -40,7 +41,8 @@ pub record HaveLooked (old new : List Worker) : Type 0 where
 
 -- each has seen all jobs that these lanes have carried and that it hasn't taken
 abbrev pub HaveSeenAll : List WorkLanes → List Worker → Type 0
-HaveSeenAll lanes workers = (k : ℕ) (d : WorkLanes) (e : Worker) → k < length lanes → jobs_of (get_or workers k e).done ++ (get_or workers k e).seen ≡ sent (get_or lanes k d).jobs
+HaveSeenAll lanes workers = (k : ℕ) (d : WorkLanes) (e : Worker) → k < length lanes
+    → jobs_of (get_or workers k e).done ++ (get_or workers k e).seen ≡ sent (get_or lanes k d).jobs
 
 -- there is a worker, and each has as many files as there are
 pub record HaveFiles (files : ℕ) (workers : List Worker) : Type 0 where
@@ -49,7 +51,9 @@ pub record HaveFiles (files : ℕ) (workers : List Worker) : Type 0 where
 
 -- what is told of the file of a descriptor, of any history that these workers have settled
 abbrev pub TellsState : ℕ → List Worker → ℤ → Option FileState → Type 0
-TellsState files workers fd told = (kept : Kept) → kept.setup.files ≡ files → AreSettled kept workers → told ≡ state_of (files_of kept.setup (now kept)) fd
+TellsState files workers fd told = (kept : Kept) → kept.setup.files ≡ files
+    → AreSettled kept workers → told ≡ state_of (files_of kept.setup (now kept)) fd
 
 abbrev pub TellsByte : ℕ → List Worker → ℤ → ℕ → Option ℕ → Type 0
-TellsByte files workers fd at told = (kept : Kept) → kept.setup.files ≡ files → AreSettled kept workers → told ≡ byte_of (files_of kept.setup (now kept)) fd at
+TellsByte files workers fd at told = (kept : Kept) → kept.setup.files ≡ files
+    → AreSettled kept workers → told ≡ byte_of (files_of kept.setup (now kept)) fd at

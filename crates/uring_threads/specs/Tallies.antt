@@ -84,7 +84,14 @@ abbrev pub issues_counted : ℕ → Tally
 issues_counted n = record { items = 0; issues = n; finishes = 0; reaps = 0; calls = 0; closes = 0 }
 
 abbrev pub finishes_counted : ℕ → Tally
-finishes_counted n = record { items = 0; issues = 0; finishes = n; reaps = 0; calls = 0; closes = 0 }
+finishes_counted n = record {
+  items = 0;
+  issues = 0;
+  finishes = n;
+  reaps = 0;
+  calls = 0;
+  closes = 0;
+}
 
 abbrev pub reaps_counted : ℕ → Tally
 reaps_counted n = record { items = 0; issues = 0; finishes = 0; reaps = n; calls = 0; closes = 0 }
@@ -97,7 +104,14 @@ close_counted = record { items = 0; issues = 0; finishes = 0; reaps = 0; calls =
 
 -- the items of a call, and that it was begun
 abbrev pub whole_call_counted : ℕ → Tally
-whole_call_counted n = record { items = n; issues = 0; finishes = 0; reaps = 0; calls = 1; closes = 0 }
+whole_call_counted n = record {
+  items = n;
+  issues = 0;
+  finishes = 0;
+  reaps = 0;
+  calls = 1;
+  closes = 0;
+}
 
 -- The trace goes on with events of this tally, behind all others.
 pub record Appends (old new : Kept) (t : Tally) : Type 0 where
@@ -115,8 +129,10 @@ most_results = 64
 
 -- how many the trace has taken in of this one, where there are so many workers
 abbrev pub results_taken_in : ℕ → ℕ → Kept → ℕ
-results_taken_in workers k kept = length (done_by_worker kept.setup workers k (history_of kept.trace))
+results_taken_in workers k kept =
+    length (done_by_worker kept.setup workers k (history_of kept.trace))
 
 -- Of each of so many workers at most 64 results more were taken in.
 abbrev pub TakesFewResults : ℕ → Kept → Kept → Type 0
-TakesFewResults workers old new = (k : ℕ) → results_taken_in workers k new ≤ results_taken_in workers k old + most_results
+TakesFewResults workers old new =
+    (k : ℕ) → results_taken_in workers k new ≤ results_taken_in workers k old + most_results

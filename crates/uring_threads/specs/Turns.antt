@@ -29,7 +29,8 @@ is_shut _ = false
 
 -- All that was pulled is in the submission ring: its items, in order, are published, if they are items of a ring of this size; its calls were begun, each as long as it was pulled, but for the last one where that waits; and the ring is closed once the close mark was pulled. Between calls the ring stands.
 pub record Tied (size : ℕ) (w : World) (pulled : Put) (i : Intake) : Type 0 where
-  pub published : AreItems size (items_of_calls pulled.calls) → published_items w.submission ≡ all_published_as (items_of_calls pulled.calls)
+  pub published : AreItems size (items_of_calls pulled.calls)
+      → published_items w.submission ≡ all_published_as (items_of_calls pulled.calls)
   pub calls : w.submission.calls ++ waiting_in i ≡ map length pulled.calls
   pub stands : Stands w.submission [] (sum (waiting_in i))
   pub closed : w.is_closed ≡ pulled.closed
@@ -61,4 +62,5 @@ pub record Counts (old new : Kept) (turn : Turn) : Type 0 where
   pub calls : ℕ
   pub closes : ℕ
   pub appends : Appends old new (record { items = turn.popped; issues = turn.issued; finishes = turn.finished; reaps = turn.delivered; calls = calls; closes = closes })
-  pub idle : turn.popped + turn.issued + turn.finished + turn.delivered + calls + closes ≡ 0 → new.trace ≡ old.trace
+  pub idle : turn.popped + turn.issued + turn.finished + turn.delivered + calls + closes ≡ 0
+      → new.trace ≡ old.trace

@@ -87,7 +87,9 @@ DealtByFile = (workers files : ℕ) → 0 < workers → IsDealtByFile workers fi
 
 -- Each worker carried out its own operations on files that it alone has, as they call for: then the history is lawful.
 abbrev pub WorkersJoin : Setup → Type 0
-WorkersJoin g = (workers : ℕ) (h : History) → 0 < workers → IsLawfulApart g h → ((k : ℕ) → k < workers → AreDone (first_files g) (done_by_worker g workers k h)) → IsLawful g h
+WorkersJoin g = (workers : ℕ) (h : History) → 0 < workers → IsLawfulApart g h
+    → ((k : ℕ) → k < workers → AreDone (first_files g) (done_by_worker g workers k h))
+    → IsLawful g h
 
 -- The file of a descriptor is the one that its worker has.
 abbrev pub FilesByWorker : Setup → Type 0

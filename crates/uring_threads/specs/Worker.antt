@@ -27,7 +27,8 @@ pub record Worker : Type 0 where
 
 -- the operations of these jobs, which ended with these results
 abbrev pub done_of : List Job → List JobResult → List Done
-done_of (j ∷ js) (r ∷ rs) = record { number = j.number; op = j.op; outcome = r.outcome } ∷ done_of js rs
+done_of (j ∷ js) (r ∷ rs) =
+    record { number = j.number; op = j.op; outcome = r.outcome } ∷ done_of js rs
 done_of js rs = []
 
 -- files at first: each is empty
@@ -55,7 +56,8 @@ pub record Looks (old new : Worker) : Type 0 where
 -- it took the job of this operation, the first that it saw, carried it out on its files and sent the result
 pub record CarriesOut (old new : Worker) (d : Done) : Type 0 where
   pub outcome : IsOutcome old.files d.op d.outcome
-  pub done : new ≡ record old { done = old.done ++ d ∷ []; files = after old.files d.op d.outcome.res; seen = new.seen; room = new.room }
+  pub done : new
+      ≡ record old { done = old.done ++ d ∷ []; files = after old.files d.op d.outcome.res; seen = new.seen; room = new.room }
   pub first : IsPrefix old.seen (job_of d ∷ new.seen)
   pub room : old.room ≤ new.room + 1
 

@@ -28,7 +28,8 @@ pub enum Begun {
 /// Takes all positions of the call that is open, none of which is taken. Condition: the trace has room for an event each.
 fn take_all(kept: &mut Kept, count: u32)
     requires room { length kept.old.trace + count ≤ kept.old.room }
-    requires in_call { (w : World) × Stands w.submission [] count × (now kept.old ≡ in_call w count 0) }
+    requires in_call { (w : World) × Stands w.submission [] count
+        × (now kept.old ≡ in_call w count 0) }
     ensures world { now kept.new ≡ in_call (now kept.old) count count }
     ensures tally { Appends kept.old kept.new none_counted }
     ensures length { length kept.new.trace ≤ length kept.old.trace + count }
@@ -66,7 +67,10 @@ pub fn take_call(kept: &mut Kept, items: &[Item]) -> Begun
     requires few { length items.now ≤ kept.old.setup.sq }
     requires not_closed { (now kept.old).is_closed ≡ false }
     requires stands { Stands (now kept.old).submission [] 0 }
-    ensures world { now kept.new ≡ with_begun_as (with_items_published kept.old.setup.sq (now kept.old) (all_published_as items.now)) (length items.now) result }
+    ensures world { now kept.new
+        ≡ with_begun_as
+        (with_items_published kept.old.setup.sq (now kept.old) (all_published_as items.now))
+        (length items.now) result }
     ensures tally { Appends kept.old kept.new (whole_call_counted (length items.now)) }
     ensures length { length kept.new.trace ≤ length kept.old.trace + 3 * length items.now + 4 }
 {

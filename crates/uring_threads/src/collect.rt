@@ -49,7 +49,9 @@ fn collect_at(kept: &mut Kept, lanes: &mut [WorkLanes], place: u32) -> Result<u6
     ensures lanes { AreSameLanes lanes.old lanes.new }
     ensures posts { OnlyPosts (now kept.old) (now kept.new) }
     ensures few { CollectsFew kept.old kept.new (length lanes.old) place }
-    ensures own { IfOk result (λ count. results_taken_in (length lanes.old) place kept.new ≡ results_taken_in (length lanes.old) place kept.old + count) }
+    ensures own { IfOk result
+        (λ count. results_taken_in (length lanes.old) place kept.new
+        ≡ results_taken_in (length lanes.old) place kept.old + count) }
     ensures none_comes { NoneComes kept.old kept.new (length lanes.old) }
     ensures others { OtherLanesStay lanes.old lanes.new place }
     ensures tally { IfOk result (λ count. Appends kept.old kept.new (finishes_counted count)) }
@@ -74,8 +76,10 @@ pub fn collect(
     requires workers { 0 < workers }
     requires taken { AreTakenIn kept.old workers place (received results.old) }
     ensures taken { AreTakenIn kept.new workers place (received results.new) }
-    ensures ok { IfOk result (λ count. CollectsSeen kept.old kept.new workers place count (known_items results.new)) }
-    ensures err { OnErr result ((count : ℕ) × (count ≤ most_results) × Collects kept.old kept.new workers place count) }
+    ensures ok { IfOk result
+        (λ count. CollectsSeen kept.old kept.new workers place count (known_items results.new)) }
+    ensures err { OnErr result
+        ((count : ℕ) × (count ≤ most_results) × Collects kept.old kept.new workers place count) }
     ensures ring { SameConsumer results.old results.new }
 {
     for count in 0..LANE_LENGTH {
@@ -96,7 +100,8 @@ fn collect_next(
     requires workers { 0 < workers }
     requires taken { AreTakenIn kept.old workers place (received results.old) }
     ensures taken { AreTakenIn kept.new workers place (received results.new) }
-    ensures ok { IfOk result (λ more. CollectsNext kept.old kept.new workers place (known_items results.new) more) }
+    ensures ok { IfOk result
+        (λ more. CollectsNext kept.old kept.new workers place (known_items results.new) more) }
     ensures err { OnErr result (Collects kept.old kept.new workers place 0) }
     ensures ring { SameConsumer results.old results.new }
 {
@@ -118,7 +123,8 @@ pub fn collect_one(
     requires workers { 0 < workers }
     requires taken { AreTakenIn kept.old workers place (received results.old) }
     ensures taken { AreTakenIn kept.new workers place (received results.new) }
-    ensures next { TakesNext kept.old kept.new workers place (received results.old) (received results.new) (known_items results.new) result }
+    ensures next { TakesNext kept.old kept.new workers place (received results.old)
+        (received results.new) (known_items results.new) result }
     ensures others { OthersStay kept.old kept.new workers place }
     ensures ring { SameConsumer results.old results.new }
 {
@@ -150,7 +156,8 @@ pub fn take_waiting(kept: &mut Kept, results: &mut Consumer<JobResult>)
     requires room { length kept.old.trace + length (known_items results.old) ≤ kept.old.room }
     requires work { Wait kept.old (known_items results.old) }
     ensures trace { TakesAll kept.old kept.new (known_items results.old) }
-    ensures results { (received results.new ≡ received results.old ++ known_items results.old) × (known_items results.new ≡ []) }
+    ensures results { (received results.new ≡ received results.old ++ known_items results.old)
+        × (known_items results.new ≡ []) }
     ensures ring { SameConsumer results.old results.new }
 {
     for _taken in 0..results.cached_slots() {
@@ -163,7 +170,9 @@ fn take_known(kept: &mut Kept, results: &mut Consumer<JobResult>)
     requires room { length kept.old.trace < kept.old.room }
     requires some { 0 < length (known_items results.old) }
     requires work { Wait kept.old (known_items results.old) }
-    ensures next { (r : JobResult) × (known_items results.old ≡ r ∷ known_items results.new) × (received results.new ≡ received results.old ++ r ∷ []) × Grows kept.old kept.new (finish_of r) }
+    ensures next { (r : JobResult) × (known_items results.old ≡ r ∷ known_items results.new)
+        × (received results.new ≡ received results.old ++ r ∷ [])
+        × Grows kept.old kept.new (finish_of r) }
     ensures work { Wait kept.new (known_items results.new) }
     ensures ring { SameConsumer results.old results.new }
 {

@@ -16,8 +16,11 @@ fn reap_all<P: KernelPort>(kept: &mut Kept, port: &mut P, count: u64)
     requires free { count ≤ P.free port.old }
     requires delivered { (now kept.old).completions.reaped ≡ P.delivered port.old }
     requires shown { length (P.delivered port.old) + count ≤ (now kept.old).completions.seen_tail }
-    requires posted { (now kept.old).completions.seen_tail ≤ length (now kept.old).completions.posted }
-    ensures world { now kept.new ≡ on_completions (now kept.old) (with_reaped_all (now kept.old).completions (P.delivered port.new)) }
+    requires posted { (now kept.old).completions.seen_tail
+        ≤ length (now kept.old).completions.posted }
+    ensures world { now kept.new
+        ≡ on_completions (now kept.old)
+        (with_reaped_all (now kept.old).completions (P.delivered port.new)) }
     ensures delivered { length (P.delivered port.new) ≡ length (P.delivered port.old) + count }
     ensures tally { Appends kept.old kept.new (reaps_counted count) }
     ensures length { length kept.new.trace ≤ length kept.old.trace + count }
@@ -48,7 +51,9 @@ pub fn deliver<P: KernelPort>(kept: &mut Kept, port: &mut P) -> Result<u64, Allo
     ensures idle { IfOk result (λ n. n ≡ 0 → IsUnmoved kept.old kept.new) }
 
     // As long as no more was posted than the ring holds, all of it is delivered.
-    ensures all { IfOk result (λ n. length (now kept.old).completions.posted ≤ kept.old.setup.cq → length (P.delivered port.new) ≡ length (now kept.old).completions.posted) }
+    ensures all { IfOk result
+        (λ n. length (now kept.old).completions.posted ≤ kept.old.setup.cq
+        → length (P.delivered port.new) ≡ length (now kept.old).completions.posted) }
     ensures err { OnErr result (IsUnmoved kept.old kept.new) }
 
     // Nothing else of the port changes.

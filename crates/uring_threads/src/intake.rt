@@ -52,7 +52,8 @@ impl Intake {
 /// Begins the call that waits once more, if one does. `AllocError`: the trace had no room, and nothing was done.
 fn retry(kept: &mut Kept, intake: &mut Intake) -> Result<(), AllocError>
     requires tied { (put : Put) × Tied kept.old.setup.sq (now kept.old) put intake.old }
-    ensures tied { (put : Put) → Tied kept.old.setup.sq (now kept.old) put intake.old → Tied kept.old.setup.sq (now kept.new) put intake.new }
+    ensures tied { (put : Put) → Tied kept.old.setup.sq (now kept.old) put intake.old
+        → Tied kept.old.setup.sq (now kept.new) put intake.new }
     ensures completions { (now kept.new).completions ≡ (now kept.old).completions }
     ensures taken { TakesIn kept.old kept.new 0 }
     ensures once { ClosesOnce kept.old intake.old → ClosesOnce kept.new intake.new }
@@ -68,8 +69,12 @@ fn retry(kept: &mut Kept, intake: &mut Intake) -> Result<(), AllocError>
 fn take_pulled(kept: &mut Kept, items: &[Item], intake: &mut Intake, pulled: Pulled) -> u64
     requires room { length kept.old.trace + 3 * kept.old.setup.sq + 4 ≤ kept.old.room }
     requires ready { intake.old ≡ Ready }
-    requires tied { (before : Put) × (after : Put) × Tied kept.old.setup.sq (now kept.old) before intake.old × Pulls kept.old.setup.sq before pulled items.now after }
-    ensures tied { (before after : Put) → Tied kept.old.setup.sq (now kept.old) before intake.old → Pulls kept.old.setup.sq before pulled items.now after → Tied kept.old.setup.sq (now kept.new) after intake.new }
+    requires tied { (before : Put) × (after : Put)
+        × Tied kept.old.setup.sq (now kept.old) before intake.old
+        × Pulls kept.old.setup.sq before pulled items.now after }
+    ensures tied { (before after : Put) → Tied kept.old.setup.sq (now kept.old) before intake.old
+        → Pulls kept.old.setup.sq before pulled items.now after
+        → Tied kept.old.setup.sq (now kept.new) after intake.new }
     ensures completions { (now kept.new).completions ≡ (now kept.old).completions }
     ensures taken { TakesIn kept.old kept.new result }
     ensures once { ClosesOnce kept.old intake.old → ClosesOnce kept.new intake.new }

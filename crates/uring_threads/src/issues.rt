@@ -67,7 +67,8 @@ pub fn issue_all(kept: &mut Kept, lanes: &mut [WorkLanes]) -> Result<u64, AllocE
     ensures lanes { AreSameLanes lanes.old lanes.new }
     ensures stays { OnlyPosts (now kept.old) (now kept.new) }
     ensures tally { IfOk result (λ count. Appends kept.old kept.new (issues_counted count)) }
-    ensures none_left { IfOk result (λ count. (next_of (now kept.new).requests ≡ None) ⊎ SomeIsFull lanes.new) }
+    ensures none_left { IfOk result
+        (λ count. (next_of (now kept.new).requests ≡ None) ⊎ SomeIsFull lanes.new) }
     ensures idle { IfOk result (λ count. count ≡ 0 → kept.new.trace ≡ kept.old.trace) }
     ensures err { OnErr result ((count : ℕ) × Appends kept.old kept.new (issues_counted count)) }
 {

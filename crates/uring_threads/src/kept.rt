@@ -34,7 +34,8 @@ impl Model for Kept {
 
     ghost view = { λ k. record { trace = k.trace.items; room = vec_capacity k.trace; setup = k.core.setup } };
 
-    ghost invariant = { λ k. IsWithinLimits k.core.setup × FitsApart k.core (history_of k.trace.items) × (k.core.setup.stops ≡ false) };
+    ghost invariant = { λ k. IsWithinLimits k.core.setup
+        × FitsApart k.core (history_of k.trace.items) × (k.core.setup.stops ≡ false) };
 }
 
 impl Kept {

@@ -44,7 +44,9 @@ impl<P: KernelPort> Model for Kernel<P> {
 
     ghost view = { λ k. record { kept = k.kept; intake = k.intake; lanes = k.lanes.items; pairing = P.pairing k.port; sizes = P.sizes k.port; pulled = P.pulled k.port; reaped = P.delivered k.port; dropped = P.dropped k.port } };
 
-    ghost invariant = { λ k. (k.kept.setup.sq ≤ vec_capacity k.items) × IsKernel (record { kept = k.kept; intake = k.intake; lanes = k.lanes.items; pairing = P.pairing k.port; sizes = P.sizes k.port; pulled = P.pulled k.port; reaped = P.delivered k.port; dropped = P.dropped k.port }) };
+    ghost invariant = { λ k. (k.kept.setup.sq ≤ vec_capacity k.items)
+        × IsKernel
+        (record { kept = k.kept; intake = k.intake; lanes = k.lanes.items; pairing = P.pairing k.port; sizes = P.sizes k.port; pulled = P.pulled k.port; reaped = P.delivered k.port; dropped = P.dropped k.port }) };
 }
 
 impl<P: KernelPort> Kernel<P> {
@@ -63,7 +65,8 @@ impl<P: KernelPort> Kernel<P> {
         requires hold { HoldJobs lanes.items }
         requires short { HoldResults lanes.items }
         requires carried { HaveCarriedNone lanes.items }
-        ensures { result ≡ record { kept = kept; intake = Ready; lanes = lanes.items; pairing = P.pairing port; sizes = sizes_of kept.setup; pulled = nothing_put; reaped = []; dropped = P.dropped port } }
+        ensures { result
+            ≡ record { kept = kept; intake = Ready; lanes = lanes.items; pairing = P.pairing port; sizes = sizes_of kept.setup; pulled = nothing_put; reaped = []; dropped = P.dropped port } }
     {
         Kernel {
             kept,
@@ -84,20 +87,27 @@ impl<P: KernelPort> Kernel<P> {
         ensures begun { OnOk result (awaits_memory self.new.intake ≡ false) }
 
         // No request is left that can be issued, but where some worker's lane shows no room.
-        ensures none_left { IfOk result (λ turn. (next_of (now self.new.kept).requests ≡ None) ⊎ SomeIsFull self.new.lanes) }
+        ensures none_left { IfOk result
+            (λ turn. (next_of (now self.new.kept).requests ≡ None) ⊎ SomeIsFull self.new.lanes) }
 
         // As long as fewer than 64 requests were started, none is left that can be issued.
-        ensures next { IfOk result (λ turn. count_by starts_request self.new.kept.trace < 64 → next_of (now self.new.kept).requests ≡ None) }
+        ensures next { IfOk result
+            (λ turn. count_by starts_request self.new.kept.trace < 64
+            → next_of (now self.new.kept).requests ≡ None) }
 
         // As long as no more was posted than the completion ring holds, all of it is reaped.
-        ensures all { IfOk result (λ turn. length (now self.new.kept).completions.posted ≤ self.old.kept.setup.cq → length self.new.reaped ≡ length (now self.new.kept).completions.posted) }
+        ensures all { IfOk result
+            (λ turn. length (now self.new.kept).completions.posted ≤ self.old.kept.setup.cq
+            → length self.new.reaped ≡ length (now self.new.kept).completions.posted) }
         ensures err { OnErr result ((t : Tally) × Appends self.old.kept self.new.kept t) }
 
         // Of each worker at most 64 results are taken in, also if memory was refused.
         ensures few_results { TakesFewResults (length self.old.lanes) self.old.kept self.new.kept }
 
         // The last dropped word is the trace's. A turn that returned an error stored none.
-        ensures stored { OnOk result (self.new.dropped ≡ with_word self.old.dropped (dropped (now self.new.kept).submission)) }
+        ensures stored { OnOk result
+            (self.new.dropped
+            ≡ with_word self.old.dropped (dropped (now self.new.kept).submission)) }
         ensures not_stored { OnErr result (self.new.dropped ≡ self.old.dropped) }
 
         // Nothing else changes.
@@ -134,9 +144,12 @@ impl<P: KernelPort> Kernel<P> {
     /// Makes room in the trace for 64 results of each worker, and a list for all completions that may wait then. `AllocError`: the system is out of memory.
     pub(crate) fn make_room(&mut self, alloc: Global) -> Result<Vec<Cqe>, AllocError>
         ensures same { IsSameKernel self.old self.new }
-        ensures room { OnOk result (length self.old.kept.trace + 64 * length self.old.lanes ≤ self.new.kept.room) }
+        ensures room { OnOk result
+            (length self.old.kept.trace + 64 * length self.old.lanes ≤ self.new.kept.room) }
         ensures empty { IfOk result (λ list. list.items ≡ []) }
-        ensures list { IfOk result (λ list. length (unreaped (now self.old.kept).completions) + 64 * length self.old.lanes ≤ vec_capacity list) }
+        ensures list { IfOk result
+            (λ list. length (unreaped (now self.old.kept).completions) + 64 * length self.old.lanes
+            ≤ vec_capacity list) }
     {
         let results = LANE_LENGTH * self.lanes.len();
         room_to_settle(alloc, &mut self.kept, results)
@@ -153,10 +166,13 @@ impl<P: KernelPort> Kernel<P> {
         requires { self.pairing ≡ app.pairing }
         ensures kept { IfOk result (λ left. left.0 ≡ self.kept) }
         ensures lanes { IfOk result (λ left. left.1.items ≡ self.lanes) }
-        ensures items { IfOk result (λ left. LeavesItems app.submitted self.pulled left.2.unsent.items) }
-        ensures completions { IfOk result (λ left. LeavesCompletions self.reaped app.received left.2.undelivered.items) }
+        ensures items { IfOk result
+            (λ left. LeavesItems app.submitted self.pulled left.2.unsent.items) }
+        ensures completions { IfOk result
+            (λ left. LeavesCompletions self.reaped app.received left.2.undelivered.items) }
         ensures dropped { OnOk result (WereStored self.dropped app.dropped) }
-        ensures submitted { OnOk result (AreItems app.sizes.sq (items_of_calls app.submitted.calls)) }
+        ensures submitted { OnOk result
+            (AreItems app.sizes.sq (items_of_calls app.submitted.calls)) }
         ensures unchanged { IfErr result (λ ends. (ends.0 ≡ app) × (ends.1 ≡ self)) }
     {
         let Kernel {

@@ -37,12 +37,17 @@ pub fn ends<K: KernelPort, G: Gate>(
     kernel: K,
 ) -> Result<(AppEnd<K::App>, Kernel<K>, Vec<Worker<G>>), LanesFault>
     requires pairing { K.pairing kernel ≡ K.App.pairing app }
-    requires app { (K.App.sizes app ≡ sizes_of setup.now) × (K.App.put app ≡ nothing_put) × (K.App.got app ≡ []) }
-    requires kernel { (K.sizes kernel ≡ sizes_of setup.now) × (K.pulled kernel ≡ nothing_put) × (K.delivered kernel ≡ []) }
-    ensures ok { IfOk result (λ ends. AreEnds setup.now (length gates.items) (K.pairing kernel) ends.0 ends.1 ends.2.items) }
-    ensures dropped { IfOk result (λ ends. (ends.0.dropped ≡ K.App.dropped app) × (ends.1.dropped ≡ K.dropped kernel)) }
+    requires app { (K.App.sizes app ≡ sizes_of setup.now) × (K.App.put app ≡ nothing_put)
+        × (K.App.got app ≡ []) }
+    requires kernel { (K.sizes kernel ≡ sizes_of setup.now) × (K.pulled kernel ≡ nothing_put)
+        × (K.delivered kernel ≡ []) }
+    ensures ok { IfOk result
+        (λ ends. AreEnds setup.now (length gates.items) (K.pairing kernel) ends.0 ends.1 ends.2.items) }
+    ensures dropped { IfOk result
+        (λ ends. (ends.0.dropped ≡ K.App.dropped app) × (ends.1.dropped ≡ K.dropped kernel)) }
     ensures stops { IsErrOf result LanesFault.Stops ↔ (setup.now.stops ≡ true) }
-    ensures bad_workers { IsErrOf result LanesFault.BadWorkers ↔ ((setup.now.stops ≡ false) × AreBadWorkers (length gates.items)) }
+    ensures bad_workers { IsErrOf result LanesFault.BadWorkers
+        ↔ ((setup.now.stops ≡ false) × AreBadWorkers (length gates.items)) }
 {
     check_ends(setup, gates.len())?;
     match open_inner(alloc, setup, gates) {
@@ -59,11 +64,14 @@ pub fn lanes<G: Gate>(
     setup: &Setup,
     gates: Vec<G>,
 ) -> Result<(AppEnd<AppLanes>, Kernel<KernelLanes>, Vec<Worker<G>>), LanesFault>
-    ensures ok { IfOk result (λ ends. (numbers : List ℕ) × AreEnds setup.now (length gates.items) numbers ends.0 ends.1 ends.2.items) }
+    ensures ok { IfOk result
+        (λ ends. (numbers : List ℕ)
+        × AreEnds setup.now (length gates.items) numbers ends.0 ends.1 ends.2.items) }
     // No dropped word lies between them.
     ensures dropped { IfOk result (λ ends. (ends.0.dropped ≡ None) × (ends.1.dropped ≡ None)) }
     ensures stops { IsErrOf result LanesFault.Stops ↔ (setup.now.stops ≡ true) }
-    ensures bad_workers { IsErrOf result LanesFault.BadWorkers ↔ ((setup.now.stops ≡ false) × AreBadWorkers (length gates.items)) }
+    ensures bad_workers { IsErrOf result LanesFault.BadWorkers
+        ↔ ((setup.now.stops ≡ false) × AreBadWorkers (length gates.items)) }
 {
     check_ends(setup, gates.len())?;
     let Ok((app, kernel)) = lane_ports(alloc, setup) else {
@@ -80,11 +88,15 @@ pub fn words<G: Gate>(
     setup: &Setup,
     gates: Vec<G>,
 ) -> Result<(AppEnd<AppWords>, Kernel<KernelWords>, Vec<Worker<G>>), LanesFault>
-    ensures ok { IfOk result (λ ends. (numbers : List ℕ) × AreEnds setup.now (length gates.items) numbers ends.0 ends.1 ends.2.items) }
+    ensures ok { IfOk result
+        (λ ends. (numbers : List ℕ)
+        × AreEnds setup.now (length gates.items) numbers ends.0 ends.1 ends.2.items) }
     // No dropped word was stored or loaded.
-    ensures dropped { IfOk result (λ ends. (ends.0.dropped ≡ Some []) × (ends.1.dropped ≡ Some [])) }
+    ensures dropped { IfOk result
+        (λ ends. (ends.0.dropped ≡ Some []) × (ends.1.dropped ≡ Some [])) }
     ensures stops { IsErrOf result LanesFault.Stops ↔ (setup.now.stops ≡ true) }
-    ensures bad_workers { IsErrOf result LanesFault.BadWorkers ↔ ((setup.now.stops ≡ false) × AreBadWorkers (length gates.items)) }
+    ensures bad_workers { IsErrOf result LanesFault.BadWorkers
+        ↔ ((setup.now.stops ≡ false) × AreBadWorkers (length gates.items)) }
 {
     check_ends(setup, gates.len())?;
     let Ok((app, kernel)) = word_ports(alloc, setup) else {
@@ -97,7 +109,8 @@ pub fn words<G: Gate>(
 pub fn check_ends(setup: &Setup, count: usize) -> Result<(), LanesFault>
     ensures ok { OnOk result ((setup.now.stops ≡ false) × (0 < count) × (count ≤ 8)) }
     ensures stops { IsErrOf result LanesFault.Stops ↔ (setup.now.stops ≡ true) }
-    ensures bad_workers { IsErrOf result LanesFault.BadWorkers ↔ ((setup.now.stops ≡ false) × AreBadWorkers count) }
+    ensures bad_workers { IsErrOf result LanesFault.BadWorkers
+        ↔ ((setup.now.stops ≡ false) × AreBadWorkers count) }
     ensures no_memory { IsErrOf result LanesFault.NoMemory → ⊥ }
 {
     if setup.stops() {
@@ -141,7 +154,8 @@ fn open_inner<G: Gate>(alloc: Global, setup: &Setup, gates: Vec<G>) -> Result<In
     ensures setup { IfOk result (λ inner. inner.kept.setup ≡ setup.now) }
     ensures items { IfOk result (λ inner. setup.now.sq ≤ vec_capacity inner.items) }
     ensures many { IfOk result (λ inner. length inner.lanes.items ≡ length gates.items) }
-    ensures opened { IfOk result (λ inner. AreOpened setup.now.files inner.lanes.items inner.workers.items) }
+    ensures opened { IfOk result
+        (λ inner. AreOpened setup.now.files inner.lanes.items inner.workers.items) }
 {
     let (lanes, workers) = open_all(alloc, setup.files(), gates)?;
     let Ok((kept, items)) = open_trace(alloc, setup) else {
@@ -167,10 +181,14 @@ fn join_ends<K: KernelPort, G: Gate>(
     requires few { length inner.lanes.items ≤ 8 }
     requires opened { AreOpened inner.kept.setup.files inner.lanes.items inner.workers.items }
     requires pairing { K.pairing kernel ≡ K.App.pairing app }
-    requires app { (K.App.sizes app ≡ sizes_of inner.kept.setup) × (K.App.put app ≡ nothing_put) × (K.App.got app ≡ []) }
-    requires kernel { (K.sizes kernel ≡ sizes_of inner.kept.setup) × (K.pulled kernel ≡ nothing_put) × (K.delivered kernel ≡ []) }
-    ensures ends { AreEnds inner.kept.setup (length inner.lanes.items) (K.pairing kernel) result.0 result.1 result.2.items }
-    ensures dropped { (result.0.dropped ≡ K.App.dropped app) × (result.1.dropped ≡ K.dropped kernel) }
+    requires app { (K.App.sizes app ≡ sizes_of inner.kept.setup) × (K.App.put app ≡ nothing_put)
+        × (K.App.got app ≡ []) }
+    requires kernel { (K.sizes kernel ≡ sizes_of inner.kept.setup) × (K.pulled kernel ≡ nothing_put)
+        × (K.delivered kernel ≡ []) }
+    ensures ends { AreEnds inner.kept.setup (length inner.lanes.items)
+        (K.pairing kernel) result.0 result.1 result.2.items }
+    ensures dropped { (result.0.dropped ≡ K.App.dropped app)
+        × (result.1.dropped ≡ K.dropped kernel) }
 {
     let Inner {
         kept,

@@ -45,7 +45,8 @@ impl<G: Gate> Model for Report<G> {
 
     ghost view = { λ r. record { setup = r.kept.setup; trace = r.kept.trace; unsent = r.unsent.items; undelivered = r.undelivered.items; waiting = r.waiting.items } };
 
-    ghost invariant = { λ r. AreSettled r.kept r.workers.items × HaveFiles r.kept.setup.files r.workers.items × (length r.workers.items ≤ 8) };
+    ghost invariant = { λ r. AreSettled r.kept r.workers.items
+        × HaveFiles r.kept.setup.files r.workers.items × (length r.workers.items ≤ 8) };
 }
 
 impl<G: Gate> Report<G> {
@@ -63,13 +64,15 @@ impl<G: Gate> Report<G> {
         requires carried { HaveCarried kept lanes.items }
         requires room { length kept.trace + 64 * length lanes.items ≤ kept.room }
         requires empty { waiting.items ≡ [] }
-        requires list { length (unreaped (now kept).completions) + 64 * length lanes.items ≤ vec_capacity waiting }
+        requires list { length (unreaped (now kept).completions) + 64 * length lanes.items
+            ≤ vec_capacity waiting }
         ensures setup { result.setup ≡ kept.setup }
         ensures trace { FinishesAll kept.trace lanes.items workers.items result }
         ensures lawful { IsLawful result.setup (history_of result.trace) }
         ensures running { LeavesRunning lanes.items workers.items result }
         ensures posted { ReapsPosted result }
-        ensures rests { (result.unsent ≡ rests.unsent.items) × (result.undelivered ≡ rests.undelivered.items) }
+        ensures rests { (result.unsent ≡ rests.unsent.items)
+            × (result.undelivered ≡ rests.undelivered.items) }
     {
         let mut kept = kept;
         let mut lanes = lanes;
@@ -167,7 +170,8 @@ pub(crate) fn room_to_settle(
     ensures unmoved { IsUnmoved kept.old kept.new }
     ensures room { OnOk result (length kept.old.trace + results ≤ kept.new.room) }
     ensures empty { IfOk result (λ list. list.items ≡ []) }
-    ensures list { IfOk result (λ list. length (unreaped (now kept.old).completions) + results ≤ vec_capacity list) }
+    ensures list { IfOk result
+        (λ list. length (unreaped (now kept.old).completions) + results ≤ vec_capacity list) }
 {
     kept.reserve(results)?;
     list_for_waiting(alloc, kept, results)
@@ -176,7 +180,8 @@ pub(crate) fn room_to_settle(
 /// An empty list with room for all completions that were posted and not reaped, and for so many more.
 fn list_for_waiting(alloc: Global, kept: &Kept, more: usize) -> Result<Vec<Cqe>, AllocError>
     ensures empty { IfOk result (λ list. list.items ≡ []) }
-    ensures room { IfOk result (λ list. length (unreaped (now kept.now).completions) + more ≤ vec_capacity list) }
+    ensures room { IfOk result
+        (λ list. length (unreaped (now kept.now).completions) + more ≤ vec_capacity list) }
 {
     let counts = kept.counts();
     Vec::with_capacity(
@@ -189,7 +194,8 @@ fn list_for_waiting(alloc: Global, kept: &Kept, more: usize) -> Result<Vec<Cqe>,
 fn list_unreaped(kept: &Kept, list: &mut Vec<Cqe>)
     requires empty { list.old.items ≡ [] }
     requires room { length (unreaped (now kept.now).completions) ≤ vec_capacity list.old }
-    ensures { (now kept.now).completions.reaped ++ list.new.items ≡ (now kept.now).completions.posted }
+    ensures { (now kept.now).completions.reaped ++ list.new.items
+        ≡ (now kept.now).completions.posted }
 {
     kept.is_lawful();
     reaped_begin_posted();

@@ -10,7 +10,8 @@ use crate::work_lanes::WorkLanes;
 /// Whether each worker's lane for jobs shows room. The workers may make more at any time.
 pub fn all_show_room(lanes: &mut [WorkLanes]) -> bool
     ensures length { length lanes.new ≡ length lanes.old }
-    ensures looked { (k : ℕ) (d : WorkLanes) → k < length lanes.old → IsLookedAt (get_or lanes.old k d) (get_or lanes.new k d) }
+    ensures looked { (k : ℕ) (d : WorkLanes) → k < length lanes.old
+        → IsLookedAt (get_or lanes.old k d) (get_or lanes.new k d) }
     ensures room { MatchBool result (ShowRoom lanes.new) (SomeIsFull lanes.new) }
 {
     for k in 0..lanes.len() {
@@ -27,8 +28,10 @@ pub fn send(lanes: &mut [WorkLanes], place: u32, job: Job)
     requires room { ShowRoom lanes.old }
     requires asks { IsForFiles job.op }
     ensures length { length lanes.new ≡ length lanes.old }
-    ensures here { (d : WorkLanes) → IsSent job (get_or lanes.old place d) (get_or lanes.new place d) }
-    ensures others { (k : ℕ) (d : WorkLanes) → k < length lanes.old → k ≢ place → get_or lanes.new k d ≡ get_or lanes.old k d }
+    ensures here { (d : WorkLanes)
+        → IsSent job (get_or lanes.old place d) (get_or lanes.new place d) }
+    ensures others { (k : ℕ) (d : WorkLanes) → k < length lanes.old → k ≢ place
+        → get_or lanes.new k d ≡ get_or lanes.old k d }
 {
     lanes[place as usize].jobs.push_reserved(job);
 }

@@ -32,7 +32,8 @@ pub fn settle<K: KernelPort, G: Gate>(
     requires { AreTogether app kernel workers.items }
     // The trace is the dispatcher's, and then a Finish for each result that waited; over the same set-up it is lawful.
     ensures setup { IfOk result (λ report. report.setup ≡ kernel.kept.setup) }
-    ensures trace { IfOk result (λ report. FinishesAll kernel.kept.trace kernel.lanes workers.items report) }
+    ensures trace { IfOk result
+        (λ report. FinishesAll kernel.kept.trace kernel.lanes workers.items report) }
     ensures lawful { IfOk result (λ report. IsLawful report.setup (history_of report.trace)) }
     // The requests that it leaves running are those whose jobs were sent and taken by no worker.
     ensures running { IfOk result (λ report. LeavesRunning kernel.lanes workers.items report) }

@@ -43,13 +43,18 @@ pub fn settle_worker<G: Gate>(kept: &mut Kept, lanes: &mut WorkLanes, worker: &m
     requires room { length kept.old.trace + consumer_capacity lanes.old.results ≤ kept.old.room }
     requires carried { (workers : ℕ) × (k : ℕ) × HasCarried kept.old workers k lanes.old }
     // A Finish for each result that waited, and no more.
-    ensures trace { (waiting : List JobResult) × (results_of worker.old.done ≡ received lanes.old.results ++ waiting) × TakesAll kept.old kept.new waiting }
-    ensures few { length kept.new.trace ≤ length kept.old.trace + consumer_capacity lanes.old.results }
+    ensures trace { (waiting : List JobResult)
+        × (results_of worker.old.done ≡ received lanes.old.results ++ waiting)
+        × TakesAll kept.old kept.new waiting }
+    ensures few { length kept.new.trace
+        ≤ length kept.old.trace + consumer_capacity lanes.old.results }
     // Whichever worker it is.
-    ensures settled { (workers k : ℕ) → HasCarried kept.old workers k lanes.old → IsSettledAt kept.old kept.new workers k lanes.new worker.old.done worker.new.seen }
+    ensures settled { (workers k : ℕ) → HasCarried kept.old workers k lanes.old
+        → IsSettledAt kept.old kept.new workers k lanes.new worker.old.done worker.new.seen }
     ensures worker { Looks worker.old worker.new }
     ensures right { IsRight worker.new }
-    ensures pairing { pairing_of lanes.new.jobs lanes.new.results ≡ pairing_of lanes.old.jobs lanes.old.results }
+    ensures pairing { pairing_of lanes.new.jobs lanes.new.results
+        ≡ pairing_of lanes.old.jobs lanes.old.results }
 {
     worker.see_all(lanes);
     worker.is_right();

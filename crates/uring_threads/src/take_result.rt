@@ -18,15 +18,23 @@ pub fn take_result(
     outcome: Outcome,
 ) -> Result<Answer, AllocError>
     ensures setup { core.new.setup ≡ core.old.setup }
-    ensures recorded { IfOk result (λ a. trace.new.items ≡ trace.old.items ++ (step.Finish number, a) ∷ []) }
-    ensures fits { IfOk result (λ a. (h : History) → FitsApart core.old h → FitsApart core.new ((step.Finish number, a) ∷ h)) }
-    ensures outcome { IfOk result (λ a. (h : History) → FitsApart core.old h → IsFinished (world core.old.setup h) number outcome a) }
-    ensures not_running { IfOk result (λ a. a ≡ answer.NotRunning → (h : History) → FitsApart core.old h → FitsApart core.new h) }
+    ensures recorded { IfOk result
+        (λ a. trace.new.items ≡ trace.old.items ++ (step.Finish number, a) ∷ []) }
+    ensures fits { IfOk result
+        (λ a. (h : History) → FitsApart core.old h
+        → FitsApart core.new ((step.Finish number, a) ∷ h)) }
+    ensures outcome { IfOk result
+        (λ a. (h : History) → FitsApart core.old h
+        → IsFinished (world core.old.setup h) number outcome a) }
+    ensures not_running { IfOk result
+        (λ a. a ≡ answer.NotRunning → (h : History) → FitsApart core.old h → FitsApart core.new h) }
 
     // It fails only if the trace had no room for one event more.
     ensures room { vec_capacity trace.old ≤ vec_capacity trace.new }
     ensures succeeds { length trace.old.items < vec_capacity trace.old → IsOk result }
-    ensures err { OnErr result ((core.new ≡ core.old) × (trace.new.items ≡ trace.old.items) × (vec_capacity trace.new ≡ vec_capacity trace.old)) }
+    ensures err { OnErr result
+        ((core.new ≡ core.old) × (trace.new.items ≡ trace.old.items)
+        × (vec_capacity trace.new ≡ vec_capacity trace.old)) }
 {
     trace.reserve(1)?;
     let answer = core.finish(number, outcome);

@@ -48,23 +48,29 @@ pub fn make_turn<P: KernelPort>(
     requires items { kept.old.setup.sq ≤ vec_capacity items.old }
     requires some { 0 < length lanes.old }
     requires few { length lanes.old ≤ 8 }
-    requires ties { AreTies kept.old (P.pulled port.old) (P.delivered port.old) intake.old lanes.old }
-    ensures ties { AreTies kept.new (P.pulled port.new) (P.delivered port.new) intake.new lanes.new }
+    requires ties { AreTies kept.old (P.pulled port.old)
+        (P.delivered port.old) intake.old lanes.old }
+    ensures ties { AreTies kept.new (P.pulled port.new)
+        (P.delivered port.new) intake.new lanes.new }
     ensures counts { IfOk result (λ turn. Counts kept.old kept.new turn) }
     ensures begun { OnOk result (awaits_memory intake.new ≡ false) }
 
     // No request is left that can be issued, but where some worker's lane shows no room.
-    ensures none_left { IfOk result (λ turn. (next_of (now kept.new).requests ≡ None) ⊎ SomeIsFull lanes.new) }
+    ensures none_left { IfOk result
+        (λ turn. (next_of (now kept.new).requests ≡ None) ⊎ SomeIsFull lanes.new) }
 
     // As long as no more was posted than the completion ring holds, all of it is reaped.
-    ensures all { IfOk result (λ turn. length (now kept.new).completions.posted ≤ kept.old.setup.cq → length (P.delivered port.new) ≡ length (now kept.new).completions.posted) }
+    ensures all { IfOk result
+        (λ turn. length (now kept.new).completions.posted ≤ kept.old.setup.cq
+        → length (P.delivered port.new) ≡ length (now kept.new).completions.posted) }
     ensures err { OnErr result ((t : Tally) × Appends kept.old kept.new t) }
 
     // Of each worker at most 64 results are taken in, also if memory was refused.
     ensures few_results { TakesFewResults (length lanes.old) kept.old kept.new }
 
     // The dropped word is stored, of the trace as it is then, exactly if the turn returns Ok.
-    ensures stored { OnOk result (P.dropped port.new ≡ with_word (P.dropped port.old) (dropped (now kept.new).submission)) }
+    ensures stored { OnOk result
+        (P.dropped port.new ≡ with_word (P.dropped port.old) (dropped (now kept.new).submission)) }
     ensures not_stored { OnErr result (P.dropped port.new ≡ P.dropped port.old) }
 
     // Nothing else changes.
@@ -95,7 +101,8 @@ fn tell_dropped<P: KernelPort>(
 ) -> Result<Turn, AllocError>
     ensures turn { IfOk result (λ made. made ≡ turn) }
     ensures begun { OnOk result (awaits_memory intake.now ≡ false) }
-    ensures stored { OnOk result (P.dropped port.new ≡ with_word (P.dropped port.old) (dropped (now kept.now).submission)) }
+    ensures stored { OnOk result
+        (P.dropped port.new ≡ with_word (P.dropped port.old) (dropped (now kept.now).submission)) }
     ensures not_stored { OnErr result (P.dropped port.new ≡ P.dropped port.old) }
 
     // Nothing else of the port changes.

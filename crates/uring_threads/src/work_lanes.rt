@@ -29,10 +29,15 @@ pub fn open_lanes<G: Gate>(
     files: u32,
     gate: G,
 ) -> Result<(WorkLanes, Worker<G>), AllocError>
-    ensures jobs { IfOk result (λ r. (sent r.0.jobs ≡ []) × (known_free r.0.jobs ≡ 64) × (producer_capacity r.0.jobs ≡ 64)) }
-    ensures results { IfOk result (λ r. (received r.0.results ≡ []) × (known_items r.0.results ≡ []) × (consumer_capacity r.0.results ≡ 64)) }
+    ensures jobs { IfOk result
+        (λ r. (sent r.0.jobs ≡ []) × (known_free r.0.jobs ≡ 64)
+        × (producer_capacity r.0.jobs ≡ 64)) }
+    ensures results { IfOk result
+        (λ r. (received r.0.results ≡ []) × (known_items r.0.results ≡ [])
+        × (consumer_capacity r.0.results ≡ 64)) }
     ensures pairing { IfOk result (λ r. r.1.pairing ≡ pairing_of r.0.jobs r.0.results) }
-    ensures worker { IfOk result (λ r. (r.1.place ≡ place) × (r.1.done ≡ []) × (r.1.files ≡ empty_files files)) }
+    ensures worker { IfOk result
+        (λ r. (r.1.place ≡ place) × (r.1.done ≡ []) × (r.1.files ≡ empty_files files)) }
 {
     let (jobs, to_do) = RingBuffer::with_protocol::<Global, ForFiles>(alloc, LANE_LENGTH)?;
     let (done, results) = RingBuffer::new(alloc, LANE_LENGTH)?;

@@ -118,9 +118,12 @@ impl<G: Gate> Worker<G> {
         requires { self.old.pairing ≡ pairing_of lanes.old.jobs lanes.old.results }
         ensures worker { Looks self.old self.new }
         ensures jobs { jobs_of self.new.done ++ self.new.seen ≡ sent lanes.new.jobs }
-        ensures results { received lanes.new.results ++ known_items lanes.new.results ≡ results_of self.new.done }
-        ensures dispatcher { (sent lanes.new.jobs ≡ sent lanes.old.jobs) × (received lanes.new.results ≡ received lanes.old.results) }
-        ensures pairing { pairing_of lanes.new.jobs lanes.new.results ≡ pairing_of lanes.old.jobs lanes.old.results }
+        ensures results { received lanes.new.results ++ known_items lanes.new.results
+            ≡ results_of self.new.done }
+        ensures dispatcher { (sent lanes.new.jobs ≡ sent lanes.old.jobs)
+            × (received lanes.new.results ≡ received lanes.old.results) }
+        ensures pairing { pairing_of lanes.new.jobs lanes.new.results
+            ≡ pairing_of lanes.old.jobs lanes.old.results }
     {
         self.jobs.slots_beside(&mut lanes.jobs);
         lanes.results.slots_beside(&mut self.results);

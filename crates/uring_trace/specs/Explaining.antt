@@ -23,7 +23,8 @@ use Rattle.uring_trace.specs.Explanations.{Said, Saying, IsSaid, event_in, lines
 pub record AppendsLine (old new : Machine) (number : ℕ) (was_bad bad : Bool) (line before after noted_before noted_after : List ℕ) : Type 0 where
   pub said : Said
   pub read : IsSaid line said
-  pub told : (h : History) → Fits old h → after ≡ before ++ told_of old.core.setup (world old.core.setup h) said
+  pub told : (h : History) → Fits old h
+      → after ≡ before ++ told_of old.core.setup (world old.core.setup h) said
   pub noted : noted_after ≡ noted_before ++ noted_of number said
   pub bad_line : bad ≡ (was_bad || is_bad said)
   pub same : new.core.setup ≡ old.core.setup
@@ -32,23 +33,30 @@ pub record AppendsLine (old new : Machine) (number : ℕ) (was_bad bad : Bool) (
 -- A step was made, and its answer with the reason is appended as a line.
 pub record TellsStep (old new : Machine) (step : Step) (before after : List ℕ) : Type 0 where
   pub answer : Answer
-  pub told : (h : History) → Fits old h → after ≡ before ++ ended (text_of answer ++ reason_text (reason_of (world old.core.setup h) step answer))
+  pub told : (h : History) → Fits old h
+      → after
+      ≡ before ++ ended (text_of answer ++ reason_text (reason_of (world old.core.setup h) step answer))
   pub same : new.core.setup ≡ old.core.setup
   pub fits : (h : History) → Fits old h → Fits new ((step, answer) ∷ h)
 
 -- What a question asks for is appended as a line.
 abbrev pub TellsShown : Machine → Question → List ℕ → List ℕ → Type 0
-TellsShown m question before after = (h : History) → Fits m h → after ≡ before ++ ended (shown m.core.setup (world m.core.setup h) question)
+TellsShown m question before after = (h : History) → Fits m h
+    → after ≡ before ++ ended (shown m.core.setup (world m.core.setup h) question)
 
 -- What a write of two texts did: at `Ok` it appended both, and else together less, each from its beginning on.
 abbrev pub WritesTexts : Result (Unit {0}) TraceFault → List ℕ → List ℕ → List ℕ → List ℕ → Type 0
 WritesTexts (Ok done) text notes written noted = (written ≡ text) × (noted ≡ notes)
 WritesTexts (Err e) text notes written noted =
-    (e ≡ fault.Write) × (more : List ℕ) × (more_notes : List ℕ) × (0 < length more + length more_notes) × (text ≡ written ++ more) × (notes ≡ noted ++ more_notes)
+    (e ≡ fault.Write) × (more : List ℕ) × (more_notes : List ℕ)
+    × (0 < length more + length more_notes) × (text ≡ written ++ more)
+    × (notes ≡ noted ++ more_notes)
 
 -- what was written to the two streams, and that it is so much of these texts
-abbrev pub WritesPair : Option (List ℕ) → Option (List ℕ) → Option (List ℕ) → Option (List ℕ) → Result (Unit {0}) TraceFault → List ℕ → List ℕ → Type 0
-WritesPair w w' e e' result text notes = (written : List ℕ) × (noted : List ℕ) × Appends w w' written × Appends e e' noted × WritesTexts result text notes written noted
+abbrev pub WritesPair : Option (List ℕ) → Option (List ℕ) → Option (List ℕ) → Option (List ℕ)
+    → Result (Unit {0}) TraceFault → List ℕ → List ℕ → Type 0
+WritesPair w w' e e' result text notes = (written : List ℕ) × (noted : List ℕ)
+    × Appends w w' written × Appends e e' noted × WritesTexts result text notes written noted
 
 -- The explainer's invariant, over its fields: these bytes have been taken in, text and notes are what was told and noted so far, and `kept` is what is kept of the unfinished line, which has this number.
 pub record Explaining (setup : Setup) (machine : Machine) (kept : KeptLine) (number : ℕ) (bad : Bool) (bytes text notes : List ℕ) : Type 0 where
@@ -64,17 +72,22 @@ pub record Explaining (setup : Setup) (machine : Machine) (kept : KeptLine) (num
 
 -- The explainer has taken in these bytes, and told and noted this so far.
 abbrev pub HasTold : Setup → Explainer → List ℕ → List ℕ → List ℕ → Type 0
-HasTold setup s bytes text notes = Explaining setup s.machine s.line s.number s.has_bad bytes text notes
+HasTold setup s bytes text notes =
+    Explaining setup s.machine s.line s.number s.has_bad bytes text notes
 
 -- The explainer has taken in these bytes to their end, and its machine is as the steps in them left it.
 abbrev pub HasEnded : Setup → Explainer → List ℕ → List ℕ → List ℕ → Type 0
-HasEnded setup s bytes text notes = (whole : ExplainsWhole setup s.has_bad bytes text notes) × (s.machine.core.setup ≡ setup) × Fits s.machine (history_of (events_in whole.0))
+HasEnded setup s bytes text notes = (whole : ExplainsWhole setup s.has_bad bytes text notes)
+    × (s.machine.core.setup ≡ setup) × Fits s.machine (history_of (events_in whole.0))
 
 -- These bytes were to be taken in, and this is what has been written: all that was told and noted so far, or what a fault allows.
-abbrev pub TookBoth : Setup → Result (Unit {0}) TraceFault → Explainer → List ℕ → List ℕ → List ℕ → Type 0
+abbrev pub TookBoth : Setup → Result (Unit {0}) TraceFault → Explainer → List ℕ → List ℕ → List ℕ
+    → Type 0
 TookBoth setup (Ok done) s bytes text notes = HasTold setup s bytes text notes
 TookBoth setup (Err e) s bytes text notes = WritesBoth setup (Err e) bytes text notes
 
 -- what was written to the two streams for the bytes that were given, behind what was told and noted before
-abbrev pub WroteBoth : Option (List ℕ) → Option (List ℕ) → Option (List ℕ) → Option (List ℕ) → List ℕ → List ℕ → (List ℕ → List ℕ → Type 0) → Type 0
-WroteBoth w w' e e' told noted P = (written : List ℕ) × (more_notes : List ℕ) × Appends w w' written × Appends e e' more_notes × P (told ++ written) (noted ++ more_notes)
+abbrev pub WroteBoth : Option (List ℕ) → Option (List ℕ) → Option (List ℕ) → Option (List ℕ)
+    → List ℕ → List ℕ → (List ℕ → List ℕ → Type 0) → Type 0
+WroteBoth w w' e e' told noted P = (written : List ℕ) × (more_notes : List ℕ) × Appends w w' written
+    × Appends e e' more_notes × P (told ++ written) (noted ++ more_notes)

@@ -80,7 +80,8 @@ line_number before = min (before + 1) (2 ^ 64 - 1)
 
 abbrev pub explained : Setup → List Saying → List ℕ
 explained g [] = []
-explained g (x ∷ before) = explained g before ++ told_of g (world g (history_of (events_in before))) x.said
+explained g (x ∷ before) =
+    explained g before ++ told_of g (world g (history_of (events_in before))) x.said
 
 abbrev pub notes_of : List Saying → List ℕ
 notes_of [] = []
@@ -102,19 +103,24 @@ pub record Explains (setup : Setup) (xs : List Saying) (text notes : List ℕ) :
 
 -- text and notes explain every line of the bytes, of which the last may lack its end; and whether some line is bad
 abbrev pub ExplainsWhole : Setup → Bool → List ℕ → List ℕ → List ℕ → Type 0
-ExplainsWhole setup bad bytes text notes = (xs : List Saying) × (lines : List (List ℕ)) × (rest : List ℕ) × Explains setup xs text notes × Splits bytes lines rest × (lines_in xs ≡ with_last lines rest) × (bad ≡ list_any (λ x. is_bad x.said) xs)
+ExplainsWhole setup bad bytes text notes = (xs : List Saying) × (lines : List (List ℕ))
+    × (rest : List ℕ) × Explains setup xs text notes × Splits bytes lines rest
+    × (lines_in xs ≡ with_last lines rest) × (bad ≡ list_any (λ x. is_bad x.said) xs)
 
 -- text and notes explain every line of the bytes that has its end
 abbrev pub ExplainsEnded : Setup → List ℕ → List ℕ → List ℕ → Type 0
-ExplainsEnded setup bytes text notes = (xs : List Saying) × (rest : List ℕ) × Explains setup xs text notes × Splits bytes (lines_in xs) rest
+ExplainsEnded setup bytes text notes = (xs : List Saying) × (rest : List ℕ)
+    × Explains setup xs text notes × Splits bytes (lines_in xs) rest
 
 -- text and notes explain the first lines of the bytes
 abbrev pub ExplainsBeginning : Setup → List ℕ → List ℕ → List ℕ → Type 0
-ExplainsBeginning setup bytes text notes = (first : List ℕ) × (after : List ℕ) × (xs : List Saying) × Explains setup xs text notes × Splits first (lines_in xs) [] × (bytes ≡ first ++ after)
+ExplainsBeginning setup bytes text notes = (first : List ℕ) × (after : List ℕ) × (xs : List Saying)
+    × Explains setup xs text notes × Splits first (lines_in xs) [] × (bytes ≡ first ++ after)
 
 -- text and notes together lack something of what explains lines of the bytes
 abbrev pub ExplainsLess : Setup → List ℕ → List ℕ → List ℕ → Type 0
-ExplainsLess setup bytes text notes = (more : List ℕ) × (more_notes : List ℕ) × (0 < length more + length more_notes)
+ExplainsLess setup bytes text notes =
+    (more : List ℕ) × (more_notes : List ℕ) × (0 < length more + length more_notes)
     × (ExplainsBeginning setup bytes (text ++ more) (notes ++ more_notes) ⊎ ((bad : Bool) × ExplainsWhole setup bad bytes (text ++ more) (notes ++ more_notes)))
 
 -- what is written, by what explain returns

@@ -11,7 +11,8 @@ use Rattle.uring_text.specs.Reading.{number_of, form_of}
 
 -- the step of a slot and of what a reader answers of an entry's tokens
 abbrev pub ReadsFill : Option Step → Option ℕ → Option Form → Type 0
-ReadsFill read (Some slot) (Some f) = (entry : Sqe) × (read ≡ Some (step.Fill slot entry)) × IsEntryOf f entry
+ReadsFill read (Some slot) (Some f) =
+    (entry : Sqe) × (read ≡ Some (step.Fill slot entry)) × IsEntryOf f entry
 ReadsFill read _ _ = read ≡ None
 
 -- the step of one token

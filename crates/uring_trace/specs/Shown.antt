@@ -31,7 +31,8 @@ counts_text c =
 
 -- the sizes after rounding, how many files there are, and the word at which the rings begin
 abbrev pub sizes_text : Setup → List ℕ
-sizes_text g = codes "sq " ++ decimal g.sq ++ codes " cq " ++ decimal g.cq ++ codes " files " ++ decimal g.files ++ codes " start " ++ decimal g.start
+sizes_text g =
+    codes "sq " ++ decimal g.sq ++ codes " cq " ++ decimal g.cq ++ codes " files " ++ decimal g.files ++ codes " start " ++ decimal g.start
 
 -- the completions that wait in the overflow list: all that were posted and not put into the ring. io_uring_setup(2), IORING_FEAT_NODROP
 abbrev pub overflow_of : Completions → List Cqe
@@ -49,11 +50,13 @@ list_text (c ∷ completions) = listed_text (Some c) ++ list_text completions
 
 -- how many completions wait, and which, the oldest first
 abbrev pub overflow_text : List Cqe → List ℕ
-overflow_text completions = codes "overflow " ++ decimal (length completions) ++ list_text completions
+overflow_text completions =
+    codes "overflow " ++ decimal (length completions) ++ list_text completions
 
 -- a file's length in bytes, how many of its writes succeeded, and how many of these its last sync made safe; or that there is none
 abbrev pub file_text : Option FileState → List ℕ
-file_text (Some state) = codes "len " ++ decimal state.len ++ codes " writes " ++ decimal state.writes ++ codes " synced " ++ decimal state.synced
+file_text (Some state) =
+    codes "len " ++ decimal state.len ++ codes " writes " ++ decimal state.writes ++ codes " synced " ++ decimal state.synced
 file_text None = codes "no file"
 
 -- what is answered

@@ -8,15 +8,18 @@ use Rattle.uring_text.specs.Spelling.{SpellsEntry}
 
 -- The tokens spell the step.
 abbrev pub Spells : List (List ℕ) → Step → Type 0
-Spells tokens (step.Fill slot entry) = (rest : List (List ℕ)) × (tokens ≡ codes "fill" ∷ decimal slot ∷ rest) × (slot < 2 ^ 32) × SpellsEntry rest entry
+Spells tokens (step.Fill slot entry) = (rest : List (List ℕ))
+    × (tokens ≡ codes "fill" ∷ decimal slot ∷ rest) × (slot < 2 ^ 32) × SpellsEntry rest entry
 Spells tokens (step.Index word) = (tokens ≡ codes "index" ∷ decimal word ∷ []) × (word < 2 ^ 32)
 Spells tokens step.StoreTail = tokens ≡ codes "tail" ∷ []
 Spells tokens step.LoadHead = tokens ≡ codes "head" ∷ []
 Spells tokens (step.Begin count) = (tokens ≡ codes "begin" ∷ decimal count ∷ []) × (count < 2 ^ 32)
 Spells tokens step.Take = tokens ≡ codes "take" ∷ []
 Spells tokens step.End = tokens ≡ codes "end" ∷ []
-Spells tokens (step.Issue number) = (tokens ≡ codes "issue" ∷ decimal number ∷ []) × (number < 2 ^ 64)
-Spells tokens (step.Finish number) = (tokens ≡ codes "finish" ∷ decimal number ∷ []) × (number < 2 ^ 64)
+Spells tokens (step.Issue number) =
+    (tokens ≡ codes "issue" ∷ decimal number ∷ []) × (number < 2 ^ 64)
+Spells tokens (step.Finish number) =
+    (tokens ≡ codes "finish" ∷ decimal number ∷ []) × (number < 2 ^ 64)
 Spells tokens step.Flush = tokens ≡ codes "flush" ∷ []
 Spells tokens step.LoadCqTail = tokens ≡ codes "cqtail" ∷ []
 Spells tokens step.Reap = tokens ≡ codes "reap" ∷ []

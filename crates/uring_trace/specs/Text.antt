@@ -28,7 +28,8 @@ text_of (answer.Entry entry) = entry_text entry
 text_of answer.Dropped = codes "dropped"
 text_of answer.NoMore = codes "no more"
 text_of answer.NoCall = codes "no call"
-text_of (answer.Taken accepted dropped head) = codes "taken " ++ decimal accepted ++ codes " dropped " ++ decimal dropped ++ codes " head " ++ decimal head
+text_of (answer.Taken accepted dropped head) =
+    codes "taken " ++ decimal accepted ++ codes " dropped " ++ decimal dropped ++ codes " head " ++ decimal head
 text_of answer.NotAll = codes "not all"
 text_of answer.Run = codes "run"
 text_of (answer.Ended res bytes) = codes "ended " ++ signed_decimal res

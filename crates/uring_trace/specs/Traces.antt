@@ -8,19 +8,23 @@ use Rattle.uring_trace.specs.Exchanges.{Exchange, Manner, Answers, lines_of}
 
 -- the text answers every line of the bytes, of which the last may lack its end
 abbrev pub IsWhole : Manner → List ℕ → List ℕ → Type 0
-IsWhole manner bytes text = (xs : List Exchange) × (lines : List (List ℕ)) × (rest : List ℕ) × Answers manner xs text × Splits bytes lines rest × (lines_of xs ≡ with_last lines rest)
+IsWhole manner bytes text = (xs : List Exchange) × (lines : List (List ℕ)) × (rest : List ℕ)
+    × Answers manner xs text × Splits bytes lines rest × (lines_of xs ≡ with_last lines rest)
 
 -- the text answers every line of the bytes that has its end
 abbrev pub IsEnded : Manner → List ℕ → List ℕ → Type 0
-IsEnded manner bytes text = (xs : List Exchange) × (rest : List ℕ) × Answers manner xs text × Splits bytes (lines_of xs) rest
+IsEnded manner bytes text = (xs : List Exchange) × (rest : List ℕ) × Answers manner xs text
+    × Splits bytes (lines_of xs) rest
 
 -- the text answers the first lines of the bytes
 abbrev pub IsBeginning : Manner → List ℕ → List ℕ → Type 0
-IsBeginning manner bytes text = (first : List ℕ) × (after : List ℕ) × (xs : List Exchange) × Answers manner xs text × Splits first (lines_of xs) [] × (bytes ≡ first ++ after)
+IsBeginning manner bytes text = (first : List ℕ) × (after : List ℕ) × (xs : List Exchange)
+    × Answers manner xs text × Splits first (lines_of xs) [] × (bytes ≡ first ++ after)
 
 -- the text lacks something of the answers to lines of the bytes
 abbrev pub IsCutShort : Manner → List ℕ → List ℕ → Type 0
-IsCutShort manner bytes text = (more : List ℕ) × (0 < length more) × (IsBeginning manner bytes (text ++ more) ⊎ IsWhole manner bytes (text ++ more))
+IsCutShort manner bytes text = (more : List ℕ) × (0 < length more)
+    × (IsBeginning manner bytes (text ++ more) ⊎ IsWhole manner bytes (text ++ more))
 
 -- what is written, by what the trace returns
 abbrev pub Writes : Manner → Result (Unit {0}) TraceFault → List ℕ → List ℕ → Type 0

@@ -50,7 +50,8 @@ pub fn push_answer(alloc: Global, text: &mut String, answer: &Answer) -> Result<
 
 /// Appends a word, which ends with a space, and a number.
 fn push_number(text: &mut String, word: &str, number: u64) -> Result<(), AllocError>
-    ensures { OnOk result (string_bytes text.new ≡ string_bytes text.old ++ word.now ++ decimal number) }
+    ensures { OnOk result
+        (string_bytes text.new ≡ string_bytes text.old ++ word.now ++ decimal number) }
 {
     text.push_str(word)?;
     write!(text, "{number}")
@@ -58,7 +59,9 @@ fn push_number(text: &mut String, word: &str, number: u64) -> Result<(), AllocEr
 
 /// Appends the end of a call: how many requests it accepted, how many entries it dropped, and the head after it.
 fn push_taken(text: &mut String, accepted: u32, dropped: u32, head: u32) -> Result<(), AllocError>
-    ensures { OnOk result (string_bytes text.new ≡ string_bytes text.old ++ text_of (answer.Taken accepted dropped head)) }
+    ensures { OnOk result
+        (string_bytes text.new
+        ≡ string_bytes text.old ++ text_of (answer.Taken accepted dropped head)) }
 {
     write!(text, "taken {accepted} dropped {dropped} head {head}")
 }

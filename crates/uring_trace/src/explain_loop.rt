@@ -26,7 +26,9 @@ pub fn explain<R: Read, W: Write, E: Write>(
     errors: &mut E,
     setup: &Setup,
 ) -> Result<bool, TraceFault>
-    ensures { IsExplained setup.now result (R.remaining reader.old) (R.remaining reader.new) (W.contents writer.old) (W.contents writer.new) (E.contents errors.old) (E.contents errors.new) }
+    ensures { IsExplained setup.now result (R.remaining reader.old) (R.remaining reader.new)
+        (W.contents writer.old) (W.contents writer.new) (E.contents errors.old)
+        (E.contents errors.new) }
 {
     let mut explainer = Explainer::new(alloc, setup)?;
     let explained = explain_all(alloc, &mut explainer, reader, writer, errors);
@@ -42,7 +44,10 @@ fn explain_all<R: Read, W: Write, E: Write>(
     writer: &mut W,
     errors: &mut E,
 ) -> Result<bool, TraceFault>
-    ensures { (setup : Setup) → HasTold setup explainer.old [] [] [] → IsExplained setup result (R.remaining reader.old) (R.remaining reader.new) (W.contents writer.old) (W.contents writer.new) (E.contents errors.old) (E.contents errors.new) }
+    ensures { (setup : Setup) → HasTold setup explainer.old [] [] []
+        → IsExplained setup result (R.remaining reader.old) (R.remaining reader.new)
+        (W.contents writer.old) (W.contents writer.new) (E.contents errors.old)
+        (E.contents errors.new) }
 {
     let mut reads = Calls::new();
     let mut writes = Calls::new();
@@ -73,7 +78,11 @@ fn explain_bytes<W: Write, E: Write>(
     errors: &mut E,
     writes: &mut Calls,
 ) -> Result<(), TraceFault>
-    ensures { (setup : Setup) (before told noted : List ℕ) → HasTold setup explainer.old before told noted → WroteBoth (W.contents writer.old) (W.contents writer.new) (E.contents errors.old) (E.contents errors.new) told noted (TookBoth setup result explainer.new (before ++ bytes.now)) }
+    ensures { (setup : Setup) (before told noted : List ℕ)
+        → HasTold setup explainer.old before told noted
+        → WroteBoth (W.contents writer.old) (W.contents writer.new) (E.contents errors.old)
+        (E.contents errors.new) told noted
+        (TookBoth setup result explainer.new (before ++ bytes.now)) }
 {
     let mut text = String::new(alloc);
     let mut notes = String::new(alloc);
@@ -89,7 +98,10 @@ fn explain_last<W: Write, E: Write>(
     errors: &mut E,
     writes: &mut Calls,
 ) -> Result<bool, TraceFault>
-    ensures { (setup : Setup) (before told noted : List ℕ) → HasTold setup explainer.old before told noted → WroteBoth (W.contents writer.old) (W.contents writer.new) (E.contents errors.old) (E.contents errors.new) told noted (WritesBoth setup result before) }
+    ensures { (setup : Setup) (before told noted : List ℕ)
+        → HasTold setup explainer.old before told noted
+        → WroteBoth (W.contents writer.old) (W.contents writer.new) (E.contents errors.old)
+        (E.contents errors.new) told noted (WritesBoth setup result before) }
 {
     let mut text = String::new(alloc);
     let mut notes = String::new(alloc);
@@ -106,7 +118,8 @@ fn write_both<W: Write, E: Write>(
     notes: &[u8],
     writes: &mut Calls,
 ) -> Result<(), TraceFault>
-    ensures { WritesPair (W.contents writer.old) (W.contents writer.new) (E.contents errors.old) (E.contents errors.new) result text.now notes.now }
+    ensures { WritesPair (W.contents writer.old) (W.contents writer.new) (E.contents errors.old)
+        (E.contents errors.new) result text.now notes.now }
 {
     write_all(writer, text, writes)?;
     write_all(errors, notes, writes)

@@ -68,7 +68,10 @@ impl Explainer {
         text: &mut String,
         notes: &mut String,
     ) -> Result<(), TraceFault>
-        ensures ok { OnOk result ((setup : Setup) (before told noted : List ℕ) → HasTold setup self.old before (told ++ string_bytes text.old) (noted ++ string_bytes notes.old) → HasTold setup self.new (before ++ bytes.now) (told ++ string_bytes text.new) (noted ++ string_bytes notes.new)) }
+        ensures ok { OnOk result
+            ((setup : Setup) (before told noted : List ℕ)
+            → HasTold setup self.old before (told ++ string_bytes text.old) (noted ++ string_bytes notes.old)
+            → HasTold setup self.new (before ++ bytes.now) (told ++ string_bytes text.new) (noted ++ string_bytes notes.new)) }
         ensures err { IfErr result (λ e. e ≡ TraceFault.Memory) }
     {
         for byte in bytes {
@@ -79,7 +82,10 @@ impl Explainer {
 
     /// Ends the input. Appends what is told and noted of the last line, if that line has some byte but no end.
     pub fn finish(&mut self, text: &mut String, notes: &mut String) -> Result<(), TraceFault>
-        ensures ok { OnOk result ((setup : Setup) (before told noted : List ℕ) → HasTold setup self.old before (told ++ string_bytes text.old) (noted ++ string_bytes notes.old) → HasEnded setup self.new before (told ++ string_bytes text.new) (noted ++ string_bytes notes.new)) }
+        ensures ok { OnOk result
+            ((setup : Setup) (before told noted : List ℕ)
+            → HasTold setup self.old before (told ++ string_bytes text.old) (noted ++ string_bytes notes.old)
+            → HasEnded setup self.new before (told ++ string_bytes text.new) (noted ++ string_bytes notes.new)) }
         ensures err { IfErr result (λ e. e ≡ TraceFault.Memory) }
     {
         if self.line.is_empty() {
@@ -90,7 +96,10 @@ impl Explainer {
 
     /// Takes in one byte, and appends what is told and noted of the line if the byte completes it.
     fn take(&mut self, byte: u8, text: &mut String, notes: &mut String) -> Result<(), TraceFault>
-        ensures ok { OnOk result ((setup : Setup) (before told noted : List ℕ) → HasTold setup self.old before (told ++ string_bytes text.old) (noted ++ string_bytes notes.old) → HasTold setup self.new (before ++ byte ∷ []) (told ++ string_bytes text.new) (noted ++ string_bytes notes.new)) }
+        ensures ok { OnOk result
+            ((setup : Setup) (before told noted : List ℕ)
+            → HasTold setup self.old before (told ++ string_bytes text.old) (noted ++ string_bytes notes.old)
+            → HasTold setup self.new (before ++ byte ∷ []) (told ++ string_bytes text.new) (noted ++ string_bytes notes.new)) }
         ensures err { IfErr result (λ e. e ≡ TraceFault.Memory) }
     {
         if byte == b'\n' {
@@ -104,14 +113,19 @@ impl Explainer {
     /// Takes in one byte of a line, which isn't its end.
     fn keep(&mut self, byte: u8)
         requires { byte ≢ 10 }
-        ensures { (setup : Setup) (before told noted : List ℕ) → HasTold setup self.old before told noted → HasTold setup self.new (before ++ byte ∷ []) told noted }
+        ensures { (setup : Setup) (before told noted : List ℕ)
+            → HasTold setup self.old before told noted
+            → HasTold setup self.new (before ++ byte ∷ []) told noted }
     {
         self.line.push(byte);
     }
 
     /// Appends what is told and noted of the line, and begins the next line.
     fn end_line(&mut self, text: &mut String, notes: &mut String) -> Result<(), AllocError>
-        ensures { OnOk result ((setup : Setup) (before told noted : List ℕ) → HasTold setup self.old before (told ++ string_bytes text.old) (noted ++ string_bytes notes.old) → HasTold setup self.new (before ++ 10 ∷ []) (told ++ string_bytes text.new) (noted ++ string_bytes notes.new)) }
+        ensures { OnOk result
+            ((setup : Setup) (before told noted : List ℕ)
+            → HasTold setup self.old before (told ++ string_bytes text.old) (noted ++ string_bytes notes.old)
+            → HasTold setup self.new (before ++ 10 ∷ []) (told ++ string_bytes text.new) (noted ++ string_bytes notes.new)) }
     {
         self.tell_line(text, notes)?;
         self.line.clear();
@@ -121,7 +135,9 @@ impl Explainer {
 
     /// Appends what is told and noted of the line, and makes the step that it is, if it is one.
     fn tell_line(&mut self, text: &mut String, notes: &mut String) -> Result<(), AllocError>
-        ensures told { OnOk result ((line : List ℕ) → self.old.line ≡ kept_of line → AppendsLine self.old.machine self.new.machine self.old.number self.old.has_bad self.new.has_bad line (string_bytes text.old) (string_bytes text.new) (string_bytes notes.old) (string_bytes notes.new)) }
+        ensures told { OnOk result
+            ((line : List ℕ) → self.old.line ≡ kept_of line
+            → AppendsLine self.old.machine self.new.machine self.old.number self.old.has_bad self.new.has_bad line (string_bytes text.old) (string_bytes text.new) (string_bytes notes.old) (string_bytes notes.new)) }
         ensures number { self.new.number ≡ self.old.number }
     {
         match read_line(self.alloc, &self.line)? {
@@ -156,7 +172,8 @@ fn tell_step(
     step: &Step,
     text: &mut String,
 ) -> Result<(), AllocError>
-    ensures { OnOk result (TellsStep machine.old machine.new step.now (string_bytes text.old) (string_bytes text.new)) }
+    ensures { OnOk result
+        (TellsStep machine.old machine.new step.now (string_bytes text.old) (string_bytes text.new)) }
 {
     let why = ask(machine, step);
     let found = seek(machine, step);
@@ -173,7 +190,8 @@ fn tell_shown(
     question: Question,
     text: &mut String,
 ) -> Result<(), AllocError>
-    ensures { OnOk result (TellsShown machine.now question (string_bytes text.old) (string_bytes text.new)) }
+    ensures { OnOk result
+        (TellsShown machine.now question (string_bytes text.old) (string_bytes text.new)) }
 {
     push_shown(alloc, text, machine, question)?;
     text.push_str("\n")
@@ -181,8 +199,10 @@ fn tell_shown(
 
 /// Appends that a line is bad, to what is told and with its number to the notes.
 fn tell_bad(number: u64, text: &mut String, notes: &mut String) -> Result<(), AllocError>
-    ensures told { OnOk result (string_bytes text.new ≡ string_bytes text.old ++ ended (codes "bad line")) }
-    ensures noted { OnOk result (string_bytes notes.new ≡ string_bytes notes.old ++ bad_note number) }
+    ensures told { OnOk result
+        (string_bytes text.new ≡ string_bytes text.old ++ ended (codes "bad line")) }
+    ensures noted { OnOk result
+        (string_bytes notes.new ≡ string_bytes notes.old ++ bad_note number) }
 {
     text.push_str("bad line\n")?;
     write!(notes, "uring: line {number}: bad line\n")

@@ -25,7 +25,8 @@ pub enum Question {
 
 /// What a line asks to be shown, if it asks for something.
 pub(crate) fn read_question(line: &KeptLine) -> Option<Question>
-    ensures { (bytes : List ℕ) → line.now ≡ kept_of bytes → MatchOption result (IsNoQuestion bytes) (IsQuestion bytes) }
+    ensures { (bytes : List ℕ) → line.now ≡ kept_of bytes
+        → MatchOption result (IsNoQuestion bytes) (IsQuestion bytes) }
 {
     question_of(line.whole()?)
 }
@@ -45,7 +46,8 @@ fn question_of(line: &[u8]) -> Option<Question>
 
 /// The file of which a line asks how it stands.
 fn file_asked(line: &[u8]) -> Option<i32>
-    ensures { MatchOption result ((fd : ℤ) → ¬ Asks line.now (question.File fd)) (λ fd. Asks line.now (question.File fd)) }
+    ensures { MatchOption result ((fd : ℤ) → ¬ Asks line.now (question.File fd))
+        (λ fd. Asks line.now (question.File fd)) }
 {
     spelled_signed(line.strip_prefix(b"show file ")?)
 }

@@ -22,7 +22,8 @@ pub enum Reason {
 
 /// Why the request that a step issues or finishes stands as it does, asked before the step.
 pub(crate) fn ask(machine: &Machine, step: &Step) -> Option<Why>
-    ensures { (h : History) → Fits machine.now h → result ≡ asked (world machine.now.core.setup h).requests step.now }
+    ensures { (h : History) → Fits machine.now h
+        → result ≡ asked (world machine.now.core.setup h).requests step.now }
 {
     match step {
         Step::Issue { number } => Some(machine.why(*number)),
@@ -33,7 +34,8 @@ pub(crate) fn ask(machine: &Machine, step: &Step) -> Option<Why>
 
 /// What the request that a step issues would find, asked before the step.
 pub(crate) fn seek(machine: &Machine, step: &Step) -> Option<Found>
-    ensures { (h : History) → Fits machine.now h → result ≡ sought (world machine.now.core.setup h).requests step.now }
+    ensures { (h : History) → Fits machine.now h
+        → result ≡ sought (world machine.now.core.setup h).requests step.now }
 {
     match step {
         Step::Issue { number } => machine.would_find(*number),
@@ -123,7 +125,8 @@ pub fn push_why(text: &mut String, why: Why) -> Result<(), AllocError>
 
 /// Appends that a request is doomed, and by what.
 fn push_doomed(text: &mut String, doom: Doom) -> Result<(), AllocError>
-    ensures { OnOk result (string_bytes text.new ≡ string_bytes text.old ++ (codes "doomed: " ++ doom_text doom)) }
+    ensures { OnOk result
+        (string_bytes text.new ≡ string_bytes text.old ++ (codes "doomed: " ++ doom_text doom)) }
 {
     text.push_str("doomed: ")?;
     push_doom(text, doom)
@@ -150,7 +153,9 @@ fn push_fault(text: &mut String, fault: Fault) -> Result<(), AllocError>
 
 /// Appends which request is waited for, and why.
 fn push_wait(text: &mut String, least: u64, since: Since) -> Result<(), AllocError>
-    ensures { OnOk result (string_bytes text.new ≡ string_bytes text.old ++ (codes "waits for " ++ decimal least ++ codes ": " ++ since_text least since)) }
+    ensures { OnOk result
+        (string_bytes text.new
+        ≡ string_bytes text.old ++ (codes "waits for " ++ decimal least ++ codes ": " ++ since_text least since)) }
 {
     write!(text, "waits for {least}: ")?;
     push_since(text, least, since)
@@ -158,7 +163,8 @@ fn push_wait(text: &mut String, least: u64, since: Since) -> Result<(), AllocErr
 
 /// Appends why request `least` is waited for.
 pub fn push_since(text: &mut String, least: u64, since: Since) -> Result<(), AllocError>
-    ensures { OnOk result (string_bytes text.new ≡ string_bytes text.old ++ since_text least since) }
+    ensures { OnOk result
+        (string_bytes text.new ≡ string_bytes text.old ++ since_text least since) }
 {
     match since {
         Since::SameGroup => text.push_str("a member of its group"),

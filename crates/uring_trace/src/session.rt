@@ -29,7 +29,8 @@ impl Session {
 
     /// A new machine, before the first line.
     pub(crate) fn new(alloc: Global, setup: &Setup, is_echo: bool) -> Result<Session, TraceFault>
-        ensures ok { IfOk result (λ s. Has (record { setup = setup.now; is_echo = is_echo }) s [] []) }
+        ensures ok { IfOk result
+            (λ s. Has (record { setup = setup.now; is_echo = is_echo }) s [] []) }
         ensures err { IfErr result (λ e. e ≡ TraceFault.Memory) }
     {
         let line = KeptLine::new(alloc)?;
@@ -44,7 +45,10 @@ impl Session {
 
     /// Takes in the next bytes, and appends the answers to the lines that they complete.
     pub(crate) fn feed(&mut self, bytes: &[u8], text: &mut Vec<u8>) -> Result<(), TraceFault>
-        ensures ok { OnOk result ((manner : Manner) (before told : List ℕ) → Has manner self.old before (told ++ text.old.items) → Has manner self.new (before ++ bytes.now) (told ++ text.new.items)) }
+        ensures ok { OnOk result
+            ((manner : Manner) (before told : List ℕ)
+            → Has manner self.old before (told ++ text.old.items)
+            → Has manner self.new (before ++ bytes.now) (told ++ text.new.items)) }
         ensures err { IfErr result (λ e. e ≡ TraceFault.Memory) }
     {
         for byte in bytes {
@@ -55,7 +59,10 @@ impl Session {
 
     /// Ends the input. Appends the answer to the last line, if that line has some byte but no end.
     pub(crate) fn finish(&mut self, text: &mut Vec<u8>) -> Result<(), TraceFault>
-        ensures ok { OnOk result ((manner : Manner) (before told : List ℕ) → Has manner self.old before (told ++ text.old.items) → IsWhole manner before (told ++ text.new.items)) }
+        ensures ok { OnOk result
+            ((manner : Manner) (before told : List ℕ)
+            → Has manner self.old before (told ++ text.old.items)
+            → IsWhole manner before (told ++ text.new.items)) }
         ensures err { IfErr result (λ e. e ≡ TraceFault.Memory) }
     {
         if self.line.is_empty() {
@@ -67,7 +74,10 @@ impl Session {
 
     /// Takes in one byte, and appends the answer to the line if the byte completes it.
     fn take(&mut self, byte: u8, text: &mut Vec<u8>) -> Result<(), TraceFault>
-        ensures ok { OnOk result ((manner : Manner) (before told : List ℕ) → Has manner self.old before (told ++ text.old.items) → Has manner self.new (before ++ byte ∷ []) (told ++ text.new.items)) }
+        ensures ok { OnOk result
+            ((manner : Manner) (before told : List ℕ)
+            → Has manner self.old before (told ++ text.old.items)
+            → Has manner self.new (before ++ byte ∷ []) (told ++ text.new.items)) }
         ensures err { IfErr result (λ e. e ≡ TraceFault.Memory) }
     {
         if byte == b'\n' {
@@ -81,14 +91,18 @@ impl Session {
     /// Takes in one byte of a line, which isn't its end.
     fn keep(&mut self, byte: u8)
         requires { byte ≢ 10 }
-        ensures { (manner : Manner) (before told : List ℕ) → Has manner self.old before told → Has manner self.new (before ++ byte ∷ []) told }
+        ensures { (manner : Manner) (before told : List ℕ) → Has manner self.old before told
+            → Has manner self.new (before ++ byte ∷ []) told }
     {
         self.line.push(byte);
     }
 
     /// Appends the answer to the line, and begins the next line.
     fn end_line(&mut self, text: &mut Vec<u8>) -> Result<(), AllocError>
-        ensures { OnOk result ((manner : Manner) (before told : List ℕ) → Has manner self.old before (told ++ text.old.items) → Has manner self.new (before ++ 10 ∷ []) (told ++ text.new.items)) }
+        ensures { OnOk result
+            ((manner : Manner) (before told : List ℕ)
+            → Has manner self.old before (told ++ text.old.items)
+            → Has manner self.new (before ++ 10 ∷ []) (told ++ text.new.items)) }
     {
         self.answer_line(text)?;
         self.line.clear();
@@ -98,7 +112,9 @@ impl Session {
     /// Makes the step that the line is, and appends its answer without a line end, behind the line if steps are written too. A line that is no step is answered `bad line`.
     fn answer_line(&mut self, text: &mut Vec<u8>) -> Result<(), AllocError>
         ensures form { self.new.is_echo ≡ self.old.is_echo }
-        ensures answer { OnOk result ((line : List ℕ) → self.old.line ≡ kept_of line → AppendsAnswer self.old.machine self.new.machine self.old.is_echo line text.old.items text.new.items) }
+        ensures answer { OnOk result
+            ((line : List ℕ) → self.old.line ≡ kept_of line
+            → AppendsAnswer self.old.machine self.new.machine self.old.is_echo line text.old.items text.new.items) }
     {
         let Some(step) = read_line(self.alloc, &self.line)? else {
             return text.extend_from_slice(b"bad line");
@@ -113,7 +129,9 @@ impl Session {
 
 /// Appends a line, which has at most 300 bytes, and ` = `, if steps are written too.
 fn push_step(line: &KeptLine, is_echo: bool, text: &mut Vec<u8>) -> Result<(), AllocError>
-    ensures { OnOk result ((bytes : List ℕ) → line.now ≡ kept_of bytes → length bytes ≤ 300 → text.new.items ≡ text.old.items ++ step_text is_echo bytes) }
+    ensures { OnOk result
+        ((bytes : List ℕ) → line.now ≡ kept_of bytes → length bytes ≤ 300
+        → text.new.items ≡ text.old.items ++ step_text is_echo bytes) }
 {
     if !is_echo {
         return Ok(());

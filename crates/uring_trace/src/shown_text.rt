@@ -18,7 +18,9 @@ pub(crate) fn push_shown(
     machine: &Machine,
     question: Question,
 ) -> Result<(), AllocError>
-    ensures { OnOk result ((h : History) → Fits machine.now h → string_bytes text.new ≡ string_bytes text.old ++ shown machine.now.core.setup (world machine.now.core.setup h) question) }
+    ensures { OnOk result
+        ((h : History) → Fits machine.now h
+        → string_bytes text.new ≡ string_bytes text.old ++ shown machine.now.core.setup (world machine.now.core.setup h) question) }
 {
     match question {
         Question::Counts => push_counts(text, machine.counts()),
@@ -56,7 +58,9 @@ fn push_sizes(text: &mut String, setup: Setup) -> Result<(), AllocError>
 
 /// Appends the completions that wait in the overflow list.
 fn push_overflow(alloc: Global, text: &mut String, machine: &Machine) -> Result<(), AllocError>
-    ensures { OnOk result ((h : History) → Fits machine.now h → string_bytes text.new ≡ string_bytes text.old ++ overflow_text (overflow_of (world machine.now.core.setup h).completions)) }
+    ensures { OnOk result
+        ((h : History) → Fits machine.now h
+        → string_bytes text.new ≡ string_bytes text.old ++ overflow_text (overflow_of (world machine.now.core.setup h).completions)) }
 {
     let count = machine.overflowing();
     write!(text, "overflow {count}")?;
@@ -68,7 +72,8 @@ fn push_overflow(alloc: Global, text: &mut String, machine: &Machine) -> Result<
 
 /// Appends a completion behind a comma and a space, if there is one.
 fn push_listed(alloc: Global, text: &mut String, completion: Option<Cqe>) -> Result<(), AllocError>
-    ensures { OnOk result (string_bytes text.new ≡ string_bytes text.old ++ listed_text completion) }
+    ensures { OnOk result
+        (string_bytes text.new ≡ string_bytes text.old ++ listed_text completion) }
 {
     match completion {
         Some(completion) => {

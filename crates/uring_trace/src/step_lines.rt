@@ -12,7 +12,9 @@ use uring_text::{KeptLine, is_name, spelled_entry, spelled_long, spelled_number,
 
 /// The step that a line is, if it is one. A line of more than 300 bytes is none.
 pub(crate) fn read_line(alloc: Global, line: &KeptLine) -> Result<Option<Step>, AllocError>
-    ensures { IfOk result (λ read. (bytes : List ℕ) → line.now ≡ kept_of bytes → MatchOption read (IsBad bytes) (IsStep bytes)) }
+    ensures { IfOk result
+        (λ read. (bytes : List ℕ) → line.now ≡ kept_of bytes
+        → MatchOption read (IsBad bytes) (IsStep bytes)) }
 {
     match line.whole() {
         Some(bytes) => read_step(alloc, bytes),
@@ -90,7 +92,8 @@ fn step_of_number(name: &[u8], token: &[u8]) -> Option<Step>
 
 /// A fill of a slot with the entry of these tokens.
 fn fill(slot: &[u8], entry: &[&[u8]]) -> Option<Step>
-    ensures { ReadsFill result (number_of (2 ^ 32) slot.now) (form_of (map (λ token. token.now) entry.now)) }
+    ensures { ReadsFill result (number_of (2 ^ 32) slot.now)
+        (form_of (map (λ token. token.now) entry.now)) }
 {
     Some(Step::Fill {
         slot: spelled_number(slot)?,

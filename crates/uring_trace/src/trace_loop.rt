@@ -30,7 +30,9 @@ pub fn trace<R: Read, W: Write>(
     setup: &Setup,
     is_echo: bool,
 ) -> Result<(), TraceFault>
-    ensures { Traces (record { setup = setup.now; is_echo = is_echo }) result (R.remaining reader.old) (R.remaining reader.new) (W.contents writer.old) (W.contents writer.new) }
+    ensures { Traces (record { setup = setup.now; is_echo = is_echo }) result
+        (R.remaining reader.old) (R.remaining reader.new) (W.contents writer.old)
+        (W.contents writer.new) }
 {
     let mut session = Session::new(alloc, setup, is_echo)?;
     let answered = answer_all(
@@ -54,7 +56,9 @@ fn answer_all<R: Read, W: Write>(
     reads: &mut Calls,
     writes: &mut Calls,
 ) -> Result<(), TraceFault>
-    ensures lines { (manner : Manner) → Has manner session.old [] [] → Traces manner result (R.remaining reader.old) (R.remaining reader.new) (W.contents writer.old) (W.contents writer.new) }
+    ensures lines { (manner : Manner) → Has manner session.old [] []
+        → Traces manner result (R.remaining reader.old) (R.remaining reader.new)
+        (W.contents writer.old) (W.contents writer.new) }
 
     // A stream is blamed only if it gave up.
     ensures read { result ≡ Err TraceFault.Read → AreOver reads.new }
@@ -79,7 +83,9 @@ fn answer<W: Write>(
     writer: &mut W,
     writes: &mut Calls,
 ) -> Result<(), TraceFault>
-    ensures lines { (manner : Manner) (before told : List ℕ) → Has manner session.old before told → (written : List ℕ) × Appends (W.contents writer.old) (W.contents writer.new) written × TookIn manner result session.new (before ++ bytes.now) (told ++ written) }
+    ensures lines { (manner : Manner) (before told : List ℕ) → Has manner session.old before told
+        → (written : List ℕ) × Appends (W.contents writer.old) (W.contents writer.new) written
+        × TookIn manner result session.new (before ++ bytes.now) (told ++ written) }
     ensures read { IfErr result (λ fault. fault ≢ TraceFault.Read) }
     ensures write { result ≡ Err TraceFault.Write → AreOver writes.new }
 {
@@ -95,7 +101,9 @@ fn answer_last<W: Write>(
     writer: &mut W,
     writes: &mut Calls,
 ) -> Result<(), TraceFault>
-    ensures lines { (manner : Manner) (before told : List ℕ) → Has manner session.old before told → (written : List ℕ) × Appends (W.contents writer.old) (W.contents writer.new) written × Writes manner result before (told ++ written) }
+    ensures lines { (manner : Manner) (before told : List ℕ) → Has manner session.old before told
+        → (written : List ℕ) × Appends (W.contents writer.old) (W.contents writer.new) written
+        × Writes manner result before (told ++ written) }
     ensures read { IfErr result (λ fault. fault ≢ TraceFault.Read) }
     ensures write { result ≡ Err TraceFault.Write → AreOver writes.new }
 {

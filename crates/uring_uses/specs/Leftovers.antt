@@ -10,5 +10,8 @@ use Rattle.uring_laws.specs.Laws.{times_ended}
 pub record IsLeft (idle : Machine) (before : History) (completions : List Cqe) : Type 0 where
   pub events : List Event
   pub fits : Fits idle (history_of events ++ before)
-  pub ended : (n : ℕ) → n < length (world idle.core.setup (history_of events ++ before)).requests.accepted → times_ended (history_of events ++ before) n ≡ 1
-  pub rest : completions ≡ unreaped (world idle.core.setup (history_of events ++ before)).completions
+  pub ended : (n : ℕ)
+      → n < length (world idle.core.setup (history_of events ++ before)).requests.accepted
+      → times_ended (history_of events ++ before) n ≡ 1
+  pub rest : completions
+      ≡ unreaped (world idle.core.setup (history_of events ++ before)).completions

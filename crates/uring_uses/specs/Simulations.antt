@@ -17,14 +17,16 @@ pub record HasRun (core : Core) (before : History) (ended : ℕ) : Type 0 where
   pub issues_and_finishes : list_all is_issue_or_finish events ≡ true
   pub fits : FitsApart core (events ++ before)
   pub quiet : NoneRuns (world core.setup (events ++ before))
-  pub fewer : outstanding_in (world core.setup (events ++ before)).requests + ended ≡ outstanding_in (world core.setup before).requests
+  pub fewer : outstanding_in (world core.setup (events ++ before)).requests + ended
+      ≡ outstanding_in (world core.setup before).requests
 
 -- The core fits this history followed by issues and finishes, and nothing is outstanding.
 pub record IsIdle (core : Core) (before : History) : Type 0 where
   pub events : History
   pub issues_and_finishes : list_all is_issue_or_finish events ≡ true
   pub fits : FitsApart core (events ++ before)
-  pub none_outstanding : (n : ℕ) → is_outstanding (world core.setup (events ++ before)).requests n ≡ false
+  pub none_outstanding : (n : ℕ)
+      → is_outstanding (world core.setup (events ++ before)).requests n ≡ false
 
 -- Request n runs, and n + 1 waits behind its soft link, in the same chain.
 pub record IsNextInChain (r : Requests) (n : ℕ) : Type 0 where

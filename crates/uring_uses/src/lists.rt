@@ -23,7 +23,8 @@ pub fn run_twice(
 /// Makes these steps on a new machine.
 fn answers_of(alloc: Global, setup: &Setup, steps: &[Step]) -> Result<Vec<Answer>, AllocError>
     ensures count { IfOk result (λ answers. length answers.items ≡ length steps.now) }
-    ensures lawful { IfOk result (λ answers. IsLawful setup.now (history_of (zip steps.now answers.items))) }
+    ensures lawful { IfOk result
+        (λ answers. IsLawful setup.now (history_of (zip steps.now answers.items))) }
 {
     let mut machine = Machine::new(alloc, setup)?;
     run(alloc, &mut machine, steps)

@@ -9,7 +9,8 @@ use uring_machine::{Answer, Machine, Step};
 
 /// Issues a request, and says whether it runs now. If it does, every earlier request that it waits for has ended: the members before it in its chain, and whatever a drain puts before it.
 pub fn starts(machine: &mut Machine, number: u64) -> bool
-    ensures fits { (h : History) → Fits machine.old h → (a : Answer) × Fits machine.new ((step.Issue number, a) ∷ h) }
+    ensures fits { (h : History) → Fits machine.old h
+        → (a : Answer) × Fits machine.new ((step.Issue number, a) ∷ h) }
     ensures in_order { IsTrue result → (h : History) (m : ℕ) → Fits machine.old h → m < number
         → waits_for (world machine.old.core.setup h).requests number m ≡ true → has_ended (world machine.old.core.setup h).requests m ≡ true }
 {

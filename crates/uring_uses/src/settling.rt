@@ -11,7 +11,9 @@ use uring_machine::{Cqe, Machine};
 /// Ends all that is outstanding, and gives the completions that are left to be reaped, the oldest first. Each accepted request has then ended exactly once.
 pub fn settled_rest(alloc: Global, machine: &mut Machine) -> Result<Vec<Cqe>, AllocError>
     ensures setup { machine.new.core.setup ≡ machine.old.core.setup }
-    ensures left { IfOk result (λ rest. (h : History) → IsWithinLimits machine.old.core.setup → Fits machine.old h → IsLeft machine.new h rest.items) }
+    ensures left { IfOk result
+        (λ rest. (h : History) → IsWithinLimits machine.old.core.setup → Fits machine.old h
+        → IsLeft machine.new h rest.items) }
 {
     machine.settle_idle();
     each_ends_once();

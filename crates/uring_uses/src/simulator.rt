@@ -13,7 +13,8 @@ use uring_machine::{Answer, Core, Outcome, Step};
 /// If nothing runs at first, nothing is outstanding afterwards. Each request ends once, and the core fits what it fitted, followed by these steps.
 pub fn simulate(core: &mut Core, disk: &mut Disk)
     ensures setup { core.new.setup ≡ core.old.setup }
-    ensures idle { (h : History) → FitsApart core.old h → NoneRuns (world core.old.setup h) → IsIdle core.new h }
+    ensures idle { (h : History) → FitsApart core.old h → NoneRuns (world core.old.setup h)
+        → IsIdle core.new h }
 {
     for _ in 0..core.counts().outstanding {
         end_next(core, disk);
@@ -23,7 +24,8 @@ pub fn simulate(core: &mut Core, disk: &mut Disk)
 /// Ends the next request.
 fn end_next(core: &mut Core, disk: &mut Disk)
     ensures setup { core.new.setup ≡ core.old.setup }
-    ensures ended { (h : History) → FitsApart core.old h → NoneRuns (world core.old.setup h) → 1 ≤ outstanding_in (world core.old.setup h).requests → HasRun core.new h 1 }
+    ensures ended { (h : History) → FitsApart core.old h → NoneRuns (world core.old.setup h)
+        → 1 ≤ outstanding_in (world core.old.setup h).requests → HasRun core.new h 1 }
 {
     let Answer::Next(number) = core.step(Step::Next) else {
         return;

@@ -19,7 +19,8 @@ module _ {A D : Type 0} where
     pub app : A
     pub kernel : D
     pub agree : Agree s.words app kernel
-    pub seats : (seat : ℕ) (v : View A D) → get_elem? s.views seat ≡ some v → Knows app_seat kernel_seat app kernel seat v
+    pub seats : (seat : ℕ) (v : View A D) → get_elem? s.views seat ≡ some v
+        → Knows app_seat kernel_seat app kernel seat v
 
   -- what a seat of both sides knows
   abbrev pub both_know : A → D → View A D

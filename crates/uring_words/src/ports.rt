@@ -51,7 +51,12 @@ impl Model for AppWords {
 
     ghost view = { λ p. record { pairing = numbers_of_tables p.seat.table_id p.cq_seat.table_id; sizes = record { sq = p.size; cq = p.cq_size }; put = put_of p.seat.me.0.app.published; got = completions_of p.cq_seat.me.0.app.got; dropped = p.cq_seat.me.0.app.dropped } };
 
-    ghost invariant = { λ p. (p.seat.table_id ≡ (arc_value p.ring).shared.table_id) × (p.seat.table_id.words ≡ word_count p.size) × AppRests p.seat.me p.size p.tail × SawHead p.seat.me.0.app p.head × (p.cq_seat.table_id ≡ (arc_value p.cq_ring).shared.table_id) × (p.cq_seat.table_id.words ≡ cq_word_count p.cq_size) × AppCompletionsRest p.cq_seat.me p.cq_size p.cq_tail p.cq_head };
+    ghost invariant = { λ p. (p.seat.table_id ≡ (arc_value p.ring).shared.table_id)
+        × (p.seat.table_id.words ≡ word_count p.size) × AppRests p.seat.me p.size p.tail
+        × SawHead p.seat.me.0.app p.head
+        × (p.cq_seat.table_id ≡ (arc_value p.cq_ring).shared.table_id)
+        × (p.cq_seat.table_id.words ≡ cq_word_count p.cq_size)
+        × AppCompletionsRest p.cq_seat.me p.cq_size p.cq_tail p.cq_head };
 }
 
 /// The dispatcher's port over shared words.
@@ -90,14 +95,24 @@ impl Model for KernelWords {
 
     ghost view = { λ p. record { pairing = numbers_of_tables p.seat.table_id p.cq_seat.table_id; sizes = record { sq = p.size; cq = p.cq_size }; pulled = put_of p.seat.me.0.kernel.copied; delivered = completions_of p.cq_seat.me.0.kernel.put; free = p.cq_seat.me.0.kernel.head_seen + p.cq_size - length p.cq_seat.me.0.kernel.put; dropped = p.cq_seat.me.0.kernel.dropped } };
 
-    ghost invariant = { λ p. (p.seat.table_id ≡ (arc_value p.ring).shared.table_id) × (p.seat.table_id.words ≡ word_count p.size) × KernelRests p.seat.me p.size p.tail p.head × (p.closed ≡ has_close_mark p.seat.me.0.kernel.copied) × (p.cq_seat.table_id ≡ (arc_value p.cq_ring).shared.table_id) × (p.cq_seat.table_id.words ≡ cq_word_count p.cq_size) × KernelCompletionsRest p.cq_seat.me p.cq_size p.cq_tail × SawHead p.cq_seat.me.0.kernel p.cq_head };
+    ghost invariant = { λ p. (p.seat.table_id ≡ (arc_value p.ring).shared.table_id)
+        × (p.seat.table_id.words ≡ word_count p.size) × KernelRests p.seat.me p.size p.tail p.head
+        × (p.closed ≡ has_close_mark p.seat.me.0.kernel.copied)
+        × (p.cq_seat.table_id ≡ (arc_value p.cq_ring).shared.table_id)
+        × (p.cq_seat.table_id.words ≡ cq_word_count p.cq_size)
+        × KernelCompletionsRest p.cq_seat.me p.cq_size p.cq_tail
+        × SawHead p.cq_seat.me.0.kernel p.cq_head };
 }
 
 /// The two ports of a new pair, with the sizes of this set-up's rings. `AllocError`: out of memory.
 pub fn word_ports(alloc: Global, setup: &Setup) -> Result<(AppWords, KernelWords), AllocError>
     ensures pair { IfOk result (λ ports. ports.1.pairing ≡ ports.0.pairing) }
-    ensures app { IfOk result (λ ports. (ports.0.sizes ≡ sizes_of setup.now) × (ports.0.put ≡ nothing_put) × (ports.0.got ≡ []) × (ports.0.dropped ≡ [])) }
-    ensures kernel { IfOk result (λ ports. (ports.1.sizes ≡ sizes_of setup.now) × (ports.1.pulled ≡ nothing_put) × (ports.1.delivered ≡ []) × (ports.1.free ≡ setup.now.cq) × (ports.1.dropped ≡ [])) }
+    ensures app { IfOk result
+        (λ ports. (ports.0.sizes ≡ sizes_of setup.now) × (ports.0.put ≡ nothing_put)
+        × (ports.0.got ≡ []) × (ports.0.dropped ≡ [])) }
+    ensures kernel { IfOk result
+        (λ ports. (ports.1.sizes ≡ sizes_of setup.now) × (ports.1.pulled ≡ nothing_put)
+        × (ports.1.delivered ≡ []) × (ports.1.free ≡ setup.now.cq) × (ports.1.dropped ≡ [])) }
 {
     let start = setup.start();
     let size = setup.sq();
@@ -163,7 +178,8 @@ impl KernelWords {
     ) -> Result<Rests, (AppWords, KernelWords)>
         requires { self.pairing ≡ app.pairing }
         ensures items { IfOk result (λ rests. LeavesItems app.put self.pulled rests.unsent.items) }
-        ensures completions { IfOk result (λ rests. LeavesCompletions self.delivered app.got rests.undelivered.items) }
+        ensures completions { IfOk result
+            (λ rests. LeavesCompletions self.delivered app.got rests.undelivered.items) }
 
         // The dropped words that the application loaded are, in order, words that the dispatcher stored, or the 0 before them.
         ensures dropped { OnOk result (WereHad (0 ∷ self.dropped) app.dropped) }

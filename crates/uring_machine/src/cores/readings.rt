@@ -20,7 +20,8 @@ use uring_entry::{Cqe, Op, Setup, Why};
 impl Core {
     /// What a Begin of this many positions, any number, is answered if memory is there: the answer of `Step::Begin`, unless that is `Again`. It is no step, and so not part of a history.
     pub fn would_begin(&self, count: u32) -> Answer
-        ensures { (h : History) → FitsApart self.now h → result ≡ begin_answer (world self.now.setup h) count }
+        ensures { (h : History) → FitsApart self.now h
+            → result ≡ begin_answer (world self.now.setup h) count }
     {
         if self.is_closed {
             return Answer::Closed;
@@ -37,7 +38,8 @@ impl Core {
 
     /// The operation of the request of this number: `Some` exactly if it is running. It can be carried out on files.
     pub fn running_op(&self, number: u64) -> Option<Op>
-        ensures value { (h : History) → FitsApart self.now h → result ≡ operation_running (world self.now.setup h).requests number }
+        ensures value { (h : History) → FitsApart self.now h
+            → result ≡ operation_running (world self.now.setup h).requests number }
         ensures asks { IfSome result IsForFiles }
     {
         self.dispatch.running_op(number)
@@ -45,28 +47,32 @@ impl Core {
 
     /// The least request that can be issued: what `Step::Next` is answered. It is no step, and so not part of a history.
     pub fn next(&self) -> Option<u64>
-        ensures { (h : History) → FitsApart self.now h → result ≡ next_of (world self.now.setup h).requests }
+        ensures { (h : History) → FitsApart self.now h
+            → result ≡ next_of (world self.now.setup h).requests }
     {
         self.dispatch.next()
     }
 
     /// The least outstanding request.
     pub fn least(&self) -> Option<u64>
-        ensures { (h : History) → FitsApart self.now h → result ≡ least_of (world self.now.setup h).requests }
+        ensures { (h : History) → FitsApart self.now h
+            → result ≡ least_of (world self.now.setup h).requests }
     {
         self.dispatch.least()
     }
 
     /// Why the request of this number, any number, stands as it does. It is no step, and so not part of a history.
     pub fn why(&self, number: u64) -> Why
-        ensures { (h : History) → FitsApart self.now h → result ≡ why_of (world self.now.setup h).requests number }
+        ensures { (h : History) → FitsApart self.now h
+            → result ≡ why_of (world self.now.setup h).requests number }
     {
         self.dispatch.why(number)
     }
 
     /// What the request of this number, any number, would find if it were carried out now: `Some` exactly if it is an outstanding cancel of one request, without a fault. It is no step, and so not part of a history.
     pub fn would_find(&self, number: u64) -> Option<Found>
-        ensures { (h : History) → FitsApart self.now h → result ≡ found_by (world self.now.setup h).requests number }
+        ensures { (h : History) → FitsApart self.now h
+            → result ≡ found_by (world self.now.setup h).requests number }
     {
         self.dispatch.would_find(number)
     }
@@ -81,21 +87,28 @@ impl Core {
 
     /// The completion at this place, from 0, among those posted and not reaped, the oldest first: `None` past the last.
     pub fn rest(&self, place: u64) -> Option<Cqe>
-        ensures { (h : History) → FitsApart self.now h → result ≡ slice_get (unreaped (world self.now.setup h).completions) place }
+        ensures { (h : History) → FitsApart self.now h
+            → result ≡ slice_get (unreaped (world self.now.setup h).completions) place }
     {
         self.cq.rest(place)
     }
 
     /// How many completions wait in the overflow list.
     pub fn overflowing(&self) -> u64
-        ensures { (h : History) → FitsApart self.now h → result ≡ length (drop (world self.now.setup h).completions.put (world self.now.setup h).completions.posted) }
+        ensures { (h : History) → FitsApart self.now h
+            → result
+            ≡ length
+            (drop (world self.now.setup h).completions.put (world self.now.setup h).completions.posted) }
     {
         self.cq.overflowing()
     }
 
     /// The completion at this place, from 0, of those that wait in the overflow list, the oldest first: `None` past the last.
     pub fn overflow(&self, place: u64) -> Option<Cqe>
-        ensures { (h : History) → FitsApart self.now h → result ≡ slice_get (drop (world self.now.setup h).completions.put (world self.now.setup h).completions.posted) place }
+        ensures { (h : History) → FitsApart self.now h
+            → result
+            ≡ slice_get
+            (drop (world self.now.setup h).completions.put (world self.now.setup h).completions.posted) place }
     {
         self.cq.overflow(place)
     }
@@ -115,7 +128,8 @@ impl Core {
 
     /// How many positions were dropped, modulo 2^32: those of closed calls whose word names no slot. io_uring_setup(2), on `dropped`.
     pub fn dropped(&self) -> u32
-        ensures { (h : History) → FitsApart self.now h → result ≡ dropped (world self.now.setup h).submission }
+        ensures { (h : History) → FitsApart self.now h
+            → result ≡ dropped (world self.now.setup h).submission }
     {
         self.sq.dropped()
     }

@@ -58,10 +58,12 @@ pub fn run_threads<
 where
     K::App: Send + 'static,
     ensures app { (app.new.pairing ≡ app.old.pairing) × (app.new.sizes ≡ app.old.sizes) }
-    ensures kernel { (kernel.new.pairing ≡ kernel.old.pairing) × (kernel.new.sizes ≡ kernel.old.sizes) }
+    ensures kernel { (kernel.new.pairing ≡ kernel.old.pairing)
+        × (kernel.new.sizes ≡ kernel.old.sizes) }
     ensures setup { kernel.new.kept.setup ≡ kernel.old.kept.setup }
     ensures lanes { numbers_of_lanes kernel.new.lanes ≡ numbers_of_lanes kernel.old.lanes }
-    ensures workers { (lanes_of workers.new ≡ lanes_of workers.old) × (files_of workers.new ≡ files_of workers.old) }
+    ensures workers { (lanes_of workers.new ≡ lanes_of workers.old)
+        × (files_of workers.new ≡ files_of workers.old) }
 {
     join_mut(
         rt,
@@ -76,7 +78,8 @@ fn run_all_workers<R: Threads + Wait + Sync, G: Gate + Send>(
     stop: &AtomicBool,
     workers: &mut [Worker<G>],
 )
-    ensures { (lanes_of workers.new ≡ lanes_of workers.old) × (files_of workers.new ≡ files_of workers.old) }
+    ensures { (lanes_of workers.new ≡ lanes_of workers.old)
+        × (files_of workers.new ≡ files_of workers.old) }
 {
     run_workers(rt, stop, workers);
 }
@@ -84,7 +87,8 @@ fn run_all_workers<R: Threads + Wait + Sync, G: Gate + Send>(
 /// A turn of the worker at this place, which goes on to be of the same set-up.
 pub fn turn_at<G: Gate>(workers: &mut [Worker<G>], k: usize) -> Worked
     requires { k < length workers.old }
-    ensures { (app : _) (kernel : _) → AreTogether app kernel workers.old → AreTogether app kernel workers.new }
+    ensures { (app : _) (kernel : _) → AreTogether app kernel workers.old
+        → AreTogether app kernel workers.new }
 {
     workers[k].turn()
 }
@@ -98,7 +102,8 @@ fn run_both<R: Threads + Wait + Sync, P: AppPort + Send + 'static, K: KernelPort
     kernel: &mut Kernel<K>,
 )
     ensures app { (app.new.pairing ≡ app.old.pairing) × (app.new.sizes ≡ app.old.sizes) }
-    ensures kernel { (kernel.new.pairing ≡ kernel.old.pairing) × (kernel.new.sizes ≡ kernel.old.sizes) }
+    ensures kernel { (kernel.new.pairing ≡ kernel.old.pairing)
+        × (kernel.new.sizes ≡ kernel.old.sizes) }
     ensures setup { kernel.new.kept.setup ≡ kernel.old.kept.setup }
     ensures lanes { numbers_of_lanes kernel.new.lanes ≡ numbers_of_lanes kernel.old.lanes }
 {
@@ -115,9 +120,12 @@ fn run_workers<R: Threads + Wait + Sync, G: Gate + Send>(
     stop: &AtomicBool,
     workers: &mut [Worker<G>],
 )
-    ensures pairing { (k : ℕ) (d : _) → k < length workers.old → (slice_index_or workers.new k d).pairing ≡ (slice_index_or workers.old k d).pairing }
+    ensures pairing { (k : ℕ) (d : _) → k < length workers.old
+        → (slice_index_or workers.new k d).pairing ≡ (slice_index_or workers.old k d).pairing }
     ensures many { length workers.new ≡ length workers.old }
-    ensures files { (k : ℕ) (d : _) → k < length workers.old → length (slice_index_or workers.new k d).files ≡ length (slice_index_or workers.old k d).files }
+    ensures files { (k : ℕ) (d : _) → k < length workers.old
+        → length (slice_index_or workers.new k d).files
+        ≡ length (slice_index_or workers.old k d).files }
 {
     let count = workers.len();
     if count > 0 {
@@ -143,7 +151,8 @@ fn work<R: Wait, G: Gate>(rt: &R, stop: &AtomicBool, worker: &mut Worker<G>)
 
 /// Turns the dispatcher until it is idle or out of memory, and then has all threads stop.
 fn dispatch<R: Wait, K: KernelPort>(rt: &R, stop: &AtomicBool, kernel: &mut Kernel<K>)
-    ensures kernel { (kernel.new.pairing ≡ kernel.old.pairing) × (kernel.new.sizes ≡ kernel.old.sizes) }
+    ensures kernel { (kernel.new.pairing ≡ kernel.old.pairing)
+        × (kernel.new.sizes ≡ kernel.old.sizes) }
     ensures setup { kernel.new.kept.setup ≡ kernel.old.kept.setup }
     ensures lanes { numbers_of_lanes kernel.new.lanes ≡ numbers_of_lanes kernel.old.lanes }
 {

@@ -44,5 +44,6 @@ pub record GetsOne (before after : Holder) (completion : Cqe) : Type 0 where
   pub words : List ℕ
   pub others : List (List ℕ)
   pub known : before.0.app.known ≡ words ∷ others
-  pub is : after ≡ with_app before (record before.0.app { got = before.0.app.got ++ words ∷ []; known = others })
+  pub is : after
+      ≡ with_app before (record before.0.app { got = before.0.app.got ++ words ∷ []; known = others })
   pub gives : completion_of words ≡ completion

@@ -39,8 +39,11 @@ pub record Agree (words : List ℕ) (a : AppSide) (d : KernelSide) : Type 0 wher
   pub dropped : slice_index words (dropped_index d.size) ≡ last_of 0 d.dropped
   pub small : last_of 0 d.dropped < 2 ^ 32
   pub whole : (k : ℕ) (e : List ℕ) → k < length d.put → length (slice_index_or d.put k e) ≡ 10
-  pub stand : (k : ℕ) (e : List ℕ) → length a.got ≤ k → k < length d.put → StandsAt words (place_of d.start d.size k) (slice_index_or d.put k e)
-  pub writing : (k : ℕ) → k < length d.cell → slice_index words (cell_index (place_of d.start d.size (length d.put)) k) ≡ slice_index d.cell k
+  pub stand : (k : ℕ) (e : List ℕ) → length a.got ≤ k → k < length d.put
+      → StandsAt words (place_of d.start d.size k) (slice_index_or d.put k e)
+  pub writing : (k : ℕ) → k < length d.cell
+      → slice_index words (cell_index (place_of d.start d.size (length d.put)) k)
+      ≡ slice_index d.cell k
   pub few : length d.cell ≤ 10
   pub rest : List (List ℕ)
   pub begins : d.put ≡ (a.got ++ a.known) ++ rest

@@ -39,11 +39,14 @@ abbrev pub StoresTail : Step (Unit {0}) → Holder → ℕ → Holder → Type 0
 StoresTail st before found after = after ≡ with_kernel before (tail_stored before.0.kernel)
 
 abbrev pub StoresDropped : Step (Unit {0}) → Holder → ℕ → Holder → Type 0
-StoresDropped st before found after = after ≡ with_kernel before (dropped_stored before.0.kernel found)
+StoresDropped st before found after =
+    after ≡ with_kernel before (dropped_stored before.0.kernel found)
 
 abbrev pub LoadsHead : Step (Unit {0}) → Holder → ℕ → Holder → Type 0
 LoadsHead st before found after =
-    (count : ℕ) × (after ≡ with_kernel before (head_loaded before.0.kernel count)) × (found ≡ word_of before.0.kernel.start count) × (before.0.kernel.head_seen ≤ count) × (count ≤ length before.0.kernel.put)
+    (count : ℕ) × (after ≡ with_kernel before (head_loaded before.0.kernel count))
+    × (found ≡ word_of before.0.kernel.start count) × (before.0.kernel.head_seen ≤ count)
+    × (count ≤ length before.0.kernel.put)
 
 -- The application's steps.
 
@@ -67,11 +70,13 @@ dropped_loaded a word = record a { dropped = a.dropped ++ word ∷ [] }
 pub record TailTold (before : View AppSide KernelSide) (found : ℕ) (more : List (List ℕ)) : Type 0 where
   pub tail : found ≡ word_of before.app.start (tail_seen before.app + length more)
   pub few : tail_seen before.app + length more ≤ length before.app.got + before.app.size
-  pub all : before.is_kernel ≡ true → before.kernel.put ≡ (before.app.got ++ before.app.known) ++ more
+  pub all : before.is_kernel ≡ true
+      → before.kernel.put ≡ (before.app.got ++ before.app.known) ++ more
   pub dropped : before.is_kernel ≡ true → WereHad (0 ∷ before.kernel.dropped) before.app.dropped
 
 abbrev pub LoadsTail : Step (Unit {0}) → Holder → ℕ → Holder → Type 0
-LoadsTail st before found after = (more : List (List ℕ)) × (after ≡ with_app before (tail_loaded before.0.app more)) × TailTold before.0 found more
+LoadsTail st before found after = (more : List (List ℕ))
+    × (after ≡ with_app before (tail_loaded before.0.app more)) × TailTold before.0 found more
 
 -- the first of the known completions has ten words, and the word found is the one that stands at that index of its cell
 abbrev pub LoadsWord : Step (Unit {0}) → Holder → ℕ → Holder → Type 0
@@ -83,7 +88,8 @@ abbrev pub StoresHead : Step (Unit {0}) → Holder → ℕ → Holder → Type 0
 StoresHead st before found after = after ≡ with_app before (head_stored before.0.app)
 
 abbrev pub LoadsDropped : Step (Unit {0}) → Holder → ℕ → Holder → Type 0
-LoadsDropped st before found after = (after ≡ with_app before (dropped_loaded before.0.app found)) × (found < 2 ^ 32)
+LoadsDropped st before found after =
+    (after ≡ with_app before (dropped_loaded before.0.app found)) × (found < 2 ^ 32)
 
 -- what is left of the seat that is taken in
 abbrev pub spent : View AppSide KernelSide

@@ -23,7 +23,8 @@ with_item false x calls = with_first x calls
 -- the calls that these positions hold
 abbrev pub calls_of : List Position → List (List Item)
 calls_of [] = []
-calls_of (p ∷ ps) = if closes p.mark then [] else with_item (ends_call p.mark) (item_of p) (calls_of ps)
+calls_of (p ∷ ps) =
+    if closes p.mark then [] else with_item (ends_call p.mark) (item_of p) (calls_of ps)
 
 -- whether the close mark is among these positions
 abbrev pub has_close_mark : List Position → Bool
@@ -42,7 +43,8 @@ items_of (p ∷ ps) = if closes p.mark then items_of ps else item_of p ∷ items
 -- these positions end what goes on, whole calls and nothing behind the close mark. inside: whether they begin inside a call
 abbrev pub AreWholeFrom : Bool → List Position → Type 0
 AreWholeFrom inside [] = inside ≡ false
-AreWholeFrom inside (p ∷ ps) = MatchBool (closes p.mark) ((inside ≡ false) × (ps ≡ [])) (AreWholeFrom (not (ends_call p.mark)) ps)
+AreWholeFrom inside (p ∷ ps) =
+    MatchBool (closes p.mark) ((inside ≡ false) × (ps ≡ [])) (AreWholeFrom (not (ends_call p.mark)) ps)
 
 -- whole calls, and nothing behind the close mark
 abbrev pub AreWhole : List Position → Type 0

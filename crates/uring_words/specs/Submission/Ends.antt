@@ -35,7 +35,8 @@ pub record SawHead (a : AppSide) (head : ℕ) : Type 0 where
 -- A position more was staged, which holds this item, and ends its call or not.
 pub record StagesItem (before after : Holder) (x : Item) (last : Bool) : Type 0 where
   pub position : Position
-  pub is : after ≡ with_app before (record before.0.app { staged = before.0.app.staged ++ position ∷ [] })
+  pub is : after
+      ≡ with_app before (record before.0.app { staged = before.0.app.staged ++ position ∷ [] })
   pub item : item_of position ≡ x
   pub ends : ends_call position.mark ≡ last
   pub open_ : closes position.mark ≡ false
@@ -89,7 +90,8 @@ pub record KernelRests (me : Holder) (size tail head : ℕ) : Type 0 where
 -- As a call is copied: these positions of it were, none of which ends it, and these are their items.
 pub record InCall (before now : Holder) (copied_count : ℕ) (items : List Item) : Type 0 where
   pub part : List Position
-  pub is : now ≡ with_kernel before (record before.0.kernel { copied = before.0.kernel.copied ++ part; known = now.0.kernel.known })
+  pub is : now
+      ≡ with_kernel before (record before.0.kernel { copied = before.0.kernel.copied ++ part; known = now.0.kernel.known })
   pub rest : part ++ now.0.kernel.known ≡ before.0.kernel.known
   pub goes_on : AllGoOn part
   pub holds : map item_of part ≡ items

@@ -49,4 +49,5 @@ pub record IsPosition (size place : ℕ) (p : Position) : Type 0 where
 -- the words at a place are those that were recorded
 pub record StandsAt (words : List ℕ) (size place : ℕ) (p : Position) : Type 0 where
   pub mark : slice_index words (array_index size place) ≡ p.mark
-  pub entry : (k : ℕ) → k < length p.entry → slice_index words (entry_index place k) ≡ slice_index p.entry k
+  pub entry : (k : ℕ) → k < length p.entry
+      → slice_index words (entry_index place k) ≡ slice_index p.entry k

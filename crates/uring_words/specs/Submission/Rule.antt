@@ -42,9 +42,13 @@ pub record Agree (words : List ℕ) (a : AppSide) (d : KernelSide) : Type 0 wher
   pub ordered : AreInOrder a d
   pub tail : slice_index words (tail_index a.size) ≡ word_of a.start (length a.published)
   pub head : slice_index words (head_index a.size) ≡ word_of a.start d.taken
-  pub formed : (k : ℕ) (e : Position) → k < length (stored a) → IsPosition a.size (place_of a.start a.size k) (slice_index_or (stored a) k e)
-  pub stand : (k : ℕ) (e : Position) → d.taken ≤ k → k < length (stored a) → StandsAt words a.size (place_of a.start a.size k) (slice_index_or (stored a) k e)
-  pub writing : (k : ℕ) → k < length a.entry → slice_index words (entry_index (place_of a.start a.size (length (stored a))) k) ≡ slice_index a.entry k
+  pub formed : (k : ℕ) (e : Position) → k < length (stored a)
+      → IsPosition a.size (place_of a.start a.size k) (slice_index_or (stored a) k e)
+  pub stand : (k : ℕ) (e : Position) → d.taken ≤ k → k < length (stored a)
+      → StandsAt words a.size (place_of a.start a.size k) (slice_index_or (stored a) k e)
+  pub writing : (k : ℕ) → k < length a.entry
+      → slice_index words (entry_index (place_of a.start a.size (length (stored a))) k)
+      ≡ slice_index a.entry k
   pub few : length a.entry ≤ 16
   pub rest : List Position
   pub begins : a.published ≡ (d.copied ++ d.known) ++ rest

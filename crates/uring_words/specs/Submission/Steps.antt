@@ -23,7 +23,8 @@ word_stored a word = record a { entry = a.entry ++ word ∷ [] }
 
 -- an array word is stored, and with it the position is staged
 abbrev pub mark_stored : AppSide → ℕ → AppSide
-mark_stored a mark = record a { staged = a.staged ++ (record { mark = mark; entry = a.entry }) ∷ []; entry = [] }
+mark_stored a mark =
+    record a { staged = a.staged ++ (record { mark = mark; entry = a.entry }) ∷ []; entry = [] }
 
 -- the tail is stored, and with it all that is staged is published
 abbrev pub tail_stored : AppSide → AppSide
@@ -44,7 +45,9 @@ StoresTail st before found after = after ≡ with_app before (tail_stored before
 
 abbrev pub LoadsHead : Step (Unit {0}) → Holder → ℕ → Holder → Type 0
 LoadsHead st before found after =
-    (count : ℕ) × (after ≡ with_app before (head_loaded before.0.app count)) × (found ≡ word_of before.0.app.start count) × (before.0.app.head_seen ≤ count) × (count ≤ length before.0.app.published)
+    (count : ℕ) × (after ≡ with_app before (head_loaded before.0.app count))
+    × (found ≡ word_of before.0.app.start count) × (before.0.app.head_seen ≤ count)
+    × (count ≤ length before.0.app.published)
 
 -- The dispatcher's steps.
 
@@ -55,7 +58,9 @@ tail_loaded d more = record d { known = d.known ++ more }
 -- a word of the first known position is loaded: the position is copied once all its words are
 abbrev pub loaded_of : KernelSide → List Position → KernelSide
 loaded_of d [] = d
-loaded_of d (p ∷ ps) = if d.loaded == length p.entry then record d { copied = d.copied ++ p ∷ []; known = ps; loaded = 0 } else record d { loaded = d.loaded + 1 }
+loaded_of d (p ∷ ps) =
+    if d.loaded == length p.entry then record d { copied = d.copied ++ p ∷ []; known = ps; loaded = 0 } else
+    record d { loaded = d.loaded + 1 }
 
 abbrev pub word_loaded : KernelSide → KernelSide
 word_loaded d = loaded_of d d.known
@@ -69,10 +74,12 @@ pub record TailTold (before : View AppSide KernelSide) (found : ℕ) (more : Lis
   pub tail : found ≡ word_of before.kernel.start (tail_seen before.kernel + length more)
   pub whole : AreWhole ((before.kernel.copied ++ before.kernel.known) ++ more)
   pub few : tail_seen before.kernel + length more ≤ before.kernel.taken + before.kernel.size
-  pub all : before.is_app ≡ true → before.app.published ≡ (before.kernel.copied ++ before.kernel.known) ++ more
+  pub all : before.is_app ≡ true
+      → before.app.published ≡ (before.kernel.copied ++ before.kernel.known) ++ more
 
 abbrev pub LoadsTail : Step (Unit {0}) → Holder → ℕ → Holder → Type 0
-LoadsTail st before found after = (more : List Position) × (after ≡ with_kernel before (tail_loaded before.0.kernel more)) × TailTold before.0 found more
+LoadsTail st before found after = (more : List Position)
+    × (after ≡ with_kernel before (tail_loaded before.0.kernel more)) × TailTold before.0 found more
 
 -- the first known position begins with the array word found
 pub record MarkTold (before : KernelSide) (found : ℕ) : Type 0 where
@@ -83,7 +90,8 @@ pub record MarkTold (before : KernelSide) (found : ℕ) : Type 0 where
   pub formed : IsPosition before.size (place_of before.start before.size (length before.copied)) first
 
 abbrev pub LoadsMark : Step (Unit {0}) → Holder → ℕ → Holder → Type 0
-LoadsMark st before found after = (after ≡ with_kernel before (word_loaded before.0.kernel)) × MarkTold before.0.kernel found
+LoadsMark st before found after =
+    (after ≡ with_kernel before (word_loaded before.0.kernel)) × MarkTold before.0.kernel found
 
 -- the entry word found is the next of the first known position
 abbrev pub LoadsWord : Step (Unit {0}) → Holder → ℕ → Holder → Type 0

@@ -11,11 +11,13 @@ use uring_entry::Cqe;
 
 // Loads the tail if nothing is known to be there.
 fn see_tail(words: &Words, seat: &mut Seat, size: u32, tail: u32, head: u32) -> u32
-    requires table { (seat.old.table_id ≡ words.now.table_id) × (words.now.table_id.words ≡ word_count size) }
+    requires table { (seat.old.table_id ≡ words.now.table_id)
+        × (words.now.table_id.words ≡ word_count size) }
     requires rests { AppRests seat.old.me size tail head }
     ensures table { seat.new.table_id ≡ seat.old.table_id }
     ensures rests { AppRests seat.new.me size result head }
-    ensures is { seat.new.me ≡ with_app seat.old.me (record seat.old.me.0.app { known = seat.new.me.0.app.known }) }
+    ensures is { seat.new.me
+        ≡ with_app seat.old.me (record seat.old.me.0.app { known = seat.new.me.0.app.known }) }
 {
     if head != tail {
         return tail;
@@ -25,7 +27,8 @@ fn see_tail(words: &Words, seat: &mut Seat, size: u32, tail: u32, head: u32) -> 
 
 // Gets the first of the known completions.
 pub fn get_one(words: &Words, seat: &mut Seat, size: u32, tail: u32, head: &mut u32) -> Cqe
-    requires table { (seat.old.table_id ≡ words.now.table_id) × (words.now.table_id.words ≡ word_count size) }
+    requires table { (seat.old.table_id ≡ words.now.table_id)
+        × (words.now.table_id.words ≡ word_count size) }
     requires rests { AppRests seat.old.me size tail head.old }
     requires some { 0 < length seat.old.me.0.app.known }
     ensures table { seat.new.table_id ≡ seat.old.table_id }
@@ -40,12 +43,16 @@ pub fn get_one(words: &Words, seat: &mut Seat, size: u32, tail: u32, head: &mut 
 
 // Gets the oldest completion that was put and not got. `None` says only that this end saw none.
 pub fn get(words: &Words, seat: &mut Seat, size: u32, tail: &mut u32, head: &mut u32) -> Option<Cqe>
-    requires table { (seat.old.table_id ≡ words.now.table_id) × (words.now.table_id.words ≡ word_count size) }
+    requires table { (seat.old.table_id ≡ words.now.table_id)
+        × (words.now.table_id.words ≡ word_count size) }
     requires rests { AppRests seat.old.me size tail.old head.old }
     ensures table { seat.new.table_id ≡ seat.old.table_id }
     ensures rests { AppRests seat.new.me size tail.new head.new }
     ensures dropped { seat.new.me.0.app.dropped ≡ seat.old.me.0.app.dropped }
-    ensures got { MatchOption result (completions_of seat.new.me.0.app.got ≡ completions_of seat.old.me.0.app.got) (λ completion. completions_of seat.new.me.0.app.got ≡ completions_of seat.old.me.0.app.got ++ completion ∷ []) }
+    ensures got { MatchOption result
+        (completions_of seat.new.me.0.app.got ≡ completions_of seat.old.me.0.app.got)
+        (λ completion. completions_of seat.new.me.0.app.got
+        ≡ completions_of seat.old.me.0.app.got ++ completion ∷ []) }
 {
     *tail = see_tail(words, seat, size, *tail, *head);
     if *head == *tail {
@@ -56,7 +63,8 @@ pub fn get(words: &Words, seat: &mut Seat, size: u32, tail: &mut u32, head: &mut
 
 // Loads the dropped word.
 pub fn load_dropped(words: &Words, seat: &mut Seat, size: u32) -> u32
-    requires table { (seat.old.table_id ≡ words.now.table_id) × (words.now.table_id.words ≡ word_count size) }
+    requires table { (seat.old.table_id ≡ words.now.table_id)
+        × (words.now.table_id.words ≡ word_count size) }
     requires app { (seat.old.me.0.is_app ≡ true) × (seat.old.me.0.app.size ≡ size) }
     ensures table { seat.new.table_id ≡ seat.old.table_id }
     ensures loaded { seat.new.me ≡ with_app seat.old.me (dropped_loaded seat.old.me.0.app result) }

@@ -11,11 +11,14 @@ use uring_entry::Cqe;
 
 // Loads the head.
 fn load_head(words: &Words, seat: &mut Seat, size: u32, tail: u32) -> u32
-    requires table { (seat.old.table_id ≡ words.now.table_id) × (words.now.table_id.words ≡ word_count size) }
+    requires table { (seat.old.table_id ≡ words.now.table_id)
+        × (words.now.table_id.words ≡ word_count size) }
     requires rests { KernelRests seat.old.me size tail }
     requires room { length seat.old.me.0.kernel.put ≤ seat.old.me.0.kernel.head_seen + size }
     ensures table { seat.new.table_id ≡ seat.old.table_id }
-    ensures is { seat.new.me ≡ with_kernel seat.old.me (head_loaded seat.old.me.0.kernel seat.new.me.0.kernel.head_seen) }
+    ensures is { seat.new.me
+        ≡ with_kernel seat.old.me
+        (head_loaded seat.old.me.0.kernel seat.new.me.0.kernel.head_seen) }
     ensures saw { SawHead seat.new.me.0.kernel result }
 {
     words.load::<LoadHead>(seat, 10 * size as usize + 1) as u32
@@ -32,7 +35,8 @@ fn free(_seat: &Seat, size: u32, head: u32, tail: u32) -> usize
 
 // How many completions there is room for, by the head as it is now.
 pub fn room(words: &Words, seat: &mut Seat, size: u32, head: &mut u32, tail: u32) -> usize
-    requires table { (seat.old.table_id ≡ words.now.table_id) × (words.now.table_id.words ≡ word_count size) }
+    requires table { (seat.old.table_id ≡ words.now.table_id)
+        × (words.now.table_id.words ≡ word_count size) }
     requires rests { KernelRests seat.old.me size tail }
     requires saw { SawHead seat.old.me.0.kernel head.old }
     ensures table { seat.new.table_id ≡ seat.old.table_id }
@@ -40,7 +44,8 @@ pub fn room(words: &Words, seat: &mut Seat, size: u32, head: &mut u32, tail: u32
     ensures saw { SawHead seat.new.me.0.kernel head.new }
     ensures put { seat.new.me.0.kernel.put ≡ seat.old.me.0.kernel.put }
     ensures dropped { seat.new.me.0.kernel.dropped ≡ seat.old.me.0.kernel.dropped }
-    ensures room { result + length seat.old.me.0.kernel.put ≡ seat.new.me.0.kernel.head_seen + size }
+    ensures room { result + length seat.old.me.0.kernel.put
+        ≡ seat.new.me.0.kernel.head_seen + size }
 {
     *head = load_head(words, seat, size, tail);
     free(seat, size, *head, tail)
@@ -48,7 +53,8 @@ pub fn room(words: &Words, seat: &mut Seat, size: u32, head: &mut u32, tail: u32
 
 // Puts a completion in the next cell, which is free.
 pub fn put(words: &Words, seat: &mut Seat, size: u32, head: u32, tail: &mut u32, completion: Cqe)
-    requires table { (seat.old.table_id ≡ words.now.table_id) × (words.now.table_id.words ≡ word_count size) }
+    requires table { (seat.old.table_id ≡ words.now.table_id)
+        × (words.now.table_id.words ≡ word_count size) }
     requires rests { KernelRests seat.old.me size tail.old }
     requires saw { SawHead seat.old.me.0.kernel head }
     requires room { length seat.old.me.0.kernel.put < seat.old.me.0.kernel.head_seen + size }
@@ -58,7 +64,8 @@ pub fn put(words: &Words, seat: &mut Seat, size: u32, head: u32, tail: &mut u32,
     ensures seen { seat.new.me.0.kernel.head_seen ≡ seat.old.me.0.kernel.head_seen }
     ensures dropped { seat.new.me.0.kernel.dropped ≡ seat.old.me.0.kernel.dropped }
     ensures more { length seat.new.me.0.kernel.put ≡ length seat.old.me.0.kernel.put + 1 }
-    ensures put { completions_of seat.new.me.0.kernel.put ≡ completions_of seat.old.me.0.kernel.put ++ completion ∷ [] }
+    ensures put { completions_of seat.new.me.0.kernel.put
+        ≡ completions_of seat.old.me.0.kernel.put ++ completion ∷ [] }
 {
     store_cell(words, seat, size, *tail % size, &cell_of(&completion));
     *tail = tail.wrapping_add(1);
@@ -67,10 +74,12 @@ pub fn put(words: &Words, seat: &mut Seat, size: u32, head: u32, tail: &mut u32,
 
 // Stores the dropped word.
 pub fn store_dropped(words: &Words, seat: &mut Seat, size: u32, dropped: u32)
-    requires table { (seat.old.table_id ≡ words.now.table_id) × (words.now.table_id.words ≡ word_count size) }
+    requires table { (seat.old.table_id ≡ words.now.table_id)
+        × (words.now.table_id.words ≡ word_count size) }
     requires kernel { (seat.old.me.0.is_kernel ≡ true) × (seat.old.me.0.kernel.size ≡ size) }
     ensures table { seat.new.table_id ≡ seat.old.table_id }
-    ensures stored { seat.new.me ≡ with_kernel seat.old.me (dropped_stored seat.old.me.0.kernel dropped) }
+    ensures stored { seat.new.me
+        ≡ with_kernel seat.old.me (dropped_stored seat.old.me.0.kernel dropped) }
 {
     words.store::<StoreDropped>(seat, 10 * size as usize + 2, dropped as u64);
 }

@@ -23,13 +23,17 @@ pub fn cell_of(completion: &Cqe) -> [u64; 10]
 
 // Stores the words of a completion in the next cell.
 pub fn store_cell(words: &Words, seat: &mut Seat, size: u32, place: u32, cell: &[u64; 10])
-    requires table { (seat.old.table_id ≡ words.now.table_id) × (words.now.table_id.words ≡ word_count size) }
-    requires kernel { (seat.old.me.0.is_kernel ≡ true) × (seat.old.me.0.kernel.size ≡ size) × (seat.old.me.0.kernel.cell ≡ []) }
+    requires table { (seat.old.table_id ≡ words.now.table_id)
+        × (words.now.table_id.words ≡ word_count size) }
+    requires kernel { (seat.old.me.0.is_kernel ≡ true) × (seat.old.me.0.kernel.size ≡ size)
+        × (seat.old.me.0.kernel.cell ≡ []) }
     requires size { (0 < size) × (size ≤ 8192) }
-    requires place { place ≡ place_of seat.old.me.0.kernel.start size (length seat.old.me.0.kernel.put) }
+    requires place { place
+        ≡ place_of seat.old.me.0.kernel.start size (length seat.old.me.0.kernel.put) }
     requires room { length seat.old.me.0.kernel.put < seat.old.me.0.kernel.head_seen + size }
     ensures table { seat.new.table_id ≡ seat.old.table_id }
-    ensures stored { seat.new.me ≡ with_kernel seat.old.me (record seat.old.me.0.kernel { cell = cell.now }) }
+    ensures stored { seat.new.me
+        ≡ with_kernel seat.old.me (record seat.old.me.0.kernel { cell = cell.now }) }
     ensures many { length cell.now ≡ 10 }
 {
     for (k, word) in cell.iter().enumerate() {
@@ -39,9 +43,12 @@ pub fn store_cell(words: &Words, seat: &mut Seat, size: u32, place: u32, cell: &
 
 // Stores the tail, with which the completion of the next cell is put.
 pub fn store_tail(words: &Words, seat: &mut Seat, size: u32, tail: u32)
-    requires table { (seat.old.table_id ≡ words.now.table_id) × (words.now.table_id.words ≡ word_count size) }
-    requires kernel { (seat.old.me.0.is_kernel ≡ true) × (seat.old.me.0.kernel.size ≡ size) × (length seat.old.me.0.kernel.cell ≡ 10) }
-    requires tail { tail ≡ word_of seat.old.me.0.kernel.start (length seat.old.me.0.kernel.put + 1) }
+    requires table { (seat.old.table_id ≡ words.now.table_id)
+        × (words.now.table_id.words ≡ word_count size) }
+    requires kernel { (seat.old.me.0.is_kernel ≡ true) × (seat.old.me.0.kernel.size ≡ size)
+        × (length seat.old.me.0.kernel.cell ≡ 10) }
+    requires tail { tail
+        ≡ word_of seat.old.me.0.kernel.start (length seat.old.me.0.kernel.put + 1) }
     requires room { length seat.old.me.0.kernel.put < seat.old.me.0.kernel.head_seen + size }
     ensures table { seat.new.table_id ≡ seat.old.table_id }
     ensures put { seat.new.me ≡ with_kernel seat.old.me (tail_stored seat.old.me.0.kernel) }

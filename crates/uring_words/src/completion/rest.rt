@@ -19,10 +19,13 @@ fn take_known(
     head: u32,
     completions: &mut Vec<Cqe>,
 )
-    requires table { (seat.old.table_id ≡ words.now.table_id) × (words.now.table_id.words ≡ word_count size) }
+    requires table { (seat.old.table_id ≡ words.now.table_id)
+        × (words.now.table_id.words ≡ word_count size) }
     requires rests { AppRests seat.old.me size tail head }
-    requires room { vec_len completions.old + length seat.old.me.0.app.known ≤ vec_capacity completions.old }
-    ensures { completions.new.items ≡ completions.old.items ++ completions_of seat.old.me.0.app.known }
+    requires room { vec_len completions.old + length seat.old.me.0.app.known
+        ≤ vec_capacity completions.old }
+    ensures { completions.new.items
+        ≡ completions.old.items ++ completions_of seat.old.me.0.app.known }
 {
     let mut word = head;
     for _ in 0..tail.wrapping_sub(head) {
@@ -40,14 +43,16 @@ pub fn take_undelivered(
     head: u32,
     completions: &mut Vec<Cqe>,
 )
-    requires table { (seat.old.table_id ≡ words.now.table_id) × (words.now.table_id.words ≡ word_count size) }
+    requires table { (seat.old.table_id ≡ words.now.table_id)
+        × (words.now.table_id.words ≡ word_count size) }
     requires app_table { app_seat.table_id ≡ words.now.table_id }
     requires kernel { seat.old.me.0.is_kernel ≡ true }
     requires rests { AppRests app_seat.me size tail head }
     requires carries_none { seat.old.me.1 ≡ [] }
     requires room { size ≤ vec_capacity completions.old }
     requires empty { completions.old.items ≡ [] }
-    ensures completions { LeavesCompletions (completions_of seat.old.me.0.kernel.put) (completions_of app_seat.me.0.app.got) completions.new.items }
+    ensures completions { LeavesCompletions (completions_of seat.old.me.0.kernel.put)
+        (completions_of app_seat.me.0.app.got) completions.new.items }
     ensures dropped { WereHad (0 ∷ seat.old.me.0.kernel.dropped) app_seat.me.0.app.dropped }
 {
     words.join_seat::<BothSides>(seat, app_seat);

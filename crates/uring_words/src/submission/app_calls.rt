@@ -23,7 +23,8 @@ fn free(_seat: &Seat, size: u32, head: u32, tail: u32) -> usize
 
 // Loads the head.
 fn load_head(words: &Words, seat: &mut Seat, size: u32, tail: u32) -> u32
-    requires table { (seat.old.table_id ≡ words.now.table_id) × (words.now.table_id.words ≡ word_count size) }
+    requires table { (seat.old.table_id ≡ words.now.table_id)
+        × (words.now.table_id.words ≡ word_count size) }
     requires rests { AppRests seat.old.me size tail }
     requires room { length seat.old.me.0.app.published ≤ seat.old.me.0.app.head_seen + size }
     ensures table { seat.new.table_id ≡ seat.old.table_id }
@@ -43,14 +44,17 @@ fn has_room(
     tail: u32,
     count: usize,
 ) -> bool
-    requires table { (seat.old.table_id ≡ words.now.table_id) × (words.now.table_id.words ≡ word_count size) }
+    requires table { (seat.old.table_id ≡ words.now.table_id)
+        × (words.now.table_id.words ≡ word_count size) }
     requires rests { AppRests seat.old.me size tail }
     requires saw { SawHead seat.old.me.0.app head.old }
     ensures table { seat.new.table_id ≡ seat.old.table_id }
     ensures rests { AppRests seat.new.me size tail }
     ensures saw { SawHead seat.new.me.0.app head.new }
     ensures published { seat.new.me.0.app.published ≡ seat.old.me.0.app.published }
-    ensures room { MatchBool result (length seat.old.me.0.app.published + count ≤ seat.new.me.0.app.head_seen + size) (size < length seat.old.me.0.app.published + count) }
+    ensures room { MatchBool result
+        (length seat.old.me.0.app.published + count ≤ seat.new.me.0.app.head_seen + size)
+        (size < length seat.old.me.0.app.published + count) }
 {
     if count <= free(seat, size, *head, tail) {
         return true;
@@ -61,15 +65,19 @@ fn has_room(
 
 // Stages items that others of their call follow.
 fn stage_front(words: &Words, seat: &mut Seat, size: u32, tail: u32, items: &[Item]) -> u32
-    requires table { (seat.old.table_id ≡ words.now.table_id) × (words.now.table_id.words ≡ word_count size) }
+    requires table { (seat.old.table_id ≡ words.now.table_id)
+        × (words.now.table_id.words ≡ word_count size) }
     requires rests { AppRests seat.old.me size tail }
-    requires room { length seat.old.me.0.app.published + length items.now ≤ seat.old.me.0.app.head_seen + size }
+    requires room { length seat.old.me.0.app.published + length items.now
+        ≤ seat.old.me.0.app.head_seen + size }
     requires items { AreItems size items.now }
     ensures table { seat.new.table_id ≡ seat.old.table_id }
-    ensures is { seat.new.me ≡ with_app seat.old.me (record seat.old.me.0.app { staged = seat.new.me.0.app.staged }) }
+    ensures is { seat.new.me
+        ≡ with_app seat.old.me (record seat.old.me.0.app { staged = seat.new.me.0.app.staged }) }
     ensures goes_on { AllGoOn seat.new.me.0.app.staged }
     ensures staged { map item_of seat.new.me.0.app.staged ≡ items.now }
-    ensures word { result ≡ word_of seat.old.me.0.app.start (length seat.old.me.0.app.published + length items.now) }
+    ensures word { result
+        ≡ word_of seat.old.me.0.app.start (length seat.old.me.0.app.published + length items.now) }
 {
     let mut word = tail;
     for item in items {
@@ -81,14 +89,17 @@ fn stage_front(words: &Words, seat: &mut Seat, size: u32, tail: u32, items: &[It
 
 // Stages the items of one call, for all of which there is room.
 fn stage_call(words: &Words, seat: &mut Seat, size: u32, tail: u32, items: &[Item]) -> u32
-    requires table { (seat.old.table_id ≡ words.now.table_id) × (words.now.table_id.words ≡ word_count size) }
+    requires table { (seat.old.table_id ≡ words.now.table_id)
+        × (words.now.table_id.words ≡ word_count size) }
     requires rests { AppRests seat.old.me size tail }
     requires some { 0 < length items.now }
-    requires room { length seat.old.me.0.app.published + length items.now ≤ seat.old.me.0.app.head_seen + size }
+    requires room { length seat.old.me.0.app.published + length items.now
+        ≤ seat.old.me.0.app.head_seen + size }
     requires items { AreItems size items.now }
     ensures table { seat.new.table_id ≡ seat.old.table_id }
     ensures staged { StagesCall seat.old.me seat.new.me items.now }
-    ensures word { result ≡ word_of seat.old.me.0.app.start (length seat.old.me.0.app.published + length items.now) }
+    ensures word { result
+        ≡ word_of seat.old.me.0.app.start (length seat.old.me.0.app.published + length items.now) }
 {
     let Some((last, front)) = items.split_last() else {
         return tail;
@@ -107,7 +118,8 @@ pub fn put_call(
     tail: &mut u32,
     items: &[Item],
 ) -> bool
-    requires table { (seat.old.table_id ≡ words.now.table_id) × (words.now.table_id.words ≡ word_count size) }
+    requires table { (seat.old.table_id ≡ words.now.table_id)
+        × (words.now.table_id.words ≡ word_count size) }
     requires rests { AppRests seat.old.me size tail.old }
     requires saw { SawHead seat.old.me.0.app head.old }
     requires open { has_close_mark seat.old.me.0.app.published ≡ false }
@@ -116,7 +128,11 @@ pub fn put_call(
     ensures table { seat.new.table_id ≡ seat.old.table_id }
     ensures rests { AppRests seat.new.me size tail.new }
     ensures saw { SawHead seat.new.me.0.app head.new }
-    ensures put { MatchBool result (put_of seat.new.me.0.app.published ≡ with_call (put_of seat.old.me.0.app.published) items.now) ((put_of seat.new.me.0.app.published ≡ put_of seat.old.me.0.app.published) × (size < places_of (put_of seat.old.me.0.app.published) + length items.now)) }
+    ensures put { MatchBool result
+        (put_of seat.new.me.0.app.published
+        ≡ with_call (put_of seat.old.me.0.app.published) items.now)
+        ((put_of seat.new.me.0.app.published ≡ put_of seat.old.me.0.app.published)
+        × (size < places_of (put_of seat.old.me.0.app.published) + length items.now)) }
 {
     if !has_room(words, seat, size, head, *tail, items.len()) {
         return false;
@@ -128,14 +144,18 @@ pub fn put_call(
 
 // Puts the close mark, if there is room for it.
 pub fn put_close(words: &Words, seat: &mut Seat, size: u32, head: &mut u32, tail: &mut u32) -> bool
-    requires table { (seat.old.table_id ≡ words.now.table_id) × (words.now.table_id.words ≡ word_count size) }
+    requires table { (seat.old.table_id ≡ words.now.table_id)
+        × (words.now.table_id.words ≡ word_count size) }
     requires rests { AppRests seat.old.me size tail.old }
     requires saw { SawHead seat.old.me.0.app head.old }
     requires open { has_close_mark seat.old.me.0.app.published ≡ false }
     ensures table { seat.new.table_id ≡ seat.old.table_id }
     ensures rests { AppRests seat.new.me size tail.new }
     ensures saw { SawHead seat.new.me.0.app head.new }
-    ensures put { MatchBool result (put_of seat.new.me.0.app.published ≡ with_close (put_of seat.old.me.0.app.published)) ((put_of seat.new.me.0.app.published ≡ put_of seat.old.me.0.app.published) × (size < places_of (put_of seat.old.me.0.app.published) + 1)) }
+    ensures put { MatchBool result
+        (put_of seat.new.me.0.app.published ≡ with_close (put_of seat.old.me.0.app.published))
+        ((put_of seat.new.me.0.app.published ≡ put_of seat.old.me.0.app.published)
+        × (size < places_of (put_of seat.old.me.0.app.published) + 1)) }
 {
     if !has_room(words, seat, size, head, *tail, 1) {
         return false;

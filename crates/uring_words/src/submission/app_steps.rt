@@ -36,13 +36,17 @@ fn mark_of(low: u32, last: bool) -> u64
 
 // Stores the words of an entry at the next place.
 fn store_entry(words: &Words, seat: &mut Seat, size: u32, place: u32, entry: &[u64; 16])
-    requires table { (seat.old.table_id ≡ words.now.table_id) × (words.now.table_id.words ≡ word_count size) }
-    requires app { (seat.old.me.0.is_app ≡ true) × (seat.old.me.0.app.size ≡ size) × (seat.old.me.0.app.entry ≡ []) }
+    requires table { (seat.old.table_id ≡ words.now.table_id)
+        × (words.now.table_id.words ≡ word_count size) }
+    requires app { (seat.old.me.0.is_app ≡ true) × (seat.old.me.0.app.size ≡ size)
+        × (seat.old.me.0.app.entry ≡ []) }
     requires size { (0 < size) × (size ≤ 4096) }
-    requires place { place ≡ place_of seat.old.me.0.app.start size (length (stored seat.old.me.0.app)) }
+    requires place { place
+        ≡ place_of seat.old.me.0.app.start size (length (stored seat.old.me.0.app)) }
     requires room { length (stored seat.old.me.0.app) < seat.old.me.0.app.head_seen + size }
     ensures table { seat.new.table_id ≡ seat.old.table_id }
-    ensures stored { seat.new.me ≡ with_app seat.old.me (record seat.old.me.0.app { entry = entry.now }) }
+    ensures stored { seat.new.me
+        ≡ with_app seat.old.me (record seat.old.me.0.app { entry = entry.now }) }
     ensures many { length entry.now ≡ 16 }
 {
     for (k, word) in entry.iter().enumerate() {
@@ -52,12 +56,15 @@ fn store_entry(words: &Words, seat: &mut Seat, size: u32, place: u32, entry: &[u
 
 // Stores an array word at the next place, with which the position is staged.
 fn store_mark(words: &Words, seat: &mut Seat, size: u32, place: u32, mark: u64)
-    requires table { (seat.old.table_id ≡ words.now.table_id) × (words.now.table_id.words ≡ word_count size) }
+    requires table { (seat.old.table_id ≡ words.now.table_id)
+        × (words.now.table_id.words ≡ word_count size) }
     requires app { (seat.old.me.0.is_app ≡ true) × (seat.old.me.0.app.size ≡ size) }
     requires size { (0 < size) × (size ≤ 4096) }
-    requires place { place ≡ place_of seat.old.me.0.app.start size (length (stored seat.old.me.0.app)) }
+    requires place { place
+        ≡ place_of seat.old.me.0.app.start size (length (stored seat.old.me.0.app)) }
     requires room { length (stored seat.old.me.0.app) < seat.old.me.0.app.head_seen + size }
-    requires formed { IsPosition size place (record { mark = mark; entry = seat.old.me.0.app.entry }) }
+    requires formed { IsPosition size place
+        (record { mark = mark; entry = seat.old.me.0.app.entry }) }
     ensures table { seat.new.table_id ≡ seat.old.table_id }
     ensures stored { seat.new.me ≡ with_app seat.old.me (mark_stored seat.old.me.0.app mark) }
 {
@@ -66,8 +73,10 @@ fn store_mark(words: &Words, seat: &mut Seat, size: u32, place: u32, mark: u64)
 
 // Stores the tail, with which all that is staged is published.
 pub fn publish(words: &Words, seat: &mut Seat, size: u32, tail: u32)
-    requires table { (seat.old.table_id ≡ words.now.table_id) × (words.now.table_id.words ≡ word_count size) }
-    requires app { (seat.old.me.0.is_app ≡ true) × (seat.old.me.0.app.size ≡ size) × (seat.old.me.0.app.entry ≡ []) }
+    requires table { (seat.old.table_id ≡ words.now.table_id)
+        × (words.now.table_id.words ≡ word_count size) }
+    requires app { (seat.old.me.0.is_app ≡ true) × (seat.old.me.0.app.size ≡ size)
+        × (seat.old.me.0.app.entry ≡ []) }
     requires tail { tail ≡ word_of seat.old.me.0.app.start (length (stored seat.old.me.0.app)) }
     requires whole { AreWhole (stored seat.old.me.0.app) }
     ensures table { seat.new.table_id ≡ seat.old.table_id }
@@ -78,8 +87,10 @@ pub fn publish(words: &Words, seat: &mut Seat, size: u32, tail: u32)
 
 // Stages an item at the next place.
 pub fn stage_item(words: &Words, seat: &mut Seat, size: u32, word: u32, item: &Item, last: bool)
-    requires table { (seat.old.table_id ≡ words.now.table_id) × (words.now.table_id.words ≡ word_count size) }
-    requires app { (seat.old.me.0.is_app ≡ true) × (seat.old.me.0.app.size ≡ size) × (seat.old.me.0.app.entry ≡ []) }
+    requires table { (seat.old.table_id ≡ words.now.table_id)
+        × (words.now.table_id.words ≡ word_count size) }
+    requires app { (seat.old.me.0.is_app ≡ true) × (seat.old.me.0.app.size ≡ size)
+        × (seat.old.me.0.app.entry ≡ []) }
     requires size { IsPowerOfTwo size × (size ≤ 4096) }
     requires word { word ≡ word_of seat.old.me.0.app.start (length (stored seat.old.me.0.app)) }
     requires room { length (stored seat.old.me.0.app) < seat.old.me.0.app.head_seen + size }
@@ -99,8 +110,10 @@ pub fn stage_item(words: &Words, seat: &mut Seat, size: u32, word: u32, item: &I
 
 // Stages the close mark at the next place.
 pub fn stage_close(words: &Words, seat: &mut Seat, size: u32, word: u32)
-    requires table { (seat.old.table_id ≡ words.now.table_id) × (words.now.table_id.words ≡ word_count size) }
-    requires app { (seat.old.me.0.is_app ≡ true) × (seat.old.me.0.app.size ≡ size) × (seat.old.me.0.app.entry ≡ []) }
+    requires table { (seat.old.table_id ≡ words.now.table_id)
+        × (words.now.table_id.words ≡ word_count size) }
+    requires app { (seat.old.me.0.is_app ≡ true) × (seat.old.me.0.app.size ≡ size)
+        × (seat.old.me.0.app.entry ≡ []) }
     requires size { IsPowerOfTwo size × (size ≤ 4096) }
     requires word { word ≡ word_of seat.old.me.0.app.start (length (stored seat.old.me.0.app)) }
     requires room { length (stored seat.old.me.0.app) < seat.old.me.0.app.head_seen + size }

@@ -13,23 +13,30 @@ use uring_ports::{Item, Pulled};
 
 // Loads the tail.
 pub fn load_tail(words: &Words, seat: &mut Seat, size: u32, tail: u32, head: u32) -> u32
-    requires table { (seat.old.table_id ≡ words.now.table_id) × (words.now.table_id.words ≡ word_count size) }
+    requires table { (seat.old.table_id ≡ words.now.table_id)
+        × (words.now.table_id.words ≡ word_count size) }
     requires rests { KernelRests seat.old.me size tail head }
     ensures table { seat.new.table_id ≡ seat.old.table_id }
     ensures rests { KernelRests seat.new.me size result head }
-    ensures is { seat.new.me ≡ with_kernel seat.old.me (record seat.old.me.0.kernel { known = seat.new.me.0.kernel.known }) }
-    ensures all { seat.old.me.0.is_app ≡ true → seat.old.me.0.app.published ≡ seat.old.me.0.kernel.copied ++ seat.new.me.0.kernel.known }
+    ensures is { seat.new.me
+        ≡ with_kernel seat.old.me
+        (record seat.old.me.0.kernel { known = seat.new.me.0.kernel.known }) }
+    ensures all { seat.old.me.0.is_app ≡ true
+        → seat.old.me.0.app.published ≡ seat.old.me.0.kernel.copied ++ seat.new.me.0.kernel.known }
 {
     words.load::<LoadTail>(seat, 17 * size as usize) as u32
 }
 
 // Loads the tail if nothing is known to be there.
 fn see_tail(words: &Words, seat: &mut Seat, size: u32, tail: u32, head: u32) -> u32
-    requires table { (seat.old.table_id ≡ words.now.table_id) × (words.now.table_id.words ≡ word_count size) }
+    requires table { (seat.old.table_id ≡ words.now.table_id)
+        × (words.now.table_id.words ≡ word_count size) }
     requires rests { KernelRests seat.old.me size tail head }
     ensures table { seat.new.table_id ≡ seat.old.table_id }
     ensures rests { KernelRests seat.new.me size result head }
-    ensures is { seat.new.me ≡ with_kernel seat.old.me (record seat.old.me.0.kernel { known = seat.new.me.0.kernel.known }) }
+    ensures is { seat.new.me
+        ≡ with_kernel seat.old.me
+        (record seat.old.me.0.kernel { known = seat.new.me.0.kernel.known }) }
 {
     if head != tail {
         return tail;
@@ -39,7 +46,8 @@ fn see_tail(words: &Words, seat: &mut Seat, size: u32, tail: u32, head: u32) -> 
 
 // Stores the head, with which all that was copied is taken.
 fn store_head(words: &Words, seat: &mut Seat, size: u32, head: u32)
-    requires table { (seat.old.table_id ≡ words.now.table_id) × (words.now.table_id.words ≡ word_count size) }
+    requires table { (seat.old.table_id ≡ words.now.table_id)
+        × (words.now.table_id.words ≡ word_count size) }
     requires copying { Copying seat.old.me size head }
     ensures table { seat.new.table_id ≡ seat.old.table_id }
     ensures stored { seat.new.me ≡ with_kernel seat.old.me (head_stored seat.old.me.0.kernel) }
@@ -56,7 +64,8 @@ fn copy_call(
     head: &mut u32,
     items: &mut Vec<Item>,
 ) -> Pulled
-    requires table { (seat.old.table_id ≡ words.now.table_id) × (words.now.table_id.words ≡ word_count size) }
+    requires table { (seat.old.table_id ≡ words.now.table_id)
+        × (words.now.table_id.words ≡ word_count size) }
     requires rests { KernelRests seat.old.me size tail head.old }
     requires some { 0 < length seat.old.me.0.kernel.known }
     requires open { has_close_mark seat.old.me.0.kernel.copied ≡ false }
@@ -64,12 +73,16 @@ fn copy_call(
     requires room { size ≤ vec_capacity items.old }
     ensures table { seat.new.table_id ≡ seat.old.table_id }
     ensures copying { Copying seat.new.me size head.new }
-    ensures is { seat.new.me ≡ with_kernel seat.old.me (record seat.old.me.0.kernel { copied = seat.new.me.0.kernel.copied; known = seat.new.me.0.kernel.known }) }
-    ensures known { seat.new.me.0.kernel.copied ++ seat.new.me.0.kernel.known ≡ seat.old.me.0.kernel.copied ++ seat.old.me.0.kernel.known }
+    ensures is { seat.new.me
+        ≡ with_kernel seat.old.me
+        (record seat.old.me.0.kernel { copied = seat.new.me.0.kernel.copied; known = seat.new.me.0.kernel.known }) }
+    ensures known { seat.new.me.0.kernel.copied ++ seat.new.me.0.kernel.known
+        ≡ seat.old.me.0.kernel.copied ++ seat.old.me.0.kernel.known }
     ensures more { length seat.old.me.0.kernel.copied ≤ length seat.new.me.0.kernel.copied }
     ensures whole { AreWhole seat.new.me.0.kernel.copied }
     ensures room { vec_capacity items.new ≡ vec_capacity items.old }
-    ensures pulled { Pulls size (put_of seat.old.me.0.kernel.copied) result items.new.items (put_of seat.new.me.0.kernel.copied) }
+    ensures pulled { Pulls size (put_of seat.old.me.0.kernel.copied) result items.new.items
+        (put_of seat.new.me.0.kernel.copied) }
 {
     for _ in 0..tail.wrapping_sub(*head) {
         let copied = copy_one(words, seat, size, *head);
@@ -95,7 +108,8 @@ pub fn pull(
     head: &mut u32,
     items: &mut Vec<Item>,
 ) -> Pulled
-    requires table { (seat.old.table_id ≡ words.now.table_id) × (words.now.table_id.words ≡ word_count size) }
+    requires table { (seat.old.table_id ≡ words.now.table_id)
+        × (words.now.table_id.words ≡ word_count size) }
     requires rests { KernelRests seat.old.me size tail.old head.old }
     requires open { has_close_mark seat.old.me.0.kernel.copied ≡ false }
     requires room { size ≤ vec_capacity items.old }
@@ -103,7 +117,8 @@ pub fn pull(
     ensures rests { KernelRests seat.new.me size tail.new head.new }
     ensures same { seat.new.me.0.is_app ≡ seat.old.me.0.is_app }
     ensures room { vec_capacity items.new ≡ vec_capacity items.old }
-    ensures pulled { Pulls size (put_of seat.old.me.0.kernel.copied) result items.new.items (put_of seat.new.me.0.kernel.copied) }
+    ensures pulled { Pulls size (put_of seat.old.me.0.kernel.copied) result items.new.items
+        (put_of seat.new.me.0.kernel.copied) }
 {
     items.clear();
     *tail = see_tail(words, seat, size, *tail, *head);

@@ -29,10 +29,13 @@ pub enum Copied {
 
 // Loads the array word of the first known position.
 fn load_mark(words: &Words, seat: &mut Seat, size: u32, place: u32) -> u64
-    requires table { (seat.old.table_id ≡ words.now.table_id) × (words.now.table_id.words ≡ word_count size) }
-    requires kernel { (seat.old.me.0.is_kernel ≡ true) × (seat.old.me.0.kernel.size ≡ size) × (0 < length seat.old.me.0.kernel.known) }
+    requires table { (seat.old.table_id ≡ words.now.table_id)
+        × (words.now.table_id.words ≡ word_count size) }
+    requires kernel { (seat.old.me.0.is_kernel ≡ true) × (seat.old.me.0.kernel.size ≡ size)
+        × (0 < length seat.old.me.0.kernel.known) }
     requires size { (0 < size) × (size ≤ 4096) }
-    requires place { place ≡ place_of seat.old.me.0.kernel.start size (length seat.old.me.0.kernel.copied) }
+    requires place { place
+        ≡ place_of seat.old.me.0.kernel.start size (length seat.old.me.0.kernel.copied) }
     ensures table { seat.new.table_id ≡ seat.old.table_id }
     ensures loaded { seat.new.me ≡ with_kernel seat.old.me (word_loaded seat.old.me.0.kernel) }
     ensures told { MarkTold seat.old.me.0.kernel result }
@@ -42,13 +45,19 @@ fn load_mark(words: &Words, seat: &mut Seat, size: u32, place: u32) -> u64
 
 // Loads the entry words of the first known position, whose array word is loaded. It is then copied.
 fn load_entry(words: &Words, seat: &mut Seat, size: u32, place: u32) -> [u64; 16]
-    requires table { (seat.old.table_id ≡ words.now.table_id) × (words.now.table_id.words ≡ word_count size) }
-    requires kernel { (seat.old.me.0.is_kernel ≡ true) × (seat.old.me.0.kernel.size ≡ size) × (seat.old.me.0.kernel.loaded ≡ 1) }
-    requires known { (p : Position) × (ps : List Position) × (seat.old.me.0.kernel.known ≡ p ∷ ps) × (length p.entry ≡ 16) }
+    requires table { (seat.old.table_id ≡ words.now.table_id)
+        × (words.now.table_id.words ≡ word_count size) }
+    requires kernel { (seat.old.me.0.is_kernel ≡ true) × (seat.old.me.0.kernel.size ≡ size)
+        × (seat.old.me.0.kernel.loaded ≡ 1) }
+    requires known { (p : Position) × (ps : List Position) × (seat.old.me.0.kernel.known ≡ p ∷ ps)
+        × (length p.entry ≡ 16) }
     requires size { (0 < size) × (size ≤ 4096) }
-    requires place { place ≡ place_of seat.old.me.0.kernel.start size (length seat.old.me.0.kernel.copied) }
+    requires place { place
+        ≡ place_of seat.old.me.0.kernel.start size (length seat.old.me.0.kernel.copied) }
     ensures table { seat.new.table_id ≡ seat.old.table_id }
-    ensures copied { (p : Position) (ps : List Position) → seat.old.me.0.kernel.known ≡ p ∷ ps → (result ≡ p.entry) × (seat.new.me ≡ with_kernel seat.old.me (copied_one seat.old.me.0.kernel p ps)) }
+    ensures copied { (p : Position) (ps : List Position) → seat.old.me.0.kernel.known ≡ p ∷ ps
+        → (result ≡ p.entry)
+        × (seat.new.me ≡ with_kernel seat.old.me (copied_one seat.old.me.0.kernel p ps)) }
 {
     let mut entry = [0; 16];
     for k in 0..16 {
@@ -66,7 +75,8 @@ fn is_of_entry(size: u32, mark: u64) -> bool
 
 // What a position with this array word holds, if not the close mark.
 fn copied_item(mark: u64, item: Item) -> Copied
-    ensures { (p : Position) → p.mark ≡ mark → closes mark ≡ false → item_of p ≡ item → HoldsAs result p }
+    ensures { (p : Position) → p.mark ≡ mark → closes mark ≡ false → item_of p ≡ item
+        → HoldsAs result p }
 {
     if mark >> 32 == 1 {
         Copied::Last(item)
@@ -77,7 +87,8 @@ fn copied_item(mark: u64, item: Item) -> Copied
 
 /// Copies the first known position, whose index word is `word`.
 pub fn copy_one(words: &Words, seat: &mut Seat, size: u32, word: u32) -> Copied
-    requires table { (seat.old.table_id ≡ words.now.table_id) × (words.now.table_id.words ≡ word_count size) }
+    requires table { (seat.old.table_id ≡ words.now.table_id)
+        × (words.now.table_id.words ≡ word_count size) }
     requires copying { Copying seat.old.me size word }
     requires some { 0 < length seat.old.me.0.kernel.known }
     ensures table { seat.new.table_id ≡ seat.old.table_id }

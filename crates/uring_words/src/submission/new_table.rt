@@ -14,8 +14,10 @@ use std::alloc::{AllocError, Global};
 fn first_words(alloc: Global, shape: Shape) -> Result<Vec<u64>, AllocError>
     requires { shape.size ≤ 4096 }
     ensures many { IfOk result (λ words. length words.items ≡ word_count shape.size) }
-    ensures tail { IfOk result (λ words. slice_index words.items (tail_index shape.size) ≡ shape.start) }
-    ensures head { IfOk result (λ words. slice_index words.items (head_index shape.size) ≡ shape.start) }
+    ensures tail { IfOk result
+        (λ words. slice_index words.items (tail_index shape.size) ≡ shape.start) }
+    ensures head { IfOk result
+        (λ words. slice_index words.items (head_index shape.size) ≡ shape.start) }
 {
     let tail = 17 * shape.size as usize;
     let mut words = Vec::from_elem(alloc, 0, tail + 2)?;
@@ -29,7 +31,9 @@ pub fn new_table(alloc: Global, shape: Shape) -> Result<(Ring, Seat, Seat), Allo
     requires power { IsPowerOfTwo shape.size }
     requires limit { shape.size ≤ 4096 }
     ensures words { IfOk result (λ made. made.0.shared.table_id.words ≡ word_count shape.size) }
-    ensures tables { IfOk result (λ made. (made.1.table_id ≡ made.0.shared.table_id) × (made.2.table_id ≡ made.0.shared.table_id)) }
+    ensures tables { IfOk result
+        (λ made. (made.1.table_id ≡ made.0.shared.table_id)
+        × (made.2.table_id ≡ made.0.shared.table_id)) }
     ensures app { IfOk result (λ made. made.1.me ≡ (app_part (at_first shape), [])) }
     ensures kernel { IfOk result (λ made. made.2.me ≡ (kernel_part (at_first shape), [])) }
 {

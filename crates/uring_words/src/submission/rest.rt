@@ -19,7 +19,8 @@ fn take_known(
     head: u32,
     items: &mut Vec<Item>,
 )
-    requires table { (seat.old.table_id ≡ words.now.table_id) × (words.now.table_id.words ≡ word_count size) }
+    requires table { (seat.old.table_id ≡ words.now.table_id)
+        × (words.now.table_id.words ≡ word_count size) }
     requires rests { KernelRests seat.old.me size tail head }
     requires room { vec_len items.old + length seat.old.me.0.kernel.known ≤ vec_capacity items.old }
     ensures { items.new.items ≡ items.old.items ++ items_of seat.old.me.0.kernel.known }
@@ -44,13 +45,16 @@ pub fn take_unsent(
     head: u32,
     items: &mut Vec<Item>,
 )
-    requires table { (seat.old.table_id ≡ words.now.table_id) × (words.now.table_id.words ≡ word_count size) }
+    requires table { (seat.old.table_id ≡ words.now.table_id)
+        × (words.now.table_id.words ≡ word_count size) }
     requires app_table { app_seat.table_id ≡ words.now.table_id }
     requires rests { KernelRests seat.old.me size tail head }
-    requires app_rests { (app_seat.me.0.is_app ≡ true) × (app_seat.me.1 ≡ []) × AreWhole app_seat.me.0.app.published }
+    requires app_rests { (app_seat.me.0.is_app ≡ true) × (app_seat.me.1 ≡ [])
+        × AreWhole app_seat.me.0.app.published }
     requires room { size ≤ vec_capacity items.old }
     requires empty { items.old.items ≡ [] }
-    ensures { LeavesItems (put_of app_seat.me.0.app.published) (put_of seat.old.me.0.kernel.copied) items.new.items }
+    ensures { LeavesItems (put_of app_seat.me.0.app.published)
+        (put_of seat.old.me.0.kernel.copied) items.new.items }
 {
     words.join_seat::<BothSides>(seat, app_seat);
     let tail = load_tail(words, seat, size, tail, head);
