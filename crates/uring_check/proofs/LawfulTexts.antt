@@ -32,7 +32,10 @@ no_bad verdict.Wrong e = absurd cc
 no_bad verdict.Bad e = absurd cc
 
 -- one line more
-right_more : (g : Rules) (all : Bool) (before : List Found) (line : List ℕ) (f : Finding) → IsFindingBehind (has_stopped all before) g (history_behind before) line f → judged (verdict_of before) f ≡ verdict.Lawful → (verdict_of before ≡ verdict.Lawful → IsRight g all before)
+right_more : (g : Rules) (all : Bool) (before : List Found) (line : List ℕ) (f : Finding)
+    → IsFindingBehind (has_stopped all before) g (history_behind before) line f
+    → judged (verdict_of before) f ≡ verdict.Lawful
+    → (verdict_of before ≡ verdict.Lawful → IsRight g all before)
     → IsRight g all (record { line = line; finding = f } ∷ before)
 right_more g all before line finding.Passed is v prior =
     let r = prior v in
@@ -46,23 +49,30 @@ right_more g all before line (finding.Right s a) is v prior =
       recorded = inr ((s, a), history_behind before, refl, (so.0, so.1), r.recorded);
       goes_on = r.goes_on;
     }
-right_more g all before line (finding.Wrong s wanted) is v prior = absurd (no_fault (verdict_of before) v)
+right_more g all before line (finding.Wrong s wanted) is v prior =
+    absurd (no_fault (verdict_of before) v)
 right_more g all before line finding.Bad is v prior = absurd (no_bad (verdict_of before) v)
 right_more g all before line finding.Skipped is v prior =
     let r = prior v in
     absurd (subst (λ (b : Bool). IsFindingBehind b g (history_behind before) line finding.Skipped) r.goes_on is)
 
-pub all_right : (g : Rules) (all : Bool) (xs : List Found) → AreFound g all xs → verdict_of xs ≡ verdict.Lawful → IsRight g all xs
+pub all_right : (g : Rules) (all : Bool) (xs : List Found) → AreFound g all xs
+    → verdict_of xs ≡ verdict.Lawful → IsRight g all xs
 all_right g all [] are v = record { lawful = lawful_none g; recorded = refl; goes_on = refl }
-all_right g all (x ∷ before) are v = right_more g all before x.line x.finding are.0 v (all_right g all before are.1)
+all_right g all (x ∷ before) are v =
+    right_more g all before x.line x.finding are.0 v (all_right g all before are.1)
 
-pub lawful_said : (g : Rules) (all : Bool) (xs : List Found) → AreFound g all xs → verdict_of xs ≡ verdict.Lawful → IsLawfulText g (lines_of xs)
-lawful_said g all xs are v = let r = all_right g all xs are v in (history_behind xs, r.lawful, r.recorded)
+pub lawful_said : (g : Rules) (all : Bool) (xs : List Found) → AreFound g all xs
+    → verdict_of xs ≡ verdict.Lawful → IsLawfulText g (lines_of xs)
+lawful_said g all xs are v =
+    let r = all_right g all xs are v in (history_behind xs, r.lawful, r.recorded)
 
 -- ---- one lawful history has the text
 
 -- a line records one event at most that is lawful behind a history
-same_event : (g : Rules) (past known : History) (line : List ℕ) (s t : Step) (a b : Answer) → past ≡ known → Records g line (t, b) → Records g line (s, a) → IsCalled g past t b → IsCalled g known s a → ((t, b) ∷ past) ≡ ((s, a) ∷ known)
+same_event : (g : Rules) (past known : History) (line : List ℕ) (s t : Step) (a b : Answer)
+    → past ≡ known → Records g line (t, b) → Records g line (s, a) → IsCalled g past t b
+    → IsCalled g known s a → ((t, b) ∷ past) ≡ ((s, a) ∷ known)
 same_event g past known line s t a b same rec is called right =
     let once = record_once line t s (text_of b) (text_of a) rec.0 is.0 in
     let there : IsCalled g known t b = subst (λ (h : History). IsCalled g h t b) same called in
@@ -71,7 +81,8 @@ same_event g past known line s t a b same rec is called right =
     let answers : b ≡ a = called_once g known s b a here right once.1 plain is.1 in
     λ i. (once.0 i, answers i) ∷ same i
 
-pub same_history : (g : Rules) (lines : List (List ℕ)) (h k : History) → IsLawfulBy g h → AreRecorded g lines h → IsLawfulBy g k → AreRecorded g lines k → h ≡ k
+pub same_history : (g : Rules) (lines : List (List ℕ)) (h k : History) → IsLawfulBy g h
+    → AreRecorded g lines h → IsLawfulBy g k → AreRecorded g lines k → h ≡ k
 same_history g [] h k p x q y = x ∙ sym y
 same_history g (line ∷ lines) h k p (inl x) q (inl y) = same_history g lines h k p x.1 q y.1
 same_history g (line ∷ lines) h k p (inl x) q (inr y) = absurd (x.0.0 y.0.0 (text_of y.0.1) y.3.0)
@@ -85,27 +96,35 @@ same_history g (line ∷ lines) h k p (inr x) q (inr y) =
 -- ---- the text of no lawful history
 
 -- the finding of a line behind right ones
-found_next : (g : Rules) (all : Bool) (x : Found) (before : List Found) → AreFound g all (x ∷ before) → verdict_of before ≡ verdict.Lawful → IsFinding g (history_behind before) x.line x.finding
+found_next : (g : Rules) (all : Bool) (x : Found) (before : List Found)
+    → AreFound g all (x ∷ before) → verdict_of before ≡ verdict.Lawful
+    → IsFinding g (history_behind before) x.line x.finding
 found_next g all x before are v = subst (λ (b : Bool). IsFindingBehind b g (history_behind before) x.line x.finding) (all_right g all before are.1 v).goes_on are.0
 
 -- the lines before are the text of a lawful history too
-lawful_before : (g : Rules) (line : List ℕ) (lines : List (List ℕ)) → IsLawfulText g (line ∷ lines) → IsLawfulText g lines
+lawful_before : (g : Rules) (line : List ℕ) (lines : List (List ℕ)) → IsLawfulText g (line ∷ lines)
+    → IsLawfulText g lines
 lawful_before g line lines (h, lawful, inl passed) = (h, lawful, passed.1)
 lawful_before g line lines (h, lawful, inr r) = let so : IsLawfulBy g (r.0 ∷ r.1) = subst (IsLawfulBy g) r.2 lawful in (r.1, lawful_rest g r.0.0 r.0.1 r.1 so, r.4)
 
 -- the first line that isn't right is no line of a lawful history
-none_more : (g : Rules) (line : List ℕ) (lines : List (List ℕ)) (known h : History) (f : Finding) → IsFinding g known line f → (judged verdict.Lawful f ≡ verdict.Lawful → ⊥)
-    → ((past : History) → IsLawfulBy g past → AreRecorded g lines past → past ≡ known) → IsLawfulBy g h → AreRecorded g (line ∷ lines) h → ⊥
+none_more : (g : Rules) (line : List ℕ) (lines : List (List ℕ)) (known h : History) (f : Finding)
+    → IsFinding g known line f → (judged verdict.Lawful f ≡ verdict.Lawful → ⊥)
+    → ((past : History) → IsLawfulBy g past → AreRecorded g lines past → past ≡ known)
+    → IsLawfulBy g h → AreRecorded g (line ∷ lines) h → ⊥
 none_more g line lines known h finding.Passed is v prior lawful rec = v refl
 none_more g line lines known h (finding.Right s a) is v prior lawful rec = v refl
-none_more g line lines known h (finding.Wrong s wanted) is v prior lawful (inl passed) = passed.0.0 s is.0 is.1
+none_more g line lines known h (finding.Wrong s wanted) is v prior lawful (inl passed) =
+    passed.0.0 s is.0 is.1
 none_more g line lines known h (finding.Wrong s wanted) is v prior lawful (inr r) =
     let so : IsLawfulBy g (r.0 ∷ r.1) = subst (IsLawfulBy g) r.2 lawful in
     let once = record_once line r.0.0 s (text_of r.0.1) is.0 r.3.0 is.1 in
     let there : IsCalled g known r.0.0 r.0.1 = subst (λ (past : History). IsCalled g past r.0.0 r.0.1) (prior r.1 (lawful_rest g r.0.0 r.0.1 r.1 so) r.4) (called_first g r.0.0 r.0.1 r.1 so) in
     is.2.not_called r.0.1 (subst (λ (x : Step). IsCalled g known x r.0.1) once.0 there) once.1 (subst (λ (x : Step). IsPlain r.0.1 g.is_apart x) once.0 r.3.1)
-none_more g line lines known h finding.Bad is v prior lawful (inl passed) = true≢false (sym passed.0.1 ∙ is.1)
-none_more g line lines known h finding.Bad is v prior lawful (inr r) = is.0 r.0.0 (text_of r.0.1) r.3.0
+none_more g line lines known h finding.Bad is v prior lawful (inl passed) =
+    true≢false (sym passed.0.1 ∙ is.1)
+none_more g line lines known h finding.Bad is v prior lawful (inr r) =
+    is.0 r.0.0 (text_of r.0.1) r.3.0
 none_more g line lines known h finding.Skipped is v prior lawful rec = v refl
 
 -- a verdict is that of no fault, or isn't
@@ -114,7 +133,8 @@ no_fault_or_one verdict.Lawful = inl refl
 no_fault_or_one verdict.Wrong = inr (λ e. absurd cc)
 no_fault_or_one verdict.Bad = inr (λ e. absurd cc)
 
-unlawful_said : (g : Rules) (all : Bool) (xs : List Found) → AreFound g all xs → (verdict_of xs ≡ verdict.Lawful → ⊥) → IsLawfulText g (lines_of xs) → ⊥
+unlawful_said : (g : Rules) (all : Bool) (xs : List Found) → AreFound g all xs
+    → (verdict_of xs ≡ verdict.Lawful → ⊥) → IsLawfulText g (lines_of xs) → ⊥
 unlawful_said g all [] are v is = v refl
 unlawful_said g all (x ∷ before) are v is = elim (no_fault_or_one (verdict_of before)) [
   | inl so ↦
@@ -124,7 +144,10 @@ unlawful_said g all (x ∷ before) are v is = elim (no_fault_or_one (verdict_of 
   | inr fault ↦ unlawful_said g all before are.1 fault (lawful_before g x.line (lines_of before) is)
 ]
 
-pub said : (g : Rules) (all : Bool) (xs : List Found) (v : Verdict) → AreFound g all xs → v ≡ verdict_of xs → Says g (lines_of xs) v
+pub said : (g : Rules) (all : Bool) (xs : List Found) (v : Verdict) → AreFound g all xs
+    → v ≡ verdict_of xs → Says g (lines_of xs) v
 said g all xs verdict.Lawful are e = lawful_said g all xs are (sym e)
-said g all xs verdict.Wrong are e = unlawful_said g all xs are (λ v. let no : verdict.Wrong ≡ verdict.Lawful = e ∙ v in absurd cc)
-said g all xs verdict.Bad are e = unlawful_said g all xs are (λ v. let no : verdict.Bad ≡ verdict.Lawful = e ∙ v in absurd cc)
+said g all xs verdict.Wrong are e =
+    unlawful_said g all xs are (λ v. let no : verdict.Wrong ≡ verdict.Lawful = e ∙ v in absurd cc)
+said g all xs verdict.Bad are e =
+    unlawful_said g all xs are (λ v. let no : verdict.Bad ≡ verdict.Lawful = e ∙ v in absurd cc)

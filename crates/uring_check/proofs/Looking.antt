@@ -28,7 +28,8 @@ use Rattle.uring_check.proofs.WantedAnswers.{fits_called}
 
 -- ---- one line
 
-pub looked_passed : (c : Checker) (line : List ℕ) (h : History) → IsNoRecord line → is_remark line ≡ true → c.is_over ≡ false → FitsBy c.machine h → Looked c c line h
+pub looked_passed : (c : Checker) (line : List ℕ) (h : History) → IsNoRecord line
+    → is_remark line ≡ true → c.is_over ≡ false → FitsBy c.machine h → Looked c c line h
 looked_passed c line h none remark over fits = record {
   finding = finding.Passed;
   is_so = (none, remark);
@@ -42,21 +43,27 @@ looked_passed c line h none remark over fits = record {
   told = sym (append-nil c.report.items);
 }
 
-bad_told : (w : World) (n : ℕ) (line items : List ℕ) → items ++ line_text n ++ ended (codes "bad line") ≡ items ++ told_of w n line finding.Bad
+bad_told : (w : World) (n : ℕ) (line items : List ℕ)
+    → items ++ line_text n ++ ended (codes "bad line") ≡ items ++ told_of w n line finding.Bad
 bad_told w n line items = simp append_assoc refl
 
 regroup : (i a b c d e : List ℕ) → i ++ a ++ b ++ c ++ d ++ e ≡ i ++ (a ++ b ++ c ++ d ++ e)
 regroup i a b c d e = simp append_assoc refl
 
-wrong_told : (w : World) (n : ℕ) (line items : List ℕ) (s : Step) (wanted : Wanted) → items ++ line_text n ++ ended line ++ codes "wanted: " ++ ended (wanted_text wanted) ++ why_told (why_asked w.requests s) ≡ items ++ told_of w n line (finding.Wrong s wanted)
+wrong_told : (w : World) (n : ℕ) (line items : List ℕ) (s : Step) (wanted : Wanted)
+    → items ++ line_text n ++ ended line ++ codes "wanted: " ++ ended (wanted_text wanted) ++ why_told (why_asked w.requests s)
+    ≡ items ++ told_of w n line (finding.Wrong s wanted)
 wrong_told w n line items s wanted = regroup items (line_text n) (ended line) (codes "wanted: ") (ended (wanted_text wanted)) (why_told (why_asked w.requests s))
 
 -- a checker that found a bad line, and told it
 abbrev pub found_bad : Checker → Vec ℕ Global → Checker
 found_bad c report = record c { is_over = true; report = report }
 
-pub looked_bad : (old mid : Checker) (report : Vec ℕ Global) (line : List ℕ) (h : History) → mid ≡ record old { verdict = first_fault old.verdict verdict.Bad } → IsNoRecord line → is_remark line ≡ false → FitsBy old.machine h
-    → report.items ≡ mid.report.items ++ line_text mid.number ++ ended (codes "bad line") → Looked old (found_bad mid report) line h
+pub looked_bad : (old mid : Checker) (report : Vec ℕ Global) (line : List ℕ) (h : History)
+    → mid ≡ record old { verdict = first_fault old.verdict verdict.Bad } → IsNoRecord line
+    → is_remark line ≡ false → FitsBy old.machine h
+    → report.items ≡ mid.report.items ++ line_text mid.number ++ ended (codes "bad line")
+    → Looked old (found_bad mid report) line h
 looked_bad old mid report line h is none remark fits =
     subst (λ (m : Checker). report.items ≡ m.report.items ++ line_text m.number ++ ended (codes "bad line") → Looked old (found_bad m report) line h) (sym is)
     (λ told. record {
@@ -76,7 +83,9 @@ looked_bad old mid report line h is none remark fits =
 abbrev pub with_machine : Checker → Follower → AnswerText → Checker
 with_machine c m t = record c { machine = m; told = t }
 
-pub looked_right : (old : Checker) (m : Follower) (t : AnswerText) (steps : ℕ) (s : Step) (text line : List ℕ) → steps ≡ min (old.steps + 1) (2 ^ 64 - 1) → rules_of m ≡ rules_of old.machine → old.is_over ≡ false → Judges old.machine m s text None → IsRecord line s text
+pub looked_right : (old : Checker) (m : Follower) (t : AnswerText) (steps : ℕ) (s : Step) (text line : List ℕ)
+    → steps ≡ min (old.steps + 1) (2 ^ 64 - 1) → rules_of m ≡ rules_of old.machine
+    → old.is_over ≡ false → Judges old.machine m s text None → IsRecord line s text
     → LooksAt old (record old { machine = m; steps = steps; told = t }) line
 looked_right old m t steps s text line counted same over judges is = λ h f.
     let j = judges h f in
@@ -97,9 +106,14 @@ looked_right old m t steps s text line counted same over judges is = λ h f.
 abbrev pub found_wrong : Checker → Vec ℕ Global → Checker
 found_wrong c report = record c { verdict = first_fault c.verdict verdict.Wrong; is_over = not c.is_all; report = report }
 
-pub looked_wrong : (old new : Checker) (m : Follower) (t : AnswerText) (s : Step) (text line shown : List ℕ) (why : Option (ℕ × Why)) → rules_of m ≡ rules_of old.machine
-    → ((h : History) → FitsBy old.machine h → why ≡ why_asked (world (rules_of old.machine).setup h).requests s) → (wanted : Wanted) × (shown ≡ wanted_text wanted) × Judges old.machine m s text (Some wanted) → new ≡ found_wrong (with_machine old m t) new.report
-    → new.report.items ≡ old.report.items ++ line_text old.number ++ ended line ++ codes "wanted: " ++ ended shown ++ why_told why → IsRecord line s text → LooksAt old new line
+pub looked_wrong : (old new : Checker) (m : Follower) (t : AnswerText) (s : Step) (text line shown : List ℕ) (why : Option (ℕ × Why))
+    → rules_of m ≡ rules_of old.machine
+    → ((h : History) → FitsBy old.machine h → why ≡ why_asked (world (rules_of old.machine).setup h).requests s)
+    → (wanted : Wanted) × (shown ≡ wanted_text wanted) × Judges old.machine m s text (Some wanted)
+    → new ≡ found_wrong (with_machine old m t) new.report
+    → new.report.items
+    ≡ old.report.items ++ line_text old.number ++ ended line ++ codes "wanted: " ++ ended shown ++ why_told why
+    → IsRecord line s text → LooksAt old new line
 looked_wrong old new m t s text line shown why same asked judges is told rec = λ h f.
     let j = judges.2 h f in
     let wanted : Wanted = judges.0 in
@@ -123,7 +137,9 @@ looked_wrong old new m t s text line shown why same asked judges is told rec = �
 -- ---- all lines
 
 -- a line that was looked at
-pub took_looked : (g : Rules) (all : Bool) (lines : List (List ℕ)) (old mid : Checker) (n : ℕ) (line : List ℕ) → n ≡ min (mid.number + 1) (2 ^ 64 - 1) → old.is_over ≡ false → LooksAt old mid line → Looks g all lines old → Looks g all (line ∷ lines) (record mid { number = n })
+pub took_looked : (g : Rules) (all : Bool) (lines : List (List ℕ)) (old mid : Checker) (n : ℕ) (line : List ℕ)
+    → n ≡ min (mid.number + 1) (2 ^ 64 - 1) → old.is_over ≡ false → LooksAt old mid line
+    → Looks g all lines old → Looks g all (line ∷ lines) (record mid { number = n })
 took_looked g all lines old mid n line next over looks k =
     let l = looks (history_behind k.found) k.fits in
     let past : History = history_behind k.found in
@@ -150,7 +166,9 @@ took_looked g all lines old mid n line next over looks k =
     }
 
 -- a line behind one at which the check stopped
-pub took_skipped : (g : Rules) (all : Bool) (lines : List (List ℕ)) (old : Checker) (n : ℕ) (line : List ℕ) → n ≡ min (old.number + 1) (2 ^ 64 - 1) → old.is_over ≡ true → Looks g all lines old → Looks g all (line ∷ lines) (record old { number = n })
+pub took_skipped : (g : Rules) (all : Bool) (lines : List (List ℕ)) (old : Checker) (n : ℕ) (line : List ℕ)
+    → n ≡ min (old.number + 1) (2 ^ 64 - 1) → old.is_over ≡ true → Looks g all lines old
+    → Looks g all (line ∷ lines) (record old { number = n })
 took_skipped g all lines old n line next over k =
     let past : History = history_behind k.found in
     let stopped : has_stopped all k.found ≡ true = sym k.stopped ∙ over in

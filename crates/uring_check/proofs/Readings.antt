@@ -19,10 +19,13 @@ use Rattle.uring_check.proofs.LawfulTexts.{said}
 
 -- what a checker makes of one line more
 abbrev pub Takes : KeptLine → Checker → Checker → Type 0
-Takes kept old new = (g : Rules) (all : Bool) (lines : List (List ℕ)) (text : List ℕ) → kept ≡ kept_of text → Looks g all lines old → Looks g all (text ∷ lines) new
+Takes kept old new = (g : Rules) (all : Bool) (lines : List (List ℕ)) (text : List ℕ)
+    → kept ≡ kept_of text → Looks g all lines old → Looks g all (text ∷ lines) new
 
 -- the end of a line
-pub took_line : (g : Rules) (all : Bool) (kept : KeptLine) (old new : Checker) (before : List ℕ) → Takes kept old new → Holds g all kept old before → Holds g all (kept_of []) new (before ++ 10 ∷ [])
+pub took_line : (g : Rules) (all : Bool) (kept : KeptLine) (old new : Checker) (before : List ℕ)
+    → Takes kept old new → Holds g all kept old before
+    → Holds g all (kept_of []) new (before ++ 10 ∷ [])
 took_line g all kept old new before takes h = record {
   whole = h.line ∷ h.whole;
   line = [];
@@ -33,7 +36,8 @@ took_line g all kept old new before takes h = record {
 
 -- ---- the end of the input
 
-told_verdict : (g : Rules) (all : Bool) (lines : List (List ℕ)) (bytes text : List ℕ) (v : Verdict) → AreLinesOf bytes lines → IsTold g all lines v text → IsVerdict g all bytes text v
+told_verdict : (g : Rules) (all : Bool) (lines : List (List ℕ)) (bytes text : List ℕ) (v : Verdict)
+    → AreLinesOf bytes lines → IsTold g all lines v text → IsVerdict g all bytes text v
 told_verdict g all lines bytes text v are t = record {
   found = t.found;
   are = t.are;
@@ -45,16 +49,21 @@ told_verdict g all lines bytes text v are t = record {
 
 -- what a checker's end returns
 abbrev pub Ends : Checker → Verdict → List ℕ → Type 0
-Ends c v text = (g : Rules) (all : Bool) (lines : List (List ℕ)) → Looks g all lines c → IsTold g all lines v text
+Ends c v text = (g : Rules) (all : Bool) (lines : List (List ℕ)) → Looks g all lines c
+    → IsTold g all lines v text
 
 -- a last line that has begun
-pub ended_last : (g : Rules) (all : Bool) (kept : KeptLine) (old new : Checker) (bytes text : List ℕ) (v : Verdict) → ((line : List ℕ) → kept ≡ kept_of line → line ≢ []) → Takes kept old new → Ends new v text → Holds g all kept old bytes → IsVerdict g all bytes text v
+pub ended_last : (g : Rules) (all : Bool) (kept : KeptLine) (old new : Checker) (bytes text : List ℕ) (v : Verdict)
+    → ((line : List ℕ) → kept ≡ kept_of line → line ≢ []) → Takes kept old new → Ends new v text
+    → Holds g all kept old bytes → IsVerdict g all bytes text v
 ended_last g all kept old new bytes text v some takes ends h =
     told_verdict g all (h.line ∷ h.whole) bytes text v (h.whole, h.line, h.splits, sym (last_some h.whole h.line (some h.line h.keeps)))
     (ends g all (h.line ∷ h.whole) (takes g all h.whole h.line h.keeps h.looks))
 
 -- no last line has begun
-pub ended_none : (g : Rules) (all : Bool) (kept : KeptLine) (c : Checker) (bytes text : List ℕ) (v : Verdict) → ((line : List ℕ) → kept ≡ kept_of line → line ≡ []) → Ends c v text → Holds g all kept c bytes → IsVerdict g all bytes text v
+pub ended_none : (g : Rules) (all : Bool) (kept : KeptLine) (c : Checker) (bytes text : List ℕ) (v : Verdict)
+    → ((line : List ℕ) → kept ≡ kept_of line → line ≡ []) → Ends c v text → Holds g all kept c bytes
+    → IsVerdict g all bytes text v
 ended_none g all kept c bytes text v none ends h =
     told_verdict g all h.whole bytes text v (h.whole, h.line, h.splits, sym (ap (λ (l : List ℕ). with_last h.whole l) (none h.line h.keeps))) (ends g all h.whole h.looks)
 
@@ -71,23 +80,32 @@ pub at_start : (g : Rules) (all : Bool) (a : Known) (s : Reading) → Has g all 
 at_start g all a s h = ([], Consumes-nil a, h)
 
 -- a read that was interrupted
-pub tried_again : (g : Rules) (all : Bool) (a r r' : Known) (s : Reading) → Keeps r r' → So g all a r s → So g all a r' s
+pub tried_again : (g : Rules) (all : Bool) (a r r' : Known) (s : Reading) → Keeps r r'
+    → So g all a r s → So g all a r' s
 tried_again g all a r r' s h so = (so.0, Consumes-kept a r r' so.0 so.1 h, so.2)
 
 -- bytes that were taken in
-pub goes_on : (g : Rules) (all : Bool) (a r r' : Known) (s s' : Reading) (more : List ℕ) → Consumes r r' more → ((g : Rules) (all : Bool) (before : List ℕ) → Has g all s before → Has g all s' (before ++ more)) → So g all a r s → So g all a r' s'
-goes_on g all a r r' s s' more read took so = (so.0 ++ more, Consumes-trans a r r' so.0 more so.1 read, took g all so.0 so.2)
+pub goes_on : (g : Rules) (all : Bool) (a r r' : Known) (s s' : Reading) (more : List ℕ)
+    → Consumes r r' more
+    → ((g : Rules) (all : Bool) (before : List ℕ) → Has g all s before → Has g all s' (before ++ more))
+    → So g all a r s → So g all a r' s'
+goes_on g all a r r' s s' more read took so =
+    (so.0 ++ more, Consumes-trans a r r' so.0 more so.1 read, took g all so.0 so.2)
 
 memory_alone : (e : TraceFault) → e ≡ fault.Memory → e ≢ fault.Write
 memory_alone e is other = absurd cc
 
 -- bytes that were not
-pub not_taken : (g : Rules) (all : Bool) (answer : Result (Unit {0}) TraceFault) (e : TraceFault) (a r r' : Known) (s s' : Reading) (more : List ℕ) → answer ≡ Err e → e ≡ fault.Memory → Consumes r r' more → So g all a r s → ReadsIn g all answer a r' s'
+pub not_taken : (g : Rules) (all : Bool) (answer : Result (Unit {0}) TraceFault) (e : TraceFault) (a r r' : Known) (s s' : Reading) (more : List ℕ)
+    → answer ≡ Err e → e ≡ fault.Memory → Consumes r r' more → So g all a r s
+    → ReadsIn g all answer a r' s'
 not_taken g all answer e a r r' s s' more is memory read so =
     (so.0 ++ more, Consumes-trans a r r' so.0 more so.1 read, subst (λ (x : Result (Unit {0}) TraceFault). TakesIn g all x r' s' (so.0 ++ more)) (sym is) (memory_alone e memory))
 
 -- the end of the input
-pub all_read : (g : Rules) (all : Bool) (a r r' : Known) (s : Reading) → Consumes r r' [] → IsAtEnd r' → So g all a r s → (bytes : List ℕ) × Consumes a r' bytes × (Has g all s bytes × IsAtEnd r')
+pub all_read : (g : Rules) (all : Bool) (a r r' : Known) (s : Reading) → Consumes r r' []
+    → IsAtEnd r' → So g all a r s
+    → (bytes : List ℕ) × Consumes a r' bytes × (Has g all s bytes × IsAtEnd r')
 all_read g all a r r' s read end so = (so.0 ++ [], Consumes-trans a r r' so.0 [] so.1 read, (subst (λ (l : List ℕ). Has g all s l) (sym (append-nil so.0)) so.2, end))
 
 -- a read that failed wrote nothing
@@ -99,7 +117,8 @@ read_alone e = absurd cc
 abbrev Answer : Type 0
 Answer = Result Verdict TraceFault
 
-nothing_said : (g : Rules) (all : Bool) (e : TraceFault) (bytes : List ℕ) → e ≢ fault.Write → Writes g all (Err e) bytes []
+nothing_said : (g : Rules) (all : Bool) (e : TraceFault) (bytes : List ℕ) → e ≢ fault.Write
+    → Writes g all (Err e) bytes []
 nothing_said g all fault.Read bytes other = refl
 nothing_said g all fault.Memory bytes other = refl
 nothing_said g all fault.Write bytes other = absurd (other refl)
@@ -109,20 +128,33 @@ early_end fault.Read left other = tt
 early_end fault.Memory left other = tt
 early_end fault.Write left other = absurd (other refl)
 
-stopped_at : (g : Rules) (all : Bool) (e : TraceFault) (a r d : Known) (bytes : List ℕ) → e ≢ fault.Write → Consumes a r bytes → IsChecked g all (Err e) a r d d
-stopped_at g all e a r d bytes other read = record { bytes = bytes; text = []; consumed = read; appended = Appends-nil d; written = nothing_said g all e bytes other; whole = early_end e r other }
+stopped_at : (g : Rules) (all : Bool) (e : TraceFault) (a r d : Known) (bytes : List ℕ)
+    → e ≢ fault.Write → Consumes a r bytes → IsChecked g all (Err e) a r d d
+stopped_at g all e a r d bytes other read = record {
+  bytes = bytes;
+  text = [];
+  consumed = read;
+  appended = Appends-nil d;
+  written = nothing_said g all e bytes other;
+  whole = early_end e r other;
+}
 
 -- not all was read
-pub part_checked : (g : Rules) (all : Bool) (answer : Answer) (e : TraceFault) (a r d : Known) (s : Reading) → answer ≡ Err e → ReadsIn g all (Err e) a r s → IsChecked g all answer a r d d
+pub part_checked : (g : Rules) (all : Bool) (answer : Answer) (e : TraceFault) (a r d : Known) (s : Reading)
+    → answer ≡ Err e → ReadsIn g all (Err e) a r s → IsChecked g all answer a r d d
 part_checked g all answer e a r d s is so = subst (λ (x : Answer). IsChecked g all x a r d d) (sym is) (stopped_at g all e a r d so.0 so.2 so.1)
 
 -- all was read, and memory was refused
-pub unsaid_checked : (g : Rules) (all : Bool) (answer : Answer) (a r d : Known) (s : Reading) → answer ≡ Err fault.Memory → ReadsIn g all (Ok tt) a r s → IsChecked g all answer a r d d
+pub unsaid_checked : (g : Rules) (all : Bool) (answer : Answer) (a r d : Known) (s : Reading)
+    → answer ≡ Err fault.Memory → ReadsIn g all (Ok tt) a r s → IsChecked g all answer a r d d
 unsaid_checked g all answer a r d s is so = subst (λ (x : Answer). IsChecked g all x a r d d) (sym is) (stopped_at g all fault.Memory a r d so.0 (memory_alone fault.Memory refl) so.1)
 
 -- the report was written in part
-pub cut_checked : (g : Rules) (all : Bool) (answer : Answer) (e : TraceFault) (a r d d' : Known) (s : Reading) (v : Verdict) (text : List ℕ) → answer ≡ Err e → ReadsIn g all (Ok tt) a r s → ((g : Rules) (all : Bool) (bytes : List ℕ) → Has g all s bytes → IsVerdict g all bytes text v)
-    → (written : List ℕ) × Appends d d' written × WritesText (Err e) text written → IsChecked g all answer a r d d'
+pub cut_checked : (g : Rules) (all : Bool) (answer : Answer) (e : TraceFault) (a r d d' : Known) (s : Reading) (v : Verdict) (text : List ℕ)
+    → answer ≡ Err e → ReadsIn g all (Ok tt) a r s
+    → ((g : Rules) (all : Bool) (bytes : List ℕ) → Has g all s bytes → IsVerdict g all bytes text v)
+    → (written : List ℕ) × Appends d d' written × WritesText (Err e) text written
+    → IsChecked g all answer a r d d'
 cut_checked g all answer e a r d d' s v text is so ends w =
     let some = w.2 in
     let verdict_is : IsVerdict g all so.0 (w.0 ++ some.1) v = subst (λ (l : List ℕ). IsVerdict g all so.0 l v) some.3 (ends g all so.0 so.2.0) in
@@ -133,7 +165,9 @@ cut_checked g all answer e a r d d' s v text is so ends w =
     failed f = Err f
 
 -- the report was written
-pub whole_checked : (g : Rules) (all : Bool) (a r d d' : Known) (s : Reading) (v : Verdict) (text : List ℕ) → ReadsIn g all (Ok tt) a r s → ((g : Rules) (all : Bool) (bytes : List ℕ) → Has g all s bytes → IsVerdict g all bytes text v)
+pub whole_checked : (g : Rules) (all : Bool) (a r d d' : Known) (s : Reading) (v : Verdict) (text : List ℕ)
+    → ReadsIn g all (Ok tt) a r s
+    → ((g : Rules) (all : Bool) (bytes : List ℕ) → Has g all s bytes → IsVerdict g all bytes text v)
     → (written : List ℕ) × Appends d d' written × (written ≡ text) → IsChecked g all (Ok v) a r d d'
 whole_checked g all a r d d' s v text so ends w = record {
   bytes = so.0;

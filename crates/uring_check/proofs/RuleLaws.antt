@@ -20,21 +20,24 @@ use Rattle.uring_check.proofs.SameTexts.{answer_once, begin_once}
 
 -- ---- histories
 
-pub called_first : (g : Rules) (s : Step) (a : Answer) (h : History) → IsLawfulBy g ((s, a) ∷ h) → IsCalled g h s a
+pub called_first : (g : Rules) (s : Step) (a : Answer) (h : History) → IsLawfulBy g ((s, a) ∷ h)
+    → IsCalled g h s a
 called_first g s a h p = go g.is_apart p
   where
     go : (b : Bool) → LawfulIn b g.setup ((s, a) ∷ h) → CalledIn b g.setup (world g.setup h) s a
     go true p = p.0
     go false p = p.0
 
-pub lawful_rest : (g : Rules) (s : Step) (a : Answer) (h : History) → IsLawfulBy g ((s, a) ∷ h) → IsLawfulBy g h
+pub lawful_rest : (g : Rules) (s : Step) (a : Answer) (h : History) → IsLawfulBy g ((s, a) ∷ h)
+    → IsLawfulBy g h
 lawful_rest g s a h p = go g.is_apart p
   where
     go : (b : Bool) → LawfulIn b g.setup ((s, a) ∷ h) → LawfulIn b g.setup h
     go true p = p.1
     go false p = p.1
 
-pub lawful_more : (g : Rules) (s : Step) (a : Answer) (h : History) → IsCalled g h s a → IsLawfulBy g h → IsLawfulBy g ((s, a) ∷ h)
+pub lawful_more : (g : Rules) (s : Step) (a : Answer) (h : History) → IsCalled g h s a
+    → IsLawfulBy g h → IsLawfulBy g ((s, a) ∷ h)
 lawful_more g s a h called lawful = go g.is_apart called lawful
   where
     go : (b : Bool) → CalledIn b g.setup (world g.setup h) s a → LawfulIn b g.setup h → LawfulIn b g.setup ((s, a) ∷ h)
@@ -57,7 +60,9 @@ bounded (negsuc n) h = omega arith
 result_once : (y z : ℤ) → IsFile y → IsFile z → signed_decimal y ≡ signed_decimal z → y ≡ z
 result_once y z p q e = signed_decimal_injective y z (bounded y p) (bounded z q) e
 
-finish_once : (n : ℕ) (running : Bool) (a b : Answer) → FinishesApart running a → FinishesApart running b → text_of a ≡ text_of b → IsPlain a true (step.Finish n) → IsPlain b true (step.Finish n) → a ≡ b
+finish_once : (n : ℕ) (running : Bool) (a b : Answer) → FinishesApart running a
+    → FinishesApart running b → text_of a ≡ text_of b → IsPlain a true (step.Finish n)
+    → IsPlain b true (step.Finish n) → a ≡ b
 finish_once n true (answer.Ended res bytes) (answer.Ended res' bytes') e f same p q =
     let results : res ≡ res' = result_once res res' p.0 q.0 (ap (λ (l : List ℕ). drop 6 l) same) in
     let given : bytes ≡ bytes' = p.1 ∙ sym q.1 in
@@ -68,12 +73,16 @@ finish_once n false a b e f same p q = e ∙ sym f
 
 -- ---- any step
 
-apart_once : (g : Setup) (w : World) (s : Step) (a b : Answer) → CalledForApart g w s a → CalledForApart g w s b → text_of a ≡ text_of b → IsPlain a true s → IsPlain b true s → a ≡ b
+apart_once : (g : Setup) (w : World) (s : Step) (a b : Answer) → CalledForApart g w s a
+    → CalledForApart g w s b → text_of a ≡ text_of b → IsPlain a true s → IsPlain b true s → a ≡ b
 apart_once g w (step.Begin count) a b p q same x y = begin_once (begin_answer w count) a b p q same
-apart_once g w (step.Finish n) a b p q same x y = finish_once n (is_running w.requests n) a b p q same x y
+apart_once g w (step.Finish n) a b p q same x y =
+    finish_once n (is_running w.requests n) a b p q same x y
 apart_once g w _ a b p q same x y = p ∙ sym q
 
-pub called_once : (g : Rules) (h : History) (s : Step) (a b : Answer) → IsCalled g h s a → IsCalled g h s b → text_of a ≡ text_of b → IsPlain a g.is_apart s → IsPlain b g.is_apart s → a ≡ b
+pub called_once : (g : Rules) (h : History) (s : Step) (a b : Answer) → IsCalled g h s a
+    → IsCalled g h s b → text_of a ≡ text_of b → IsPlain a g.is_apart s → IsPlain b g.is_apart s
+    → a ≡ b
 called_once g h s a b p q same x y = go g.is_apart p q x y
   where
     go : (c : Bool) → CalledIn c g.setup (world g.setup h) s a → CalledIn c g.setup (world g.setup h) s b → IsPlain a c s → IsPlain b c s → a ≡ b

@@ -25,12 +25,15 @@ use Rattle.uring_trace.specs.Text.{text_of}
 -- ---- Begin
 
 call_again : (n : ℕ) → text_of (answer.Call n) ≡ text_of answer.Again → ⊥
-call_again n e = let first : 99 ≡ 97 = ap (λ (l : List ℕ). get_or l 0 0) e in absurd (omega (arith, first))
+call_again n e =
+    let first : 99 ≡ 97 = ap (λ (l : List ℕ). get_or l 0 0) e in absurd (omega (arith, first))
 
 pub begin_once : (x a b : Answer) → OrAgain x a → OrAgain x b → text_of a ≡ text_of b → a ≡ b
 begin_once (answer.Call n) a b (inl e) (inl f) same = e ∙ sym f
-begin_once (answer.Call n) a b (inl e) (inr f) same = absurd (call_again n (ap text_of (sym e) ∙ same ∙ ap text_of f.0))
-begin_once (answer.Call n) a b (inr e) (inl f) same = absurd (call_again n (ap text_of (sym f) ∙ sym same ∙ ap text_of e.0))
+begin_once (answer.Call n) a b (inl e) (inr f) same =
+    absurd (call_again n (ap text_of (sym e) ∙ same ∙ ap text_of f.0))
+begin_once (answer.Call n) a b (inr e) (inl f) same =
+    absurd (call_again n (ap text_of (sym f) ∙ sym same ∙ ap text_of e.0))
 begin_once (answer.Call n) a b (inr e) (inr f) same = e.0 ∙ sym f.0
 begin_once x a b e f same = e ∙ sym f
 
@@ -47,17 +50,21 @@ few_bytes off len e = elim (and_cases (not (len == 0)) (nat_lt max_len (off + le
 ]
 
 -- how a write ends by whether it is too long
-growth_at : (off len : ℕ) (file : FileContents) (long : Bool) → is_too_long off len ≡ long → (not long && is_past_end off len file) ≡ true → IsGrowth (ended_with (if long then neg_ℤ EFBIG else pos len))
+growth_at : (off len : ℕ) (file : FileContents) (long : Bool) → is_too_long off len ≡ long
+    → (not long && is_past_end off len file) ≡ true
+    → IsGrowth (ended_with (if long then neg_ℤ EFBIG else pos len))
 growth_at off len file true is e = absurd (true≢false (sym e))
 growth_at off len file false is e = (len, few_bytes off len is, refl)
 
-growth_of : (off len : ℕ) (file : Option FileContents) → option_map_or (λ f. not (is_too_long off len) && is_past_end off len f) file false ≡ true
+growth_of : (off len : ℕ) (file : Option FileContents)
+    → option_map_or (λ f. not (is_too_long off len) && is_past_end off len f) file false ≡ true
     → IsGrowth (on_file file (λ f. ended_with (if is_too_long off len then neg_ℤ EFBIG else pos len)))
 growth_of off len None e = absurd (true≢false (sym e))
 growth_of off len (Some file) e = growth_at off len file (is_too_long off len) refl e
 
 -- a write that makes its file longer ends with its number of bytes
-growth : (files : List FileContents) (op : Op) → is_lengthening files op ≡ true → IsGrowth (result_of files op)
+growth : (files : List FileContents) (op : Op) → is_lengthening files op ≡ true
+    → IsGrowth (result_of files op)
 growth files Nop e = absurd (true≢false (sym e))
 growth files (Read fd off len) e = absurd (true≢false (sym e))
 growth files (Write fd off len bytes) e = growth_of off len (file_of files fd) e
@@ -65,26 +72,32 @@ growth files (Fsync fd) e = absurd (true≢false (sym e))
 growth files (Cancel target all) e = absurd (true≢false (sym e))
 
 -- it ends with another text where memory was refused
-growth_text : (n : ℕ) → n < 2 ^ 63 → text_of (answer.Ended (pos n) no_bytes) ≡ text_of (answer.Ended (neg_ℤ ENOMEM) no_bytes) → pos n ≡ neg_ℤ ENOMEM
+growth_text : (n : ℕ) → n < 2 ^ 63
+    → text_of (answer.Ended (pos n) no_bytes) ≡ text_of (answer.Ended (neg_ℤ ENOMEM) no_bytes)
+    → pos n ≡ neg_ℤ ENOMEM
 growth_text n small e = signed_decimal_injective (pos n) (neg_ℤ ENOMEM) small (omega arith) (ap (λ (l : List ℕ). drop 6 l) e)
 
 abbrev ended_as : Outcome → Answer
 ended_as outcome = answer.Ended outcome.res outcome.bytes
 
-grown_once : (files : List FileContents) (op : Op) (x y : Outcome) → x ≡ result_of files op → is_lengthening files op ≡ true → y ≡ ended_with (neg_ℤ ENOMEM) → text_of (ended_as x) ≡ text_of (ended_as y) → x ≡ y
+grown_once : (files : List FileContents) (op : Op) (x y : Outcome) → x ≡ result_of files op
+    → is_lengthening files op ≡ true → y ≡ ended_with (neg_ℤ ENOMEM)
+    → text_of (ended_as x) ≡ text_of (ended_as y) → x ≡ y
 grown_once files op x y e long f same =
     let grows = growth files op long in
     let is : x ≡ ended_with (pos grows.0) = e ∙ grows.2 in
     let texts : text_of (ended_as (ended_with (pos grows.0))) ≡ text_of (ended_as (ended_with (neg_ℤ ENOMEM))) = ap (λ (o : Outcome). text_of (ended_as o)) (sym is) ∙ same ∙ ap (λ (o : Outcome). text_of (ended_as o)) f in
     is ∙ ap ended_with (growth_text grows.0 grows.1 texts) ∙ sym f
 
-outcome_once : (files : List FileContents) (op : Op) (x y : Outcome) → IsOutcome files op x → IsOutcome files op y → text_of (ended_as x) ≡ text_of (ended_as y) → x ≡ y
+outcome_once : (files : List FileContents) (op : Op) (x y : Outcome) → IsOutcome files op x
+    → IsOutcome files op y → text_of (ended_as x) ≡ text_of (ended_as y) → x ≡ y
 outcome_once files op x y (inl e) (inl f) same = e ∙ sym f
 outcome_once files op x y (inl e) (inr f) same = grown_once files op x y e f.0 f.1 same
 outcome_once files op x y (inr e) (inl f) same = sym (grown_once files op y x f e.0 e.1 (sym same))
 outcome_once files op x y (inr e) (inr f) same = e.1 ∙ sym f.1
 
-end_once : (files : List FileContents) (r : Requests) (n : ℕ) (running : Bool) (a b : Answer) → EndsOn files r n running a → EndsOn files r n running b → text_of a ≡ text_of b → a ≡ b
+end_once : (files : List FileContents) (r : Requests) (n : ℕ) (running : Bool) (a b : Answer)
+    → EndsOn files r n running a → EndsOn files r n running b → text_of a ≡ text_of b → a ≡ b
 end_once files r n true (answer.Ended res bytes) (answer.Ended res' bytes') e f same =
     ap ended_as (outcome_once files (operation_of (entry_of r n)) (record { res = res; bytes = bytes }) (record { res = res'; bytes = bytes' }) e f same)
 end_once files r n true (answer.Ended res bytes) _ e f same = absurd f
@@ -93,7 +106,9 @@ end_once files r n false a b e f same = e ∙ sym f
 
 -- ---- any step
 
-pub answer_once : (g : Setup) (w : World) (s : Step) (a b : Answer) → CalledFor g w s a → CalledFor g w s b → text_of a ≡ text_of b → a ≡ b
+pub answer_once : (g : Setup) (w : World) (s : Step) (a b : Answer) → CalledFor g w s a
+    → CalledFor g w s b → text_of a ≡ text_of b → a ≡ b
 answer_once g w (step.Begin count) a b p q same = begin_once (begin_answer w count) a b p q same
-answer_once g w (step.Finish n) a b p q same = end_once (files_of g w) w.requests n (is_running w.requests n) a b p q same
+answer_once g w (step.Finish n) a b p q same =
+    end_once (files_of g w) w.requests n (is_running w.requests n) a b p q same
 answer_once g w _ a b p q same = p ∙ sym q

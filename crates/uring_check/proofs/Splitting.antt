@@ -32,7 +32,8 @@ none_more [] h = (other, tt)
 none_more (x ∷ xs) h = (h.0, none_more xs h.1)
 
 -- the first `=` stands at one place
-first_once : (xs ys us vs : List ℕ) → HasNone xs → HasNone us → xs ++ 61 ∷ ys ≡ us ++ 61 ∷ vs → (xs ≡ us) × (ys ≡ vs)
+first_once : (xs ys us vs : List ℕ) → HasNone xs → HasNone us → xs ++ 61 ∷ ys ≡ us ++ 61 ∷ vs
+    → (xs ≡ us) × (ys ≡ vs)
 first_once [] ys [] vs h k e = (refl, tail-eq_of_cons-eq e)
 first_once [] ys (u ∷ us) vs h k e = absurd (k.0 (sym (head-eq_of_cons-eq e)))
 first_once (x ∷ xs) ys [] vs h k e = absurd (h.0 (head-eq_of_cons-eq e))
@@ -40,11 +41,13 @@ first_once (x ∷ xs) ys (u ∷ us) vs h k e =
     let same = first_once xs ys us vs h.1 k.1 (tail-eq_of_cons-eq e) in
     (ap (λ (b : ℕ). b ∷ xs) (head-eq_of_cons-eq e) ∙ ap (λ (l : List ℕ). u ∷ l) same.0, same.1)
 
-sign_text : (before text : List ℕ) → before ++ 32 ∷ 61 ∷ 32 ∷ text ≡ (before ++ 32 ∷ []) ++ 61 ∷ 32 ∷ text
+sign_text : (before text : List ℕ)
+    → before ++ 32 ∷ 61 ∷ 32 ∷ text ≡ (before ++ 32 ∷ []) ++ 61 ∷ 32 ∷ text
 sign_text before text = simp append_assoc refl
 
 -- a split line, at its `=`
-at_sign : (line before text : List ℕ) → IsSplit line before text → line ≡ (before ++ 32 ∷ []) ++ 61 ∷ 32 ∷ text
+at_sign : (line before text : List ℕ) → IsSplit line before text
+    → line ≡ (before ++ 32 ∷ []) ++ 61 ∷ 32 ∷ text
 at_sign line before text h = h.whole ∙ sign_text before text
 
 -- what a cut gave: the bytes before the first `=`, and the rest
@@ -56,7 +59,8 @@ pub record IsCut (line front back : List ℕ) (n : ℕ) : Type 0 where
   pub here : n < length line → get_or line n 0 ≡ 61
 
 -- the cut of a split line
-cut_split : (line front back before text : List ℕ) (n : ℕ) → IsCut line front back n → IsSplit line before text → (front ≡ before ++ 32 ∷ []) × (back ≡ 61 ∷ 32 ∷ text)
+cut_split : (line front back before text : List ℕ) (n : ℕ) → IsCut line front back n
+    → IsSplit line before text → (front ≡ before ++ 32 ∷ []) × (back ≡ 61 ∷ 32 ∷ text)
 cut_split line front back before text n c h = elim (cases_lt n (length line)) [
   | inl lt ↦
       let next : drop n line ≡ 61 ∷ drop (n + 1) line = drop_more line n 0 lt ∙ ap (λ (b : ℕ). b ∷ drop (n + 1) line) (c.here lt) in
@@ -69,7 +73,8 @@ cut_split line front back before text n c h = elim (cases_lt n (length line)) [
 ]
 
 -- what is left of a cut, each without its space, is the split
-pub split_made : (line front back before text : List ℕ) (n : ℕ) → IsCut line front back n → front ≡ before ++ 32 ∷ [] → back ≡ 61 ∷ 32 ∷ text → IsSplit line before text
+pub split_made : (line front back before text : List ℕ) (n : ℕ) → IsCut line front back n
+    → front ≡ before ++ 32 ∷ [] → back ≡ 61 ∷ 32 ∷ text → IsSplit line before text
 split_made line front back before text n c x y = record {
   whole =
       sym (take-append-drop n line) ∙ ap (λ (l : List ℕ). l ++ drop n line) (sym c.front_is ∙ x)
@@ -79,39 +84,49 @@ split_made line front back before text n c x y = record {
 }
 
 -- no space before the `=`
-pub no_front : (line front back : List ℕ) (n : ℕ) → IsCut line front back n → ((before : List ℕ) → front ≢ before ++ 32 ∷ []) → IsUnsplit line
-no_front line front back n c none = λ before text h. none before (cut_split line front back before text n c h).0
+pub no_front : (line front back : List ℕ) (n : ℕ) → IsCut line front back n
+    → ((before : List ℕ) → front ≢ before ++ 32 ∷ []) → IsUnsplit line
+no_front line front back n c none =
+    λ before text h. none before (cut_split line front back before text n c h).0
 
 -- no `=` with a space behind it
-pub no_back : (line front back : List ℕ) (n : ℕ) → IsCut line front back n → ((text : List ℕ) → back ≢ 61 ∷ 32 ∷ text) → IsUnsplit line
-no_back line front back n c none = λ before text h. none text (cut_split line front back before text n c h).1
+pub no_back : (line front back : List ℕ) (n : ℕ) → IsCut line front back n
+    → ((text : List ℕ) → back ≢ 61 ∷ 32 ∷ text) → IsUnsplit line
+no_back line front back n c none =
+    λ before text h. none text (cut_split line front back before text n c h).1
 
 -- a line is split in one way
-pub split_once : (line before text other rest : List ℕ) → IsSplit line before text → IsSplit line other rest → (before ≡ other) × (text ≡ rest)
+pub split_once : (line before text other rest : List ℕ) → IsSplit line before text
+    → IsSplit line other rest → (before ≡ other) × (text ≡ rest)
 split_once line before text other rest h k =
     let same = first_once (before ++ 32 ∷ []) (32 ∷ text) (other ++ 32 ∷ []) (32 ∷ rest) (none_more before h.first) (none_more other k.first) (sym (at_sign line before text h) ∙ at_sign line other rest k) in
     (append_cancel_right before other (32 ∷ []) same.0, tail-eq_of_cons-eq same.1)
 
 -- the split of a record
-pub split_of : (line : List ℕ) (s : Step) (text : List ℕ) → (r : IsRecord line s text) → IsSplit line r.before text
+pub split_of : (line : List ℕ) (s : Step) (text : List ℕ) → (r : IsRecord line s text)
+    → IsSplit line r.before text
 split_of line s text r = record { whole = r.whole; first = r.first }
 
 -- ---- what lines record
 
-pub recorded : (line before text : List ℕ) (s : Step) → length line ≤ 300 → IsSplit line before text → IsStep before s → IsRecord line s text
-recorded line before text s short h is = record { short = short; before = before; whole = h.whole; first = h.first; step = is }
+pub recorded : (line before text : List ℕ) (s : Step) → length line ≤ 300 → IsSplit line before text
+    → IsStep before s → IsRecord line s text
+recorded line before text s short h is =
+    record { short = short; before = before; whole = h.whole; first = h.first; step = is }
 
 pub unsplit_none : (line : List ℕ) → IsUnsplit line → IsNoRecord line
 unsplit_none line none = λ s text r. none r.before text (split_of line s text r)
 
-pub bad_none : (line before text : List ℕ) → IsSplit line before text → IsBad before → IsNoRecord line
+pub bad_none : (line before text : List ℕ) → IsSplit line before text → IsBad before
+    → IsNoRecord line
 bad_none line before text h bad = λ s other r. bad s (subst (λ (l : List ℕ). IsStep l s) (split_once line r.before other before text (split_of line s other r) h).0 r.step)
 
 pub long_none : (line : List ℕ) → 300 < length line → IsNoRecord line
 long_none line long = λ s text r. let short : length line ≤ 300 = r.short in absurd (omega arith)
 
 -- a line records one step with one text at most
-pub record_once : (line : List ℕ) (s t : Step) (text rest : List ℕ) → IsRecord line s text → IsRecord line t rest → (s ≡ t) × (text ≡ rest)
+pub record_once : (line : List ℕ) (s t : Step) (text rest : List ℕ) → IsRecord line s text
+    → IsRecord line t rest → (s ≡ t) × (text ≡ rest)
 record_once line s t text rest h k =
     let same = split_once line h.before text k.before rest (split_of line s text h) (split_of line t rest k) in
     (step_once k.before s t (subst (λ (l : List ℕ). IsStep l s) same.0 h.step) k.step, same.1)

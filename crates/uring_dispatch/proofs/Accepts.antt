@@ -28,11 +28,14 @@ pub record Accepts (w v : Window) (g h : Groups) (entry : Sqe) (request : Reques
   pub beyond : IsBeyond h.barriers (end_of w + 1)
   pub last : h.last ≡ (if is_linked entry then Some request.group else None)
 
-older : (w v : Window) (q : Request) (k : ℕ) (x : Request) → Changes w v (end_of w) (Some q) → at v k ≡ Some x → k ≢ end_of w → at w k ≡ Some x
+older : (w v : Window) (q : Request) (k : ℕ) (x : Request) → Changes w v (end_of w) (Some q)
+    → at v k ≡ Some x → k ≢ end_of w → at w k ≡ Some x
 older w v q k x c is ne = sym (c.others k ne) ∙ is
 
 -- the group that was joined, or the new one
-joined-kept : (w v : Window) (g h : Groups) (entry : Sqe) (request : Request) → IsSound w g → Accepts w v g h entry request → (o : Option Group) → last_group g.records g.last ≡ o → IsKept v (with_member o (end_of w) (is_drain entry) (is_faulty entry))
+joined-kept : (w v : Window) (g h : Groups) (entry : Sqe) (request : Request) → IsSound w g
+    → Accepts w v g h entry request → (o : Option Group) → last_group g.records g.last ≡ o
+    → IsKept v (with_member o (end_of w) (is_drain entry) (is_faulty entry))
 joined-kept w v g h entry request s a None e = record {
   from = omega arith;
   to = omega arith;
@@ -52,7 +55,8 @@ joined-kept w v g h entry request s a (Some q) e =
       here = ap is_some (a.changes.others q.least (λ same. absurd (omega (arith, k.to, same)))) ∙ k.here;
     }
 
-member-from : (o : Option Group) (n : ℕ) (d f : Bool) (k : ℕ) → (with_member o n d f).from ≤ k → k < n → (q : Group) × (o ≡ Some q) × (q.from ≤ k)
+member-from : (o : Option Group) (n : ℕ) (d f : Bool) (k : ℕ) → (with_member o n d f).from ≤ k
+    → k < n → (q : Group) × (o ≡ Some q) × (q.from ≤ k)
 member-from None n d f k a b = absurd (omega arith)
 member-from (Some q) n d f k a b = (q, refl, a)
 
@@ -60,11 +64,13 @@ member-end : (o : Option Group) (n : ℕ) (d f : Bool) → (with_member o n d f)
 member-end None n d f = refl
 member-end (Some q) n d f = refl
 
-member-low : (o : Option Group) (n : ℕ) (d f : Bool) → ((q : Group) → o ≡ Some q → q.from ≤ n) → (with_member o n d f).from ≤ n
+member-low : (o : Option Group) (n : ℕ) (d f : Bool) → ((q : Group) → o ≡ Some q → q.from ≤ n)
+    → (with_member o n d f).from ≤ n
 member-low None n d f h = omega arith
 member-low (Some q) n d f h = h q refl
 
-pub accept-sound : (w v : Window) (g h : Groups) (entry : Sqe) (request : Request) → IsSound w g → Accepts w v g h entry request → IsSound v h
+pub accept-sound : (w v : Window) (g h : Groups) (entry : Sqe) (request : Request) → IsSound w g
+    → Accepts w v g h entry request → IsSound v h
 accept-sound w v g h entry request s a =
     let p : Group = with_member (last_group g.records g.last) (end_of w) (is_drain entry) (is_faulty entry) in
     let top : p.end ≡ end_of w + 1 = member-end (last_group g.records g.last) (end_of w) (is_drain entry) (is_faulty entry) in
@@ -158,7 +164,8 @@ cut-sound w g s = record {
   last = λ key q e found. let f : None ≡ Some key = e in cc;
 }
 
-pub cut-held : (w : Window) (g : Groups) (r : Requests) → AreHeld w g r → AreHeld w (record g { last = None }) (with_cut r)
+pub cut-held : (w : Window) (g : Groups) (r : Requests) → AreHeld w g r
+    → AreHeld w (record g { last = None }) (with_cut r)
 cut-held w g r h = record {
   count = h.count;
   outstanding = h.outstanding;

@@ -29,11 +29,15 @@ use Rattle.uring_dispatch.proofs.Accepts.{Accepts}
 
 -- The lists, when an entry is accepted.
 
-longer : (r : Requests) (entry : Sqe) → length (with_accepted r entry).accepted ≡ suc (length r.accepted)
+longer : (r : Requests) (entry : Sqe)
+    → length (with_accepted r entry).accepted ≡ suc (length r.accepted)
 longer r entry = let more = length-append r.accepted (entry ∷ []) in omega arith
 
 -- the group that was joined, or the new one
-joined-shown : (w : Window) (g : Groups) (r : Requests) (entry : Sqe) (key : ℕ) (o : Option Group) → IsSound w g → AreHeld w g r → group_at g key ≡ o → ((k : ℕ) → g.last ≡ Some k → key ≡ k) → is_some o ≡ is_some g.last → IsShownGroup (with_accepted r entry) (with_member o (length r.accepted) (is_drain entry) (is_faulty entry))
+joined-shown : (w : Window) (g : Groups) (r : Requests) (entry : Sqe) (key : ℕ) (o : Option Group)
+    → IsSound w g → AreHeld w g r → group_at g key ≡ o → ((k : ℕ) → g.last ≡ Some k → key ≡ k)
+    → is_some o ≡ is_some g.last
+    → IsShownGroup (with_accepted r entry) (with_member o (length r.accepted) (is_drain entry) (is_faulty entry))
 joined-shown w g r entry key None s h found same kept =
     let n : ℕ = length r.accepted in
     let none = (h.untouched n (omega arith)).ended in
@@ -65,10 +69,14 @@ joined-shown w g r entry key (Some q) s h found same kept =
 -- two groups with one end begin together
 same-from : (r : Requests) (a b end : ℕ) → IsGroup r a end → IsGroup r b end → a < b → ⊥
 same-from r a zero end g h lt = omega arith
-same-from r a (suc k) end g h lt = both_ways _ (g.joined k (omega arith) (omega (arith, h.some))) (h.begins k refl)
+same-from r a (suc k) end g h lt =
+    both_ways _ (g.joined k (omega arith) (omega (arith, h.some))) (h.begins k refl)
 
 -- a group of another key is closed
-closed-elsewhere : (w : Window) (g : Groups) (r : Requests) (key other : ℕ) (x : Group) (o : Option Group) → IsSound w g → AreHeld w g r → group_at g key ≡ o → ((k : ℕ) → g.last ≡ Some k → key ≡ k) → is_some o ≡ is_some g.last → group_at g other ≡ Some x → other ≢ key → (k : ℕ) → suc k ≡ x.end → is_last r k ≡ true
+closed-elsewhere : (w : Window) (g : Groups) (r : Requests) (key other : ℕ) (x : Group) (o : Option Group)
+    → IsSound w g → AreHeld w g r → group_at g key ≡ o → ((k : ℕ) → g.last ≡ Some k → key ≡ k)
+    → is_some o ≡ is_some g.last → group_at g other ≡ Some x → other ≢ key → (k : ℕ) → suc k ≡ x.end
+    → is_last r k ≡ true
 closed-elsewhere w g r key other x o s h found same kept is ne k e =
     elim (cases_lt x.end (length r.accepted)) [
       | inl low ↦ (h.groups other x is).group.ends k e low
@@ -93,7 +101,9 @@ closed-elsewhere w g r key other x o s h found same kept is ne k e =
               ∙ s.members key q x.least y.0 f (omega (arith, kept_x.from)) (omega (arith, kept_x.to)) y.1))
         ]
 
-elsewhere-shown : (r : Requests) (entry : Sqe) (x : Group) → IsShownGroup r x → ((k : ℕ) → suc k ≡ x.end → is_last r k ≡ true) → has_ended r (length r.accepted) ≡ false → IsShownGroup (with_accepted r entry) x
+elsewhere-shown : (r : Requests) (entry : Sqe) (x : Group) → IsShownGroup r x
+    → ((k : ℕ) → suc k ≡ x.end → is_last r k ≡ true) → has_ended r (length r.accepted) ≡ false
+    → IsShownGroup (with_accepted r entry) x
 elsewhere-shown r entry x old closed none =
     let within = old.group.accepted in
     record {
@@ -104,7 +114,8 @@ elsewhere-shown r entry x old closed none =
     }
 
 -- the counts
-outstanding-more : (r : Requests) (entry : Sqe) → has_ended r (length r.accepted) ≡ false → outstanding_in (with_accepted r entry) ≡ outstanding_in r + 1
+outstanding-more : (r : Requests) (entry : Sqe) → has_ended r (length r.accepted) ≡ false
+    → outstanding_in (with_accepted r entry) ≡ outstanding_in r + 1
 outstanding-more r entry none =
     let n : ℕ = length r.accepted in
     let more = longer r entry in
@@ -120,7 +131,8 @@ outstanding-more r entry none =
     in
     omega arith
 
-running-same : (r : Requests) (entry : Sqe) → has_started r (length r.accepted) ≡ false → running_in (with_accepted r entry) ≡ running_in r
+running-same : (r : Requests) (entry : Sqe) → has_started r (length r.accepted) ≡ false
+    → running_in (with_accepted r entry) ≡ running_in r
 running-same r entry none =
     let whole : running_in (with_accepted r entry) ≡ running_in r + one_if (is_running r (length r.accepted)) = ap (count_below (is_running r)) (longer r entry) in
     let last : one_if (is_running r (length r.accepted)) ≡ 0 = ap one_if (and_left _ _ none) in
@@ -130,7 +142,11 @@ not-linked : (b : Bool) (key : ℕ) → not (is_some (if b then Some key else No
 not-linked true key = refl
 not-linked false key = refl
 
-pub accept-held : (w v : Window) (g h : Groups) (r : Requests) (entry : Sqe) (request : Request) → IsSound w g → AreHeld w g r → Accepts w v g h entry request → request.entry ≡ entry → request.op ≡ op_of entry → request.is_cancelled ≡ false → request.is_running ≡ false → v.outstanding ≡ w.outstanding + 1 → v.running ≡ w.running → AreHeld v h (with_accepted r entry)
+pub accept-held : (w v : Window) (g h : Groups) (r : Requests) (entry : Sqe) (request : Request)
+    → IsSound w g → AreHeld w g r → Accepts w v g h entry request → request.entry ≡ entry
+    → request.op ≡ op_of entry → request.is_cancelled ≡ false → request.is_running ≡ false
+    → v.outstanding ≡ w.outstanding + 1 → v.running ≡ w.running
+    → AreHeld v h (with_accepted r entry)
 accept-held w v g h r entry request s a c is does free waits outstanding running =
     let n : ℕ = length r.accepted in
     let top : end_of w ≡ n = sym a.count in
@@ -196,7 +212,10 @@ accept-held w v g h r entry request s a c is does free waits outstanding running
     }
 
 -- what the code keeps of an entry
-prepared : (e : Sqe) (p : Result Op Fault) → IfOk p (λ op. (fault_of e ≡ None) × (op ≡ operation_of e)) → IfErr p (λ fault. fault_of e ≡ Some fault) → (result_ok p ≡ op_of e) × (is_some (result_ok p) ≡ not (is_faulty e))
+prepared : (e : Sqe) (p : Result Op Fault)
+    → IfOk p (λ op. (fault_of e ≡ None) × (op ≡ operation_of e))
+    → IfErr p (λ fault. fault_of e ≡ Some fault)
+    → (result_ok p ≡ op_of e) × (is_some (result_ok p) ≡ not (is_faulty e))
 prepared e (Ok op) right wrong =
     let fine : is_faulty e ≡ false = ap is_some right.0 in
     (ap Some right.1 ∙ sym (ap (λ b. if b then None else Some (operation_of e)) fine), sym (ap not fine))
@@ -204,12 +223,22 @@ prepared e (Err fault) right wrong =
     let bad : is_faulty e ≡ true = ap is_some wrong in
     (sym (ap (λ b. if b then None else Some (operation_of e)) bad), sym (ap not bad))
 
-pub kept-op : (e : Sqe) (p : Result Op Fault) (o : Option Op) (none : Bool) → IfOk p (λ op. (fault_of e ≡ None) × (op ≡ operation_of e)) → IfErr p (λ fault. fault_of e ≡ Some fault) → o ≡ result_ok p → is_some o ≡ not none → (o ≡ op_of e) × (none ≡ is_faulty e)
+pub kept-op : (e : Sqe) (p : Result Op Fault) (o : Option Op) (none : Bool)
+    → IfOk p (λ op. (fault_of e ≡ None) × (op ≡ operation_of e))
+    → IfErr p (λ fault. fault_of e ≡ Some fault) → o ≡ result_ok p → is_some o ≡ not none
+    → (o ≡ op_of e) × (none ≡ is_faulty e)
 kept-op e p o none right wrong is empty =
     let both = prepared e p right wrong in
     (is ∙ both.0, sym (not-not none) ∙ ap not (sym empty ∙ ap is_some is ∙ both.1) ∙ not-not (is_faulty e))
 
-pub accepts : (w v : Window) (g h : Groups) (entry : Sqe) (request : Request) (n : ℕ) (faulty : Bool) → n ≡ end_of w → faulty ≡ is_faulty entry → Changes w v (end_of w) (Some request) → end_of v ≡ end_of w + 1 → group_at g request.group ≡ last_group g.records g.last → ((k : ℕ) → g.last ≡ Some k → request.group ≡ k) → is_some (last_group g.records g.last) ≡ is_some g.last → Exchanges g h request.group (Some (with_member (last_group g.records g.last) n (is_drain entry) faulty)) → IsBeyond h.barriers (n + 1) → h.last ≡ (if is_linked entry then Some request.group else None) → Accepts w v g h entry request
+pub accepts : (w v : Window) (g h : Groups) (entry : Sqe) (request : Request) (n : ℕ) (faulty : Bool)
+    → n ≡ end_of w → faulty ≡ is_faulty entry → Changes w v (end_of w) (Some request)
+    → end_of v ≡ end_of w + 1 → group_at g request.group ≡ last_group g.records g.last
+    → ((k : ℕ) → g.last ≡ Some k → request.group ≡ k)
+    → is_some (last_group g.records g.last) ≡ is_some g.last
+    → Exchanges g h request.group (Some (with_member (last_group g.records g.last) n (is_drain entry) faulty))
+    → IsBeyond h.barriers (n + 1) → h.last ≡ (if is_linked entry then Some request.group else None)
+    → Accepts w v g h entry request
 accepts w v g h entry request n faulty top same changes end joins key kept exchange beyond last =
     let P : ℕ → Type 0 = λ m. Exchanges g h request.group (Some (with_member (last_group g.records g.last) m (is_drain entry) faulty)) in
     let Q : Bool → Type 0 = λ f. Exchanges g h request.group (Some (with_member (last_group g.records g.last) (end_of w) (is_drain entry) f)) in

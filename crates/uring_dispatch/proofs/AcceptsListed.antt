@@ -23,28 +23,34 @@ use Rattle.uring_dispatch.proofs.WaitingLemmas.{told-before, stands-apart, stand
 -- An entry is accepted.
 
 -- a fault that is new is that of the new member
-fault-cases : (o : Option ℕ) (faulty : Bool) (n : ℕ) → (is_some (found_or o faulty n) ≡ is_some o) ⊎ (found_or o faulty n ≡ Some n)
+fault-cases : (o : Option ℕ) (faulty : Bool) (n : ℕ)
+    → (is_some (found_or o faulty n) ≡ is_some o) ⊎ (found_or o faulty n ≡ Some n)
 fault-cases (Some m) faulty n = inl refl
 fault-cases None true n = inr refl
 fault-cases None false n = inl refl
 
-pub low-member : (s : Waiting) (o : Option Group) (n : ℕ) (d f : Bool) → Starts s n → ((q : Group) → o ≡ Some q → Starts s q.least) → Starts s (with_member o n d f).least
+pub low-member : (s : Waiting) (o : Option Group) (n : ℕ) (d f : Bool) → Starts s n
+    → ((q : Group) → o ≡ Some q → Starts s q.least) → Starts s (with_member o n d f).least
 low-member s None n d f own old = own
 low-member s (Some q) n d f own old = old q refl
 
 -- what is covered begins before each group's least member
-pub starts-least : (w : Window) (g : Groups) (s : Waiting) (key : ℕ) (q : Group) → IsSound w g → IsListed w g s → group_at g key ≡ Some q → Starts s q.least
+pub starts-least : (w : Window) (g : Groups) (s : Waiting) (key : ℕ) (q : Group) → IsSound w g
+    → IsListed w g s → group_at g key ≡ Some q → Starts s q.least
 starts-least w g s key q sound l is =
     let kept = sound.kept key q is in
     record { heads = l.heads.low q.least kept.here; doomed = l.doomed.low q.least kept.here }
 
-pub can-grow : (w : Window) (s : NumberSet) (n room : ℕ) → Reaches w s → n ≡ end_of w → 0 < room → end_of w + room ≤ s.limit → CanGrow s n
+pub can-grow : (w : Window) (s : NumberSet) (n room : ℕ) → Reaches w s → n ≡ end_of w → 0 < room
+    → end_of w + room ≤ s.limit → CanGrow s n
 can-grow w s n room r is some fits =
     let a = r.start in
     let b = r.stop in
     record { start = omega arith; stop = omega arith; room = omega arith }
 
-reaches-accepted : (w v : Window) (s t : NumberSet) (n : ℕ) (q : Request) → Reaches w s → GrowsTo s t n → n ≡ end_of w → end_of v ≡ end_of w + 1 → ((k : ℕ) → k ≢ end_of w → at v k ≡ at w k) → Reaches v t
+reaches-accepted : (w v : Window) (s t : NumberSet) (n : ℕ) (q : Request) → Reaches w s
+    → GrowsTo s t n → n ≡ end_of w → end_of v ≡ end_of w + 1
+    → ((k : ℕ) → k ≢ end_of w → at v k ≡ at w k) → Reaches v t
 reaches-accepted w v s t n q r grows is end others =
     let a = r.start in
     let b = grows.start in
@@ -59,7 +65,12 @@ reaches-accepted w v s t n q r grows is end others =
           ];
     }
 
-pub accept-listed : (w v : Window) (g h : Groups) (entry : Sqe) (request : Request) (s t : Waiting) (n : ℕ) → IsSound w g → IsListed w g s → Accepts w v g h entry request → n ≡ end_of w → IsListedAt v h t n → ((p : Group) → group_at h request.group ≡ Some p → p.fault ≡ Some n → (k : ℕ) → p.least ≤ k → k < n → IsListedAt v h t k) → ((k : ℕ) → IsListedAt v h s k → IsListedAt v h t k) → GrowsTo s.heads t.heads n → GrowsTo s.doomed t.doomed n → IsListed v h t
+pub accept-listed : (w v : Window) (g h : Groups) (entry : Sqe) (request : Request) (s t : Waiting) (n : ℕ)
+    → IsSound w g → IsListed w g s → Accepts w v g h entry request → n ≡ end_of w
+    → IsListedAt v h t n
+    → ((p : Group) → group_at h request.group ≡ Some p → p.fault ≡ Some n → (k : ℕ) → p.least ≤ k → k < n → IsListedAt v h t k)
+    → ((k : ℕ) → IsListedAt v h s k → IsListedAt v h t k) → GrowsTo s.heads t.heads n
+    → GrowsTo s.doomed t.doomed n → IsListed v h t
 accept-listed w v g h entry request s t n sound l a is own members told heads doomed = record {
   told = λ k.
       elim (cases_eq k (end_of w)) [
@@ -112,15 +123,22 @@ accept-listed w v g h entry request s t n sound l a is own members told heads do
         some-one y z e = cc
 
 -- A call ends.
-pub cut-listed : (w : Window) (g : Groups) (s : Waiting) → IsListed w g s → IsListed w (record g { last = None }) s
+pub cut-listed : (w : Window) (g : Groups) (s : Waiting) → IsListed w g s
+    → IsListed w (record g { last = None }) s
 cut-listed w g s l = record { told = λ n. let t = l.told n in record { head = t.head; doomed = t.doomed }; heads = l.heads; doomed = l.doomed }
 
 -- Memory is asked for.
 
-reaches-room : (w : Window) (room : ℕ) (s : NumberSet) → Reaches w s → Reaches (record w { room = room }) s
-reaches-room w room s r = record { start = r.start; stop = r.stop; low = λ n there. r.low n (ap is_some (sym (at-room w room n)) ∙ there) }
+reaches-room : (w : Window) (room : ℕ) (s : NumberSet) → Reaches w s
+    → Reaches (record w { room = room }) s
+reaches-room w room s r = record {
+  start = r.start;
+  stop = r.stop;
+  low = λ n there. r.low n (ap is_some (sym (at-room w room n)) ∙ there);
+}
 
-pub room-listed : (w : Window) (g : Groups) (s : Waiting) (a b : ℕ) → IsListed w g s → IsListed (record w { room = a }) (record g { room = b }) s
+pub room-listed : (w : Window) (g : Groups) (s : Waiting) (a b : ℕ) → IsListed w g s
+    → IsListed (record w { room = a }) (record g { room = b }) s
 room-listed w g s a b l = record {
   told = λ n.
       let t = l.told n in
@@ -140,7 +158,8 @@ reaches-same w s t r h =
     let d = h.stop in
     record { start = omega arith; stop = omega arith; low = λ n there. let low = r.low n there in omega arith }
 
-pub same-listed : (w : Window) (g : Groups) (s t : Waiting) → IsListed w g s → HasSame s.heads t.heads → HasSame s.doomed t.doomed → IsListed w g t
+pub same-listed : (w : Window) (g : Groups) (s t : Waiting) → IsListed w g s
+    → HasSame s.heads t.heads → HasSame s.doomed t.doomed → IsListed w g t
 same-listed w g s t l x y = record {
   told = λ n.
       let t1 = l.told n in
@@ -150,7 +169,10 @@ same-listed w g s t l x y = record {
 }
 
 -- Nothing waits at first.
-pub empty-listed : (w : Window) (g : Groups) (s : Waiting) → ((n : ℕ) → at w n ≡ None) → end_of w ≡ 0 → ((n : ℕ) → holds s.heads n ≡ false) → ((n : ℕ) → holds s.doomed n ≡ false) → start_of s.heads ≡ 0 → stop_of s.heads ≡ 0 → start_of s.doomed ≡ 0 → stop_of s.doomed ≡ 0 → IsListed w g s
+pub empty-listed : (w : Window) (g : Groups) (s : Waiting) → ((n : ℕ) → at w n ≡ None)
+    → end_of w ≡ 0 → ((n : ℕ) → holds s.heads n ≡ false) → ((n : ℕ) → holds s.doomed n ≡ false)
+    → start_of s.heads ≡ 0 → stop_of s.heads ≡ 0 → start_of s.doomed ≡ 0 → stop_of s.doomed ≡ 0
+    → IsListed w g s
 empty-listed w g s none end heads doomed a b c d = record {
   told = λ n. record { head = heads n ∙ sym (ap (λ o. waits_at_head g o n) (none n)); doomed = doomed n ∙ sym (ap (λ o. waits_doomed g o n) (none n)) };
   heads = record { start = omega arith; stop = omega arith; low = λ n there. absurd (both_ways _ (ap is_some (none n)) there) };

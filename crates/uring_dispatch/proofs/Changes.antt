@@ -15,7 +15,9 @@ use Rattle.uring_dispatch.proofs.HeldLemmas.{some_none, shown-within, running-so
 
 -- Request n is written, and stays in its group.
 
-written : (w v : Window) (n : ℕ) (p q : Request) → at w n ≡ Some p → Changes w v n (Some q) → q.group ≡ p.group → (k : ℕ) (x : Request) → at v k ≡ Some x → (y : Request) × (at w k ≡ Some y) × (x.group ≡ y.group)
+written : (w v : Window) (n : ℕ) (p q : Request) → at w n ≡ Some p → Changes w v n (Some q)
+    → q.group ≡ p.group → (k : ℕ) (x : Request) → at v k ≡ Some x
+    → (y : Request) × (at w k ≡ Some y) × (x.group ≡ y.group)
 written w v n p q there c same k x is =
     elim (cases_eq k n) [
       | inl here ↦
@@ -24,7 +26,9 @@ written w v n p q there c same k x is =
       | inr other ↦ (x, sym (c.others k other) ∙ is, refl)
     ]
 
-pub write-sound : (w v : Window) (g : Groups) (n : ℕ) (p q : Request) → IsSound w g → at w n ≡ Some p → Changes w v n (Some q) → q.group ≡ p.group → end_of v ≡ end_of w → IsSound v g
+pub write-sound : (w v : Window) (g : Groups) (n : ℕ) (p q : Request) → IsSound w g
+    → at w n ≡ Some p → Changes w v n (Some q) → q.group ≡ p.group → end_of v ≡ end_of w
+    → IsSound v g
 write-sound w v g n p q s there c same end = record {
   linked = λ k x is.
       let old = written w v n p q there c same k x is in
@@ -51,7 +55,8 @@ write-sound w v g n p q s there c same end = record {
   last = λ key y e found. s.last key y e found ∙ sym end;
 }
 
-gone : (w v : Window) (n k : ℕ) (q : Request) → Changes w v n (Some q) → at v k ≡ None → at w k ≡ None
+gone : (w v : Window) (n k : ℕ) (q : Request) → Changes w v n (Some q) → at v k ≡ None
+    → at w k ≡ None
 gone w v n k q c e =
     elim (cases_eq k n) [
       | inl same ↦ some_none q _ e (ap (at v) same ∙ c.here)
@@ -59,7 +64,9 @@ gone w v n k q c e =
     ]
 
 -- a cancel chooses a request
-pub choose-held : (w v : Window) (g : Groups) (r : Requests) (n : ℕ) (p : Request) → AreHeld w g r → at w n ≡ Some p → Changes w v n (Some (chosen p)) → IsAsBefore w v → v.running ≡ w.running → AreHeld v g (with_cancelled r (n ∷ []))
+pub choose-held : (w v : Window) (g : Groups) (r : Requests) (n : ℕ) (p : Request) → AreHeld w g r
+    → at w n ≡ Some p → Changes w v n (Some (chosen p)) → IsAsBefore w v → v.running ≡ w.running
+    → AreHeld v g (with_cancelled r (n ∷ []))
 choose-held w v g r n p h there c as_before runs_on = record {
   count = h.count ∙ sym as_before.end;
   outstanding = as_before.outstanding ∙ h.outstanding;
@@ -117,7 +124,10 @@ choose-held w v g r n p h there c as_before runs_on = record {
         some_none p (at w n) (at-past w n (omega (arith, h.count))) there
 
 -- a request starts
-pub start-held : (w v : Window) (g : Groups) (r : Requests) (n : ℕ) (p : Request) → IsSound w g → AreHeld w g r → at w n ≡ Some p → p.is_running ≡ false → is_faulty (entry_of r n) ≡ false → Changes w v n (Some (started p)) → IsAsBefore w v → v.running ≡ w.running + 1 → AreHeld v g (with_started r n)
+pub start-held : (w v : Window) (g : Groups) (r : Requests) (n : ℕ) (p : Request) → IsSound w g
+    → AreHeld w g r → at w n ≡ Some p → p.is_running ≡ false → is_faulty (entry_of r n) ≡ false
+    → Changes w v n (Some (started p)) → IsAsBefore w v → v.running ≡ w.running + 1
+    → AreHeld v g (with_started r n)
 start-held w v g r n p s h there waits right c as_before more =
     let inside = shown-within w g r n p s h there in
     let shown = h.shown n p there in

@@ -34,18 +34,22 @@ failing-chooses r n below =
     ap (λ b. if is_cancel (entry_of r n) && b then choices_of r n else []) (never_success (entry_of r n) below)
     ∙ ap (λ b. if b then choices_of r n else []) (and-false (is_cancel (entry_of r n)))
 
-pub held-failing : (v : Window) (h : Groups) (r : Requests) (n below : ℕ) → AreHeld v h r → AreHeld v h (with_cancelled r (chosen_by r n (negsuc below)))
+pub held-failing : (v : Window) (h : Groups) (r : Requests) (n below : ℕ) → AreHeld v h r
+    → AreHeld v h (with_cancelled r (chosen_by r n (negsuc below)))
 held-failing v h r n below held =
     subst (λ xs. AreHeld v h (with_cancelled r xs)) (sym (failing-chooses r n below))
     (subst (λ q. AreHeld v h q) (sym (none-cancelled r)) held)
 
-pub ends-failing : (v : Window) (h : Groups) (r : Requests) (n below : ℕ) → AreHeld v h (with_ended r n (negsuc below) no_bytes) → AreHeld v h (with_issued_end r n (negsuc below))
+pub ends-failing : (v : Window) (h : Groups) (r : Requests) (n below : ℕ)
+    → AreHeld v h (with_ended r n (negsuc below) no_bytes)
+    → AreHeld v h (with_issued_end r n (negsuc below))
 ends-failing v h r n below held =
     subst (λ q. AreHeld v h (with_ended q n (negsuc below) no_bytes))
     (sym (none-cancelled r) ∙ sym (ap (with_cancelled r) (failing-chooses r n below))) held
 
 -- a cancel of one that ends with 0 dooms what it chose
-pub one_chosen : (r : Requests) (n m : ℕ) → is_cancel (entry_of r n) ≡ true → is_cancel_all (entry_of r n) ≡ false → target_of r n ≡ Some m → chosen_by r n (pos 0) ≡ m ∷ []
+pub one_chosen : (r : Requests) (n m : ℕ) → is_cancel (entry_of r n) ≡ true
+    → is_cancel_all (entry_of r n) ≡ false → target_of r n ≡ Some m → chosen_by r n (pos 0) ≡ m ∷ []
 one_chosen r n m is one chose =
     ap (λ b. if b && is_success (entry_of r n) (pos 0) then choices_of r n else []) is
     ∙ ap (λ b. if b then choices_of r n else []) (one_success (entry_of r n) (pos 0) is one)
@@ -53,7 +57,8 @@ one_chosen r n m is one chose =
     ∙ ap option_to_list chose
 
 -- a cancel succeeds with a number
-pub cancel_succeeds : (r : Requests) (n : ℕ) → is_cancel (entry_of r n) ≡ true → is_success (entry_of r n) (cancel_result r n) ≡ int_le (pos 0) (cancel_result r n)
+pub cancel_succeeds : (r : Requests) (n : ℕ) → is_cancel (entry_of r n) ≡ true
+    → is_success (entry_of r n) (cancel_result r n) ≡ int_le (pos 0) (cancel_result r n)
 cancel_succeeds r n is = by_all (is_cancel_all (entry_of r n)) refl
   where
     e : Sqe
@@ -76,21 +81,24 @@ cancel_succeeds r n is = by_all (is_cancel_all (entry_of r n)) refl
 
 -- A cancel chooses one.
 
-still-there : (w v : Window) (m k : ℕ) (p : Request) → at w m ≡ Some p → Changes w v m (Some (chosen p)) → is_some (at v k) ≡ is_some (at w k)
+still-there : (w v : Window) (m k : ℕ) (p : Request) → at w m ≡ Some p
+    → Changes w v m (Some (chosen p)) → is_some (at v k) ≡ is_some (at w k)
 still-there w v m k p there c =
     elim (cases_eq k m) [
       | inl same ↦ ap (λ j. is_some (at v j)) same ∙ ap is_some c.here ∙ sym (ap is_some there) ∙ ap (λ j. is_some (at w j)) (sym same)
       | inr other ↦ ap is_some (c.others k other)
     ]
 
-runs-still : (w v : Window) (m k : ℕ) (p : Request) → at w m ≡ Some p → Changes w v m (Some (chosen p)) → runs (at v k) ≡ runs (at w k)
+runs-still : (w v : Window) (m k : ℕ) (p : Request) → at w m ≡ Some p
+    → Changes w v m (Some (chosen p)) → runs (at v k) ≡ runs (at w k)
 runs-still w v m k p there c =
     elim (cases_eq k m) [
       | inl same ↦ ap (λ j. runs (at v j)) same ∙ ap runs c.here ∙ sym (ap runs there) ∙ ap (λ j. runs (at w j)) (sym same)
       | inr other ↦ ap runs (c.others k other)
     ]
 
-pub choose-same : (w v : Window) (m : ℕ) (p : Request) → at w m ≡ Some p → Changes w v m (Some (chosen p)) → IsAsBefore w v → v.running ≡ w.running → HasSameRequests w v
+pub choose-same : (w v : Window) (m : ℕ) (p : Request) → at w m ≡ Some p
+    → Changes w v m (Some (chosen p)) → IsAsBefore w v → v.running ≡ w.running → HasSameRequests w v
 choose-same w v m p there c as_before running = record {
   as_before = as_before;
   running = running;
@@ -117,15 +125,23 @@ memory-both s t u a b =
     let v = b.doomed in
     record { heads = omega arith; doomed = omega arith }
 
-pub chosen-nobody : (w : Window) (g : Groups) (s : Waiting) → IsSound w g → IsListed w g s → HasChosen w w g s s
+pub chosen-nobody : (w : Window) (g : Groups) (s : Waiting) → IsSound w g → IsListed w g s
+    → HasChosen w w g s s
 chosen-nobody w g s sound listed = record { sound = sound; listed = listed; memory = record { heads = omega arith; doomed = omega arith }; same = same-none w }
 
-chosen-both : (u v w : Window) (g : Groups) (s t x : Waiting) → HasChosen u v g s t → HasChosen v w g t x → HasChosen u w g s x
-chosen-both u v w g s t x a b = record { sound = b.sound; listed = b.listed; memory = memory-both s t x a.memory b.memory; same = same-both u v w a.same b.same }
+chosen-both : (u v w : Window) (g : Groups) (s t x : Waiting) → HasChosen u v g s t
+    → HasChosen v w g t x → HasChosen u w g s x
+chosen-both u v w g s t x a b = record {
+  sound = b.sound;
+  listed = b.listed;
+  memory = memory-both s t x a.memory b.memory;
+  same = same-both u v w a.same b.same;
+}
 
 -- Targets.
 
-pub runs-held : (w : Window) (g : Groups) (r : Requests) (m : ℕ) → AreHeld w g r → is_running r m ≡ runs (at w m)
+pub runs-held : (w : Window) (g : Groups) (r : Requests) (m : ℕ) → AreHeld w g r
+    → is_running r m ≡ runs (at w m)
 runs-held w g r m h = go (at w m) refl
   where
     go : (o : Option Request) → at w m ≡ o → is_running r m ≡ runs o
@@ -133,18 +149,22 @@ runs-held w g r m h = go (at w m) refl
     go (Some q) e = running-some w g r m q h e
 
 -- what a cancel ends with that chose m, by whether m is running
-pub result-some : (r : Requests) (m : ℕ) (o : Option ℕ) (b : Bool) → Some m ≡ o → is_running r m ≡ b → (if b then negsuc 113 else pos 0) ≡ result_for r o
-result-some r m o b e runs = ap (λ x. if x then negsuc 113 else pos 0) (sym runs) ∙ ap (result_for r) e
+pub result-some : (r : Requests) (m : ℕ) (o : Option ℕ) (b : Bool) → Some m ≡ o → is_running r m ≡ b
+    → (if b then negsuc 113 else pos 0) ≡ result_for r o
+result-some r m o b e runs =
+    ap (λ x. if x then negsuc 113 else pos 0) (sym runs) ∙ ap (result_for r) e
 
 -- who isn't among those chosen stays as it was
-doomed-still : (r : Requests) (these : List ℕ) (m : ℕ) → list_any (λ k. k == m) these ≡ false → is_doomed (with_cancelled r these) m ≡ is_doomed r m
+doomed-still : (r : Requests) (these : List ℕ) (m : ℕ) → list_any (λ k. k == m) these ≡ false
+    → is_doomed (with_cancelled r these) m ≡ is_doomed r m
 unfolding is_doomed is_behind_failure some_member is_joined
 doomed-still r these m out =
     ap (λ b. (is_in_faulty_group r m || is_behind_failure r m) || b)
     (list_any-append (λ k. k == m) r.cancelled these ∙ ap (λ b. is_cancelled r m || b) out ∙ or-false (is_cancelled r m))
 
 -- whether the next is a target doesn't depend on the targets before it
-pub target-next : (r : Requests) (n m : ℕ) → is_target (with_cancelled r (all_below (is_target r n) m)) n m ≡ is_target r n m
+pub target-next : (r : Requests) (n m : ℕ)
+    → is_target (with_cancelled r (all_below (is_target r n) m)) n m ≡ is_target r n m
 target-next r n m =
     let these = all_below (is_target r n) m in
     ap (λ b. ((is_outstanding r m && not (m == n) && (user_data_of (entry_of r m) == addr_of (entry_of r n))) && not b) && not (is_running r m)) (doomed-still r these m (all_below-past (is_target r n) m m (omega arith)))
@@ -155,10 +175,13 @@ target-next r n m =
 pub record AreChosen (w v : Window) (g : Groups) (s t : Waiting) (n user_data m count : ℕ) : Type 0 where
   pub chosen : HasChosen w v g s t
   pub few : count ≤ m
-  pub count_is : (r : Requests) → AreHeld w g r → user_data ≡ addr_of (entry_of r n) → count ≡ length (all_below (is_target r n) m)
-  pub held : (r : Requests) → AreHeld w g r → user_data ≡ addr_of (entry_of r n) → AreHeld v g (with_cancelled r (all_below (is_target r n) m))
+  pub count_is : (r : Requests) → AreHeld w g r → user_data ≡ addr_of (entry_of r n)
+      → count ≡ length (all_below (is_target r n) m)
+  pub held : (r : Requests) → AreHeld w g r → user_data ≡ addr_of (entry_of r n)
+      → AreHeld v g (with_cancelled r (all_below (is_target r n) m))
 
-pub chosen-none : (w : Window) (g : Groups) (s : Waiting) (n user_data m : ℕ) → IsSound w g → IsListed w g s → ((k : ℕ) → k < m → at w k ≡ None) → AreChosen w w g s s n user_data m 0
+pub chosen-none : (w : Window) (g : Groups) (s : Waiting) (n user_data m : ℕ) → IsSound w g
+    → IsListed w g s → ((k : ℕ) → k < m → at w k ≡ None) → AreChosen w w g s s n user_data m 0
 chosen-none w g s n user_data m sound listed none =
     let nobody : (r : Requests) → AreHeld w g r → all_below (is_target r n) m ≡ [] =
     λ r h. all_below-none (is_target r n) m (λ k lt. and_left _ _ (candidate-none w g r n k h (none k lt)))
@@ -171,18 +194,28 @@ chosen-none w g s n user_data m sound listed none =
     }
 
 one-more : (p : ℕ → Bool) (m : ℕ) → p m ≡ true → all_below p (m + 1) ≡ all_below p m ++ m ∷ []
-one-more p m e = let next : m + 1 ≡ suc m = omega arith in ap (all_below p) next ∙ ap (λ b. all_below p m ++ cond b (m ∷ []) []) e
+one-more p m e = let next : m + 1
+    ≡ suc m = omega arith in ap (all_below p) next ∙ ap (λ b. all_below p m ++ cond b (m ∷ []) []) e
 
 none-more : (p : ℕ → Bool) (m : ℕ) → p m ≡ false → all_below p (m + 1) ≡ all_below p m
-none-more p m e = let next : m + 1 ≡ suc m = omega arith in ap (all_below p) next ∙ ap (λ b. all_below p m ++ cond b (m ∷ []) []) e ∙ append-nil (all_below p m)
+none-more p m e = let next : m + 1
+    ≡ suc m = omega arith in ap (all_below p) next ∙ ap (λ b. all_below p m ++ cond b (m ∷ []) []) e ∙ append-nil (all_below p m)
 
 -- what the test of the next number answers
-target-tested : (w v : Window) (g : Groups) (s t : Waiting) (n user_data m count : ℕ) (tested : Bool) → AreChosen w v g s t n user_data m count → ((r : Requests) → AreHeld v g r → user_data ≡ addr_of (entry_of r n) → tested ≡ is_target r n m) → (r : Requests) → AreHeld w g r → user_data ≡ addr_of (entry_of r n) → is_target r n m ≡ tested
+target-tested : (w v : Window) (g : Groups) (s t : Waiting) (n user_data m count : ℕ) (tested : Bool)
+    → AreChosen w v g s t n user_data m count
+    → ((r : Requests) → AreHeld v g r → user_data ≡ addr_of (entry_of r n) → tested ≡ is_target r n m)
+    → (r : Requests) → AreHeld w g r → user_data ≡ addr_of (entry_of r n) → is_target r n m ≡ tested
 target-tested w v g s t n user_data m count tested c test r h named =
     sym (test (with_cancelled r (all_below (is_target r n) m)) (c.held r h named) named ∙ target-next r n m)
 
 -- the next number is a target, and was chosen
-pub chosen-more : (w v x : Window) (g : Groups) (s t u : Waiting) (n user_data m count : ℕ) → AreChosen w v g s t n user_data m count → ((r : Requests) → AreHeld v g r → user_data ≡ addr_of (entry_of r n) → true ≡ is_target r n m) → HasChosen v x g t u → ((r : Requests) → AreHeld v g r → AreHeld x g (with_cancelled r (m ∷ []))) → AreChosen w x g s u n user_data (m + 1) (count + 1)
+pub chosen-more : (w v x : Window) (g : Groups) (s t u : Waiting) (n user_data m count : ℕ)
+    → AreChosen w v g s t n user_data m count
+    → ((r : Requests) → AreHeld v g r → user_data ≡ addr_of (entry_of r n) → true ≡ is_target r n m)
+    → HasChosen v x g t u
+    → ((r : Requests) → AreHeld v g r → AreHeld x g (with_cancelled r (m ∷ [])))
+    → AreChosen w x g s u n user_data (m + 1) (count + 1)
 chosen-more w v x g s t u n user_data m count c test chosen held =
     let few = c.few in
     let more : (r : Requests) → AreHeld w g r → user_data ≡ addr_of (entry_of r n) → all_below (is_target r n) (m + 1) ≡ all_below (is_target r n) m ++ m ∷ [] =
@@ -201,7 +234,10 @@ chosen-more w v x g s t u n user_data m count c test chosen held =
     }
 
 -- the next number is none
-pub chosen-past : (w v : Window) (g : Groups) (s t : Waiting) (n user_data m count : ℕ) → AreChosen w v g s t n user_data m count → ((r : Requests) → AreHeld v g r → user_data ≡ addr_of (entry_of r n) → false ≡ is_target r n m) → AreChosen w v g s t n user_data (m + 1) count
+pub chosen-past : (w v : Window) (g : Groups) (s t : Waiting) (n user_data m count : ℕ)
+    → AreChosen w v g s t n user_data m count
+    → ((r : Requests) → AreHeld v g r → user_data ≡ addr_of (entry_of r n) → false ≡ is_target r n m)
+    → AreChosen w v g s t n user_data (m + 1) count
 chosen-past w v g s t n user_data m count c test =
     let few = c.few in
     let same_ones : (r : Requests) → AreHeld w g r → user_data ≡ addr_of (entry_of r n) → all_below (is_target r n) (m + 1) ≡ all_below (is_target r n) m =
@@ -215,6 +251,7 @@ chosen-past w v g s t n user_data m count c test =
     }
 
 -- all numbers were tested
-pub chosen-all : (r : Requests) (n m : ℕ) → m ≡ length r.accepted → all_below (is_target r n) m ≡ targets_of r n
+pub chosen-all : (r : Requests) (n m : ℕ) → m ≡ length r.accepted
+    → all_below (is_target r n) m ≡ targets_of r n
 unfolding targets_of
 chosen-all r n m all = ap (all_below (is_target r n)) all

@@ -4,13 +4,15 @@ use Rattle.std.proofs.lemmas.Bool.{cases_eq}
 use Rattle.uring_entry.specs.Below.{count_below}
 use Rattle.uring_dispatch.specs.Window.{one_if}
 
-pub count_below-same : (p q : ℕ → Bool) (n : ℕ) → ((k : ℕ) → k < n → p k ≡ q k) → count_below p n ≡ count_below q n
+pub count_below-same : (p q : ℕ → Bool) (n : ℕ) → ((k : ℕ) → k < n → p k ≡ q k)
+    → count_below p n ≡ count_below q n
 count_below-same p q zero h = refl
 count_below-same p q (suc n) h =
     ap (λ c. c + one_if (p n)) (count_below-same p q n (λ k lt. h k (omega arith))) ∙ ap (λ b. count_below q n + one_if b) (h n (omega arith))
 
 -- two tests that differ at one number
-pub count_below-changed : (p q : ℕ → Bool) (n k : ℕ) → k < n → ((j : ℕ) → j ≢ k → q j ≡ p j) → count_below q n + one_if (p k) ≡ count_below p n + one_if (q k)
+pub count_below-changed : (p q : ℕ → Bool) (n k : ℕ) → k < n → ((j : ℕ) → j ≢ k → q j ≡ p j)
+    → count_below q n + one_if (p k) ≡ count_below p n + one_if (q k)
 count_below-changed p q zero k lt h = absurd (omega arith)
 count_below-changed p q (suc n) k lt h =
     elim (cases_eq k n) [

@@ -18,7 +18,8 @@ pub record Ends (w v : Window) (g h : Groups) (n : ℕ) (request : Request) (q :
   pub exchange : Exchanges g h request.group left
 
 -- a request lies in its group
-pub in-group : (w : Window) (g : Groups) (n : ℕ) (request : Request) (q : Group) → IsSound w g → at w n ≡ Some request → group_at g request.group ≡ Some q → (q.from ≤ n) × (n < q.end)
+pub in-group : (w : Window) (g : Groups) (n : ℕ) (request : Request) (q : Group) → IsSound w g
+    → at w n ≡ Some request → group_at g request.group ≡ Some q → (q.from ≤ n) × (n < q.end)
 in-group w g n request q s there is =
     let link = s.linked n request there in
     let one : link.group ≡ q = same_Some _ _ (sym link.found ∙ is) in
@@ -26,7 +27,8 @@ in-group w g n request q s there is =
     subst P one (link.from, link.to)
 
 -- and not before the group's least outstanding member
-pub least-before : (w : Window) (g : Groups) (n : ℕ) (request : Request) (q : Group) → IsSound w g → at w n ≡ Some request → group_at g request.group ≡ Some q → q.least ≤ n
+pub least-before : (w : Window) (g : Groups) (n : ℕ) (request : Request) (q : Group) → IsSound w g
+    → at w n ≡ Some request → group_at g request.group ≡ Some q → q.least ≤ n
 least-before w g n request q s there is =
     elim (cases_lt n q.least) [
       | inl low ↦ some_none request _ ((s.kept request.group q is).over n (in-group w g n request q s there is).0 low) there
@@ -34,7 +36,8 @@ least-before w g n request q s there is =
     ]
 
 -- another number keeps its request
-pub kept-request : (w v : Window) (n k : ℕ) (p : Request) → Changes w v n None → at v k ≡ Some p → (k ≢ n) × (at w k ≡ Some p)
+pub kept-request : (w v : Window) (n k : ℕ) (p : Request) → Changes w v n None → at v k ≡ Some p
+    → (k ≢ n) × (at w k ≡ Some p)
 kept-request w v n k p c e =
     elim (cases_eq k n) [
       | inl same ↦ some_none p _ (ap (at v) same ∙ c.here) e
@@ -49,10 +52,15 @@ gone-stays w v n m c e =
     ]
 
 -- a group of another key hasn't n
-pub apart : (w : Window) (g : Groups) (n key : ℕ) (request : Request) (p : Group) → IsSound w g → at w n ≡ Some request → group_at g key ≡ Some p → key ≢ request.group → p.from ≤ n → n < p.end → ⊥
-apart w g n key request p s there is ne from to = ne (sym (s.members key p n request is from to there))
+pub apart : (w : Window) (g : Groups) (n key : ℕ) (request : Request) (p : Group) → IsSound w g
+    → at w n ≡ Some request → group_at g key ≡ Some p → key ≢ request.group → p.from ≤ n → n < p.end
+    → ⊥
+apart w g n key request p s there is ne from to =
+    ne (sym (s.members key p n request is from to there))
 
-kept-elsewhere : (w v : Window) (g : Groups) (n key : ℕ) (request : Request) (p : Group) → IsSound w g → at w n ≡ Some request → Changes w v n None → end_of v ≡ end_of w → group_at g key ≡ Some p → key ≢ request.group → IsKept v p
+kept-elsewhere : (w v : Window) (g : Groups) (n key : ℕ) (request : Request) (p : Group)
+    → IsSound w g → at w n ≡ Some request → Changes w v n None → end_of v ≡ end_of w
+    → group_at g key ≡ Some p → key ≢ request.group → IsKept v p
 kept-elsewhere w v g n key request p s there c end is ne =
     let k = s.kept key p is in
     record {
@@ -67,7 +75,9 @@ kept-elsewhere w v g n key request p s there c end is ne =
 
 -- The group's last member has ended.
 
-pub end-sound_last : (w v : Window) (g h : Groups) (n : ℕ) (request : Request) (q : Group) (least : ℕ) → IsSound w g → Ends w v g h n request q None → IsNext v q.least q.end least → least ≡ q.end → IsBeyond h.barriers (end_of w) → h.last ≡ None → IsSound v h
+pub end-sound_last : (w v : Window) (g h : Groups) (n : ℕ) (request : Request) (q : Group) (least : ℕ)
+    → IsSound w g → Ends w v g h n request q None → IsNext v q.least q.end least → least ≡ q.end
+    → IsBeyond h.barriers (end_of w) → h.last ≡ None → IsSound v h
 end-sound_last w v g h n request q least s e next all beyond closed =
     let kept = s.kept request.group q e.group in
     let over : (k : ℕ) (p : Request) → at v k ≡ Some p → p.group ≢ request.group =
@@ -103,7 +113,10 @@ end-sound_last w v g h n request q least s e next all beyond closed =
 
 -- Another member of the group is outstanding.
 
-pub end-sound_more : (w v : Window) (g h : Groups) (n : ℕ) (request : Request) (q p : Group) (least : ℕ) → IsSound w g → Ends w v g h n request q (Some p) → IsNext v q.least q.end least → least ≢ q.end → p.from ≡ q.from → p.end ≡ q.end → p.least ≡ least → IsBeyond h.barriers (end_of w) → h.last ≡ None → IsSound v h
+pub end-sound_more : (w v : Window) (g h : Groups) (n : ℕ) (request : Request) (q p : Group) (least : ℕ)
+    → IsSound w g → Ends w v g h n request q (Some p) → IsNext v q.least q.end least → least ≢ q.end
+    → p.from ≡ q.from → p.end ≡ q.end → p.least ≡ least → IsBeyond h.barriers (end_of w)
+    → h.last ≡ None → IsSound v h
 end-sound_more w v g h n request q p least s e next more from end is beyond closed =
     let kept = s.kept request.group q e.group in
     let low : least < q.end = omega (arith, next.up_to, more) in

@@ -19,7 +19,9 @@ use Rattle.uring_dispatch.proofs.EndLemmas.{kept-request, apart, Ends}
 -- The lists.
 
 -- the counts
-outstanding-less : (w : Window) (g : Groups) (r : Requests) (n : ℕ) (request : Request) (res : ℤ) (bytes : List ℕ) → IsSound w g → AreHeld w g r → at w n ≡ Some request → outstanding_in (with_ended r n res bytes) + 1 ≡ outstanding_in r
+outstanding-less : (w : Window) (g : Groups) (r : Requests) (n : ℕ) (request : Request) (res : ℤ) (bytes : List ℕ)
+    → IsSound w g → AreHeld w g r → at w n ≡ Some request
+    → outstanding_in (with_ended r n res bytes) + 1 ≡ outstanding_in r
 outstanding-less w g r n request res bytes s h e =
     let lt = shown-within w g r n request s h e in
     let was : one_if (is_outstanding r n) ≡ 1 = ap one_if (outstanding-some w g r n request s h e) in
@@ -29,7 +31,9 @@ outstanding-less w g r n request res bytes s h e =
     in
     omega (arith, change)
 
-running-less : (w : Window) (g : Groups) (r : Requests) (n : ℕ) (request : Request) (res : ℤ) (bytes : List ℕ) → IsSound w g → AreHeld w g r → at w n ≡ Some request → running_in (with_ended r n res bytes) + one_if request.is_running ≡ running_in r
+running-less : (w : Window) (g : Groups) (r : Requests) (n : ℕ) (request : Request) (res : ℤ) (bytes : List ℕ)
+    → IsSound w g → AreHeld w g r → at w n ≡ Some request
+    → running_in (with_ended r n res bytes) + one_if request.is_running ≡ running_in r
 running-less w g r n request res bytes s h e =
     let lt = shown-within w g r n request s h e in
     let was : one_if (is_running r n) ≡ one_if request.is_running = ap one_if (running-some w g r n request h e) in
@@ -39,9 +43,13 @@ running-less w g r n request res bytes s h e =
 
 -- what is known of a group is that of the lists
 pub record ShowsEnd (r : Requests) (n : ℕ) (res : ℤ) (q : Group) (left : Option Group) : Type 0 where
-  pub group : (p : Group) → left ≡ Some p → (p.from ≡ q.from) × (p.end ≡ q.end) × (p.fault ≡ q.fault) × (p.drain ≡ q.drain) × (p.broken ≡ earlier_of q.broken (is_soft (entry_of r n) && not (is_success (entry_of r n) res)) n)
+  pub group : (p : Group) → left ≡ Some p
+      → (p.from ≡ q.from) × (p.end ≡ q.end) × (p.fault ≡ q.fault) × (p.drain ≡ q.drain)
+      × (p.broken ≡ earlier_of q.broken (is_soft (entry_of r n) && not (is_success (entry_of r n) res)) n)
 
-shown-elsewhere : (w : Window) (g : Groups) (r : Requests) (n key : ℕ) (request : Request) (p : Group) (res : ℤ) (bytes : List ℕ) → IsSound w g → AreHeld w g r → at w n ≡ Some request → group_at g key ≡ Some p → key ≢ request.group → IsShownGroup (with_ended r n res bytes) p
+shown-elsewhere : (w : Window) (g : Groups) (r : Requests) (n key : ℕ) (request : Request) (p : Group) (res : ℤ) (bytes : List ℕ)
+    → IsSound w g → AreHeld w g r → at w n ≡ Some request → group_at g key ≡ Some p
+    → key ≢ request.group → IsShownGroup (with_ended r n res bytes) p
 shown-elsewhere w g r n key request p res bytes s h there is ne =
     let shown = h.groups key p is in
     record {
@@ -53,7 +61,11 @@ shown-elsewhere w g r n key request p res bytes s h there is ne =
           ∙ sym (first_broken-elsewhere r n res bytes p.from p.end (λ m high low same. apart w g n key request p s there is ne (omega arith) (omega arith)));
     }
 
-shown-here : (r : Requests) (n : ℕ) (res : ℤ) (bytes : List ℕ) (q p : Group) → IsShownGroup r q → q.from ≤ n → n < q.end → has_ended r n ≡ false → (p.from ≡ q.from) × (p.end ≡ q.end) × (p.fault ≡ q.fault) × (p.drain ≡ q.drain) × (p.broken ≡ earlier_of q.broken (is_soft (entry_of r n) && not (is_success (entry_of r n) res)) n) → IsShownGroup (with_ended r n res bytes) p
+shown-here : (r : Requests) (n : ℕ) (res : ℤ) (bytes : List ℕ) (q p : Group) → IsShownGroup r q
+    → q.from ≤ n → n < q.end → has_ended r n ≡ false
+    → (p.from ≡ q.from) × (p.end ≡ q.end) × (p.fault ≡ q.fault) × (p.drain ≡ q.drain)
+    × (p.broken ≡ earlier_of q.broken (is_soft (entry_of r n) && not (is_success (entry_of r n) res)) n)
+    → IsShownGroup (with_ended r n res bytes) p
 shown-here r n res bytes q p shown from to none same =
     let moved : IsShownGroup (with_ended r n res bytes) (record q { broken = p.broken }) =
     record {
@@ -72,7 +84,10 @@ shown-here r n res bytes q p shown from to none same =
       broken = rw (same.0, same.1) moved.broken;
     }
 
-pub end-held : (w v : Window) (g h : Groups) (r : Requests) (n : ℕ) (request : Request) (q : Group) (left : Option Group) (res : ℤ) (bytes : List ℕ) → IsSound w g → AreHeld w g r → Ends w v g h n request q left → HasLost w v (one_if request.is_running) → g.last ≡ None → h.last ≡ None → ShowsEnd r n res q left → AreHeld v h (with_ended r n res bytes)
+pub end-held : (w v : Window) (g h : Groups) (r : Requests) (n : ℕ) (request : Request) (q : Group) (left : Option Group) (res : ℤ) (bytes : List ℕ)
+    → IsSound w g → AreHeld w g r → Ends w v g h n request q left
+    → HasLost w v (one_if request.is_running) → g.last ≡ None → h.last ≡ None
+    → ShowsEnd r n res q left → AreHeld v h (with_ended r n res bytes)
 end-held w v g h r n request q left res bytes s a e lost was closed shows =
     let inside = shown-within w g r n request s a e.there in
     let link = s.linked n request e.there in
@@ -120,7 +135,11 @@ end-held w v g h r n request q left res bytes s a e lost was closed shows =
 pub shows-none : (r : Requests) (n : ℕ) (res : ℤ) (q : Group) → ShowsEnd r n res q None
 shows-none r n res q = record { group = λ p e. cc }
 
-pub shows-more : (r : Requests) (n : ℕ) (res : ℤ) (q p : Group) → p.from ≡ q.from → p.end ≡ q.end → p.fault ≡ q.fault → p.drain ≡ q.drain → p.broken ≡ earlier_of q.broken (is_soft (entry_of r n) && not (is_success (entry_of r n) res)) n → ShowsEnd r n res q (Some p)
+pub shows-more : (r : Requests) (n : ℕ) (res : ℤ) (q p : Group) → p.from ≡ q.from → p.end ≡ q.end
+    → p.fault ≡ q.fault → p.drain ≡ q.drain
+    → p.broken
+    ≡ earlier_of q.broken (is_soft (entry_of r n) && not (is_success (entry_of r n) res)) n
+    → ShowsEnd r n res q (Some p)
 shows-more r n res q p a b c d e = record {
   group = λ x is.
       let one : p ≡ x = same_Some p x is in

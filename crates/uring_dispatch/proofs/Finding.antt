@@ -14,7 +14,8 @@ use Rattle.uring_dispatch.specs.Cancels.{found_as, found_for, found_by, operatio
 use Rattle.uring_dispatch.proofs.HeldLemmas.{outstanding-none, outstanding-some}
 
 -- what is outstanding is to do what its entry asks for
-pub operation-held : (w : Window) (g : Groups) (r : Requests) (n : ℕ) (request : Request) → IsSound w g → AreHeld w g r → at w n ≡ Some request → operation_outstanding r n ≡ request.op
+pub operation-held : (w : Window) (g : Groups) (r : Requests) (n : ℕ) (request : Request)
+    → IsSound w g → AreHeld w g r → at w n ≡ Some request → operation_outstanding r n ≡ request.op
 operation-held w g r n request s h e =
     ap (λ b. if b && not (is_faulty (entry_of r n)) then Some (operation_of (entry_of r n)) else None) (outstanding-some w g r n request s h e)
     ∙ go (is_faulty (entry_of r n))
@@ -24,16 +25,21 @@ operation-held w g r n request s h e =
     go true = refl
     go false = refl
 
-pub finds-gone : (w : Window) (g : Groups) (r : Requests) (n : ℕ) → AreHeld w g r → at w n ≡ None → None ≡ found_by r n
+pub finds-gone : (w : Window) (g : Groups) (r : Requests) (n : ℕ) → AreHeld w g r → at w n ≡ None
+    → None ≡ found_by r n
 finds-gone w g r n h e =
     sym (ap (λ b. found_for r n (if b && not (is_faulty (entry_of r n)) then Some (operation_of (entry_of r n)) else None)) (outstanding-none w g r n h e))
 
 -- by what it is to do
-pub finds-by : (w : Window) (g : Groups) (r : Requests) (n : ℕ) (request : Request) (op : Option Op) → IsSound w g → AreHeld w g r → at w n ≡ Some request → request.op ≡ op → found_for r n op ≡ found_by r n
-finds-by w g r n request op s h e is = sym (ap (found_for r n) (operation-held w g r n request s h e ∙ is))
+pub finds-by : (w : Window) (g : Groups) (r : Requests) (n : ℕ) (request : Request) (op : Option Op)
+    → IsSound w g → AreHeld w g r → at w n ≡ Some request → request.op ≡ op
+    → found_for r n op ≡ found_by r n
+finds-by w g r n request op s h e is =
+    sym (ap (found_for r n) (operation-held w g r n request s h e ∙ is))
 
 -- what is no cancel finds nothing
-pub finds-other : (r : Requests) (n : ℕ) (op : Op) → ((t : ℕ) (all : Bool) → op ≡ Cancel t all → ⊥) → None ≡ found_for r n (Some op)
+pub finds-other : (r : Requests) (n : ℕ) (op : Op) → ((t : ℕ) (all : Bool) → op ≡ Cancel t all → ⊥)
+    → None ≡ found_for r n (Some op)
 finds-other r n Nop other = refl
 finds-other r n (Read fd off len) other = refl
 finds-other r n (Write fd off len bytes) other = refl

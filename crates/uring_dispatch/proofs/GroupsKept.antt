@@ -12,8 +12,12 @@ use Rattle.uring_dispatch.proofs.BarrierLemmas.{front-least, beyond-next, beyond
 
 -- What accepting a request keeps.
 
-pub covered-accept : (records : List (Option Group)) (barriers : List Barrier) (old : Option Group) (key n d : ℕ) (drains faulty : Bool) → ((number : ℕ) → drain_of old ≡ Some number → list_any (covers key number) barriers ≡ true) → (with_member old n drains faulty).drain ≡ Some d → d ≢ n → list_any (covers key d) barriers ≡ true
-covered-accept records barriers None key n d true faulty was e ne = absurd (ne (let f : Some n ≡ Some d = e in cc))
+pub covered-accept : (records : List (Option Group)) (barriers : List Barrier) (old : Option Group) (key n d : ℕ) (drains faulty : Bool)
+    → ((number : ℕ) → drain_of old ≡ Some number → list_any (covers key number) barriers ≡ true)
+    → (with_member old n drains faulty).drain ≡ Some d → d ≢ n
+    → list_any (covers key d) barriers ≡ true
+covered-accept records barriers None key n d true faulty was e ne =
+    absurd (ne (let f : Some n ≡ Some d = e in cc))
 covered-accept records barriers None key n d false faulty was e ne = let f : None ≡ Some d = e in cc
 covered-accept records barriers (Some q) key n d drains faulty was e ne = from q.drain refl
   where
@@ -32,34 +36,42 @@ starts_at-yes (Some d) n e = ap Some (eqb-true d n e)
 pub starts_at-no : (o : Option ℕ) (n : ℕ) → starts_at o n ≡ false → o ≢ Some n
 starts_at-no o n e same = both_ways _ e (ap (λ x. starts_at x n) same ∙ eq-eqb n n refl)
 
-with-added : (barriers : List Barrier) (o : Option ℕ) (n key : ℕ) → o ≡ Some n → with_barrier barriers o n key ≡ barriers ++ record { number = n; key = key } ∷ []
+with-added : (barriers : List Barrier) (o : Option ℕ) (n key : ℕ) → o ≡ Some n
+    → with_barrier barriers o n key ≡ barriers ++ record { number = n; key = key } ∷ []
 with-added barriers o n key is =
     ap (λ x. with_barrier barriers x n key) is ∙ ap (λ b. if b then barriers ++ record { number = n; key = key } ∷ [] else barriers) (eq-eqb n n refl)
 
-with-cases : (barriers : List Barrier) (o : Option ℕ) (n key : ℕ) → ((o ≡ Some n) × (with_barrier barriers o n key ≡ barriers ++ record { number = n; key = key } ∷ [])) ⊎ (with_barrier barriers o n key ≡ barriers)
+with-cases : (barriers : List Barrier) (o : Option ℕ) (n key : ℕ)
+    → ((o ≡ Some n) × (with_barrier barriers o n key ≡ barriers ++ record { number = n; key = key } ∷ []))
+    ⊎ (with_barrier barriers o n key ≡ barriers)
 with-cases barriers o n key =
     elim (cases_Bool (starts_at o n)) [
       | inl starts ↦ let is = starts_at-yes o n starts in inl (is, with-added barriers o n key is)
       | inr not_here ↦ inr (ap (λ b. if b then barriers ++ record { number = n; key = key } ∷ [] else barriers) not_here)
     ]
 
-covered-with : (barriers : List Barrier) (o : Option ℕ) (n key k d : ℕ) → list_any (covers k d) barriers ≡ true → list_any (covers k d) (with_barrier barriers o n key) ≡ true
+covered-with : (barriers : List Barrier) (o : Option ℕ) (n key k d : ℕ)
+    → list_any (covers k d) barriers ≡ true
+    → list_any (covers k d) (with_barrier barriers o n key) ≡ true
 covered-with barriers o n key k d e =
     elim (with-cases barriers o n key) [
       | inl added ↦ rw added.1 (covered-push barriers _ k d e)
       | inr same ↦ rw same e
     ]
 
-pub beyond-with : (barriers : List Barrier) (o : Option ℕ) (n key : ℕ) → IsBeyond barriers n → IsBeyond (with_barrier barriers o n key) (n + 1)
+pub beyond-with : (barriers : List Barrier) (o : Option ℕ) (n key : ℕ) → IsBeyond barriers n
+    → IsBeyond (with_barrier barriers o n key) (n + 1)
 beyond-with barriers o n key e =
     elim (with-cases barriers o n key) [
       | inl added ↦ rw added.1 (beyond-push barriers n key e)
       | inr same ↦ rw same (beyond-next barriers n e)
     ]
 
-kept-drain : (old : Option Group) (n d : ℕ) (drains faulty : Bool) → drain_of old ≡ Some d → (with_member old n drains faulty).drain ≡ Some d
+kept-drain : (old : Option Group) (n d : ℕ) (drains faulty : Bool) → drain_of old ≡ Some d
+    → (with_member old n drains faulty).drain ≡ Some d
 kept-drain None n d drains faulty e = let f : None ≡ Some d = e in cc
-kept-drain (Some q) n d drains faulty e = let f : q.drain ≡ Some d = e in ap (λ o. found_or o drains n) f
+kept-drain (Some q) n d drains faulty e =
+    let f : q.drain ≡ Some d = e in ap (λ o. found_or o drains n) f
 
 -- A request was accepted into the group of this key.
 pub record IsAccepted (records new : List (Option Group)) (last : Option ℕ) (key n : ℕ) (drains faulty : Bool) : Type 0 where
@@ -67,7 +79,10 @@ pub record IsAccepted (records new : List (Option Group)) (last : Option ℕ) (k
   pub here : get_or new key None ≡ Some (with_member (last_group records last) n drains faulty)
   pub others : (k : ℕ) → k ≢ key → get_or new k None ≡ get_or records k None
 
-pub accept-groups : (records new : List (Option Group)) (barriers : List Barrier) (last next : Option ℕ) (key n : ℕ) (drains faulty : Bool) → AreGroups records barriers last → IsBeyond barriers n → IsAccepted records new last key n drains faulty → ((k : ℕ) → next ≡ Some k → k ≡ key) → AreGroups new (with_barrier barriers (with_member (last_group records last) n drains faulty).drain n key) next
+pub accept-groups : (records new : List (Option Group)) (barriers : List Barrier) (last next : Option ℕ) (key n : ℕ) (drains faulty : Bool)
+    → AreGroups records barriers last → IsBeyond barriers n
+    → IsAccepted records new last key n drains faulty → ((k : ℕ) → next ≡ Some k → k ≡ key)
+    → AreGroups new (with_barrier barriers (with_member (last_group records last) n drains faulty).drain n key) next
 accept-groups records new barriers last next key n drains faulty g beyond a only =
     let q : Group = with_member (last_group records last) n drains faulty in
     record {
@@ -97,11 +112,15 @@ accept-groups records new barriers last next key n drains faulty g beyond a only
 same_head : (b c : Barrier) (xs ys : List Barrier) → b ∷ xs ≡ c ∷ ys → b ≡ c
 same_head b c xs ys e = cc
 
-front-of : (barriers : List Barrier) (b c : Barrier) (rest : List Barrier) → barriers ++ b ∷ [] ≡ c ∷ rest → (b ≡ c) ⊎ ((more : List Barrier) × (barriers ≡ c ∷ more))
+front-of : (barriers : List Barrier) (b c : Barrier) (rest : List Barrier)
+    → barriers ++ b ∷ [] ≡ c ∷ rest → (b ≡ c) ⊎ ((more : List Barrier) × (barriers ≡ c ∷ more))
 front-of [] b c rest e = inl (same_head b c [] rest e)
-front-of (d ∷ more) b c rest e = inr (more, ap (λ x. x ∷ more) (same_head d c (more ++ b ∷ []) rest e))
+front-of (d ∷ more) b c rest e =
+    inr (more, ap (λ x. x ∷ more) (same_head d c (more ++ b ∷ []) rest e))
 
-pub accept-front : (records new : List (Option Group)) (barriers : List Barrier) (last : Option ℕ) (key n : ℕ) (drains faulty : Bool) → IsLiveFront records barriers → IsAccepted records new last key n drains faulty → IsLiveFront new (with_barrier barriers (with_member (last_group records last) n drains faulty).drain n key)
+pub accept-front : (records new : List (Option Group)) (barriers : List Barrier) (last : Option ℕ) (key n : ℕ) (drains faulty : Bool)
+    → IsLiveFront records barriers → IsAccepted records new last key n drains faulty
+    → IsLiveFront new (with_barrier barriers (with_member (last_group records last) n drains faulty).drain n key)
 accept-front records new barriers last key n drains faulty live a b rest e =
     let q : Group = with_member (last_group records last) n drains faulty in
     let old : (more : List Barrier) → barriers ≡ b ∷ more → drain_of (get_or new b.key None) ≡ Some b.number =
@@ -123,13 +142,18 @@ accept-front records new barriers last key n drains faulty live a b rest e =
       | inr same ↦ old rest (sym same ∙ e)
     ]
 
-pub only_key : (b : Bool) (key k : ℕ) (o : Option ℕ) → o ≡ (if b then Some key else None) → o ≡ Some k → k ≡ key
+pub only_key : (b : Bool) (key k : ℕ) (o : Option ℕ) → o ≡ (if b then Some key else None)
+    → o ≡ Some k → k ≡ key
 only_key true key k o is e = cc
 only_key false key k o is e = cc
 
 -- What letting go a group keeps.
 
-pub remove-groups : (records new : List (Option Group)) (barriers left : List Barrier) (last : Option ℕ) (key : ℕ) → AreGroups records barriers last → get_or new key None ≡ None → ((k : ℕ) → k ≢ key → get_or new k None ≡ get_or records k None) → ((k d : ℕ) → drain_of (get_or new k None) ≡ Some d → list_any (covers k d) barriers ≡ true → list_any (covers k d) left ≡ true) → (IsSorted barriers → IsSorted left) → last ≡ None → AreGroups new left last
+pub remove-groups : (records new : List (Option Group)) (barriers left : List Barrier) (last : Option ℕ) (key : ℕ)
+    → AreGroups records barriers last → get_or new key None ≡ None
+    → ((k : ℕ) → k ≢ key → get_or new k None ≡ get_or records k None)
+    → ((k d : ℕ) → drain_of (get_or new k None) ≡ Some d → list_any (covers k d) barriers ≡ true → list_any (covers k d) left ≡ true)
+    → (IsSorted barriers → IsSorted left) → last ≡ None → AreGroups new left last
 remove-groups records new barriers left last key g gone others covered sorted closed = record {
   covered = λ k d e.
       elim (cases_eq k key) [
@@ -142,17 +166,21 @@ remove-groups records new barriers left last key g gone others covered sorted cl
   opened = λ k e. absurd (none-some k (sym closed ∙ e));
 }
 
-head_is : (barriers : List Barrier) (b : Barrier) → 0 < length barriers → b ≡ get_or barriers 0 b → (rest : List Barrier) × (barriers ≡ b ∷ rest)
+head_is : (barriers : List Barrier) (b : Barrier) → 0 < length barriers → b ≡ get_or barriers 0 b
+    → (rest : List Barrier) × (barriers ≡ b ∷ rest)
 head_is [] b lt e = absurd (omega arith)
 head_is (c ∷ rest) b lt e = (rest, ap (λ x. x ∷ rest) (sym e))
 
 -- the first barrier decides
-pub before-held : (g : Groups) (b : Barrier) (n : ℕ) → IsLiveFront g.records g.barriers → 0 < length g.barriers → b ≡ get_or g.barriers 0 b → b.number < n → HasBarrierBefore g n
+pub before-held : (g : Groups) (b : Barrier) (n : ℕ) → IsLiveFront g.records g.barriers
+    → 0 < length g.barriers → b ≡ get_or g.barriers 0 b → b.number < n → HasBarrierBefore g n
 before-held g b n live lt e low =
     let head = head_is g.barriers b lt e in
     record { key = b.key; number = b.number; drains = live b head.0 head.1; before = low }
 
-pub before-free : (records : List (Option Group)) (barriers : List Barrier) (last : Option ℕ) (b : Barrier) (n : ℕ) → AreGroups records barriers last → 0 < length barriers → b ≡ get_or barriers 0 b → n ≤ b.number → (key number : ℕ) → drain_of (get_or records key None) ≡ Some number → n ≤ number
+pub before-free : (records : List (Option Group)) (barriers : List Barrier) (last : Option ℕ) (b : Barrier) (n : ℕ)
+    → AreGroups records barriers last → 0 < length barriers → b ≡ get_or barriers 0 b → n ≤ b.number
+    → (key number : ℕ) → drain_of (get_or records key None) ≡ Some number → n ≤ number
 before-free records barriers last b n a lt e low key number drains =
     let head = head_is barriers b lt e in
     let P : List Barrier → Type 0 = λ x. IsSorted x × (list_any (covers key number) x ≡ true) in
@@ -160,8 +188,11 @@ before-free records barriers last b n a lt e low key number drains =
     let least = front-least b head.0 key number both.0 both.1 in
     omega arith
 
-pub none-free : (records : List (Option Group)) (barriers : List Barrier) (last : Option ℕ) (n : ℕ) → AreGroups records barriers last → length barriers ≡ 0 → (key number : ℕ) → drain_of (get_or records key None) ≡ Some number → n ≤ number
-none-free records barriers last n a none key number drains = absurd (empty barriers none (a.covered key number drains))
+pub none-free : (records : List (Option Group)) (barriers : List Barrier) (last : Option ℕ) (n : ℕ)
+    → AreGroups records barriers last → length barriers ≡ 0 → (key number : ℕ)
+    → drain_of (get_or records key None) ≡ Some number → n ≤ number
+none-free records barriers last n a none key number drains =
+    absurd (empty barriers none (a.covered key number drains))
   where
     empty : (xs : List Barrier) → length xs ≡ 0 → list_any (covers key number) xs ≡ true → ⊥
     empty [] e any = false≢true any
@@ -170,9 +201,11 @@ none-free records barriers last n a none key number drains = absurd (empty barri
 pub sorted-pop : (b : Barrier) (rest : List Barrier) → IsSorted (b ∷ rest) → IsSorted rest
 sorted-pop b rest s = s.1
 
-pub head_at : (barriers : List Barrier) (b : Barrier) (rest : List Barrier) (x : Barrier) → barriers ≡ b ∷ rest → x ≡ get_or barriers 0 x → x ≡ b
+pub head_at : (barriers : List Barrier) (b : Barrier) (rest : List Barrier) (x : Barrier)
+    → barriers ≡ b ∷ rest → x ≡ get_or barriers 0 x → x ≡ b
 head_at barriers b rest x e is = is ∙ ap (λ xs. get_or xs 0 x) e
 
-pub last-kept : (records : List (Option Group)) (barriers : List Barrier) (last : Option ℕ) → AreGroups records barriers last → is_some (last_group records last) ≡ is_some last
+pub last-kept : (records : List (Option Group)) (barriers : List Barrier) (last : Option ℕ)
+    → AreGroups records barriers last → is_some (last_group records last) ≡ is_some last
 last-kept records barriers None a = refl
 last-kept records barriers (Some key) a = a.opened key refl

@@ -18,7 +18,8 @@ pub some_none : {X : Type 0} {P : Type 0} (x : X) (o : Option X) → o ≡ None 
 some_none x o a b = cc
 
 -- a number with a request is outstanding
-pub shown-within : (w : Window) (g : Groups) (r : Requests) (n : ℕ) (q : Request) → IsSound w g → AreHeld w g r → at w n ≡ Some q → n < length r.accepted
+pub shown-within : (w : Window) (g : Groups) (r : Requests) (n : ℕ) (q : Request) → IsSound w g
+    → AreHeld w g r → at w n ≡ Some q → n < length r.accepted
 shown-within w g r n q s h e =
     let group = s.linked n q e in
     let kept = s.kept q.group group.group group.found in
@@ -27,14 +28,16 @@ shown-within w g r n q s h e =
     omega (arith, h.count)
 
 -- a number that is given and hasn't ended has a request
-pub open-request : (w : Window) (g : Groups) (r : Requests) (n : ℕ) → AreHeld w g r → n < length r.accepted → has_ended r n ≡ false → (q : Request) × (at w n ≡ Some q)
+pub open-request : (w : Window) (g : Groups) (r : Requests) (n : ℕ) → AreHeld w g r
+    → n < length r.accepted → has_ended r n ≡ false → (q : Request) × (at w n ≡ Some q)
 open-request w g r n h lt going = go (at w n) refl
   where
     go : (o : Option Request) → at w n ≡ o → (q : Request) × (at w n ≡ Some q)
     go None e = absurd (both_ways _ going (h.ended n e lt))
     go (Some q) e = (q, e)
 
-pub open-here : (w : Window) (g : Groups) (r : Requests) (n : ℕ) → AreHeld w g r → is_some (at w n) ≡ true → has_ended r n ≡ false
+pub open-here : (w : Window) (g : Groups) (r : Requests) (n : ℕ) → AreHeld w g r
+    → is_some (at w n) ≡ true → has_ended r n ≡ false
 open-here w g r n h here = let q = is_some_value (at w n) here in (h.shown n q.0 q.1).unended
 
 -- the facts of a request's group
@@ -43,7 +46,9 @@ pub record InGroup (r : Requests) (n : ℕ) (q : Group) : Type 0 where
   pub to : n < q.end
   pub shown : IsShownGroup r q
 
-pub in-group : (w : Window) (g : Groups) (r : Requests) (n : ℕ) (request : Request) (q : Group) → IsSound w g → AreHeld w g r → at w n ≡ Some request → group_at g request.group ≡ Some q → InGroup r n q
+pub in-group : (w : Window) (g : Groups) (r : Requests) (n : ℕ) (request : Request) (q : Group)
+    → IsSound w g → AreHeld w g r → at w n ≡ Some request → group_at g request.group ≡ Some q
+    → InGroup r n q
 in-group w g r n request q s h e is =
     let group = s.linked n request e in
     let same : group.group ≡ q = same_Some _ _ (sym group.found ∙ is) in
@@ -53,7 +58,9 @@ in-group w g r n request q s h e is =
       shown = h.groups request.group q is;
     }
 
-pub doomed-held : (w : Window) (g : Groups) (r : Requests) (n : ℕ) (request : Request) (q : Group) → IsSound w g → AreHeld w g r → at w n ≡ Some request → group_at g request.group ≡ Some q → is_doomed r n ≡ ((is_some q.fault || is_before q.broken n) || request.is_cancelled)
+pub doomed-held : (w : Window) (g : Groups) (r : Requests) (n : ℕ) (request : Request) (q : Group)
+    → IsSound w g → AreHeld w g r → at w n ≡ Some request → group_at g request.group ≡ Some q
+    → is_doomed r n ≡ ((is_some q.fault || is_before q.broken n) || request.is_cancelled)
 doomed-held w g r n request q s h e is =
     let i = in-group w g r n request q s h e is in
     doomed-is r q.from q.end n i.shown.group i.from i.to
@@ -61,17 +68,22 @@ doomed-held w g r n request q s h e is =
     ∙ ap (λ b. (is_some q.fault || is_before b n) || is_cancelled r n) (sym i.shown.broken)
     ∙ ap (λ b. (is_some q.fault || is_before q.broken n) || b) (sym (h.shown n request e).cancelled)
 
-pub draining-held : (w : Window) (g : Groups) (r : Requests) (n : ℕ) (request : Request) (q : Group) → IsSound w g → AreHeld w g r → at w n ≡ Some request → group_at g request.group ≡ Some q → is_draining r n ≡ is_some q.drain
+pub draining-held : (w : Window) (g : Groups) (r : Requests) (n : ℕ) (request : Request) (q : Group)
+    → IsSound w g → AreHeld w g r → at w n ≡ Some request → group_at g request.group ≡ Some q
+    → is_draining r n ≡ is_some q.drain
 draining-held w g r n request q s h e is =
     let i = in-group w g r n request q s h e is in
     draining-is r q.from q.end n i.shown.group i.from i.to ∙ ap is_some (sym i.shown.drain)
 
 -- a kept group's least member is outstanding, and drains if the group does
-pub least-open : (w : Window) (g : Groups) (r : Requests) (key : ℕ) (q : Group) → IsSound w g → AreHeld w g r → group_at g key ≡ Some q → has_ended r q.least ≡ false
+pub least-open : (w : Window) (g : Groups) (r : Requests) (key : ℕ) (q : Group) → IsSound w g
+    → AreHeld w g r → group_at g key ≡ Some q → has_ended r q.least ≡ false
 least-open w g r key q s h is = open-here w g r q.least h (s.kept key q is).here
 
 -- What isn't the least of its group waits for that one.
-pub not-least : (w : Window) (g : Groups) (r : Requests) (n : ℕ) (request : Request) (q : Group) → IsSound w g → AreHeld w g r → at w n ≡ Some request → group_at g request.group ≡ Some q → q.least ≢ n → is_ready r n ≡ false
+pub not-least : (w : Window) (g : Groups) (r : Requests) (n : ℕ) (request : Request) (q : Group)
+    → IsSound w g → AreHeld w g r → at w n ≡ Some request → group_at g request.group ≡ Some q
+    → q.least ≢ n → is_ready r n ≡ false
 not-least w g r n request q s h e is ne =
     let i = in-group w g r n request q s h e is in
     let kept = s.kept request.group q is in
@@ -88,7 +100,9 @@ not-least w g r n request q s h e is ne =
     ready-not_member r q.from q.end n q.least i.shown.group i.to kept.from low (least-open w g r request.group q s h is)
 
 -- A request waits if a kept group, this one, drains from a number before its group on.
-behind-group : (w : Window) (g : Groups) (r : Requests) (n : ℕ) (request : Request) (q : Group) (key number : ℕ) (p : Group) → IsSound w g → AreHeld w g r → at w n ≡ Some request → group_at g request.group ≡ Some q → group_at g key ≡ Some p → p.drain ≡ Some number → number < q.from → is_ready r n ≡ false
+behind-group : (w : Window) (g : Groups) (r : Requests) (n : ℕ) (request : Request) (q : Group) (key number : ℕ) (p : Group)
+    → IsSound w g → AreHeld w g r → at w n ≡ Some request → group_at g request.group ≡ Some q
+    → group_at g key ≡ Some p → p.drain ≡ Some number → number < q.from → is_ready r n ≡ false
 behind-group w g r n request q key number p s h e is found drains before =
     let i = in-group w g r n request q s h e is in
     let kept = s.kept key p found in
@@ -105,7 +119,9 @@ behind-group w g r n request q key number p s h e is found drains before =
     (draining-is r p.from p.end p.least shown.group kept.from kept.to ∙ ap is_some (sym shown.drain ∙ drains))
 
 -- A group that drains from a number before this group on has an outstanding member before it.
-pub behind-barrier : (w : Window) (g : Groups) (r : Requests) (n : ℕ) (request : Request) (q : Group) → IsSound w g → AreHeld w g r → at w n ≡ Some request → group_at g request.group ≡ Some q → HasBarrierBefore g q.from → is_ready r n ≡ false
+pub behind-barrier : (w : Window) (g : Groups) (r : Requests) (n : ℕ) (request : Request) (q : Group)
+    → IsSound w g → AreHeld w g r → at w n ≡ Some request → group_at g request.group ≡ Some q
+    → HasBarrierBefore g q.from → is_ready r n ≡ false
 behind-barrier w g r n request q s h e is b =
     let other = drain-group (group_at g b.key) b.number b.drains in
     behind-group w g r n request q b.key b.number other.0 s h e is other.1 other.2 b.before
@@ -115,7 +131,9 @@ behind-barrier w g r n request q s h e is b =
     drain-group (Some p) d e = (p, refl, e)
 
 -- A group that drains waits for all that is earlier.
-pub not-alone : (w : Window) (g : Groups) (r : Requests) (n : ℕ) (request : Request) (q : Group) → IsSound w g → AreHeld w g r → at w n ≡ Some request → group_at g request.group ≡ Some q → is_some q.drain ≡ true → HasBefore w q.from → is_ready r n ≡ false
+pub not-alone : (w : Window) (g : Groups) (r : Requests) (n : ℕ) (request : Request) (q : Group)
+    → IsSound w g → AreHeld w g r → at w n ≡ Some request → group_at g request.group ≡ Some q
+    → is_some q.drain ≡ true → HasBefore w q.from → is_ready r n ≡ false
 not-alone w g r n request q s h e is drains b =
     let i = in-group w g r n request q s h e is in
     let from = i.from in
@@ -123,7 +141,10 @@ not-alone w g r n request q s h e is drains b =
     ready-not_alone r n b.number (omega arith) (open-here w g r b.number h b.here) (draining-held w g r n request q s h e is ∙ drains)
 
 -- What waits for nobody is ready.
-pub ready-held : (w : Window) (g : Groups) (r : Requests) (n : ℕ) (request : Request) (q : Group) → IsSound w g → AreHeld w g r → at w n ≡ Some request → group_at g request.group ≡ Some q → q.least ≡ n → ((key number : ℕ) → drain_of (group_at g key) ≡ Some number → q.from ≤ number) → (is_some q.drain ≡ true → (m : ℕ) → m < q.from → at w m ≡ None) → is_ready r n ≡ true
+pub ready-held : (w : Window) (g : Groups) (r : Requests) (n : ℕ) (request : Request) (q : Group)
+    → IsSound w g → AreHeld w g r → at w n ≡ Some request → group_at g request.group ≡ Some q
+    → q.least ≡ n → ((key number : ℕ) → drain_of (group_at g key) ≡ Some number → q.from ≤ number)
+    → (is_some q.drain ≡ true → (m : ℕ) → m < q.from → at w m ≡ None) → is_ready r n ≡ true
 ready-held w g r n request q s h e is least free alone =
     let i = in-group w g r n request q s h e is in
     let within = shown-within w g r n request s h e in
@@ -149,30 +170,36 @@ ready-held w g r n request q s h e is least free alone =
 
 -- A number's standing.
 
-pub outstanding-none : (w : Window) (g : Groups) (r : Requests) (n : ℕ) → AreHeld w g r → at w n ≡ None → is_outstanding r n ≡ false
+pub outstanding-none : (w : Window) (g : Groups) (r : Requests) (n : ℕ) → AreHeld w g r
+    → at w n ≡ None → is_outstanding r n ≡ false
 outstanding-none w g r n h e =
     elim (cases_lt n (length r.accepted)) [
       | inl lt ↦ and_right _ _ (ap not (h.ended n e lt))
       | inr le ↦ and_left _ _ (le-ltb n (length r.accepted) le)
     ]
 
-pub outstanding-some : (w : Window) (g : Groups) (r : Requests) (n : ℕ) (q : Request) → IsSound w g → AreHeld w g r → at w n ≡ Some q → is_outstanding r n ≡ true
+pub outstanding-some : (w : Window) (g : Groups) (r : Requests) (n : ℕ) (q : Request) → IsSound w g
+    → AreHeld w g r → at w n ≡ Some q → is_outstanding r n ≡ true
 outstanding-some w g r n q s h e =
     and_from _ _ (lt-ltb n (length r.accepted) (shown-within w g r n q s h e)) (ap not (h.shown n q e).unended)
 
-pub running-some : (w : Window) (g : Groups) (r : Requests) (n : ℕ) (q : Request) → AreHeld w g r → at w n ≡ Some q → is_running r n ≡ q.is_running
+pub running-some : (w : Window) (g : Groups) (r : Requests) (n : ℕ) (q : Request) → AreHeld w g r
+    → at w n ≡ Some q → is_running r n ≡ q.is_running
 running-some w g r n q h e =
     let shown = h.shown n q e in
     ap (λ b. has_started r n && not b) shown.unended ∙ and-true (has_started r n) ∙ sym shown.running
 
-pub running-none : (w : Window) (g : Groups) (r : Requests) (n : ℕ) → AreHeld w g r → at w n ≡ None → is_running r n ≡ false
+pub running-none : (w : Window) (g : Groups) (r : Requests) (n : ℕ) → AreHeld w g r → at w n ≡ None
+    → is_running r n ≡ false
 running-none w g r n h e =
     elim (cases_lt n (length r.accepted)) [
       | inl lt ↦ and_right _ _ (ap not (h.ended n e lt))
       | inr le ↦ and_left _ _ (h.untouched n le).started
     ]
 
-pub issuable-some : (w : Window) (g : Groups) (r : Requests) (n : ℕ) (q : Request) → IsSound w g → AreHeld w g r → at w n ≡ Some q → is_issuable r n ≡ (not q.is_running && (is_doomed r n || is_ready r n))
+pub issuable-some : (w : Window) (g : Groups) (r : Requests) (n : ℕ) (q : Request) → IsSound w g
+    → AreHeld w g r → at w n ≡ Some q
+    → is_issuable r n ≡ (not q.is_running && (is_doomed r n || is_ready r n))
 issuable-some w g r n q s h e =
     ap (λ b. (b && not (is_running r n)) && (is_doomed r n || is_ready r n)) (outstanding-some w g r n q s h e)
     ∙ ap (λ b. not b && (is_doomed r n || is_ready r n)) (running-some w g r n q h e)
@@ -182,19 +209,25 @@ doomed-rest a b c x y = ap (λ v. (v || b) || c) x ∙ ap (λ v. b || v) y ∙ o
 
 -- What a cancel may choose.
 
-pub candidate-none : (w : Window) (g : Groups) (r : Requests) (n m : ℕ) → AreHeld w g r → at w m ≡ None → is_candidate r n m ≡ false
-candidate-none w g r n m h e = and_left _ _ (and_left _ _ (and_left _ _ (outstanding-none w g r m h e)))
+pub candidate-none : (w : Window) (g : Groups) (r : Requests) (n m : ℕ) → AreHeld w g r
+    → at w m ≡ None → is_candidate r n m ≡ false
+candidate-none w g r n m h e =
+    and_left _ _ (and_left _ _ (and_left _ _ (outstanding-none w g r m h e)))
 
 pub candidate-self : (r : Requests) (n m : ℕ) → m ≡ n → is_candidate r n m ≡ false
 candidate-self r n m e = and_left _ _ (and_left _ _ (and_right _ _ (ap not (eq-eqb m n e))))
 
-pub candidate-other_data : (w : Window) (g : Groups) (r : Requests) (n m : ℕ) (q : Request) (named_data : ℕ) → AreHeld w g r → at w m ≡ Some q → named_data ≡ addr_of (entry_of r n) → user_data_of q.entry ≢ named_data → is_candidate r n m ≡ false
+pub candidate-other_data : (w : Window) (g : Groups) (r : Requests) (n m : ℕ) (q : Request) (named_data : ℕ)
+    → AreHeld w g r → at w m ≡ Some q → named_data ≡ addr_of (entry_of r n)
+    → user_data_of q.entry ≢ named_data → is_candidate r n m ≡ false
 candidate-other_data w g r n m q named_data h e named ne =
     and_left _ _
     (and_right _ _
     (ne_eqb (user_data_of (entry_of r m)) (addr_of (entry_of r n)) (λ same. ne (ap user_data_of (h.shown m q e).entry ∙ same ∙ sym named))))
 
-pub candidate-else : (w : Window) (g : Groups) (r : Requests) (n m : ℕ) (q : Request) (named_data : ℕ) → IsSound w g → AreHeld w g r → at w m ≡ Some q → named_data ≡ addr_of (entry_of r n) → m ≢ n → user_data_of q.entry ≡ named_data → is_candidate r n m ≡ not (is_doomed r m)
+pub candidate-else : (w : Window) (g : Groups) (r : Requests) (n m : ℕ) (q : Request) (named_data : ℕ)
+    → IsSound w g → AreHeld w g r → at w m ≡ Some q → named_data ≡ addr_of (entry_of r n) → m ≢ n
+    → user_data_of q.entry ≡ named_data → is_candidate r n m ≡ not (is_doomed r m)
 candidate-else w g r n m q named_data s h e named other same =
     let first = outstanding-some w g r m q s h e in
     let second = ap not (ne_eqb m n other) in

@@ -23,14 +23,16 @@ op-none e is = go (is_faulty e) is
     go true x = refl
     go false x = cc
 
-pub op-some : (e : Sqe) (op : Op) → Some op ≡ op_of e → (is_faulty e ≡ false) × (op ≡ operation_of e)
+pub op-some : (e : Sqe) (op : Op) → Some op ≡ op_of e
+    → (is_faulty e ≡ false) × (op ≡ operation_of e)
 op-some e op is = go (is_faulty e) is
   where
     go : (b : Bool) → Some op ≡ (if b then None else Some (operation_of e)) → (b ≡ false) × (op ≡ operation_of e)
     go true x = cc
     go false x = (refl, cc)
 
-doomed-answer : (r : Requests) (n : ℕ) → is_doomed r n ≡ true → issued_waiting r n ≡ Ended (doomed_result r n)
+doomed-answer : (r : Requests) (n : ℕ) → is_doomed r n ≡ true
+    → issued_waiting r n ≡ Ended (doomed_result r n)
 doomed-answer r n doomed =
     ap
     (λ b.
@@ -39,15 +41,20 @@ doomed-answer r n doomed =
     if is_cancel (entry_of r n) then Ended (cancel_result r n) else Run (operation_of (entry_of r n)))
     doomed
 
-pub issued-faulty : (r : Requests) (n : ℕ) → n < length r.accepted → is_faulty (entry_of r n) ≡ true → Ended (negsuc 21) ≡ issued_waiting r n
+pub issued-faulty : (r : Requests) (n : ℕ) → n < length r.accepted → is_faulty (entry_of r n) ≡ true
+    → Ended (negsuc 21) ≡ issued_waiting r n
 issued-faulty r n lt faulty =
     sym (doomed-answer r n (is_doomed-own_fault r n lt faulty) ∙ ap (λ b. Ended (if b then negsuc 21 else negsuc 124)) faulty)
 
-pub issued-doomed : (r : Requests) (n : ℕ) → is_doomed r n ≡ true → is_faulty (entry_of r n) ≡ false → Ended (negsuc 124) ≡ issued_waiting r n
-issued-doomed r n doomed right = sym (doomed-answer r n doomed ∙ ap (λ b. Ended (if b then negsuc 21 else negsuc 124)) right)
+pub issued-doomed : (r : Requests) (n : ℕ) → is_doomed r n ≡ true → is_faulty (entry_of r n) ≡ false
+    → Ended (negsuc 124) ≡ issued_waiting r n
+issued-doomed r n doomed right =
+    sym (doomed-answer r n doomed ∙ ap (λ b. Ended (if b then negsuc 21 else negsuc 124)) right)
 
 -- what is neither doomed nor held back
-issued-ready : (r : Requests) (n : ℕ) → is_doomed r n ≡ false → is_ready r n ≡ true → issued_waiting r n ≡ (if is_cancel (entry_of r n) then Ended (cancel_result r n) else Run (operation_of (entry_of r n)))
+issued-ready : (r : Requests) (n : ℕ) → is_doomed r n ≡ false → is_ready r n ≡ true
+    → issued_waiting r n
+    ≡ (if is_cancel (entry_of r n) then Ended (cancel_result r n) else Run (operation_of (entry_of r n)))
 issued-ready r n free ready =
     ap
     (λ b.
@@ -72,22 +79,29 @@ cancels : (e : Sqe) → is_cancel e ≡ true → operation_of e ≡ Cancel (addr
 unfolding operation_at
 cancels e is = ap (λ o. operation_at o e) (eqb-true (opcode_of e) 14 is)
 
-picked : (a b c d : Bool) (e : Sqe) (t : ℕ) (all : Bool) → (if a then Nop else if b then Fsync (fd_of e) else if c then Cancel (addr_of e) (is_cancel_all e) else if d then Read (fd_of e) (off_of e) (len_of e) else Write (fd_of e) (off_of e) (len_of e) (payload_of e)) ≡ Cancel t all → (c ≡ true) × (all ≡ is_cancel_all e)
+picked : (a b c d : Bool) (e : Sqe) (t : ℕ) (all : Bool)
+    → (if a then Nop else if b then Fsync (fd_of e) else if c then Cancel (addr_of e) (is_cancel_all e) else if d then Read (fd_of e) (off_of e) (len_of e) else Write (fd_of e) (off_of e) (len_of e) (payload_of e))
+    ≡ Cancel t all
+    → (c ≡ true) × (all ≡ is_cancel_all e)
 picked true b c d e t all is = cc
 picked false true c d e t all is = cc
 picked false false true d e t all is = (refl, cc)
 picked false false false true e t all is = cc
 picked false false false false e t all is = cc
 
-pub is_cancel-operation : (e : Sqe) (t : ℕ) (all : Bool) → operation_of e ≡ Cancel t all → (is_cancel e ≡ true) × (all ≡ is_cancel_all e)
+pub is_cancel-operation : (e : Sqe) (t : ℕ) (all : Bool) → operation_of e ≡ Cancel t all
+    → (is_cancel e ≡ true) × (all ≡ is_cancel_all e)
 is_cancel-operation e t all is = picked (opcode_of e == NOP) (opcode_of e == FSYNC) (opcode_of e == ASYNC_CANCEL) (opcode_of e == READ) e t all is
 
-pub issued-cancel : (r : Requests) (n : ℕ) (res : ℤ) → is_doomed r n ≡ false → is_ready r n ≡ true → is_cancel (entry_of r n) ≡ true → res ≡ cancel_result r n → Ended res ≡ issued_waiting r n
+pub issued-cancel : (r : Requests) (n : ℕ) (res : ℤ) → is_doomed r n ≡ false → is_ready r n ≡ true
+    → is_cancel (entry_of r n) ≡ true → res ≡ cancel_result r n → Ended res ≡ issued_waiting r n
 issued-cancel r n res free ready cancel is =
     ap Ended is
     ∙ sym (issued-ready r n free ready ∙ ap (λ b. if b then Ended (cancel_result r n) else Run (operation_of (entry_of r n))) cancel)
 
-pub issued-run : (r : Requests) (n : ℕ) (op : Op) → is_doomed r n ≡ false → is_ready r n ≡ true → op ≡ operation_of (entry_of r n) → ((t : ℕ) (all : Bool) → op ≡ Cancel t all → ⊥) → Run op ≡ issued_waiting r n
+pub issued-run : (r : Requests) (n : ℕ) (op : Op) → is_doomed r n ≡ false → is_ready r n ≡ true
+    → op ≡ operation_of (entry_of r n) → ((t : ℕ) (all : Bool) → op ≡ Cancel t all → ⊥)
+    → Run op ≡ issued_waiting r n
 issued-run r n op free ready does other =
     elim (cases_Bool (is_cancel (entry_of r n))) [
       | inl cancel ↦ absurd (other (addr_of (entry_of r n)) (is_cancel_all (entry_of r n)) (does ∙ cancels (entry_of r n) cancel))
@@ -100,7 +114,8 @@ issued-run r n op free ready does other =
 
 -- The order of the tests.
 
-pub issued-else : (r : Requests) (n : ℕ) → is_outstanding r n ≡ true → is_running r n ≡ false → issued_waiting r n ≡ issued r n
+pub issued-else : (r : Requests) (n : ℕ) → is_outstanding r n ≡ true → is_running r n ≡ false
+    → issued_waiting r n ≡ issued r n
 issued-else r n a b =
     sym
     (ap (λ x. if not x then Unknown else if is_running r n then Running else issued_waiting r n) a
@@ -108,21 +123,25 @@ issued-else r n a b =
 
 -- What an end posts.
 
-pub posted-none : (r : Requests) (n : ℕ) (res : ℤ) → is_running r n ≡ false → None ≡ posted_by r n res
+pub posted-none : (r : Requests) (n : ℕ) (res : ℤ) → is_running r n ≡ false
+    → None ≡ posted_by r n res
 posted-none r n res e = sym (ap (λ b. if b then Some (posts_of (entry_of r n) res) else None) e)
 
-pub posted-some : (r : Requests) (n : ℕ) (res : ℤ) → is_running r n ≡ true → Some (posts_of (entry_of r n) res) ≡ posted_by r n res
+pub posted-some : (r : Requests) (n : ℕ) (res : ℤ) → is_running r n ≡ true
+    → Some (posts_of (entry_of r n) res) ≡ posted_by r n res
 posted-some r n res e = sym (ap (λ b. if b then Some (posts_of (entry_of r n) res) else None) e)
 
 -- a finish is answered by whether the request was running
-pub finished-none : (r : Requests) (n : ℕ) (res : ℤ) → None ≡ posted_by r n res → finish.NotRunning ≡ finished r n
+pub finished-none : (r : Requests) (n : ℕ) (res : ℤ) → None ≡ posted_by r n res
+    → finish.NotRunning ≡ finished r n
 finished-none r n res e = go (is_running r n) e
   where
     go : (b : Bool) → None ≡ (if b then Some (posts_of (entry_of r n) res) else None) → finish.NotRunning ≡ (if b then finish.Ended else finish.NotRunning)
     go true x = cc
     go false x = refl
 
-pub finished-some : (r : Requests) (n : ℕ) (res : ℤ) (posted : Posts) → Some posted ≡ posted_by r n res → finish.Ended ≡ finished r n
+pub finished-some : (r : Requests) (n : ℕ) (res : ℤ) (posted : Posts)
+    → Some posted ≡ posted_by r n res → finish.Ended ≡ finished r n
 finished-some r n res posted e = go (is_running r n) e
   where
     go : (b : Bool) → Some posted ≡ (if b then Some (posts_of (entry_of r n) res) else None) → finish.Ended ≡ (if b then finish.Ended else finish.NotRunning)

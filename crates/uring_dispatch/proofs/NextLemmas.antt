@@ -20,7 +20,8 @@ use Rattle.uring_dispatch.proofs.HeldLemmas.{some_none, shown-within, open-reque
 
 -- The lesser of two.
 
-least-is : (p : ℕ → Bool) (n m : ℕ) → m < n → p m ≡ true → ((k : ℕ) → k < n → p k ≡ true → m ≤ k) → Some m ≡ least_below p n
+least-is : (p : ℕ → Bool) (n m : ℕ) → m < n → p m ≡ true → ((k : ℕ) → k < n → p k ≡ true → m ≤ k)
+    → Some m ≡ least_below p n
 least-is p n m lt is least =
     sym
     (least_below-some p n m lt is
@@ -31,7 +32,11 @@ least-is p n m lt is least =
     ]))
 
 -- the lesser of what two searches found is the least, if each number that is looked for is found by one of them or lies behind
-pub lesser-least : (p : ℕ → Bool) (n : ℕ) (a b : Option ℕ) → ((m : ℕ) → a ≡ Some m → (m < n) × (p m ≡ true)) → ((m : ℕ) → b ≡ Some m → (m < n) × (p m ≡ true)) → ((k : ℕ) → k < n → p k ≡ true → ((m : ℕ) × (a ≡ Some m) × (m ≤ k)) ⊎ ((m : ℕ) × (b ≡ Some m) × (m ≤ k))) → lesser_of a b ≡ least_below p n
+pub lesser-least : (p : ℕ → Bool) (n : ℕ) (a b : Option ℕ)
+    → ((m : ℕ) → a ≡ Some m → (m < n) × (p m ≡ true))
+    → ((m : ℕ) → b ≡ Some m → (m < n) × (p m ≡ true))
+    → ((k : ℕ) → k < n → p k ≡ true → ((m : ℕ) × (a ≡ Some m) × (m ≤ k)) ⊎ ((m : ℕ) × (b ≡ Some m) × (m ≤ k)))
+    → lesser_of a b ≡ least_below p n
 lesser-least p n None None x y all =
     sym
     (least_below-none p n
@@ -78,7 +83,8 @@ record IsWaiting (w : Window) (g : Groups) (k : ℕ) : Type 0 where
   found : group_at g request.group ≡ Some group
   waits : request.is_running ≡ false
 
-waiting-of : (w : Window) (g : Groups) (r : Requests) (k : ℕ) → IsSound w g → AreHeld w g r → is_outstanding r k ≡ true → is_running r k ≡ false → IsWaiting w g k
+waiting-of : (w : Window) (g : Groups) (r : Requests) (k : ℕ) → IsSound w g → AreHeld w g r
+    → is_outstanding r k ≡ true → is_running r k ≡ false → IsWaiting w g k
 waiting-of w g r k s h out still =
     let parts = and_parts _ _ out in
     let q = open-request w g r k h (ltb-true k (length r.accepted) parts.0) (not-true _ parts.1) in
@@ -86,7 +92,8 @@ waiting-of w g r k s h out still =
     record { request = q.0; group = link.group; there = q.1; found = link.found; waits = sym (running-some w g r k q.0 h q.1) ∙ still }
 
 -- who is told to be doomed can be issued
-pub doomed-issuable : (w : Window) (g : Groups) (r : Requests) (s : Waiting) (k : ℕ) → IsSound w g → AreHeld w g r → IsListed w g s → holds s.doomed k ≡ true → is_issuable r k ≡ true
+pub doomed-issuable : (w : Window) (g : Groups) (r : Requests) (s : Waiting) (k : ℕ) → IsSound w g
+    → AreHeld w g r → IsListed w g s → holds s.doomed k ≡ true → is_issuable r k ≡ true
 doomed-issuable w g r s k sound h l told = go (at w k) refl
   where
     go : (o : Option Request) → at w k ≡ o → is_issuable r k ≡ true
@@ -101,14 +108,18 @@ doomed-issuable w g r s k sound h l told = go (at w k) refl
         ∙ and_from _ _ parts.0 (or_left _ _ (doomed-held w g r k q link.group sound h e link.found ∙ parts.1))
 
 -- who waits and is doomed is told to be
-doomed-told : (w : Window) (g : Groups) (r : Requests) (s : Waiting) (k : ℕ) → IsSound w g → AreHeld w g r → IsListed w g s → IsWaiting w g k → is_doomed r k ≡ true → holds s.doomed k ≡ true
+doomed-told : (w : Window) (g : Groups) (r : Requests) (s : Waiting) (k : ℕ) → IsSound w g
+    → AreHeld w g r → IsListed w g s → IsWaiting w g k → is_doomed r k ≡ true
+    → holds s.doomed k ≡ true
 doomed-told w g r s k sound h l i doomed =
     (l.told k).doomed ∙ ap (λ o. waits_doomed g o k) i.there
     ∙ ap (λ o. not i.request.is_running && (dooms o k || i.request.is_cancelled)) i.found
     ∙ and_from _ _ (ap not i.waits) (sym (doomed-held w g r k i.request i.group sound h i.there i.found) ∙ doomed)
 
 -- who waits and is ready is the head of its group
-head-told : (w : Window) (g : Groups) (r : Requests) (s : Waiting) (k : ℕ) → IsSound w g → AreHeld w g r → IsListed w g s → IsWaiting w g k → is_ready r k ≡ true → holds s.heads k ≡ true
+head-told : (w : Window) (g : Groups) (r : Requests) (s : Waiting) (k : ℕ) → IsSound w g
+    → AreHeld w g r → IsListed w g s → IsWaiting w g k → is_ready r k ≡ true
+    → holds s.heads k ≡ true
 head-told w g r s k sound h l i ready =
     let first : i.group.least ≡ k =
     elim (cases_eq i.group.least k) [
@@ -122,11 +133,14 @@ head-told w g r s k sound h l i ready =
 -- What the first head tells.
 
 -- it is outstanding
-pub head-there : (w : Window) (g : Groups) (s : Waiting) (k : ℕ) → IsListed w g s → holds s.heads k ≡ true → at w k ≢ None
-head-there w g s k l told e = false≢true (sym (ap (λ o. waits_at_head g o k) e) ∙ sym (l.told k).head ∙ told)
+pub head-there : (w : Window) (g : Groups) (s : Waiting) (k : ℕ) → IsListed w g s
+    → holds s.heads k ≡ true → at w k ≢ None
+head-there w g s k l told e =
+    false≢true (sym (ap (λ o. waits_at_head g o k) e) ∙ sym (l.told k).head ∙ told)
 
 -- there is no head
-pub head-none : (w : Window) (g : Groups) (r : Requests) (s : Waiting) → IsSound w g → AreHeld w g r → IsListed w g s → ((k : ℕ) → holds s.heads k ≡ false) → IsReadyHead r None
+pub head-none : (w : Window) (g : Groups) (r : Requests) (s : Waiting) → IsSound w g → AreHeld w g r
+    → IsListed w g s → ((k : ℕ) → holds s.heads k ≡ false) → IsReadyHead r None
 head-none w g r s sound h l none = record {
   some = λ n e. some_none n _ refl e;
   all = λ k out still ready. absurd (both_ways _ (none k) (head-told w g r s k sound h l (waiting-of w g r k sound h out still) ready));
@@ -136,7 +150,9 @@ behind : (s : NumberSet) (n k : ℕ) → IsLeastIn s n → holds s k ≡ true �
 behind s n k least told = elim (cases_lt k n) [ inl low ↦ absurd (both_ways _ (least.before k low) told) | inr high ↦ high ]
 
 -- it is ready
-pub head-ready : (w : Window) (g : Groups) (r : Requests) (s : Waiting) (n : ℕ) (q : Request) → IsSound w g → AreHeld w g r → IsListed w g s → IsLeastIn s.heads n → at w n ≡ Some q → is_ready r n ≡ true → IsReadyHead r (Some n)
+pub head-ready : (w : Window) (g : Groups) (r : Requests) (s : Waiting) (n : ℕ) (q : Request)
+    → IsSound w g → AreHeld w g r → IsListed w g s → IsLeastIn s.heads n → at w n ≡ Some q
+    → is_ready r n ≡ true → IsReadyHead r (Some n)
 head-ready w g r s n q sound h l least there ready =
     let waits = and_parts (not q.is_running) _ (sym (ap (λ o. waits_at_head g o n) there) ∙ sym (l.told n).head ∙ least.here) in
     record {
@@ -147,7 +163,9 @@ head-ready w g r s n q sound h l least there ready =
     }
 
 -- it isn't ready
-pub head-waits : (w : Window) (g : Groups) (r : Requests) (s : Waiting) (n : ℕ) (q : Request) → IsSound w g → AreHeld w g r → IsListed w g s → IsLeastIn s.heads n → at w n ≡ Some q → is_ready r n ≡ false → IsReadyHead r None
+pub head-waits : (w : Window) (g : Groups) (r : Requests) (s : Waiting) (n : ℕ) (q : Request)
+    → IsSound w g → AreHeld w g r → IsListed w g s → IsLeastIn s.heads n → at w n ≡ Some q
+    → is_ready r n ≡ false → IsReadyHead r None
 head-waits w g r s n q sound h l least there waits =
     let link = sound.linked n q there in
     let i = in-group w g r n q link.group sound h there link.found in
@@ -174,9 +192,13 @@ head-waits w g r s n q sound h l least there waits =
 -- The next.
 
 issuable-within : (r : Requests) (k : ℕ) → is_issuable r k ≡ true → k < length r.accepted
-issuable-within r k e = ltb-true k (length r.accepted) (and_parts _ _ (and_parts _ _ (and_parts _ _ e).0).0).0
+issuable-within r k e =
+    ltb-true k (length r.accepted) (and_parts _ _ (and_parts _ _ (and_parts _ _ e).0).0).0
 
-pub next-least : (w : Window) (g : Groups) (r : Requests) (s : Waiting) (a b : Option ℕ) → IsSound w g → AreHeld w g r → IsListed w g s → MatchOption a ((k : ℕ) → holds s.doomed k ≡ false) (IsLeastIn s.doomed) → IsReadyHead r b → lesser_of a b ≡ next_of r
+pub next-least : (w : Window) (g : Groups) (r : Requests) (s : Waiting) (a b : Option ℕ)
+    → IsSound w g → AreHeld w g r → IsListed w g s
+    → MatchOption a ((k : ℕ) → holds s.doomed k ≡ false) (IsLeastIn s.doomed) → IsReadyHead r b
+    → lesser_of a b ≡ next_of r
 next-least w g r s a b sound h l doomed head =
     lesser-least (is_issuable r) (length r.accepted) a b
     (λ m e. let is = doomed-issuable w g r s m sound h l (found m a e doomed) in (issuable-within r m is, is))

@@ -23,19 +23,29 @@ same-reach : (s : NumberSet) → IsSameReach s s
 same-reach s = record { start = refl; stop = refl; limit = refl }
 
 reach-both : (s t u : NumberSet) → IsSameReach s t → IsSameReach t u → IsSameReach s u
-reach-both s t u a b = record { start = b.start ∙ a.start; stop = b.stop ∙ a.stop; limit = b.limit ∙ a.limit }
+reach-both s t u a b = record {
+  start = b.start ∙ a.start;
+  stop = b.stop ∙ a.stop;
+  limit = b.limit ∙ a.limit;
+}
 
 pub keeps-none : (w : Window) (g : Groups) (s : Waiting) → Keeps w g s s
-keeps-none w g s = record { told = λ k e. e; heads = same-reach s.heads; doomed = same-reach s.doomed }
+keeps-none w g s = record {
+  told = λ k e. e;
+  heads = same-reach s.heads;
+  doomed = same-reach s.doomed;
+}
 
-pub keeps-both : (w : Window) (g : Groups) (s t u : Waiting) → Keeps w g s t → Keeps w g t u → Keeps w g s u
+pub keeps-both : (w : Window) (g : Groups) (s t u : Waiting) → Keeps w g s t → Keeps w g t u
+    → Keeps w g s u
 keeps-both w g s t u a b = record {
   told = λ k e. b.told k (a.told k e);
   heads = reach-both s.heads t.heads u.heads a.heads b.heads;
   doomed = reach-both s.doomed t.doomed u.doomed a.doomed b.doomed;
 }
 
-pub listed-same : (w : Window) (g : Groups) (s : Waiting) (n m : ℕ) → n ≡ m → IsListedAt w g s n → IsListedAt w g s m
+pub listed-same : (w : Window) (g : Groups) (s : Waiting) (n m : ℕ) → n ≡ m → IsListedAt w g s n
+    → IsListedAt w g s m
 listed-same w g s n m e l = let P : ℕ → Type 0 = λ j. IsListedAt w g s j in subst P e l
 
 covers-kept : (s t : NumberSet) (n : ℕ) → Covers s n → IsSameReach s t → Covers t n
@@ -46,12 +56,17 @@ covers-kept s t n c k =
     let y = k.stop in
     record { from = omega arith; to = omega arith }
 
-pub tell-kept : (w : Window) (g : Groups) (s t : Waiting) (n : ℕ) → CanTell s n → Keeps w g s t → CanTell t n
-tell-kept w g s t n c k = record { heads = covers-kept s.heads t.heads n c.heads k.heads; doomed = covers-kept s.doomed t.doomed n c.doomed k.doomed }
+pub tell-kept : (w : Window) (g : Groups) (s t : Waiting) (n : ℕ) → CanTell s n → Keeps w g s t
+    → CanTell t n
+tell-kept w g s t n c k = record {
+  heads = covers-kept s.heads t.heads n c.heads k.heads;
+  doomed = covers-kept s.doomed t.doomed n c.doomed k.doomed;
+}
 
 -- A request that has ended doesn't wait.
 
-pub forgotten-listed : (w : Window) (g : Groups) (s t : Waiting) (n : ℕ) → at w n ≡ None → Puts s.heads t.heads n false → Puts s.doomed t.doomed n false → IsListedAt w g t n
+pub forgotten-listed : (w : Window) (g : Groups) (s t : Waiting) (n : ℕ) → at w n ≡ None
+    → Puts s.heads t.heads n false → Puts s.doomed t.doomed n false → IsListedAt w g t n
 forgotten-listed w g s t n gone a b = record {
   head = a.here ∙ sym (ap (λ o. waits_at_head g o n) gone);
   doomed = b.here ∙ sym (ap (λ o. waits_doomed g o n) gone);
@@ -63,7 +78,8 @@ reach-put s t n b p =
     let stop = p.stop in
     record { start = omega arith; stop = omega arith; limit = p.limit }
 
-pub forgotten-keeps : (w : Window) (g : Groups) (s t : Waiting) (n : ℕ) → at w n ≡ None → Puts s.heads t.heads n false → Puts s.doomed t.doomed n false → Keeps w g s t
+pub forgotten-keeps : (w : Window) (g : Groups) (s t : Waiting) (n : ℕ) → at w n ≡ None
+    → Puts s.heads t.heads n false → Puts s.doomed t.doomed n false → Keeps w g s t
 forgotten-keeps w g s t n gone a b = record {
   told = λ k e.
       elim (cases_eq k n) [
@@ -79,14 +95,22 @@ forgotten-keeps w g s t n gone a b = record {
 
 -- a request that is the same, in the same group
 pub stands-same : (w v : Window) (g : Groups) (k : ℕ) → at v k ≡ at w k → StandsAsBefore w v g g k
-stands-same w v g k e = record { head = ap (λ o. waits_at_head g o k) e; doomed = ap (λ o. waits_doomed g o k) e }
+stands-same w v g k e = record {
+  head = ap (λ o. waits_at_head g o k) e;
+  doomed = ap (λ o. waits_doomed g o k) e;
+}
 
 -- what is told stays right where the request stands as it did
-pub told-before : (w v : Window) (g h : Groups) (s : Waiting) (k : ℕ) → IsListedAt w g s k → StandsAsBefore w v g h k → IsListedAt v h s k
-told-before w v g h s k t b = record { head = t.head ∙ sym b.head; doomed = t.doomed ∙ sym b.doomed }
+pub told-before : (w v : Window) (g h : Groups) (s : Waiting) (k : ℕ) → IsListedAt w g s k
+    → StandsAsBefore w v g h k → IsListedAt v h s k
+told-before w v g h s k t b = record {
+  head = t.head ∙ sym b.head;
+  doomed = t.doomed ∙ sym b.doomed;
+}
 
 -- an end that fails changes who is behind a failure only among those behind it that weren't
-pub before-earlier : (o : Option ℕ) (b : Bool) (n k : ℕ) → (b ≡ true → (k < n) ⊎ (is_before o k ≡ true)) → is_before (earlier_of o b n) k ≡ is_before o k
+pub before-earlier : (o : Option ℕ) (b : Bool) (n k : ℕ)
+    → (b ≡ true → (k < n) ⊎ (is_before o k ≡ true)) → is_before (earlier_of o b n) k ≡ is_before o k
 before-earlier None false n k h = refl
 before-earlier None true n k h =
     elim (h refl) [
@@ -106,7 +130,9 @@ before-earlier (Some m) true n k h =
     ]
 
 -- the request k of another group, or of none
-pub stands-apart : (w v : Window) (g h : Groups) (k : ℕ) → at v k ≡ at w k → ((x : Request) → at w k ≡ Some x → group_at h x.group ≡ group_at g x.group) → StandsAsBefore w v g h k
+pub stands-apart : (w v : Window) (g h : Groups) (k : ℕ) → at v k ≡ at w k
+    → ((x : Request) → at w k ≡ Some x → group_at h x.group ≡ group_at g x.group)
+    → StandsAsBefore w v g h k
 stands-apart w v g h k same others = go (at w k) refl
   where
     go : (o : Option Request) → at w k ≡ o → StandsAsBefore w v g h k
@@ -120,7 +146,10 @@ stands-apart w v g h k same others = go (at w k) refl
     }
 
 -- the request k of a group that leads and dooms it as before
-pub stands-in : (w v : Window) (g h : Groups) (k : ℕ) (x : Request) (p q : Group) → at v k ≡ at w k → at w k ≡ Some x → group_at g x.group ≡ Some q → group_at h x.group ≡ Some p → leads (Some p) k ≡ leads (Some q) k → dooms (Some p) k ≡ dooms (Some q) k → StandsAsBefore w v g h k
+pub stands-in : (w v : Window) (g h : Groups) (k : ℕ) (x : Request) (p q : Group) → at v k ≡ at w k
+    → at w k ≡ Some x → group_at g x.group ≡ Some q → group_at h x.group ≡ Some p
+    → leads (Some p) k ≡ leads (Some q) k → dooms (Some p) k ≡ dooms (Some q) k
+    → StandsAsBefore w v g h k
 stands-in w v g h k x p q same e was now leads_on dooms_on = record {
   head =
       ap (λ o. waits_at_head h o k) (same ∙ e) ∙ ap (λ o. not x.is_running && leads o k) now ∙ ap (λ b. not x.is_running && b) leads_on
@@ -134,7 +163,9 @@ stands-in w v g h k x p q same e was now leads_on dooms_on = record {
 -- A request ends.
 
 -- the last member of its group
-pub stands-ended_last : (w v : Window) (g h : Groups) (n : ℕ) (request : Request) (q : Group) (least k : ℕ) → IsSound w g → Ends w v g h n request q None → IsNext v q.least q.end least → least ≡ q.end → k ≢ n → StandsAsBefore w v g h k
+pub stands-ended_last : (w v : Window) (g h : Groups) (n : ℕ) (request : Request) (q : Group) (least k : ℕ)
+    → IsSound w g → Ends w v g h n request q None → IsNext v q.least q.end least → least ≡ q.end
+    → k ≢ n → StandsAsBefore w v g h k
 stands-ended_last w v g h n request q least k s e next all ne =
     let kept = s.kept request.group q e.group in
     let same = e.changes.others k ne in
@@ -152,8 +183,13 @@ stands-ended_last w v g h n request q least k s e next all ne =
     ]))
 
 -- another member of its group is outstanding
-pub stands-ended_more : (w v : Window) (g h : Groups) (n : ℕ) (request : Request) (q p : Group) (least k : ℕ) (breaks : Bool) → IsSound w g → Ends w v g h n request q (Some p) → IsNext v q.least q.end least → p.least ≡ least → p.fault ≡ q.fault → p.broken ≡ earlier_of q.broken breaks n → (breaks ≡ true → k < q.end → (k < n) ⊎ (is_before q.broken k ≡ true)) → k ≢ n → k ≢ least → StandsAsBefore w v g h k
-stands-ended_more w v g h n request q p least k breaks s e next is_least fault broken behind ne_n ne_least = go (at w k) refl
+pub stands-ended_more : (w v : Window) (g h : Groups) (n : ℕ) (request : Request) (q p : Group) (least k : ℕ) (breaks : Bool)
+    → IsSound w g → Ends w v g h n request q (Some p) → IsNext v q.least q.end least
+    → p.least ≡ least → p.fault ≡ q.fault → p.broken ≡ earlier_of q.broken breaks n
+    → (breaks ≡ true → k < q.end → (k < n) ⊎ (is_before q.broken k ≡ true)) → k ≢ n → k ≢ least
+    → StandsAsBefore w v g h k
+stands-ended_more w v g h n request q p least k breaks s e next is_least fault broken behind ne_n ne_least =
+    go (at w k) refl
   where
     same : at v k ≡ at w k
     same = e.changes.others k ne_n
@@ -195,7 +231,8 @@ within-end w n there =
       | inr past ↦ absurd (both_ways _ (ap is_some (at-past w n past)) there)
     ]
 
-covers-outstanding : (w : Window) (s : NumberSet) (n : ℕ) → Reaches w s → is_some (at w n) ≡ true → Covers s n
+covers-outstanding : (w : Window) (s : NumberSet) (n : ℕ) → Reaches w s → is_some (at w n) ≡ true
+    → Covers s n
 covers-outstanding w s n r there =
     let low = r.low n there in
     let within = within-end w n there in
@@ -203,23 +240,27 @@ covers-outstanding w s n r there =
     record { from = low; to = omega arith }
 
 -- what can be told of an outstanding request
-pub tell-outstanding : (w : Window) (g : Groups) (s : Waiting) (n : ℕ) → IsListed w g s → is_some (at w n) ≡ true → CanTell s n
+pub tell-outstanding : (w : Window) (g : Groups) (s : Waiting) (n : ℕ) → IsListed w g s
+    → is_some (at w n) ≡ true → CanTell s n
 tell-outstanding w g s n l there =
     record { heads = covers-outstanding w s.heads n l.heads there; doomed = covers-outstanding w s.doomed n l.doomed there }
 
-covers-behind : (w : Window) (s : NumberSet) (n k : ℕ) → Reaches w s → is_some (at w n) ≡ true → n ≤ k → k < end_of w → Covers s k
+covers-behind : (w : Window) (s : NumberSet) (n k : ℕ) → Reaches w s → is_some (at w n) ≡ true
+    → n ≤ k → k < end_of w → Covers s k
 covers-behind w s n k r there from to =
     let low = r.low n there in
     let stop = r.stop in
     record { from = omega arith; to = omega arith }
 
 -- and of one behind it
-pub tell-behind : (w : Window) (g : Groups) (s : Waiting) (n k : ℕ) → IsListed w g s → is_some (at w n) ≡ true → n ≤ k → k < end_of w → CanTell s k
+pub tell-behind : (w : Window) (g : Groups) (s : Waiting) (n k : ℕ) → IsListed w g s
+    → is_some (at w n) ≡ true → n ≤ k → k < end_of w → CanTell s k
 tell-behind w g s n k l there from to =
     record { heads = covers-behind w s.heads n k l.heads there from to; doomed = covers-behind w s.doomed n k l.doomed there from to }
 
 -- fewer requests are outstanding
-pub reaches-fewer : (w v : Window) (s t : NumberSet) → Reaches w s → end_of v ≡ end_of w → ((k : ℕ) → is_some (at v k) ≡ true → is_some (at w k) ≡ true) → IsSameReach s t → Reaches v t
+pub reaches-fewer : (w v : Window) (s t : NumberSet) → Reaches w s → end_of v ≡ end_of w
+    → ((k : ℕ) → is_some (at v k) ≡ true → is_some (at w k) ≡ true) → IsSameReach s t → Reaches v t
 reaches-fewer w v s t r end fewer same =
     let start = r.start in
     let stop = r.stop in
@@ -228,7 +269,8 @@ reaches-fewer w v s t r end fewer same =
     record { start = omega arith; stop = omega arith; low = λ k there. let low = r.low k (fewer k there) in omega arith }
 
 -- what was let go at the front isn't needed
-pub reaches-moved : (w : Window) (s t : NumberSet) (first : ℕ) → Reaches w s → HasMoved s t first → first ≤ end_of w → ((k : ℕ) → k < first → at w k ≡ None) → Reaches w t
+pub reaches-moved : (w : Window) (s t : NumberSet) (first : ℕ) → Reaches w s → HasMoved s t first
+    → first ≤ end_of w → ((k : ℕ) → k < first → at w k ≡ None) → Reaches w t
 reaches-moved w s t first r m within before =
     let stop = r.stop in
     let same = m.stop in
@@ -240,14 +282,20 @@ reaches-moved w s t first r m within before =
           (elim (cases_lt k first) [ inl low ↦ absurd (both_ways _ (ap is_some (before k low)) there) | inr high ↦ high ]);
     }
 
-pub told-moved : (w : Window) (g : Groups) (s t : Waiting) (k a b : ℕ) → IsListedAt w g s k → HasMoved s.heads t.heads a → HasMoved s.doomed t.doomed b → IsListedAt w g t k
+pub told-moved : (w : Window) (g : Groups) (s t : Waiting) (k a b : ℕ) → IsListedAt w g s k
+    → HasMoved s.heads t.heads a → HasMoved s.doomed t.doomed b → IsListedAt w g t k
 told-moved w g s t k a b l x y = record {
   head = holds-same s.heads t.heads x.same.same k ∙ l.head;
   doomed = holds-same s.doomed t.doomed y.same.same k ∙ l.doomed;
 }
 
 -- A request ended, and all whose standing may have changed were told of anew.
-pub end-listed : (w v : Window) (g h : Groups) (s t u : Waiting) (n head stop first : ℕ) → IsListed w g s → Changes w v n None → end_of v ≡ end_of w → ((k : ℕ) → k ≢ n → k ≢ head → (k < n) ⊎ (stop ≤ k) → StandsAsBefore w v g h k) → Keeps v h s t → IsListedAt v h t n → IsListedAt v h t head → ((k : ℕ) → n ≤ k → k < stop → IsListedAt v h t k) → HasMoved t.heads u.heads first → HasMoved t.doomed u.doomed first → first ≤ end_of v → ((k : ℕ) → k < first → at v k ≡ None) → IsListed v h u
+pub end-listed : (w v : Window) (g h : Groups) (s t u : Waiting) (n head stop first : ℕ)
+    → IsListed w g s → Changes w v n None → end_of v ≡ end_of w
+    → ((k : ℕ) → k ≢ n → k ≢ head → (k < n) ⊎ (stop ≤ k) → StandsAsBefore w v g h k) → Keeps v h s t
+    → IsListedAt v h t n → IsListedAt v h t head → ((k : ℕ) → n ≤ k → k < stop → IsListedAt v h t k)
+    → HasMoved t.heads u.heads first → HasMoved t.doomed u.doomed first → first ≤ end_of v
+    → ((k : ℕ) → k < first → at v k ≡ None) → IsListed v h u
 end-listed w v g h s t u n head stop first l c end others keeps own at_head between x y within before =
     let fewer : (k : ℕ) → is_some (at v k) ≡ true → is_some (at w k) ≡ true =
     λ k there.
@@ -288,7 +336,9 @@ end-listed w v g h s t u n head stop first l c end others keeps own at_head betw
         ]
 
 -- A request was written, and it was told of anew.
-pub write-listed : (w v : Window) (g : Groups) (s t : Waiting) (n : ℕ) (q : Request) → IsListed w g s → is_some (at w n) ≡ true → Changes w v n (Some q) → end_of v ≡ end_of w → Keeps v g s t → IsListedAt v g t n → IsListed v g t
+pub write-listed : (w v : Window) (g : Groups) (s t : Waiting) (n : ℕ) (q : Request)
+    → IsListed w g s → is_some (at w n) ≡ true → Changes w v n (Some q) → end_of v ≡ end_of w
+    → Keeps v g s t → IsListedAt v g t n → IsListed v g t
 write-listed w v g s t n q l there c end keeps own =
     let as_many : (k : ℕ) → is_some (at v k) ≡ true → is_some (at w k) ≡ true =
     λ k some.

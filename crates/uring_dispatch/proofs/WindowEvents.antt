@@ -12,15 +12,22 @@ use Rattle.uring_dispatch.proofs.HeldLemmas.{some_none}
 
 -- What the changes of the window keep.
 
-found-other : (was now : List (Option Request)) (key : ℕ) (o : Option ℕ) → ((k : ℕ) → k ≢ key → get_or now k None ≡ get_or was k None) → ((k : ℕ) → o ≡ Some k → k ≢ key) → found_by now o ≡ found_by was o
+found-other : (was now : List (Option Request)) (key : ℕ) (o : Option ℕ)
+    → ((k : ℕ) → k ≢ key → get_or now k None ≡ get_or was k None) → ((k : ℕ) → o ≡ Some k → k ≢ key)
+    → found_by now o ≡ found_by was o
 found-other was now key None h ne = refl
 found-other was now key (Some k) h ne = h k (ne k refl)
 
 -- what a request of a new key leaves as it was
-unused : (w : Window) (key n k : ℕ) → IsWindow w → get_or w.requests key None ≡ None → key_at w.first w.keys n ≡ Some k → k ≢ key
-unused w key n k i vacant e same = both_ways _ (ap is_some (ap (λ j. get_or w.requests j None) same ∙ vacant)) (i.present n k e)
+unused : (w : Window) (key n k : ℕ) → IsWindow w → get_or w.requests key None ≡ None
+    → key_at w.first w.keys n ≡ Some k → k ≢ key
+unused w key n k i vacant e same =
+    both_ways _ (ap is_some (ap (λ j. get_or w.requests j None) same ∙ vacant)) (i.present n k e)
 
-pub push-changes : (w : Window) (requests : List (Option Request)) (key outstanding room : ℕ) (q : Request) → IsWindow w → get_or w.requests key None ≡ None → get_or requests key None ≡ Some q → ((k : ℕ) → k ≢ key → get_or requests k None ≡ get_or w.requests k None) → Changes w (record { first = w.first; keys = w.keys ++ Some key ∷ []; requests = requests; outstanding = outstanding; running = w.running; room = room }) (end_of w) (Some q)
+pub push-changes : (w : Window) (requests : List (Option Request)) (key outstanding room : ℕ) (q : Request)
+    → IsWindow w → get_or w.requests key None ≡ None → get_or requests key None ≡ Some q
+    → ((k : ℕ) → k ≢ key → get_or requests k None ≡ get_or w.requests k None)
+    → Changes w (record { first = w.first; keys = w.keys ++ Some key ∷ []; requests = requests; outstanding = outstanding; running = w.running; room = room }) (end_of w) (Some q)
 push-changes w requests key outstanding room q i vacant here others =
     let v : Window = record { first = w.first; keys = w.keys ++ Some key ∷ []; requests = requests; outstanding = outstanding; running = w.running; room = room } in
     record {
@@ -31,7 +38,8 @@ push-changes w requests key outstanding room q i vacant here others =
           ∙ sym (at-key w k);
     }
 
-push-cases : (w : Window) (key n k : ℕ) → key_at w.first (w.keys ++ Some key ∷ []) n ≡ Some k → ((n ≡ end_of w) × (k ≡ key)) ⊎ (key_at w.first w.keys n ≡ Some k)
+push-cases : (w : Window) (key n k : ℕ) → key_at w.first (w.keys ++ Some key ∷ []) n ≡ Some k
+    → ((n ≡ end_of w) × (k ≡ key)) ⊎ (key_at w.first w.keys n ≡ Some k)
 push-cases w key n k e =
     elim (cases_eq n (end_of w)) [
       | inl same ↦
@@ -39,7 +47,11 @@ push-cases w key n k e =
       | inr other ↦ inr (sym (key_at-push_other w.first w.keys (Some key) n other) ∙ e)
     ]
 
-pub push-window : (w : Window) (requests : List (Option Request)) (key outstanding room : ℕ) (q : Request) → IsWindow w → get_or w.requests key None ≡ None → get_or requests key None ≡ Some q → ((k : ℕ) → k ≢ key → get_or requests k None ≡ get_or w.requests k None) → q.is_running ≡ false → room + 1 ≡ w.room → IsWindow (record { first = w.first; keys = w.keys ++ Some key ∷ []; requests = requests; outstanding = outstanding; running = w.running; room = room })
+pub push-window : (w : Window) (requests : List (Option Request)) (key outstanding room : ℕ) (q : Request)
+    → IsWindow w → get_or w.requests key None ≡ None → get_or requests key None ≡ Some q
+    → ((k : ℕ) → k ≢ key → get_or requests k None ≡ get_or w.requests k None) → q.is_running ≡ false
+    → room + 1 ≡ w.room
+    → IsWindow (record { first = w.first; keys = w.keys ++ Some key ∷ []; requests = requests; outstanding = outstanding; running = w.running; room = room })
 push-window w requests key outstanding room q i vacant here others waits less =
     let v : Window = record { first = w.first; keys = w.keys ++ Some key ∷ []; requests = requests; outstanding = outstanding; running = w.running; room = room } in
     let changes = push-changes w requests key outstanding room q i vacant here others in
@@ -76,10 +88,14 @@ push-window w requests key outstanding room q i vacant here others waits less =
     }
 
 -- a request is written under the key of its number
-other_key : (w : Window) (n k key : ℕ) → IsWindow w → key_at w.first w.keys n ≡ Some key → k ≢ n → (j : ℕ) → key_at w.first w.keys k ≡ Some j → j ≢ key
+other_key : (w : Window) (n k key : ℕ) → IsWindow w → key_at w.first w.keys n ≡ Some key → k ≢ n
+    → (j : ℕ) → key_at w.first w.keys k ≡ Some j → j ≢ key
 other_key w n k key i e ne j is same = ne (i.distinct k n key (is ∙ ap Some same) e)
 
-pub write-changes : (w : Window) (requests : List (Option Request)) (n key outstanding running : ℕ) (q : Request) → IsWindow w → key_at w.first w.keys n ≡ Some key → get_or requests key None ≡ Some q → ((k : ℕ) → k ≢ key → get_or requests k None ≡ get_or w.requests k None) → Changes w (record w { requests = requests; outstanding = outstanding; running = running }) n (Some q)
+pub write-changes : (w : Window) (requests : List (Option Request)) (n key outstanding running : ℕ) (q : Request)
+    → IsWindow w → key_at w.first w.keys n ≡ Some key → get_or requests key None ≡ Some q
+    → ((k : ℕ) → k ≢ key → get_or requests k None ≡ get_or w.requests k None)
+    → Changes w (record w { requests = requests; outstanding = outstanding; running = running }) n (Some q)
 write-changes w requests n key outstanding running q i e here others =
     let v : Window = record w { requests = requests; outstanding = outstanding; running = running } in
     record {
@@ -88,7 +104,11 @@ write-changes w requests n key outstanding running q i e here others =
           at-key v k ∙ found-other w.requests requests key (key_at w.first w.keys k) others (other_key w n k key i e ne) ∙ sym (at-key w k);
     }
 
-pub write-window : (w : Window) (requests : List (Option Request)) (n key outstanding running : ℕ) (q : Request) → IsWindow w → key_at w.first w.keys n ≡ Some key → get_or requests key None ≡ Some q → ((k : ℕ) → k ≢ key → get_or requests k None ≡ get_or w.requests k None) → running + one_if (runs (at w n)) ≡ w.running + one_if q.is_running → IsWindow (record w { requests = requests; outstanding = outstanding; running = running })
+pub write-window : (w : Window) (requests : List (Option Request)) (n key outstanding running : ℕ) (q : Request)
+    → IsWindow w → key_at w.first w.keys n ≡ Some key → get_or requests key None ≡ Some q
+    → ((k : ℕ) → k ≢ key → get_or requests k None ≡ get_or w.requests k None)
+    → running + one_if (runs (at w n)) ≡ w.running + one_if q.is_running
+    → IsWindow (record w { requests = requests; outstanding = outstanding; running = running })
 write-window w requests n key outstanding running q i e here others count =
     let v : Window = record w { requests = requests; outstanding = outstanding; running = running } in
     let changes = write-changes w requests n key outstanding running q i e here others in
@@ -111,7 +131,10 @@ write-window w requests n key outstanding running q i e here others count =
     }
 
 -- the request of a number ends
-pub end-changes : (w : Window) (requests : List (Option Request)) (n key outstanding running : ℕ) → IsWindow w → key_at w.first w.keys n ≡ Some key → ((k : ℕ) → k ≢ key → get_or requests k None ≡ get_or w.requests k None) → Changes w (record w { keys = set w.keys (n - w.first) None; requests = requests; outstanding = outstanding; running = running }) n None
+pub end-changes : (w : Window) (requests : List (Option Request)) (n key outstanding running : ℕ)
+    → IsWindow w → key_at w.first w.keys n ≡ Some key
+    → ((k : ℕ) → k ≢ key → get_or requests k None ≡ get_or w.requests k None)
+    → Changes w (record w { keys = set w.keys (n - w.first) None; requests = requests; outstanding = outstanding; running = running }) n None
 end-changes w requests n key outstanding running i e others =
     let v : Window = record w { keys = set w.keys (n - w.first) None; requests = requests; outstanding = outstanding; running = running } in
     let inside = key_at-within w.first w.keys n key e in
@@ -123,7 +146,9 @@ end-changes w requests n key outstanding running i e others =
           ∙ sym (at-key w k);
     }
 
-end-cases : (w : Window) (n k key : ℕ) → w.first ≤ n → n < end_of w → key_at w.first (set w.keys (n - w.first) None) k ≡ Some key → (k ≢ n) × (key_at w.first w.keys k ≡ Some key)
+end-cases : (w : Window) (n k key : ℕ) → w.first ≤ n → n < end_of w
+    → key_at w.first (set w.keys (n - w.first) None) k ≡ Some key
+    → (k ≢ n) × (key_at w.first w.keys k ≡ Some key)
 end-cases w n k key le lt e =
     elim (cases_eq k n) [
       | inl same ↦
@@ -131,7 +156,11 @@ end-cases w n k key le lt e =
       | inr other ↦ (other, sym (key_at-set_other w.first w.keys None n k le other) ∙ e)
     ]
 
-pub end-window : (w : Window) (requests : List (Option Request)) (n key outstanding running : ℕ) → IsWindow w → key_at w.first w.keys n ≡ Some key → ((k : ℕ) → k ≢ key → get_or requests k None ≡ get_or w.requests k None) → (q : Request) → get_or w.requests key None ≡ Some q → running + one_if q.is_running ≡ w.running → IsWindow (record w { keys = set w.keys (n - w.first) None; requests = requests; outstanding = outstanding; running = running })
+pub end-window : (w : Window) (requests : List (Option Request)) (n key outstanding running : ℕ)
+    → IsWindow w → key_at w.first w.keys n ≡ Some key
+    → ((k : ℕ) → k ≢ key → get_or requests k None ≡ get_or w.requests k None) → (q : Request)
+    → get_or w.requests key None ≡ Some q → running + one_if q.is_running ≡ w.running
+    → IsWindow (record w { keys = set w.keys (n - w.first) None; requests = requests; outstanding = outstanding; running = running })
 end-window w requests n key outstanding running i e others q is count =
     let v : Window = record w { keys = set w.keys (n - w.first) None; requests = requests; outstanding = outstanding; running = running } in
     let changes = end-changes w requests n key outstanding running i e others in
@@ -157,7 +186,9 @@ end-window w requests n key outstanding running i e others q is count =
     }
 
 -- the front is trimmed
-pub trim-window : (w : Window) (first : ℕ) (keys : List (Option ℕ)) → ((n : ℕ) → key_at first keys n ≡ key_at w.first w.keys n) → first + length keys ≡ end_of w → IsWindow w → IsWindow (record w { first = first; keys = keys })
+pub trim-window : (w : Window) (first : ℕ) (keys : List (Option ℕ))
+    → ((n : ℕ) → key_at first keys n ≡ key_at w.first w.keys n) → first + length keys ≡ end_of w
+    → IsWindow w → IsWindow (record w { first = first; keys = keys })
 trim-window w first keys same end i =
     let v : Window = record w { first = first; keys = keys } in
     record {
@@ -170,7 +201,9 @@ trim-window w first keys same end i =
       fits = omega (arith, i.fits);
     }
 
-pub trim-changes : (u w : Window) (first : ℕ) (keys : List (Option ℕ)) (n : ℕ) → ((k : ℕ) → key_at first keys k ≡ key_at w.first w.keys k) → Changes u w n None → Changes u (record w { first = first; keys = keys }) n None
+pub trim-changes : (u w : Window) (first : ℕ) (keys : List (Option ℕ)) (n : ℕ)
+    → ((k : ℕ) → key_at first keys k ≡ key_at w.first w.keys k) → Changes u w n None
+    → Changes u (record w { first = first; keys = keys }) n None
 trim-changes u w first keys n same c =
     let v : Window = record w { first = first; keys = keys } in
     let kept : (k : ℕ) → at v k ≡ at w k = λ k. at-key v k ∙ ap (found_by w.requests) (same k) ∙ sym (at-key w k) in

@@ -12,7 +12,8 @@ use Rattle.uring_dispatch.proofs.HeldLemmas.{some_none}
 
 -- The front.
 
-pub trimmed-push : (keys : List (Option ℕ)) (key : ℕ) → IsTrimmed keys → IsTrimmed (keys ++ Some key ∷ [])
+pub trimmed-push : (keys : List (Option ℕ)) (key : ℕ) → IsTrimmed keys
+    → IsTrimmed (keys ++ Some key ∷ [])
 trimmed-push [] key t = λ lt. refl
 trimmed-push (k ∷ keys) key t = λ lt. t (omega arith)
 
@@ -24,11 +25,14 @@ at-empty w n e =
       | inr high ↦ key_at-past w.first w.keys n (omega arith)
     ])
 
-found-some : (requests : List (Option Request)) (o : Option ℕ) → is_some o ≡ true → ((k : ℕ) → o ≡ Some k → is_some (get_or requests k None) ≡ true) → is_some (found_by requests o) ≡ true
+found-some : (requests : List (Option Request)) (o : Option ℕ) → is_some o ≡ true
+    → ((k : ℕ) → o ≡ Some k → is_some (get_or requests k None) ≡ true)
+    → is_some (found_by requests o) ≡ true
 found-some requests None e h = absurd (false≢true e)
 found-some requests (Some k) e h = h k refl
 
-pub first-outstanding : (w : Window) → IsWindow w → IsTrimmed w.keys → 0 < length w.keys → IsFirst w w.first
+pub first-outstanding : (w : Window) → IsWindow w → IsTrimmed w.keys → 0 < length w.keys
+    → IsFirst w w.first
 first-outstanding w i t lt =
     let zeroth : w.first - w.first ≡ 0 = omega arith in
     let key = key_at-high w.first w.keys w.first (omega arith) ∙ ap (λ j. get_or w.keys j None) zeroth in
@@ -47,40 +51,59 @@ empty-window = record {
   fits = omega arith;
 }
 
-pub room-window : (w : Window) (room : ℕ) → IsWindow w → end_of w + room < 2 ^ 63 → IsWindow (record w { room = room })
+pub room-window : (w : Window) (room : ℕ) → IsWindow w → end_of w + room < 2 ^ 63
+    → IsWindow (record w { room = room })
 unfolding at
-room-window w room i lt = record { present = i.present; distinct = i.distinct; counted = i.counted; fits = lt }
+room-window w room i lt = record {
+  present = i.present;
+  distinct = i.distinct;
+  counted = i.counted;
+  fits = lt;
+}
 
 -- a number whose request is there has a key
 pub keyless : (w : Window) (n : ℕ) → key_at w.first w.keys n ≡ None → is_some (at w n) ≡ true → ⊥
 keyless w n e there = both_ways _ (ap is_some (at-keyed w n None e)) there
 
-pub by_key : (w : Window) (n key : ℕ) → key_at w.first w.keys n ≡ Some key → at w n ≡ get_or w.requests key None
+pub by_key : (w : Window) (n key : ℕ) → key_at w.first w.keys n ≡ Some key
+    → at w n ≡ get_or w.requests key None
 by_key w n key e = at-keyed w n (Some key) e
 
 -- a key that was found has a request
-pub found-key : (w : Window) (n : ℕ) (o : Option ℕ) → IsWindow w → key_at w.first w.keys n ≡ o → IfSome o (λ key. is_some (found_by w.requests (Some key)) ≡ true)
+pub found-key : (w : Window) (n : ℕ) (o : Option ℕ) → IsWindow w → key_at w.first w.keys n ≡ o
+    → IfSome o (λ key. is_some (found_by w.requests (Some key)) ≡ true)
 found-key w n None i e = tt
 found-key w n (Some key) i e = i.present n key e
 
 pub running-fits : (w : Window) → IsWindow w → w.running + 1 < 2 ^ 64
-running-fits w i = let few = count_below-within (λ n. runs (at w n)) (end_of w) in omega (arith, i.counted, i.fits)
+running-fits w i =
+    let few = count_below-within (λ n. runs (at w n)) (end_of w) in omega (arith, i.counted, i.fits)
 
 -- request n was started, or chosen
-pub start-window : (w : Window) (requests : List (Option Request)) (n key outstanding : ℕ) → IsWindow w → key_at w.first w.keys n ≡ Some key → is_some (at w n) ≡ true → runs (at w n) ≡ false → ((q : Request) → get_or w.requests key None ≡ Some q → get_or requests key None ≡ Some (started q)) → ((k : ℕ) → k ≢ key → get_or requests k None ≡ get_or w.requests k None) → IsWindow (record w { requests = requests; outstanding = outstanding; running = w.running + 1 })
+pub start-window : (w : Window) (requests : List (Option Request)) (n key outstanding : ℕ)
+    → IsWindow w → key_at w.first w.keys n ≡ Some key → is_some (at w n) ≡ true
+    → runs (at w n) ≡ false
+    → ((q : Request) → get_or w.requests key None ≡ Some q → get_or requests key None ≡ Some (started q))
+    → ((k : ℕ) → k ≢ key → get_or requests k None ≡ get_or w.requests k None)
+    → IsWindow (record w { requests = requests; outstanding = outstanding; running = w.running + 1 })
 start-window w requests n key outstanding i e there waits here others =
     let found = is_some_value (at w n) there in
     let one : one_if (runs (at w n)) ≡ 0 = ap one_if waits in
     write-window w requests n key outstanding (w.running + 1) (started found.0) i e (here found.0 (sym (by_key w n key e) ∙ found.1)) others (omega arith)
 
-pub choose-window : (w : Window) (requests : List (Option Request)) (n key outstanding : ℕ) → IsWindow w → key_at w.first w.keys n ≡ Some key → is_some (at w n) ≡ true → ((q : Request) → get_or w.requests key None ≡ Some q → get_or requests key None ≡ Some (chosen q)) → ((k : ℕ) → k ≢ key → get_or requests k None ≡ get_or w.requests k None) → IsWindow (record w { requests = requests; outstanding = outstanding })
+pub choose-window : (w : Window) (requests : List (Option Request)) (n key outstanding : ℕ)
+    → IsWindow w → key_at w.first w.keys n ≡ Some key → is_some (at w n) ≡ true
+    → ((q : Request) → get_or w.requests key None ≡ Some q → get_or requests key None ≡ Some (chosen q))
+    → ((k : ℕ) → k ≢ key → get_or requests k None ≡ get_or w.requests k None)
+    → IsWindow (record w { requests = requests; outstanding = outstanding })
 choose-window w requests n key outstanding i e there here others =
     let found = is_some_value (at w n) there in
     write-window w requests n key outstanding w.running (chosen found.0) i e (here found.0 (sym (by_key w n key e) ∙ found.1)) others
     (ap (λ o. w.running + one_if (runs o)) found.1)
 
 -- who runs is counted
-pub runs-counted : (w : Window) (n key : ℕ) → IsWindow w → key_at w.first w.keys n ≡ Some key → one_if (runs (at w n)) ≤ w.running
+pub runs-counted : (w : Window) (n key : ℕ) → IsWindow w → key_at w.first w.keys n ≡ Some key
+    → one_if (runs (at w n)) ≤ w.running
 runs-counted w n key i e =
     let inside = key_at-within w.first w.keys n key e in
     let was = i.counted in
@@ -89,7 +112,9 @@ runs-counted w n key i e =
       | inr still ↦ let none : one_if (runs (at w n)) ≡ 0 = ap one_if still in omega arith
     ]
 
-pub ended-counted : (w : Window) (n key : ℕ) (q : Request) → IsWindow w → key_at w.first w.keys n ≡ Some key → get_or w.requests key None ≡ Some q → one_if q.is_running ≤ w.running
+pub ended-counted : (w : Window) (n key : ℕ) (q : Request) → IsWindow w
+    → key_at w.first w.keys n ≡ Some key → get_or w.requests key None ≡ Some q
+    → one_if q.is_running ≤ w.running
 ended-counted w n key q i e is =
     let counted = runs-counted w n key i e in
     let same : one_if (runs (at w n)) ≡ one_if q.is_running = ap (λ o. one_if (runs o)) (by_key w n key e ∙ is) in
@@ -103,8 +128,13 @@ pub at-room : (w : Window) (room n : ℕ) → at (record w { room = room }) n �
 unfolding at
 at-room w room n = refl
 
-pub before-some : (w : Window) (n : ℕ) → IsWindow w → IsTrimmed w.keys → 0 < length w.keys → w.first < n → HasBefore w n
-before-some w n i t lt low = record { number = w.first; here = (first-outstanding w i t lt).here; before = low }
+pub before-some : (w : Window) (n : ℕ) → IsWindow w → IsTrimmed w.keys → 0 < length w.keys
+    → w.first < n → HasBefore w n
+before-some w n i t lt low = record {
+  number = w.first;
+  here = (first-outstanding w i t lt).here;
+  before = low;
+}
 
 pub before-none : (w : Window) (n : ℕ) → n ≤ w.first → (m : ℕ) → m < n → at w m ≡ None
 before-none w n le m lt = at-keyed w m None (key_at-low w.first w.keys m (omega arith))

@@ -8,19 +8,26 @@ use Rattle.uring_entry.proofs.RequestLemmas.{get_or-push_other}
 use Rattle.uring_dispatch.specs.Window.{Window, key_at, found_by, at}
 use Rattle.uring_dispatch.proofs.HeldLemmas.{some_none}
 
-pub key_at-low : (first : ℕ) (keys : List (Option ℕ)) (n : ℕ) → n < first → key_at first keys n ≡ None
+pub key_at-low : (first : ℕ) (keys : List (Option ℕ)) (n : ℕ) → n < first
+    → key_at first keys n ≡ None
 unfolding key_at
-key_at-low first keys n lt = ap (λ b. if b then None else get_or keys (n - first) None) (lt-ltb n first lt)
+key_at-low first keys n lt =
+    ap (λ b. if b then None else get_or keys (n - first) None) (lt-ltb n first lt)
 
-pub key_at-high : (first : ℕ) (keys : List (Option ℕ)) (n : ℕ) → first ≤ n → key_at first keys n ≡ get_or keys (n - first) None
+pub key_at-high : (first : ℕ) (keys : List (Option ℕ)) (n : ℕ) → first ≤ n
+    → key_at first keys n ≡ get_or keys (n - first) None
 unfolding key_at
-key_at-high first keys n le = ap (λ b. if b then None else get_or keys (n - first) None) (le-ltb n first le)
+key_at-high first keys n le =
+    ap (λ b. if b then None else get_or keys (n - first) None) (le-ltb n first le)
 
-pub key_at-past : (first : ℕ) (keys : List (Option ℕ)) (n : ℕ) → first + length keys ≤ n → key_at first keys n ≡ None
-key_at-past first keys n le = key_at-high first keys n (omega arith) ∙ get_or_past keys (n - first) None (omega arith)
+pub key_at-past : (first : ℕ) (keys : List (Option ℕ)) (n : ℕ) → first + length keys ≤ n
+    → key_at first keys n ≡ None
+key_at-past first keys n le =
+    key_at-high first keys n (omega arith) ∙ get_or_past keys (n - first) None (omega arith)
 
 -- a number with a key lies in the window
-pub key_at-within : (first : ℕ) (keys : List (Option ℕ)) (n key : ℕ) → key_at first keys n ≡ Some key → (first ≤ n) × (n < first + length keys)
+pub key_at-within : (first : ℕ) (keys : List (Option ℕ)) (n key : ℕ)
+    → key_at first keys n ≡ Some key → (first ≤ n) × (n < first + length keys)
 key_at-within first keys n key e =
     elim (cases_lt n first) [
       | inl low ↦ some_none key _ (key_at-low first keys n low) e
@@ -32,13 +39,15 @@ key_at-within first keys n key e =
     ]
 
 -- a key that is added
-pub key_at-push_here : (first : ℕ) (keys : List (Option ℕ)) (key : Option ℕ) → key_at first (keys ++ key ∷ []) (first + length keys) ≡ key
+pub key_at-push_here : (first : ℕ) (keys : List (Option ℕ)) (key : Option ℕ)
+    → key_at first (keys ++ key ∷ []) (first + length keys) ≡ key
 key_at-push_here first keys key =
     let place : (first + length keys) - first ≡ length keys = omega arith in
     key_at-high first (keys ++ key ∷ []) (first + length keys) (omega arith)
     ∙ ap (λ i. get_or (keys ++ key ∷ []) i None) place ∙ get_or-append_seam keys key [] None
 
-pub key_at-push_other : (first : ℕ) (keys : List (Option ℕ)) (key : Option ℕ) (n : ℕ) → n ≢ first + length keys → key_at first (keys ++ key ∷ []) n ≡ key_at first keys n
+pub key_at-push_other : (first : ℕ) (keys : List (Option ℕ)) (key : Option ℕ) (n : ℕ)
+    → n ≢ first + length keys → key_at first (keys ++ key ∷ []) n ≡ key_at first keys n
 key_at-push_other first keys key n ne =
     elim (cases_lt n first) [
       | inl low ↦ key_at-low first _ n low ∙ sym (key_at-low first keys n low)
@@ -49,11 +58,13 @@ key_at-push_other first keys key n ne =
     ]
 
 -- a key that is written
-pub key_at-set_here : (first : ℕ) (keys : List (Option ℕ)) (key : Option ℕ) (n : ℕ) → first ≤ n → n < first + length keys → key_at first (set keys (n - first) key) n ≡ key
+pub key_at-set_here : (first : ℕ) (keys : List (Option ℕ)) (key : Option ℕ) (n : ℕ) → first ≤ n
+    → n < first + length keys → key_at first (set keys (n - first) key) n ≡ key
 key_at-set_here first keys key n le lt =
     key_at-high first _ n le ∙ get_or-set_same keys (n - first) key None (omega arith)
 
-pub key_at-set_other : (first : ℕ) (keys : List (Option ℕ)) (key : Option ℕ) (n k : ℕ) → first ≤ n → k ≢ n → key_at first (set keys (n - first) key) k ≡ key_at first keys k
+pub key_at-set_other : (first : ℕ) (keys : List (Option ℕ)) (key : Option ℕ) (n k : ℕ) → first ≤ n
+    → k ≢ n → key_at first (set keys (n - first) key) k ≡ key_at first keys k
 key_at-set_other first keys key n k le ne =
     elim (cases_lt k first) [
       | inl low ↦ key_at-low first _ k low ∙ sym (key_at-low first keys k low)
@@ -64,7 +75,8 @@ key_at-set_other first keys key n k le ne =
     ]
 
 -- a number that has ended leaves the front
-pub key_at-pop : (first : ℕ) (keys : List (Option ℕ)) (n : ℕ) → key_at (first + 1) keys n ≡ key_at first (None ∷ keys) n
+pub key_at-pop : (first : ℕ) (keys : List (Option ℕ)) (n : ℕ)
+    → key_at (first + 1) keys n ≡ key_at first (None ∷ keys) n
 key_at-pop first keys n =
     elim (cases_lt n first) [
       | inl low ↦ key_at-low (first + 1) keys n (omega arith) ∙ sym (key_at-low first (None ∷ keys) n low)
@@ -81,7 +93,8 @@ key_at-pop first keys n =
           ]
     ]
 
-pub at-keyed : (w : Window) (n : ℕ) (key : Option ℕ) → key_at w.first w.keys n ≡ key → at w n ≡ found_by w.requests key
+pub at-keyed : (w : Window) (n : ℕ) (key : Option ℕ) → key_at w.first w.keys n ≡ key
+    → at w n ≡ found_by w.requests key
 unfolding at
 at-keyed w n key e = ap (found_by w.requests) e
 

@@ -6,9 +6,11 @@ use Rattle.std.proofs.lemmas.List.Folds.{list_any-append}
 use Rattle.std.proofs.lemmas.Option.{same_Some, none-some}
 use Rattle.uring_entry.specs.Below.{some_below, least_below, all_below, found_or}
 
-pub some_below-none : (p : ℕ → Bool) (n : ℕ) → ((k : ℕ) → k < n → p k ≡ false) → some_below p n ≡ false
+pub some_below-none : (p : ℕ → Bool) (n : ℕ) → ((k : ℕ) → k < n → p k ≡ false)
+    → some_below p n ≡ false
 some_below-none p zero h = refl
-some_below-none p (suc n) h = or_from _ _ (some_below-none p n (λ k lt. h k (omega arith))) (h n (omega arith))
+some_below-none p (suc n) h =
+    or_from _ _ (some_below-none p n (λ k lt. h k (omega arith))) (h n (omega arith))
 
 pub some_below-some : (p : ℕ → Bool) (n k : ℕ) → k < n → p k ≡ true → some_below p n ≡ true
 some_below-some p zero k lt e = absurd (omega arith)
@@ -25,7 +27,8 @@ some_below-out p n e k lt =
       | inr fails ↦ fails
     ]
 
-pub some_below-in : (p : ℕ → Bool) (n : ℕ) → some_below p n ≡ true → (k : ℕ) × (k < n) × (p k ≡ true)
+pub some_below-in : (p : ℕ → Bool) (n : ℕ) → some_below p n ≡ true
+    → (k : ℕ) × (k < n) × (p k ≡ true)
 some_below-in p zero e = absurd (both_ways false refl e)
 some_below-in p (suc n) e =
     elim (or_cases _ _ e) [
@@ -34,12 +37,14 @@ some_below-in p (suc n) e =
     ]
 
 -- two tests that agree below the bound
-pub some_below-same : (p q : ℕ → Bool) (n : ℕ) → ((k : ℕ) → k < n → p k ≡ q k) → some_below p n ≡ some_below q n
+pub some_below-same : (p q : ℕ → Bool) (n : ℕ) → ((k : ℕ) → k < n → p k ≡ q k)
+    → some_below p n ≡ some_below q n
 some_below-same p q zero h = refl
 some_below-same p q (suc n) h =
     ap (λ b. b || p n) (some_below-same p q n (λ k lt. h k (omega arith))) ∙ ap (λ b. some_below q n || b) (h n (omega arith))
 
-pub some_below-raised : (p : ℕ → Bool) (n m : ℕ) → n ≤ m → some_below p n ≡ true → some_below p m ≡ true
+pub some_below-raised : (p : ℕ → Bool) (n m : ℕ) → n ≤ m → some_below p n ≡ true
+    → some_below p m ≡ true
 some_below-raised p n zero le e = let same : n ≡ 0 = omega arith in ap (some_below p) (sym same) ∙ e
 some_below-raised p n (suc m) le e =
     elim (cases_lt n (suc m)) [
@@ -48,7 +53,8 @@ some_below-raised p n (suc m) le e =
     ]
 
 -- a bound that goes further, over numbers at which the test fails
-pub some_below-between : (p : ℕ → Bool) (n m : ℕ) → n ≤ m → ((k : ℕ) → n ≤ k → k < m → p k ≡ false) → some_below p m ≡ some_below p n
+pub some_below-between : (p : ℕ → Bool) (n m : ℕ) → n ≤ m → ((k : ℕ) → n ≤ k → k < m → p k ≡ false)
+    → some_below p m ≡ some_below p n
 some_below-between p n m le h =
     elim (cases_Bool (some_below p n)) [
       | inl e ↦ some_below-raised p n m le e ∙ sym e
@@ -58,12 +64,14 @@ some_below-between p n m le h =
           ∙ sym e
     ]
 
-pub least_below-none : (p : ℕ → Bool) (n : ℕ) → ((k : ℕ) → k < n → p k ≡ false) → least_below p n ≡ None
+pub least_below-none : (p : ℕ → Bool) (n : ℕ) → ((k : ℕ) → k < n → p k ≡ false)
+    → least_below p n ≡ None
 least_below-none p zero h = refl
 least_below-none p (suc n) h =
     ap (λ o. found_or o (p n) n) (least_below-none p n (λ k lt. h k (omega arith))) ∙ ap (λ b. found_or None b n) (h n (omega arith))
 
-pub least_below-some : (p : ℕ → Bool) (n k : ℕ) → k < n → p k ≡ true → ((j : ℕ) → j < k → p j ≡ false) → least_below p n ≡ Some k
+pub least_below-some : (p : ℕ → Bool) (n k : ℕ) → k < n → p k ≡ true
+    → ((j : ℕ) → j < k → p j ≡ false) → least_below p n ≡ Some k
 least_below-some p zero k lt e before = absurd (omega arith)
 least_below-some p (suc n) k lt e before =
     elim (cases_lt k n) [
@@ -74,7 +82,8 @@ least_below-some p (suc n) k lt e before =
           ∙ ap (λ b. found_or None b n) (ap p (sym same) ∙ e) ∙ ap Some (sym same)
     ]
 
-pub least_below-same : (p q : ℕ → Bool) (n : ℕ) → ((k : ℕ) → k < n → p k ≡ q k) → least_below p n ≡ least_below q n
+pub least_below-same : (p q : ℕ → Bool) (n : ℕ) → ((k : ℕ) → k < n → p k ≡ q k)
+    → least_below p n ≡ least_below q n
 least_below-same p q zero h = refl
 least_below-same p q (suc n) h =
     ap (λ o. found_or o (p n) n) (least_below-same p q n (λ k lt. h k (omega arith)))
@@ -102,7 +111,8 @@ is_some-least_below p zero = refl
 is_some-least_below p (suc n) =
     is_some-found (least_below p n) (p n) n ∙ ap (λ b. b || p n) (is_some-least_below p n)
 
-pub least_below-out : (p : ℕ → Bool) (n : ℕ) → least_below p n ≡ None → (k : ℕ) → k < n → p k ≡ false
+pub least_below-out : (p : ℕ → Bool) (n : ℕ) → least_below p n ≡ None → (k : ℕ) → k < n
+    → p k ≡ false
 least_below-out p n e = some_below-out p n (sym (is_some-least_below p n) ∙ ap is_some e)
 
 pub least_below-tells : (p : ℕ → Bool) (n k : ℕ) → least_below p n ≡ Some k → IsLeast p n k
@@ -128,7 +138,8 @@ least_below-tells p (suc n) k e =
 
 -- Who is among all numbers below a bound of which a test holds.
 
-here_if : (holds : Bool) (n m : ℕ) → list_any (λ k. k == m) (cond holds (n ∷ []) []) ≡ true → (n ≡ m) × (holds ≡ true)
+here_if : (holds : Bool) (n m : ℕ) → list_any (λ k. k == m) (cond holds (n ∷ []) []) ≡ true
+    → (n ≡ m) × (holds ≡ true)
 here_if false n m e = absurd (both_ways false refl e)
 here_if true n m e =
     elim (or_cases (n == m) false e) [
@@ -136,7 +147,8 @@ here_if true n m e =
       | inr none ↦ absurd (both_ways false refl none)
     ]
 
-pub all_below-in : (p : ℕ → Bool) (n m : ℕ) → list_any (λ k. k == m) (all_below p n) ≡ true → (m < n) × (p m ≡ true)
+pub all_below-in : (p : ℕ → Bool) (n m : ℕ) → list_any (λ k. k == m) (all_below p n) ≡ true
+    → (m < n) × (p m ≡ true)
 all_below-in p zero m e = absurd (both_ways false refl e)
 all_below-in p (suc n) m e =
     elim (or_cases _ _ (sym (list_any-append (λ k. k == m) (all_below p n) (cond (p n) (n ∷ []) [])) ∙ e)) [
@@ -144,7 +156,8 @@ all_below-in p (suc n) m e =
       | inr here ↦ let is = here_if (p n) n m here in (omega (arith, is.0), ap p (sym is.0) ∙ is.1)
     ]
 
-pub all_below-there : (p : ℕ → Bool) (n m : ℕ) → m < n → p m ≡ true → list_any (λ k. k == m) (all_below p n) ≡ true
+pub all_below-there : (p : ℕ → Bool) (n m : ℕ) → m < n → p m ≡ true
+    → list_any (λ k. k == m) (all_below p n) ≡ true
 all_below-there p zero m lt e = absurd (omega arith)
 all_below-there p (suc n) m lt e =
     list_any-append (λ k. k == m) (all_below p n) (cond (p n) (n ∷ []) [])
@@ -162,5 +175,7 @@ all_below-none p (suc n) h =
     ∙ ap (λ b. cond b (n ∷ []) []) (h n (omega arith))
 
 -- one at or past the bound isn't
-pub all_below-past : (p : ℕ → Bool) (n m : ℕ) → n ≤ m → list_any (λ k. k == m) (all_below p n) ≡ false
-all_below-past p n m le = false_from_ne_true _ (λ there. let lt = (all_below-in p n m there).0 in omega (arith, le))
+pub all_below-past : (p : ℕ → Bool) (n m : ℕ) → n ≤ m
+    → list_any (λ k. k == m) (all_below p n) ≡ false
+all_below-past p n m le =
+    false_from_ne_true _ (λ there. let lt = (all_below-in p n m there).0 in omega (arith, le))

@@ -6,10 +6,12 @@ use Rattle.std.proofs.lemmas.Int.{of_z-to_z}
 use Rattle.std.specs.Int.{w32, w64, cast_signed, cast_unsigned, to_le_bytes, from_le_bytes}
 use Rattle.uring_entry.specs.Layout.{Cqe, AreWords, bytes_of, HasWords, completion_of, without_flags}
 
-first_eight : (x y : ℕ) (r s : List ℕ) → to_le_bytes w64 x ++ r ≡ to_le_bytes w64 y ++ s → to_le_bytes w64 x ≡ to_le_bytes w64 y
+first_eight : (x y : ℕ) (r s : List ℕ) → to_le_bytes w64 x ++ r ≡ to_le_bytes w64 y ++ s
+    → to_le_bytes w64 x ≡ to_le_bytes w64 y
 first_eight x y r s e = cc
 
-same_word : (x y : ℕ) (r s : List ℕ) → x < 2 ^ 64 → y < 2 ^ 64 → to_le_bytes w64 x ++ r ≡ to_le_bytes w64 y ++ s → (x ≡ y)
+same_word : (x y : ℕ) (r s : List ℕ) → x < 2 ^ 64 → y < 2 ^ 64
+    → to_le_bytes w64 x ++ r ≡ to_le_bytes w64 y ++ s → (x ≡ y)
 same_word x y r s p q e = sym (from_le_bytes-to_le_bytes_8 x p) ∙ ap (from_le_bytes w64) (first_eight x y r s e) ∙ from_le_bytes-to_le_bytes_8 y q
 
 -- words of 64 bits that have the same bytes are the same
@@ -24,8 +26,10 @@ same_words (x ∷ xs) (y ∷ ys) p q e =
     cc
 
 -- two words, and others behind them
-pub words_behind : (a b : ℕ) (rest more : List ℕ) → a < 2 ^ 64 → b < 2 ^ 64 → rest ≡ more → AreWords more → AreWords (a ∷ b ∷ (rest ++ []))
-words_behind a b rest more first second same range = (first, (second, subst AreWords (sym (append-nil rest ∙ same)) range))
+pub words_behind : (a b : ℕ) (rest more : List ℕ) → a < 2 ^ 64 → b < 2 ^ 64 → rest ≡ more
+    → AreWords more → AreWords (a ∷ b ∷ (rest ++ []))
+words_behind a b rest more first second same range =
+    (first, (second, subst AreWords (sym (append-nil rest ∙ same)) range))
 
 -- the user data, the result and the bytes, as words, are those of a completion
 pub words_made : (c : Cqe) (second : ℕ) (rest : List ℕ) → c.user_data < 2 ^ 64 → second < 2 ^ 64
@@ -42,7 +46,8 @@ words_made c second rest user_data word is size range payload = record {
 low_half : (b : ℕ) → cast_unsigned w32 (cast_signed w32 (b % 2 ^ 32)) ≡ b % 2 ^ 32
 low_half b = of_z-to_z w32 (b % 2 ^ 32) (omega arith)
 
-kept_words : (a b : ℕ) (rest again : List ℕ) → AreWords rest → HasWords (completion_of (a ∷ b ∷ rest)) again
+kept_words : (a b : ℕ) (rest again : List ℕ) → AreWords rest
+    → HasWords (completion_of (a ∷ b ∷ rest)) again
     → again ≡ without_flags (a ∷ b ∷ rest)
 kept_words a b rest [] range h = absurd (omega (arith, h.size))
 kept_words a b rest (x ∷ []) range h = absurd (omega (arith, h.size))

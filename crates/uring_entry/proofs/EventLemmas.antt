@@ -16,13 +16,15 @@ pub record IsFailureBefore (r : Requests) (n m : ℕ) : Type 0 where
   pub soft : is_soft (entry_of r m) ≡ true
   pub failed : has_failed r m ≡ true
 
-pub is_behind_failure-from : (r : Requests) (n m : ℕ) → IsFailureBefore r n m → is_behind_failure r n ≡ true
+pub is_behind_failure-from : (r : Requests) (n m : ℕ) → IsFailureBefore r n m
+    → is_behind_failure r n ≡ true
 unfolding is_behind_failure
 is_behind_failure-from r n m f =
     some_below-some (λ k. (is_joined r k n && is_soft (entry_of r k)) && has_failed r k) n m f.before
     (and_from _ _ (and_from _ _ f.joined f.soft) f.failed)
 
-pub is_behind_failure-tells : (r : Requests) (n : ℕ) → is_behind_failure r n ≡ true → (m : ℕ) × IsFailureBefore r n m
+pub is_behind_failure-tells : (r : Requests) (n : ℕ) → is_behind_failure r n ≡ true
+    → (m : ℕ) × IsFailureBefore r n m
 unfolding is_behind_failure
 is_behind_failure-tells r n e =
     let found = some_below-in (λ k. (is_joined r k n && is_soft (entry_of r k)) && has_failed r k) n e in
@@ -39,13 +41,15 @@ is_doomed-tells r n e =
       | inr cancelled ↦ inr (inr cancelled)
     ]
 
-pub target_of-tells : (r : Requests) (n m : ℕ) → target_of r n ≡ Some m → IsLeast (is_candidate r n) (length r.accepted) m
+pub target_of-tells : (r : Requests) (n m : ℕ) → target_of r n ≡ Some m
+    → IsLeast (is_candidate r n) (length r.accepted) m
 unfolding target_of
 target_of-tells r n m e = least_below-tells (is_candidate r n) (length r.accepted) m e
 
 -- A start changes only who is running; an end, only who has ended and failed.
 
-pub is_joined-started : (r : Requests) (n j k : ℕ) → is_joined (with_started r n) j k ≡ is_joined r j k
+pub is_joined-started : (r : Requests) (n j k : ℕ)
+    → is_joined (with_started r n) j k ≡ is_joined r j k
 unfolding is_joined
 is_joined-started r n j k = refl
 
@@ -54,7 +58,8 @@ pub is_joined-ended : (r : Requests) (n : ℕ) (res : ℤ) (bytes : List ℕ) (j
 unfolding is_joined
 is_joined-ended r n res bytes j k = refl
 
-pub is_draining-started : (r : Requests) (n k : ℕ) → is_draining (with_started r n) k ≡ is_draining r k
+pub is_draining-started : (r : Requests) (n k : ℕ)
+    → is_draining (with_started r n) k ≡ is_draining r k
 unfolding some_member is_joined
 is_draining-started r n k = refl
 
@@ -64,6 +69,7 @@ is_doomed-started r n k = refl
 
 -- An entry that is accepted changes nothing among the earlier requests.
 
-pub is_last-accepted : (r : Requests) (entry : Sqe) (k : ℕ) → k < length r.accepted → is_last (with_accepted r entry) k ≡ is_last r k
+pub is_last-accepted : (r : Requests) (entry : Sqe) (k : ℕ) → k < length r.accepted
+    → is_last (with_accepted r entry) k ≡ is_last r k
 is_last-accepted r entry k lt =
     ap (λ e. not (is_linked e) || list_any (λ cut. cut == k + 1) r.cuts) (entry_of-accepted_other r entry k (λ e. absurd (omega arith)))

@@ -26,11 +26,13 @@ first_member-more p from end le =
 
 pub first_member-none : (p : ℕ → Bool) (from : ℕ) → first_member p from from ≡ None
 unfolding first_member
-first_member-none p from = least_below-none (λ m. leb from m && p m) from (λ k lt. and_left _ _ (lt-leb from k lt))
+first_member-none p from =
+    least_below-none (λ m. leb from m && p m) from (λ k lt. and_left _ _ (lt-leb from k lt))
 
 -- An entry is accepted.
 
-longer : (r : Requests) (entry : Sqe) → length (with_accepted r entry).accepted ≡ length r.accepted + 1
+longer : (r : Requests) (entry : Sqe)
+    → length (with_accepted r entry).accepted ≡ length r.accepted + 1
 longer r entry = length-append r.accepted (entry ∷ [])
 
 -- behind a group that was closed
@@ -50,7 +52,8 @@ group-accepted r entry from end g closed =
 
 -- into the group that is open
 pub group-joined : (r : Requests) (entry : Sqe) (from : ℕ) → IsGroup r from (length r.accepted)
-    → ((k : ℕ) → suc k ≡ length r.accepted → is_last r k ≡ false) → IsGroup (with_accepted r entry) from (length r.accepted + 1)
+    → ((k : ℕ) → suc k ≡ length r.accepted → is_last r k ≡ false)
+    → IsGroup (with_accepted r entry) from (length r.accepted + 1)
 group-joined r entry from g joins =
     let more = longer r entry in
     let some = g.some in
@@ -65,7 +68,8 @@ group-joined r entry from g joins =
     }
 
 -- into a new group
-pub group-new : (r : Requests) (entry : Sqe) → ((k : ℕ) → suc k ≡ length r.accepted → is_last r k ≡ true)
+pub group-new : (r : Requests) (entry : Sqe)
+    → ((k : ℕ) → suc k ≡ length r.accepted → is_last r k ≡ true)
     → IsGroup (with_accepted r entry) (length r.accepted) (length r.accepted + 1)
 group-new r entry closed =
     let more = longer r entry in
@@ -81,34 +85,46 @@ pub entry-same : (r : Requests) (entry : Sqe) (p : Sqe → Bool) (m : ℕ) → m
     → p (entry_of (with_accepted r entry) m) ≡ p (entry_of r m)
 entry-same r entry p m lt = ap p (entry_of-accepted_other r entry m (λ e. absurd (omega arith)))
 
-pub first_entry-accepted : (r : Requests) (entry : Sqe) (p : Sqe → Bool) (from end : ℕ) → end ≤ length r.accepted
-    → first_member (λ m. p (entry_of (with_accepted r entry) m)) from end ≡ first_member (λ m. p (entry_of r m)) from end
-first_entry-accepted r entry p from end le = first_member-same _ _ from end (λ m lt. entry-same r entry p m (omega arith))
+pub first_entry-accepted : (r : Requests) (entry : Sqe) (p : Sqe → Bool) (from end : ℕ)
+    → end ≤ length r.accepted
+    → first_member (λ m. p (entry_of (with_accepted r entry) m)) from end
+    ≡ first_member (λ m. p (entry_of r m)) from end
+first_entry-accepted r entry p from end le =
+    first_member-same _ _ from end (λ m lt. entry-same r entry p m (omega arith))
 
-pub first_entry-more : (r : Requests) (entry : Sqe) (p : Sqe → Bool) (from : ℕ) → from ≤ length r.accepted
-    → first_member (λ m. p (entry_of (with_accepted r entry) m)) from (length r.accepted + 1) ≡ found_or (first_member (λ m. p (entry_of r m)) from (length r.accepted)) (p entry) (length r.accepted)
+pub first_entry-more : (r : Requests) (entry : Sqe) (p : Sqe → Bool) (from : ℕ)
+    → from ≤ length r.accepted
+    → first_member (λ m. p (entry_of (with_accepted r entry) m)) from (length r.accepted + 1)
+    ≡ found_or (first_member (λ m. p (entry_of r m)) from (length r.accepted)) (p entry) (length r.accepted)
 first_entry-more r entry p from le =
     first_member-more (λ m. p (entry_of (with_accepted r entry) m)) from (length r.accepted) le
     ∙ ap (λ o. found_or o (p (entry_of (with_accepted r entry) (length r.accepted))) (length r.accepted)) (first_entry-accepted r entry p from (length r.accepted) (omega arith))
     ∙ ap (λ e. found_or (first_member (λ m. p (entry_of r m)) from (length r.accepted)) (p e) (length r.accepted)) (entry_of-accepted_at r entry)
 
-broke-accepted : (r : Requests) (entry : Sqe) (m : ℕ) → has_ended r (length r.accepted) ≡ false → m < length r.accepted
-    → (is_soft (entry_of (with_accepted r entry) m) && has_failed (with_accepted r entry) m) ≡ (is_soft (entry_of r m) && has_failed r m)
+broke-accepted : (r : Requests) (entry : Sqe) (m : ℕ) → has_ended r (length r.accepted) ≡ false
+    → m < length r.accepted
+    → (is_soft (entry_of (with_accepted r entry) m) && has_failed (with_accepted r entry) m)
+    ≡ (is_soft (entry_of r m) && has_failed r m)
 broke-accepted r entry m none lt =
     ap (λ b. b && has_failed (with_accepted r entry) m) (entry-same r entry is_soft m lt)
     ∙ ap (λ b. is_soft (entry_of r m) && b) (has_failed-accepted r entry m none)
 
-pub first_broken-accepted : (r : Requests) (entry : Sqe) (from end : ℕ) → has_ended r (length r.accepted) ≡ false
-    → end ≤ length r.accepted → first_broken (with_accepted r entry) from end ≡ first_broken r from end
-first_broken-accepted r entry from end none le = first_member-same _ _ from end (λ m lt. broke-accepted r entry m none (omega arith))
+pub first_broken-accepted : (r : Requests) (entry : Sqe) (from end : ℕ)
+    → has_ended r (length r.accepted) ≡ false
+    → end ≤ length r.accepted
+    → first_broken (with_accepted r entry) from end ≡ first_broken r from end
+first_broken-accepted r entry from end none le =
+    first_member-same _ _ from end (λ m lt. broke-accepted r entry m none (omega arith))
 
 found_or-false : (o : Option ℕ) (n : ℕ) → found_or o false n ≡ o
 found_or-false None n = refl
 found_or-false (Some m) n = refl
 
-pub first_broken-more : (r : Requests) (entry : Sqe) (from : ℕ) → has_ended r (length r.accepted) ≡ false
+pub first_broken-more : (r : Requests) (entry : Sqe) (from : ℕ)
+    → has_ended r (length r.accepted) ≡ false
     → from ≤ length r.accepted
-    → first_broken (with_accepted r entry) from (length r.accepted + 1) ≡ first_broken r from (length r.accepted)
+    → first_broken (with_accepted r entry) from (length r.accepted + 1)
+    ≡ first_broken r from (length r.accepted)
 first_broken-more r entry from none le =
     first_member-more (λ m. is_soft (entry_of (with_accepted r entry) m) && has_failed (with_accepted r entry) m) from (length r.accepted) le
     ∙ ap (λ o. found_or o (is_soft (entry_of (with_accepted r entry) (length r.accepted)) && has_failed (with_accepted r entry) (length r.accepted)) (length r.accepted)) (first_broken-accepted r entry from (length r.accepted) none (omega arith))
@@ -117,10 +133,12 @@ first_broken-more r entry from none le =
 
 -- A call closes.
 
-pub is_last-cut : (r : Requests) (k : ℕ) → suc k ≢ length r.accepted → is_last (with_cut r) k ≡ is_last r k
+pub is_last-cut : (r : Requests) (k : ℕ) → suc k ≢ length r.accepted
+    → is_last (with_cut r) k ≡ is_last r k
 is_last-cut r k ne = ap (λ b. not (is_linked (entry_of r k)) || b) (added-other (λ cut. cut == k + 1) r.cuts (length r.accepted) (ne_eqb _ _ (λ e. ne (omega (arith, e)))))
 
-pub is_last-cut_last : (r : Requests) (k : ℕ) → suc k ≡ length r.accepted → is_last (with_cut r) k ≡ true
+pub is_last-cut_last : (r : Requests) (k : ℕ) → suc k ≡ length r.accepted
+    → is_last (with_cut r) k ≡ true
 is_last-cut_last r k e = or_right _ _ (added-same (λ cut. cut == k + 1) r.cuts (length r.accepted) (eq-eqb _ _ (omega arith)))
 
 is_last-kept : (r : Requests) (k : ℕ) → is_last r k ≡ true → is_last (with_cut r) k ≡ true
@@ -144,7 +162,8 @@ group-cut r from end g =
 -- A request ends.
 
 -- the test changes at one number
-pub first_member-changed : (p q : ℕ → Bool) (from end n : ℕ) → from ≤ n → n < end → p n ≡ false → ((m : ℕ) → m ≢ n → q m ≡ p m)
+pub first_member-changed : (p q : ℕ → Bool) (from end n : ℕ) → from ≤ n → n < end → p n ≡ false
+    → ((m : ℕ) → m ≢ n → q m ≡ p m)
     → first_member q from end ≡ earlier_of (first_member p from end) (q n) n
 unfolding first_member
 first_member-changed p q from end n le lt was others =
@@ -185,9 +204,11 @@ first_member-changed p q from end n le lt was others =
               ∙ ap (λ b. if b then Some n else Some k) (sym (le-ltb n k high))
         ]
 
-pub first_broken-ended : (r : Requests) (n : ℕ) (res : ℤ) (bytes : List ℕ) (from end : ℕ) → from ≤ n → n < end
+pub first_broken-ended : (r : Requests) (n : ℕ) (res : ℤ) (bytes : List ℕ) (from end : ℕ) → from ≤ n
+    → n < end
     → has_ended r n ≡ false
-    → first_broken (with_ended r n res bytes) from end ≡ earlier_of (first_broken r from end) (is_soft (entry_of r n) && not (is_success (entry_of r n) res)) n
+    → first_broken (with_ended r n res bytes) from end
+    ≡ earlier_of (first_broken r from end) (is_soft (entry_of r n) && not (is_success (entry_of r n) res)) n
 first_broken-ended r n res bytes from end le lt none =
     first_member-changed (λ m. is_soft (entry_of r m) && has_failed r m) (λ m. is_soft (entry_of r m) && has_failed (with_ended r n res bytes) m) from end n le lt
     (and_right _ _ (has_failed-unended r n none))
@@ -195,7 +216,8 @@ first_broken-ended r n res bytes from end le lt none =
     ∙ ap (λ b. earlier_of (first_broken r from end) (is_soft (entry_of r n) && b) n) (has_failed-same r n res bytes none)
 
 pub first_broken-elsewhere : (r : Requests) (n : ℕ) (res : ℤ) (bytes : List ℕ) (from end : ℕ)
-    → ((m : ℕ) → from ≤ m → m < end → m ≢ n) → first_broken (with_ended r n res bytes) from end ≡ first_broken r from end
+    → ((m : ℕ) → from ≤ m → m < end → m ≢ n)
+    → first_broken (with_ended r n res bytes) from end ≡ first_broken r from end
 unfolding first_member
 first_broken-elsewhere r n res bytes from end apart =
     least_below-same _ _ end
@@ -205,6 +227,13 @@ first_broken-elsewhere r n res bytes from end apart =
       | inr high ↦ ap (λ b. leb from m && (is_soft (entry_of r m) && b)) (has_failed-other r n res bytes m (apart m high lt))
     ])
 
-pub group-ended : (r : Requests) (n : ℕ) (res : ℤ) (bytes : List ℕ) (from end : ℕ) → IsGroup r from end
+pub group-ended : (r : Requests) (n : ℕ) (res : ℤ) (bytes : List ℕ) (from end : ℕ)
+    → IsGroup r from end
     → IsGroup (with_ended r n res bytes) from end
-group-ended r n res bytes from end g = record { some = g.some; accepted = g.accepted; begins = g.begins; joined = g.joined; ends = g.ends }
+group-ended r n res bytes from end g = record {
+  some = g.some;
+  accepted = g.accepted;
+  begins = g.begins;
+  joined = g.joined;
+  ends = g.ends;
+}

@@ -12,23 +12,29 @@ use Rattle.uring_entry.proofs.RequestLemmas.{is_joined-yes, is_joined-no, is_rea
 
 -- Who is a member.
 
-joined-before : (r : Requests) (from end m n : ℕ) → IsGroup r from end → m < from → from ≤ n → is_joined r m n ≡ false
+joined-before : (r : Requests) (from end m n : ℕ) → IsGroup r from end → m < from → from ≤ n
+    → is_joined r m n ≡ false
 joined-before r zero end m n g low le = absurd (omega arith)
-joined-before r (suc k) end m n g low le = is_joined-no r m n k (omega arith) (omega arith) (g.begins k refl)
+joined-before r (suc k) end m n g low le =
+    is_joined-no r m n k (omega arith) (omega arith) (g.begins k refl)
 
 -- an earlier request is in a member's group if it isn't before the first member
-pub joined-member : (r : Requests) (from end m n : ℕ) → IsGroup r from end → from ≤ n → n < end → m ≤ n → is_joined r m n ≡ leb from m
+pub joined-member : (r : Requests) (from end m n : ℕ) → IsGroup r from end → from ≤ n → n < end
+    → m ≤ n → is_joined r m n ≡ leb from m
 joined-member r from end m n g high lt le =
     elim (cases_lt m from) [
       | inl low ↦ joined-before r from end m n g low high ∙ sym (lt-leb from m low)
       | inr up ↦ is_joined-yes r m n (λ k a b. g.joined k (omega arith) (omega arith)) ∙ sym (le-leb from m up)
     ]
 
-joined-past : (r : Requests) (from end n m : ℕ) → IsGroup r from end → n < end → end ≤ m → m < length r.accepted → is_joined r n m ≡ false
+joined-past : (r : Requests) (from end n m : ℕ) → IsGroup r from end → n < end → end ≤ m
+    → m < length r.accepted → is_joined r n m ≡ false
 joined-past r from zero n m g lt past within = absurd (omega arith)
-joined-past r from (suc k) n m g lt past within = is_joined-no r n m k (omega arith) (omega arith) (g.ends k refl (omega arith))
+joined-past r from (suc k) n m g lt past within =
+    is_joined-no r n m k (omega arith) (omega arith) (g.ends k refl (omega arith))
 
-in_group-behind : (r : Requests) (from end n m : ℕ) → IsGroup r from end → from ≤ n → n < end → m < length r.accepted → n < m
+in_group-behind : (r : Requests) (from end n m : ℕ) → IsGroup r from end → from ≤ n → n < end
+    → m < length r.accepted → n < m
     → is_in_group r m n ≡ (leb from m && ltb m end)
 in_group-behind r from end n m g high lt within behind =
     let low : min m n ≡ n = omega arith in
@@ -41,7 +47,8 @@ in_group-behind r from end n m g high lt within behind =
       | inr past ↦ joined-past r from end n m g lt past within ∙ sym (and_right _ _ (le-ltb m end past))
     ]
 
-pub in_group-member : (r : Requests) (from end n m : ℕ) → IsGroup r from end → from ≤ n → n < end → m < length r.accepted
+pub in_group-member : (r : Requests) (from end n m : ℕ) → IsGroup r from end → from ≤ n → n < end
+    → m < length r.accepted
     → is_in_group r m n ≡ (leb from m && ltb m end)
 in_group-member r from end n m g high lt within =
     elim (cases_lt n m) [
@@ -55,7 +62,8 @@ in_group-member r from end n m g high lt within =
 
 -- Whether some member has a property.
 
-pub some_member-is : (r : Requests) (p : Sqe → Bool) (from end n : ℕ) → IsGroup r from end → from ≤ n → n < end
+pub some_member-is : (r : Requests) (p : Sqe → Bool) (from end n : ℕ) → IsGroup r from end
+    → from ≤ n → n < end
     → some_member r p n ≡ is_some (first_member (λ m. p (entry_of r m)) from end)
 unfolding some_member first_member
 some_member-is r p from end n g high lt =
@@ -77,7 +85,8 @@ pub faulty-is : (r : Requests) (from end n : ℕ) → IsGroup r from end → fro
 faulty-is r from end n g high lt = some_member-is r is_faulty from end n g high lt
 
 -- a search below a smaller bound, from the least below a larger one
-pub some_below-least : (p : ℕ → Bool) (end n : ℕ) → n ≤ end → some_below p n ≡ is_before (least_below p end) n
+pub some_below-least : (p : ℕ → Bool) (end n : ℕ) → n ≤ end
+    → some_below p n ≡ is_before (least_below p end) n
 some_below-least p end n le = go (least_below p end) refl
   where
     go : (o : Option ℕ) → least_below p end ≡ o → some_below p n ≡ is_before o n
@@ -101,7 +110,8 @@ behind-is r from end n g high lt =
 
 -- Whether a request is doomed depends on its group and its own cancellation.
 pub doomed-is : (r : Requests) (from end n : ℕ) → IsGroup r from end → from ≤ n → n < end
-    → is_doomed r n ≡ ((is_some (first_fault r from end) || is_before (first_broken r from end) n) || is_cancelled r n)
+    → is_doomed r n
+    ≡ ((is_some (first_fault r from end) || is_before (first_broken r from end) n) || is_cancelled r n)
 unfolding is_doomed
 doomed-is r from end n g high lt =
     ap (λ b. (b || is_behind_failure r n) || is_cancelled r n) (faulty-is r from end n g high lt)
@@ -109,12 +119,14 @@ doomed-is r from end n g high lt =
 
 -- Whether a request is ready depends on requests that haven't ended.
 
-waits-not : (r : Requests) (n m : ℕ) → is_joined r m n ≡ false → is_draining r m ≡ false → is_draining r n ≡ false
+waits-not : (r : Requests) (n m : ℕ) → is_joined r m n ≡ false → is_draining r m ≡ false
+    → is_draining r n ≡ false
     → holds_back r n m ≡ false
 waits-not r n m a b c = and_right _ _ (or_from _ _ (or_from _ _ a b) c)
 
 pub ready-yes : (r : Requests) (from end n : ℕ) → IsGroup r from end → from ≤ n → n < end
-    → ((m : ℕ) → from ≤ m → m < n → has_ended r m ≡ true) → ((m : ℕ) → m < from → has_ended r m ≡ false → is_draining r m ≡ false)
+    → ((m : ℕ) → from ≤ m → m < n → has_ended r m ≡ true)
+    → ((m : ℕ) → m < from → has_ended r m ≡ false → is_draining r m ≡ false)
     → (is_draining r n ≡ true → (m : ℕ) → m < from → has_ended r m ≡ true) → is_ready r n ≡ true
 ready-yes r from end n g high lt members drains alone =
     is_ready-yes r n
@@ -133,20 +145,27 @@ ready-yes r from end n g high lt members drains alone =
           ]
     ])
 
-pub ready-not_member : (r : Requests) (from end n m : ℕ) → IsGroup r from end → n < end → from ≤ m → m < n → has_ended r m ≡ false
+pub ready-not_member : (r : Requests) (from end n m : ℕ) → IsGroup r from end → n < end → from ≤ m
+    → m < n → has_ended r m ≡ false
     → is_ready r n ≡ false
 ready-not_member r from end n m g lt inside low going =
     is_ready-no r n m low
     (and_from _ _ (ap not going) (or_left _ _ (or_left _ _ (joined-member r from end m n g (omega arith) lt (omega arith) ∙ le-leb from m inside))))
 
-pub ready-not_alone : (r : Requests) (n m : ℕ) → m < n → has_ended r m ≡ false → is_draining r n ≡ true → is_ready r n ≡ false
-ready-not_alone r n m low going drains = is_ready-no r n m low (and_from _ _ (ap not going) (or_right _ _ drains))
+pub ready-not_alone : (r : Requests) (n m : ℕ) → m < n → has_ended r m ≡ false
+    → is_draining r n ≡ true → is_ready r n ≡ false
+ready-not_alone r n m low going drains =
+    is_ready-no r n m low (and_from _ _ (ap not going) (or_right _ _ drains))
 
-pub ready-not_behind : (r : Requests) (n m : ℕ) → m < n → has_ended r m ≡ false → is_draining r m ≡ true → is_ready r n ≡ false
-ready-not_behind r n m low going drains = is_ready-no r n m low (and_from _ _ (ap not going) (or_left _ _ (or_right _ _ drains)))
+pub ready-not_behind : (r : Requests) (n m : ℕ) → m < n → has_ended r m ≡ false
+    → is_draining r m ≡ true → is_ready r n ≡ false
+ready-not_behind r n m low going drains =
+    is_ready-no r n m low (and_from _ _ (ap not going) (or_left _ _ (or_right _ _ drains)))
 
 -- If the least member of a group that hasn't ended isn't ready, no later request is: what holds it back drains, or the group does, and either holds back all that is later.
-pub ready-not_later : (r : Requests) (from end n k : ℕ) → IsGroup r from end → from ≤ n → n < end → ((m : ℕ) → from ≤ m → m < n → has_ended r m ≡ true) → has_ended r n ≡ false → is_ready r n ≡ false → n < k → is_ready r k ≡ false
+pub ready-not_later : (r : Requests) (from end n k : ℕ) → IsGroup r from end → from ≤ n → n < end
+    → ((m : ℕ) → from ≤ m → m < n → has_ended r m ≡ true) → has_ended r n ≡ false
+    → is_ready r n ≡ false → n < k → is_ready r k ≡ false
 unfolding is_ready
 ready-not_later r from end n k g high lt members going waits behind =
     let found = some_below-in (holds_back r n) n (not-false _ waits) in
@@ -168,13 +187,16 @@ ready-not_later r from end n k g high lt members going waits behind =
     ]
 
 -- Two groups of which one begins before the other ends are one: a member of an earlier group lies before the later group.
-pub groups-apart : (r : Requests) (from end first last m : ℕ) → IsGroup r from end → IsGroup r first last → from ≤ m → m < end
+pub groups-apart : (r : Requests) (from end first last m : ℕ) → IsGroup r from end
+    → IsGroup r first last → from ≤ m → m < end
     → m < first → first < end → ⊥
 groups-apart r from end zero last m g h high lt low inside = omega arith
-groups-apart r from end (suc k) last m g h high lt low inside = both_ways _ (g.joined k (omega arith) (omega arith)) (h.begins k refl)
+groups-apart r from end (suc k) last m g h high lt low inside =
+    both_ways _ (g.joined k (omega arith) (omega arith)) (h.begins k refl)
 
 -- a least member that was found is a member
-pub first_member-inside : (p : ℕ → Bool) (from end k : ℕ) → first_member p from end ≡ Some k → (from ≤ k) × (k < end) × (p k ≡ true)
+pub first_member-inside : (p : ℕ → Bool) (from end k : ℕ) → first_member p from end ≡ Some k
+    → (from ≤ k) × (k < end) × (p k ≡ true)
 unfolding first_member
 first_member-inside p from end k e =
     let least = least_below-tells (λ m. leb from m && p m) end k e in

@@ -15,7 +15,8 @@ all_taken i bytes words i_is bytes_length words_length same =
     sym a ∙ e ∙ ap bytes_of b
 
 -- one word more
-pub word_more : (i : ℕ) (bytes words : List ℕ) (word : ℕ) → i < length words → bytes_of (take i words) ≡ take (8 * i) bytes
+pub word_more : (i : ℕ) (bytes words : List ℕ) (word : ℕ) → i < length words
+    → bytes_of (take i words) ≡ take (8 * i) bytes
     → to_le_bytes w64 word ≡ take 8 (drop (8 * i) bytes)
     → bytes_of (take (i + 1) (set words i word)) ≡ take (8 * (i + 1)) bytes
 word_more i bytes words word within same last =
@@ -27,7 +28,8 @@ pub last_eight : (words : List ℕ) → length words ≡ 16 → take 8 (drop 8 w
 last_eight words size = grind (arith, common_steps)
 
 -- one word set
-pub words_set : (i word : ℕ) (words : List ℕ) → word < 2 ^ 64 → AreWords words → AreWords (set words i word)
+pub words_set : (i word : ℕ) (words : List ℕ) → word < 2 ^ 64 → AreWords words
+    → AreWords (set words i word)
 words_set i word [] lt h = tt
 words_set zero word (w ∷ words) lt h = (lt, h.1)
 words_set (suc i) word (w ∷ words) lt h = (h.0, words_set i word words lt h.1)

@@ -15,8 +15,10 @@ half_power a b lower =
     omega arith
 
 power_cases : (p q a b : ℕ) → p ≡ 2 ^ a → q ≡ 2 ^ b → p < 2 * q → (b < a) ⊎ (a ≤ b) → p ≤ q
-power_cases p q a b p_is q_is below (inl lower) = let h : 2 * 2 ^ b ≤ 2 ^ a = half_power b a lower in absurd (omega arith)
-power_cases p q a b p_is q_is below (inr higher) = let h : 2 ^ a ≤ 2 ^ b = pow_mono higher in omega arith
+power_cases p q a b p_is q_is below (inl lower) =
+    let h : 2 * 2 ^ b ≤ 2 ^ a = half_power b a lower in absurd (omega arith)
+power_cases p q a b p_is q_is below (inr higher) =
+    let h : 2 ^ a ≤ 2 ^ b = pow_mono higher in omega arith
 
 -- of two powers, the one below twice the other is at most the other
 pub power_within : (p q : ℕ) → IsPowerOfTwo p → IsPowerOfTwo q → p < 2 * q → p ≤ q

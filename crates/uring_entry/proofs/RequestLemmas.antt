@@ -18,18 +18,22 @@ use Rattle.uring_entry.proofs.BelowLemmas.{some_below-none, some_below-some, lea
 
 -- Groups.
 
-pub is_joined-yes : (r : Requests) (m n : ℕ) → ((k : ℕ) → m ≤ k → k < n → is_last r k ≡ false) → is_joined r m n ≡ true
+pub is_joined-yes : (r : Requests) (m n : ℕ) → ((k : ℕ) → m ≤ k → k < n → is_last r k ≡ false)
+    → is_joined r m n ≡ true
 unfolding is_joined
 is_joined-yes r m n h =
     ap not
     (some_below-none (λ k. leb m k && is_last r k) n
     (λ k lt. elim (cases_lt k m) [ inl low ↦ and_left _ _ (lt-leb m k low) | inr high ↦ and_right _ _ (h k high lt) ]))
 
-pub is_joined-no : (r : Requests) (m n k : ℕ) → m ≤ k → k < n → is_last r k ≡ true → is_joined r m n ≡ false
+pub is_joined-no : (r : Requests) (m n k : ℕ) → m ≤ k → k < n → is_last r k ≡ true
+    → is_joined r m n ≡ false
 unfolding is_joined
-is_joined-no r m n k le lt e = ap not (some_below-some (λ j. leb m j && is_last r j) n k lt (and_from _ _ (le-leb m k le) e))
+is_joined-no r m n k le lt e =
+    ap not (some_below-some (λ j. leb m j && is_last r j) n k lt (and_from _ _ (le-leb m k le) e))
 
-pub is_joined-inside : (r : Requests) (m n k : ℕ) → is_joined r m n ≡ true → m ≤ k → k < n → is_last r k ≡ false
+pub is_joined-inside : (r : Requests) (m n k : ℕ) → is_joined r m n ≡ true → m ≤ k → k < n
+    → is_last r k ≡ false
 is_joined-inside r m n k joined le lt =
     elim (cases_Bool (is_last r k)) [
       | inl last ↦ absurd (both_ways _ (is_joined-no r m n k le lt last) joined)
@@ -57,17 +61,20 @@ is_in_own_group r n =
     let high : max n n ≡ n = omega arith in
     ap (λ m. is_joined r m (max n n)) low ∙ ap (is_joined r n) high ∙ is_joined-yes r n n (λ k le lt. absurd (omega arith))
 
-pub some_member-own : (r : Requests) (p : Sqe → Bool) (n : ℕ) → n < length r.accepted → p (entry_of r n) ≡ true → some_member r p n ≡ true
+pub some_member-own : (r : Requests) (p : Sqe → Bool) (n : ℕ) → n < length r.accepted
+    → p (entry_of r n) ≡ true → some_member r p n ≡ true
 unfolding some_member
 some_member-own r p n lt e = some_below-some (λ m. is_in_group r m n && p (entry_of r m)) (length r.accepted) n lt (and_from _ _ (is_in_own_group r n) e)
 
 -- a request's own fault dooms it
-pub is_doomed-own_fault : (r : Requests) (n : ℕ) → n < length r.accepted → is_faulty (entry_of r n) ≡ true → is_doomed r n ≡ true
+pub is_doomed-own_fault : (r : Requests) (n : ℕ) → n < length r.accepted
+    → is_faulty (entry_of r n) ≡ true → is_doomed r n ≡ true
 is_doomed-own_fault r n lt e = is_doomed-faulty r n (some_member-own r is_faulty n lt e)
 
 -- Who may start.
 
-pub is_ready-yes : (r : Requests) (n : ℕ) → ((m : ℕ) → m < n → holds_back r n m ≡ false) → is_ready r n ≡ true
+pub is_ready-yes : (r : Requests) (n : ℕ) → ((m : ℕ) → m < n → holds_back r n m ≡ false)
+    → is_ready r n ≡ true
 unfolding is_ready
 is_ready-yes r n h = ap not (some_below-none (holds_back r n) n h)
 
@@ -75,7 +82,8 @@ pub is_ready-no : (r : Requests) (n m : ℕ) → m < n → holds_back r n m ≡ 
 unfolding is_ready
 is_ready-no r n m lt e = ap not (some_below-some (holds_back r n) n m lt e)
 
-pub is_ready-inside : (r : Requests) (n m : ℕ) → is_ready r n ≡ true → m < n → holds_back r n m ≡ false
+pub is_ready-inside : (r : Requests) (n m : ℕ) → is_ready r n ≡ true → m < n
+    → holds_back r n m ≡ false
 is_ready-inside r n m ready lt =
     elim (cases_Bool (holds_back r n m)) [
       | inl back ↦ absurd (both_ways _ (is_ready-no r n m lt back) ready)
@@ -84,32 +92,38 @@ is_ready-inside r n m ready lt =
 
 -- What a cancel chooses.
 
-pub target_of-none : (r : Requests) (n : ℕ) → ((m : ℕ) → m < length r.accepted → is_candidate r n m ≡ false) → target_of r n ≡ None
+pub target_of-none : (r : Requests) (n : ℕ)
+    → ((m : ℕ) → m < length r.accepted → is_candidate r n m ≡ false) → target_of r n ≡ None
 unfolding target_of
 target_of-none r n h = least_below-none (is_candidate r n) (length r.accepted) h
 
 pub target_of-some : (r : Requests) (n m : ℕ) → m < length r.accepted → is_candidate r n m ≡ true
     → ((k : ℕ) → k < m → is_candidate r n k ≡ false) → target_of r n ≡ Some m
 unfolding target_of
-target_of-some r n m lt e before = least_below-some (is_candidate r n) (length r.accepted) m lt e before
+target_of-some r n m lt e before =
+    least_below-some (is_candidate r n) (length r.accepted) m lt e before
 
-pub target-in : (r : Requests) (n m : ℕ) → list_any (λ k. k == m) (targets_of r n) ≡ true → is_target r n m ≡ true
+pub target-in : (r : Requests) (n m : ℕ) → list_any (λ k. k == m) (targets_of r n) ≡ true
+    → is_target r n m ≡ true
 unfolding targets_of
 target-in r n m e = (all_below-in (is_target r n) (length r.accepted) m e).1
 
-pub target-there : (r : Requests) (n m : ℕ) → m < length r.accepted → is_target r n m ≡ true → list_any (λ k. k == m) (targets_of r n) ≡ true
+pub target-there : (r : Requests) (n m : ℕ) → m < length r.accepted → is_target r n m ≡ true
+    → list_any (λ k. k == m) (targets_of r n) ≡ true
 unfolding targets_of
 target-there r n m lt e = all_below-there (is_target r n) (length r.accepted) m lt e
 
 -- When a cancel succeeded.
 
-pub one_success : (e : Sqe) (res : ℤ) → is_cancel e ≡ true → is_cancel_all e ≡ false → is_success e res ≡ int_eq res (pos 0)
+pub one_success : (e : Sqe) (res : ℤ) → is_cancel e ≡ true → is_cancel_all e ≡ false
+    → is_success e res ≡ int_eq res (pos 0)
 one_success e res is one =
     let code : opcode_of e ≡ 14 = eqb-true (opcode_of e) 14 is in
     ap (λ b. if b then int_le (pos 0) res else int_eq res (pos (if is_transfer e then len_of e else 0))) one
     ∙ ap (λ o. int_eq res (pos (if (o == READ) || (o == WRITE) then len_of e else 0))) code
 
-pub all_success : (e : Sqe) (res : ℤ) → is_cancel_all e ≡ true → is_success e res ≡ int_le (pos 0) res
+pub all_success : (e : Sqe) (res : ℤ) → is_cancel_all e ≡ true
+    → is_success e res ≡ int_le (pos 0) res
 all_success e res all = ap (λ b. if b then int_le (pos 0) res else int_eq res (pos (if is_transfer e then len_of e else 0))) all
 
 -- nothing succeeds with the negative of a number
@@ -120,7 +134,8 @@ never_success e below = by_all (is_cancel_all e) where
   by_all false = refl
 
 -- what is before the least outstanding request has ended
-ended-before : (r : Requests) (n m : ℕ) → IsLeast (is_outstanding r) (length r.accepted) n → m < n → has_ended r m ≡ true
+ended-before : (r : Requests) (n m : ℕ) → IsLeast (is_outstanding r) (length r.accepted) n → m < n
+    → has_ended r m ≡ true
 ended-before r n m least lt =
     elim (and_cases _ _ (least.before m lt)) [
       | inl out ↦ absurd (both_ways _ out (lt-ltb m (length r.accepted) (omega (arith, least.below))))
@@ -128,7 +143,8 @@ ended-before r n m least lt =
     ]
 
 -- the least outstanding request is running, or can be issued
-pub least_of-goes_on : (r : Requests) (n : ℕ) → least_of r ≡ Some n → (is_running r n || is_issuable r n) ≡ true
+pub least_of-goes_on : (r : Requests) (n : ℕ) → least_of r ≡ Some n
+    → (is_running r n || is_issuable r n) ≡ true
 least_of-goes_on r n e =
     let least = least_below-tells (is_outstanding r) (length r.accepted) n e in
     let ready = is_ready-yes r n (λ m lt. and_left _ _ (ap not (ended-before r n m least lt))) in
@@ -141,45 +157,57 @@ least_of-goes_on r n e =
 
 -- What each event changes.
 
-pub list_any-push : {X : Type 0} (p : X → Bool) (xs : List X) (x : X) → list_any p (xs ++ x ∷ []) ≡ (list_any p xs || p x)
+pub list_any-push : {X : Type 0} (p : X → Bool) (xs : List X) (x : X)
+    → list_any p (xs ++ x ∷ []) ≡ (list_any p xs || p x)
 list_any-push p xs x = list_any-append p xs (x ∷ []) ∙ ap (λ b. list_any p xs || b) (or-false (p x))
 
 -- an element is added at the end that the test at k passes, or that it doesn't
-pub added-same : {X : Type 0} (p : X → Bool) (xs : List X) (x : X) → p x ≡ true → list_any p (xs ++ x ∷ []) ≡ true
+pub added-same : {X : Type 0} (p : X → Bool) (xs : List X) (x : X) → p x ≡ true
+    → list_any p (xs ++ x ∷ []) ≡ true
 added-same p xs x e = list_any-push p xs x ∙ or_right _ _ e
 
-pub added-other : {X : Type 0} (p : X → Bool) (xs : List X) (x : X) → p x ≡ false → list_any p (xs ++ x ∷ []) ≡ list_any p xs
+pub added-other : {X : Type 0} (p : X → Bool) (xs : List X) (x : X) → p x ≡ false
+    → list_any p (xs ++ x ∷ []) ≡ list_any p xs
 added-other p xs x e = list_any-push p xs x ∙ ap (λ b. list_any p xs || b) e ∙ or-false _
 
-pub has_ended-same : (r : Requests) (n : ℕ) (res : ℤ) (bytes : List ℕ) → has_ended (with_ended r n res bytes) n ≡ true
+pub has_ended-same : (r : Requests) (n : ℕ) (res : ℤ) (bytes : List ℕ)
+    → has_ended (with_ended r n res bytes) n ≡ true
 has_ended-same r n res bytes = added-same (λ e. e.number == n) r.ended _ (eq-eqb n n refl)
 
 pub has_ended-other : (r : Requests) (n : ℕ) (res : ℤ) (bytes : List ℕ) (k : ℕ) → k ≢ n
     → has_ended (with_ended r n res bytes) k ≡ has_ended r k
-has_ended-other r n res bytes k ne = added-other (λ e. e.number == k) r.ended _ (ne_eqb n k (λ e. ne (sym e)))
+has_ended-other r n res bytes k ne =
+    added-other (λ e. e.number == k) r.ended _ (ne_eqb n k (λ e. ne (sym e)))
 
-pub is_running-ended_same : (r : Requests) (n : ℕ) (res : ℤ) (bytes : List ℕ) → is_running (with_ended r n res bytes) n ≡ false
+pub is_running-ended_same : (r : Requests) (n : ℕ) (res : ℤ) (bytes : List ℕ)
+    → is_running (with_ended r n res bytes) n ≡ false
 is_running-ended_same r n res bytes = and_right _ _ (ap not (has_ended-same r n res bytes))
 
 pub is_running-ended_other : (r : Requests) (n : ℕ) (res : ℤ) (bytes : List ℕ) (k : ℕ) → k ≢ n
     → is_running (with_ended r n res bytes) k ≡ is_running r k
-is_running-ended_other r n res bytes k ne = ap (λ b. has_started r k && not b) (has_ended-other r n res bytes k ne)
+is_running-ended_other r n res bytes k ne =
+    ap (λ b. has_started r k && not b) (has_ended-other r n res bytes k ne)
 
-pub is_running-started_same : (r : Requests) (n : ℕ) → has_ended r n ≡ false → is_running (with_started r n) n ≡ true
-is_running-started_same r n e = and_from _ _ (added-same (λ m. m == n) r.started n (eq-eqb n n refl)) (ap not e)
+pub is_running-started_same : (r : Requests) (n : ℕ) → has_ended r n ≡ false
+    → is_running (with_started r n) n ≡ true
+is_running-started_same r n e =
+    and_from _ _ (added-same (λ m. m == n) r.started n (eq-eqb n n refl)) (ap not e)
 
-pub is_running-started_other : (r : Requests) (n k : ℕ) → k ≢ n → is_running (with_started r n) k ≡ is_running r k
+pub is_running-started_other : (r : Requests) (n k : ℕ) → k ≢ n
+    → is_running (with_started r n) k ≡ is_running r k
 is_running-started_other r n k ne =
     ap (λ b. b && not (has_ended r k)) (added-other (λ m. m == k) r.started n (ne_eqb n k (λ e. ne (sym e))))
 
-list_any-both : {X : Type 0} (p q : X → Bool) (xs : List X) → list_any p xs ≡ false → list_any (λ x. p x && q x) xs ≡ false
+list_any-both : {X : Type 0} (p q : X → Bool) (xs : List X) → list_any p xs ≡ false
+    → list_any (λ x. p x && q x) xs ≡ false
 list_any-both p q [] e = refl
 list_any-both p q (x ∷ xs) e =
     let parts = or_parts (p x) (list_any p xs) e in
     or_from _ _ (and_left _ _ parts.0) (list_any-both p q xs parts.1)
 
 pub has_failed-unended : (r : Requests) (k : ℕ) → has_ended r k ≡ false → has_failed r k ≡ false
-has_failed-unended r k e = list_any-both (λ x. x.number == k) (λ x. not (is_success (entry_of r k) x.res)) r.ended e
+has_failed-unended r k e =
+    list_any-both (λ x. x.number == k) (λ x. not (is_success (entry_of r k) x.res)) r.ended e
 
 pub has_failed-same : (r : Requests) (n : ℕ) (res : ℤ) (bytes : List ℕ) → has_ended r n ≡ false
     → has_failed (with_ended r n res bytes) n ≡ not (is_success (entry_of r n) res)
@@ -195,7 +223,8 @@ has_failed-other r n res bytes k ne =
     (and_left _ _ (ne_eqb n k (λ e. ne (sym e))))
 
 -- an element added at the end stands there alone
-pub get_or-push_other : {X : Type 0} (xs : List X) (x : X) (k : ℕ) (d : X) → k ≢ length xs → get_or (xs ++ x ∷ []) k d ≡ get_or xs k d
+pub get_or-push_other : {X : Type 0} (xs : List X) (x : X) (k : ℕ) (d : X) → k ≢ length xs
+    → get_or (xs ++ x ∷ []) k d ≡ get_or xs k d
 get_or-push_other xs x k d ne =
     elim (cases_lt k (length xs)) [
       | inl low ↦ get_or-append xs (x ∷ []) d k low
@@ -203,14 +232,16 @@ get_or-push_other xs x k d ne =
           get_or_past (xs ++ x ∷ []) k d (omega (arith, length-append xs (x ∷ []))) ∙ sym (get_or_past xs k d high)
     ]
 
-pub entry_of-accepted_at : (r : Requests) (entry : Sqe) → entry_of (with_accepted r entry) (length r.accepted) ≡ entry
+pub entry_of-accepted_at : (r : Requests) (entry : Sqe)
+    → entry_of (with_accepted r entry) (length r.accepted) ≡ entry
 entry_of-accepted_at r entry = get_or-append_seam r.accepted entry [] zero_entry
 
 pub entry_of-accepted_other : (r : Requests) (entry : Sqe) (k : ℕ) → k ≢ length r.accepted
     → entry_of (with_accepted r entry) k ≡ entry_of r k
 entry_of-accepted_other r entry k ne = get_or-push_other r.accepted entry k zero_entry ne
 
-pub has_failed-accepted : (r : Requests) (entry : Sqe) (k : ℕ) → has_ended r (length r.accepted) ≡ false
+pub has_failed-accepted : (r : Requests) (entry : Sqe) (k : ℕ)
+    → has_ended r (length r.accepted) ≡ false
     → has_failed (with_accepted r entry) k ≡ has_failed r k
 has_failed-accepted r entry k none =
     elim (cases_eq k (length r.accepted)) [

@@ -10,6 +10,8 @@ not_outside low high n from to (inl below) = omega arith
 not_outside low high n from to (inr above) = omega arith
 
 -- the submission ring's size is the one way to round it
-pub at_any_rounding : (sq size : ℕ) (cq : Option ℕ) → 1 ≤ sq → IsNextPowerOfTwo sq size → IsBadCq size cq → (p : ℕ)
+pub at_any_rounding : (sq size : ℕ) (cq : Option ℕ) → 1 ≤ sq → IsNextPowerOfTwo sq size
+    → IsBadCq size cq → (p : ℕ)
     → IsNextPowerOfTwo sq p → IsBadCq p cq
-at_any_rounding sq size cq some rounded bad p also = subst (λ s. IsBadCq s cq) (rounded_once sq size p rounded also some) bad
+at_any_rounding sq size cq some rounded bad p also =
+    subst (λ s. IsBadCq s cq) (rounded_once sq size p rounded also some) bad

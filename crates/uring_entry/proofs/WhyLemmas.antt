@@ -16,7 +16,8 @@ use Rattle.uring_entry.proofs.GroupLemmas.{in_group-member, joined-member}
 -- What dooms it.
 
 -- a bound that goes further, over numbers at which the test fails
-least_below-between : (p : ℕ → Bool) (n m : ℕ) → n ≤ m → ((k : ℕ) → n ≤ k → k < m → p k ≡ false) → least_below p m ≡ least_below p n
+least_below-between : (p : ℕ → Bool) (n m : ℕ) → n ≤ m → ((k : ℕ) → n ≤ k → k < m → p k ≡ false)
+    → least_below p m ≡ least_below p n
 least_below-between p n m le h = go (least_below p n) refl
   where
     go : (o : Option ℕ) → least_below p n ≡ o → least_below p m ≡ o
@@ -26,7 +27,8 @@ least_below-between p n m le h = go (least_below p n) refl
         least_below-some p m k (omega (arith, least.below)) least.holds least.before
 
 -- the least member with a fault
-pub faulty_member-is : (r : Requests) (from end n : ℕ) → IsGroup r from end → from ≤ n → n < end → faulty_member_of r n ≡ first_fault r from end
+pub faulty_member-is : (r : Requests) (from end n : ℕ) → IsGroup r from end → from ≤ n → n < end
+    → faulty_member_of r n ≡ first_fault r from end
 unfolding first_member
 faulty_member-is r from end n g high lt =
     least_below-between (is_faulty_member r n) end (length r.accepted) g.accepted
@@ -37,20 +39,23 @@ faulty_member-is r from end n g high lt =
     ap (λ b. b && is_faulty (entry_of r m))
     (in_group-member r from end n m g high lt (omega arith) ∙ ap (λ b. leb from m && b) (lt-ltb m end inside) ∙ and-true (leb from m)))
 
-failure-is : (r : Requests) (from end n m : ℕ) → IsGroup r from end → from ≤ n → n < end → m < n → is_failure_before r n m ≡ (leb from m && (is_soft (entry_of r m) && has_failed r m))
+failure-is : (r : Requests) (from end n m : ℕ) → IsGroup r from end → from ≤ n → n < end → m < n
+    → is_failure_before r n m ≡ (leb from m && (is_soft (entry_of r m) && has_failed r m))
 failure-is r from end n m g high lt low =
     and_assoc (is_joined r m n) _ _
     ∙ ap (λ b. b && (is_soft (entry_of r m) && has_failed r m)) (joined-member r from end m n g high lt (omega arith))
 
 -- the least earlier one that failed, if it is before n
-pub failed_member-before : (r : Requests) (from end n m : ℕ) → IsGroup r from end → from ≤ n → n < end → first_broken r from end ≡ Some m → m < n → failed_member_of r n ≡ Some m
+pub failed_member-before : (r : Requests) (from end n m : ℕ) → IsGroup r from end → from ≤ n
+    → n < end → first_broken r from end ≡ Some m → m < n → failed_member_of r n ≡ Some m
 unfolding first_member
 failed_member-before r from end n m g high lt e low =
     let least = least_below-tells (λ k. leb from k && (is_soft (entry_of r k) && has_failed r k)) end m e in
     least_below-some (is_failure_before r n) n m low (failure-is r from end n m g high lt low ∙ least.holds)
     (λ j under. failure-is r from end n j g high lt (omega arith) ∙ least.before j under)
 
-pub failed_member-none : (r : Requests) (from end n : ℕ) → IsGroup r from end → from ≤ n → n < end → is_before (first_broken r from end) n ≡ false → failed_member_of r n ≡ None
+pub failed_member-none : (r : Requests) (from end n : ℕ) → IsGroup r from end → from ≤ n → n < end
+    → is_before (first_broken r from end) n ≡ false → failed_member_of r n ≡ None
 unfolding first_member
 failed_member-none r from end n g high lt e =
     least_below-none (is_failure_before r n) n (λ j under. failure-is r from end n j g high lt under ∙ none (first_broken r from end) refl e j under)
@@ -78,10 +83,12 @@ IsTold r n NeverAccepted = length r.accepted ≤ n
 IsTold r n HasEnded = (n < length r.accepted) × (has_ended r n ≡ true)
 IsTold r n Runs = (n < length r.accepted) × (has_ended r n ≡ false) × (is_running r n ≡ true)
 IsTold r n (IsDoomed doom) = StillWaits r n × (is_doomed r n ≡ true) × (doom ≡ doom_of r n)
-IsTold r n (Waits m since) = StillWaits r n × (is_doomed r n ≡ false) × (holder_of r n ≡ Some m) × (since ≡ since_of r n m)
+IsTold r n (Waits m since) =
+    StillWaits r n × (is_doomed r n ≡ false) × (holder_of r n ≡ Some m) × (since ≡ since_of r n m)
 IsTold r n MayStart = StillWaits r n × (is_doomed r n ≡ false) × (holder_of r n ≡ None)
 
-waiting-told : (r : Requests) (n : ℕ) (o : Option ℕ) → StillWaits r n → is_doomed r n ≡ false → holder_of r n ≡ o → IsTold r n (waiting_for r n o)
+waiting-told : (r : Requests) (n : ℕ) (o : Option ℕ) → StillWaits r n → is_doomed r n ≡ false
+    → holder_of r n ≡ o → IsTold r n (waiting_for r n o)
 waiting-told r n (Some m) s free e = (s, free, e, refl)
 waiting-told r n None s free e = (s, free, e)
 
@@ -98,20 +105,24 @@ from_ended r n ended = if ended then HasEnded else from_running r n (is_running 
 abbrev from_given : Requests → ℕ → Bool → Why
 from_given r n given = if not given then NeverAccepted else from_ended r n (has_ended r n)
 
-told-doomed : (r : Requests) (n : ℕ) (b : Bool) → StillWaits r n → is_doomed r n ≡ b → IsTold r n (from_doomed r n b)
+told-doomed : (r : Requests) (n : ℕ) (b : Bool) → StillWaits r n → is_doomed r n ≡ b
+    → IsTold r n (from_doomed r n b)
 told-doomed r n true s e = (s, e, refl)
 told-doomed r n false s e = waiting-told r n (holder_of r n) s e refl
 
-told-running : (r : Requests) (n : ℕ) (b : Bool) → n < length r.accepted → has_ended r n ≡ false → is_running r n ≡ b → IsTold r n (from_running r n b)
+told-running : (r : Requests) (n : ℕ) (b : Bool) → n < length r.accepted → has_ended r n ≡ false
+    → is_running r n ≡ b → IsTold r n (from_running r n b)
 told-running r n true lt going e = (lt, going, e)
 told-running r n false lt going e =
     told-doomed r n (is_doomed r n) (record { given = lt; unended = going; unstarted = e }) refl
 
-told-ended : (r : Requests) (n : ℕ) (b : Bool) → n < length r.accepted → has_ended r n ≡ b → IsTold r n (from_ended r n b)
+told-ended : (r : Requests) (n : ℕ) (b : Bool) → n < length r.accepted → has_ended r n ≡ b
+    → IsTold r n (from_ended r n b)
 told-ended r n true lt e = (lt, e)
 told-ended r n false lt e = told-running r n (is_running r n) lt e refl
 
-told-given : (r : Requests) (n : ℕ) (b : Bool) → ltb n (length r.accepted) ≡ b → IsTold r n (from_given r n b)
+told-given : (r : Requests) (n : ℕ) (b : Bool) → ltb n (length r.accepted) ≡ b
+    → IsTold r n (from_given r n b)
 told-given r n true e = told-ended r n (has_ended r n) (ltb-true n (length r.accepted) e) refl
 told-given r n false e =
     elim (cases_lt n (length r.accepted)) [
@@ -131,8 +142,10 @@ why-still : (r : Requests) (n : ℕ) → StillWaits r n → why_of r n ≡ from_
 why-still r n s =
     ap (from_given r n) (lt-ltb n (length r.accepted) s.given) ∙ ap (from_ended r n) s.unended ∙ ap (from_running r n) s.unstarted
 
-pub why-doomed : (r : Requests) (n : ℕ) → StillWaits r n → is_doomed r n ≡ true → why_of r n ≡ IsDoomed (doom_of r n)
+pub why-doomed : (r : Requests) (n : ℕ) → StillWaits r n → is_doomed r n ≡ true
+    → why_of r n ≡ IsDoomed (doom_of r n)
 why-doomed r n s doomed = why-still r n s ∙ ap (from_doomed r n) doomed
 
-pub why-waiting : (r : Requests) (n : ℕ) → StillWaits r n → is_doomed r n ≡ false → why_of r n ≡ waiting_for r n (holder_of r n)
+pub why-waiting : (r : Requests) (n : ℕ) → StillWaits r n → is_doomed r n ≡ false
+    → why_of r n ≡ waiting_for r n (holder_of r n)
 why-waiting r n s free = why-still r n s ∙ ap (from_doomed r n) free

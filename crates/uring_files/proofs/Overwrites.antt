@@ -11,20 +11,25 @@ some_bytes : (n : ℕ) (xs ys : List ℕ) → 1 ≤ n → (if n == 0 then xs els
 some_bytes n xs ys some = search rules
 
 -- what is written into bytes that were filled up with zeros
-pub replaced_is : (old new : List ℕ) (off n : ℕ) → 1 ≤ length new → n ≡ max (length old) (off + length new)
-    → take off (take n old ++ replicate (n - length old) 0) ++ new ++ drop (off + length new) (take n old ++ replicate (n - length old) 0) ≡ overwritten old off new
+pub replaced_is : (old new : List ℕ) (off n : ℕ) → 1 ≤ length new
+    → n ≡ max (length old) (off + length new)
+    → take off (take n old ++ replicate (n - length old) 0) ++ new ++ drop (off + length new) (take n old ++ replicate (n - length old) 0)
+    ≡ overwritten old off new
 replaced_is old new off n some size =
     let whole : take n old ≡ old = take_all n old (omega arith) in
     rw (whole, some_bytes (length new) _ _ some) (same_number_lists _ _ (grind (arith, places)) (λ k within. grind (arith, places)))
 
 -- a slice of a vector after its elements were replaced
-pub whole_part : (new old : List ℕ) (len : ℕ) → length new ≡ length old → len ≡ length old → take len (new ++ drop (length new) old) ≡ new
+pub whole_part : (new old : List ℕ) (len : ℕ) → length new ≡ length old → len ≡ length old
+    → take len (new ++ drop (length new) old) ≡ new
 whole_part new old len same all = grind (arith, common_steps)
 
 -- bytes filled up with zeros and then written over as a slice
-pub filled_and_replaced : (old grown seen put new : List ℕ) (off n len size : ℕ) → len ≡ length old → 1 ≤ length new
+pub filled_and_replaced : (old grown seen put new : List ℕ) (off n len size : ℕ) → len ≡ length old
+    → 1 ≤ length new
     → n ≡ max len (off + length new)
-    → grown ≡ take n old ++ replicate (n - len) 0 → seen ≡ grown → put ≡ take off seen ++ new ++ drop (off + length new) seen
+    → grown ≡ take n old ++ replicate (n - len) 0 → seen ≡ grown
+    → put ≡ take off seen ++ new ++ drop (off + length new) seen
     → length put ≡ length seen → size ≡ length grown
     → take size (put ++ drop (length put) grown) ≡ overwritten old off new
 filled_and_replaced old grown seen put new off n len size len_is some n_is grown_is seen_is put_is same size_is =
@@ -40,10 +45,12 @@ parts_at : (old new : List ℕ) (off k : ℕ)
 parts_at old new off k = grind (arith, places, nat_tests)
 
 parts_length : (old new : List ℕ) (off : ℕ)
-    → length (take off old ++ replicate (off - length old) 0 ++ new ++ drop (off + length new) old) ≡ max (length old) (off + length new)
+    → length (take off old ++ replicate (off - length old) 0 ++ new ++ drop (off + length new) old)
+    ≡ max (length old) (off + length new)
 parts_length old new off = grind (arith, places)
 
 -- bytes that were written over, offset by offset
-pub is_written_over : (old new : List ℕ) (off : ℕ) → 1 ≤ length new → IsWrittenOver old new off (overwritten old off new)
+pub is_written_over : (old new : List ℕ) (off : ℕ) → 1 ≤ length new
+    → IsWrittenOver old new off (overwritten old off new)
 is_written_over old new off some =
     rw (some_bytes (length new) _ _ some) (record { len = parts_length old new off; bytes = parts_at old new off })

@@ -10,7 +10,8 @@ use Rattle.uring_entry.specs.declared.fault.Fault.TheVariants.{Flags, Opcode, Io
 use Rattle.uring_files.specs.Operations.{IsForFiles}
 
 -- what isn't found isn't the first
-not_first : (first : Bool) (fault : Fault) (later : Option Fault) → (if first then Some fault else later) ≡ None
+not_first : (first : Bool) (fault : Fault) (later : Option Fault)
+    → (if first then Some fault else later) ≡ None
     → (first ≡ false) × (later ≡ None)
 not_first true fault later none = cc
 not_first false fault later none = (refl, none)
@@ -27,7 +28,8 @@ no_length_fault e none =
     len.0
 
 -- whichever operation it is, but a cancel
-whichever : (nop sync cancel read all : Bool) (fd : ℤ) (off len target : ℕ) (bytes : List ℕ) → cancel ≡ false → len ≤ 64
+whichever : (nop sync cancel read all : Bool) (fd : ℤ) (off len target : ℕ) (bytes : List ℕ)
+    → cancel ≡ false → len ≤ 64
     → IsForFiles (if nop then Nop else if sync then Fsync fd else if cancel then Cancel target all else if read then Read fd off len else Write fd off len bytes)
 whichever true sync cancel read all fd off len target bytes other short = tt
 whichever false true cancel read all fd off len target bytes other short = tt

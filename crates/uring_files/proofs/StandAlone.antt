@@ -21,7 +21,8 @@ set_same [] i d change = refl
 set_same (x ∷ xs) zero d change = refl
 set_same (x ∷ xs) (suc i) d change = set_same xs i d change
 
-set_other : {X : Type 0} (xs : List X) (i j : ℕ) (x : X) → j ≢ i → slice_get (slice_set xs i x) j ≡ slice_get xs j
+set_other : {X : Type 0} (xs : List X) (i j : ℕ) (x : X) → j ≢ i
+    → slice_get (slice_set xs i x) j ≡ slice_get xs j
 set_other [] i j x differ = refl
 set_other (y ∷ ys) zero zero x differ = absurd (differ refl)
 set_other (y ∷ ys) zero (suc j) x differ = refl
@@ -35,7 +36,8 @@ changed_same : (files : List FileContents) (fd : ℤ) (change : FileContents →
 changed_same files (pos fd) change = set_same files fd empty_file change
 changed_same files (negsuc below) change = refl
 
-changed_other : (files : List FileContents) (own fd : ℤ) (change : FileContents → FileContents) → fd ≢ own
+changed_other : (files : List FileContents) (own fd : ℤ) (change : FileContents → FileContents)
+    → fd ≢ own
     → file_of (with_changed files own change) fd ≡ file_of files fd
 changed_other files (pos k) (pos j) change differ = set_other files k j _ (λ e. differ (ap pos e))
 changed_other files (pos k) (negsuc below) change differ = refl
@@ -47,8 +49,10 @@ unlike x y e same = both_ways _ e ((Decides-int_eq x y).1 same)
 -- a change of one file, if some test is passed
 
 chosen_other : (chosen : Bool) (files : List FileContents) (own fd : ℤ) (change : FileContents → FileContents)
-    → int_eq fd own ≡ false → file_of (cond chosen (with_changed files own change) files) fd ≡ file_of files fd
-chosen_other true files own fd change differ = changed_other files own fd change (unlike fd own differ)
+    → int_eq fd own ≡ false
+    → file_of (cond chosen (with_changed files own change) files) fd ≡ file_of files fd
+chosen_other true files own fd change differ =
+    changed_other files own fd change (unlike fd own differ)
 chosen_other false files own fd change differ = refl
 
 chosen_apart : (chosen : Bool) (files others : List FileContents) (own fd : ℤ) (change : FileContents → FileContents)
@@ -67,21 +71,27 @@ chosen_apart true files others own fd change same =
 pub others_stay : OthersStay
 others_stay files Nop res fd other = refl
 others_stay files (Read own off len) res fd other = refl
-others_stay files (Write own off len bytes) res fd other = chosen_other (int_eq res (pos len)) files own fd (written off (take len bytes)) other
-others_stay files (Fsync own) res fd other = chosen_other (int_eq res (pos 0)) files own fd with_writes_synced other
+others_stay files (Write own off len bytes) res fd other =
+    chosen_other (int_eq res (pos len)) files own fd (written off (take len bytes)) other
+others_stay files (Fsync own) res fd other =
+    chosen_other (int_eq res (pos 0)) files own fd with_writes_synced other
 others_stay files (Cancel target all) res fd other = refl
 
 pub files_apart : FilesStandAlone
 files_apart files others Nop res fd same = same
 files_apart files others (Read own off len) res fd same = same
-files_apart files others (Write own off len bytes) res fd same = chosen_apart (int_eq res (pos len)) files others own fd (written off (take len bytes)) same
-files_apart files others (Fsync own) res fd same = chosen_apart (int_eq res (pos 0)) files others own fd with_writes_synced same
+files_apart files others (Write own off len bytes) res fd same =
+    chosen_apart (int_eq res (pos len)) files others own fd (written off (take len bytes)) same
+files_apart files others (Fsync own) res fd same =
+    chosen_apart (int_eq res (pos 0)) files others own fd with_writes_synced same
 files_apart files others (Cancel target all) res fd same = same
 
 pub ends_apart : EndsStandAlone
 ends_apart files others Nop agree = (refl, refl)
-ends_apart files others (Read fd off len) agree = (ap (λ file. on_file file (read_outcome off len)) (agree fd (int_eq_equiv.refl fd)), refl)
+ends_apart files others (Read fd off len) agree =
+    (ap (λ file. on_file file (read_outcome off len)) (agree fd (int_eq_equiv.refl fd)), refl)
 ends_apart files others (Write fd off len bytes) agree =
     (ap (λ file. on_file file (λ f. ended_with (cond (is_too_long off len) (neg_ℤ EFBIG) (pos len)))) (agree fd (int_eq_equiv.refl fd)), ap (λ file. option_map_or (λ f. not (is_too_long off len) && is_past_end off len f) file false) (agree fd (int_eq_equiv.refl fd)))
-ends_apart files others (Fsync fd) agree = (ap (λ file. on_file file (λ f. ended_with (pos 0))) (agree fd (int_eq_equiv.refl fd)), refl)
+ends_apart files others (Fsync fd) agree =
+    (ap (λ file. on_file file (λ f. ended_with (pos 0))) (agree fd (int_eq_equiv.refl fd)), refl)
 ends_apart files others (Cancel target all) agree = (refl, refl)

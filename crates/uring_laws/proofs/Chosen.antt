@@ -33,7 +33,8 @@ record IsChoosing (w : World) (s : Step) (a : Answer) (m : ℕ) : Type 0 where
   answer_is : a ≡ answer.Ended res no_bytes
 
 new_cancel : (w : World) (s : Step) (a : Answer) (later : Requests) → Move w.requests s a later
-    → (m : ℕ) → is_cancelled later m ≡ true → (is_cancelled w.requests m ≡ true) ⊎ IsChoosing w s a m
+    → (m : ℕ) → is_cancelled later m ≡ true
+    → (is_cancelled w.requests m ≡ true) ⊎ IsChoosing w s a m
 new_cancel w s a later (ends_doomed n outstanding) m gone =
     elim (any_both (λ k. k == m) w.requests.cancelled (chosen_by w.requests n (doomed_result w.requests n)) gone) [
       | inl old ↦ inl old
@@ -46,10 +47,20 @@ new_cancel w s a later (ends_cancel n outstanding spared ready cancel) m gone =
     ]
 new_cancel w s a later _ m gone = inl gone
 
-one_later : (g : Setup) (e : Event) (h : History) (m : ℕ) → IsChosenIn g h m → IsChosenIn g (e ∷ h) m
-one_later g e h m c = record { after = e ∷ c.after; before = c.before; number = c.number; res = c.res; bytes = c.bytes; split = ap (λ xs. e ∷ xs) c.split; chose = c.chose }
+one_later : (g : Setup) (e : Event) (h : History) (m : ℕ) → IsChosenIn g h m
+    → IsChosenIn g (e ∷ h) m
+one_later g e h m c = record {
+  after = e ∷ c.after;
+  before = c.before;
+  number = c.number;
+  res = c.res;
+  bytes = c.bytes;
+  split = ap (λ xs. e ∷ xs) c.split;
+  chose = c.chose;
+}
 
-pub chosen_in : (g : Setup) (h : History) → IsLawfulApart g h → (m : ℕ) → is_cancelled (world g h).requests m ≡ true → IsChosenIn g h m
+pub chosen_in : (g : Setup) (h : History) → IsLawfulApart g h → (m : ℕ)
+    → is_cancelled (world g h).requests m ≡ true → IsChosenIn g h m
 chosen_in g [] lawful m gone = absurd (let f : false ≡ true = gone in cc)
 chosen_in g ((s, a) ∷ before) lawful m gone =
     elim (new_cancel (world g before) s a _ (move_of g s a before lawful) m gone) [
@@ -67,7 +78,9 @@ chosen_in g ((s, a) ∷ before) lawful m gone =
     ]
 
 -- the end of a cancel dooms whom it chose
-dooms_with : (r : Requests) (n : ℕ) (res : ℤ) (m : ℕ) → is_cancel (entry_of r n) ≡ true → is_success (entry_of r n) res ≡ true → list_any (λ k. k == m) (choices_of r n) ≡ true → is_cancelled (with_issued_end r n res) m ≡ true
+dooms_with : (r : Requests) (n : ℕ) (res : ℤ) (m : ℕ) → is_cancel (entry_of r n) ≡ true
+    → is_success (entry_of r n) res ≡ true → list_any (λ k. k == m) (choices_of r n) ≡ true
+    → is_cancelled (with_issued_end r n res) m ≡ true
 dooms_with r n res m cancel success there =
     list_any-append (λ k. k == m) r.cancelled (chosen_by r n res)
     ∙ or_right _ _
@@ -75,7 +88,8 @@ dooms_with r n res m cancel success there =
     ∙ ap (λ b. list_any (λ k. k == m) (cond b (choices_of r n) [])) success
     ∙ there)
 
-dooms_now : (r : Requests) (n : ℕ) (res : ℤ) (m : ℕ) → Chose r n res m → is_cancelled (with_issued_end r n res) m ≡ true
+dooms_now : (r : Requests) (n : ℕ) (res : ℤ) (m : ℕ) → Chose r n res m
+    → is_cancelled (with_issued_end r n res) m ≡ true
 dooms_now r n res m (inl c) =
     dooms_with r n res m c.cancel (one_success (entry_of r n) res c.cancel c.one ∙ (Decides-int_eq res (pos 0)).1 c.result)
     (ap (λ b. list_any (λ k. k == m) (cond b (targets_of r n) (option_to_list (target_of r n)))) c.one
@@ -87,13 +101,18 @@ dooms_now r n res m (inr c) =
     (all_success (entry_of r n) res c.all ∙ ap (int_le (pos 0)) c.result ∙ le-leb 0 c.count (omega arith))
     (ap (λ b. list_any (λ k. k == m) (cond b (targets_of r n) (option_to_list (target_of r n)))) c.all ∙ target-there r n m within c.target)
 
-stays_chosen : (g : Setup) (after before : History) (n : ℕ) (res : ℤ) (m : ℕ) (bytes : List ℕ) → IsLawfulApart g (after ++ (step.Issue n, answer.Ended res bytes) ∷ before) → Chose (world g before).requests n res m
-    → is_cancelled (world g (after ++ (step.Issue n, answer.Ended res bytes) ∷ before)).requests m ≡ true
-stays_chosen g [] before n res m bytes lawful chose = dooms_now (world g before).requests n res m chose
+stays_chosen : (g : Setup) (after before : History) (n : ℕ) (res : ℤ) (m : ℕ) (bytes : List ℕ)
+    → IsLawfulApart g (after ++ (step.Issue n, answer.Ended res bytes) ∷ before)
+    → Chose (world g before).requests n res m
+    → is_cancelled (world g (after ++ (step.Issue n, answer.Ended res bytes) ∷ before)).requests m
+    ≡ true
+stays_chosen g [] before n res m bytes lawful chose =
+    dooms_now (world g before).requests n res m chose
 stays_chosen g ((s, a) ∷ after) before n res m bytes lawful chose =
     (event_grows g s a (after ++ (step.Issue n, answer.Ended res bytes) ∷ before) lawful).stays_cancelled m (stays_chosen g after before n res m bytes lawful.1 chose)
 
-pub chosen_stays : (g : Setup) (h : History) → IsLawfulApart g h → (m : ℕ) → IsChosenIn g h m → is_cancelled (world g h).requests m ≡ true
+pub chosen_stays : (g : Setup) (h : History) → IsLawfulApart g h → (m : ℕ) → IsChosenIn g h m
+    → is_cancelled (world g h).requests m ≡ true
 chosen_stays g h lawful m c =
     subst (λ x. is_cancelled (world g x).requests m ≡ true) (sym c.split)
     (stays_chosen g c.after c.before c.number c.res m c.bytes (subst (IsLawfulApart g) c.split lawful) c.chose)

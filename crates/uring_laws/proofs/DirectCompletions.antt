@@ -27,12 +27,14 @@ record LeavesRest (l later : Completions) : Type 0 where
   seen_head : later.seen_head ≡ l.seen_head
   seen_tail : later.seen_tail ≡ l.seen_tail
 
-end_frame : (size : ℕ) (l : Completions) (told : Bool) (c : Cqe) → LeavesRest l (cond told (with_posted size l c) l)
+end_frame : (size : ℕ) (l : Completions) (told : Bool) (c : Cqe)
+    → LeavesRest l (cond told (with_posted size l c) l)
 end_frame size l true c = record { reaped = refl; head = refl; seen_head = refl; seen_tail = refl }
 end_frame size l false c = record { reaped = refl; head = refl; seen_head = refl; seen_tail = refl }
 
 completions_direct : (g : Setup) (h : History) (w : World) (s : Step) (a : Answer) (v : World)
-    → CompletionMove g w s a v → w ≡ world g h → DirectCompletions g h w → DirectCompletions g ((s, a) ∷ h) v
+    → CompletionMove g w s a v → w ≡ world g h → DirectCompletions g h w
+    → DirectCompletions g ((s, a) ∷ h) v
 completions_direct g h w s a v (stays _ _ l r is_closed off no_end left) is i =
     record {
       reaped = i.reaped ∙ sym (told_same reaped_by (s, a) h off.reaps);
@@ -49,10 +51,19 @@ completions_direct g h w s a v (ends _ _ n res bytes r off told same_accepted on
       seen = f.seen_tail ∙ i.seen ∙ ap (λ b. (world g b).completions.put) (sym (before_same is_load_cq_tail (s, a) h off.loads_cq_tail));
     }
 completions_direct g h w s a v (flushes moved) is i = assumption i
-completions_direct g h w s a v (sees_tail tail) is i = let seen = ap (λ u. u.completions.put) is in assumption (seen, i)
-completions_direct g h w s a v (reaps completion next) is i = let reaped = ap (λ xs. xs ++ completion ∷ []) i.reaped in assumption (reaped, i)
-completions_direct g h w s a v (stores_head head) is i = let stored = ap length i.reaped in assumption (stored, i)
+completions_direct g h w s a v (sees_tail tail) is i =
+    let seen = ap (λ u. u.completions.put) is in assumption (seen, i)
+completions_direct g h w s a v (reaps completion next) is i =
+    let reaped = ap (λ xs. xs ++ completion ∷ []) i.reaped in assumption (reaped, i)
+completions_direct g h w s a v (stores_head head) is i =
+    let stored = ap length i.reaped in assumption (stored, i)
 
-pub direct_completions : (g : Setup) (h : History) → IsLawfulApart g h → DirectCompletions g h (world g h)
-direct_completions g [] lawful = record { reaped = refl; stored = refl; flushed = refl; seen = refl }
+pub direct_completions : (g : Setup) (h : History) → IsLawfulApart g h
+    → DirectCompletions g h (world g h)
+direct_completions g [] lawful = record {
+  reaped = refl;
+  stored = refl;
+  flushed = refl;
+  seen = refl;
+}
 direct_completions g ((s, a) ∷ before) lawful = completions_direct g before (world g before) s a _ (completion_move g s a before lawful) refl (direct_completions g before lawful.1)

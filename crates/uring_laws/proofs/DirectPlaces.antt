@@ -19,30 +19,39 @@ use Rattle.uring_laws.proofs.Telling.{told_same}
 use Rattle.uring_laws.proofs.DirectSubmission.{DirectSubmission, direct_submission}
 
 abbrev pub EntriesTold : Setup → History → World → Type 0
-EntriesTold g h w = (k : ℕ) (p : Place) → slice_get w.submission.published k ≡ Some p → p.entry ≡ published_entry g.sq h k
+EntriesTold g h w = (k : ℕ) (p : Place) → slice_get w.submission.published k ≡ Some p
+    → p.entry ≡ published_entry g.sq h k
 
 -- the entry of a word, as slots stood at this point
 abbrev entry_at : ℕ → ℕ → History → Option Sqe
 entry_at size word before = if nat_lt word size then Some (slot_content before word) else None
 
-entry_same : (size : ℕ) (e : Event) (h : History) (k : ℕ) → staged_by e ≡ None → is_store_tail e ≡ false → published_entry size (e ∷ h) k ≡ published_entry size h k
+entry_same : (size : ℕ) (e : Event) (h : History) (k : ℕ) → staged_by e ≡ None
+    → is_store_tail e ≡ false → published_entry size (e ∷ h) k ≡ published_entry size h k
 entry_same size e h k none other =
     ap₂ (λ words before. entry_at size (get_or words k 0) before) (told_same staged_by e h none)
     (ap (λ b. cond (b && not (nat_lt k (length (published_words h)))) h (before_published k h)) other)
 
 -- how many words there are
-words_count : (g : Setup) (h : History) (w : World) → DirectSubmission g h w → (length (published_words h) ≡ length w.submission.published) × (length (staged_words h) ≡ length w.submission.published + length w.submission.fresh)
+words_count : (g : Setup) (h : History) (w : World) → DirectSubmission g h w
+    → (length (published_words h) ≡ length w.submission.published)
+    × (length (staged_words h) ≡ length w.submission.published + length w.submission.fresh)
 words_count g h w d =
     let p : length (published_words h) ≡ length w.submission.published = ap length (sym d.published) ∙ length-map w.submission.published (λ p. p.word) in
     (p, ap length (sym d.staged) ∙ length-append (published_words h) w.submission.fresh ∙ ap (λ n. n + length w.submission.fresh) p)
 
-entry_staged : (g : Setup) (size word : ℕ) (h : History) (w : World) → DirectSubmission g h w → (k : ℕ) → k < length w.submission.published → published_entry size ((step.Index word, answer.Staged) ∷ h) k ≡ published_entry size h k
+entry_staged : (g : Setup) (size word : ℕ) (h : History) (w : World) → DirectSubmission g h w
+    → (k : ℕ) → k < length w.submission.published
+    → published_entry size ((step.Index word, answer.Staged) ∷ h) k ≡ published_entry size h k
 entry_staged g size word h w d k within =
     let c = words_count g h w d in
     ap (λ n. entry_at size n (before_published k h)) (get_or_append_left (staged_words h) (word ∷ []) 0 k (omega (arith, c.1)))
 
-entry_stored : (g : Setup) (tail : ℕ) (h : History) (w : World) → DirectSubmission g h w → EntriesTold g h w → (k : ℕ) (p : Place)
-    → slice_get (w.submission.published ++ map (place_of g.sq w.submission.content) w.submission.fresh) k ≡ Some p → (k < length w.submission.published) ⊎ (length w.submission.published ≤ k)
+entry_stored : (g : Setup) (tail : ℕ) (h : History) (w : World) → DirectSubmission g h w
+    → EntriesTold g h w → (k : ℕ) (p : Place)
+    → slice_get (w.submission.published ++ map (place_of g.sq w.submission.content) w.submission.fresh) k
+    ≡ Some p
+    → (k < length w.submission.published) ⊎ (length w.submission.published ≤ k)
     → p.entry ≡ published_entry g.sq ((step.StoreTail, answer.Tail tail) ∷ h) k
 entry_stored g tail h w d i k p at (inl low) =
     let c = words_count g h w d in
@@ -65,10 +74,13 @@ entry_stored g tail h w d i k p at (inr high) =
     ∙ ap (λ b. entry_at g.sq (get_or (staged_words h) k 0) (cond (not b) h (before_published k h))) (sym (le-ltb k (length (published_words h)) (omega (arith, c.0))))
 
 entries_direct : (g : Setup) (h : History) (w : World) (s : Step) (a : Answer) (v : World)
-    → SubmissionMove g w s a v → DirectSubmission g h w → EntriesTold g h w → EntriesTold g ((s, a) ∷ h) v
-entries_direct g h w s a v (stays _ _ r c is_closed off left) d i = λ k p at. i k p at ∙ sym (entry_same g.sq (s, a) h k off.stages off.stores_tail)
+    → SubmissionMove g w s a v → DirectSubmission g h w → EntriesTold g h w
+    → EntriesTold g ((s, a) ∷ h) v
+entries_direct g h w s a v (stays _ _ r c is_closed off left) d i =
+    λ k p at. i k p at ∙ sym (entry_same g.sq (s, a) h k off.stages off.stores_tail)
 entries_direct g h w s a v (stages word room) d i = λ k p at. i k p at ∙ sym (entry_staged g g.sq word h w d k (slice_get_within w.submission.published k p at))
-entries_direct g h w s a v (stores tail) d i = λ k p at. entry_stored g tail h w d i k p at (cases_lt k (length w.submission.published))
+entries_direct g h w s a v (stores tail) d i =
+    λ k p at. entry_stored g tail h w d i k p at (cases_lt k (length w.submission.published))
 entries_direct g h w s a v _ d i = i
 
 pub direct_places : (g : Setup) (h : History) → IsLawfulApart g h → EntriesTold g h (world g h)

@@ -27,26 +27,33 @@ record PutFacts (g : Setup) (h : History) : Type 0 where
   stored : (world g h).completions.head ≡ stored_head h
 
 -- how many are put once a completion is posted, or skipped
-end_put : (size : ℕ) (l : Completions) (told_so : Bool) (c : Cqe) (there posted loaded : ℕ) → l.put ≡ there → length l.posted ≡ posted → l.seen_head ≡ loaded
-    → (cond told_so (with_posted size l c) l).put ≡ (if is_some (cond told_so (Some c) None) && (there == posted) && nat_lt (there - loaded) size then there + 1 else there)
+end_put : (size : ℕ) (l : Completions) (told_so : Bool) (c : Cqe) (there posted loaded : ℕ)
+    → l.put ≡ there → length l.posted ≡ posted → l.seen_head ≡ loaded
+    → (cond told_so (with_posted size l c) l).put
+    ≡ (if is_some (cond told_so (Some c) None) && (there == posted) && nat_lt (there - loaded) size then there + 1 else there)
 end_put size l true c there posted loaded put_is posted_is loaded_is =
     ap (λ n. if (n == length l.posted) && nat_lt (n - l.seen_head) size then n + 1 else n) put_is
     ∙ ap₂ (λ n k. if (there == n) && nat_lt (there - k) size then there + 1 else there) posted_is loaded_is
 end_put size l false c there posted loaded put_is posted_is loaded_is = put_is
 
 -- the count that an event makes, by the end that it tells
-put_told : (g : Setup) (h : History) (flushes_now : Bool) (ending told : Option Ending) → flushes_now ≡ false → ending ≡ told
+put_told : (g : Setup) (h : History) (flushes_now : Bool) (ending told : Option Ending)
+    → flushes_now ≡ false → ending ≡ told
     → (if flushes_now then min (posted_count g h) (stored_head h + g.cq) else (if is_some (option_and_then (completion_of (world g h).requests.accepted) ending) && (put_count g h == posted_count g h) && nat_lt (put_count g h - flushed_head h) g.cq then put_count g h + 1 else put_count g h))
     ≡ (if is_some (option_and_then (completion_of (world g h).requests.accepted) told) && (put_count g h == posted_count g h) && nat_lt (put_count g h - flushed_head h) g.cq then put_count g h + 1 else put_count g h)
 put_told g h flushes_now ending told no_flush is =
     ap₂ (λ flush end. if flush then min (posted_count g h) (stored_head h + g.cq) else (if is_some (option_and_then (completion_of (world g h).requests.accepted) end) && (put_count g h == posted_count g h) && nat_lt (put_count g h - flushed_head h) g.cq then put_count g h + 1 else put_count g h)) no_flush is
 
-put_direct : (g : Setup) (h : History) (s : Step) (a : Answer) (v : World) → CompletionMove g (world g h) s a v → PutFacts g h → (world g h).completions.put ≡ put_count g h → v.completions.put ≡ put_count g ((s, a) ∷ h)
-put_direct g h s a v (stays _ _ l r is_closed off no_end left) f i = i ∙ sym (put_told g h (is_flush (s, a)) (end_told_by (s, a)) None off.flushes no_end)
+put_direct : (g : Setup) (h : History) (s : Step) (a : Answer) (v : World)
+    → CompletionMove g (world g h) s a v → PutFacts g h
+    → (world g h).completions.put ≡ put_count g h → v.completions.put ≡ put_count g ((s, a) ∷ h)
+put_direct g h s a v (stays _ _ l r is_closed off no_end left) f i =
+    i ∙ sym (put_told g h (is_flush (s, a)) (end_told_by (s, a)) None off.flushes no_end)
 put_direct g h s a v (ends _ _ n res bytes r off told same_accepted one_more) f i =
     end_put g.cq (world g h).completions (posts_completion (entry_of (world g h).requests n) res) (completion_for (entry_of (world g h).requests n) res bytes) (put_count g h) (posted_count g h) (flushed_head h) i f.posted f.loaded
     ∙ sym (put_told g h (is_flush (s, a)) (end_told_by (s, a)) (Some (record { number = n; res = res; bytes = bytes })) off.flushes told)
-put_direct g h s a v (flushes moved) f i = ap₂ (λ posted head. min posted (head + g.cq)) f.posted f.stored
+put_direct g h s a v (flushes moved) f i =
+    ap₂ (λ posted head. min posted (head + g.cq)) f.posted f.stored
 put_direct g h s a v _ f i = i
 
 put_facts : (g : Setup) (h : History) → IsLawfulApart g h → PutFacts g h
@@ -58,11 +65,13 @@ put_facts g h lawful =
       stored = d.stored;
     }
 
-pub direct_put : (g : Setup) (h : History) → IsLawfulApart g h → (world g h).completions.put ≡ put_count g h
+pub direct_put : (g : Setup) (h : History) → IsLawfulApart g h
+    → (world g h).completions.put ≡ put_count g h
 direct_put g [] lawful = refl
 direct_put g ((s, a) ∷ before) lawful = put_direct g before s a _ (completion_move g s a before lawful) (put_facts g before lawful.1) (direct_put g before lawful.1)
 
 -- what stands before the last event of a kind is lawful
-pub lawful_last : (g : Setup) (is_kind : Event → Bool) (h : History) → IsLawfulApart g h → IsLawfulApart g (before_last is_kind h)
+pub lawful_last : (g : Setup) (is_kind : Event → Bool) (h : History) → IsLawfulApart g h
+    → IsLawfulApart g (before_last is_kind h)
 lawful_last g is_kind [] lawful = tt
 lawful_last g is_kind ((s, a) ∷ before) lawful = cond_both (is_kind (s, a)) before (before_last is_kind before) (IsLawfulApart g) (λ _. lawful.1) (λ _. lawful_last g is_kind before lawful.1)

@@ -29,21 +29,26 @@ pub record DirectRequests (h : History) (w : World) : Type 0 where
   pub shut : w.is_closed ≡ list_any closes_ring h
 
 -- the positions of a call more
-taken_more : (l : Submission) (count : ℕ) → entries_of (take (sum (l.calls ++ count ∷ [])) l.published) ≡ entries_of (take (taken l) l.published) ++ entries_of (places_from l count)
+taken_more : (l : Submission) (count : ℕ)
+    → entries_of (take (sum (l.calls ++ count ∷ [])) l.published)
+    ≡ entries_of (take (taken l) l.published) ++ entries_of (places_from l count)
 taken_more l count =
     ap (λ n. entries_of (take n l.published)) (sum_by_push (λ x. x) l.calls count)
     ∙ ap entries_of (take-add (taken l) count l.published)
     ∙ filter_map-append (λ p. p.entry) (take (taken l) l.published) (places_from l count)
 
 -- a sum more
-sums_push : (before : ℕ) (xs : List ℕ) (x : ℕ) → sums_from before (xs ++ x ∷ []) ≡ sums_from before xs ++ (before + (sum xs + x)) ∷ []
+sums_push : (before : ℕ) (xs : List ℕ) (x : ℕ)
+    → sums_from before (xs ++ x ∷ []) ≡ sums_from before xs ++ (before + (sum xs + x)) ∷ []
 sums_push before [] x = ap (λ n. n ∷ []) (omega arith)
 sums_push before (y ∷ xs) x =
     ap (λ ns. (before + y) ∷ ns)
     (sums_push (before + y) xs x ∙ ap (λ n. sums_from (before + y) xs ++ n ∷ []) (omega (arith, sum_by-cons (λ k. k) y xs)))
 
 -- the entries accepted later are those of no end so far
-same_posts : (accepted more : List Sqe) (es : List Ending) → ((n : ℕ) → list_any (λ e. e.number == n) es ≡ true → n < length accepted) → filter_map (completion_of (accepted ++ more)) es ≡ filter_map (completion_of accepted) es
+same_posts : (accepted more : List Sqe) (es : List Ending)
+    → ((n : ℕ) → list_any (λ e. e.number == n) es ≡ true → n < length accepted)
+    → filter_map (completion_of (accepted ++ more)) es ≡ filter_map (completion_of accepted) es
 same_posts accepted more [] within = refl
 same_posts accepted more (e ∷ es) within =
     ap₂ cons_option
@@ -52,20 +57,26 @@ same_posts accepted more (e ∷ es) within =
     (same_posts accepted more es (λ n there. within n (or_right (e.number == n) _ there)))
 
 -- one end more
-posted_or_not : (size : ℕ) (l : Completions) (told_so : Bool) (c : Cqe) → (cond told_so (with_posted size l c) l).posted ≡ l.posted ++ cons_option (cond told_so (Some c) None) []
+posted_or_not : (size : ℕ) (l : Completions) (told_so : Bool) (c : Cqe)
+    → (cond told_so (with_posted size l c) l).posted
+    ≡ l.posted ++ cons_option (cond told_so (Some c) None) []
 posted_or_not size l true c = refl
 posted_or_not size l false c = sym (append-nil l.posted)
 
-end_posted : (size : ℕ) (l : Completions) (accepted : List Sqe) (es : List Ending) (e : Ending) → l.posted ≡ filter_map (completion_of accepted) es
-    → (with_end size l (get_or accepted e.number zero_entry) e.res e.bytes).posted ≡ filter_map (completion_of accepted) (es ++ e ∷ [])
+end_posted : (size : ℕ) (l : Completions) (accepted : List Sqe) (es : List Ending) (e : Ending)
+    → l.posted ≡ filter_map (completion_of accepted) es
+    → (with_end size l (get_or accepted e.number zero_entry) e.res e.bytes).posted
+    ≡ filter_map (completion_of accepted) (es ++ e ∷ [])
 end_posted size l accepted es e posted =
     let entry = get_or accepted e.number zero_entry in
     posted_or_not size l (posts_completion entry e.res) (record { user_data = user_data_of entry; res = e.res; payload = e.bytes })
     ∙ ap (λ xs. xs ++ cons_option (completion_of accepted e) []) posted
     ∙ sym (filter_map-append (completion_of accepted) es (e ∷ []))
 
-posted_direct : (g : Setup) (w : World) (s : Step) (a : Answer) (v : World) → CompletionMove g w s a v → IsSound g w
-    → w.completions.posted ≡ filter_map (completion_of w.requests.accepted) w.requests.ended → v.completions.posted ≡ filter_map (completion_of v.requests.accepted) v.requests.ended
+posted_direct : (g : Setup) (w : World) (s : Step) (a : Answer) (v : World)
+    → CompletionMove g w s a v → IsSound g w
+    → w.completions.posted ≡ filter_map (completion_of w.requests.accepted) w.requests.ended
+    → v.completions.posted ≡ filter_map (completion_of v.requests.accepted) v.requests.ended
 posted_direct g w s a v (stays_off _ _ l r is_closed off no_end left) sound i =
     i ∙ sym (same_posts w.requests.accepted left.more w.requests.ended sound.requests.ended_accepted)
     ∙ ap₂ (λ accepted ended. filter_map (completion_of accepted) ended) (sym left.accepted) (sym left.ended)
@@ -74,13 +85,16 @@ posted_direct g w s a v (ends _ _ n res bytes r off told same_accepted one_more)
     ∙ ap₂ (λ accepted ended. filter_map (completion_of accepted) ended) (sym same_accepted) (sym one_more)
 posted_direct g w s a v _ sound i = i
 
-pub direct_posted : (g : Setup) (h : History) → IsLawfulApart g h → (world g h).completions.posted ≡ filter_map (completion_of (world g h).requests.accepted) (world g h).requests.ended
+pub direct_posted : (g : Setup) (h : History) → IsLawfulApart g h
+    → (world g h).completions.posted
+    ≡ filter_map (completion_of (world g h).requests.accepted) (world g h).requests.ended
 direct_posted g [] lawful = refl
 direct_posted g ((s, a) ∷ before) lawful = posted_direct g (world g before) s a _ (completion_move g s a before lawful) (sound_of g before lawful.1) (direct_posted g before lawful.1)
 
 -- What of the requests the submission ring tells.
 
-accepted_direct : (g : Setup) (h : History) (w : World) (s : Step) (a : Answer) (v : World) → SubmissionMove g w s a v → IsSound g w → DirectRequests h w → DirectRequests ((s, a) ∷ h) v
+accepted_direct : (g : Setup) (h : History) (w : World) (s : Step) (a : Answer) (v : World)
+    → SubmissionMove g w s a v → IsSound g w → DirectRequests h w → DirectRequests ((s, a) ∷ h) v
 accepted_direct g h w s a v (stays _ _ r c is_closed off left) sound i =
     record {
       taken_in = left.accepted ∙ i.taken_in;

@@ -50,7 +50,8 @@ record SameOpened (g : Setup) (h : History) (e : Event) : Type 0 where
   taken : taken_since h ≡ taken_since (e ∷ h)
   count : open_count g h ≡ open_count g (e ∷ h)
 
-same_opened : (g : Setup) (h : History) (e : Event) → opens_call e ≡ false → opened_by e ≡ None → takes_position e ≡ false → SameOpened g h e
+same_opened : (g : Setup) (h : History) (e : Event) → opens_call e ≡ false → opened_by e ≡ None
+    → takes_position e ≡ false → SameOpened g h e
 same_opened g h e other none idle =
     let since : since_last opens_call (e ∷ h) ≡ e ∷ since_last opens_call h = ap (λ b. cond b [] (e ∷ since_last opens_call h)) other in
     let taken : taken_since h ≡ taken_since (e ∷ h) = sym (ap (count_by takes_position) since ∙ count_same takes_position e (since_last opens_call h) idle) in
@@ -61,25 +62,32 @@ same_opened g h e other none idle =
       count = ap₂ (λ b n. cond b n (unwrap_or (last_told opened_by h) 0)) stops taken ∙ ap (λ o. cond (has_stopped g (e ∷ h)) (taken_since (e ∷ h)) (unwrap_or o 0)) last;
     }
 
-still_opened : (g : Setup) (h : History) (e : Event) (call : Option Call) → SameOpened g h e → IsOpened g h call → IsOpened g (e ∷ h) call
+still_opened : (g : Setup) (h : History) (e : Event) (call : Option Call) → SameOpened g h e
+    → IsOpened g h call → IsOpened g (e ∷ h) call
 still_opened g h e None same i = tt
 still_opened g h e (Some call) same i = (i.0 ∙ same.taken, i.1 ∙ same.count)
 
 -- how many positions the open call takes once it took one more, behind which it may stop
-count_further : (stops had : Bool) (count before after last : ℕ) → count ≡ (if had then before else last) → eqb before count ≡ false → before + 1 ≡ after
+count_further : (stops had : Bool) (count before after last : ℕ)
+    → count ≡ (if had then before else last) → eqb before count ≡ false → before + 1 ≡ after
     → (if stops then before + 1 else count) ≡ (if stops || had then after else last)
 count_further true had count before after last so_far left more = more
-count_further false true count before after last so_far left more = absurd (eqb-false before count left (sym so_far))
+count_further false true count before after last so_far left more =
+    absurd (eqb-false before count left (sym so_far))
 count_further false false count before after last so_far left more = so_far
 
 -- what a slot holds once one is filled
-fill_tells : (here : Bool) (entry : Sqe) (last : Option Sqe) → unwrap_or (option_or (if here then Some entry else None) last) zero_entry ≡ (if here then entry else unwrap_or last zero_entry)
+fill_tells : (here : Bool) (entry : Sqe) (last : Option Sqe)
+    → unwrap_or (option_or (if here then Some entry else None) last) zero_entry
+    ≡ (if here then entry else unwrap_or last zero_entry)
 fill_tells true entry last = refl
 fill_tells false entry last = refl
 
-words_of_places : (size : ℕ) (content : ℕ → Sqe) (words : List ℕ) → map (λ p. p.word) (map (place_of size content) words) ≡ words
+words_of_places : (size : ℕ) (content : ℕ → Sqe) (words : List ℕ)
+    → map (λ p. p.word) (map (place_of size content) words) ≡ words
 words_of_places size content [] = refl
-words_of_places size content (word ∷ words) = ap (λ xs. word ∷ xs) (words_of_places size content words)
+words_of_places size content (word ∷ words) =
+    ap (λ xs. word ∷ xs) (words_of_places size content words)
 
 -- what an event leaves that neither opens nor closes a call and takes no position
 record NoneCalled (g : Setup) (h : History) (w : World) (e : Event) : Type 0 where
@@ -88,7 +96,9 @@ record NoneCalled (g : Setup) (h : History) (w : World) (e : Event) : Type 0 whe
   openings : count_by opens_call (e ∷ h) ≡ length w.submission.calls + open_calls w.submission.call
   opened : IsOpened g (e ∷ h) w.submission.call
 
-none_called : (g : Setup) (h : History) (w : World) (e : Event) → opens_call e ≡ false → opened_by e ≡ None → closes_call e ≡ false → takes_position e ≡ false → DirectSubmission g h w → NoneCalled g h w e
+none_called : (g : Setup) (h : History) (w : World) (e : Event) → opens_call e ≡ false
+    → opened_by e ≡ None → closes_call e ≡ false → takes_position e ≡ false → DirectSubmission g h w
+    → NoneCalled g h w e
 none_called g h w e none_opened none none_closed idle i =
     record {
       calls = i.calls ∙ ap (λ b. if b then call_counts h ++ taken_since h ∷ [] else call_counts h) (sym none_closed);
@@ -104,7 +114,9 @@ record PositionTaken (g : Setup) (h : History) (w : World) (e : Event) (call : C
   openings : count_by opens_call (e ∷ h) ≡ length w.submission.calls + 1
   opened : (call.taken + 1 ≡ taken_since (e ∷ h)) × ((if takes_last g e then call.taken + 1 else call.count) ≡ open_count g (e ∷ h))
 
-position_taken : (g : Setup) (h : History) (w : World) (e : Event) (call : Call) → w.submission.call ≡ Some call → eqb call.taken call.count ≡ false → opens_call e ≡ false → opened_by e ≡ None → closes_call e ≡ false
+position_taken : (g : Setup) (h : History) (w : World) (e : Event) (call : Call)
+    → w.submission.call ≡ Some call → eqb call.taken call.count ≡ false → opens_call e ≡ false
+    → opened_by e ≡ None → closes_call e ≡ false
     → takes_position e ≡ true → DirectSubmission g h w → PositionTaken g h w e call
 position_taken g h w e call is left none_opened none none_closed taken i =
     let so_far : (call.taken ≡ taken_since h) × (call.count ≡ open_count g h) = subst (IsOpened g h) is i.opened in
@@ -124,7 +136,9 @@ position_taken g h w e call is left none_opened none none_closed taken i =
       );
     }
 
-submission_direct : (g : Setup) (h : History) (w : World) (s : Step) (a : Answer) (v : World) → SubmissionMove g w s a v → IsSoundSubmission g.sq w.submission → DirectSubmission g h w → DirectSubmission g ((s, a) ∷ h) v
+submission_direct : (g : Setup) (h : History) (w : World) (s : Step) (a : Answer) (v : World)
+    → SubmissionMove g w s a v → IsSoundSubmission g.sq w.submission → DirectSubmission g h w
+    → DirectSubmission g ((s, a) ∷ h) v
 submission_direct g h w s a v (stays _ _ r c is_closed off left) sound i =
     let f = none_called g h w (s, a) off.opens_none off.opens off.closes off.takes i in
     record {
@@ -194,13 +208,24 @@ submission_direct g h w s a v (closes accepted missed head call opened all count
       opened = tt;
     }
 
-pub direct_submission : (g : Setup) (h : History) → IsLawfulApart g h → DirectSubmission g h (world g h)
-direct_submission g [] lawful = record { content = λ slot. refl; published = refl; staged = refl; calls = refl; closed = refl; openings = refl; seen = refl; opened = tt }
+pub direct_submission : (g : Setup) (h : History) → IsLawfulApart g h
+    → DirectSubmission g h (world g h)
+direct_submission g [] lawful = record {
+  content = λ slot. refl;
+  published = refl;
+  staged = refl;
+  calls = refl;
+  closed = refl;
+  openings = refl;
+  seen = refl;
+  opened = tt;
+}
 direct_submission g ((s, a) ∷ before) lawful =
     submission_direct g before (world g before) s a _ (submission_move g s a before lawful) (sound_of g before lawful.1).submission (direct_submission g before lawful.1)
 
 -- the call that is open
-pub call_direct : (g : Setup) (h : History) (w : World) → DirectSubmission g h w → w.submission.call ≡ open_call g h
+pub call_direct : (g : Setup) (h : History) (w : World) → DirectSubmission g h w
+    → w.submission.call ≡ open_call g h
 call_direct g h w i = by_call w.submission.call i.openings i.opened where
   by_call : (call : Option Call) → count_by opens_call h ≡ length w.submission.calls + open_calls call → IsOpened g h call → call ≡ open_call g h
   by_call None openings opened =

@@ -23,16 +23,21 @@ use Rattle.uring_laws.proofs.WholeLaws.{lawful_apart}
 
 -- The last operation.
 
-pub left-snoc : (files : List FileContents) (done : List Done) (d : Done) → files_left files (done ++ d ∷ []) ≡ after (files_left files done) d.op d.outcome.res
+pub left-snoc : (files : List FileContents) (done : List Done) (d : Done)
+    → files_left files (done ++ d ∷ []) ≡ after (files_left files done) d.op d.outcome.res
 left-snoc files [] d = refl
 left-snoc files (first ∷ later) d = left-snoc (after files first.op first.outcome.res) later d
 
-pub done-snoc : (files : List FileContents) (done : List Done) (d : Done) → AreDone files done → IsOutcome (files_left files done) d.op d.outcome → AreDone files (done ++ d ∷ [])
+pub done-snoc : (files : List FileContents) (done : List Done) (d : Done) → AreDone files done
+    → IsOutcome (files_left files done) d.op d.outcome → AreDone files (done ++ d ∷ [])
 done-snoc files [] d all last = (last, tt)
-done-snoc files (first ∷ later) d all last = (all.0, done-snoc (after files first.op first.outcome.res) later d all.1 last)
+done-snoc files (first ∷ later) d all last =
+    (all.0, done-snoc (after files first.op first.outcome.res) later d all.1 last)
 
 -- all but the last, and the last
-done-unsnoc : (files : List FileContents) (done : List Done) (d : Done) → AreDone files (done ++ d ∷ []) → AreDone files done × IsOutcome (files_left files done) d.op d.outcome
+done-unsnoc : (files : List FileContents) (done : List Done) (d : Done)
+    → AreDone files (done ++ d ∷ [])
+    → AreDone files done × IsOutcome (files_left files done) d.op d.outcome
 done-unsnoc files [] d all = (tt, all.0)
 done-unsnoc files (first ∷ later) d all = let rest = done-unsnoc (after files first.op first.outcome.res) later d all.1 in ((all.0, rest.0), rest.1)
 
@@ -42,15 +47,19 @@ data Kind (g : Setup) (h : History) : Step → Answer → Type 0 where
   carries_out : (n : ℕ) (res : ℤ) (bytes : List ℕ) → is_running (world g h).requests n ≡ true → Kind g h (step.Finish n) (answer.Ended res bytes)
   idles : (s : Step) (a : Answer) → done_by (world g h) (s, a) ≡ None → CalledFor g (world g h) s a → files_of g (world g ((s, a) ∷ h)) ≡ files_of g (world g h) → Kind g h s a
 
-refused : (g : Setup) (h : History) (n : ℕ) → is_running (world g h).requests n ≡ false → Kind g h (step.Finish n) answer.NotRunning
+refused : (g : Setup) (h : History) (n : ℕ) → is_running (world g h).requests n ≡ false
+    → Kind g h (step.Finish n) answer.NotRunning
 refused g h n idle = idles _ _ refl (subst (λ b. EndsOn (files_of g (world g h)) (world g h).requests n b answer.NotRunning) (sym idle) refl) refl
 
-finish_kind : (g : Setup) (h : History) (n : ℕ) (a : Answer) (running : Bool) → is_running (world g h).requests n ≡ running → FinishesApart running a → Kind g h (step.Finish n) a
+finish_kind : (g : Setup) (h : History) (n : ℕ) (a : Answer) (running : Bool)
+    → is_running (world g h).requests n ≡ running → FinishesApart running a
+    → Kind g h (step.Finish n) a
 finish_kind g h n (answer.Ended res bytes) true e called = carries_out n res bytes e
 finish_kind g h n _ true e called = absurd called
 finish_kind g h n a false e called = subst (Kind g h (step.Finish n)) (sym called) (refused g h n e)
 
-kind_of : (g : Setup) (s : Step) (a : Answer) (h : History) → IsLawfulApart g ((s, a) ∷ h) → Kind g h s a
+kind_of : (g : Setup) (s : Step) (a : Answer) (h : History) → IsLawfulApart g ((s, a) ∷ h)
+    → Kind g h s a
 kind_of g (step.Finish n) a h lawful = finish_kind g h n a _ refl lawful.0
 kind_of g s a h lawful = idles s a refl lawful.0 (files_kept g s a h lawful tt)
 
@@ -60,33 +69,42 @@ kind_of g s a h lawful = idles s a refl lawful.0 (files_kept g s a h lawful tt)
 abbrev IsLeft : Setup → History → Type 0
 IsLeft g h = files_of g (world g h) ≡ files_left (first_files g) (done_in g h)
 
-left_then : (g : Setup) (s : Step) (a : Answer) (h : History) → Kind g h s a → IsLeft g h → IsLeft g ((s, a) ∷ h)
+left_then : (g : Setup) (s : Step) (a : Answer) (h : History) → Kind g h s a → IsLeft g h
+    → IsLeft g ((s, a) ∷ h)
 left_then g s a h (carries_out n res bytes running) same =
     let r : Requests = (world g h).requests in
     files_ended r n res bytes (first_files g) ∙ ap (λ files. after files (operation_of (entry_of r n)) res) same
     ∙ sym (left-snoc (first_files g) (done_in g h) (record { number = n; op = operation_of (entry_of r n); outcome = record { res = res; bytes = bytes } }))
-left_then g s a h (idles _ _ none called kept) same = kept ∙ same ∙ ap (λ o. files_left (first_files g) (with_told (done_in g h) o)) (sym none)
+left_then g s a h (idles _ _ none called kept) same =
+    kept ∙ same ∙ ap (λ o. files_left (first_files g) (with_told (done_in g h) o)) (sym none)
 
-done_then : (g : Setup) (s : Step) (a : Answer) (h : History) → Kind g h s a → IsLeft g h → CalledFor g (world g h) s a → AreDone (first_files g) (done_in g h) → AreDone (first_files g) (done_in g ((s, a) ∷ h))
+done_then : (g : Setup) (s : Step) (a : Answer) (h : History) → Kind g h s a → IsLeft g h
+    → CalledFor g (world g h) s a → AreDone (first_files g) (done_in g h)
+    → AreDone (first_files g) (done_in g ((s, a) ∷ h))
 done_then g s a h (carries_out n res bytes running) same called done =
     let r : Requests = (world g h).requests in
     done-snoc (first_files g) (done_in g h) _ done
     (subst (λ files. IsOutcome files (operation_of (entry_of r n)) (record { res = res; bytes = bytes })) same (subst (λ b. EndsOn (files_of g (world g h)) r n b (answer.Ended res bytes)) running called))
-done_then g s a h (idles _ _ none called kept) same _ done = subst (λ o. AreDone (first_files g) (with_told (done_in g h) o)) (sym none) done
+done_then g s a h (idles _ _ none called kept) same _ done =
+    subst (λ o. AreDone (first_files g) (with_told (done_in g h) o)) (sym none) done
 
-done_before : (g : Setup) (s : Step) (a : Answer) (h : History) → Kind g h s a → IsLeft g h → AreDone (first_files g) (done_in g ((s, a) ∷ h)) → AreDone (first_files g) (done_in g h) × CalledFor g (world g h) s a
+done_before : (g : Setup) (s : Step) (a : Answer) (h : History) → Kind g h s a → IsLeft g h
+    → AreDone (first_files g) (done_in g ((s, a) ∷ h))
+    → AreDone (first_files g) (done_in g h) × CalledFor g (world g h) s a
 done_before g s a h (carries_out n res bytes running) same done =
     let r : Requests = (world g h).requests in
     let d : Done = record { number = n; op = operation_of (entry_of r n); outcome = record { res = res; bytes = bytes } } in
     let parts = done-unsnoc (first_files g) (done_in g h) d done in
     (parts.0, subst (λ b. EndsOn (files_of g (world g h)) r n b (answer.Ended res bytes)) (sym running) (subst (λ files. IsOutcome files d.op d.outcome) (sym same) parts.1))
-done_before g s a h (idles _ _ none called kept) same done = (subst (λ o. AreDone (first_files g) (with_told (done_in g h) o)) none done, called)
+done_before g s a h (idles _ _ none called kept) same done =
+    (subst (λ o. AreDone (first_files g) (with_told (done_in g h) o)) none done, called)
 
 -- The laws.
 
 pub files_by_operations : (g : Setup) → FilesByOperations g
 files_by_operations g [] lawful = refl
-files_by_operations g ((s, a) ∷ before) lawful = left_then g s a before (kind_of g s a before lawful) (files_by_operations g before lawful.1)
+files_by_operations g ((s, a) ∷ before) lawful =
+    left_then g s a before (kind_of g s a before lawful) (files_by_operations g before lawful.1)
 
 are_done : (g : Setup) (h : History) → IsLawful g h → AreDone (first_files g) (done_in g h)
 are_done g [] lawful = tt
@@ -94,7 +112,8 @@ are_done g ((s, a) ∷ before) lawful =
     let apart = lawful_apart g ((s, a) ∷ before) lawful in
     done_then g s a before (kind_of g s a before apart) (files_by_operations g before apart.1) lawful.0 (are_done g before lawful.1)
 
-pub lawful_if_done : (g : Setup) (h : History) → IsLawfulApart g h → AreDone (first_files g) (done_in g h) → IsLawful g h
+pub lawful_if_done : (g : Setup) (h : History) → IsLawfulApart g h
+    → AreDone (first_files g) (done_in g h) → IsLawful g h
 lawful_if_done g [] apart done = tt
 lawful_if_done g ((s, a) ∷ before) apart done =
     let parts = done_before g s a before (kind_of g s a before apart) (files_by_operations g before apart.1) done in

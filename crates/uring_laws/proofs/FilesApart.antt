@@ -18,18 +18,21 @@ use Rattle.uring_laws.specs.Finishes.{Done, files_left, AreDone, ends_of, done_a
 -- The file of a descriptor.
 
 -- files that agree at a descriptor agree there after operations, also if those that aren't on its file are left out on one side
-left_apart : (files others : List FileContents) (done : List Done) (fd : ℤ) (keeps : Op → Bool) → ((op : Op) → is_on fd op ≡ true → keeps op ≡ true) → AgreeAt fd files others
+left_apart : (files others : List FileContents) (done : List Done) (fd : ℤ) (keeps : Op → Bool)
+    → ((op : Op) → is_on fd op ≡ true → keeps op ≡ true) → AgreeAt fd files others
     → AgreeAt fd (files_left files done) (files_left others (filter (λ d. keeps d.op) done))
 left_apart files others [] fd keeps own same = same
-left_apart files others (d ∷ later) fd keeps own same = by_test (keeps d.op) refl (λ fs os agree. left_apart fs os later fd keeps own agree) where
-  by_test : (here : Bool) → keeps d.op ≡ here → ((fs os : List FileContents) → AgreeAt fd fs os → AgreeAt fd (files_left fs later) (files_left os (filter (λ x. keeps x.op) later)))
-      → AgreeAt fd (files_left (after files d.op d.outcome.res) later) (files_left others (cond here (d ∷ filter (λ x. keeps x.op) later) (filter (λ x. keeps x.op) later)))
-  by_test true e then_on = then_on (after files d.op d.outcome.res) (after others d.op d.outcome.res) (files_apart files others d.op d.outcome.res fd same)
-  by_test false e then_on =
-      let elsewhere : is_on fd d.op ≡ false = false_from_ne_true _ (λ on. both_ways _ e (own d.op on)) in
-      then_on (after files d.op d.outcome.res) others (others_stay files d.op d.outcome.res fd elsewhere ∙ same)
+left_apart files others (d ∷ later) fd keeps own same =
+    by_test (keeps d.op) refl (λ fs os agree. left_apart fs os later fd keeps own agree) where
+      by_test : (here : Bool) → keeps d.op ≡ here → ((fs os : List FileContents) → AgreeAt fd fs os → AgreeAt fd (files_left fs later) (files_left os (filter (λ x. keeps x.op) later)))
+          → AgreeAt fd (files_left (after files d.op d.outcome.res) later) (files_left others (cond here (d ∷ filter (λ x. keeps x.op) later) (filter (λ x. keeps x.op) later)))
+      by_test true e then_on = then_on (after files d.op d.outcome.res) (after others d.op d.outcome.res) (files_apart files others d.op d.outcome.res fd same)
+      by_test false e then_on =
+          let elsewhere : is_on fd d.op ≡ false = false_from_ne_true _ (λ on. both_ways _ e (own d.op on)) in
+          then_on (after files d.op d.outcome.res) others (others_stay files d.op d.outcome.res fd elsewhere ∙ same)
 
-pub left_by_own : (files : List FileContents) (done : List Done) (fd : ℤ) (keeps : Op → Bool) → ((op : Op) → is_on fd op ≡ true → keeps op ≡ true)
+pub left_by_own : (files : List FileContents) (done : List Done) (fd : ℤ) (keeps : Op → Bool)
+    → ((op : Op) → is_on fd op ≡ true → keeps op ≡ true)
     → AgreeAt fd (files_left files done) (files_left files (filter (λ d. keeps d.op) done))
 left_by_own files done fd keeps own = left_apart files files done fd keeps own refl
 
@@ -37,19 +40,23 @@ left_by_own files done fd keeps own = left_apart files files done fd keeps own r
 done_of : Requests → Ending → Done
 done_of r e = record { number = e.number; op = operation_of (entry_of r e.number); outcome = record { res = e.res; bytes = e.bytes } }
 
-after_is_left : (r : Requests) (files : List FileContents) (ends : List Ending) → files_after r files ends ≡ files_left files (map (done_of r) ends)
+after_is_left : (r : Requests) (files : List FileContents) (ends : List Ending)
+    → files_after r files ends ≡ files_left files (map (done_of r) ends)
 unfolding done_of
 after_is_left r files [] = refl
-after_is_left r files (e ∷ later) = after_is_left r (after files (operation_of (entry_of r e.number)) e.res) later
+after_is_left r files (e ∷ later) =
+    after_is_left r (after files (operation_of (entry_of r e.number)) e.res) later
 
-own_ends : (r : Requests) (ends : List Ending) (fd : ℤ) → map (done_of r) (ends_of fd r ends) ≡ filter (λ d. is_on fd d.op) (map (done_of r) ends)
+own_ends : (r : Requests) (ends : List Ending) (fd : ℤ)
+    → map (done_of r) (ends_of fd r ends) ≡ filter (λ d. is_on fd d.op) (map (done_of r) ends)
 unfolding done_of
 own_ends r [] fd = refl
-own_ends r (e ∷ later) fd = by_test (is_on fd (operation_of (entry_of r e.number))) (own_ends r later fd) where
-  by_test : (on : Bool) → map (done_of r) (ends_of fd r later) ≡ filter (λ d. is_on fd d.op) (map (done_of r) later)
-      → map (done_of r) (cond on (e ∷ ends_of fd r later) (ends_of fd r later)) ≡ cond on (done_of r e ∷ filter (λ d. is_on fd d.op) (map (done_of r) later)) (filter (λ d. is_on fd d.op) (map (done_of r) later))
-  by_test true rest = ap (λ ds. done_of r e ∷ ds) rest
-  by_test false rest = rest
+own_ends r (e ∷ later) fd =
+    by_test (is_on fd (operation_of (entry_of r e.number))) (own_ends r later fd) where
+      by_test : (on : Bool) → map (done_of r) (ends_of fd r later) ≡ filter (λ d. is_on fd d.op) (map (done_of r) later)
+          → map (done_of r) (cond on (e ∷ ends_of fd r later) (ends_of fd r later)) ≡ cond on (done_of r e ∷ filter (λ d. is_on fd d.op) (map (done_of r) later)) (filter (λ d. is_on fd d.op) (map (done_of r) later))
+      by_test true rest = ap (λ ds. done_of r e ∷ ds) rest
+      by_test false rest = rest
 
 pub after_by_own : FileByItsEnds
 after_by_own r files ends fd =
@@ -61,13 +68,18 @@ after_by_own r files ends fd =
 -- Operations dealt out by their file.
 
 -- an outcome depends on no file but the operation's own
-outcome_apart : (files others : List FileContents) (op : Op) (outcome : Outcome) → ((fd : ℤ) → is_on fd op ≡ true → AgreeAt fd files others) → IsOutcome others op outcome → IsOutcome files op outcome
-outcome_apart files others op outcome agree (inl called) = inl (called ∙ sym (ends_apart files others op agree).0)
-outcome_apart files others op outcome agree (inr refused) = inr ((ends_apart files others op agree).1 ∙ refused.0, refused.1)
+outcome_apart : (files others : List FileContents) (op : Op) (outcome : Outcome)
+    → ((fd : ℤ) → is_on fd op ≡ true → AgreeAt fd files others) → IsOutcome others op outcome
+    → IsOutcome files op outcome
+outcome_apart files others op outcome agree (inl called) =
+    inl (called ∙ sym (ends_apart files others op agree).0)
+outcome_apart files others op outcome agree (inr refused) =
+    inr ((ends_apart files others op agree).1 ∙ refused.0, refused.1)
 
 -- each place has the files on which its operations are
 abbrev Agree : (Op → ℕ) → List FileContents → (ℕ → List FileContents) → Type 0
-Agree place files parts = (fd : ℤ) (op : Op) → is_on fd op ≡ true → AgreeAt fd files (parts (place op))
+Agree place files parts =
+    (fd : ℤ) (op : Op) → is_on fd op ≡ true → AgreeAt fd files (parts (place op))
 
 module _ (place : Op → ℕ) (by_file : IsByFile place) where
   -- the files of a place after an operation, if it is the place's own
@@ -105,5 +117,8 @@ module _ (place : Op → ℕ) (by_file : IsByFile place) where
   )
 
 -- what each place did on files of its own is right on files together
-pub join_places : (place : Op → ℕ) (places : ℕ) → IsByFile place → ((op : Op) → place op < places) → (files : List FileContents) (done : List Done) → ((k : ℕ) → k < places → AreDone files (done_at place k done)) → AreDone files done
-join_places place places by_file within files done at = joined place by_file places within files (λ k. files) done (λ fd op on. refl) at
+pub join_places : (place : Op → ℕ) (places : ℕ) → IsByFile place → ((op : Op) → place op < places)
+    → (files : List FileContents) (done : List Done)
+    → ((k : ℕ) → k < places → AreDone files (done_at place k done)) → AreDone files done
+join_places place places by_file within files done at =
+    joined place by_file places within files (λ k. files) done (λ fd op on. refl) at

@@ -13,18 +13,21 @@ use Rattle.uring_dispatch.specs.declared.answers.Found.TheVariants.{Running, Cho
 use Rattle.uring_dispatch.proofs.Issues.{is_cancel-operation}
 use Rattle.uring_laws.specs.Reasons.{IsLeastOf, IsFound, Finds, ends_with}
 
-target-none : (r : Requests) (n : ℕ) → target_of r n ≡ None → (m : ℕ) → m < length r.accepted → is_candidate r n m ≡ false
+target-none : (r : Requests) (n : ℕ) → target_of r n ≡ None → (m : ℕ) → m < length r.accepted
+    → is_candidate r n m ≡ false
 unfolding target_of
 target-none r n e m lt = least_below-out (is_candidate r n) (length r.accepted) e m lt
 
-target-some : (r : Requests) (n m : ℕ) → target_of r n ≡ Some m → IsLeastOf (is_candidate r n) (length r.accepted) m
+target-some : (r : Requests) (n m : ℕ) → target_of r n ≡ Some m
+    → IsLeastOf (is_candidate r n) (length r.accepted) m
 unfolding target_of
 target-some r n m e =
     let least = least_below-tells (is_candidate r n) (length r.accepted) m e in
     record { below = least.below; holds = least.holds; least = least.before }
 
 -- what is found, and what the cancel ends with
-found-as : (r : Requests) (n : ℕ) (o : Option ℕ) → target_of r n ≡ o → IsFound r n (found_as r o) × (result_for r o ≡ ends_with (found_as r o))
+found-as : (r : Requests) (n : ℕ) (o : Option ℕ) → target_of r n ≡ o
+    → IsFound r n (found_as r o) × (result_for r o ≡ ends_with (found_as r o))
 found-as r n None e = (target-none r n e, refl)
 found-as r n (Some m) e = go (is_running r m) refl
   where
@@ -32,7 +35,8 @@ found-as r n (Some m) e = go (is_running r m) refl
     go true runs = ((target-some r n m e, runs), refl)
     go false still = ((target-some r n m e, still), refl)
 
-found-one : (r : Requests) (n : ℕ) (f : Found) → is_cancel_all (entry_of r n) ≡ false → found_as r (target_of r n) ≡ f → IsFound r n f × (cancel_result r n ≡ ends_with f)
+found-one : (r : Requests) (n : ℕ) (f : Found) → is_cancel_all (entry_of r n) ≡ false
+    → found_as r (target_of r n) ≡ f → IsFound r n f × (cancel_result r n ≡ ends_with f)
 found-one r n f one is =
     let so = found-as r n (target_of r n) refl in
     subst (λ x. IsFound r n x × (cancel_result r n ≡ ends_with x)) is

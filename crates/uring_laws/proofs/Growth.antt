@@ -23,10 +23,18 @@ pub record Grows (r later : Requests) : Type 0 where
   pub same_group : (m n : ℕ) → n < length r.accepted → is_joined later m n ≡ is_joined r m n
   pub same_drain : (n : ℕ) → n < length r.accepted → is_draining later n ≡ is_draining r n
   pub stays_cancelled : (n : ℕ) → is_cancelled r n ≡ true → is_cancelled later n ≡ true
-  pub stays_doomed : (n : ℕ) → n < length r.accepted → is_doomed r n ≡ true → is_doomed later n ≡ true
+  pub stays_doomed : (n : ℕ) → n < length r.accepted → is_doomed r n ≡ true
+      → is_doomed later n ≡ true
 
 same_grows : (r : Requests) → Grows r r
-same_grows r = record { longer_then = omega arith; same_entry = λ n lt. refl; same_group = λ m n lt. refl; same_drain = λ n lt. refl; stays_cancelled = λ n e. e; stays_doomed = λ n lt e. e }
+same_grows r = record {
+  longer_then = omega arith;
+  same_entry = λ n lt. refl;
+  same_group = λ m n lt. refl;
+  same_drain = λ n lt. refl;
+  stays_cancelled = λ n e. e;
+  stays_doomed = λ n lt e. e;
+}
 
 pub then_grows : (r later last : Requests) → Grows r later → Grows later last → Grows r last
 then_grows r later last a b =
@@ -41,13 +49,22 @@ then_grows r later last a b =
     }
 
 start_grows : (r : Requests) (n : ℕ) → Grows r (with_started r n)
-start_grows r n = record { longer_then = omega arith; same_entry = λ m lt. refl; same_group = λ k m lt. is_joined-started r n k m; same_drain = λ m lt. is_draining-started r n m; stays_cancelled = λ m e. e; stays_doomed = λ m lt e. is_doomed-started r n m ∙ e }
+start_grows r n = record {
+  longer_then = omega arith;
+  same_entry = λ m lt. refl;
+  same_group = λ k m lt. is_joined-started r n k m;
+  same_drain = λ m lt. is_draining-started r n m;
+  stays_cancelled = λ m e. e;
+  stays_doomed = λ m lt e. is_doomed-started r n m ∙ e;
+}
 
-end_drain : (r : Requests) (n : ℕ) (res : ℤ) (bytes cancelled : List ℕ) (m : ℕ) → is_draining (ended_as r n res bytes cancelled) m ≡ is_draining r m
+end_drain : (r : Requests) (n : ℕ) (res : ℤ) (bytes cancelled : List ℕ) (m : ℕ)
+    → is_draining (ended_as r n res bytes cancelled) m ≡ is_draining r m
 unfolding some_member is_joined
 end_drain r n res bytes cancelled m = refl
 
-end_grows : (r : Requests) (n : ℕ) (res : ℤ) (bytes cancelled : List ℕ) → IsChoice r n cancelled → Grows r (ended_as r n res bytes cancelled)
+end_grows : (r : Requests) (n : ℕ) (res : ℤ) (bytes cancelled : List ℕ) → IsChoice r n cancelled
+    → Grows r (ended_as r n res bytes cancelled)
 end_grows r n res bytes cancelled choice =
     record {
       longer_then = omega arith;
@@ -58,7 +75,9 @@ end_grows r n res bytes cancelled choice =
       stays_doomed = λ m lt e. end_doom r n res bytes cancelled choice m e;
     }
 
-call_grows : (r : Requests) (entries : List Sqe) → (length r.accepted ≡ 0) ⊎ (list_any (λ c. c == length r.accepted) r.cuts ≡ true) → Grows r (with_call r entries)
+call_grows : (r : Requests) (entries : List Sqe)
+    → (length r.accepted ≡ 0) ⊎ (list_any (λ c. c == length r.accepted) r.cuts ≡ true)
+    → Grows r (with_call r entries)
 call_grows r entries cut =
     record {
       longer_then = longer r entries cut;
@@ -70,23 +89,31 @@ call_grows r entries cut =
     }
 
 move_grows : (r : Requests) (s : Step) (a : Answer) (later : Requests) → Move r s a later
-    → (length r.accepted ≡ 0) ⊎ (list_any (λ c. c == length r.accepted) r.cuts ≡ true) → Grows r later
+    → (length r.accepted ≡ 0) ⊎ (list_any (λ c. c == length r.accepted) r.cuts ≡ true)
+    → Grows r later
 move_grows r s a later (stays _ _ no_start no_end) cut = same_grows r
 move_grows r s a later (accepts accepted missed head entries) cut = call_grows r entries cut
 move_grows r s a later (starts n outstanding idle spared ready no_cancel) cut = start_grows r n
-move_grows r s a later (ends_doomed n outstanding) cut = end_grows r n _ _ _ (choice_of r n (doomed_result r n) (inl refl))
-move_grows r s a later (ends_cancel n outstanding spared ready cancel) cut = end_grows r n _ _ _ (choice_of r n (cancel_result r n) (inr refl))
-move_grows r s a later (ends_run n res bytes running) cut = end_grows r n res bytes r.cancelled (no_choice r n)
+move_grows r s a later (ends_doomed n outstanding) cut =
+    end_grows r n _ _ _ (choice_of r n (doomed_result r n) (inl refl))
+move_grows r s a later (ends_cancel n outstanding spared ready cancel) cut =
+    end_grows r n _ _ _ (choice_of r n (cancel_result r n) (inr refl))
+move_grows r s a later (ends_run n res bytes running) cut =
+    end_grows r n res bytes r.cancelled (no_choice r n)
 
-pub event_grows : (g : Setup) (s : Step) (a : Answer) (before : History) → IsLawfulApart g ((s, a) ∷ before) → Grows (world g before).requests (world g ((s, a) ∷ before)).requests
+pub event_grows : (g : Setup) (s : Step) (a : Answer) (before : History)
+    → IsLawfulApart g ((s, a) ∷ before)
+    → Grows (world g before).requests (world g ((s, a) ∷ before)).requests
 event_grows g s a before lawful = move_grows (world g before).requests s a _ (move_of g s a before lawful) (sound_of g before lawful.1).requests.cut_at_end
 
-pub grows : (g : Setup) (after before : History) → IsLawfulApart g (after ++ before) → Grows (world g before).requests (world g (after ++ before)).requests
+pub grows : (g : Setup) (after before : History) → IsLawfulApart g (after ++ before)
+    → Grows (world g before).requests (world g (after ++ before)).requests
 grows g [] before lawful = same_grows (world g before).requests
 grows g ((s, a) ∷ after) before lawful =
     then_grows (world g before).requests (world g (after ++ before)).requests (world g ((s, a) ∷ after ++ before)).requests (grows g after before lawful.1) (event_grows g s a (after ++ before) lawful)
 
 -- what a history is made of is lawful
-pub lawful_before : (g : Setup) (after before : History) → IsLawfulApart g (after ++ before) → IsLawfulApart g before
+pub lawful_before : (g : Setup) (after before : History) → IsLawfulApart g (after ++ before)
+    → IsLawfulApart g before
 lawful_before g [] before lawful = lawful
 lawful_before g ((s, a) ∷ after) before lawful = lawful_before g after before lawful.1

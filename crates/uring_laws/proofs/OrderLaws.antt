@@ -24,11 +24,14 @@ use Rattle.uring_machine.proofs.Sound.{sound_of}
 use Rattle.uring_laws.proofs.ToldRequests.{tells_requests}
 use Rattle.uring_laws.proofs.Growth.{Grows, grows, event_grows, then_grows, lawful_before}
 
-unstarted : (r : Requests) (n : ℕ) → IsSoundRequests r → is_doomed r n ≡ true → has_started r n ≡ false
-unstarted r n s doomed = false_from_ne_true _ (λ started. both_ways _ (s.started_free n started).spared doomed)
+unstarted : (r : Requests) (n : ℕ) → IsSoundRequests r → is_doomed r n ≡ true
+    → has_started r n ≡ false
+unstarted r n s doomed =
+    false_from_ne_true _ (λ started. both_ways _ (s.started_free n started).spared doomed)
 
 -- an end among these that has another result is among those that do
-ends_doomed : (r : Requests) (k : ℕ) (e : Ending) → IsSoundRequests r → slice_get r.ended k ≡ Some e → is_doomed r e.number ≡ true → e.res ≡ doomed_result r e.number
+ends_doomed : (r : Requests) (k : ℕ) (e : Ending) → IsSoundRequests r → slice_get r.ended k ≡ Some e
+    → is_doomed r e.number ≡ true → e.res ≡ doomed_result r e.number
 ends_doomed r k e s at doomed =
     let within = slice_get_within r.ended k e at in
     let here = get_or_from_slice_get r.ended k e e at in
@@ -50,7 +53,8 @@ never_run g h lawful =
     }
 
 -- ECANCELED is no result of a cancel
-one_unlike : (r : Requests) (target : Option ℕ) → int_eq (result_for r target) (neg_ℤ ECANCELED) ≡ false
+one_unlike : (r : Requests) (target : Option ℕ)
+    → int_eq (result_for r target) (neg_ℤ ECANCELED) ≡ false
 one_unlike r None = refl
 one_unlike r (Some m) = cond_both (is_running r m) (neg_ℤ EALREADY) (pos 0) (λ res. int_eq res (neg_ℤ ECANCELED) ≡ false) (λ _. refl) (λ _. refl)
 
@@ -63,23 +67,32 @@ refused_no_end n (answer.Ended res bytes) silent ended = let e = silent.ends in 
 refused_no_end n _ silent ended = ended
 
 refused_no_run : (n : ℕ) (a : Answer) → IsSilent (step.Issue n, a) → a ≡ answer.Run → ⊥
-refused_no_run n a silent run = let e : started_by (step.Issue n, answer.Run) ≡ None = subst (λ b. started_by (step.Issue n, b) ≡ None) run silent.starts in absurd cc
+refused_no_run n a silent run = let e : started_by (step.Issue n, answer.Run)
+    ≡ None = subst (λ b. started_by (step.Issue n, b) ≡ None) run silent.starts in absurd cc
 
-doomed_just_before : (g : Setup) (w : World) (n : ℕ) (a : Answer) (bytes : List ℕ) → Change g w (step.Issue n) a → a ≡ answer.Ended (neg_ℤ ECANCELED) bytes → is_doomed w.requests n ≡ true
-doomed_just_before g w n a bytes (refuses _ _ same silent) is = absurd (refused_no_end n a silent (subst IsEnded (sym is) tt))
+doomed_just_before : (g : Setup) (w : World) (n : ℕ) (a : Answer) (bytes : List ℕ)
+    → Change g w (step.Issue n) a → a ≡ answer.Ended (neg_ℤ ECANCELED) bytes
+    → is_doomed w.requests n ≡ true
+doomed_just_before g w n a bytes (refuses _ _ same silent) is =
+    absurd (refused_no_end n a silent (subst IsEnded (sym is) tt))
 doomed_just_before g w n a bytes (runs _ outstanding idle spared ready no_cancel) is = absurd cc
 doomed_just_before g w n a bytes (dooms _ outstanding idle doomed) is = doomed
 doomed_just_before g w n a bytes (cancels _ outstanding idle spared ready cancel) is =
     let e : cancel_result w.requests n ≡ neg_ℤ ECANCELED = cc in
     absurd (both_ways _ (cancel_unlike w.requests n) ((Decides-int_eq (cancel_result w.requests n) (neg_ℤ ECANCELED)).1 e))
 
-pub were_doomed : (g : Setup) (after before : History) (n : ℕ) (bytes : List ℕ) → IsLawfulApart g (after ++ (step.Issue n, answer.Ended (neg_ℤ ECANCELED) bytes) ∷ before) → is_doomed (world g before).requests n ≡ true
+pub were_doomed : (g : Setup) (after before : History) (n : ℕ) (bytes : List ℕ)
+    → IsLawfulApart g (after ++ (step.Issue n, answer.Ended (neg_ℤ ECANCELED) bytes) ∷ before)
+    → is_doomed (world g before).requests n ≡ true
 were_doomed g after before n bytes lawful =
     let l = lawful_before g after ((step.Issue n, answer.Ended (neg_ℤ ECANCELED) bytes) ∷ before) lawful in
     doomed_just_before g (world g before) n _ bytes (change_of g (world g before) (step.Issue n) _ l.0) refl
 
-pub stay_doomed : (g : Setup) (after before : History) (n : ℕ) → IsLawfulApart g (after ++ before) → n < length (world g before).requests.accepted → is_doomed (world g before).requests n ≡ true → is_doomed (world g (after ++ before)).requests n ≡ true
-stay_doomed g after before n lawful within doomed = (grows g after before lawful).stays_doomed n within doomed
+pub stay_doomed : (g : Setup) (after before : History) (n : ℕ) → IsLawfulApart g (after ++ before)
+    → n < length (world g before).requests.accepted → is_doomed (world g before).requests n ≡ true
+    → is_doomed (world g (after ++ before)).requests n ≡ true
+stay_doomed g after before n lawful within doomed =
+    (grows g after before lawful).stays_doomed n within doomed
 
 -- Links and drains.
 
@@ -88,22 +101,35 @@ record Started (w : World) (n : ℕ) : Type 0 where
   accepted : n < length w.requests.accepted
   ready : is_ready w.requests n ≡ true
 
-started_ready : (g : Setup) (w : World) (n : ℕ) (a : Answer) → Change g w (step.Issue n) a → IsStart w.requests n a → Started w n
+started_ready : (g : Setup) (w : World) (n : ℕ) (a : Answer) → Change g w (step.Issue n) a
+    → IsStart w.requests n a → Started w n
 started_ready g w n a (refuses _ _ same silent) (inl run) = absurd (refused_no_run n a silent run)
-started_ready g w n a (refuses _ _ same silent) (inr ended) = absurd (refused_no_end n a silent ended.0)
-started_ready g w n a (runs _ outstanding idle spared ready no_cancel) start = record { accepted = (outstanding_tells w.requests n outstanding).0; ready = ready }
+started_ready g w n a (refuses _ _ same silent) (inr ended) =
+    absurd (refused_no_end n a silent ended.0)
+started_ready g w n a (runs _ outstanding idle spared ready no_cancel) start = record {
+  accepted = (outstanding_tells w.requests n outstanding).0;
+  ready = ready;
+}
 started_ready g w n a (dooms _ outstanding idle doomed) (inl run) = absurd cc
-started_ready g w n a (dooms _ outstanding idle doomed) (inr ended) = absurd (both_ways _ ended.1 doomed)
-started_ready g w n a (cancels _ outstanding idle spared ready cancel) start = record { accepted = (outstanding_tells w.requests n outstanding).0; ready = ready }
+started_ready g w n a (dooms _ outstanding idle doomed) (inr ended) =
+    absurd (both_ways _ ended.1 doomed)
+started_ready g w n a (cancels _ outstanding idle spared ready cancel) start = record {
+  accepted = (outstanding_tells w.requests n outstanding).0;
+  ready = ready;
+}
 
-same_wait : (r later : Requests) (n m : ℕ) → Grows r later → m < n → n < length r.accepted → waits_for later n m ≡ waits_for r n m
+same_wait : (r later : Requests) (n m : ℕ) → Grows r later → m < n → n < length r.accepted
+    → waits_for later n m ≡ waits_for r n m
 same_wait r later n m g lt within =
     ap (λ b. b || is_draining later m || is_draining later n) (g.same_group m n within)
     ∙ ap (λ b. is_joined r m n || b || is_draining later n) (g.same_drain m (omega arith))
     ∙ ap (λ b. is_joined r m n || is_draining r m || b) (g.same_drain n within)
 
-pub waits : (g : Setup) (after before : History) (m n : ℕ) (a : Answer) → IsLawfulApart g (after ++ (step.Issue n, a) ∷ before) → IsStart (world g before).requests n a → m < n
-    → waits_for (world g (after ++ (step.Issue n, a) ∷ before)).requests n m ≡ true → times_ended before m ≡ 1
+pub waits : (g : Setup) (after before : History) (m n : ℕ) (a : Answer)
+    → IsLawfulApart g (after ++ (step.Issue n, a) ∷ before) → IsStart (world g before).requests n a
+    → m < n
+    → waits_for (world g (after ++ (step.Issue n, a) ∷ before)).requests n m ≡ true
+    → times_ended before m ≡ 1
 waits g after before m n a lawful start lt waiting =
     let l = lawful_before g after ((step.Issue n, a) ∷ before) lawful in
     let c = change_of g (world g before) (step.Issue n) a l.0 in

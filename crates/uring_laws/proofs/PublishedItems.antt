@@ -33,33 +33,40 @@ use Rattle.uring_rings.proofs.Places.{entries_and_dropped}
 -- The items.
 
 -- places whose entries are told by their positions, from n on
-items_are : (entry_at : ℕ → Option Sqe) (places : List Place) (n : ℕ) → ((k : ℕ) (p : Place) → slice_get places k ≡ Some p → p.entry ≡ entry_at (n + k))
-    → map (λ p. item_of p.word p.entry) places ≡ map (λ q. item_of q.1 (entry_at q.0)) (enumerate_from n (map (λ p. p.word) places))
+items_are : (entry_at : ℕ → Option Sqe) (places : List Place) (n : ℕ)
+    → ((k : ℕ) (p : Place) → slice_get places k ≡ Some p → p.entry ≡ entry_at (n + k))
+    → map (λ p. item_of p.word p.entry) places
+    ≡ map (λ q. item_of q.1 (entry_at q.0)) (enumerate_from n (map (λ p. p.word) places))
 items_are entry_at [] n at = refl
 items_are entry_at (p ∷ places) n at =
     ap₂ (λ item rest. item ∷ rest) (ap (item_of p.word) (at 0 p refl ∙ ap entry_at (let e : n + 0 ≡ n = omega arith in e)))
     (items_are entry_at places (n + 1) (λ k q e. at (suc k) q e ∙ ap entry_at (let f : n + suc k ≡ n + 1 + k = omega arith in f)))
 
-items_tell : (g : Setup) (h : History) → OwnSubmission g h → published_items (world g h).submission ≡ items_told g.sq h
+items_tell : (g : Setup) (h : History) → OwnSubmission g h
+    → published_items (world g h).submission ≡ items_told g.sq h
 items_tell g h own =
     items_are (published_entry g.sq h) (world g h).submission.published 0 (λ k p at. own.entries k p at ∙ ap (published_entry g.sq h) (let e : k ≡ 0 + k = omega arith in e))
     ∙ ap (λ words. map (λ q. item_of q.1 (published_entry g.sq h q.0)) (enumerate_from 0 words)) own.published
 
 -- the entry of a place, by its word
-all_items : (size : ℕ) (places : List Place) → ((k : ℕ) (p : Place) → slice_get places k ≡ Some p → p.entry ≡ None → size ≤ p.word) → All (IsItem size) (map (λ p. item_of p.word p.entry) places)
+all_items : (size : ℕ) (places : List Place)
+    → ((k : ℕ) (p : Place) → slice_get places k ≡ Some p → p.entry ≡ None → size ≤ p.word)
+    → All (IsItem size) (map (λ p. item_of p.word p.entry) places)
 all_items size [] at = All-nil (IsItem size)
 all_items size (p ∷ places) at = All-cons (IsItem size) (item_of p.word p.entry) (map (λ q. item_of q.word q.entry) places) (first p.entry refl) (all_items size places (λ k q e. at (suc k) q e)) where
   first : (entry : Option Sqe) → p.entry ≡ entry → IsItem size (item_of p.word entry)
   first None e = at 0 p refl e
   first (Some entry) e = tt
 
-bad_is_high : (word size : ℕ) (entry : Sqe) → None ≡ (if nat_lt word size then Some entry else None) → size ≤ word
+bad_is_high : (word size : ℕ) (entry : Sqe) → None ≡ (if nat_lt word size then Some entry else None)
+    → size ≤ word
 bad_is_high word size entry e = by_test (nat_lt word size) refl e where
   by_test : (low : Bool) → nat_lt word size ≡ low → None ≡ (if low then Some entry else None) → size ≤ word
   by_test true is e = absurd cc
   by_test false is e = ltb-false _ _ is
 
-word_is : (g : Setup) (h : History) → OwnSubmission g h → (k : ℕ) (p : Place) → slice_get (world g h).submission.published k ≡ Some p → get_or (staged_words h) k 0 ≡ p.word
+word_is : (g : Setup) (h : History) → OwnSubmission g h → (k : ℕ) (p : Place)
+    → slice_get (world g h).submission.published k ≡ Some p → get_or (staged_words h) k 0 ≡ p.word
 word_is g h own k p at =
     let places : List Place = (world g h).submission.published in
     let within : k < length places = slice_get_within places k p at in
@@ -70,7 +77,8 @@ word_is g h own k p at =
     ∙ get_or-map (λ q. q.word) places k p 0 within
     ∙ ap (λ q. q.word) (get_or_from_slice_get places k p p at)
 
-items_sound : (g : Setup) (h : History) → OwnSubmission g h → All (IsItem g.sq) (published_items (world g h).submission)
+items_sound : (g : Setup) (h : History) → OwnSubmission g h
+    → All (IsItem g.sq) (published_items (world g h).submission)
 items_sound g h own =
     all_items g.sq (world g h).submission.published
     (λ k p at none. subst (λ word. g.sq ≤ word) (word_is g h own k p at) (bad_is_high (get_or (staged_words h) k 0) g.sq (slot_content (before_published k h) (get_or (staged_words h) k 0)) (sym none ∙ own.entries k p at)))
@@ -78,7 +86,8 @@ items_sound g h own =
 -- What calls dropped.
 
 -- of the positions taken, those with an entry and those dropped
-taken_or_dropped : (h : History) → length (entries_taken h) + count_by drops_position h ≡ positions_taken h
+taken_or_dropped : (h : History)
+    → length (entries_taken h) + count_by drops_position h ≡ positions_taken h
 taken_or_dropped [] = refl
 taken_or_dropped (e ∷ h) = by_event e (taken_or_dropped h) where
   none_more : (event : Event) → entry_taken_by event ≡ None → drops_position event ≡ false → takes_position event ≡ false → length (entries_taken h) + count_by drops_position h ≡ positions_taken h → length (entries_taken (event ∷ h)) + count_by drops_position (event ∷ h) ≡ positions_taken (event ∷ h)
@@ -93,7 +102,9 @@ taken_or_dropped (e ∷ h) = by_event e (taken_or_dropped h) where
   by_event event rest = none_more event refl refl refl rest
 
 -- as many were dropped as the positions that were taken have no entry
-dropped_by_all : (g : Setup) (h : History) → IsLawfulApart g h → count_by drops_position h ≡ dropped_in (take (reached (world g h).submission) (world g h).submission.published)
+dropped_by_all : (g : Setup) (h : History) → IsLawfulApart g h
+    → count_by drops_position h
+    ≡ dropped_in (take (reached (world g h).submission) (world g h).submission.published)
 dropped_by_all g h lawful =
     let l : Submission = (world g h).submission in
     let t = takes_places g h lawful in
@@ -104,7 +115,10 @@ dropped_by_all g h lawful =
 abbrev Drops : History → World → Type 0
 Drops h w = positions_dropped h ≡ dropped_in (take (taken w.submission) w.submission.published)
 
-closed_drops : (g : Setup) (h : History) → IsLawfulApart g h → (accepted missed head : ℕ) (call : Call) → (world g h).submission.call ≡ Some call → nat_lt call.taken call.count ≡ false → Drops ((step.End, answer.Taken accepted missed head) ∷ h) (ending_of (world g h) (Some call))
+closed_drops : (g : Setup) (h : History) → IsLawfulApart g h
+    → (accepted missed head : ℕ) (call : Call) → (world g h).submission.call ≡ Some call
+    → nat_lt call.taken call.count ≡ false
+    → Drops ((step.End, answer.Taken accepted missed head) ∷ h) (ending_of (world g h) (Some call))
 closed_drops g h lawful accepted missed head call opened all =
     let l : Submission = (world g h).submission in
     let s = (sound_of g h lawful).submission in
@@ -115,12 +129,15 @@ closed_drops g h lawful accepted missed head call opened all =
     let same : reached l ≡ taken (ending_of (world g h) (Some call)).submission = omega (arith, s.within_call) in
     dropped_by_all g h lawful ∙ ap (λ k. dropped_in (take k l.published)) same
 
-drops_kept : (g : Setup) (h : History) (s : Step) (a : Answer) (v : World) → IsLawfulApart g h → SubmissionMove g (world g h) s a v → Drops h (world g h) → Drops ((s, a) ∷ h) v
-drops_kept g h s a v lawful (stays _ _ r c is_closed off left) i = ap (count_by drops_position) (before_same closes_call (s, a) h off.closes) ∙ i
+drops_kept : (g : Setup) (h : History) (s : Step) (a : Answer) (v : World) → IsLawfulApart g h
+    → SubmissionMove g (world g h) s a v → Drops h (world g h) → Drops ((s, a) ∷ h) v
+drops_kept g h s a v lawful (stays _ _ r c is_closed off left) i =
+    ap (count_by drops_position) (before_same closes_call (s, a) h off.closes) ∙ i
 drops_kept g h s a v lawful (stores tail) i =
     let l : Submission = (world g h).submission in
     i ∙ ap dropped_in (sym (take-append-le (taken l) l.published (map (place_of g.sq l.content) l.fresh) (omega (arith, (sound_of g h lawful).submission.call_published))))
-drops_kept g h s a v lawful (closes accepted missed head call opened all counted) i = closed_drops g h lawful accepted missed head call opened all
+drops_kept g h s a v lawful (closes accepted missed head call opened all counted) i =
+    closed_drops g h lawful accepted missed head call opened all
 drops_kept g h s a v lawful _ i = i
 
 drops_told : (g : Setup) (h : History) → IsLawfulApart g h → Drops h (world g h)

@@ -25,7 +25,10 @@ use Rattle.uring_laws.specs.Reasons.{answer_told, can_be_issued, IsUnstarted, Ca
 -- Standing.
 
 unstarted-told : (r : Requests) (n : ℕ) → StillWaits r n → IsUnstarted r n
-unstarted-told r n s = record { outstanding = and_from _ _ (lt-ltb n (length r.accepted) s.given) (ap not s.unended); still = s.unstarted }
+unstarted-told r n s = record {
+  outstanding = and_from _ _ (lt-ltb n (length r.accepted) s.given) (ap not s.unended);
+  still = s.unstarted;
+}
 
 told-unstarted : (r : Requests) (n : ℕ) → IsUnstarted r n → StillWaits r n
 told-unstarted r n u =
@@ -37,25 +40,31 @@ ready-none : (r : Requests) (n : ℕ) → holder_of r n ≡ None → is_ready r 
 ready-none r n e = is_ready-yes r n (λ m low. least_below-out (holds_back r n) n e m low)
 
 none-ready : (r : Requests) (n : ℕ) → is_ready r n ≡ true → holder_of r n ≡ None
-none-ready r n ready = least_below-none (holds_back r n) n (λ m low. is_ready-inside r n m ready low)
+none-ready r n ready =
+    least_below-none (holds_back r n) n (λ m low. is_ready-inside r n m ready low)
 
 ready-some : (r : Requests) (n m : ℕ) → holder_of r n ≡ Some m → is_ready r n ≡ false
-ready-some r n m e = false_from_ne_true _ (λ ready. let f : None ≡ Some m = sym (none-ready r n ready) ∙ e in cc)
+ready-some r n m e =
+    false_from_ne_true _ (λ ready. let f : None ≡ Some m = sym (none-ready r n ready) ∙ e in cc)
 
 -- What can be issued.
 
-issuable-doomed : (r : Requests) (n : ℕ) → StillWaits r n → is_doomed r n ≡ true → is_issuable r n ≡ true
+issuable-doomed : (r : Requests) (n : ℕ) → StillWaits r n → is_doomed r n ≡ true
+    → is_issuable r n ≡ true
 issuable-doomed r n s doomed =
     let u = unstarted-told r n s in
     and_from _ _ (and_from _ _ u.outstanding (ap not u.still)) (or_left _ _ doomed)
 
-issuable-free : (r : Requests) (n : ℕ) → StillWaits r n → holder_of r n ≡ None → is_issuable r n ≡ true
+issuable-free : (r : Requests) (n : ℕ) → StillWaits r n → holder_of r n ≡ None
+    → is_issuable r n ≡ true
 issuable-free r n s e =
     let u = unstarted-told r n s in
     and_from _ _ (and_from _ _ u.outstanding (ap not u.still)) (or_right _ _ (ready-none r n e))
 
-issuable-told : (r : Requests) (n : ℕ) (why : Why) → IsTold r n why → is_issuable r n ≡ can_be_issued why
-issuable-told r n NeverAccepted le = and_left _ _ (and_left _ _ (and_left _ _ (le-ltb n (length r.accepted) le)))
+issuable-told : (r : Requests) (n : ℕ) (why : Why) → IsTold r n why
+    → is_issuable r n ≡ can_be_issued why
+issuable-told r n NeverAccepted le =
+    and_left _ _ (and_left _ _ (and_left _ _ (le-ltb n (length r.accepted) le)))
 issuable-told r n HasEnded t = and_left _ _ (and_left _ _ (and_right _ _ (ap not t.1)))
 issuable-told r n Runs t = and_left _ _ (and_right _ _ (ap not t.2))
 issuable-told r n (IsDoomed doom) t = issuable-doomed r n t.0 t.1
@@ -76,7 +85,8 @@ said-may_start r n c = why-waiting r n (told-unstarted r n c.unstarted) c.free �
 -- What it waits for.
 
 since-said : (r : Requests) (n m : ℕ) → waits_for r n m ≡ true → IsSince r n m (since_of r n m)
-since-said r n m waits = go (is_joined r m n) (is_draining r m) (is_draining r n) refl refl refl waits
+since-said r n m waits =
+    go (is_joined r m n) (is_draining r m) (is_draining r n) refl refl refl waits
   where
     go : (a b d : Bool) → is_joined r m n ≡ a → is_draining r m ≡ b → is_draining r n ≡ d → ((a || b) || d) ≡ true → IsSince r n m (if a then SameGroup else if b then ItDrains else OwnDrains)
     go true b d x y z w = x
@@ -84,7 +94,8 @@ since-said r n m waits = go (is_joined r m n) (is_draining r m) (is_draining r n
     go false false true x y z w = (x, y, z)
     go false false false x y z w = cc
 
-pub waits-said : (r : Requests) (n m : ℕ) (since : Since) → why_of r n ≡ Waits m since → IsWaiting r n m since
+pub waits-said : (r : Requests) (n m : ℕ) (since : Since) → why_of r n ≡ Waits m since
+    → IsWaiting r n m since
 waits-said r n m since e =
     let t = told-as r n (Waits m since) e in
     let least = least_below-tells (holds_back r n) n m t.2 in
@@ -101,17 +112,23 @@ waits-said r n m since e =
 -- What dooms it.
 
 least-of : (p : ℕ → Bool) (bound m : ℕ) → least_below p bound ≡ Some m → IsLeastOf p bound m
-least-of p bound m e = let least = least_below-tells p bound m e in record { below = least.below; holds = least.holds; least = least.before }
+least-of p bound m e = let least = least_below-tells p bound m e in record {
+  below = least.below;
+  holds = least.holds;
+  least = least.before;
+}
 
 no-faulty : (r : Requests) (n : ℕ) → faulty_member_of r n ≡ None → is_in_faulty_group r n ≡ false
 unfolding some_member
-no-faulty r n e = sym (is_some-least_below (is_faulty_member r n) (length r.accepted)) ∙ ap is_some e
+no-faulty r n e =
+    sym (is_some-least_below (is_faulty_member r n) (length r.accepted)) ∙ ap is_some e
 
 no-failed : (r : Requests) (n : ℕ) → failed_member_of r n ≡ None → is_behind_failure r n ≡ false
 unfolding is_behind_failure
 no-failed r n e = sym (is_some-least_below (is_failure_before r n) n) ∙ ap is_some e
 
-doomed-else : (r : Requests) (n : ℕ) → is_in_faulty_group r n ≡ false → is_behind_failure r n ≡ false → is_doomed r n ≡ true → is_cancelled r n ≡ true
+doomed-else : (r : Requests) (n : ℕ) → is_in_faulty_group r n ≡ false
+    → is_behind_failure r n ≡ false → is_doomed r n ≡ true → is_cancelled r n ≡ true
 unfolding is_doomed
 doomed-else r n a b doomed =
     go (is_in_faulty_group r n) (is_behind_failure r n) (is_cancelled r n) a b doomed
@@ -121,7 +138,8 @@ doomed-else r n a b doomed =
     go x y false p q w = absurd (both_ways _ (or_from _ _ (or_from _ _ p q) refl) w)
 
 doom-is : (r : Requests) (n : ℕ) → is_doomed r n ≡ true → IsDoomOf r n (doom_of r n)
-doom-is r n doomed = go (fault_of (entry_of r n)) (faulty_member_of r n) (failed_member_of r n) refl refl refl
+doom-is r n doomed =
+    go (fault_of (entry_of r n)) (faulty_member_of r n) (failed_member_of r n) refl refl refl
   where
     go : (a : Option Fault) (b d : Option ℕ) → fault_of (entry_of r n) ≡ a → faulty_member_of r n ≡ b → failed_member_of r n ≡ d → IsDoomOf r n (first_doom a b d)
     go (Some fault) b d x y z = x
@@ -129,7 +147,8 @@ doom-is r n doomed = go (fault_of (entry_of r n)) (faulty_member_of r n) (failed
     go None None (Some m) x y z = (no-faulty r n y, least-of (is_failure_before r n) n m z)
     go None None None x y z = (no-faulty r n y, no-failed r n z, doomed-else r n (no-faulty r n y) (no-failed r n z) doomed)
 
-pub doom-said : (r : Requests) (n : ℕ) (doom : Doom) → why_of r n ≡ IsDoomed doom → IsUnstarted r n × (is_doomed r n ≡ true) × IsDoomOf r n doom
+pub doom-said : (r : Requests) (n : ℕ) (doom : Doom) → why_of r n ≡ IsDoomed doom
+    → IsUnstarted r n × (is_doomed r n ≡ true) × IsDoomOf r n doom
 doom-said r n doom e =
     let t = told-as r n (IsDoomed doom) e in
     (unstarted-told r n t.0, t.1, subst (IsDoomOf r n) (sym t.2) (doom-is r n t.1))
@@ -159,16 +178,19 @@ stands r m given going =
 
 -- whoever holds another back hasn't ended
 holder-going : (r : Requests) (n m : ℕ) → holds_back r n m ≡ true → has_ended r m ≡ false
-holder-going r n m holds = let parts = and_parts (not (has_ended r m)) (waits_for r n m) holds in not-true _ parts.0
+holder-going r n m holds =
+    let parts = and_parts (not (has_ended r m)) (waits_for r n m) holds in not-true _ parts.0
 
-free-parts : (r : Requests) (n m : ℕ) → has_ended r m ≡ false → holds_back r n m ≡ false → (is_joined r m n ≡ false) × (is_draining r m ≡ false) × (is_draining r n ≡ false)
+free-parts : (r : Requests) (n m : ℕ) → has_ended r m ≡ false → holds_back r n m ≡ false
+    → (is_joined r m n ≡ false) × (is_draining r m ≡ false) × (is_draining r n ≡ false)
 free-parts r n m going free =
     let waits : waits_for r n m ≡ false = ap (λ b. not b && waits_for r n m) (sym going) ∙ free in
     let outer = or_parts _ _ waits in
     let inner = or_parts _ _ outer.0 in
     (inner.0, inner.1, outer.1)
 
-held-joined : (r : Requests) (n m : ℕ) → holds_back r n m ≡ true → is_draining r m ≡ false → is_draining r n ≡ false → is_joined r m n ≡ true
+held-joined : (r : Requests) (n m : ℕ) → holds_back r n m ≡ true → is_draining r m ≡ false
+    → is_draining r n ≡ false → is_joined r m n ≡ true
 held-joined r n m holds a b =
     let parts = and_parts (not (has_ended r m)) (waits_for r n m) holds in
     go (is_joined r m n) (is_draining r m) (is_draining r n) a b parts.1
@@ -178,7 +200,8 @@ held-joined r n m holds a b =
     go false y z p q w = absurd (both_ways _ (or_from _ _ p q) w)
 
 -- The least that holds one back, the least that holds that one back, and again the least: three in a row there never are.
-three-none : (r : Requests) (n m k j : ℕ) → IsLeast (holds_back r n) n m → IsLeast (holds_back r m) m k → IsLeast (holds_back r k) k j → ⊥
+three-none : (r : Requests) (n m k j : ℕ) → IsLeast (holds_back r n) n m
+    → IsLeast (holds_back r m) m k → IsLeast (holds_back r k) k j → ⊥
 three-none r n m k j a b d =
     let first = free-parts r n k (holder-going r m k b.holds) (a.before k b.below) in
     let second = free-parts r m j (holder-going r k j d.holds) (b.before j d.below) in
@@ -188,7 +211,8 @@ three-none r n m k j a b d =
     (is_joined-yes r k n
     (λ i le lt. elim (cases_lt i m) [ inl low ↦ is_joined-inside r k m i lower le low | inr high ↦ is_joined-inside r m n i upper high lt ]))
 
-pub two-steps : (r : Requests) (n m : ℕ) (since : Since) → why_of r n ≡ Waits m since → GoesOn r m ⊎ ((k : ℕ) × (other : Since) × (why_of r m ≡ Waits k other) × GoesOn r k)
+pub two-steps : (r : Requests) (n m : ℕ) (since : Since) → why_of r n ≡ Waits m since
+    → GoesOn r m ⊎ ((k : ℕ) × (other : Since) × (why_of r m ≡ Waits k other) × GoesOn r k)
 two-steps r n m since e =
     let t = told-as r n (Waits m since) e in
     let s = t.0 in
@@ -214,25 +238,35 @@ by_ready w n ready =
     if is_cancel (entry_of w.requests n) then answer.Ended (cancel_result w.requests n) no_bytes else answer.Run
 
 abbrev by_doomed : World → ℕ → Bool → Answer
-by_doomed w n doomed = if doomed then answer.Ended (doomed_result w.requests n) no_bytes else by_ready w n (is_ready w.requests n)
+by_doomed w n doomed =
+    if doomed then answer.Ended (doomed_result w.requests n) no_bytes else
+    by_ready w n (is_ready w.requests n)
 
 abbrev by_running : World → ℕ → Bool → Answer
 by_running w n running = if running then answer.Running else by_doomed w n (is_doomed w.requests n)
 
 abbrev by_outstanding : World → ℕ → Bool → Answer
-by_outstanding w n outstanding = if not outstanding then answer.Unknown else by_running w n (is_running w.requests n)
+by_outstanding w n outstanding =
+    if not outstanding then answer.Unknown else by_running w n (is_running w.requests n)
 
-unknown-answer : (w : World) (n : ℕ) → is_outstanding w.requests n ≡ false → issue_answer w n ≡ answer.Unknown
+unknown-answer : (w : World) (n : ℕ) → is_outstanding w.requests n ≡ false
+    → issue_answer w n ≡ answer.Unknown
 unknown-answer w n e = ap (by_outstanding w n) e
 
-unstarted-answer : (w : World) (n : ℕ) → StillWaits w.requests n → issue_answer w n ≡ by_doomed w n (is_doomed w.requests n)
+unstarted-answer : (w : World) (n : ℕ) → StillWaits w.requests n
+    → issue_answer w n ≡ by_doomed w n (is_doomed w.requests n)
 unstarted-answer w n s = let u = unstarted-told w.requests n s in ap (by_outstanding w n) u.outstanding ∙ ap (by_running w n) u.still
 
-ready-answer : (w : World) (n : ℕ) (ready : Bool) → StillWaits w.requests n → is_doomed w.requests n ≡ false → is_ready w.requests n ≡ ready → issue_answer w n ≡ by_ready w n ready
-ready-answer w n ready s free e = unstarted-answer w n s ∙ ap (by_doomed w n) free ∙ ap (by_ready w n) e
+ready-answer : (w : World) (n : ℕ) (ready : Bool) → StillWaits w.requests n
+    → is_doomed w.requests n ≡ false → is_ready w.requests n ≡ ready
+    → issue_answer w n ≡ by_ready w n ready
+ready-answer w n ready s free e =
+    unstarted-answer w n s ∙ ap (by_doomed w n) free ∙ ap (by_ready w n) e
 
-agrees-told : (w : World) (n : ℕ) (why : Why) → IsTold w.requests n why → issue_answer w n ≡ answer_told w.requests n why
-agrees-told w n NeverAccepted le = unknown-answer w n (and_left _ _ (le-ltb n (length w.requests.accepted) le))
+agrees-told : (w : World) (n : ℕ) (why : Why) → IsTold w.requests n why
+    → issue_answer w n ≡ answer_told w.requests n why
+agrees-told w n NeverAccepted le =
+    unknown-answer w n (and_left _ _ (le-ltb n (length w.requests.accepted) le))
 agrees-told w n HasEnded t = unknown-answer w n (and_right _ _ (ap not t.1))
 agrees-told w n Runs t =
     ap (by_outstanding w n) (and_from _ _ (lt-ltb n (length w.requests.accepted) t.0) (ap not t.1)) ∙ ap (by_running w n) t.2
@@ -240,5 +274,6 @@ agrees-told w n (IsDoomed doom) t = unstarted-answer w n t.0 ∙ ap (by_doomed w
 agrees-told w n (Waits m since) t = ready-answer w n false t.0 t.1 (ready-some w.requests n m t.2)
 agrees-told w n MayStart t = ready-answer w n true t.0 t.1 (ready-none w.requests n t.2)
 
-pub answer-agrees : (w : World) (n : ℕ) → issue_answer w n ≡ answer_told w.requests n (why_of w.requests n)
+pub answer-agrees : (w : World) (n : ℕ)
+    → issue_answer w n ≡ answer_told w.requests n (why_of w.requests n)
 answer-agrees w n = agrees-told w n (why_of w.requests n) (told w.requests n)

@@ -70,20 +70,24 @@ decided_end files op o = by_both (decided_outcome o (result_of files op)) (cases
   by_both (inr other) (inr short) failed = inr (λ k. elim k [ inl e ↦ other e | inr e ↦ both_ways (is_lengthening files op) short e.0 ])
   by_both (inr other) (inl long) (inr no_failure) = inr (λ k. elim k [ inl e ↦ other e | inr e ↦ no_failure e.1 ])
 
-decided_on : (files : List FileContents) (r : Requests) (n : ℕ) (running : Bool) (a : Answer) → Decided (EndsOn files r n running a)
-decided_on files r n true (answer.Ended res bytes) = decided_end files (operation_of (entry_of r n)) (record { res = res; bytes = bytes })
+decided_on : (files : List FileContents) (r : Requests) (n : ℕ) (running : Bool) (a : Answer)
+    → Decided (EndsOn files r n running a)
+decided_on files r n true (answer.Ended res bytes) =
+    decided_end files (operation_of (entry_of r n)) (record { res = res; bytes = bytes })
 decided_on files r n true _ = inr (λ k. k)
 decided_on files r n false a = decided a answer.NotRunning
 
 pub decided_called : CalledIsDecided
-decided_called g w (step.Finish n) a = decided_on (files_of g w) w.requests n (is_running w.requests n) a
+decided_called g w (step.Finish n) a =
+    decided_on (files_of g w) w.requests n (is_running w.requests n) a
 decided_called g w (step.Begin count) a = decided_begin (begin_answer w count) a
 decided_called g w _ a = decided a _
 
 -- A list with a wrong answer is unlawful.
 
 -- the history up to an event
-parted : (events : List Event) (place : ℕ) (e : Event) → slice_get events place ≡ Some e → (later : History) × (history_of events ≡ later ++ e ∷ history_of (take place events))
+parted : (events : List Event) (place : ℕ) (e : Event) → slice_get events place ≡ Some e
+    → (later : History) × (history_of events ≡ later ++ e ∷ history_of (take place events))
 parted events place e is_there =
     let within = slice_get_within events place e is_there in
     let at : get_or events place e ≡ e = get_or_from_slice_get events place e e is_there in

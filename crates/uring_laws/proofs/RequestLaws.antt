@@ -17,7 +17,8 @@ use Rattle.uring_machine.proofs.Sound.{sound_of}
 use Rattle.uring_laws.proofs.ToldRequests.{tells_requests}
 
 -- the least outstanding request is the next, where it isn't running
-least_is_next : (r : Requests) (m : ℕ) → least_of r ≡ Some m → is_issuable r m ≡ true → next_of r ≡ Some m
+least_is_next : (r : Requests) (m : ℕ) → least_of r ≡ Some m → is_issuable r m ≡ true
+    → next_of r ≡ Some m
 least_is_next r m least issuable =
     let l = least_below-tells (is_outstanding r) (length r.accepted) m least in
     least_below-some (is_issuable r) (length r.accepted) m l.below issuable

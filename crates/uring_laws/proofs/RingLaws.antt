@@ -16,7 +16,8 @@ use Rattle.uring_machine.specs.declared.answer.Answer.TheVariants as answer
 use Rattle.uring_machine.proofs.SubmissionMoves.{SubmissionMove, stays, begins, takes, drops, closes, submission_move}
 use Rattle.uring_machine.proofs.SoundRings.{IsSoundCompletions}
 
-pub begin_posted : (size : ℕ) (l : Completions) → IsSoundCompletions size l → ReapedBeginPosted size l
+pub begin_posted : (size : ℕ) (l : Completions) → IsSoundCompletions size l
+    → ReapedBeginPosted size l
 begin_posted size l s =
     let within : length l.reaped ≤ l.put = omega arith in
     record {
@@ -38,21 +39,28 @@ record StaysShut (w : World) (after : History) : Type 0 where
   shut : IsShut w
   none_in : list_any takes_in after ≡ false
 
-shut_stays : (g : Setup) (w : World) (s : Step) (a : Answer) (v : World) → SubmissionMove g w s a v → IsShut w → IsShut v × (takes_in (s, a) ≡ false)
-shut_stays g w s a v (stays _ _ r c is_closed off left) i = (record { closed = left.shut ∙ or_right _ _ i.closed; no_call = i.no_call }, off.takes_into)
+shut_stays : (g : Setup) (w : World) (s : Step) (a : Answer) (v : World) → SubmissionMove g w s a v
+    → IsShut w → IsShut v × (takes_in (s, a) ≡ false)
+shut_stays g w s a v (stays _ _ r c is_closed off left) i =
+    (record { closed = left.shut ∙ or_right _ _ i.closed; no_call = i.no_call }, off.takes_into)
 shut_stays g w s a v (begins count is_open no_call unspent) i = absurd (let e = i.closed in cc)
-shut_stays g w s a v (takes entry call place opened left at valid) i = absurd (let o = i.no_call in cc)
+shut_stays g w s a v (takes entry call place opened left at valid) i =
+    absurd (let o = i.no_call in cc)
 shut_stays g w s a v (drops call place opened left at invalid) i = absurd (let o = i.no_call in cc)
-shut_stays g w s a v (closes accepted missed head call opened all counted) i = absurd (let o = i.no_call in cc)
+shut_stays g w s a v (closes accepted missed head call opened all counted) i =
+    absurd (let o = i.no_call in cc)
 shut_stays g w s a v _ i = (assumption i, refl)
 
-open_none : (w : World) → answer.Shut ≡ (cond (is_some w.submission.call) answer.InCall answer.Shut) → w.submission.call ≡ None
+open_none : (w : World) → answer.Shut ≡ (cond (is_some w.submission.call) answer.InCall answer.Shut)
+    → w.submission.call ≡ None
 open_none w e = by_call w.submission.call e where
   by_call : (call : Option Rattle.uring_entry.specs.Submission.Call) → answer.Shut ≡ (cond (is_some call) answer.InCall answer.Shut) → call ≡ None
   by_call None e = refl
   by_call (Some call) e = absurd cc
 
-stays_shut : (g : Setup) (after before : History) → IsLawfulApart g (after ++ (step.Close, answer.Shut) ∷ before) → StaysShut (world g (after ++ (step.Close, answer.Shut) ∷ before)) after
+stays_shut : (g : Setup) (after before : History)
+    → IsLawfulApart g (after ++ (step.Close, answer.Shut) ∷ before)
+    → StaysShut (world g (after ++ (step.Close, answer.Shut) ∷ before)) after
 stays_shut g [] before lawful = record { shut = record { closed = refl; no_call = open_none (world g before) lawful.0 }; none_in = refl }
 stays_shut g ((s, a) ∷ after) before lawful =
     let i = stays_shut g after before lawful.1 in
@@ -60,5 +68,7 @@ stays_shut g ((s, a) ∷ after) before lawful =
     let k = shut_stays g _ s a _ move i.shut in
     record { shut = k.0; none_in = or_from _ _ k.1 i.none_in }
 
-pub nothing_after : (g : Setup) (after before : History) → IsLawfulApart g (after ++ (step.Close, answer.Shut) ∷ before) → list_any takes_in after ≡ false
+pub nothing_after : (g : Setup) (after before : History)
+    → IsLawfulApart g (after ++ (step.Close, answer.Shut) ∷ before)
+    → list_any takes_in after ≡ false
 nothing_after g after before lawful = (stays_shut g after before lawful).none_in

@@ -24,16 +24,20 @@ use Rattle.uring_machine.specs.declared.answer.Answer.TheVariants as answer
 -- Filling and staging.
 
 -- no slot is busy
-pub slots_free : (l : Submission) (words : List ℕ) (slot : ℕ) → Stands l words 0 → is_busy l slot ≡ false
+pub slots_free : (l : Submission) (words : List ℕ) (slot : ℕ) → Stands l words 0
+    → is_busy l slot ≡ false
 slots_free l words slot s =
     let none : drop l.seen_head l.published ≡ [] = drop_of_length-le l.published (let h = s.head in let q = s.waiting in omega arith) in
     ap (list_any (λ place. place.word == slot)) none
 
 -- the ring has room for further words
-pub room_left : (size : ℕ) (l : Submission) (words : List ℕ) → Stands l words 0 → length words < size → is_full size l ≡ false
+pub room_left : (size : ℕ) (l : Submission) (words : List ℕ) → Stands l words 0
+    → length words < size → is_full size l ≡ false
 room_left size l words s few = ne_eqb (staged l - l.seen_head) size (λ full. omega (arith, full, s.head, s.waiting, ap length s.fresh))
 
-fill_free : (slot size : ℕ) (busy : Bool) → slot < size → busy ≡ false → (if nat_le size slot then answer.NoSlot else (if busy then answer.Busy else answer.Filled)) ≡ answer.Filled
+fill_free : (slot size : ℕ) (busy : Bool) → slot < size → busy ≡ false
+    → (if nat_le size slot then answer.NoSlot else (if busy then answer.Busy else answer.Filled))
+    ≡ answer.Filled
 fill_free slot size busy low free =
     ap (λ b. if nat_le size slot then answer.NoSlot else (if b then answer.Busy else answer.Filled)) free ∙ ap (λ b. if b then answer.NoSlot else answer.Filled) (lt-leb size slot low)
 
@@ -62,26 +66,34 @@ words_of slot [] = []
 words_of slot (with_entry entry ∷ later) = slot ∷ words_of (slot + 1) later
 words_of slot (bad_word word ∷ later) = word ∷ words_of (slot + 1) later
 
-items_fresh : (l : Submission) (slot : ℕ) (items : List Published) → (with_items l slot items).fresh ≡ l.fresh ++ words_of slot items
+items_fresh : (l : Submission) (slot : ℕ) (items : List Published)
+    → (with_items l slot items).fresh ≡ l.fresh ++ words_of slot items
 items_fresh l slot [] = sym (append-nil l.fresh)
 items_fresh l slot (with_entry entry ∷ later) = items_fresh (with_item l slot (with_entry entry)) (slot + 1) later ∙ append_assoc l.fresh (slot ∷ []) (words_of (slot + 1) later)
 items_fresh l slot (bad_word word ∷ later) = items_fresh (with_item l slot (bad_word word)) (slot + 1) later ∙ append_assoc l.fresh (word ∷ []) (words_of (slot + 1) later)
 
-pub items_keep : (l : Submission) (slot : ℕ) (items : List Published) → (with_items l slot items).published ≡ l.published
+pub items_keep : (l : Submission) (slot : ℕ) (items : List Published)
+    → (with_items l slot items).published ≡ l.published
 items_keep l slot [] = refl
-items_keep l slot (with_entry entry ∷ later) = items_keep (with_item l slot (with_entry entry)) (slot + 1) later
-items_keep l slot (bad_word word ∷ later) = items_keep (with_item l slot (bad_word word)) (slot + 1) later
+items_keep l slot (with_entry entry ∷ later) =
+    items_keep (with_item l slot (with_entry entry)) (slot + 1) later
+items_keep l slot (bad_word word ∷ later) =
+    items_keep (with_item l slot (bad_word word)) (slot + 1) later
 
 -- the slots before the first are as they were
-slots_below : (l : Submission) (slot : ℕ) (items : List Published) (s : ℕ) → s < slot → (with_items l slot items).content s ≡ l.content s
+slots_below : (l : Submission) (slot : ℕ) (items : List Published) (s : ℕ) → s < slot
+    → (with_items l slot items).content s ≡ l.content s
 slots_below l slot [] s low = refl
 slots_below l slot (with_entry entry ∷ later) s low =
     slots_below (with_item l slot (with_entry entry)) (slot + 1) later s (omega arith) ∙ ap (λ b. if b then entry else l.content s) (ne_eqb s slot (λ same. omega arith))
-slots_below l slot (bad_word word ∷ later) s low = slots_below (with_item l slot (bad_word word)) (slot + 1) later s (omega arith)
+slots_below l slot (bad_word word ∷ later) s low =
+    slots_below (with_item l slot (bad_word word)) (slot + 1) later s (omega arith)
 
 -- each item is read back from its slot
-read_back : (size : ℕ) (l : Submission) (slot : ℕ) (items : List Published) → slot + length items ≤ size → All (IsItem size) items
-    → map (λ p. item_of p.word p.entry) (map (place_of size (with_items l slot items).content) (words_of slot items)) ≡ items
+read_back : (size : ℕ) (l : Submission) (slot : ℕ) (items : List Published)
+    → slot + length items ≤ size → All (IsItem size) items
+    → map (λ p. item_of p.word p.entry) (map (place_of size (with_items l slot items).content) (words_of slot items))
+    ≡ items
 read_back size l slot [] few good = refl
 read_back size l slot (with_entry entry ∷ later) few good =
     let l' : Submission = with_item l slot (with_entry entry) in
@@ -108,10 +120,12 @@ items_published l size items none few good =
 -- Taking.
 
 -- a call asked for positions that wait has as many
-length_asked : (l : Submission) (count asked : ℕ) → Stands l [] count → asked ≤ count → call_length l asked ≡ asked
+length_asked : (l : Submission) (count asked : ℕ) → Stands l [] count → asked ≤ count
+    → call_length l asked ≡ asked
 length_asked l count asked s few = omega (arith, s.waiting)
 
-open_answer : (with_closed in_call : Bool) (rest : Answer) → with_closed ≡ false → in_call ≡ false → (if with_closed then answer.Closed else (if in_call then answer.InCall else rest)) ≡ rest
+open_answer : (with_closed in_call : Bool) (rest : Answer) → with_closed ≡ false → in_call ≡ false
+    → (if with_closed then answer.Closed else (if in_call then answer.InCall else rest)) ≡ rest
 open_answer with_closed in_call rest e f = rw (e, f) refl
 
 pub call_opens : (g : Setup) → CallOpens g
@@ -128,7 +142,9 @@ call_opens g w count asked a s is_open few called =
       by_spent false e told = inl told
 
 -- a position was taken, whatever its word
-took_place : (g : Setup) (w : World) (count done : ℕ) (entry : Option Sqe) (a : Answer) → g.stops ≡ false → a ≡ entry_answer entry → taking g (in_call w count done) a ≡ in_call w count (done + 1)
+took_place : (g : Setup) (w : World) (count done : ℕ) (entry : Option Sqe) (a : Answer)
+    → g.stops ≡ false → a ≡ entry_answer entry
+    → taking g (in_call w count done) a ≡ in_call w count (done + 1)
 took_place g w count done None a goes is = ap (taking g (in_call w count done)) is
 took_place g w count done (Some entry) a goes is =
     ap (taking g (in_call w count done)) is ∙ ap (λ b. in_call w (if b && is_faulty entry then done + 1 else count) (done + 1)) goes
@@ -142,7 +158,10 @@ position_taken g goes w count asked done a s few low called =
     let told : a ≡ place_answer (slice_get l.published at) = called ∙ ap (λ b. if b then answer.NoMore else place_answer (slice_get l.published at)) (ne_eqb done asked (λ same. omega arith)) in
     (told, took_place g w asked done place.entry a goes (told ∙ ap place_answer (slice_get-get_or l.published at _ within)))
 
-closes : (w : World) (count : ℕ) (few : Bool) (accepted missed head : ℕ) (a : Answer) → few ≡ false → a ≡ (if few then answer.NotAll else answer.Taken accepted missed head) → ending (in_call w count count) a ≡ ending_of (in_call w count count) (Some (record { count = count; taken = count }))
+closes : (w : World) (count : ℕ) (few : Bool) (accepted missed head : ℕ) (a : Answer) → few ≡ false
+    → a ≡ (if few then answer.NotAll else answer.Taken accepted missed head)
+    → ending (in_call w count count) a
+    ≡ ending_of (in_call w count count) (Some (record { count = count; taken = count }))
 closes w count few accepted missed head a all called = ap (ending (in_call w count count)) (called ∙ ap (λ b. if b then answer.NotAll else answer.Taken accepted missed head) all)
 
 pub call_closes : (g : Setup) → CallCloses g

@@ -31,19 +31,24 @@ given_no_more None e = cc
 given_no_more (Some entry) e = cc
 
 -- a take gives no more exactly if all positions are taken
-no_more_at : (all : Bool) (taken count : ℕ) (place : Option Place) (p : Place) → eqb taken count ≡ all → place ≡ Some p
+no_more_at : (all : Bool) (taken count : ℕ) (place : Option Place) (p : Place)
+    → eqb taken count ≡ all → place ≡ Some p
     → (cond all answer.NoMore (place_answer place) ≡ answer.NoMore) ↔ (taken ≡ count)
 no_more_at true taken count place p e is = (λ _. eqb-true taken count e, λ _. refl)
 no_more_at false taken count place p e is = (λ f. absurd (given_no_more p.entry (sym (ap place_answer is) ∙ f)), λ same. absurd (eqb-false taken count e same))
 
 -- a call may be closed exactly if all its positions are taken
-closes_at : (few : Bool) (taken count : ℕ) (accepted missed head : ℕ) → taken ≤ count → nat_lt taken count ≡ few
-    → (cond few answer.NotAll (answer.Taken accepted missed head) ≡ answer.NotAll → ⊥) ↔ (taken ≡ count)
-closes_at true taken count accepted missed head within e = (λ refused. absurd (refused refl), λ same. absurd (omega (arith, ltb-true taken count e, same)))
+closes_at : (few : Bool) (taken count : ℕ) (accepted missed head : ℕ) → taken ≤ count
+    → nat_lt taken count ≡ few
+    → (cond few answer.NotAll (answer.Taken accepted missed head) ≡ answer.NotAll → ⊥)
+    ↔ (taken ≡ count)
+closes_at true taken count accepted missed head within e =
+    (λ refused. absurd (refused refl), λ same. absurd (omega (arith, ltb-true taken count e, same)))
 closes_at false taken count accepted missed head within e = (λ _. omega (arith, ltb-false taken count e), λ _ f. let no : answer.Taken accepted missed head ≡ answer.NotAll = f in cc)
 
 -- the positions of a call are all taken exactly if it took those that it opened with, or stopped
-all_at : (had : Bool) (taken count since opened : ℕ) → taken ≡ since → count ≡ (if had then since else opened) → (taken ≡ count) ↔ ((since ≡ opened) ⊎ (had ≡ true))
+all_at : (had : Bool) (taken count since opened : ℕ) → taken ≡ since
+    → count ≡ (if had then since else opened) → (taken ≡ count) ↔ ((since ≡ opened) ⊎ (had ≡ true))
 all_at true taken count since opened t n = (λ _. inr refl, λ _. t ∙ sym n)
 all_at false taken count since opened t n = (
   λ same. inl (sym t ∙ same ∙ n),
@@ -106,8 +111,12 @@ pub record TakesAll (h : History) (w : World) : Type 0 where
   pub opened : told opened_by h ≡ w.submission.calls ++ open_counts w.submission.call
   pub closed : count_by closes_call h ≡ length w.submission.calls
 
-all_kept : (g : Setup) (h : History) (s : Step) (a : Answer) (v : World) → g.stops ≡ false → SubmissionMove g (world g h) s a v → TakesAll h (world g h) → TakesAll ((s, a) ∷ h) v
-all_kept g h s a v goes (stays _ _ r c is_closed off left) i = record { opened = told_same opened_by (s, a) h off.opens ∙ i.opened; closed = count_same closes_call (s, a) h off.closes ∙ i.closed }
+all_kept : (g : Setup) (h : History) (s : Step) (a : Answer) (v : World) → g.stops ≡ false
+    → SubmissionMove g (world g h) s a v → TakesAll h (world g h) → TakesAll ((s, a) ∷ h) v
+all_kept g h s a v goes (stays _ _ r c is_closed off left) i = record {
+  opened = told_same opened_by (s, a) h off.opens ∙ i.opened;
+  closed = count_same closes_call (s, a) h off.closes ∙ i.closed;
+}
 all_kept g h s a v goes (begins count is_open no_call unspent) i =
     let l = (world g h).submission in
     record {
@@ -132,7 +141,10 @@ all_kept g h s a v goes (closes accepted missed head call opened all counted) i 
       opened = i.opened ∙ ap (λ o. l.calls ++ open_counts o) opened ∙ sym (append-nil (l.calls ++ call.count ∷ []));
       closed = count_more closes_call (step.End, answer.Taken accepted missed head) h refl ∙ omega (arith, i.closed, length_push l.calls call.count);
     }
-all_kept g h s a v goes _ i = record { opened = i.opened; closed = count_same closes_call (s, a) h refl ∙ i.closed }
+all_kept g h s a v goes _ i = record {
+  opened = i.opened;
+  closed = count_same closes_call (s, a) h refl ∙ i.closed;
+}
 
 all_taken : (g : Setup) (h : History) → g.stops ≡ false → IsLawfulApart g h → TakesAll h (world g h)
 all_taken g [] goes lawful = record { opened = refl; closed = refl }

@@ -33,14 +33,20 @@ pub record TakesPlaces (h : History) (w : World) : Type 0 where
   pub entries : entries_taken h ≡ entries_of (take (reached w.submission) w.submission.published)
 
 -- a beginning that goes one place further
-one_further : (places : List Place) (k : ℕ) (place : Place) (entry : Option Sqe) → slice_get places k ≡ Some place → place.entry ≡ entry → entries_of (take (k + 1) places) ≡ entries_of (take k places) ++ cons_option entry []
+one_further : (places : List Place) (k : ℕ) (place : Place) (entry : Option Sqe)
+    → slice_get places k ≡ Some place → place.entry ≡ entry
+    → entries_of (take (k + 1) places) ≡ entries_of (take k places) ++ cons_option entry []
 one_further places k place entry at is =
     ap entries_of (take_more places k place (slice_get_within places k place at)) ∙ filter_map-append (λ p. p.entry) (take k places) (get_or places k place ∷ [])
     ∙ ap (λ p. entries_of (take k places) ++ cons_option p.entry []) (get_or_from_slice_get places k place place at)
     ∙ ap (λ o. entries_of (take k places) ++ cons_option o []) is
 
-took_valid : (g : Setup) (h : History) (w : World) (entry : Sqe) (call : Call) (place : Place) → w.submission.call ≡ Some call → slice_get w.submission.published (taken w.submission + call.taken) ≡ Some place → place.entry ≡ Some entry
-    → TakesPlaces h w → TakesPlaces ((step.Take, answer.Entry entry) ∷ h) (taking_entry_of g w entry (Some call))
+took_valid : (g : Setup) (h : History) (w : World) (entry : Sqe) (call : Call) (place : Place)
+    → w.submission.call ≡ Some call
+    → slice_get w.submission.published (taken w.submission + call.taken) ≡ Some place
+    → place.entry ≡ Some entry
+    → TakesPlaces h w
+    → TakesPlaces ((step.Take, answer.Entry entry) ∷ h) (taking_entry_of g w entry (Some call))
 took_valid g h w entry call place opened at valid i =
     let t : open_taken w.submission.call ≡ call.taken = ap open_taken opened in
     let next : reached w.submission + 1 ≡ taken w.submission + (call.taken + 1) = omega arith in
@@ -50,7 +56,10 @@ took_valid g h w entry call place opened at valid i =
       entries = ap (λ xs. xs ++ entry ∷ []) (i.entries ∙ ap (λ k. entries_of (take k w.submission.published)) here) ∙ sym (one_further w.submission.published (taken w.submission + call.taken) place (Some entry) at valid) ∙ ap (λ k. entries_of (take k w.submission.published)) (omega arith);
     }
 
-took_invalid : (h : History) (w : World) (call : Call) (place : Place) → w.submission.call ≡ Some call → slice_get w.submission.published (taken w.submission + call.taken) ≡ Some place → place.entry ≡ None
+took_invalid : (h : History) (w : World) (call : Call) (place : Place)
+    → w.submission.call ≡ Some call
+    → slice_get w.submission.published (taken w.submission + call.taken) ≡ Some place
+    → place.entry ≡ None
     → TakesPlaces h w → TakesPlaces ((step.Take, answer.Dropped) ∷ h) (taking_of w (Some call))
 took_invalid h w call place opened at invalid i =
     let t : open_taken w.submission.call ≡ call.taken = ap open_taken opened in
@@ -60,8 +69,11 @@ took_invalid h w call place opened at invalid i =
       entries = i.entries ∙ ap (λ k. entries_of (take k w.submission.published)) here ∙ sym (append-nil _) ∙ sym (one_further w.submission.published (taken w.submission + call.taken) place None at invalid) ∙ ap (λ k. entries_of (take k w.submission.published)) (omega arith);
     }
 
-closed_places : (g : Setup) (h : History) (w : World) (accepted missed head : ℕ) (call : Call) → w.submission.call ≡ Some call → nat_lt call.taken call.count ≡ false → IsSoundSubmission g.sq w.submission
-    → TakesPlaces h w → TakesPlaces ((step.End, answer.Taken accepted missed head) ∷ h) (ending_of w (Some call))
+closed_places : (g : Setup) (h : History) (w : World) (accepted missed head : ℕ) (call : Call)
+    → w.submission.call ≡ Some call → nat_lt call.taken call.count ≡ false
+    → IsSoundSubmission g.sq w.submission
+    → TakesPlaces h w
+    → TakesPlaces ((step.End, answer.Taken accepted missed head) ∷ h) (ending_of w (Some call))
 closed_places g h w accepted missed head call opened all sound i =
     let t : open_taken w.submission.call ≡ call.taken = ap open_taken opened in
     let c : open_count w.submission.call ≡ call.count = ap open_count opened in
@@ -73,7 +85,9 @@ closed_places g h w accepted missed head call opened all sound i =
       entries = i.entries ∙ ap (λ k. entries_of (take k w.submission.published)) same;
     }
 
-begun_places : (g : Setup) (h : History) (w : World) (count : ℕ) → w.submission.call ≡ None → TakesPlaces h w → TakesPlaces ((step.Begin count, answer.Call (call_length w.submission count)) ∷ h) (happens g w (step.Begin count) (answer.Call (call_length w.submission count)))
+begun_places : (g : Setup) (h : History) (w : World) (count : ℕ) → w.submission.call ≡ None
+    → TakesPlaces h w
+    → TakesPlaces ((step.Begin count, answer.Call (call_length w.submission count)) ∷ h) (happens g w (step.Begin count) (answer.Call (call_length w.submission count)))
 begun_places g h w count no_call i =
     let t : open_taken w.submission.call ≡ 0 = ap open_taken no_call in
     let same : reached w.submission ≡ taken w.submission + 0 = omega arith in
@@ -82,7 +96,9 @@ begun_places g h w count no_call i =
       entries = i.entries ∙ ap (λ k. entries_of (take k w.submission.published)) same;
     }
 
-stored_places : (g : Setup) (h : History) (w : World) (tail : ℕ) → IsSoundSubmission g.sq w.submission → TakesPlaces h w → TakesPlaces ((step.StoreTail, answer.Tail tail) ∷ h) (happens g w step.StoreTail (answer.Tail tail))
+stored_places : (g : Setup) (h : History) (w : World) (tail : ℕ)
+    → IsSoundSubmission g.sq w.submission → TakesPlaces h w
+    → TakesPlaces ((step.StoreTail, answer.Tail tail) ∷ h) (happens g w step.StoreTail (answer.Tail tail))
 stored_places g h w tail sound i =
     record {
       count = count_same takes_position (step.StoreTail, answer.Tail tail) h refl ∙ i.count;
@@ -90,22 +106,31 @@ stored_places g h w tail sound i =
     }
 
 places_kept : (g : Setup) (h : History) (w : World) (s : Step) (a : Answer) (v : World)
-    → SubmissionMove g w s a v → IsSoundSubmission g.sq w.submission → TakesPlaces h w → TakesPlaces ((s, a) ∷ h) v
+    → SubmissionMove g w s a v → IsSoundSubmission g.sq w.submission → TakesPlaces h w
+    → TakesPlaces ((s, a) ∷ h) v
 places_kept g h w s a v (stays _ _ r c is_closed off left) sound i =
     record { count = count_same takes_position (s, a) h off.takes ∙ i.count; entries = told_same entry_taken_by (s, a) h off.takes_entry ∙ i.entries }
 places_kept g h w s a v (stores tail) sound i = stored_places g h w tail sound i
-places_kept g h w s a v (begins count is_open no_call unspent) sound i = begun_places g h w count no_call i
-places_kept g h w s a v (takes entry call place opened left at valid) sound i = took_valid g h w entry call place opened at valid i
-places_kept g h w s a v (drops call place opened left at invalid) sound i = took_invalid h w call place opened at invalid i
-places_kept g h w s a v (closes accepted missed head call opened all counted) sound i = closed_places g h w accepted missed head call opened all sound i
-places_kept g h w s a v _ sound i = record { count = count_same takes_position (s, a) h refl ∙ i.count; entries = i.entries }
+places_kept g h w s a v (begins count is_open no_call unspent) sound i =
+    begun_places g h w count no_call i
+places_kept g h w s a v (takes entry call place opened left at valid) sound i =
+    took_valid g h w entry call place opened at valid i
+places_kept g h w s a v (drops call place opened left at invalid) sound i =
+    took_invalid h w call place opened at invalid i
+places_kept g h w s a v (closes accepted missed head call opened all counted) sound i =
+    closed_places g h w accepted missed head call opened all sound i
+places_kept g h w s a v _ sound i = record {
+  count = count_same takes_position (s, a) h refl ∙ i.count;
+  entries = i.entries;
+}
 
 pub takes_places : (g : Setup) (h : History) → IsLawfulApart g h → TakesPlaces h (world g h)
 takes_places g [] lawful = record { count = refl; entries = refl }
 takes_places g ((s, a) ∷ before) lawful =
     places_kept g before (world g before) s a _ (submission_move g s a before lawful) (sound_of g before lawful.1).submission (takes_places g before lawful.1)
 
-pub once_in_order : (g : Setup) (h : History) → IsWithinLimits g → IsLawfulApart g h → TakenOnceInOrder g h
+pub once_in_order : (g : Setup) (h : History) → IsWithinLimits g → IsLawfulApart g h
+    → TakenOnceInOrder g h
 once_in_order g h setup lawful =
     let s = (sound_of g h lawful).submission in
     let t = takes_places g h lawful in

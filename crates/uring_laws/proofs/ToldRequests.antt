@@ -15,14 +15,17 @@ pub record TellsRequests (h : History) (w : World) : Type 0 where
   pub started : starts_of h ≡ w.requests.started
   pub ended : ends h ≡ w.requests.ended
 
-told_kept : (h : History) (r : Requests) (s : Step) (a : Answer) (later : Requests) → Move r s a later → starts_of h ≡ r.started → ends h ≡ r.ended
+told_kept : (h : History) (r : Requests) (s : Step) (a : Answer) (later : Requests)
+    → Move r s a later → starts_of h ≡ r.started → ends h ≡ r.ended
     → (starts_of ((s, a) ∷ h) ≡ later.started) × (ends ((s, a) ∷ h) ≡ later.ended)
 told_kept h r s a later (stays _ _ no_start no_end) started ended = (told_same started_by (s, a) h no_start ∙ started, told_same end_told_by (s, a) h no_end ∙ ended)
 told_kept h r s a later (accepts accepted missed head entries) started ended = (started, ended)
-told_kept h r s a later (starts n outstanding idle spared ready no_cancel) started ended = (ap (λ xs. xs ++ n ∷ []) started, ended)
+told_kept h r s a later (starts n outstanding idle spared ready no_cancel) started ended =
+    (ap (λ xs. xs ++ n ∷ []) started, ended)
 told_kept h r s a later (ends_doomed n outstanding) started ended = (started, ap (λ xs. xs ++ record { number = n; res = doomed_result r n; bytes = no_bytes } ∷ []) ended)
 told_kept h r s a later (ends_cancel n outstanding spared ready cancel) started ended = (started, ap (λ xs. xs ++ record { number = n; res = cancel_result r n; bytes = no_bytes } ∷ []) ended)
-told_kept h r s a later (ends_run n res bytes running) started ended = (started, ap (λ xs. xs ++ record { number = n; res = res; bytes = bytes } ∷ []) ended)
+told_kept h r s a later (ends_run n res bytes running) started ended =
+    (started, ap (λ xs. xs ++ record { number = n; res = res; bytes = bytes } ∷ []) ended)
 
 pub tells_requests : (g : Setup) (h : History) → IsLawfulApart g h → TellsRequests h (world g h)
 tells_requests g [] lawful = record { started = refl; ended = refl }

@@ -27,11 +27,16 @@ record NoneRefused (g : Setup) (before : History) (words : List ℕ) (slot : ℕ
   stands : Stands (with_items (world g before).submission slot items) staged 0
 
 -- the events of an item come right behind what was before
-one_behind : (e : Event) (events : List Event) (before : History) (g : Setup) → IsLawfulApart g (history_of (e ∷ events) ++ before) → IsLawfulApart g (history_of events ++ e ∷ before)
-one_behind e events before g lawful = subst (IsLawfulApart g) (history_of-cons e events before) lawful
+one_behind : (e : Event) (events : List Event) (before : History) (g : Setup)
+    → IsLawfulApart g (history_of (e ∷ events) ++ before)
+    → IsLawfulApart g (history_of events ++ e ∷ before)
+one_behind e events before g lawful =
+    subst (IsLawfulApart g) (history_of-cons e events before) lawful
 
-word_goes_in : (g : Setup) (before : History) (words : List ℕ) (slot word : ℕ) (later : List Published) (a : Answer) (answers : List Answer) → a ≡ answer.Staged
-    → NoneRefused g ((step.Index word, answer.Staged) ∷ before) (words ++ word ∷ []) (slot + 1) later answers → NoneRefused g before words slot (bad_word word ∷ later) (a ∷ answers)
+word_goes_in : (g : Setup) (before : History) (words : List ℕ) (slot word : ℕ) (later : List Published) (a : Answer) (answers : List Answer)
+    → a ≡ answer.Staged
+    → NoneRefused g ((step.Index word, answer.Staged) ∷ before) (words ++ word ∷ []) (slot + 1) later answers
+    → NoneRefused g before words slot (bad_word word ∷ later) (a ∷ answers)
 word_goes_in g before words slot word later a answers is rest =
     let events : List Event = zip (item_steps (slot + 1) later) answers in
     record {
@@ -42,8 +47,10 @@ word_goes_in g before words slot word later a answers is rest =
       stands = rest.stands;
     }
 
-entry_goes_in : (g : Setup) (before : History) (words : List ℕ) (slot : ℕ) (entry : Sqe) (later : List Published) (a b : Answer) (answers : List Answer) → a ≡ answer.Filled → b ≡ answer.Staged
-    → NoneRefused g ((step.Index slot, answer.Staged) ∷ (step.Fill slot entry, answer.Filled) ∷ before) (words ++ slot ∷ []) (slot + 1) later answers → NoneRefused g before words slot (with_entry entry ∷ later) (a ∷ b ∷ answers)
+entry_goes_in : (g : Setup) (before : History) (words : List ℕ) (slot : ℕ) (entry : Sqe) (later : List Published) (a b : Answer) (answers : List Answer)
+    → a ≡ answer.Filled → b ≡ answer.Staged
+    → NoneRefused g ((step.Index slot, answer.Staged) ∷ (step.Fill slot entry, answer.Filled) ∷ before) (words ++ slot ∷ []) (slot + 1) later answers
+    → NoneRefused g before words slot (with_entry entry ∷ later) (a ∷ b ∷ answers)
 entry_goes_in g before words slot entry later a b answers is also rest =
     let events : List Event = zip (item_steps (slot + 1) later) answers in
     record {
@@ -58,11 +65,23 @@ entry_goes_in g before words slot entry later a b answers is also rest =
       stands = rest.stands;
     }
 
-items_go_in : (g : Setup) (items : List Published) (before : History) (words : List ℕ) (slot : ℕ) (answers : List Answer) → Stands (world g before).submission words 0 → slot + length items ≤ g.sq → length words + length items ≤ g.sq
-    → length answers ≡ length (item_steps slot items) → IsLawfulApart g (history_of (zip (item_steps slot items) answers) ++ before) → NoneRefused g before words slot items answers
-items_go_in g [] before words slot [] stands low few many lawful = record { none_refused = refl; now = refl; staged = words; many = omega arith; stands = stands }
-items_go_in g [] before words slot (a ∷ answers) stands low few many lawful = absurd (omega (arith, many))
-items_go_in g (bad_word word ∷ later) before words slot [] stands low few many lawful = absurd (omega (arith, many))
+items_go_in : (g : Setup) (items : List Published) (before : History) (words : List ℕ) (slot : ℕ) (answers : List Answer)
+    → Stands (world g before).submission words 0 → slot + length items ≤ g.sq
+    → length words + length items ≤ g.sq
+    → length answers ≡ length (item_steps slot items)
+    → IsLawfulApart g (history_of (zip (item_steps slot items) answers) ++ before)
+    → NoneRefused g before words slot items answers
+items_go_in g [] before words slot [] stands low few many lawful = record {
+  none_refused = refl;
+  now = refl;
+  staged = words;
+  many = omega arith;
+  stands = stands;
+}
+items_go_in g [] before words slot (a ∷ answers) stands low few many lawful =
+    absurd (omega (arith, many))
+items_go_in g (bad_word word ∷ later) before words slot [] stands low few many lawful =
+    absurd (omega (arith, many))
 items_go_in g (bad_word word ∷ later) before words slot (a ∷ answers) stands low few many lawful =
     let events : List Event = zip (item_steps (slot + 1) later) answers in
     let behind : IsLawfulApart g (history_of events ++ (step.Index word, a) ∷ before) = one_behind (step.Index word, a) events before g lawful in
@@ -70,8 +89,10 @@ items_go_in g (bad_word word ∷ later) before words slot (a ∷ answers) stands
     word_goes_in g before words slot word later a answers one.0
     (items_go_in g later ((step.Index word, answer.Staged) ∷ before) (words ++ word ∷ []) (slot + 1) answers one.1 (omega arith) (omega (arith, length_push words word)) (omega (arith, many))
     (subst (λ x. IsLawfulApart g (history_of events ++ (step.Index word, x) ∷ before)) one.0 behind))
-items_go_in g (with_entry entry ∷ later) before words slot [] stands low few many lawful = absurd (omega (arith, many))
-items_go_in g (with_entry entry ∷ later) before words slot (a ∷ []) stands low few many lawful = absurd (omega (arith, many))
+items_go_in g (with_entry entry ∷ later) before words slot [] stands low few many lawful =
+    absurd (omega (arith, many))
+items_go_in g (with_entry entry ∷ later) before words slot (a ∷ []) stands low few many lawful =
+    absurd (omega (arith, many))
 items_go_in g (with_entry entry ∷ later) before words slot (a ∷ b ∷ answers) stands low few many lawful =
     let events : List Event = zip (item_steps (slot + 1) later) answers in
     let filling : IsLawfulApart g (history_of ((step.Index slot, b) ∷ events) ++ (step.Fill slot entry, a) ∷ before) = one_behind (step.Fill slot entry, a) ((step.Index slot, b) ∷ events) before g lawful in

@@ -54,7 +54,8 @@ one_counted : dropped called.submission ≡ 1
 one_counted = refl
 
 -- while the call is open nothing counts as dropped yet
-none_dropped : positions_dropped ((step.Take, answer.Dropped) ∷ (step.Take, answer.Entry sync) ∷ []) ≡ 0
+none_dropped : positions_dropped ((step.Take, answer.Dropped) ∷ (step.Take, answer.Entry sync) ∷ [])
+    ≡ 0
 none_dropped = refl
 
 -- The ring stands empty at first and again behind the call, whose steps are those for its two items.
@@ -65,7 +66,8 @@ stands_first = record { fresh = refl; call = refl; head = refl; waiting = refl }
 stands_again : Stands called.submission [] 0
 stands_again = record { fresh = refl; call = refl; head = refl; waiting = refl }
 
-first_steps : after_items (with_entry sync ∷ bad_word 9 ∷ []) (item_answers (with_entry sync ∷ bad_word 9 ∷ [])) [] ≡ history_of (take 3 call)
+first_steps : after_items (with_entry sync ∷ bad_word 9 ∷ []) (item_answers (with_entry sync ∷ bad_word 9 ∷ [])) []
+    ≡ history_of (take 3 call)
 first_steps = refl
 
 -- A call of two entries, of which the first has a fault: in a ring that stops it ends there, and the next call takes the other.
@@ -107,7 +109,8 @@ run = call ++ (step.Issue 0, answer.Run) ∷ (step.Finish 0, answer.Ended (pos 0
 abbrev ran : World
 ran = world setup (history_of run)
 
-sync_done : done_in setup (history_of run) ≡ record { number = 0; op = Fsync (pos 2); outcome = record { res = pos 0; bytes = no_bytes } } ∷ []
+sync_done : done_in setup (history_of run)
+    ≡ record { number = 0; op = Fsync (pos 2); outcome = record { res = pos 0; bytes = no_bytes } } ∷ []
 sync_done = refl
 
 sync_right : AreDone (first_files setup) (done_in setup (history_of run))

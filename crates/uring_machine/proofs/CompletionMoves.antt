@@ -45,7 +45,8 @@ pub data CompletionMove (g : Setup) (w : World) : Step → Answer → World → 
 same_ends : (r : Requests) → LeavesEnds r r
 same_ends r = record { more = []; accepted = sym (append-nil r.accepted); ended = refl }
 
-completion_by : (g : Setup) (w : World) (s : Step) (a : Answer) → Change g w s a → CompletionMove g w s a (happens g w s a)
+completion_by : (g : Setup) (w : World) (s : Step) (a : Answer) → Change g w s a
+    → CompletionMove g w s a (happens g w s a)
 completion_by g w s a (event_refuses _ _ same i) =
     subst (CompletionMove g w s a) (sym (same w)) (stays s a w.submission w.requests w.is_closed (assumption i) i.ends (same_ends w.requests))
 completion_by g w s a (event_takes entry call place opened left at valid) =
@@ -55,14 +56,19 @@ completion_by g w s a (event_drops call place opened left at invalid) =
 completion_by g w s a (event_closes accepted missed head call opened all counted) =
     subst (λ o. CompletionMove g w step.End (answer.Taken accepted missed head) (ending_of w o)) (sym opened) (stays _ _ _ _ _ (search rules) refl (record { more = entries_of (places_from w.submission call.count); accepted = refl; ended = refl }))
 completion_by g w s a (event_runs n outstanding idle spared ready no_cancel) = stays _ _ _ _ _ (search rules) refl (record { more = []; accepted = sym (append-nil w.requests.accepted); ended = refl })
-completion_by g w s a (event_dooms n outstanding idle doomed) = ends _ _ n _ _ _ (search rules) refl refl refl
-completion_by g w s a (event_cancels n outstanding idle spared ready cancel) = ends _ _ n _ _ _ (search rules) refl refl refl
-completion_by g w s a (event_finishes n res bytes running) = ends _ _ n res bytes _ (search rules) refl refl refl
+completion_by g w s a (event_dooms n outstanding idle doomed) =
+    ends _ _ n _ _ _ (search rules) refl refl refl
+completion_by g w s a (event_cancels n outstanding idle spared ready cancel) =
+    ends _ _ n _ _ _ (search rules) refl refl refl
+completion_by g w s a (event_finishes n res bytes running) =
+    ends _ _ n res bytes _ (search rules) refl refl refl
 completion_by g w s a (event_flushes moved) = flushes moved
 completion_by g w s a (event_sees_tail tail) = sees_tail tail
 completion_by g w s a (event_reaps completion next) = reaps completion next
 completion_by g w s a (event_stores_head head) = stores_head head
 completion_by g w s a _ = stays _ _ _ _ _ (search rules) refl (same_ends w.requests)
 
-pub completion_move : (g : Setup) (s : Step) (a : Answer) (h : History) → IsLawfulApart g ((s, a) ∷ h) → CompletionMove g (world g h) s a (world g ((s, a) ∷ h))
-completion_move g s a h lawful = completion_by g (world g h) s a (change_of g (world g h) s a lawful.0)
+pub completion_move : (g : Setup) (s : Step) (a : Answer) (h : History)
+    → IsLawfulApart g ((s, a) ∷ h) → CompletionMove g (world g h) s a (world g ((s, a) ∷ h))
+completion_move g s a h lawful =
+    completion_by g (world g h) s a (change_of g (world g h) s a lawful.0)

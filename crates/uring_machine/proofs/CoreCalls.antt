@@ -25,7 +25,8 @@ use Rattle.uring_machine.proofs.Changes.{not_some}
 
 -- A Begin of so many positions opens a call of this length, if memory is there.
 abbrev Opens : Core → ℕ → ℕ → Type 0
-Opens p count n = (h : History) → FitsApart p h → begin_answer (world p.setup h) count ≡ answer.Call n
+Opens p count n =
+    (h : History) → FitsApart p h → begin_answer (world p.setup h) count ≡ answer.Call n
 
 -- What is so of a world in which a call of this length opens.
 record IsOpening (w : World) (count n : ℕ) : Type 0 where
@@ -43,7 +44,8 @@ opening w count n e = by_tests w.is_closed (is_some w.submission.call) (is_spent
   by_tests false false false i s f = record { no_call = i; positions = cc; unspent = sym s }
 
 -- the numbers of such a call aren't spent
-pub opens_within : (p : Core) (count n : ℕ) → Opens p count n → (h : History) → FitsApart p h → p.dispatch.accepted + n ≤ 2 ^ 63 - 1
+pub opens_within : (p : Core) (count n : ℕ) → Opens p count n → (h : History) → FitsApart p h
+    → p.dispatch.accepted + n ≤ 2 ^ 63 - 1
 opens_within p count n opens h f =
     let w = world p.setup h in
     let o = opening w count n (opens h f) in
@@ -51,8 +53,10 @@ opens_within p count n opens h f =
     subst (λ k. p.dispatch.accepted + k ≤ 2 ^ 63 - 1) (sym o.positions) (subst (λ k. k + call_length w.submission count ≤ 2 ^ 63 - 1) (sym f.shows.requests.accepted) few)
 
 -- a dispatcher with the same counts, and rings that show what they did
-same_shown : (p : Core) (w : World) (d : Dispatch) (q : Cq) → ShowsWorld p w → IsSameCount p.dispatch d → d.is_between_calls ≡ true → ShowsRequests d w.requests
-    → ShowsCompletions p.setup q w.completions → p.cq.room ≤ q.room → q.room ≤ q.spare → ShowsWorld (record p { dispatch = d; cq = q }) w
+same_shown : (p : Core) (w : World) (d : Dispatch) (q : Cq) → ShowsWorld p w
+    → IsSameCount p.dispatch d → d.is_between_calls ≡ true → ShowsRequests d w.requests
+    → ShowsCompletions p.setup q w.completions → p.cq.room ≤ q.room → q.room ≤ q.spare
+    → ShowsWorld (record p { dispatch = d; cq = q }) w
 same_shown p w d q s same between shows shown room promised = grind arith
 
 -- the memory that outstanding requests may need is promised: so it is short for a call of one position or more alone
@@ -61,20 +65,27 @@ short_for_some p w n s (inl few_requests) = omega arith
 short_for_some p w n s (inr few_posts) = omega (arith, s.room_to_post, s.promised)
 
 pub again_goes : (p : Core) (d : Dispatch) (q : Cq) (count n : ℕ) → Opens p count n
-    → IsSameCount p.dispatch d → d.is_between_calls ≡ true → ((r : Requests) → ShowsRequests p.dispatch r → ShowsRequests d r) → q ≡ p.cq → IsShortFor p n
-    → (h : History) → FitsApart p h → FitsApart (record p { dispatch = d; cq = q }) ((step.Begin count, answer.Again) ∷ h)
+    → IsSameCount p.dispatch d → d.is_between_calls ≡ true
+    → ((r : Requests) → ShowsRequests p.dispatch r → ShowsRequests d r) → q ≡ p.cq → IsShortFor p n
+    → (h : History) → FitsApart p h
+    → FitsApart (record p { dispatch = d; cq = q }) ((step.Begin count, answer.Again) ∷ h)
 again_goes p d q count n opens same between shows kept short h f =
     subst (λ c. FitsApart (record p { dispatch = d; cq = c }) ((step.Begin count, answer.Again) ∷ h)) (sym kept) (record {
       shows = same_shown p (world p.setup h) d p.cq f.shows same between (shows _ f.shows.requests) f.shows.completions (omega arith) f.shows.promised;
       lawful = (subst (λ a. OrAgain a answer.Again) (sym (opens h f)) (inr (refl, short_for_some p (world p.setup h) n f.shows short)), f.lawful);
     })
 
-opened : (l : Submission) (count n : ℕ) (r : BeginAnswer) → false ≡ is_some l.call → n ≡ call_length l count → r ≡ ring.begin_answer l count → r ≡ begin.Call n
+opened : (l : Submission) (count n : ℕ) (r : BeginAnswer) → false ≡ is_some l.call
+    → n ≡ call_length l count → r ≡ ring.begin_answer l count → r ≡ begin.Call n
 opened l count n r none length answered = answered ∙ ap (ring.begin_beside l count) (not_some l.call (sym none)) ∙ ap (λ k. begin.Call k) (sym length)
 
-begun_shows : (p : Core) (w : World) (s' : Sq) (q : Cq) (d : Dispatch) (count n : ℕ) → ShowsWorld p w → w.submission.call ≡ None → n ≡ call_length w.submission count
-    → ShowsSubmission p.setup s' (with_begun w.submission count) → ShowsCompletions p.setup q w.completions → q.room ≡ p.dispatch.outstanding + n → q.room ≤ q.spare
-    → IsSameCount p.dispatch d → n ≤ d.room → d.is_between_calls ≡ true → ShowsRequests d w.requests → p.dispatch.accepted + n ≤ 2 ^ 63 - 1
+begun_shows : (p : Core) (w : World) (s' : Sq) (q : Cq) (d : Dispatch) (count n : ℕ)
+    → ShowsWorld p w → w.submission.call ≡ None → n ≡ call_length w.submission count
+    → ShowsSubmission p.setup s' (with_begun w.submission count)
+    → ShowsCompletions p.setup q w.completions → q.room ≡ p.dispatch.outstanding + n
+    → q.room ≤ q.spare
+    → IsSameCount p.dispatch d → n ≤ d.room → d.is_between_calls ≡ true → ShowsRequests d w.requests
+    → p.dispatch.accepted + n ≤ 2 ^ 63 - 1
     → ShowsWorld (record p { sq = s'; cq = q; dispatch = d }) (record w { submission = with_begun w.submission count })
 begun_shows p w s' q d count n s none length shown kept room promised same fits between shows numbers =
     let held = s.held ∙ ap (held_by w.submission) none in
@@ -83,12 +94,16 @@ begun_shows p w s' q d count n s none length shown kept room promised same fits 
     let below = subst (λ k. d.accepted + k ≤ 2 ^ 63 - 1) length (omega (arith, same, numbers)) in
     grind (arith, held, to_post, to_accept, below)
 
-pub call_goes : (p : Core) (s' : Sq) (q : Cq) (d : Dispatch) (count n : ℕ) (r : BeginAnswer) → Opens p count n
-    → IsSameCount p.dispatch d → n ≤ d.room → d.is_between_calls ≡ true → ((r : Requests) → ShowsRequests p.dispatch r → ShowsRequests d r)
-    → ((g : Setup) (l : Completions) → ShowsCompletions g p.cq l → ShowsCompletions g q l) → q.room ≡ p.dispatch.outstanding + n → KeepsMemory p.cq q
+pub call_goes : (p : Core) (s' : Sq) (q : Cq) (d : Dispatch) (count n : ℕ) (r : BeginAnswer)
+    → Opens p count n
+    → IsSameCount p.dispatch d → n ≤ d.room → d.is_between_calls ≡ true
+    → ((r : Requests) → ShowsRequests p.dispatch r → ShowsRequests d r)
+    → ((g : Setup) (l : Completions) → ShowsCompletions g p.cq l → ShowsCompletions g q l)
+    → q.room ≡ p.dispatch.outstanding + n → KeepsMemory p.cq q
     → ((g : Setup) (l : Submission) → ShowsSubmission g p.sq l → r ≡ ring.begin_answer l count)
     → ((g : Setup) (l : Submission) → ShowsSubmission g p.sq l → ShowsSubmission g s' (ring.after_begin l count r))
-    → (h : History) → FitsApart p h → FitsApart (record p { sq = s'; cq = q; dispatch = d }) ((step.Begin count, begin_told r) ∷ h)
+    → (h : History) → FitsApart p h
+    → FitsApart (record p { sq = s'; cq = q; dispatch = d }) ((step.Begin count, begin_told r) ∷ h)
 call_goes p s' q d count n r opens same fits between shows kept room memory answered shown h f =
     let w = world p.setup h in
     let s = f.shows in

@@ -25,7 +25,9 @@ use Rattle.uring_machine.specs.declared.answer.Answer.TheVariants as answer
 -- Take.
 
 -- an entry that was given is that of a place
-place_given : (o : Option Place) (entry : Sqe) → took_as.Entry entry ≡ ring.given (option_and_then (λ place. place.entry) o) → (place : Place) × (o ≡ Some place) × (place.entry ≡ Some entry)
+place_given : (o : Option Place) (entry : Sqe)
+    → took_as.Entry entry ≡ ring.given (option_and_then (λ place. place.entry) o)
+    → (place : Place) × (o ≡ Some place) × (place.entry ≡ Some entry)
 place_given None entry e = absurd (let f : took_as.Entry entry ≡ took_as.Dropped = e in cc)
 place_given (Some place) entry e = (place, refl, entry_given place.entry entry e)
   where
@@ -34,7 +36,8 @@ place_given (Some place) entry e = (place, refl, entry_given place.entry entry e
     entry_given (Some other) entry e = let f : took_as.Entry entry ≡ took_as.Entry other = e in cc
 
 -- a word that was dropped is that of a place without entry
-place_dropped : (o : Option Place) (place : Place) → o ≡ Some place → took_as.Dropped ≡ ring.given (option_and_then (λ p. p.entry) o) → place.entry ≡ None
+place_dropped : (o : Option Place) (place : Place) → o ≡ Some place
+    → took_as.Dropped ≡ ring.given (option_and_then (λ p. p.entry) o) → place.entry ≡ None
 place_dropped None place is e = cc
 place_dropped (Some other) place is e =
     let same : other ≡ place = cc in
@@ -45,37 +48,48 @@ place_dropped (Some other) place is e =
     no_entry (Some entry) e = absurd (let f : took_as.Dropped ≡ took_as.Entry entry = e in cc)
 
 -- the entry of the next place joins what the call took
-held_more : (l : Submission) (call : Call) (place : Place) → slice_get l.published (taken l + call.taken) ≡ Some place
-    → entries_of (take (call.taken + 1) (drop (taken l) l.published)) ≡ entries_of (take call.taken (drop (taken l) l.published)) ++ entries_of (place ∷ [])
+held_more : (l : Submission) (call : Call) (place : Place)
+    → slice_get l.published (taken l + call.taken) ≡ Some place
+    → entries_of (take (call.taken + 1) (drop (taken l) l.published))
+    ≡ entries_of (take call.taken (drop (taken l) l.published)) ++ entries_of (place ∷ [])
 held_more l call place is =
     ap entries_of (places_more l.published (taken l) call.taken place is) ∙ filter_map-append (λ p. p.entry) (take call.taken (drop (taken l) l.published)) (place ∷ [])
 
-one_entry : (place : Place) (entry : Sqe) → place.entry ≡ Some entry → entries_of (place ∷ []) ≡ entry ∷ []
+one_entry : (place : Place) (entry : Sqe) → place.entry ≡ Some entry
+    → entries_of (place ∷ []) ≡ entry ∷ []
 one_entry place entry e = simp e
 
 no_entries : (place : Place) → place.entry ≡ None → entries_of (place ∷ []) ≡ []
 no_entries place e = simp e
 
 -- the answer to a take within the call
-given_as : (all : Bool) (r given : TakeAnswer) → r ≡ cond all took_as.NoMore given → (r ≡ took_as.NoMore → ⊥) → (all ≡ false) × (r ≡ given)
+given_as : (all : Bool) (r given : TakeAnswer) → r ≡ cond all took_as.NoMore given
+    → (r ≡ took_as.NoMore → ⊥) → (all ≡ false) × (r ≡ given)
 given_as true r given e other = absurd (other e)
 given_as false r given e other = (refl, e)
 
 -- the machine answers as the ring does
-answered_entry : (w : World) (call : Call) (place : Place) (entry : Sqe) → eqb call.taken call.count ≡ false → slice_get w.submission.published (taken w.submission + call.taken) ≡ Some place → place.entry ≡ Some entry
+answered_entry : (w : World) (call : Call) (place : Place) (entry : Sqe)
+    → eqb call.taken call.count ≡ false
+    → slice_get w.submission.published (taken w.submission + call.taken) ≡ Some place
+    → place.entry ≡ Some entry
     → answer.Entry entry ≡ take_answer_in w (Some call)
 answered_entry w call place entry more is has = rw (more, is, has) refl
 
-answered_dropped : (w : World) (call : Call) (place : Place) → eqb call.taken call.count ≡ false → slice_get w.submission.published (taken w.submission + call.taken) ≡ Some place → place.entry ≡ None
+answered_dropped : (w : World) (call : Call) (place : Place) → eqb call.taken call.count ≡ false
+    → slice_get w.submission.published (taken w.submission + call.taken) ≡ Some place
+    → place.entry ≡ None
     → answer.Dropped ≡ take_answer_in w (Some call)
 answered_dropped w call place more is has = rw (more, is, has) refl
 
-some_call : (c : Option Call) (call : Call) (P : Call → Type 0) → c ≡ Some call → IfSome c P → P call
+some_call : (c : Option Call) (call : Call) (P : Call → Type 0) → c ≡ Some call → IfSome c P
+    → P call
 some_call None call P is holds = cc
 some_call (Some other) call P is holds = let same : other ≡ call = cc in subst P same holds
 
 -- the parts after a take, whatever was taken, and whether or not the call stops behind it
-taken_shows : (p : Core) (w : World) (q : Sq) (call : Call) (held : List Sqe) (stops : Bool) → ShowsWorld p w → w.submission.call ≡ Some call → eqb call.taken call.count ≡ false
+taken_shows : (p : Core) (w : World) (q : Sq) (call : Call) (held : List Sqe) (stops : Bool)
+    → ShowsWorld p w → w.submission.call ≡ Some call → eqb call.taken call.count ≡ false
     → ShowsSubmission p.setup q (with_stopped stops (with_taken w.submission call))
     → held ≡ entries_of (take (call.taken + 1) (drop (taken w.submission) w.submission.published))
     → ShowsWorld (record p { sq = q; held = held }) (record w { submission = with_stopped stops (with_taken w.submission call) })
@@ -105,9 +119,12 @@ pub record Takes (p : Core) (w v : World) (q : Sq) (held : List Sqe) (a : Answer
   pub shows : ShowsWorld (record p { sq = q; held = held }) v
   pub answered : a ≡ take_answer_in w c
 
-take_entry : (p : Core) (w : World) (q : Sq) (entry : Sqe) (c : Option Call) → ShowsWorld p w → w.submission.call ≡ c → took_as.Entry entry ≡ ring.take_in w.submission c
-    → ShowsSubmission p.setup q (with_stopped (stops_at p.setup entry) (ring.taken_on w.submission c)) → Takes p w (taking_entry_of p.setup w entry c) q (p.held ++ entry ∷ []) (answer.Entry entry) c
-take_entry p w q entry None s is e shown = absurd (let f : took_as.Entry entry ≡ took_as.NoCall = e in cc)
+take_entry : (p : Core) (w : World) (q : Sq) (entry : Sqe) (c : Option Call) → ShowsWorld p w
+    → w.submission.call ≡ c → took_as.Entry entry ≡ ring.take_in w.submission c
+    → ShowsSubmission p.setup q (with_stopped (stops_at p.setup entry) (ring.taken_on w.submission c))
+    → Takes p w (taking_entry_of p.setup w entry c) q (p.held ++ entry ∷ []) (answer.Entry entry) c
+take_entry p w q entry None s is e shown =
+    absurd (let f : took_as.Entry entry ≡ took_as.NoCall = e in cc)
 take_entry p w q entry (Some call) s is e shown =
     let within = given_as (eqb call.taken call.count) (took_as.Entry entry) _ e (λ f. cc) in
     let more = within.0 in
@@ -120,7 +137,9 @@ take_entry p w q entry (Some call) s is e shown =
     }
 
 -- a position of the call is published
-place_of_call : (l : Submission) (call : Call) → (call.taken ≤ call.count) × (call.count ≤ pending l) → eqb call.taken call.count ≡ false → taken l ≤ length l.published
+place_of_call : (l : Submission) (call : Call)
+    → (call.taken ≤ call.count) × (call.count ≤ pending l) → eqb call.taken call.count ≡ false
+    → taken l ≤ length l.published
     → (place : Place) × (slice_get l.published (taken l + call.taken) ≡ Some place)
 place_of_call l call fits more within = found (taken l + call.taken) l.published (let ne = eqb-false call.taken call.count more in omega arith)
   where
@@ -129,8 +148,10 @@ place_of_call l call fits more within = found (taken l + call.taken) l.published
     found zero (x ∷ xs) below = (x, refl)
     found (suc k) (x ∷ xs) below = found k xs (omega arith)
 
-take_dropped : (p : Core) (w : World) (q : Sq) (c : Option Call) → ShowsWorld p w → w.submission.call ≡ c → took_as.Dropped ≡ ring.take_in w.submission c
-    → ShowsSubmission p.setup q (ring.taken_on w.submission c) → Takes p w (taking_of w c) q p.held answer.Dropped c
+take_dropped : (p : Core) (w : World) (q : Sq) (c : Option Call) → ShowsWorld p w
+    → w.submission.call ≡ c → took_as.Dropped ≡ ring.take_in w.submission c
+    → ShowsSubmission p.setup q (ring.taken_on w.submission c)
+    → Takes p w (taking_of w c) q p.held answer.Dropped c
 take_dropped p w q None s is e shown = absurd (let f : took_as.Dropped ≡ took_as.NoCall = e in cc)
 take_dropped p w q (Some call) s is e shown =
     let within = given_as (eqb call.taken call.count) took_as.Dropped _ e (λ f. cc) in
@@ -149,7 +170,8 @@ pub take_entry_goes : (p : Core) (q stops : Sq) (entry : Sqe)
     → ((g : Setup) (l : Submission) → ShowsSubmission g p.sq l → took_as.Entry entry ≡ ring.take_answer l)
     → ((g : Setup) (l : Submission) → ShowsSubmission g p.sq l → ShowsSubmission g q (ring.after_take l (took_as.Entry entry)))
     → ((g : Setup) (l : Submission) → ShowsSubmission g q l → ShowsSubmission g stops (with_stopped (stops_at p.setup entry) l))
-    → (h : History) → FitsApart p h → FitsApart (record p { sq = stops; held = p.held ++ entry ∷ [] }) ((step.Take, answer.Entry entry) ∷ h)
+    → (h : History) → FitsApart p h
+    → FitsApart (record p { sq = stops; held = p.held ++ entry ∷ [] }) ((step.Take, answer.Entry entry) ∷ h)
 take_entry_goes p q stops entry answered shown stopped h f =
     let w = world p.setup h in
     let t = take_entry p w stops entry w.submission.call f.shows refl (answered p.setup w.submission f.shows.submission) (stopped p.setup _ (shown p.setup w.submission f.shows.submission)) in
@@ -158,7 +180,8 @@ take_entry_goes p q stops entry answered shown stopped h f =
 pub take_dropped_goes : (p : Core) (q : Sq)
     → ((g : Setup) (l : Submission) → ShowsSubmission g p.sq l → took_as.Dropped ≡ ring.take_answer l)
     → ((g : Setup) (l : Submission) → ShowsSubmission g p.sq l → ShowsSubmission g q (ring.after_take l took_as.Dropped))
-    → (h : History) → FitsApart p h → FitsApart (record p { sq = q }) ((step.Take, answer.Dropped) ∷ h)
+    → (h : History) → FitsApart p h
+    → FitsApart (record p { sq = q }) ((step.Take, answer.Dropped) ∷ h)
 take_dropped_goes p q answered shown h f =
     let w = world p.setup h in
     let t = take_dropped p w q w.submission.call f.shows refl (answered p.setup w.submission f.shows.submission) (shown p.setup w.submission f.shows.submission) in
@@ -171,9 +194,12 @@ few_entries places n =
     let k : length (take n places) ≤ n = grind (arith, common_steps) in
     omega arith
 
-pub held_within : (l : Submission) (size : ℕ) (c : Option Call) → IfSome c (λ call. (call.taken ≤ call.count) × (call.count ≤ pending l)) → length (held_by l c) ≤ positions_of c
+pub held_within : (l : Submission) (size : ℕ) (c : Option Call)
+    → IfSome c (λ call. (call.taken ≤ call.count) × (call.count ≤ pending l))
+    → length (held_by l c) ≤ positions_of c
 held_within l size None fits = omega arith
-held_within l size (Some call) fits = let k = few_entries (drop (taken l) l.published) call.taken in omega arith
+held_within l size (Some call) fits =
+    let k = few_entries (drop (taken l) l.published) call.taken in omega arith
 
 -- the dispatcher has room for what the open call took
 pub held_accepted : (p : Core) (h : History) → FitsApart p h → length p.held ≤ p.dispatch.room
@@ -186,7 +212,9 @@ held_accepted p h f =
     omega arith
 
 -- with a position left, fewer entries are held than the ring has
-pub held_has_room : (p : Core) (h : History) (entry : Sqe) → FitsApart p h → ((g : Setup) (l : Submission) → ShowsSubmission g p.sq l → took_as.Entry entry ≡ ring.take_answer l) → length p.held < p.setup.sq
+pub held_has_room : (p : Core) (h : History) (entry : Sqe) → FitsApart p h
+    → ((g : Setup) (l : Submission) → ShowsSubmission g p.sq l → took_as.Entry entry ≡ ring.take_answer l)
+    → length p.held < p.setup.sq
 held_has_room p h entry f answered =
     let w = world p.setup h in
     let s = f.shows.submission in

@@ -14,12 +14,19 @@ use Rattle.uring_machine.specs.declared.wanted.Refusal.{Refusal}
 use Rattle.uring_machine.specs.declared.wanted.Refusal.TheVariants.{Wrong, NoMemory}
 
 pub stops : (refusal : Refusal) (place : ℕ) (r : Result (Option (ℕ × Wanted)) AllocError) (P : Type 0) (Q : ℕ × Wanted → Type 0)
-    → ((w : Wanted) → refusal ≡ Wrong w → r ≡ Ok (Some (place, w))) → (refusal ≡ NoMemory → OnOk r ⊥) → ((w : Wanted) → refusal ≡ Wrong w → Q (place, w)) → IfOk r (λ found. MatchOption found P Q)
-stops (Wrong w) place r P Q told none q = subst (λ k. IfOk k (λ found. MatchOption found P Q)) (sym (told w refl)) (q w refl)
-stops NoMemory place r P Q told none q = IfOk-weaker r (λ x. ⊥) (λ found. MatchOption found P Q) (λ x bad. absurd bad) (none refl)
+    → ((w : Wanted) → refusal ≡ Wrong w → r ≡ Ok (Some (place, w)))
+    → (refusal ≡ NoMemory → OnOk r ⊥) → ((w : Wanted) → refusal ≡ Wrong w → Q (place, w))
+    → IfOk r (λ found. MatchOption found P Q)
+stops (Wrong w) place r P Q told none q =
+    subst (λ k. IfOk k (λ found. MatchOption found P Q)) (sym (told w refl)) (q w refl)
+stops NoMemory place r P Q told none q =
+    IfOk-weaker r (λ x. ⊥) (λ found. MatchOption found P Q) (λ x bad. absurd bad) (none refl)
 
-pub first_wrong_at : (g k : Setup) (events : List Event) (place : ℕ) (e : Event) (refusal : Refusal) (w : Wanted) → k ≡ g → place < length events → e ≡ get_or events place e
-    → IsLawful k (history_of (take place events)) → IsRefused (CalledFor k (world k (history_of (take place events))) e.0) e.1 refusal → refusal ≡ Wrong w → IsFirstWrongAnswer g events place w
+pub first_wrong_at : (g k : Setup) (events : List Event) (place : ℕ) (e : Event) (refusal : Refusal) (w : Wanted)
+    → k ≡ g → place < length events → e ≡ get_or events place e
+    → IsLawful k (history_of (take place events))
+    → IsRefused (CalledFor k (world k (history_of (take place events))) e.0) e.1 refusal
+    → refusal ≡ Wrong w → IsFirstWrongAnswer g events place w
 first_wrong_at g k events place e refusal w same within at lawful refused is =
     subst (λ s. IsFirstWrongAnswer s events place w) same (record {
       event = e;
@@ -28,8 +35,11 @@ first_wrong_at g k events place e refusal w same within at lawful refused is =
       wrong = subst (λ r. IsRefused (CalledFor k (world k (history_of (take place events))) e.0) e.1 r) is refused;
     })
 
-pub first_wrong_apart_at : (g k : Setup) (events : List Event) (place : ℕ) (e : Event) (refusal : Refusal) (w : Wanted) → k ≡ g → place < length events → e ≡ get_or events place e
-    → IsLawfulApart k (history_of (take place events)) → IsRefused (CalledForApart k (world k (history_of (take place events))) e.0) e.1 refusal → refusal ≡ Wrong w → IsFirstWrongApart g events place w
+pub first_wrong_apart_at : (g k : Setup) (events : List Event) (place : ℕ) (e : Event) (refusal : Refusal) (w : Wanted)
+    → k ≡ g → place < length events → e ≡ get_or events place e
+    → IsLawfulApart k (history_of (take place events))
+    → IsRefused (CalledForApart k (world k (history_of (take place events))) e.0) e.1 refusal
+    → refusal ≡ Wrong w → IsFirstWrongApart g events place w
 first_wrong_apart_at g k events place e refusal w same within at lawful refused is =
     subst (λ s. IsFirstWrongApart s events place w) same (record {
       event = e;

@@ -22,13 +22,16 @@ use Rattle.uring_machine.proofs.FileHistory.{files_kept, files_ended}
 use Rattle.uring_machine.proofs.Running.{running_asks}
 
 -- but for a finish, answers are called for as they are apart from files
-called_apart : (g : Setup) (w : World) (s : Step) (a : Answer) → IsNoFinish s → CalledForApart g w s a → CalledFor g w s a
+called_apart : (g : Setup) (w : World) (s : Step) (a : Answer) → IsNoFinish s
+    → CalledForApart g w s a → CalledFor g w s a
 called_apart g w (step.Finish n) a other called = absurd other
 called_apart g w _ a other called = called
 
 -- the machine with another core of its shape
-pub step_fits : (core later : Core) (files : List FileContents) (s : Step) (a : Answer) (h : History) → later.setup ≡ core.setup → IsNoFinish s
-    → Fits (record { core = core; files = files }) h → FitsApart later ((s, a) ∷ h) → Fits (record { core = later; files = files }) ((s, a) ∷ h)
+pub step_fits : (core later : Core) (files : List FileContents) (s : Step) (a : Answer) (h : History)
+    → later.setup ≡ core.setup → IsNoFinish s
+    → Fits (record { core = core; files = files }) h → FitsApart later ((s, a) ∷ h)
+    → Fits (record { core = later; files = files }) ((s, a) ∷ h)
 step_fits core later files s a h same other fits next =
     let g : Setup = later.setup in
     record {
@@ -38,11 +41,15 @@ step_fits core later files s a h same other fits next =
     }
 
 -- what runs has this operation
-pub runs_with : (r : Requests) (n : ℕ) (op : Op) → Some op ≡ operation_running r n → (is_running r n ≡ true) × (op ≡ operation_of (entry_of r n))
-runs_with r n op e = let p = cond_some (is_running r n) (operation_of (entry_of r n)) op (sym e) in (p.0, sym p.1)
+pub runs_with : (r : Requests) (n : ℕ) (op : Op) → Some op ≡ operation_running r n
+    → (is_running r n ≡ true) × (op ≡ operation_of (entry_of r n))
+runs_with r n op e =
+    let p = cond_some (is_running r n) (operation_of (entry_of r n)) op (sym e) in (p.0, sym p.1)
 
 -- what runs can be asked of files
-pub asks_files : (core : Core) (n : ℕ) (r : Option Op) → IsCore core → ((h : History) → FitsApart core h → r ≡ operation_running (world core.setup h).requests n) → IfSome r IsForFiles
+pub asks_files : (core : Core) (n : ℕ) (r : Option Op) → IsCore core
+    → ((h : History) → FitsApart core h → r ≡ operation_running (world core.setup h).requests n)
+    → IfSome r IsForFiles
 asks_files core n None some is = tt
 asks_files core n (Some op) some is =
     let h : History = some.1 in
@@ -51,8 +58,10 @@ asks_files core n (Some op) some is =
     subst IsForFiles (sym r.1) (running_asks core.setup h n fits.lawful r.0)
 
 -- a running request ended
-pub finish_fits : (core later : Core) (files : List FileContents) (n : ℕ) (op : Op) (outcome : Outcome) (left : List FileContents) (a : Answer) (h : History) → later.setup ≡ core.setup
-    → Fits (record { core = core; files = files }) h → Some op ≡ operation_running (world core.setup h).requests n
+pub finish_fits : (core later : Core) (files : List FileContents) (n : ℕ) (op : Op) (outcome : Outcome) (left : List FileContents) (a : Answer) (h : History)
+    → later.setup ≡ core.setup
+    → Fits (record { core = core; files = files }) h
+    → Some op ≡ operation_running (world core.setup h).requests n
     → IsOutcome files op outcome → left ≡ after files op outcome.res
     → FitsApart later ((step.Finish n, a) ∷ h) → IsFinished (world core.setup h) n outcome a
     → Fits (record { core = later; files = left }) ((step.Finish n, a) ∷ h)
@@ -74,13 +83,17 @@ finish_fits core later files n op outcome left a h same fits is allowed leaves n
     }
 
 -- what has no operation to carry out isn't running
-pub not_running : {X : Type 0} (op : X) (running : Bool) → None ≡ (if running then Some op else None) → running ≡ false
+pub not_running : {X : Type 0} (op : X) (running : Bool)
+    → None ≡ (if running then Some op else None) → running ≡ false
 not_running op true e = absurd cc
 not_running op false e = refl
 
 -- an event of a fitted history was called for
-pub called_for : (g : Setup) (core : Core) (files : List FileContents) (s : Step) (a : Answer) (h : History) → core.setup ≡ g → Fits (record { core = core; files = files }) ((s, a) ∷ h) → CalledFor g (world g h) s a
-called_for g core files s a h same fits = subst (λ k. CalledFor k (world k h) s a) same fits.lawful.0
+pub called_for : (g : Setup) (core : Core) (files : List FileContents) (s : Step) (a : Answer) (h : History)
+    → core.setup ≡ g → Fits (record { core = core; files = files }) ((s, a) ∷ h)
+    → CalledFor g (world g h) s a
+called_for g core files s a h same fits =
+    subst (λ k. CalledFor k (world k h) s a) same fits.lawful.0
 
 -- what isn't a Finish is no finish
 pub no_finish : (s : Step) → ((n : ℕ) → s ≡ step.Finish n → ⊥) → IsNoFinish s

@@ -38,7 +38,8 @@ module _ (r : Requests) (entries : List Sqe) (cut : (length r.accepted ≡ 0) �
         or_none true y e = refl
         or_none false y e = e
 
-  pub join_kept : (m n : ℕ) → n < length r.accepted → is_joined (with_call r entries) m n ≡ is_joined r m n
+  pub join_kept : (m n : ℕ) → n < length r.accepted
+      → is_joined (with_call r entries) m n ≡ is_joined r m n
   unfolding is_joined
   join_kept m n lt = ap not (some_below-same (λ k. leb m k && is_last (with_call r entries) k) (λ k. leb m k && is_last r k) n (λ k below. ap (λ b. leb m k && b) (last_kept k (omega arith))))
 
@@ -52,7 +53,8 @@ module _ (r : Requests) (entries : List Sqe) (cut : (length r.accepted ≡ 0) �
   group_apart : (m n : ℕ) → length r.accepted ≤ m → n < length r.accepted → is_in_group (with_call r entries) m n ≡ false
   group_apart m n le below = apart (min m n) (max m n) (omega arith) (omega arith)
 
-  pub member_kept : (p : Sqe → Bool) (n : ℕ) → n < length r.accepted → some_member (with_call r entries) p n ≡ some_member r p n
+  pub member_kept : (p : Sqe → Bool) (n : ℕ) → n < length r.accepted
+      → some_member (with_call r entries) p n ≡ some_member r p n
   unfolding some_member
   member_kept p n below =
       some_below-between (λ m. is_in_group (with_call r entries) m n && p (entry_of (with_call r entries) m)) (length r.accepted) (length (with_call r entries).accepted) longer
@@ -72,7 +74,8 @@ module _ (r : Requests) (entries : List Sqe) (cut : (length r.accepted ≡ 0) �
       ∙ ap (λ e. is_joined r k n && is_soft e && has_failed (with_call r entries) k) (entry_kept k (omega arith))
       ∙ ap (λ b. is_joined r k n && is_soft (entry_of r k) && b) (failed_kept k (omega arith)))
 
-  pub doom_kept : (n : ℕ) → n < length r.accepted → is_doomed (with_call r entries) n ≡ is_doomed r n
+  pub doom_kept : (n : ℕ) → n < length r.accepted
+      → is_doomed (with_call r entries) n ≡ is_doomed r n
   unfolding is_doomed
   doom_kept n below =
       ap (λ b. b || is_behind_failure (with_call r entries) n || is_cancelled r n) (member_kept is_faulty n below)

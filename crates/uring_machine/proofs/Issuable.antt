@@ -11,12 +11,14 @@ use Rattle.uring_machine.specs.declared.answer.Answer.{Answer}
 use Rattle.uring_machine.specs.declared.answer.Answer.TheVariants as answer
 
 -- what can be issued isn't refused
-answer_goes : (outstanding running doomed ready cancel : Bool) (as_doomed as_cancel : ℤ) → outstanding ≡ true → running ≡ false → (doomed || ready) ≡ true
+answer_goes : (outstanding running doomed ready cancel : Bool) (as_doomed as_cancel : ℤ)
+    → outstanding ≡ true → running ≡ false → (doomed || ready) ≡ true
     → IsIssued (if not outstanding then answer.Unknown else (if running then answer.Running else (if doomed then answer.Ended as_doomed no_bytes else (if not ready then answer.NotReady else (if cancel then answer.Ended as_cancel no_bytes else answer.Run)))))
 answer_goes false running doomed ready cancel as_doomed as_cancel o r d = absurd cc
 answer_goes true true doomed ready cancel as_doomed as_cancel o r d = absurd cc
 answer_goes true false true ready cancel as_doomed as_cancel o r d = tt
-answer_goes true false false false cancel as_doomed as_cancel o r d = absurd (let f : false ≡ true = d in cc)
+answer_goes true false false false cancel as_doomed as_cancel o r d =
+    absurd (let f : false ≡ true = d in cc)
 answer_goes true false false true true as_doomed as_cancel o r d = tt
 answer_goes true false false true false as_doomed as_cancel o r d = tt
 
@@ -33,5 +35,6 @@ issued_ends answer.Run issued not_run = absurd (not_run refl)
 issued_ends a issued not_run = issued
 
 -- what can be issued is outstanding
-pub issuable_outstanding : (r : Requests) (n : ℕ) → is_issuable r n ≡ true → is_outstanding r n ≡ true
+pub issuable_outstanding : (r : Requests) (n : ℕ) → is_issuable r n ≡ true
+    → is_outstanding r n ≡ true
 issuable_outstanding r n issuable = (and_parts _ _ (and_parts _ _ issuable).0).0

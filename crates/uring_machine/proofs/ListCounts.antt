@@ -7,21 +7,25 @@ use Rattle.std.proofs.lemmas.List.Sums.{sum_by_push, sum_by-cons}
 use Rattle.uring_entry.proofs.RequestLemmas.{list_any-push}
 
 -- what passes stays, and what passes newly is the new element
-pub any_kept : {X : Type 0} (p : X → Bool) (xs ys : List X) → list_any p xs ≡ true → list_any p (xs ++ ys) ≡ true
+pub any_kept : {X : Type 0} (p : X → Bool) (xs ys : List X) → list_any p xs ≡ true
+    → list_any p (xs ++ ys) ≡ true
 any_kept p xs ys e = list_any-append p xs ys ∙ or_left _ _ e
 
-pub any_new : {X : Type 0} (p : X → Bool) (xs : List X) (x : X) → list_any p (xs ++ x ∷ []) ≡ true → (list_any p xs ≡ true) ⊎ (p x ≡ true)
+pub any_new : {X : Type 0} (p : X → Bool) (xs : List X) (x : X) → list_any p (xs ++ x ∷ []) ≡ true
+    → (list_any p xs ≡ true) ⊎ (p x ≡ true)
 any_new p xs x e = or_cases _ _ (sym (list_any-push p xs x) ∙ e)
 
 -- a count of what passes
-pub count_none : {X : Type 0} (p : X → Bool) (xs : List X) → list_any p xs ≡ false → count_by p xs ≡ 0
+pub count_none : {X : Type 0} (p : X → Bool) (xs : List X) → list_any p xs ≡ false
+    → count_by p xs ≡ 0
 count_none p [] e = refl
 count_none p (x ∷ xs) e =
     let b = or_parts _ _ e in
     let none : ◌≡◌ {A = ℕ} (cond (p x) 1 0) 0 = ap (λ t. cond t 1 0) b.0 in
     omega (arith, sum_by-cons (λ y. cond (p y) 1 0) x xs, count_none p xs b.1)
 
-pub count_some : {X : Type 0} (p : X → Bool) (xs : List X) → list_any p xs ≡ true → 1 ≤ count_by p xs
+pub count_some : {X : Type 0} (p : X → Bool) (xs : List X) → list_any p xs ≡ true
+    → 1 ≤ count_by p xs
 count_some p [] e = absurd (let f : false ≡ true = e in cc)
 count_some p (x ∷ xs) e =
     elim (or_cases _ _ e) [
@@ -32,7 +36,8 @@ count_some p (x ∷ xs) e =
     ]
 
 -- at most once, also with one more that wasn't there
-pub count_once_more : {X : Type 0} (p : X → Bool) (xs : List X) (x : X) → count_by p xs ≤ 1 → (p x ≡ true → list_any p xs ≡ false) → count_by p (xs ++ x ∷ []) ≤ 1
+pub count_once_more : {X : Type 0} (p : X → Bool) (xs : List X) (x : X) → count_by p xs ≤ 1
+    → (p x ≡ true → list_any p xs ≡ false) → count_by p (xs ++ x ∷ []) ≤ 1
 count_once_more p xs x once absent =
     elim (cases_Bool (p x)) [
       | inl here ↦
@@ -44,7 +49,8 @@ count_once_more p xs x once absent =
     ]
 
 -- a stricter test passes no more
-pub any_looser : {X : Type 0} (p q : X → Bool) (xs : List X) → list_any (λ x. p x && q x) xs ≡ true → list_any p xs ≡ true
+pub any_looser : {X : Type 0} (p q : X → Bool) (xs : List X) → list_any (λ x. p x && q x) xs ≡ true
+    → list_any p xs ≡ true
 any_looser p q [] e = e
 any_looser p q (x ∷ xs) e =
     elim (or_cases (p x && q x) _ e) [

@@ -25,16 +25,22 @@ pub data Move (r : Requests) : Step → Answer → Requests → Type 0 where
       → Move r (step.Issue n) (answer.Ended (cancel_result r n) no_bytes) (with_issued_end r n (cancel_result r n))
   ends_run : (n : ℕ) (res : ℤ) (bytes : List ℕ) → is_running r n ≡ true → Move r (step.Finish n) (answer.Ended res bytes) (with_ended r n res bytes)
 
-move_by : (g : Setup) (w : World) (s : Step) (a : Answer) → Change g w s a → Move w.requests s a (happens g w s a).requests
-move_by g w s a (refuses _ _ same silent) = subst (λ v. Move w.requests s a v.requests) (sym (same w)) (stays s a silent.starts silent.ends)
+move_by : (g : Setup) (w : World) (s : Step) (a : Answer) → Change g w s a
+    → Move w.requests s a (happens g w s a).requests
+move_by g w s a (refuses _ _ same silent) =
+    subst (λ v. Move w.requests s a v.requests) (sym (same w)) (stays s a silent.starts silent.ends)
 move_by g w s a (takes entry call place opened left at valid) = subst (λ o. Move w.requests s a (taking_entry_of g w entry o).requests) (sym opened) (stays _ _ refl refl)
-move_by g w s a (drops call place opened left at invalid) = subst (λ o. Move w.requests s a (taking_of w o).requests) (sym opened) (stays _ _ refl refl)
+move_by g w s a (drops call place opened left at invalid) =
+    subst (λ o. Move w.requests s a (taking_of w o).requests) (sym opened) (stays _ _ refl refl)
 move_by g w s a (closes accepted missed head call opened all told) = subst (λ o. Move w.requests s a (ending_of w o).requests) (sym opened) (accepts accepted missed head (entries_of (places_from w.submission call.count)))
-move_by g w s a (runs n outstanding idle spared ready no_cancel) = starts n outstanding idle spared ready no_cancel
+move_by g w s a (runs n outstanding idle spared ready no_cancel) =
+    starts n outstanding idle spared ready no_cancel
 move_by g w s a (dooms n outstanding idle doomed) = ends_doomed n outstanding
-move_by g w s a (cancels n outstanding idle spared ready cancel) = ends_cancel n outstanding spared ready cancel
+move_by g w s a (cancels n outstanding idle spared ready cancel) =
+    ends_cancel n outstanding spared ready cancel
 move_by g w s a (finishes n res bytes running) = ends_run n res bytes running
 move_by g w s a _ = stays _ _ refl refl
 
-pub move_of : (g : Setup) (s : Step) (a : Answer) (h : History) → IsLawfulApart g ((s, a) ∷ h) → Move (world g h).requests s a (world g ((s, a) ∷ h)).requests
+pub move_of : (g : Setup) (s : Step) (a : Answer) (h : History) → IsLawfulApart g ((s, a) ∷ h)
+    → Move (world g h).requests s a (world g ((s, a) ∷ h)).requests
 move_of g s a h lawful = move_by g (world g h) s a (change_of g (world g h) s a lawful.0)

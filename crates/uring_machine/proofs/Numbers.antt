@@ -20,7 +20,8 @@ use Rattle.uring_dispatch.proofs.Counting.{count_below-within}
 abbrev AreFew : World → Type 0
 AreFew w = length w.requests.accepted + positions_of w.submission.call ≤ 2 ^ 63 - 1
 
-few_kept : (g : Setup) (w : World) (s : Step) (a : Answer) (v : World) → SubmissionMove g w s a v → IsSoundSubmission g.sq w.submission → AreFew w → AreFew v
+few_kept : (g : Setup) (w : World) (s : Step) (a : Answer) (v : World) → SubmissionMove g w s a v
+    → IsSoundSubmission g.sq w.submission → AreFew w → AreFew v
 few_kept g w s a v (stays _ _ r c is_closed off left) sound i =
     subst (λ entries. length entries + positions_of w.submission.call ≤ 2 ^ 63 - 1) (sym left.accepted) i
 few_kept g w s a v (begins count is_open no_call unspent) sound i = ltb-false _ _ unspent
@@ -29,7 +30,8 @@ few_kept g w s a v (takes entry call place opened left at valid) sound i =
     let within : call.taken ≤ call.count = subst (λ o. open_taken o ≤ open_count o) opened sound.within_call in
     let further : call.taken + 1 ≤ call.count = omega (arith, within, eqb-false call.taken call.count left) in
     omega (arith, before, (stopped_between (stops_at g entry) (record call { taken = call.taken + 1 }) further).1)
-few_kept g w s a v (drops call place opened left at invalid) sound i = subst (λ o. length w.requests.accepted + positions_of o ≤ 2 ^ 63 - 1) opened i
+few_kept g w s a v (drops call place opened left at invalid) sound i =
+    subst (λ o. length w.requests.accepted + positions_of o ≤ 2 ^ 63 - 1) opened i
 few_kept g w s a v (closes accepted missed head call opened all many) sound i =
     let before : length w.requests.accepted + call.count ≤ 2 ^ 63 - 1 = subst (λ o. length w.requests.accepted + positions_of o ≤ 2 ^ 63 - 1) opened i in
     omega (arith, before, few_entries (drop (taken w.submission) w.submission.published) call.count, length-append w.requests.accepted (entries_of (places_from w.submission call.count)))
@@ -40,5 +42,6 @@ few_accepted g [] lawful = omega arith
 few_accepted g ((s, a) ∷ before) lawful = few_kept g (world g before) s a _ (submission_move g s a before lawful) (sound_of g before lawful.1).submission (few_accepted g before lawful.1)
 
 -- fewer than 2 ^ 63 are outstanding
-pub few_outstanding : (g : Setup) (h : History) → IsLawfulApart g h → outstanding_in (world g h).requests ≤ 2 ^ 63 - 1
+pub few_outstanding : (g : Setup) (h : History) → IsLawfulApart g h
+    → outstanding_in (world g h).requests ≤ 2 ^ 63 - 1
 few_outstanding g h lawful = omega (arith, few_accepted g h lawful, count_below-within (is_outstanding (world g h).requests) (length (world g h).requests.accepted))

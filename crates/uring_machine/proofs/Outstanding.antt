@@ -10,7 +10,8 @@ use Rattle.uring_dispatch.proofs.Counting.{count_below-changed, count_below-some
 use Rattle.uring_dispatch.specs.Window.{one_if}
 
 -- a number less
-count_below-less : (p q : ℕ → Bool) (n m : ℕ) → m < n → p m ≡ true → q m ≡ false → ((k : ℕ) → k ≢ m → q k ≡ p k) → count_below q n + 1 ≡ count_below p n
+count_below-less : (p q : ℕ → Bool) (n m : ℕ) → m < n → p m ≡ true → q m ≡ false
+    → ((k : ℕ) → k ≢ m → q k ≡ p k) → count_below q n + 1 ≡ count_below p n
 count_below-less p q n m lt is isnt same =
     let changed = count_below-changed p q n m lt same in
     let one : one_if (p m) ≡ 1 = ap one_if is in
@@ -19,10 +20,12 @@ count_below-less p q n m lt is isnt same =
 
 -- none is counted
 count_below-none : (p : ℕ → Bool) (n : ℕ) → count_below p n ≡ 0 → (k : ℕ) → k < n → p k ≡ false
-count_below-none p n none k lt = false_from_ne_true _ (λ here. omega (arith, none, count_below-some p n k lt here))
+count_below-none p n none k lt =
+    false_from_ne_true _ (λ here. omega (arith, none, count_below-some p n k lt here))
 
 -- nothing is counted that isn't there
-pub count_below-zero : (p : ℕ → Bool) (n : ℕ) → ((k : ℕ) → k < n → p k ≡ false) → count_below p n ≡ 0
+pub count_below-zero : (p : ℕ → Bool) (n : ℕ) → ((k : ℕ) → k < n → p k ≡ false)
+    → count_below p n ≡ 0
 count_below-zero p zero none = refl
 count_below-zero p (suc n) none =
     let here : ◌≡◌ {A = ℕ} (cond (p n) 1 0) 0 = ap (λ b. cond b 1 0) (none n (omega arith)) in
@@ -40,7 +43,8 @@ pub all_ended : (r : Requests) → ((n : ℕ) → is_outstanding r n ≡ false) 
 all_ended r none = count_below-zero (is_outstanding r) (length r.accepted) (λ n lt. none n)
 
 -- an end of an outstanding request makes it one less
-pub ended_less : (r : Requests) (n : ℕ) (res : ℤ) (bytes : List ℕ) → is_outstanding r n ≡ true → outstanding_in (with_ended r n res bytes) + 1 ≡ outstanding_in r
+pub ended_less : (r : Requests) (n : ℕ) (res : ℤ) (bytes : List ℕ) → is_outstanding r n ≡ true
+    → outstanding_in (with_ended r n res bytes) + 1 ≡ outstanding_in r
 ended_less r n res bytes outstanding =
     let within = ltb-true _ _ (and_parts _ _ outstanding).0 in
     count_below-less (is_outstanding r) (is_outstanding (with_ended r n res bytes)) (length r.accepted) n within outstanding

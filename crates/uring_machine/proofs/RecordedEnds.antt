@@ -31,7 +31,9 @@ use Rattle.uring_machine.proofs.FileHistory.{failed}
 -- Any step but a Finish: its core follows.
 
 -- the machine with a core that fits the same history
-pub kept_fits : (core later : Core) (files left : List FileContents) (h : History) → later.setup ≡ core.setup → left ≡ files → Fits (record { core = core; files = files }) h → FitsApart later h
+pub kept_fits : (core later : Core) (files left : List FileContents) (h : History)
+    → later.setup ≡ core.setup → left ≡ files → Fits (record { core = core; files = files }) h
+    → FitsApart later h
     → Fits (record { core = later; files = left }) h
 kept_fits core later files left h same untouched fits next = record {
   core = next;
@@ -39,31 +41,43 @@ kept_fits core later files left h same untouched fits next = record {
   lawful = subst (λ k. IsLawful k h) (sym same) fits.lawful;
 }
 
-pub resumed_fits : (core later : Core) (files : List FileContents) (s : Step) (refusal : Refusal) (h : History) → later.setup ≡ core.setup → IsNoFinish s
-    → Fits (record { core = core; files = files }) h → FitsApart later (resumed s refusal h) → Fits (record { core = later; files = files }) (resumed s refusal h)
-resumed_fits core later files s (Wrong (Only x)) h same other fits next = step_fits core later files s x h same other fits next
-resumed_fits core later files s _ h same other fits next = kept_fits core later files files h same refl fits next
+pub resumed_fits : (core later : Core) (files : List FileContents) (s : Step) (refusal : Refusal) (h : History)
+    → later.setup ≡ core.setup → IsNoFinish s
+    → Fits (record { core = core; files = files }) h → FitsApart later (resumed s refusal h)
+    → Fits (record { core = later; files = files }) (resumed s refusal h)
+resumed_fits core later files s (Wrong (Only x)) h same other fits next =
+    step_fits core later files s x h same other fits next
+resumed_fits core later files s _ h same other fits next =
+    kept_fits core later files files h same refl fits next
 
 -- some history is fitted, whichever way the core went
-pub follows_some : (core later : Core) (files : List FileContents) (s : Step) (a : Answer) (r : Result Unit Refusal) (h : History) → later.setup ≡ core.setup → IsNoFinish s
+pub follows_some : (core later : Core) (files : List FileContents) (s : Step) (a : Answer) (r : Result Unit Refusal) (h : History)
+    → later.setup ≡ core.setup → IsNoFinish s
     → Fits (record { core = core; files = files }) h
-    → OnOk r ((k : History) → FitsApart core k → FitsApart later ((s, a) ∷ k)) → IfErr r (λ refusal. (k : History) → FitsApart core k → FitsApart later (resumed s refusal k))
+    → OnOk r ((k : History) → FitsApart core k → FitsApart later ((s, a) ∷ k))
+    → IfErr r (λ refusal. (k : History) → FitsApart core k → FitsApart later (resumed s refusal k))
     → (k : History) × Fits (record { core = later; files = files }) k
-follows_some core later files s a (Ok x) h same other fits next goes_on = ((s, a) ∷ h, step_fits core later files s a h same other fits (next h fits.core))
+follows_some core later files s a (Ok x) h same other fits next goes_on =
+    ((s, a) ∷ h, step_fits core later files s a h same other fits (next h fits.core))
 follows_some core later files s a (Err refusal) h same other fits next goes_on = (resumed s refusal h, resumed_fits core later files s refusal h same other fits (goes_on h fits.core))
 
 -- what is refused apart from files is refused
-pub refused_apart : (g : Setup) (w : World) (s : Step) (a : Answer) (refusal : Refusal) → IsNoFinish s → IsRefused (CalledForApart g w s) a refusal → IsRefused (CalledFor g w s) a refusal
+pub refused_apart : (g : Setup) (w : World) (s : Step) (a : Answer) (refusal : Refusal)
+    → IsNoFinish s → IsRefused (CalledForApart g w s) a refusal
+    → IsRefused (CalledFor g w s) a refusal
 refused_apart g w (step.Finish n) a refusal other refused = absurd other
 refused_apart g w _ a refusal other refused = refused
 
-pub lacks_apart : (m : Machine) (w : World) (s : Step) → IsNoFinish s → IsShortOfMemory m.core w s → MayLackMemory m w s
+pub lacks_apart : (m : Machine) (w : World) (s : Step) → IsNoFinish s → IsShortOfMemory m.core w s
+    → MayLackMemory m w s
 lacks_apart m w (step.Finish n) other short = absurd other
 lacks_apart m w _ other short = short
 
 -- A Finish of what doesn't run.
 
-pub idle_refused : (g : Setup) (w : World) (n : ℕ) (a : Answer) (refusal : Refusal) → None ≡ operation_running w.requests n → refusal ≡ Wrong (Only answer.NotRunning) → (a ≡ answer.NotRunning → ⊥)
+pub idle_refused : (g : Setup) (w : World) (n : ℕ) (a : Answer) (refusal : Refusal)
+    → None ≡ operation_running w.requests n → refusal ≡ Wrong (Only answer.NotRunning)
+    → (a ≡ answer.NotRunning → ⊥)
     → IsRefused (CalledFor g w (step.Finish n)) a refusal
 idle_refused g w n a refusal none is other =
     let idle : is_running w.requests n ≡ false = not_running (operation_of (entry_of w.requests n)) (is_running w.requests n) none in
@@ -75,24 +89,31 @@ idle_refused g w n a refusal none is other =
 
 -- an end as this operation calls for on these files
 abbrev pub EndsWith : List FileContents → Op → Answer → Type 0
-EndsWith files op (answer.Ended res bytes) = IsOutcome files op (record { res = res; bytes = bytes })
+EndsWith files op (answer.Ended res bytes) =
+    IsOutcome files op (record { res = res; bytes = bytes })
 EndsWith files op _ = ⊥
 
-ends_with : (files : List FileContents) (r : Requests) (n : ℕ) (a : Answer) → EndsOn files r n true a → EndsWith files (operation_of (entry_of r n)) a
+ends_with : (files : List FileContents) (r : Requests) (n : ℕ) (a : Answer)
+    → EndsOn files r n true a → EndsWith files (operation_of (entry_of r n)) a
 ends_with files r n (answer.Ended res bytes) called = called
 ends_with files r n _ called = called
 
-with_ends : (files : List FileContents) (r : Requests) (n : ℕ) (a : Answer) → EndsWith files (operation_of (entry_of r n)) a → EndsOn files r n true a
+with_ends : (files : List FileContents) (r : Requests) (n : ℕ) (a : Answer)
+    → EndsWith files (operation_of (entry_of r n)) a → EndsOn files r n true a
 with_ends files r n (answer.Ended res bytes) called = called
 with_ends files r n _ called = called
 
 -- What runs in a machine that fits a history: what is called for, by the operation and the machine's files.
 pub record RunsWith (m : Machine) (h : History) (n : ℕ) (op : Op) : Type 0 where
-  pub ends : (a : Answer) → CalledFor m.core.setup (world m.core.setup h) (step.Finish n) a → EndsWith m.files op a
-  pub called : (a : Answer) → EndsWith m.files op a → CalledFor m.core.setup (world m.core.setup h) (step.Finish n) a
-  pub is_same : is_lengthening m.files op ≡ is_lengthening (files_of m.core.setup (world m.core.setup h)) (operation_of (entry_of (world m.core.setup h).requests n))
+  pub ends : (a : Answer) → CalledFor m.core.setup (world m.core.setup h) (step.Finish n) a
+      → EndsWith m.files op a
+  pub called : (a : Answer) → EndsWith m.files op a
+      → CalledFor m.core.setup (world m.core.setup h) (step.Finish n) a
+  pub is_same : is_lengthening m.files op
+      ≡ is_lengthening (files_of m.core.setup (world m.core.setup h)) (operation_of (entry_of (world m.core.setup h).requests n))
 
-pub runs_so : (m : Machine) (h : History) (n : ℕ) (op : Op) → Fits m h → Some op ≡ operation_running (world m.core.setup h).requests n → RunsWith m h n op
+pub runs_so : (m : Machine) (h : History) (n : ℕ) (op : Op) → Fits m h
+    → Some op ≡ operation_running (world m.core.setup h).requests n → RunsWith m h n op
 runs_so m h n op fits is =
     let g : Setup = m.core.setup in
     let w : World = world g h in
@@ -106,32 +127,46 @@ runs_so m h n op fits is =
     }
 
 -- one end alone is called for where the operation doesn't make its file longer
-one_end : (files : List FileContents) (op : Op) → is_lengthening files op ≡ false → (a b : Answer) → EndsWith files op a → EndsWith files op b → a ≡ b
-one_end files op short (answer.Ended res bytes) (answer.Ended res' bytes') (inl e) (inl f) = ap (λ (o : Outcome). answer.Ended o.res o.bytes) (e ∙ sym f)
-one_end files op short (answer.Ended res bytes) (answer.Ended res' bytes') (inr long) f = absurd (true≢false (sym long.0 ∙ short))
-one_end files op short (answer.Ended res bytes) (answer.Ended res' bytes') (inl e) (inr long) = absurd (true≢false (sym long.0 ∙ short))
+one_end : (files : List FileContents) (op : Op) → is_lengthening files op ≡ false → (a b : Answer)
+    → EndsWith files op a → EndsWith files op b → a ≡ b
+one_end files op short (answer.Ended res bytes) (answer.Ended res' bytes') (inl e) (inl f) =
+    ap (λ (o : Outcome). answer.Ended o.res o.bytes) (e ∙ sym f)
+one_end files op short (answer.Ended res bytes) (answer.Ended res' bytes') (inr long) f =
+    absurd (true≢false (sym long.0 ∙ short))
+one_end files op short (answer.Ended res bytes) (answer.Ended res' bytes') (inl e) (inr long) =
+    absurd (true≢false (sym long.0 ∙ short))
 one_end files op short (answer.Ended res bytes) _ e f = absurd f
 one_end files op short _ b e f = absurd e
 
-pub end_refused : (m : Machine) (h : History) (n : ℕ) (op : Op) (x a : Answer) (refusal : Refusal) → RunsWith m h n op → is_lengthening m.files op ≡ false
-    → CalledFor m.core.setup (world m.core.setup h) (step.Finish n) x → refusal ≡ Wrong (Only x) → (a ≡ x → ⊥) → IsRefused (CalledFor m.core.setup (world m.core.setup h) (step.Finish n)) a refusal
+pub end_refused : (m : Machine) (h : History) (n : ℕ) (op : Op) (x a : Answer) (refusal : Refusal)
+    → RunsWith m h n op → is_lengthening m.files op ≡ false
+    → CalledFor m.core.setup (world m.core.setup h) (step.Finish n) x → refusal ≡ Wrong (Only x)
+    → (a ≡ x → ⊥)
+    → IsRefused (CalledFor m.core.setup (world m.core.setup h) (step.Finish n)) a refusal
 end_refused m h n op x a refusal runs short called is other =
     subst (λ r. IsRefused (CalledFor m.core.setup (world m.core.setup h) (step.Finish n)) a r) (sym is)
     (wrong_beside (CalledFor m.core.setup (world m.core.setup h) (step.Finish n)) x a called (λ b k. one_end m.files op short b x (runs.ends b k) (runs.ends x called)) other)
 
 -- The write makes its file longer.
 
-growth_ends : (files : List FileContents) (op : Op) (res : ℤ) (a : Answer) → result_of files op ≡ ended_with res → EndsWith files op a → Meets (EndOrNoMemory res) a
-growth_ends files op res (answer.Ended r bytes) is (inl e) = inl (ap (λ (o : Outcome). answer.Ended o.res o.bytes) (e ∙ is))
-growth_ends files op res (answer.Ended r bytes) is (inr e) = inr (ap (λ (o : Outcome). answer.Ended o.res o.bytes) e.1)
+growth_ends : (files : List FileContents) (op : Op) (res : ℤ) (a : Answer)
+    → result_of files op ≡ ended_with res → EndsWith files op a → Meets (EndOrNoMemory res) a
+growth_ends files op res (answer.Ended r bytes) is (inl e) =
+    inl (ap (λ (o : Outcome). answer.Ended o.res o.bytes) (e ∙ is))
+growth_ends files op res (answer.Ended r bytes) is (inr e) =
+    inr (ap (λ (o : Outcome). answer.Ended o.res o.bytes) e.1)
 growth_ends files op res _ is e = absurd e
 
-ends_growth : (files : List FileContents) (op : Op) (res : ℤ) (a : Answer) → is_lengthening files op ≡ true → result_of files op ≡ ended_with res → Meets (EndOrNoMemory res) a → EndsWith files op a
+ends_growth : (files : List FileContents) (op : Op) (res : ℤ) (a : Answer)
+    → is_lengthening files op ≡ true → result_of files op ≡ ended_with res
+    → Meets (EndOrNoMemory res) a → EndsWith files op a
 ends_growth files op res a long is (inl e) = subst (EndsWith files op) (sym e) (inl (sym is))
 ends_growth files op res a long is (inr e) = subst (EndsWith files op) (sym e) (inr (long, refl))
 
-pub growth_wrong : (m : Machine) (h : History) (n : ℕ) (op : Op) (res : ℤ) (a : Answer) → RunsWith m h n op → is_lengthening m.files op ≡ true → result_of m.files op ≡ ended_with res
-    → (a ≡ answer.Ended (neg_ℤ ENOMEM) no_bytes → ⊥) → (a ≡ answer.Ended res no_bytes → ⊥) → IsWrong (CalledFor m.core.setup (world m.core.setup h) (step.Finish n)) a (EndOrNoMemory res)
+pub growth_wrong : (m : Machine) (h : History) (n : ℕ) (op : Op) (res : ℤ) (a : Answer)
+    → RunsWith m h n op → is_lengthening m.files op ≡ true → result_of m.files op ≡ ended_with res
+    → (a ≡ answer.Ended (neg_ℤ ENOMEM) no_bytes → ⊥) → (a ≡ answer.Ended res no_bytes → ⊥)
+    → IsWrong (CalledFor m.core.setup (world m.core.setup h) (step.Finish n)) a (EndOrNoMemory res)
 growth_wrong m h n op res a runs long is no_failure no_success = record {
   not_called = λ k. neither (growth_ends m.files op res a is (runs.ends a k));
   called = λ b k. growth_ends m.files op res b is (runs.ends b k);
@@ -141,17 +176,24 @@ growth_wrong m h n op res a runs long is no_failure no_success = record {
   neither (inl e) = no_success e
   neither (inr e) = no_failure e
 
-pub growth_called : (m : Machine) (h : History) (n : ℕ) (op : Op) (res : ℤ) (a : Answer) → RunsWith m h n op → is_lengthening m.files op ≡ true → result_of m.files op ≡ ended_with res
-    → a ≡ answer.Ended res no_bytes → CalledFor m.core.setup (world m.core.setup h) (step.Finish n) a
-growth_called m h n op res a runs long is e = runs.called a (ends_growth m.files op res a long is (inl e))
+pub growth_called : (m : Machine) (h : History) (n : ℕ) (op : Op) (res : ℤ) (a : Answer)
+    → RunsWith m h n op → is_lengthening m.files op ≡ true → result_of m.files op ≡ ended_with res
+    → a ≡ answer.Ended res no_bytes
+    → CalledFor m.core.setup (world m.core.setup h) (step.Finish n) a
+growth_called m h n op res a runs long is e =
+    runs.called a (ends_growth m.files op res a long is (inl e))
 
 -- what ended otherwise than with its success found no memory
-pub growth_failed : (files : List FileContents) (op : Op) (res : ℤ) (outcome : Outcome) → result_of files op ≡ ended_with res → IsOutcome files op outcome → (outcome.res ≡ res → ⊥) → outcome.res ≡ neg_ℤ ENOMEM
-growth_failed files op res outcome is (inl e) other = absurd (other (ap (λ (o : Outcome). o.res) (e ∙ is)))
+pub growth_failed : (files : List FileContents) (op : Op) (res : ℤ) (outcome : Outcome)
+    → result_of files op ≡ ended_with res → IsOutcome files op outcome → (outcome.res ≡ res → ⊥)
+    → outcome.res ≡ neg_ℤ ENOMEM
+growth_failed files op res outcome is (inl e) other =
+    absurd (other (ap (λ (o : Outcome). o.res) (e ∙ is)))
 growth_failed files op res outcome is (inr e) other = ap (λ (o : Outcome). o.res) e.1
 
 -- no write gives bytes
-pub growth_bytes : (files : List FileContents) (op : Op) (res : ℤ) (outcome : Outcome) → result_of files op ≡ ended_with res → IsOutcome files op outcome → outcome.bytes ≡ no_bytes
+pub growth_bytes : (files : List FileContents) (op : Op) (res : ℤ) (outcome : Outcome)
+    → result_of files op ≡ ended_with res → IsOutcome files op outcome → outcome.bytes ≡ no_bytes
 growth_bytes files op res outcome is (inl e) = ap (λ (o : Outcome). o.bytes) (e ∙ is)
 growth_bytes files op res outcome is (inr e) = ap (λ (o : Outcome). o.bytes) e.1
 
@@ -159,9 +201,13 @@ pub ended_alike : (x y : ℤ) (b c : List ℕ) → x ≡ y → b ≡ c → answe
 ended_alike x y b c e f = λ i. answer.Ended (e i) (f i)
 
 -- a running request ended as was recorded
-pub followed_end : (core later : Core) (files : List FileContents) (n : ℕ) (op : Op) (outcome : Outcome) (left : List FileContents) (a given : Answer) (h : History) → later.setup ≡ core.setup
-    → Fits (record { core = core; files = files }) h → Some op ≡ operation_running (world core.setup h).requests n → IsOutcome files op outcome → left ≡ after files op outcome.res
-    → FitsApart later ((step.Finish n, a) ∷ h) → IsFinished (world core.setup h) n outcome a → given ≡ answer.Ended outcome.res outcome.bytes
+pub followed_end : (core later : Core) (files : List FileContents) (n : ℕ) (op : Op) (outcome : Outcome) (left : List FileContents) (a given : Answer) (h : History)
+    → later.setup ≡ core.setup
+    → Fits (record { core = core; files = files }) h
+    → Some op ≡ operation_running (world core.setup h).requests n → IsOutcome files op outcome
+    → left ≡ after files op outcome.res
+    → FitsApart later ((step.Finish n, a) ∷ h) → IsFinished (world core.setup h) n outcome a
+    → given ≡ answer.Ended outcome.res outcome.bytes
     → Fits (record { core = later; files = left }) ((step.Finish n, given) ∷ h)
 followed_end core later files n op outcome left a given h same fits is allowed leaves next finished recorded =
     let runs = runs_with (world core.setup h).requests n op is in
@@ -170,9 +216,13 @@ followed_end core later files n op outcome left a given h same fits is allowed l
     (finish_fits core later files n op outcome left a h same fits is allowed leaves next finished)
 
 -- it ended without memory, as was recorded
-pub followed_failure : (core later : Core) (files : List FileContents) (n : ℕ) (op : Op) (a given : Answer) (h : History) → later.setup ≡ core.setup
-    → Fits (record { core = core; files = files }) h → Some op ≡ operation_running (world core.setup h).requests n → is_lengthening files op ≡ true
-    → FitsApart later ((step.Finish n, a) ∷ h) → IsFinished (world core.setup h) n (ended_with (neg_ℤ ENOMEM)) a → given ≡ answer.Ended (neg_ℤ ENOMEM) no_bytes
+pub followed_failure : (core later : Core) (files : List FileContents) (n : ℕ) (op : Op) (a given : Answer) (h : History)
+    → later.setup ≡ core.setup
+    → Fits (record { core = core; files = files }) h
+    → Some op ≡ operation_running (world core.setup h).requests n → is_lengthening files op ≡ true
+    → FitsApart later ((step.Finish n, a) ∷ h)
+    → IsFinished (world core.setup h) n (ended_with (neg_ℤ ENOMEM)) a
+    → given ≡ answer.Ended (neg_ℤ ENOMEM) no_bytes
     → Fits (record { core = later; files = files }) ((step.Finish n, given) ∷ h)
 followed_failure core later files n op a given h same fits is long next finished recorded =
     followed_end core later files n op (ended_with (neg_ℤ ENOMEM)) files a given h same fits is (inr (long, refl)) (sym (failed files op 11)) next finished recorded

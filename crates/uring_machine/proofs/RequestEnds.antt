@@ -31,7 +31,8 @@ pub record IsChosen (r : Requests) (n m : ℕ) : Type 0 where
 -- those that cancels chose, with what the end of n adds
 pub record IsChoice (r : Requests) (n : ℕ) (cancelled : List ℕ) : Type 0 where
   pub kept : (m : ℕ) → is_cancelled r m ≡ true → list_any (λ k. k == m) cancelled ≡ true
-  pub added : (m : ℕ) → list_any (λ k. k == m) cancelled ≡ true → (is_cancelled r m ≡ true) ⊎ IsChosen r n m
+  pub added : (m : ℕ) → list_any (λ k. k == m) cancelled ≡ true
+      → (is_cancelled r m ≡ true) ⊎ IsChosen r n m
 
 module _ (r : Requests) (n : ℕ) (res : ℤ) (bytes : List ℕ) (cancelled : List ℕ) (choice : IsChoice r n cancelled) where
   pub end_join : (k m : ℕ) → is_joined (ended_as r n res bytes cancelled) k m ≡ is_joined r k m
@@ -56,7 +57,8 @@ module _ (r : Requests) (n : ℕ) (res : ℤ) (bytes : List ℕ) (cancelled : Li
   fail_kept k e = any_kept (λ x. (x.number == k) && not (is_success (entry_of r k) x.res)) r.ended _ e
 
   -- who is doomed stays doomed
-  pub end_doom : (m : ℕ) → is_doomed r m ≡ true → is_doomed (ended_as r n res bytes cancelled) m ≡ true
+  pub end_doom : (m : ℕ) → is_doomed r m ≡ true
+      → is_doomed (ended_as r n res bytes cancelled) m ≡ true
   end_doom m doomed =
       elim (is_doomed-tells r m doomed) [
         | inl faulty ↦ is_doomed-faulty (ended_as r n res bytes cancelled) m (end_fault m ∙ faulty)
@@ -120,7 +122,8 @@ module _ (r : Requests) (n : ℕ) (res : ℤ) (bytes : List ℕ) (cancelled : Li
       (and_right (eqb n n) _ (not_from_true _ ((Decides-int_eq res (doomed_result r n)).1 is)))
 
   -- how the end of n came: n was doomed, with that result, or free
-  pub end_sound : is_outstanding r n ≡ true → (res ≡ doomed_result r n) ⊎ IsFree r n → IsSoundRequests r → IsSoundRequests (ended_as r n res bytes cancelled)
+  pub end_sound : is_outstanding r n ≡ true → (res ≡ doomed_result r n) ⊎ IsFree r n
+      → IsSoundRequests r → IsSoundRequests (ended_as r n res bytes cancelled)
   end_sound outstanding how s =
       let o = outstanding_tells r n outstanding in
       record {
@@ -149,7 +152,8 @@ module _ (r : Requests) (n : ℕ) (res : ℤ) (bytes : List ℕ) (cancelled : Li
 pub no_choice : (r : Requests) (n : ℕ) → IsChoice r n r.cancelled
 no_choice r n = record { kept = λ m e. e; added = λ m e. inl e }
 
-pub finish_sound : (r : Requests) (n : ℕ) (res : ℤ) (bytes : List ℕ) → is_running r n ≡ true → IsSoundRequests r → IsSoundRequests (with_ended r n res bytes)
+pub finish_sound : (r : Requests) (n : ℕ) (res : ℤ) (bytes : List ℕ) → is_running r n ≡ true
+    → IsSoundRequests r → IsSoundRequests (with_ended r n res bytes)
 finish_sound r n res bytes running s =
     let p = and_parts _ _ running in
     let within = s.started_accepted n p.0 in
@@ -157,10 +161,12 @@ finish_sound r n res bytes running s =
 
 -- What a cancel chooses.
 
-pub any_both : {X : Type 0} (p : X → Bool) (xs ys : List X) → list_any p (xs ++ ys) ≡ true → (list_any p xs ≡ true) ⊎ (list_any p ys ≡ true)
+pub any_both : {X : Type 0} (p : X → Bool) (xs ys : List X) → list_any p (xs ++ ys) ≡ true
+    → (list_any p xs ≡ true) ⊎ (list_any p ys ≡ true)
 any_both p xs ys e = or_cases _ _ (sym (list_any-append p xs ys) ∙ e)
 
-only_one : (target : Option ℕ) (m : ℕ) → list_any (λ k. k == m) (option_to_list target) ≡ true → target ≡ Some m
+only_one : (target : Option ℕ) (m : ℕ) → list_any (λ k. k == m) (option_to_list target) ≡ true
+    → target ≡ Some m
 only_one None m e = absurd (let f : false ≡ true = e in cc)
 only_one (Some t) m e = elim (or_cases (t == m) false e) [ inl here ↦ ap Some (eqb-true t m here) | inr none ↦ absurd (let f : false ≡ true = none in cc) ]
 
@@ -169,7 +175,9 @@ a_number (pos count) e = (count, refl)
 a_number (negsuc below) e = absurd (let f : false ≡ true = e in cc)
 
 -- whom a cancel chose that succeeded with this result
-chose_so : (r : Requests) (n : ℕ) (res : ℤ) (m : ℕ) → is_cancel (entry_of r n) ≡ true → is_success (entry_of r n) res ≡ true → list_any (λ k. k == m) (choices_of r n) ≡ true → Chose r n res m
+chose_so : (r : Requests) (n : ℕ) (res : ℤ) (m : ℕ) → is_cancel (entry_of r n) ≡ true
+    → is_success (entry_of r n) res ≡ true → list_any (λ k. k == m) (choices_of r n) ≡ true
+    → Chose r n res m
 chose_so r n res m cancel success there = by_all (is_cancel_all (entry_of r n)) refl there where
   by_all : (all : Bool) → is_cancel_all (entry_of r n) ≡ all → list_any (λ k. k == m) (cond all (targets_of r n) (option_to_list (target_of r n))) ≡ true → Chose r n res m
   by_all true is among =
@@ -185,7 +193,9 @@ chose_so r n res m cancel success there = by_all (is_cancel_all (entry_of r n)) 
       })
 
 -- who is chosen with a result
-pub chose : (r : Requests) (n : ℕ) (res : ℤ) (m : ℕ) → list_any (λ k. k == m) (chosen_by r n res) ≡ true → (is_success (entry_of r n) res ≡ true) × Chose r n res m
+pub chose : (r : Requests) (n : ℕ) (res : ℤ) (m : ℕ)
+    → list_any (λ k. k == m) (chosen_by r n res) ≡ true
+    → (is_success (entry_of r n) res ≡ true) × Chose r n res m
 chose r n res m e = by_test (is_cancel (entry_of r n) && is_success (entry_of r n) res) refl e where
   by_test : (chooses : Bool) → (is_cancel (entry_of r n) && is_success (entry_of r n) res) ≡ chooses → list_any (λ k. k == m) (cond chooses (choices_of r n) []) ≡ true → (is_success (entry_of r n) res ≡ true) × Chose r n res m
   by_test false is none = absurd (let f : false ≡ true = none in cc)
@@ -196,7 +206,8 @@ pub doomed_fails : (r : Requests) (n : ℕ) → is_success (entry_of r n) (doome
 doomed_fails r n = cond_both (is_faulty (entry_of r n)) (neg_ℤ EINVAL) (neg_ℤ ECANCELED) (λ res. is_success (entry_of r n) res ≡ false) (λ _. never_success (entry_of r n) 21) (λ _. never_success (entry_of r n) 124)
 
 -- a cancel that ends with 0 found its target at rest
-result_tells : (r : Requests) (m : ℕ) → int_eq (result_for r (Some m)) (pos 0) ≡ true → is_running r m ≡ false
+result_tells : (r : Requests) (m : ℕ) → int_eq (result_for r (Some m)) (pos 0) ≡ true
+    → is_running r m ≡ false
 result_tells r m e = by_running (is_running r m) e where
   by_running : (running : Bool) → int_eq (cond running (neg_ℤ EALREADY) (pos 0)) (pos 0) ≡ true → running ≡ false
   by_running true f = absurd (let g : false ≡ true = f in cc)
@@ -225,7 +236,8 @@ module _ (r : Requests) (n : ℕ) where
   is_chosen m (inr c) = let p = and_parts _ _ c.target in chosen_at m p.0 (not-true _ p.1)
 
   -- who is chosen by the end of n with this result
-  pub choice_of : (res : ℤ) → (res ≡ doomed_result r n) ⊎ (res ≡ cancel_result r n) → IsChoice r n (r.cancelled ++ chosen_by r n res)
+  pub choice_of : (res : ℤ) → (res ≡ doomed_result r n) ⊎ (res ≡ cancel_result r n)
+      → IsChoice r n (r.cancelled ++ chosen_by r n res)
   choice_of res how =
       record {
         kept = λ m e. any_kept (λ k. k == m) r.cancelled (chosen_by r n res) e;
@@ -240,10 +252,13 @@ module _ (r : Requests) (n : ℕ) where
         ];
       }
 
-pub doom_sound : (r : Requests) (n : ℕ) → is_outstanding r n ≡ true → IsSoundRequests r → IsSoundRequests (with_issued_end r n (doomed_result r n))
+pub doom_sound : (r : Requests) (n : ℕ) → is_outstanding r n ≡ true → IsSoundRequests r
+    → IsSoundRequests (with_issued_end r n (doomed_result r n))
 doom_sound r n outstanding s =
     end_sound r n (doomed_result r n) no_bytes (r.cancelled ++ chosen_by r n (doomed_result r n)) (choice_of r n (doomed_result r n) (inl refl)) outstanding (inl refl) s
 
-pub cancel_sound : (r : Requests) (n : ℕ) → is_outstanding r n ≡ true → is_doomed r n ≡ false → is_ready r n ≡ true → IsSoundRequests r → IsSoundRequests (with_issued_end r n (cancel_result r n))
+pub cancel_sound : (r : Requests) (n : ℕ) → is_outstanding r n ≡ true → is_doomed r n ≡ false
+    → is_ready r n ≡ true → IsSoundRequests r
+    → IsSoundRequests (with_issued_end r n (cancel_result r n))
 cancel_sound r n outstanding spared ready s =
     end_sound r n (cancel_result r n) no_bytes (r.cancelled ++ chosen_by r n (cancel_result r n)) (choice_of r n (cancel_result r n) (inr refl)) outstanding (inr (record { spared = spared; first = ready_first r n ready })) s

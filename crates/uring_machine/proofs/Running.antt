@@ -21,14 +21,16 @@ use Rattle.uring_machine.proofs.SoundRequests.{IsSoundRequests}
 use Rattle.uring_machine.proofs.Changes.{not_some}
 
 -- a request's entry stays as more are accepted
-pub entry_stays : (r : Requests) (entries : List Sqe) (n : ℕ) → n < length r.accepted → entry_of (with_call r entries) n ≡ entry_of r n
+pub entry_stays : (r : Requests) (entries : List Sqe) (n : ℕ) → n < length r.accepted
+    → entry_of (with_call r entries) n ≡ entry_of r n
 entry_stays r entries n lt = get_or_append_left r.accepted entries zero_entry n lt
 
 -- no cancel was started
 abbrev NoCancel : Requests → Type 0
 NoCancel r = (n : ℕ) → has_started r n ≡ true → is_cancel (entry_of r n) ≡ false
 
-no_cancel_kept : (r q : Requests) (s : Step) (a : Answer) → Move r s a q → IsSoundRequests r → NoCancel r → NoCancel q
+no_cancel_kept : (r q : Requests) (s : Step) (a : Answer) → Move r s a q → IsSoundRequests r
+    → NoCancel r → NoCancel q
 no_cancel_kept r q s a (accepts accepted missed head entries) i none = λ n started. ap is_cancel (entry_stays r entries n (i.started_accepted n started)) ∙ none n started
 no_cancel_kept r q s a (starts m outstanding idle spared ready other) i none = λ n started. elim (any_new (λ k. k == n) r.started m started) [ inl old ↦ none n old | inr new ↦ subst (λ k. is_cancel (entry_of r k) ≡ false) (eqb-true _ _ new) other ]
 no_cancel_kept r q s a _ i none = none
@@ -40,7 +42,9 @@ no_cancel g ((s, a) ∷ before) lawful =
     (sound_of g before lawful.1).requests (no_cancel g before lawful.1)
 
 -- the operation of a running request can be asked of files
-pub running_asks : (g : Setup) (h : History) (n : ℕ) → IsLawfulApart g h → is_running (world g h).requests n ≡ true → IsForFiles (operation_of (entry_of (world g h).requests n))
+pub running_asks : (g : Setup) (h : History) (n : ℕ) → IsLawfulApart g h
+    → is_running (world g h).requests n ≡ true
+    → IsForFiles (operation_of (entry_of (world g h).requests n))
 running_asks g h n lawful running =
     let r : Requests = (world g h).requests in
     let i : IsSoundRequests r = (sound_of g h lawful).requests in

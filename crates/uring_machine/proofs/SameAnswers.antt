@@ -26,7 +26,8 @@ own_number n = eq-eqb n n refl
 own_result : (z : ℤ) → int_eq z z ≡ true
 own_result z = (Decides-int_eq z z).1 refl
 
-same_completion : (c d : Cqe) → nat_eq c.user_data d.user_data ≡ true → int_eq c.res d.res ≡ true → pointwise nat_eq c.payload d.payload ≡ true → answer.Reaped c ≡ answer.Reaped d
+same_completion : (c d : Cqe) → nat_eq c.user_data d.user_data ≡ true → int_eq c.res d.res ≡ true
+    → pointwise nat_eq c.payload d.payload ≡ true → answer.Reaped c ≡ answer.Reaped d
 same_completion c d named result payload = λ i.
     answer.Reaped (record {
       user_data = eqb-true c.user_data d.user_data named i;
@@ -87,7 +88,8 @@ alike (answer.Head x) = own_number x
 alike (answer.Call x) = own_number x
 alike (answer.Entry x) = own_bytes x
 alike (answer.Taken x y z) = and_from (nat_eq x x) (nat_eq y y && nat_eq z z) (own_number x) (and_from (nat_eq y y) (nat_eq z z) (own_number y) (own_number z))
-alike (answer.Ended res bytes) = and_from (int_eq res res) (pointwise nat_eq bytes bytes) (own_result res) (own_bytes bytes)
+alike (answer.Ended res bytes) =
+    and_from (int_eq res res) (pointwise nat_eq bytes bytes) (own_result res) (own_bytes bytes)
 alike (answer.Moved x) = own_number x
 alike (answer.Reaped c) = and_from (nat_eq c.user_data c.user_data) (int_eq c.res c.res && pointwise nat_eq c.payload c.payload) (own_number c.user_data) (and_from (int_eq c.res c.res) (pointwise nat_eq c.payload c.payload) (own_result c.res) (own_bytes c.payload))
 alike (answer.Next x) = own_number x

@@ -25,12 +25,16 @@ use Rattle.uring_machine.proofs.Issuable.{issue_goes, issued_ends, issuable_outs
 
 -- Ends, each of which leaves one outstanding request less.
 
-issue_less : (g : Setup) (w : World) (n : ℕ) (a : Answer) → is_outstanding w.requests n ≡ true → IsEnded a → outstanding_in (issuing g w n a).requests + 1 ≡ outstanding_in w.requests
-issue_less g w n (answer.Ended res bytes) outstanding ended = ended_less w.requests n res no_bytes outstanding
+issue_less : (g : Setup) (w : World) (n : ℕ) (a : Answer) → is_outstanding w.requests n ≡ true
+    → IsEnded a → outstanding_in (issuing g w n a).requests + 1 ≡ outstanding_in w.requests
+issue_less g w n (answer.Ended res bytes) outstanding ended =
+    ended_less w.requests n res no_bytes outstanding
 issue_less g w n _ outstanding ended = absurd ended
 
-finish_less : (g : Setup) (w : World) (n : ℕ) (a : Answer) → is_outstanding w.requests n ≡ true → IsEnded a → outstanding_in (finishing g w n a).requests + 1 ≡ outstanding_in w.requests
-finish_less g w n (answer.Ended res bytes) outstanding ended = ended_less w.requests n res bytes outstanding
+finish_less : (g : Setup) (w : World) (n : ℕ) (a : Answer) → is_outstanding w.requests n ≡ true
+    → IsEnded a → outstanding_in (finishing g w n a).requests + 1 ≡ outstanding_in w.requests
+finish_less g w n (answer.Ended res bytes) outstanding ended =
+    ended_less w.requests n res bytes outstanding
 finish_less g w n _ outstanding ended = absurd ended
 
 -- the next that was answered
@@ -39,13 +43,16 @@ next_is None n e = absurd cc
 next_is (Some m) n e = let same : m ≡ n = cc in ap Some same
 
 -- there is no next where none was answered
-next_none : (next : Option ℕ) (a : Answer) → a ≡ next_answer_of next → ((k : ℕ) → a ≡ answer.Next k → ⊥) → next ≡ None
+next_none : (next : Option ℕ) (a : Answer) → a ≡ next_answer_of next
+    → ((k : ℕ) → a ≡ answer.Next k → ⊥) → next ≡ None
 next_none None a is other = refl
 next_none (Some m) a is other = absurd (other m is)
 
 -- the next can be issued
-pub next_tells : (r : Requests) (n : ℕ) → answer.Next n ≡ next_answer_of (next_of r) → is_issuable r n ≡ true
-next_tells r n e = (least_below-tells (is_issuable r) (length r.accepted) n (next_is (next_of r) n e)).holds
+pub next_tells : (r : Requests) (n : ℕ) → answer.Next n ≡ next_answer_of (next_of r)
+    → is_issuable r n ≡ true
+next_tells r n e =
+    (least_below-tells (is_issuable r) (length r.accepted) n (next_is (next_of r) n e)).holds
 
 -- an issue not answered Run started nothing
 not_started : (n : ℕ) (a : Answer) → (a ≡ answer.Run → ⊥) → started_by (step.Issue n, a) ≡ None
@@ -53,7 +60,8 @@ not_started n answer.Run other = absurd (other refl)
 not_started n _ other = refl
 
 -- where there is no next, the least outstanding request runs
-least_runs : (r : Requests) (n : ℕ) (a : Answer) → a ≡ next_answer_of (next_of r) → ((k : ℕ) → a ≡ answer.Next k → ⊥) → least_of r ≡ Some n → is_running r n ≡ true
+least_runs : (r : Requests) (n : ℕ) (a : Answer) → a ≡ next_answer_of (next_of r)
+    → ((k : ℕ) → a ≡ answer.Next k → ⊥) → least_of r ≡ Some n → is_running r n ≡ true
 least_runs r n a is other least = by_next (next_of r) refl is where
   by_next : (next : Option ℕ) → next_of r ≡ next → a ≡ next_answer_of next → is_running r n ≡ true
   by_next (Some m) next f = absurd (other m f)
@@ -69,38 +77,52 @@ next_fits m a h fits = record { core = record { shows = fits.core.shows; lawful 
 
 -- Steps that settle further.
 
-issued_next : (r : Requests) (n : ℕ) → answer.Next n ≡ next_answer_of (next_of r) → settling_step None (next_of r) (least_of r) ≡ Some (step.Issue n)
+issued_next : (r : Requests) (n : ℕ) → answer.Next n ≡ next_answer_of (next_of r)
+    → settling_step None (next_of r) (least_of r) ≡ Some (step.Issue n)
 issued_next r n named = subst (λ k. settling_step None k (least_of r) ≡ Some (step.Issue n)) (sym (next_is (next_of r) n named)) refl
 
-finished_least : (r : Requests) (n : ℕ) (a : Answer) → a ≡ next_answer_of (next_of r) → ((k : ℕ) → a ≡ answer.Next k → ⊥) → least_of r ≡ Some n → settling_step None (next_of r) (least_of r) ≡ Some (step.Finish n)
+finished_least : (r : Requests) (n : ℕ) (a : Answer) → a ≡ next_answer_of (next_of r)
+    → ((k : ℕ) → a ≡ answer.Next k → ⊥) → least_of r ≡ Some n
+    → settling_step None (next_of r) (least_of r) ≡ Some (step.Finish n)
 finished_least r n a told other is =
     subst (λ k. settling_step None k (least_of r) ≡ Some (step.Finish n)) (sym (next_none (next_of r) a told other))
     (subst (λ k. settling_step None None k ≡ Some (step.Finish n)) (sym is) refl)
 
 -- events that settle further, behind others that did
 
-started-append : (started : Option ℕ) (earlier later : List Event) → started_last started (earlier ++ later) ≡ started_last (started_last started earlier) later
+started-append : (started : Option ℕ) (earlier later : List Event)
+    → started_last started (earlier ++ later) ≡ started_last (started_last started earlier) later
 started-append started [] later = refl
 started-append started (event ∷ earlier) later = started-append (started_by event) earlier later
 
-settling-append : (g : Setup) (before : History) (started : Option ℕ) (earlier later : List Event) → AreSettling g before started earlier → AreSettling g (history_of earlier ++ before) (started_last started earlier) later → AreSettling g before started (earlier ++ later)
+settling-append : (g : Setup) (before : History) (started : Option ℕ) (earlier later : List Event)
+    → AreSettling g before started earlier
+    → AreSettling g (history_of earlier ++ before) (started_last started earlier) later
+    → AreSettling g before started (earlier ++ later)
 settling-append g before started [] later e l = l
 settling-append g before started ((s, a) ∷ earlier) later e l =
     (e.0, settling-append g ((s, a) ∷ before) (started_by (s, a)) earlier later e.1 (subst (λ h. AreSettling g h (started_last (started_by (s, a)) earlier) later) (history_of-cons (s, a) earlier before) l))
 
 -- how many are outstanding
-pub outstanding_of : (m : Machine) (h : History) → Fits m h → m.core.dispatch.outstanding ≡ outstanding_in (world m.core.setup h).requests
+pub outstanding_of : (m : Machine) (h : History) → Fits m h
+    → m.core.dispatch.outstanding ≡ outstanding_in (world m.core.setup h).requests
 outstanding_of m h fits = fits.core.shows.requests.outstanding
 
 -- one less is one less of what is held
-one_fewer : (old new : Machine) (h later : History) → new.core.setup ≡ old.core.setup → Fits old h → Fits new later → outstanding_in (world new.core.setup later).requests + 1 ≡ outstanding_in (world new.core.setup h).requests
+one_fewer : (old new : Machine) (h later : History) → new.core.setup ≡ old.core.setup → Fits old h
+    → Fits new later
+    → outstanding_in (world new.core.setup later).requests + 1
+    ≡ outstanding_in (world new.core.setup h).requests
     → new.core.dispatch.outstanding + 1 ≡ old.core.dispatch.outstanding
 one_fewer old new h later same fits reached less =
     omega (arith, less, outstanding_of new later reached, outstanding_of old h fits, ap (λ g. outstanding_in (world g h).requests) same)
 
 -- the next request ran, and was finished
-pub settled_run : (old asked new : Machine) (n : ℕ) (a b c : Answer) (h : History) → asked.core.setup ≡ old.core.setup → new.core.setup ≡ asked.core.setup → a ≡ answer.Next n → b ≡ answer.Run
-    → Fits old h → Fits asked ((step.Next, a) ∷ h) → Fits new ((step.Finish n, c) ∷ (step.Issue n, b) ∷ h) → HasSettled old new h 2 1
+pub settled_run : (old asked new : Machine) (n : ℕ) (a b c : Answer) (h : History)
+    → asked.core.setup ≡ old.core.setup → new.core.setup ≡ asked.core.setup → a ≡ answer.Next n
+    → b ≡ answer.Run
+    → Fits old h → Fits asked ((step.Next, a) ∷ h)
+    → Fits new ((step.Finish n, c) ∷ (step.Issue n, b) ∷ h) → HasSettled old new h 2 1
 settled_run old asked new n a b c h same kept next ran fits asked_fits new_fits =
     let g : Setup = new.core.setup in
     let r : Requests = (world g h).requests in
@@ -125,8 +147,11 @@ settled_run old asked new n a b c h same kept next ran fits asked_fits new_fits 
     }
 
 -- the next request ended as it was issued
-pub settled_end : (old asked new : Machine) (n : ℕ) (a b : Answer) (h : History) → asked.core.setup ≡ old.core.setup → new.core.setup ≡ asked.core.setup → a ≡ answer.Next n → (b ≡ answer.Run → ⊥)
-    → Fits old h → Fits asked ((step.Next, a) ∷ h) → Fits new ((step.Issue n, b) ∷ h) → HasSettled old new h 1 1
+pub settled_end : (old asked new : Machine) (n : ℕ) (a b : Answer) (h : History)
+    → asked.core.setup ≡ old.core.setup → new.core.setup ≡ asked.core.setup → a ≡ answer.Next n
+    → (b ≡ answer.Run → ⊥)
+    → Fits old h → Fits asked ((step.Next, a) ∷ h) → Fits new ((step.Issue n, b) ∷ h)
+    → HasSettled old new h 1 1
 settled_end old asked new n a b h same kept next other fits asked_fits new_fits =
     let g : Setup = new.core.setup in
     let r : Requests = (world g h).requests in
@@ -148,8 +173,11 @@ settled_end old asked new n a b h same kept next other fits asked_fits new_fits 
     }
 
 -- the least outstanding request ran, and was finished
-pub settled_finish : (old asked new : Machine) (n : ℕ) (a b : Answer) (h : History) → asked.core.setup ≡ old.core.setup → new.core.setup ≡ asked.core.setup → ((k : ℕ) → a ≡ answer.Next k → ⊥)
-    → Fits old h → Some n ≡ least_of (world old.core.setup h).requests → Fits asked ((step.Next, a) ∷ h) → Fits new ((step.Finish n, b) ∷ h) → HasSettled old new h 1 1
+pub settled_finish : (old asked new : Machine) (n : ℕ) (a b : Answer) (h : History)
+    → asked.core.setup ≡ old.core.setup → new.core.setup ≡ asked.core.setup
+    → ((k : ℕ) → a ≡ answer.Next k → ⊥)
+    → Fits old h → Some n ≡ least_of (world old.core.setup h).requests
+    → Fits asked ((step.Next, a) ∷ h) → Fits new ((step.Finish n, b) ∷ h) → HasSettled old new h 1 1
 settled_finish old asked new n a b h same kept other fits least asked_fits new_fits =
     let g : Setup = new.core.setup in
     let r : Requests = (world g h).requests in
@@ -172,14 +200,18 @@ settled_finish old asked new n a b h same kept other fits least asked_fits new_f
     }
 
 -- something is outstanding, so there is a least
-pub some_least : (m : Machine) (h : History) → Fits m h → 1 ≤ m.core.dispatch.outstanding → None ≡ least_of (world m.core.setup h).requests → ⊥
+pub some_least : (m : Machine) (h : History) → Fits m h → 1 ≤ m.core.dispatch.outstanding
+    → None ≡ least_of (world m.core.setup h).requests → ⊥
 some_least m h fits some none =
     let r : Requests = (world m.core.setup h).requests in
     let zero_of : outstanding_in r ≡ 0 = count_below-zero (is_outstanding r) (length r.accepted) (least_below-out (is_outstanding r) (length r.accepted) (sym none)) in
     omega (arith, some, zero_of, outstanding_of m h fits)
 
 -- what was settled so far, and what is settled then
-pub settled_more : (first old new : Machine) (h : History) (count more ended : ℕ) → new.core.setup ≡ old.core.setup → HasSettled first old h count ended → ((k : History) → Fits old k → HasSettled old new k more 1) → HasSettled first new h (count + more) (ended + 1)
+pub settled_more : (first old new : Machine) (h : History) (count more ended : ℕ)
+    → new.core.setup ≡ old.core.setup → HasSettled first old h count ended
+    → ((k : History) → Fits old k → HasSettled old new k more 1)
+    → HasSettled first new h (count + more) (ended + 1)
 settled_more first old new h count more ended same before next =
     let b = before.settles in
     let last = next (history_of b.events ++ h) b.fits in
@@ -203,7 +235,10 @@ pub settled_none : (m : Machine) (h : History) → Fits m h → HasSettled m m h
 settled_none m h fits = record { settles = record { events = []; issues_and_finishes = refl; settling = tt; fits = fits; many = refl }; none_started = refl; few = omega arith; fewer = omega arith }
 
 -- all that was outstanding was settled
-pub settled_all : (old new : Machine) (h : History) (count ended : ℕ) → new.core.setup ≡ old.core.setup → Fits old h → ended ≡ outstanding_in (world old.core.setup h).requests → HasSettled old new h count ended → IsSettled new h count
+pub settled_all : (old new : Machine) (h : History) (count ended : ℕ)
+    → new.core.setup ≡ old.core.setup → Fits old h
+    → ended ≡ outstanding_in (world old.core.setup h).requests → HasSettled old new h count ended
+    → IsSettled new h count
 settled_all old new h count ended same fits all s =
     record {
       settles = s.settles;
@@ -220,8 +255,11 @@ pub record IsCounted (m : Machine) (n : ℕ) : Type 0 where
   pub same : n ≡ m.core.dispatch.outstanding
   pub few : n ≤ 2 ^ 63 - 1
 
-pub counted : (core : Core) (files : List FileContents) (now : Machine) (n : ℕ) → record { core = core; files = files } ≡ now → ((h : History) × Fits (record { core = core; files = files }) h)
-    → ((h : History) → FitsApart core h → n ≡ outstanding_in (world core.setup h).requests) → IsCounted now n
+pub counted : (core : Core) (files : List FileContents) (now : Machine) (n : ℕ)
+    → record { core = core; files = files } ≡ now
+    → ((h : History) × Fits (record { core = core; files = files }) h)
+    → ((h : History) → FitsApart core h → n ≡ outstanding_in (world core.setup h).requests)
+    → IsCounted now n
 counted core files now n is some counts =
     subst (λ m. IsCounted m n) is
     (let h : History = some.0 in

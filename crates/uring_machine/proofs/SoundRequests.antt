@@ -28,7 +28,8 @@ pub record IsSoundRequests (r : Requests) : Type 0 where
   pub ended_accepted : (n : ℕ) → has_ended r n ≡ true → n < length r.accepted
   pub starts_once : (n : ℕ) → count_by (λ m. m == n) r.started ≤ 1
   pub ends_once : (n : ℕ) → count_by (λ e. e.number == n) r.ended ≤ 1
-  pub cut_at_end : (length r.accepted ≡ 0) ⊎ (list_any (λ cut. cut == length r.accepted) r.cuts ≡ true)
+  pub cut_at_end : (length r.accepted ≡ 0)
+      ⊎ (list_any (λ cut. cut == length r.accepted) r.cuts ≡ true)
   pub started_free : (n : ℕ) → has_started r n ≡ true → IsFree r n
   pub ended_how : (n : ℕ) → has_ended r n ≡ true → EndsDoomed r n ⊎ IsFree r n
 
@@ -48,14 +49,19 @@ first_requests =
 
 -- a start changes neither groups nor who is doomed
 start_free : (r : Requests) (n m : ℕ) → IsFree r m → IsFree (with_started r n) m
-start_free r n m f = record { spared = is_doomed-started r n m ∙ f.spared; first = λ k lt e. f.first k lt (sym (is_joined-started r n k m) ∙ e) }
+start_free r n m f = record {
+  spared = is_doomed-started r n m ∙ f.spared;
+  first = λ k lt e. f.first k lt (sym (is_joined-started r n k m) ∙ e);
+}
 
 -- what is outstanding is accepted, and hasn't ended
-pub outstanding_tells : (r : Requests) (n : ℕ) → is_outstanding r n ≡ true → (n < length r.accepted) × (has_ended r n ≡ false)
+pub outstanding_tells : (r : Requests) (n : ℕ) → is_outstanding r n ≡ true
+    → (n < length r.accepted) × (has_ended r n ≡ false)
 outstanding_tells r n e = let p = and_parts _ _ e in (ltb-true _ _ p.0, not-true _ p.1)
 
 -- what hasn't ended and isn't running hasn't started
-pub idle_tells : (r : Requests) (n : ℕ) → is_running r n ≡ false → has_ended r n ≡ false → has_started r n ≡ false
+pub idle_tells : (r : Requests) (n : ℕ) → is_running r n ≡ false → has_ended r n ≡ false
+    → has_started r n ≡ false
 idle_tells r n idle open_end =
     elim (and_cases (has_started r n) _ idle) [
       | inl fresh ↦ fresh
@@ -63,7 +69,8 @@ idle_tells r n idle open_end =
     ]
 
 -- what is ready waits for nothing that hasn't ended
-pub waited : (r : Requests) (n m : ℕ) → is_ready r n ≡ true → m < n → waits_for r n m ≡ true → has_ended r m ≡ true
+pub waited : (r : Requests) (n m : ℕ) → is_ready r n ≡ true → m < n → waits_for r n m ≡ true
+    → has_ended r m ≡ true
 waited r n m ready lt waits =
     elim (and_cases (not (has_ended r m)) _ (is_ready-inside r n m ready lt)) [
       | inl over ↦ not-false _ over
@@ -71,10 +78,13 @@ waited r n m ready lt waits =
     ]
 
 -- a request that is ready is behind no member of its group
-pub ready_first : (r : Requests) (n : ℕ) → is_ready r n ≡ true → (k : ℕ) → k < n → is_joined r k n ≡ true → has_ended r k ≡ true
+pub ready_first : (r : Requests) (n : ℕ) → is_ready r n ≡ true → (k : ℕ) → k < n
+    → is_joined r k n ≡ true → has_ended r k ≡ true
 ready_first r n ready k lt joined = waited r n k ready lt (or_left _ _ (or_left _ _ joined))
 
-pub start_sound : (r : Requests) (n : ℕ) → is_outstanding r n ≡ true → is_running r n ≡ false → is_doomed r n ≡ false → is_ready r n ≡ true → IsSoundRequests r → IsSoundRequests (with_started r n)
+pub start_sound : (r : Requests) (n : ℕ) → is_outstanding r n ≡ true → is_running r n ≡ false
+    → is_doomed r n ≡ false → is_ready r n ≡ true → IsSoundRequests r
+    → IsSoundRequests (with_started r n)
 start_sound r n outstanding idle spared ready s =
     let o = outstanding_tells r n outstanding in
     let fresh = idle_tells r n idle o.1 in

@@ -60,14 +60,16 @@ pub data SubmissionMove (g : Setup) (w : World) : Step → Answer → World → 
 off_silent : {e : Event} → IsSilent e → IsOffSubmission e
 off_silent i = assumption i
 
-submission_by : (g : Setup) (w : World) (s : Step) (a : Answer) → Change g w s a → SubmissionMove g w s a (happens g w s a)
+submission_by : (g : Setup) (w : World) (s : Step) (a : Answer) → Change g w s a
+    → SubmissionMove g w s a (happens g w s a)
 submission_by g w s a (event_refuses _ _ same silent) =
     subst (SubmissionMove g w s a) (sym (same w)) (stays s a w.requests w.completions w.is_closed (off_silent silent) (record { accepted = refl; cuts = refl; shut = sym (ap (λ b. b || w.is_closed) silent.shuts_none) }))
 submission_by g w s a (event_fills slot entry free) = fills slot entry
 submission_by g w s a (event_stages word room) = stages word room
 submission_by g w s a (event_stores tail) = stores tail
 submission_by g w s a (event_loads head) = loads head
-submission_by g w s a (event_begins count is_open no_call unspent) = begins count is_open no_call unspent
+submission_by g w s a (event_begins count is_open no_call unspent) =
+    begins count is_open no_call unspent
 submission_by g w s a (event_takes entry call place opened left at valid) =
     subst (λ o. SubmissionMove g w step.Take (answer.Entry entry) (taking_entry_of g w entry o)) (sym opened) (takes entry call place opened left at valid)
 submission_by g w s a (event_drops call place opened left at invalid) =
@@ -76,5 +78,7 @@ submission_by g w s a (event_closes accepted missed head call opened all counted
     subst (λ o. SubmissionMove g w step.End (answer.Taken accepted missed head) (ending_of w o)) (sym opened) (closes accepted missed head call opened all counted)
 submission_by g w s a _ = stays _ _ _ _ _ (search rules) (search rules)
 
-pub submission_move : (g : Setup) (s : Step) (a : Answer) (h : History) → IsLawfulApart g ((s, a) ∷ h) → SubmissionMove g (world g h) s a (world g ((s, a) ∷ h))
-submission_move g s a h lawful = submission_by g (world g h) s a (change_of g (world g h) s a lawful.0)
+pub submission_move : (g : Setup) (s : Step) (a : Answer) (h : History)
+    → IsLawfulApart g ((s, a) ∷ h) → SubmissionMove g (world g h) s a (world g ((s, a) ∷ h))
+submission_move g s a h lawful =
+    submission_by g (world g h) s a (change_of g (world g h) s a lawful.0)

@@ -12,17 +12,23 @@ use Rattle.uring_number_set.specs.NumberSet.{NumberSet, block_of, block_at, hold
 
 pub block_of-low : (first : ℕ) (blocks : List ℕ) (i : ℕ) → i < first → block_of first blocks i ≡ 0
 unfolding block_of
-block_of-low first blocks i lt = ap (λ b. if b then 0 else get_or blocks (i - first) 0) (lt-ltb i first lt)
+block_of-low first blocks i lt =
+    ap (λ b. if b then 0 else get_or blocks (i - first) 0) (lt-ltb i first lt)
 
-pub block_of-high : (first : ℕ) (blocks : List ℕ) (i : ℕ) → first ≤ i → block_of first blocks i ≡ get_or blocks (i - first) 0
+pub block_of-high : (first : ℕ) (blocks : List ℕ) (i : ℕ) → first ≤ i
+    → block_of first blocks i ≡ get_or blocks (i - first) 0
 unfolding block_of
-block_of-high first blocks i le = ap (λ b. if b then 0 else get_or blocks (i - first) 0) (le-ltb i first le)
+block_of-high first blocks i le =
+    ap (λ b. if b then 0 else get_or blocks (i - first) 0) (le-ltb i first le)
 
-pub block_of-past : (first : ℕ) (blocks : List ℕ) (i : ℕ) → first + length blocks ≤ i → block_of first blocks i ≡ 0
-block_of-past first blocks i le = block_of-high first blocks i (omega arith) ∙ get_or_past blocks (i - first) 0 (omega arith)
+pub block_of-past : (first : ℕ) (blocks : List ℕ) (i : ℕ) → first + length blocks ≤ i
+    → block_of first blocks i ≡ 0
+block_of-past first blocks i le =
+    block_of-high first blocks i (omega arith) ∙ get_or_past blocks (i - first) 0 (omega arith)
 
 -- a block that is added is zero, as what isn't kept
-pub block_of-push : (first : ℕ) (blocks : List ℕ) (i : ℕ) → block_of first (blocks ++ 0 ∷ []) i ≡ block_of first blocks i
+pub block_of-push : (first : ℕ) (blocks : List ℕ) (i : ℕ)
+    → block_of first (blocks ++ 0 ∷ []) i ≡ block_of first blocks i
 block_of-push first blocks i =
     elim (cases_lt i first) [
       | inl low ↦ block_of-low first _ i low ∙ sym (block_of-low first blocks i low)
@@ -43,7 +49,8 @@ block_of-push first blocks i =
           ∙ sym (block_of-high first blocks i high)
     ]
 
-pub block_of-pop : (first : ℕ) (blocks : List ℕ) (i : ℕ) → block_of (first + 1) blocks i ≡ block_of first (0 ∷ blocks) i
+pub block_of-pop : (first : ℕ) (blocks : List ℕ) (i : ℕ)
+    → block_of (first + 1) blocks i ≡ block_of first (0 ∷ blocks) i
 block_of-pop first blocks i =
     elim (cases_lt i first) [
       | inl low ↦ block_of-low (first + 1) blocks i (omega arith) ∙ sym (block_of-low first (0 ∷ blocks) i low)
@@ -60,10 +67,13 @@ block_of-pop first blocks i =
           ]
     ]
 
-block_of-set_here : (first : ℕ) (blocks : List ℕ) (i block : ℕ) → first ≤ i → i < first + length blocks → block_of first (set blocks (i - first) block) i ≡ block
-block_of-set_here first blocks i block le lt = block_of-high first _ i le ∙ get_or-set_same blocks (i - first) block 0 (omega arith)
+block_of-set_here : (first : ℕ) (blocks : List ℕ) (i block : ℕ) → first ≤ i
+    → i < first + length blocks → block_of first (set blocks (i - first) block) i ≡ block
+block_of-set_here first blocks i block le lt =
+    block_of-high first _ i le ∙ get_or-set_same blocks (i - first) block 0 (omega arith)
 
-block_of-set_other : (first : ℕ) (blocks : List ℕ) (i k block : ℕ) → first ≤ i → k ≢ i → block_of first (set blocks (i - first) block) k ≡ block_of first blocks k
+block_of-set_other : (first : ℕ) (blocks : List ℕ) (i k block : ℕ) → first ≤ i → k ≢ i
+    → block_of first (set blocks (i - first) block) k ≡ block_of first blocks k
 block_of-set_other first blocks i k block le ne =
     elim (cases_lt k first) [
       | inl low ↦ block_of-low first _ k low ∙ sym (block_of-low first blocks k low)
@@ -74,12 +84,15 @@ block_of-set_other first blocks i k block le ne =
     ]
 
 -- what is dropped from the front of a queue
-pub popped : {X : Type 0} (old new : List X) (r : Option X) (x y : X) → old ≡ option_to_list r ++ new → ((d : X) → r ≡ Some (get_or old 0 d)) → x ≡ get_or old 0 x → x ≡ y → old ≡ y ∷ new
+pub popped : {X : Type 0} (old new : List X) (r : Option X) (x y : X)
+    → old ≡ option_to_list r ++ new → ((d : X) → r ≡ Some (get_or old 0 d)) → x ≡ get_or old 0 x
+    → x ≡ y → old ≡ y ∷ new
 popped old new r x y e h l is = e ∙ ap (λ o. option_to_list o ++ new) (h x ∙ ap Some (sym l ∙ is))
 
 -- What is in the set.
 
-pub holds-block : (s : NumberSet) (n block : ℕ) → block_at s (n / 64) ≡ block → holds s n ≡ eqb (bit_at block (n % 64)) 1
+pub holds-block : (s : NumberSet) (n block : ℕ) → block_at s (n / 64) ≡ block
+    → holds s n ≡ eqb (bit_at block (n % 64)) 1
 unfolding holds
 holds-block s n block e = ap (λ b. eqb (bit_at b (n % 64)) 1) e
 
@@ -87,11 +100,16 @@ pub holds-zero : (s : NumberSet) (n : ℕ) → block_at s (n / 64) ≡ 0 → hol
 holds-zero s n e = holds-block s n 0 e ∙ ap (λ b. eqb b 1) (bit_at-zero (n % 64))
 
 -- the same blocks are the same set
-pub holds-same : (s t : NumberSet) → ((i : ℕ) → block_at t i ≡ block_at s i) → (n : ℕ) → holds t n ≡ holds s n
+pub holds-same : (s t : NumberSet) → ((i : ℕ) → block_at t i ≡ block_at s i) → (n : ℕ)
+    → holds t n ≡ holds s n
 holds-same s t same n = holds-block t n (block_at s (n / 64)) (same (n / 64)) ∙ sym (holds-block s n (block_at s (n / 64)) refl)
 
 -- a block is written, in which one bit changes
-written : (s t : NumberSet) (n block : ℕ) (now : Bool) → Covers s n → t.first ≡ s.first → t.blocks ≡ set s.blocks (n / 64 - s.first) block → t.limit ≡ s.limit → eqb (bit_at block (n % 64)) 1 ≡ now → ((i : ℕ) → i < 64 → i ≢ n % 64 → bit_at block i ≡ bit_at (block_at s (n / 64)) i) → Puts s t n now
+written : (s t : NumberSet) (n block : ℕ) (now : Bool) → Covers s n → t.first ≡ s.first
+    → t.blocks ≡ set s.blocks (n / 64 - s.first) block → t.limit ≡ s.limit
+    → eqb (bit_at block (n % 64)) 1 ≡ now
+    → ((i : ℕ) → i < 64 → i ≢ n % 64 → bit_at block i ≡ bit_at (block_at s (n / 64)) i)
+    → Puts s t n now
 written s t n block now c first blocks limit here others =
     let from = c.from in
     let to = c.to in
@@ -120,13 +138,20 @@ written s t n block now c first blocks limit here others =
       limit = limit;
     }
 
-pub insert-puts : (s t : NumberSet) (n block : ℕ) → Covers s n → block ≡ block_at s (n / 64) → t.first ≡ s.first → t.blocks ≡ set s.blocks (n / 64 - s.first) (bit_or block (1 * 2 ^ (n % 64) % 2 ^ 64)) → t.limit ≡ s.limit → Puts s t n true
+pub insert-puts : (s t : NumberSet) (n block : ℕ) → Covers s n → block ≡ block_at s (n / 64)
+    → t.first ≡ s.first
+    → t.blocks ≡ set s.blocks (n / 64 - s.first) (bit_or block (1 * 2 ^ (n % 64) % 2 ^ 64))
+    → t.limit ≡ s.limit → Puts s t n true
 insert-puts s t n block c was first blocks limit =
     let low : n % 64 < 64 = omega arith in
     written s t n _ true c first blocks limit (eq-eqb _ 1 (bit_at_set_same w64 block (n % 64) low))
     (λ i lt ne. bit_at_set_other w64 block (n % 64) low i ne ∙ ap (λ b. bit_at b i) was)
 
-pub remove-puts : (s t : NumberSet) (n block : ℕ) → Covers s n → block ≡ block_at s (n / 64) → t.first ≡ s.first → t.blocks ≡ set s.blocks (n / 64 - s.first) (bit_and block (bit_not w64 (1 * 2 ^ (n % 64) % 2 ^ 64))) → t.limit ≡ s.limit → Puts s t n false
+pub remove-puts : (s t : NumberSet) (n block : ℕ) → Covers s n → block ≡ block_at s (n / 64)
+    → t.first ≡ s.first
+    → t.blocks
+    ≡ set s.blocks (n / 64 - s.first) (bit_and block (bit_not w64 (1 * 2 ^ (n % 64) % 2 ^ 64)))
+    → t.limit ≡ s.limit → Puts s t n false
 remove-puts s t n block c was first blocks limit =
     let low : n % 64 < 64 = omega arith in
     let none = bit_at_clear_same w64 block (n % 64) low in
@@ -134,7 +159,9 @@ remove-puts s t n block c was first blocks limit =
     (λ i lt ne. bit_at_clear_other w64 block (n % 64) low i lt ne ∙ ap (λ b. bit_at b i) was)
 
 -- The lowest bit of the first block that isn't zero is the least number.
-pub lowest-least : (s : NumberSet) (place block : ℕ) → block ≡ block_at s place → 0 < block → block < 2 ^ 64 → ((k : ℕ) → k < place → block_at s k ≡ 0) → IsLeastIn s (64 * place + trailing_zeros w64 block)
+pub lowest-least : (s : NumberSet) (place block : ℕ) → block ≡ block_at s place → 0 < block
+    → block < 2 ^ 64 → ((k : ℕ) → k < place → block_at s k ≡ 0)
+    → IsLeastIn s (64 * place + trailing_zeros w64 block)
 lowest-least s place block is some fits before =
     let t : ℕ = trailing_zeros w64 block in
     let low = bit_at-trailing_zeros w64 block some fits in
@@ -171,7 +198,8 @@ filled-none s f i h e =
     ]
 
 -- a number is put into the set
-pub insert-filled : (s t f g : NumberSet) (n : ℕ) → IsFilled s f → Puts s t n true → Puts f g (n / 64) true → IsFilled t g
+pub insert-filled : (s t f g : NumberSet) (n : ℕ) → IsFilled s f → Puts s t n true
+    → Puts f g (n / 64) true → IsFilled t g
 insert-filled s t f g n h p q =
     let x = h.start in
     let y = h.stop in
@@ -192,7 +220,8 @@ insert-filled s t f g n h p q =
     }
 
 -- a number is taken out, and its block is zero then
-pub remove-filled_zero : (s t f g : NumberSet) (n : ℕ) → IsFilled s f → Puts s t n false → block_at t (n / 64) ≡ 0 → Puts f g (n / 64) false → IsFilled t g
+pub remove-filled_zero : (s t f g : NumberSet) (n : ℕ) → IsFilled s f → Puts s t n false
+    → block_at t (n / 64) ≡ 0 → Puts f g (n / 64) false → IsFilled t g
 remove-filled_zero s t f g n h p zero q =
     let x = h.start in
     let y = h.stop in
@@ -211,7 +240,8 @@ remove-filled_zero s t f g n h p zero q =
     }
 
 -- a number is taken out, and others of its block stay
-pub remove-filled_some : (s t f : NumberSet) (n : ℕ) → IsFilled s f → Puts s t n false → block_at t (n / 64) ≢ 0 → block_at s (n / 64) ≢ 0 → IsFilled t f
+pub remove-filled_some : (s t f : NumberSet) (n : ℕ) → IsFilled s f → Puts s t n false
+    → block_at t (n / 64) ≢ 0 → block_at s (n / 64) ≢ 0 → IsFilled t f
 remove-filled_some s t f n h p some was =
     let x = h.start in
     let y = h.stop in
@@ -230,7 +260,8 @@ remove-filled_some s t f n h p some was =
     }
 
 -- the same blocks have the same places
-pub same-filled : (s t f g : NumberSet) → IsFilled s f → IsSameSet s t → IsSameSet f g → start_of g ≤ t.first → t.first + length t.blocks ≤ stop_of g → IsFilled t g
+pub same-filled : (s t f g : NumberSet) → IsFilled s f → IsSameSet s t → IsSameSet f g
+    → start_of g ≤ t.first → t.first + length t.blocks ≤ stop_of g → IsFilled t g
 same-filled s t f g h p q start stop = record {
   places = λ i. holds-same f g q.same i ∙ h.places i ∙ ap (λ b. not (eqb b 0)) (sym (p.same i));
   start = start;
@@ -239,7 +270,8 @@ same-filled s t f g h p q start stop = record {
 
 -- The memory isn't part of the set.
 
-pub limit-puts : (s t : NumberSet) (n : ℕ) (now : Bool) (a b : ℕ) → Puts s t n now → b ≡ a → Puts (record s { limit = a }) (record t { limit = b }) n now
+pub limit-puts : (s t : NumberSet) (n : ℕ) (now : Bool) (a b : ℕ) → Puts s t n now → b ≡ a
+    → Puts (record s { limit = a }) (record t { limit = b }) n now
 unfolding holds
 limit-puts s t n now a b p same =
     record { here = p.here; others = p.others; blocks = p.blocks; start = p.start; stop = p.stop; limit = same }

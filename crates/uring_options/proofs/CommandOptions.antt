@@ -180,7 +180,8 @@ no_numbers = record {
   shared_given = inl refl;
 }
 
-rows_numbers : (rules : List Rule) (rows : List Row) → AreRules rules → Each (IsRowOf rules) rows → HasNumbers rows
+rows_numbers : (rules : List Rule) (rows : List Row) → AreRules rules → Each (IsRowOf rules) rows
+    → HasNumbers rows
 rows_numbers rules rows are each =
     let sq = option_given rules rows (codes "sq") 1 4096 are.sq each in
     let cq = option_given rules rows (codes "cq") 1 8192 are.cq each in
@@ -222,34 +223,51 @@ rows_numbers rules rows are each =
       shared_given = shared.1;
     }
 
-trace_numbers : (words : List Text) → level_fault trace_shape [] nothing_held words false [] ≡ [] → HasNumbers (rows_after trace_shape.rules [] words)
+trace_numbers : (words : List Text) → level_fault trace_shape [] nothing_held words false [] ≡ []
+    → HasNumbers (rows_after trace_shape.rules [] words)
 trace_numbers words passes = rows_numbers trace_shape.rules (rows_after trace_shape.rules [] words) trace_rules (rows_of_rules trace_shape.rules trace_rules.plain trace_shape words refl refl trace_rules.defaults passes)
 
-explain_numbers : (words : List Text) → level_fault explain_shape [] nothing_held words false [] ≡ [] → HasNumbers (rows_after explain_shape.rules [] words)
+explain_numbers : (words : List Text)
+    → level_fault explain_shape [] nothing_held words false [] ≡ []
+    → HasNumbers (rows_after explain_shape.rules [] words)
 explain_numbers words passes = rows_numbers explain_shape.rules (rows_after explain_shape.rules [] words) explain_rules (rows_of_rules explain_shape.rules explain_rules.plain explain_shape words refl refl explain_rules.defaults passes)
 
-check_numbers : (words : List Text) → level_fault check_shape [] nothing_held words false [] ≡ [] → HasNumbers (rows_after check_shape.rules [] words)
+check_numbers : (words : List Text) → level_fault check_shape [] nothing_held words false [] ≡ []
+    → HasNumbers (rows_after check_shape.rules [] words)
 check_numbers words passes = rows_numbers check_shape.rules (rows_after check_shape.rules [] words) check_rules (rows_of_rules check_shape.rules check_rules.plain check_shape words refl refl check_rules.defaults passes)
 
-play_numbers : (words : List Text) → level_fault play_shape [] nothing_held words false [] ≡ [] → HasNumbers (rows_after play_shape.rules [] words)
+play_numbers : (words : List Text) → level_fault play_shape [] nothing_held words false [] ≡ []
+    → HasNumbers (rows_after play_shape.rules [] words)
 play_numbers words passes = rows_numbers play_shape.rules (rows_after play_shape.rules [] words) play_rules (rows_of_rules play_shape.rules play_rules.plain play_shape words refl refl play_rules.defaults passes)
 
 -- what holds of the rows of a command holds where that command was met
-met_as : (t : Shape) (words : List Text) → (level_fault t [] nothing_held words false [] ≡ [] → HasNumbers (command_rows (Some (rows_at t words)))) → (s : Shape) → t ≡ s
-    → level_fault s [] nothing_held words false [] ≡ [] → HasNumbers (command_rows (Some (rows_at s words)))
+met_as : (t : Shape) (words : List Text)
+    → (level_fault t [] nothing_held words false [] ≡ [] → HasNumbers (command_rows (Some (rows_at t words))))
+    → (s : Shape) → t ≡ s
+    → level_fault s [] nothing_held words false [] ≡ []
+    → HasNumbers (command_rows (Some (rows_at s words)))
 met_as t words has s is passes = subst (λ (u : Shape). HasNumbers (command_rows (Some (rows_at u words)))) is (has (subst (λ (u : Shape). level_fault u [] nothing_held words false [] ≡ []) (sym is) passes))
 
-met_numbers : (words : List Text) (s : Shape) → Among s (trace_shape ∷ explain_shape ∷ check_shape ∷ play_shape ∷ help_leaf ∷ []) → level_fault s [] nothing_held words false [] ≡ [] → HasNumbers (command_rows (Some (rows_at s words)))
+met_numbers : (words : List Text) (s : Shape)
+    → Among s (trace_shape ∷ explain_shape ∷ check_shape ∷ play_shape ∷ help_leaf ∷ [])
+    → level_fault s [] nothing_held words false [] ≡ []
+    → HasNumbers (command_rows (Some (rows_at s words)))
 met_numbers words s (inl is) passes = met_as trace_shape words (trace_numbers words) s is passes
-met_numbers words s (inr (inl is)) passes = met_as explain_shape words (explain_numbers words) s is passes
-met_numbers words s (inr (inr (inl is))) passes = met_as check_shape words (check_numbers words) s is passes
-met_numbers words s (inr (inr (inr (inl is)))) passes = met_as play_shape words (play_numbers words) s is passes
-met_numbers words s (inr (inr (inr (inr (inl is))))) passes = subst (λ (u : Shape). HasNumbers (command_rows (Some (rows_at u words)))) is no_numbers
+met_numbers words s (inr (inl is)) passes =
+    met_as explain_shape words (explain_numbers words) s is passes
+met_numbers words s (inr (inr (inl is))) passes =
+    met_as check_shape words (check_numbers words) s is passes
+met_numbers words s (inr (inr (inr (inl is)))) passes =
+    met_as play_shape words (play_numbers words) s is passes
+met_numbers words s (inr (inr (inr (inr (inl is))))) passes =
+    subst (λ (u : Shape). HasNumbers (command_rows (Some (rows_at u words)))) is no_numbers
 met_numbers words s (inr (inr (inr (inr (inr none))))) passes = absurd none
 
-stop_numbers : (stop : Option (Text × List Text)) → entered_fault (built uring) stop ≡ [] → HasNumbers (command_rows (entered (built uring) stop))
+stop_numbers : (stop : Option (Text × List Text)) → entered_fault (built uring) stop ≡ []
+    → HasNumbers (command_rows (entered (built uring) stop))
 stop_numbers None passes = no_numbers
-stop_numbers (Some p) passes = go (find (λ s. answers_to p.0 (label_of s)) (built uring).subs) refl passes
+stop_numbers (Some p) passes =
+    go (find (λ s. answers_to p.0 (label_of s)) (built uring).subs) refl passes
   where
     go : (o : Option Shape) → find (λ s. answers_to p.0 (label_of s)) (built uring).subs ≡ o → option_map_or (λ s. level_fault s [] nothing_held p.1 false []) o [] ≡ []
         → HasNumbers (command_rows (option_map (λ s. rows_at s p.1) o))
@@ -257,7 +275,8 @@ stop_numbers (Some p) passes = go (find (λ s. answers_to p.0 (label_of s)) (bui
     go (Some s) found e = met_numbers p.1 s (found_among (λ s. answers_to p.0 (label_of s)) (built uring).subs s found).0 e
 
 -- words without a fault write numbers
-pub numbers_written : (words : List Text) → fault_of uring words ≡ [] → HasNumbers (command_rows (subcommand_of uring words))
+pub numbers_written : (words : List Text) → fault_of uring words ≡ []
+    → HasNumbers (command_rows (subcommand_of uring words))
 numbers_written words passes =
     let own = neither_fails _ _ passes in
     stop_numbers (stop_after (built uring).top.rules (names_of (built uring)) (argument_words uring words)) (neither_fails (entered_fault (built uring) (stop_after (built uring).top.rules (names_of (built uring)) (argument_words uring words))) _ own.1).0

@@ -43,11 +43,14 @@ value_of t = digits_value 10 (without_leading_plus t)
 
 -- the text is a number, from low to high
 abbrev IsNumberIn : ℕ → ℕ → Text → Type 0
-IsNumberIn low high t = IsNumeral 10 (without_leading_plus t) × (low ≤ value_of t) × (value_of t ≤ high)
+IsNumberIn low high t =
+    IsNumeral 10 (without_leading_plus t) × (low ≤ value_of t) × (value_of t ≤ high)
 
 -- a text that a parser of numbers took is one, as it is read
-number_read : (low high : ℕ) (t : Text) → IsSignedIn (pos low) (pos high) t → IsNumberIn low high (without_minus t)
-number_read low high t passed = subst (IsNumberIn low high) (sym (minus_off t)) (go (starts_with_minus t) refl)
+number_read : (low high : ℕ) (t : Text) → IsSignedIn (pos low) (pos high) t
+    → IsNumberIn low high (without_minus t)
+number_read low high t passed =
+    subst (IsNumberIn low high) (sym (minus_off t)) (go (starts_with_minus t) refl)
   where
     go : (b : Bool) → starts_with_minus t ≡ b → IsNumberIn low high (cond b (drop 1 t) t)
     go true minus =
@@ -65,10 +68,13 @@ number_read low high t passed = subst (IsNumberIn low high) (sym (minus_off t)) 
 
 -- each rule of this name has this parser
 abbrev pub HasParser : Text → ValueParser → List Rule → Type 0
-HasParser id parser rules = Each (λ (a : Rule). bytes_eq a.id id ≡ true → parser_of_value a.parser ≡ parser) rules
+HasParser id parser rules =
+    Each (λ (a : Rule). bytes_eq a.id id ≡ true → parser_of_value a.parser ≡ parser) rules
 
-first_passes : (ignore_case : Bool) (p : ValueParser) (t : Text) (rest : List Text) → values_kinds ignore_case p (t ∷ rest) ≡ [] → accepts ignore_case p t ≡ true
-first_passes ignore_case p t rest passes = go (accepts ignore_case p t) refl (neither_fails _ _ passes).0
+first_passes : (ignore_case : Bool) (p : ValueParser) (t : Text) (rest : List Text)
+    → values_kinds ignore_case p (t ∷ rest) ≡ [] → accepts ignore_case p t ≡ true
+first_passes ignore_case p t rest passes =
+    go (accepts ignore_case p t) refl (neither_fails _ _ passes).0
   where
     go : (b : Bool) → accepts ignore_case p t ≡ b → value_kinds ignore_case p t ≡ [] → accepts ignore_case p t ≡ true
     go true e h = e
@@ -77,7 +83,9 @@ first_passes ignore_case p t rest passes = go (accepts ignore_case p t) refl (ne
 abbrev IsNumberGiven : List Row → Text → ℕ → ℕ → Type 0
 IsNumberGiven rows id low high = (n : Option ℕ) × Gives rows id n × IsWithin low high n
 
-pub option_given : (rules : List Rule) (rows : List Row) (id : Text) (low high : ℕ) → HasParser id (Signed (pos low) (pos high)) rules → Each (IsRowOf rules) rows → IsNumberGiven rows id low high
+pub option_given : (rules : List Rule) (rows : List Row) (id : Text) (low high : ℕ)
+    → HasParser id (Signed (pos low) (pos high)) rules → Each (IsRowOf rules) rows
+    → IsNumberGiven rows id low high
 option_given rules rows id low high parsers each = row (find (λ r. bytes_eq r.id id) rows) refl
   where
     value : (r : Row) → find (λ r. bytes_eq r.id id) rows ≡ Some r → r.reading ≡ reading_of (Signed (pos low) (pos high)) → (ignore_case : Bool) (vs : List Text) → r.values ≡ vs
@@ -98,7 +106,8 @@ option_given rules rows id low high parsers each = row (find (λ r. bytes_eq r.i
         value r found (of.reading ∙ ap reading_of parser) of.rule.ignore_case r.values refl (subst (λ p. values_kinds of.rule.ignore_case p r.values ≡ []) parser of.values)
 
 -- a text that the parser of `true` and `false` took is one of them
-true_or_false : (t : Text) → (bytes_eq t (codes "true") || bytes_eq t (codes "false")) ≡ true → (t ≡ codes "true") ⊎ (t ≡ codes "false")
+true_or_false : (t : Text) → (bytes_eq t (codes "true") || bytes_eq t (codes "false")) ≡ true
+    → (t ≡ codes "true") ⊎ (t ≡ codes "false")
 true_or_false t e =
     elim (or_cases (bytes_eq t (codes "true")) (bytes_eq t (codes "false")) e) [
       | inl is ↦ inl ((bytes_eq-Decides t (codes "true")).0 is)
@@ -108,7 +117,8 @@ true_or_false t e =
 abbrev IsFlagGiven : List Row → Text → Type 0
 IsFlagGiven rows id = (given : Bool) × IsGiven rows id given
 
-pub flag_given : (rules : List Rule) (rows : List Row) (id : Text) → HasParser id vp.Bool rules → Each (IsRowOf rules) rows → IsFlagGiven rows id
+pub flag_given : (rules : List Rule) (rows : List Row) (id : Text) → HasParser id vp.Bool rules
+    → Each (IsRowOf rules) rows → IsFlagGiven rows id
 flag_given rules rows id parsers each = row (find (λ r. bytes_eq r.id id) rows) refl
   where
     value : (r : Row) → find (λ r. bytes_eq r.id id) rows ≡ Some r → r.reading ≡ reading_of vp.Bool → (ignore_case : Bool) (vs : List Text) → r.values ≡ vs

@@ -33,8 +33,10 @@ rounding (suc k) n some within = elim (cases_lt (2 ^ k) n) [
 ]
 
 -- numbers in their ranges are refused for a small completion ring alone
-pub too_small : (n : Numbers) → AreInRange n → ((p : ℕ) → IsNextPowerOfTwo (unwrap_or n.sq 4) p → IsBadCq p n.cq) → IsTooSmall n
-too_small n ranges bad = sizes (rounding 12 (unwrap_or n.sq 4) (some_sq n.sq ranges.sq) (most_sq n.sq ranges.sq))
+pub too_small : (n : Numbers) → AreInRange n
+    → ((p : ℕ) → IsNextPowerOfTwo (unwrap_or n.sq 4) p → IsBadCq p n.cq) → IsTooSmall n
+too_small n ranges bad =
+    sizes (rounding 12 (unwrap_or n.sq 4) (some_sq n.sq ranges.sq) (most_sq n.sq ranges.sq))
   where
     some_sq : (sq : Option ℕ) → IsWithin 1 4096 sq → 1 ≤ unwrap_or sq 4
     some_sq None within = omega arith
@@ -57,7 +59,8 @@ too_small n ranges bad = sizes (rounding 12 (unwrap_or n.sq 4) (some_sq n.sq ran
 
 -- ---- one outcome excludes the others
 
-gives_once : (rows : List Row) (id : Text) (a b : Option ℕ) → Gives rows id a → Gives rows id b → a ≡ b
+gives_once : (rows : List Row) (id : Text) (a b : Option ℕ) → Gives rows id a → Gives rows id b
+    → a ≡ b
 gives_once rows id None None x y = refl
 gives_once rows id None (Some b) x y = let e : None ≡ Some y.0 = sym x ∙ y.1 in absurd cc
 gives_once rows id (Some a) None x y = let e : None ≡ Some x.0 = sym y ∙ x.1 in absurd cc
@@ -65,7 +68,8 @@ gives_once rows id (Some a) (Some b) x y =
     let text : x.0 ≡ y.0 = let e : Some x.0 ≡ Some y.0 = sym x.1 ∙ y.1 in cc in
     ap (λ (k : ℕ). Some k) (x.2.value ∙ ap (λ (t : Text). digits_value 10 (without_leading_plus t)) text ∙ sym y.2.value)
 
-not_over : (words : List Text) (n : Numbers) (s : Setup) → Writes words n → IsSetupOver n s → AskForTooSmall words → ⊥
+not_over : (words : List Text) (n : Numbers) (s : Setup) → Writes words n → IsSetupOver n s
+    → AskForTooSmall words → ⊥
 not_over words n s writes set_up (m, small_writes, small) =
     let sq : n.sq ≡ m.sq = gives_once (command_rows (subcommand_of uring words)) (codes "sq") n.sq m.sq writes.numbers.sq small_writes.numbers.sq in
     let cq : n.cq ≡ m.cq = gives_once (command_rows (subcommand_of uring words)) (codes "cq") n.cq m.cq writes.numbers.cq small_writes.numbers.cq in
@@ -80,11 +84,16 @@ not_over words n s writes set_up (m, small_writes, small) =
     omega arith
 
 not_both : (words : List Text) (o : Options) → AskFor words o → AskForTooSmall words → ⊥
-not_both words (Trace s echo) (n, writes, over) small = not_over words n (record s { stops = false }) writes over.1.0 small
-not_both words (Explain s) (n, writes, over) small = not_over words n (record s { stops = false }) writes over.1.0 small
-not_both words (Graph s) (n, writes, over) small = not_over words n (record s { stops = false }) writes over.1.0 small
-not_both words (Timeline s) (n, writes, over) small = not_over words n (record s { stops = false }) writes over.1.0 small
-not_both words (Check s all apart) (n, writes, over) small = not_over words n (record s { stops = false }) writes over.1.0 small
+not_both words (Trace s echo) (n, writes, over) small =
+    not_over words n (record s { stops = false }) writes over.1.0 small
+not_both words (Explain s) (n, writes, over) small =
+    not_over words n (record s { stops = false }) writes over.1.0 small
+not_both words (Graph s) (n, writes, over) small =
+    not_over words n (record s { stops = false }) writes over.1.0 small
+not_both words (Timeline s) (n, writes, over) small =
+    not_over words n (record s { stops = false }) writes over.1.0 small
+not_both words (Check s all apart) (n, writes, over) small =
+    not_over words n (record s { stops = false }) writes over.1.0 small
 not_both words (Play s workers) (n, writes, over) small = not_over words n s writes over.1 small
 not_both words (Shared s workers) (n, writes, over) small = not_over words n s writes over.1 small
 
@@ -98,22 +107,29 @@ abbrev pub IsRefusal : List Text → OptionsFault → Type 0
 IsRefusal words Small = AskForTooSmall words
 IsRefusal words (Words e) = HasKind (fault_of uring words) e
 
-pub small_exactly : (words : List Text) (r : Result Options OptionsFault) → IfOk r (AskFor words) → IfErr r (IsRefusal words)
+pub small_exactly : (words : List Text) (r : Result Options OptionsFault) → IfOk r (AskFor words)
+    → IfErr r (IsRefusal words)
     → IsErrOf r Small ↔ (AskForTooSmall words × ¬ IsErrAnd r IsMemory)
-small_exactly words (Ok o) asked refused = ((λ e. absurd cc), (λ h. absurd (not_both words o asked h.0)))
+small_exactly words (Ok o) asked refused =
+    ((λ e. absurd cc), (λ h. absurd (not_both words o asked h.0)))
 small_exactly words (Err Small) asked refused = ((λ _. (refused, λ m. m)), (λ _. refl))
 small_exactly words (Err (Words e)) asked refused = ((λ e. absurd cc), (λ h. absurd (h.1 (memory_alone (fault_of uring words) e h.0.1.no_fault refused))))
 
 -- ---- what the rows of the options ask for
 
-written : (words : List Text) (rows : List Row) (n : Numbers) (run : Run) → fault_of uring words ≡ [] → Asks words rows run → GivesNumbers rows n → Writes words n
-written words rows n run no_fault asks gives = record { no_fault = no_fault; numbers = subst (λ (rs : List Row). GivesNumbers rs n) (sym asks.rows_are) gives }
+written : (words : List Text) (rows : List Row) (n : Numbers) (run : Run)
+    → fault_of uring words ≡ [] → Asks words rows run → GivesNumbers rows n → Writes words n
+written words rows n run no_fault asks gives = record {
+  no_fault = no_fault;
+  numbers = subst (λ (rs : List Row). GivesNumbers rs n) (sym asks.rows_are) gives;
+}
 
 -- what is run over the numbers that the rows give
 abbrev pub RunsOver : Run → List Row → Options → Type 0
 RunsOver run rows o = (n : Numbers) × GivesNumbers rows n × IsRunOver run rows n o
 
-pub is_asked : (words : List Text) (rows : List Row) (run : Run) (o : Options) → fault_of uring words ≡ [] → Asks words rows run → RunsOver run rows o → AskFor words o
+pub is_asked : (words : List Text) (rows : List Row) (run : Run) (o : Options)
+    → fault_of uring words ≡ [] → Asks words rows run → RunsOver run rows o → AskFor words o
 is_asked words rows run o no_fault asks (n, gives, over) =
     let runs = subst (λ (r : Run). IsRunOver r rows n o) (sym asks.runs) over in
     (n, written words rows n run no_fault asks gives, subst (λ (rs : List Row). IsRunOver (run_of (subcommand_of uring words)) rs n o) (sym asks.rows_are) runs)
@@ -125,22 +141,35 @@ IsSmallBy rows e = (e ≡ Small) × ((n : Numbers) × GivesNumbers rows n × IsT
 abbrev pub IsSmallFor : List Text → OptionsFault → Type 0
 IsSmallFor words e = (e ≡ Small) × AskForTooSmall words
 
-too_small_for : (words : List Text) (rows : List Row) (e : OptionsFault) (run : Run) → fault_of uring words ≡ [] → Asks words rows run → IsSmallBy rows e → IsSmallFor words e
-too_small_for words rows e run no_fault asks (small, (n, gives, too)) = (small, (n, written words rows n run no_fault asks gives, too))
+too_small_for : (words : List Text) (rows : List Row) (e : OptionsFault) (run : Run)
+    → fault_of uring words ≡ [] → Asks words rows run → IsSmallBy rows e → IsSmallFor words e
+too_small_for words rows e run no_fault asks (small, (n, gives, too)) =
+    (small, (n, written words rows n run no_fault asks gives, too))
 
 -- what such words lead to, of a call that fails for a small ring alone
-pub all_asked : (words : List Text) (rows : List Row) (run : Run) (r : Result Options OptionsFault) → fault_of uring words ≡ [] → Asks words rows run → IfOk r (RunsOver run rows) → IfOk r (AskFor words)
-all_asked words rows run r no_fault asks over = IfOk-weaker r _ _ (λ o h. is_asked words rows run o no_fault asks h) over
+pub all_asked : (words : List Text) (rows : List Row) (run : Run) (r : Result Options OptionsFault)
+    → fault_of uring words ≡ [] → Asks words rows run → IfOk r (RunsOver run rows)
+    → IfOk r (AskFor words)
+all_asked words rows run r no_fault asks over =
+    IfOk-weaker r _ _ (λ o h. is_asked words rows run o no_fault asks h) over
 
-pub all_too_small : (words : List Text) (rows : List Row) (run : Run) (r : Result Options OptionsFault) → fault_of uring words ≡ [] → Asks words rows run → IfErr r (IsSmallBy rows) → IfErr r (IsSmallFor words)
-all_too_small words rows run r no_fault asks small = IfErr-weaker r _ _ (λ e h. too_small_for words rows e run no_fault asks h) small
+pub all_too_small : (words : List Text) (rows : List Row) (run : Run) (r : Result Options OptionsFault)
+    → fault_of uring words ≡ [] → Asks words rows run → IfErr r (IsSmallBy rows)
+    → IfErr r (IsSmallFor words)
+all_too_small words rows run r no_fault asks small =
+    IfErr-weaker r _ _ (λ e h. too_small_for words rows e run no_fault asks h) small
 
-pub all_small : (words : List Text) (r : Result Options OptionsFault) → IfOk r (AskFor words) → IfErr r (IsSmallFor words) → IsErrOf r Small ↔ (AskForTooSmall words × ¬ IsErrAnd r IsMemory)
+pub all_small : (words : List Text) (r : Result Options OptionsFault) → IfOk r (AskFor words)
+    → IfErr r (IsSmallFor words) → IsErrOf r Small ↔ (AskForTooSmall words × ¬ IsErrAnd r IsMemory)
 all_small words r asked small = small_exactly words r asked (IfErr-weaker r _ _ (λ e h. subst (IsRefusal words) (sym h.0) h.1) small)
 
-pub all_faults : (words : List Text) (r : Result Options OptionsFault) → IfErr r (IsSmallFor words) → IfErr r (IsFaultOf words)
+pub all_faults : (words : List Text) (r : Result Options OptionsFault) → IfErr r (IsSmallFor words)
+    → IfErr r (IsFaultOf words)
 all_faults words r small = IfErr-weaker r _ _ (λ e h. subst (IsFaultOf words) (sym h.0) tt) small
 
-pub refused_by_words : (words : List Text) (r : Result Options OptionsFault) (e : Error) → IsErrAnd r (λ f. f ≡ Words e) → HasKind (fault_of uring words) e → IsErrOf r Small ↔ (AskForTooSmall words × ¬ IsErrAnd r IsMemory)
+pub refused_by_words : (words : List Text) (r : Result Options OptionsFault) (e : Error)
+    → IsErrAnd r (λ f. f ≡ Words e) → HasKind (fault_of uring words) e
+    → IsErrOf r Small ↔ (AskForTooSmall words × ¬ IsErrAnd r IsMemory)
 refused_by_words words (Ok o) e is kind = absurd is
-refused_by_words words (Err f) e is kind = small_exactly words (Err f) tt (subst (IsRefusal words) (sym is) kind)
+refused_by_words words (Err f) e is kind =
+    small_exactly words (Err f) tt (subst (IsRefusal words) (sym is) kind)

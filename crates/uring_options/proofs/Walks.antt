@@ -27,7 +27,8 @@ abbrev pub Each : {X : Type 0} → (X → Type 0) → List X → Type 0
 Each P [] = Unit {0}
 Each P (x ∷ xs) = P x × Each P xs
 
-each_more : {X : Type 0} (P : X → Type 0) (xs : List X) (y : X) → Each P xs → P y → Each P (xs ++ y ∷ [])
+each_more : {X : Type 0} (P : X → Type 0) (xs : List X) (y : X) → Each P xs → P y
+    → Each P (xs ++ y ∷ [])
 each_more P [] y each new = (new, tt)
 each_more P (x ∷ xs) y each new = (each.0, each_more P xs y each.1 new)
 
@@ -40,7 +41,8 @@ each_among P [] y each among = absurd among
 each_among P (x ∷ xs) y each (inl here) = subst P here each.0
 each_among P (x ∷ xs) y each (inr later) = each_among P xs y each.1 later
 
-pub found_among : {X : Type 0} (p : X → Bool) (xs : List X) (y : X) → find p xs ≡ Some y → Among y xs × (p y ≡ true)
+pub found_among : {X : Type 0} (p : X → Bool) (xs : List X) (y : X) → find p xs ≡ Some y
+    → Among y xs × (p y ≡ true)
 found_among p [] y found = absurd cc
 found_among p (x ∷ xs) y found = go (found_among p xs y) (p x) refl found
   where
@@ -66,7 +68,8 @@ pub record IsRowOf (rules : List Rule) (r : Row) : Type 0 where
   pub values : values_fault rule r.values ≡ []
 
 -- what an absent row's place gets stands at the end
-at_no_row : (id : Text) (change : Row → List Row) (new rows : List Row) → has_row id rows ≡ false → at_row id change new rows ≡ rows ++ new
+at_no_row : (id : Text) (change : Row → List Row) (new rows : List Row) → has_row id rows ≡ false
+    → at_row id change new rows ≡ rows ++ new
 at_no_row id change new [] none = refl
 at_no_row id change new (r ∷ rows) none = go (at_no_row id change new rows) (bytes_eq r.id id) none
   where
@@ -75,7 +78,8 @@ at_no_row id change new (r ∷ rows) none = go (at_no_row id change new rows) (b
     go later true e = absurd (true≢false e)
     go later false e = ap (λ rs. r ∷ rs) (later e)
 
-no_repeat : (b : Bool) (ks : Kinds) → or_else (cond (b && true) (kind.ArgumentConflict ∷ []) []) ks ≡ [] → (b ≡ false) × (ks ≡ [])
+no_repeat : (b : Bool) (ks : Kinds)
+    → or_else (cond (b && true) (kind.ArgumentConflict ∷ []) []) ks ≡ [] → (b ≡ false) × (ks ≡ [])
 no_repeat true ks e = absurd cc
 no_repeat false ks e = (refl, e)
 

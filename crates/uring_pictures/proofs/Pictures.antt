@@ -14,8 +14,10 @@ use Rattle.uring_pictures.specs.Readings.{ReadsAll}
 use Rattle.uring_pictures.proofs.Streams.{Done, Known}
 
 -- what was read is drawn
-pub draws : (setup : Setup) (bad : Bool) (s : Explainer) (m : Machine) (a a' w w' x x' : Known) → ReadsAll setup bad s a a' x x' → m ≡ s.machine
-    → ((h : History) → Fits m h → Appends w w' (graph_of (world m.core.setup h).requests)) → Draws last_graph setup bad a a' w w' x x'
+pub draws : (setup : Setup) (bad : Bool) (s : Explainer) (m : Machine) (a a' w w' x x' : Known)
+    → ReadsAll setup bad s a a' x x' → m ≡ s.machine
+    → ((h : History) → Fits m h → Appends w w' (graph_of (world m.core.setup h).requests))
+    → Draws last_graph setup bad a a' w w' x x'
 draws setup bad s m a a' w w' x x' r same writes =
     let whole = r.ended.0 in
     let h : History = history_of (events_in whole.0) in
@@ -32,7 +34,9 @@ draws setup bad s m a a' w w' x x' r same writes =
     }
 
 -- a text that was written
-pub written_graph : (result : Done) (m : Machine) (text none : List ℕ) (w w' : Known) → none ≡ [] → ((h : History) → Fits m h → text ≡ none ++ graph_of (world m.core.setup h).requests) → (written : List ℕ) × Appends w w' written × WritesText result text written
+pub written_graph : (result : Done) (m : Machine) (text none : List ℕ) (w w' : Known) → none ≡ []
+    → ((h : History) → Fits m h → text ≡ none ++ graph_of (world m.core.setup h).requests)
+    → (written : List ℕ) × Appends w w' written × WritesText result text written
     → OnOk result ((h : History) → Fits m h → Appends w w' (graph_of (world m.core.setup h).requests))
 written_graph (Ok done) m text none w w' start tells x = λ h fits.
     subst (λ (l : List ℕ). Appends w w' l) (x.2 ∙ tells h fits ∙ ap (λ (l : List ℕ). l ++ graph_of (world m.core.setup h).requests) start) x.1

@@ -23,26 +23,62 @@ nothing_written None = tt
 nothing_written (Some held) = sym (append-nil held)
 
 -- the reader failed, or has a faulty line
-no_calls : (g : Setup) (f : PlayFault) (before after held : Option (List ℕ)) → ReadsCalls g (Err f) before after → Plays g (Err f) before after held held
-no_calls g fault.Read before after held r = record { bytes = r.bytes; consumed = r.consumed; whole = tt; written = []; appended = nothing_written held; answers = refl }
-no_calls g fault.Memory before after held r = record { bytes = r.bytes; consumed = r.consumed; whole = tt; written = []; appended = nothing_written held; answers = refl }
-no_calls g (fault.Line k) before after held r = record { bytes = r.bytes; consumed = r.consumed; whole = r.whole; written = []; appended = nothing_written held; answers = (r.returned, refl) }
-no_calls g (fault.Long k) before after held r = record { bytes = r.bytes; consumed = r.consumed; whole = r.whole; written = []; appended = nothing_written held; answers = (r.returned, refl) }
+no_calls : (g : Setup) (f : PlayFault) (before after held : Option (List ℕ))
+    → ReadsCalls g (Err f) before after → Plays g (Err f) before after held held
+no_calls g fault.Read before after held r = record {
+  bytes = r.bytes;
+  consumed = r.consumed;
+  whole = tt;
+  written = [];
+  appended = nothing_written held;
+  answers = refl;
+}
+no_calls g fault.Memory before after held r = record {
+  bytes = r.bytes;
+  consumed = r.consumed;
+  whole = tt;
+  written = [];
+  appended = nothing_written held;
+  answers = refl;
+}
+no_calls g (fault.Line k) before after held r = record {
+  bytes = r.bytes;
+  consumed = r.consumed;
+  whole = r.whole;
+  written = [];
+  appended = nothing_written held;
+  answers = (r.returned, refl);
+}
+no_calls g (fault.Long k) before after held r = record {
+  bytes = r.bytes;
+  consumed = r.consumed;
+  whole = r.whole;
+  written = [];
+  appended = nothing_written held;
+  answers = (r.returned, refl);
+}
 no_calls g fault.Write before after held r = absurd r.whole
 
-pub stopped_reading : (g : Setup) (answer : Result (Unit {0}) PlayFault) (f : PlayFault) (before after held : Option (List ℕ)) → answer ≡ Err f → ReadsCalls g (Err f) before after → Plays g answer before after held held
+pub stopped_reading : (g : Setup) (answer : Result (Unit {0}) PlayFault) (f : PlayFault) (before after held : Option (List ℕ))
+    → answer ≡ Err f → ReadsCalls g (Err f) before after → Plays g answer before after held held
 stopped_reading g answer f before after held is r = subst (λ (a : Result (Unit {0}) PlayFault). Plays g a before after held held) (sym is) (no_calls g f before after held r)
 
 -- memory was refused to the play
-pub out_of_memory : (g : Setup) (answer : Result (Unit {0}) PlayFault) (calls : Vec (Vec Item Global) Global) (before after held : Option (List ℕ)) → answer ≡ Err fault.Memory → ReadsCalls g (Ok calls) before after → Plays g answer before after held held
+pub out_of_memory : (g : Setup) (answer : Result (Unit {0}) PlayFault) (calls : Vec (Vec Item Global) Global) (before after held : Option (List ℕ))
+    → answer ≡ Err fault.Memory → ReadsCalls g (Ok calls) before after
+    → Plays g answer before after held held
 out_of_memory g answer calls before after held is r =
     let nothing : Plays g (Err fault.Memory) before after held held = record { bytes = r.bytes; consumed = r.consumed; whole = tt; written = []; appended = nothing_written held; answers = refl } in
     subst (λ (a : Result (Unit {0}) PlayFault). Plays g a before after held held) (sym is) nothing
 
 -- it was played
-pub played : (g : Setup) (calls : Vec (Vec Item Global) Global) (trace : List Event) (completions : List Cqe) (answer : Result (Unit {0}) PlayFault) (before after held_before held_after : Option (List ℕ)) → ReadsCalls g (Ok calls) before after
-    → IsPlay g (lists_of calls.items) trace completions → WritesPlay answer held_before held_after trace completions → Plays g answer before after held_before held_after
-played g calls trace completions answer before after held_before held_after r play (text, written, (part, appended, is)) = go answer is
+pub played : (g : Setup) (calls : Vec (Vec Item Global) Global) (trace : List Event) (completions : List Cqe) (answer : Result (Unit {0}) PlayFault) (before after held_before held_after : Option (List ℕ))
+    → ReadsCalls g (Ok calls) before after
+    → IsPlay g (lists_of calls.items) trace completions
+    → WritesPlay answer held_before held_after trace completions
+    → Plays g answer before after held_before held_after
+played g calls trace completions answer before after held_before held_after r play (text, written, (part, appended, is)) =
+    go answer is
   where
     the_text : (whole : List ℕ) → text ≡ whole → IsPlayText g r.bytes whole
     the_text whole same = record { calls = lists_of calls.items; told = r.returned; trace = trace; completions = completions; play = play; written = subst (λ (t : List ℕ). IsTextOf trace completions t) same written }
@@ -56,8 +92,11 @@ played g calls trace completions answer before after held_before held_after r pl
     go (Err (fault.Long k)) is = absurd is
 
 -- the completions of a lawful trace were sorted and written, and then these counts
-pub counts_told : (g : Setup) (trace : List Event) (completions old sorted : List Cqe) (taken dropped : ℕ) (answer : Result (Unit {0}) PlayFault) (before after : Option (List ℕ)) → IsLawful g (history_of trace) → taken ≡ length (made_by g trace).requests.accepted
-    → dropped ≡ dropped_last trace → old ≡ completions → IsPermutation old sorted → IsInOrder sorted → Writes answer before after (lines_text sorted ++ counts_text taken dropped) → WritesPlay answer before after trace completions
+pub counts_told : (g : Setup) (trace : List Event) (completions old sorted : List Cqe) (taken dropped : ℕ) (answer : Result (Unit {0}) PlayFault) (before after : Option (List ℕ))
+    → IsLawful g (history_of trace) → taken ≡ length (made_by g trace).requests.accepted
+    → dropped ≡ dropped_last trace → old ≡ completions → IsPermutation old sorted → IsInOrder sorted
+    → Writes answer before after (lines_text sorted ++ counts_text taken dropped)
+    → WritesPlay answer before after trace completions
 counts_told g trace completions old sorted taken dropped answer before after lawful all last same permuted ordered writes =
     let counts : counts_text taken dropped ≡ counts_text (accepted_in trace) (dropped_last trace) =
     ap (λ (n : ℕ). counts_text n dropped) (all ∙ sym (accepted_total g trace lawful)) ∙ ap (counts_text (accepted_in trace)) last

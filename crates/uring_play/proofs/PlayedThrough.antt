@@ -31,12 +31,15 @@ use Rattle.uring_play.specs.declared.application.Applied.{Applied}
 
 -- ---- a ring that is closed stays so while results are taken in
 
-closed_behind : (g : Setup) (results : List JobResult) (h : History) → (world g (history_of (map finish_of results) ++ h)).is_closed ≡ (world g h).is_closed
+closed_behind : (g : Setup) (results : List JobResult) (h : History)
+    → (world g (history_of (map finish_of results) ++ h)).is_closed ≡ (world g h).is_closed
 closed_behind g [] h = refl
 closed_behind g (r ∷ results) h =
     ap (λ (k : History). (world g k).is_closed) (history_of-cons (finish_of r) (map finish_of results) h) ∙ closed_behind g results (finish_of r ∷ h)
 
-closed_later : (g : Setup) (trace : List Event) (results : List JobResult) → (world g (history_of (trace ++ map finish_of results))).is_closed ≡ (world g (history_of trace)).is_closed
+closed_later : (g : Setup) (trace : List Event) (results : List JobResult)
+    → (world g (history_of (trace ++ map finish_of results))).is_closed
+    ≡ (world g (history_of trace)).is_closed
 closed_later g trace results =
     let both = history_of-append trace (map finish_of results) [] in
     let none = append-nil (history_of (trace ++ map finish_of results)) in
@@ -61,7 +64,8 @@ pub record IsOver (g : Setup) (calls : List (List Item)) (app : AppEnd) (kernel 
   pub none_outstanding : outstanding_in (left_by r).requests ≡ 0
   pub none_waits : r.waiting ≡ []
 
-pub over_is_play : (g : Setup) (calls : List (List Item)) (app : AppEnd) (kernel : Kernel) (workers : List Worker) (r : Report) (completions : List Cqe) → IsOver g calls app kernel workers r → completions ≡ app.received ++ r.undelivered
+pub over_is_play : (g : Setup) (calls : List (List Item)) (app : AppEnd) (kernel : Kernel) (workers : List Worker) (r : Report) (completions : List Cqe)
+    → IsOver g calls app kernel workers r → completions ≡ app.received ++ r.undelivered
     → IsPlay g calls r.trace completions
 over_is_play g calls app kernel workers r completions over all =
     let same : r.setup ≡ g = over.setup ∙ over.same in
@@ -96,7 +100,9 @@ told_one : (before : List ℕ) (o : Option ℕ) → sum (with_told before o) ≡
 told_one before None = omega arith
 told_one before (Some n) = sum_by_push (λ k. k) before n
 
-told_all : (events : List Event) (h : History) → sum (told accepted_by (history_of events ++ h)) ≡ sum (told accepted_by h) + accepted_in events
+told_all : (events : List Event) (h : History)
+    → sum (told accepted_by (history_of events ++ h))
+    ≡ sum (told accepted_by h) + accepted_in events
 told_all [] h = omega arith
 told_all (e ∷ events) h =
     let later = told_all events (e ∷ h) in
@@ -105,7 +111,8 @@ told_all (e ∷ events) h =
     ap (λ (k : History). sum (told accepted_by k)) (history_of-cons e events h) ∙ omega (arith, later, one, head)
 
 -- the calls of a lawful trace accepted as many requests as there are
-pub accepted_total : (g : Setup) (trace : List Event) → IsLawful g (history_of trace) → accepted_in trace ≡ length (world g (history_of trace)).requests.accepted
+pub accepted_total : (g : Setup) (trace : List Event) → IsLawful g (history_of trace)
+    → accepted_in trace ≡ length (world g (history_of trace)).requests.accepted
 accepted_total g trace lawful =
     let direct = direct_requests g (history_of trace) (lawful_apart g (history_of trace) lawful) in
     let all = told_all trace [] in
@@ -116,8 +123,10 @@ accepted_total g trace lawful =
 -- ---- the ends behind their threads
 
 -- the ends are still all of one set-up
-pub still_together : {P : Type 0} (app : AppEnd) (kernel : Kernel) (workers : List Worker) (calls : List (List Item)) (applied : Applied P) (kernel_after : Kernel) (workers_after : List Worker) → AreTogether app kernel workers
-    → Applies app calls applied → StaysKernel kernel kernel_after → StayWorkers workers workers_after → AreTogether applied.app kernel_after workers_after
+pub still_together : {P : Type 0} (app : AppEnd) (kernel : Kernel) (workers : List Worker) (calls : List (List Item)) (applied : Applied P) (kernel_after : Kernel) (workers_after : List Worker)
+    → AreTogether app kernel workers
+    → Applies app calls applied → StaysKernel kernel kernel_after
+    → StayWorkers workers workers_after → AreTogether applied.app kernel_after workers_after
 still_together app kernel workers calls applied kernel_after workers_after t applies stays so =
     let count : Worker → ℕ = λ w. length w.files in
     let many : length workers_after ≡ length workers = sym (length-map workers_after count) ∙ ap length so.files ∙ length-map workers count in

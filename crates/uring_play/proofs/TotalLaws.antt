@@ -5,17 +5,23 @@ use Rattle.std.proofs.lemmas.List.{take_more}
 use Rattle.uring_machine.specs.Histories.{Event}
 use Rattle.uring_play.specs.Totals.{dropped_by, dropped_or, dropped_last}
 
-dropped_append : (before : ℕ) (es : List Event) (e : Event) → dropped_or before (es ++ e ∷ []) ≡ unwrap_or (dropped_by e.1) (dropped_or before es)
+dropped_append : (before : ℕ) (es : List Event) (e : Event)
+    → dropped_or before (es ++ e ∷ []) ≡ unwrap_or (dropped_by e.1) (dropped_or before es)
 dropped_append before [] e = refl
 dropped_append before (d ∷ es) e = dropped_append (unwrap_or (dropped_by d.1) before) es e
 
-dropped_more : (trace : List Event) (i : ℕ) (e : Event) → i < length trace → e ≡ get_or trace i e → dropped_last (take (i + 1) trace) ≡ unwrap_or (dropped_by e.1) (dropped_last (take i trace))
+dropped_more : (trace : List Event) (i : ℕ) (e : Event) → i < length trace → e ≡ get_or trace i e
+    → dropped_last (take (i + 1) trace) ≡ unwrap_or (dropped_by e.1) (dropped_last (take i trace))
 dropped_more trace i e lt is = ap dropped_last (take_more trace i e lt ∙ ap (λ (x : Event). take i trace ++ x ∷ []) (sym is)) ∙ dropped_append 0 (take i trace) e
 
 -- an event that closes a call
-pub closed_more : (trace : List Event) (i : ℕ) (e : Event) (found : Option ℕ) (count so : ℕ) → i < length trace → e ≡ get_or trace i e → found ≡ dropped_by e.1 → found ≡ Some count → so ≡ count → so ≡ dropped_last (take (i + 1) trace)
+pub closed_more : (trace : List Event) (i : ℕ) (e : Event) (found : Option ℕ) (count so : ℕ)
+    → i < length trace → e ≡ get_or trace i e → found ≡ dropped_by e.1 → found ≡ Some count
+    → so ≡ count → so ≡ dropped_last (take (i + 1) trace)
 closed_more trace i e found count so lt is a b s = s ∙ ap (λ (o : Option ℕ). unwrap_or o (dropped_last (take i trace))) (sym b ∙ a) ∙ sym (dropped_more trace i e lt is)
 
 -- another event
-pub other_more : (trace : List Event) (i : ℕ) (e : Event) (found : Option ℕ) (old so : ℕ) → i < length trace → e ≡ get_or trace i e → found ≡ dropped_by e.1 → found ≡ None → so ≡ old → old ≡ dropped_last (take i trace) → so ≡ dropped_last (take (i + 1) trace)
+pub other_more : (trace : List Event) (i : ℕ) (e : Event) (found : Option ℕ) (old so : ℕ)
+    → i < length trace → e ≡ get_or trace i e → found ≡ dropped_by e.1 → found ≡ None → so ≡ old
+    → old ≡ dropped_last (take i trace) → so ≡ dropped_last (take (i + 1) trace)
 other_more trace i e found old so lt is a b s h = s ∙ h ∙ ap (λ (o : Option ℕ). unwrap_or o (dropped_last (take i trace))) (sym b ∙ a) ∙ sym (dropped_more trace i e lt is)

@@ -66,7 +66,8 @@ small_zeros zero = tt
 small_zeros (suc n) = (omega arith, small_zeros n)
 
 -- the word that eight bytes hold
-word_of : (bytes : List ℕ) → length bytes ≡ 8 → AreSmall bytes → (w : ℕ) × (w < 2 ^ 64) × (to_le_bytes w64 w ≡ bytes)
+word_of : (bytes : List ℕ) → length bytes ≡ 8 → AreSmall bytes
+    → (w : ℕ) × (w < 2 ^ 64) × (to_le_bytes w64 w ≡ bytes)
 word_of (a ∷ b ∷ c ∷ d ∷ e ∷ f ∷ g ∷ h ∷ []) l s = (from_le_bytes w64 (a ∷ b ∷ c ∷ d ∷ e ∷ f ∷ g ∷ h ∷ []), omega (arith, s.0, s.1.0, s.1.1.0, s.1.1.1.0, s.1.1.1.1.0, s.1.1.1.1.1.0, s.1.1.1.1.1.1.0, s.1.1.1.1.1.1.1.0), le_bytes_8 (a ∷ b ∷ c ∷ d ∷ e ∷ f ∷ g ∷ h ∷ []) _ l (λ i. byte_at (a ∷ b ∷ c ∷ d ∷ e ∷ f ∷ g ∷ h ∷ []) i s) refl)
 word_of [] l s = absurd (omega arith)
 word_of (a ∷ []) l s = absurd (omega arith)
@@ -79,7 +80,8 @@ word_of (a ∷ b ∷ c ∷ d ∷ e ∷ f ∷ g ∷ []) l s = absurd (omega arith
 word_of (a ∷ b ∷ c ∷ d ∷ e ∷ f ∷ g ∷ h ∷ i ∷ more) l s = absurd (omega arith)
 
 -- the words that bytes are
-words_of : (n : ℕ) (bytes : List ℕ) → length bytes ≡ 8 * n → AreSmall bytes → (ws : List ℕ) × (length ws ≡ n) × AreWords ws × (bytes_of ws ≡ bytes)
+words_of : (n : ℕ) (bytes : List ℕ) → length bytes ≡ 8 * n → AreSmall bytes
+    → (ws : List ℕ) × (length ws ≡ n) × AreWords ws × (bytes_of ws ≡ bytes)
 words_of zero bytes l s = ([], refl, tt, sym (nil_from_length bytes (omega arith)))
 words_of (suc n) bytes l s =
     let first = word_of (take 8 bytes) (omega (arith, length-take 8 bytes)) (small_take 8 bytes s) in
@@ -87,16 +89,21 @@ words_of (suc n) bytes l s =
     (first.0 ∷ rest.0, ap (λ m. suc m) rest.1, (first.1, rest.2), ap (λ (l : List ℕ). l ++ bytes_of rest.0) first.2 ∙ ap (λ (l : List ℕ). take 8 bytes ++ l) rest.3 ∙ take-append-drop 8 bytes)
 
 entry_of : (f : Form) (flags : List ℕ) → IsForm f flags → (e : Sqe) × IsEntryOf f e
-entry_of (form.Nop user_data fl) flags h = (without_data (header NOP fl (pos 0) 0 0 0 user_data), refl)
-entry_of (form.Fsync user_data fl fd) flags h = (without_data (header FSYNC fl fd 0 0 0 user_data), refl)
-entry_of (form.Read user_data fl fd off len) flags h = (without_data (header READ fl fd off 0 len user_data), refl)
+entry_of (form.Nop user_data fl) flags h =
+    (without_data (header NOP fl (pos 0) 0 0 0 user_data), refl)
+entry_of (form.Fsync user_data fl fd) flags h =
+    (without_data (header FSYNC fl fd 0 0 0 user_data), refl)
+entry_of (form.Read user_data fl fd off len) flags h =
+    (without_data (header READ fl fd off 0 len user_data), refl)
 entry_of (form.Write user_data fl fd off bytes) flags h =
     let most : length bytes ≤ 64 = h.4.enough in
     let words = words_of 8 (padded bytes) (omega (arith, length-append bytes (zeros (64 - length bytes)), zeros_length (64 - length bytes))) (small_append bytes _ h.4.each (small_zeros (64 - length bytes))) in
     (header WRITE fl fd off 0 (length bytes) user_data ++ words.0, record { size = omega (arith, words.1); first = refl; rest = words.2; payload = words.3 })
-entry_of (form.Cancel user_data fl target) flags h = (without_data (header ASYNC_CANCEL fl (pos 0) 0 target 0 user_data), refl)
+entry_of (form.Cancel user_data fl target) flags h =
+    (without_data (header ASYNC_CANCEL fl (pos 0) 0 target 0 user_data), refl)
 entry_of (form.CancelAll user_data fl target) flags h = (without_data (header ASYNC_CANCEL fl (pos 0) 0 target (2 ^ 32 * ASYNC_CANCEL_ALL) user_data), refl)
-entry_of (form.Op code user_data fl) flags h = (without_data (header code fl (pos 0) 0 0 0 user_data), refl)
+entry_of (form.Op code user_data fl) flags h =
+    (without_data (header code fl (pos 0) 0 0 0 user_data), refl)
 entry_of (form.Raw bytes) flags h =
     let few : 128 ≤ length bytes = h.few in
     let most : length bytes ≤ 128 = h.enough in
@@ -105,14 +112,17 @@ entry_of (form.Raw bytes) flags h =
 
 -- ---- each line says something
 
-entry_or : (tokens : List (List ℕ)) (f : Option Form) → form_of tokens ≡ f → ((e : Sqe) × SpellsEntry tokens e) ⊎ IsNoEntry tokens
+entry_or : (tokens : List (List ℕ)) (f : Option Form) → form_of tokens ≡ f
+    → ((e : Sqe) × SpellsEntry tokens e) ⊎ IsNoEntry tokens
 entry_or tokens None e = inr (λ entry s. absurd (let no : None ≡ Some s.form = sym e ∙ form_again tokens s.form s.spells in cc))
 entry_or tokens (Some f) e =
     let spells = form_found tokens f e in
     let entry = entry_of f spells.0 spells.1 in
     inl (entry.0, record { form = f; spells = spells; is_entry = entry.1 })
 
-word_or : (size : ℕ) (token : List ℕ) (n : Option ℕ) → MatchOption n (IsNoNumber (2 ^ 32) token) (SpellsNumber (2 ^ 32) token) → ((w : ℕ) × IsBadWord size token w) ⊎ IsNoBadWord size token
+word_or : (size : ℕ) (token : List ℕ) (n : Option ℕ)
+    → MatchOption n (IsNoNumber (2 ^ 32) token) (SpellsNumber (2 ^ 32) token)
+    → ((w : ℕ) × IsBadWord size token w) ⊎ IsNoBadWord size token
 word_or size token None h = inr (λ w k. h w k.0)
 word_or size token (Some n) h =
     elim (cases_Bool (ltb n size)) [
@@ -123,17 +133,21 @@ word_or size token (Some n) h =
 abbrev IsBadNamed : List (List ℕ) → List ℕ → Type 0
 IsBadNamed tokens token = tokens ≡ codes "bad" ∷ token ∷ []
 
-named_or : (tokens : List (List ℕ)) → ((token : List ℕ) × IsBadNamed tokens token) ⊎ ((token : List ℕ) → IsBadNamed tokens token → ⊥)
+named_or : (tokens : List (List ℕ))
+    → ((token : List ℕ) × IsBadNamed tokens token)
+    ⊎ ((token : List ℕ) → IsBadNamed tokens token → ⊥)
 named_or [] = inr (λ token e. absurd (let no : [] ≡ codes "bad" ∷ token ∷ [] = e in cc))
 named_or (t ∷ []) = inr (λ token e. absurd (let no : t ∷ [] ≡ codes "bad" ∷ token ∷ [] = e in cc))
-named_or (t ∷ u ∷ v ∷ more) = inr (λ token e. absurd (let no : t ∷ u ∷ v ∷ more ≡ codes "bad" ∷ token ∷ [] = e in cc))
+named_or (t ∷ u ∷ v ∷ more) =
+    inr (λ token e. absurd (let no : t ∷ u ∷ v ∷ more ≡ codes "bad" ∷ token ∷ [] = e in cc))
 named_or (t ∷ u ∷ []) =
     elim (cases_Bool (bytes_eq t (codes "bad"))) [
       | inl is ↦ inl (u, ap (λ (l : List ℕ). l ∷ u ∷ []) ((bytes_eq-Decides t (codes "bad")).0 is))
       | inr not ↦ inr (λ token e. absurd (true≢false (sym ((bytes_eq-Decides t (codes "bad")).1 (head-eq_of_cons-eq e)) ∙ not)))
     ]
 
-item_or : (size : ℕ) (tokens : List (List ℕ)) → ((i : Item) × SpellsItem size tokens i) ⊎ IsNoItem size tokens
+item_or : (size : ℕ) (tokens : List (List ℕ))
+    → ((i : Item) × SpellsItem size tokens i) ⊎ IsNoItem size tokens
 item_or size tokens =
     elim (named_or tokens) [
       | inl named ↦ elim (word_or size named.0 (number_of (2 ^ 32) named.0) (read_number_tells (2 ^ 32) named.0 (number_of (2 ^ 32) named.0) (omega arith) refl)) [
@@ -150,7 +164,8 @@ item_or size tokens =
     no_item size tokens other none (item.Entry e) h = none e h
     no_item size tokens other none (item.Bad w) h = other h.0 h.1
 
-line_or : (size : ℕ) (line : List ℕ) → (line ≡ []) ⊎ (((i : Item) × IsItemLine size line i) ⊎ IsBadLine size line)
+line_or : (size : ℕ) (line : List ℕ)
+    → (line ≡ []) ⊎ (((i : Item) × IsItemLine size line i) ⊎ IsBadLine size line)
 line_or size [] = inl refl
 line_or size (b ∷ line) =
     elim (cases_Bool (ltb 300 (length (b ∷ line)))) [
@@ -169,16 +184,20 @@ line_or size (b ∷ line) =
 -- ---- all lines
 
 abbrev Stands : ℕ → List (List ℕ) → Type 0
-Stands size lines = ((n : ℕ) × (calls : List (List Item)) × (call : List Item) × Goes size lines n calls call) ⊎ ((f : PlayFault) × Tells size lines (Err f))
+Stands size lines =
+    ((n : ℕ) × (calls : List (List Item)) × (call : List Item) × Goes size lines n calls call)
+    ⊎ ((f : PlayFault) × Tells size lines (Err f))
 
-item_step : (size : ℕ) (lines : List (List ℕ)) (line : List ℕ) (n : ℕ) (calls : List (List Item)) (call : List Item) (i : Item) → IsItemLine size line i → Goes size lines n calls call → Stands size (lines ++ line ∷ [])
+item_step : (size : ℕ) (lines : List (List ℕ)) (line : List ℕ) (n : ℕ) (calls : List (List Item)) (call : List Item) (i : Item)
+    → IsItemLine size line i → Goes size lines n calls call → Stands size (lines ++ line ∷ [])
 item_step size lines line n calls call i is h =
     elim (cases_Bool (ltb (length call) size)) [
       | inl t ↦ inl (n + 1, calls, call ++ i ∷ [], item_more size lines line n calls call i is (ltb-true (length call) size t) h)
       | inr f ↦ inr (fault.Long (n + 1), long_first size lines line n calls call i is (ltb-false (length call) size f) h)
     ]
 
-step : (size : ℕ) (lines : List (List ℕ)) (line : List ℕ) → Stands size lines → Stands size (lines ++ line ∷ [])
+step : (size : ℕ) (lines : List (List ℕ)) (line : List ℕ) → Stands size lines
+    → Stands size (lines ++ line ∷ [])
 step size lines line (inr f) = inr (f.0, fault_stays size lines line f.0 f.1)
 step size lines line (inl s) =
     elim (line_or size line) [
@@ -194,7 +213,8 @@ stands : (size : ℕ) (lines : List (List ℕ)) → Stands size (reverse lines)
 stands size [] = inl (0, [], [], at_start size)
 stands size (line ∷ lines) = subst (Stands size) (sym (reverse-append (line ∷ []) lines)) (step size (reverse lines) line (stands size lines))
 
-tells : (size : ℕ) (lines : List (List ℕ)) → Stands size lines → (told : Told) × Tells size lines told
+tells : (size : ℕ) (lines : List (List ℕ)) → Stands size lines
+    → (told : Told) × Tells size lines told
 tells size lines (inl s) = (Ok (s.1 ++ one_call s.2), so_far size lines s.0 s.1 s.2 s.3)
 tells size lines (inr f) = (Err f.0, f.1)
 

@@ -14,16 +14,19 @@ onto_last x [] = []
 onto_last x (part ∷ []) = (part ++ x ∷ []) ∷ []
 onto_last x (part ∷ next ∷ parts) = part ∷ onto_last x (next ∷ parts)
 
-first_append : {X : Type 0} (x : X) (parts more : List (List X)) → 0 < length parts → onto_first x (parts ++ more) ≡ onto_first x parts ++ more
+first_append : {X : Type 0} (x : X) (parts more : List (List X)) → 0 < length parts
+    → onto_first x (parts ++ more) ≡ onto_first x parts ++ more
 first_append x [] more lt = absurd (omega arith)
 first_append x (part ∷ parts) more lt = refl
 
-first_last : {X : Type 0} (x y : X) (parts : List (List X)) → 0 < length parts → onto_first x (onto_last y parts) ≡ onto_last y (onto_first x parts)
+first_last : {X : Type 0} (x y : X) (parts : List (List X)) → 0 < length parts
+    → onto_first x (onto_last y parts) ≡ onto_last y (onto_first x parts)
 first_last x y [] lt = absurd (omega arith)
 first_last x y (part ∷ []) lt = refl
 first_last x y (part ∷ next ∷ parts) lt = refl
 
-pub last_is : {X : Type 0} (x : X) (ended : List (List X)) (last : List X) → onto_last x (ended ++ last ∷ []) ≡ ended ++ (last ++ x ∷ []) ∷ []
+pub last_is : {X : Type 0} (x : X) (ended : List (List X)) (last : List X)
+    → onto_last x (ended ++ last ∷ []) ≡ ended ++ (last ++ x ∷ []) ∷ []
 last_is x [] last = refl
 last_is x (part ∷ []) last = refl
 last_is x (part ∷ next ∷ ended) last = ap (λ l. part ∷ l) (last_is x (next ∷ ended) last)
@@ -37,7 +40,8 @@ module _ {X : Type 0} (p : X → Bool) where
   yes_of false y parts lt = first_append y parts ([] ∷ []) lt
 
   -- one element more, which cuts
-  pub split_yes : (xs : List X) (x : X) → p x ≡ true → slice_split p (xs ++ x ∷ []) ≡ slice_split p xs ++ [] ∷ []
+  pub split_yes : (xs : List X) (x : X) → p x ≡ true
+      → slice_split p (xs ++ x ∷ []) ≡ slice_split p xs ++ [] ∷ []
   split_yes [] x e = slice_split-cons_yes p x [] e
   split_yes (y ∷ xs) x e = ap (λ (l : List (List X)). cond (p y) ([] ∷ l) (onto_first y l)) (split_yes xs x e) ∙ yes_of (p y) y (slice_split p xs) (some_part xs)
 
@@ -50,7 +54,8 @@ module _ {X : Type 0} (p : X → Bool) where
   no_of false x y parts lt = first_last y x parts lt
 
   -- one that doesn't
-  pub split_no : (xs : List X) (x : X) → p x ≡ false → slice_split p (xs ++ x ∷ []) ≡ onto_last x (slice_split p xs)
+  pub split_no : (xs : List X) (x : X) → p x ≡ false
+      → slice_split p (xs ++ x ∷ []) ≡ onto_last x (slice_split p xs)
   split_no [] x e = slice_split-cons_no p x [] e
   split_no (y ∷ xs) x e = ap (λ (l : List (List X)). cond (p y) ([] ∷ l) (onto_first y l)) (split_no xs x e) ∙ no_of (p y) x y (slice_split p xs) (some_part xs)
 
@@ -60,33 +65,42 @@ no_items : (size : ℕ) (items : List Item) → AreItemLines size [] items → o
 no_items size [] h = refl
 no_items size (i ∷ items) h = absurd h
 
-some_items : (size : ℕ) (line : List ℕ) (lines : List (List ℕ)) (items : List Item) → IsCall size (line ∷ lines) items → AreCalls size ((line ∷ lines) ∷ []) (one_call items)
+some_items : (size : ℕ) (line : List ℕ) (lines : List (List ℕ)) (items : List Item)
+    → IsCall size (line ∷ lines) items → AreCalls size ((line ∷ lines) ∷ []) (one_call items)
 some_items size line lines [] h = absurd h.lines_are
 some_items size line lines (i ∷ items) h = (h, tt)
 
 -- a last block, whose items are a call or none
-pub calls_more : (size : ℕ) (blocks : List (List (List ℕ))) (calls : List (List Item)) (last : List (List ℕ)) (call : List Item) → AreCalls size blocks calls → IsCall size last call → AreCalls size (blocks ++ last ∷ []) (calls ++ one_call call)
-calls_more size [] [] [] call h k = subst (AreCalls size []) (sym (no_items size call k.lines_are)) tt
+pub calls_more : (size : ℕ) (blocks : List (List (List ℕ))) (calls : List (List Item)) (last : List (List ℕ)) (call : List Item)
+    → AreCalls size blocks calls → IsCall size last call
+    → AreCalls size (blocks ++ last ∷ []) (calls ++ one_call call)
+calls_more size [] [] [] call h k =
+    subst (AreCalls size []) (sym (no_items size call k.lines_are)) tt
 calls_more size [] [] (line ∷ lines) call h k = some_items size line lines call k
 calls_more size [] (c ∷ calls) last call h k = absurd h
 calls_more size ([] ∷ blocks) calls last call h k = calls_more size blocks calls last call h k
 calls_more size ((line ∷ lines) ∷ blocks) [] last call h k = absurd h
-calls_more size ((line ∷ lines) ∷ blocks) (c ∷ calls) last call h k = (h.0, calls_more size blocks calls last call h.1 k)
+calls_more size ((line ∷ lines) ∷ blocks) (c ∷ calls) last call h k =
+    (h.0, calls_more size blocks calls last call h.1 k)
 
 -- a line more of a call
-pub items_more : (size : ℕ) (lines : List (List ℕ)) (items : List Item) (line : List ℕ) (i : Item) → AreItemLines size lines items → IsItemLine size line i → AreItemLines size (lines ++ line ∷ []) (items ++ i ∷ [])
+pub items_more : (size : ℕ) (lines : List (List ℕ)) (items : List Item) (line : List ℕ) (i : Item)
+    → AreItemLines size lines items → IsItemLine size line i
+    → AreItemLines size (lines ++ line ∷ []) (items ++ i ∷ [])
 items_more size [] [] line i h k = (k, tt)
 items_more size [] (j ∷ items) line i h k = absurd h
 items_more size (l ∷ lines) [] line i h k = absurd h
 items_more size (l ∷ lines) (j ∷ items) line i h k = (h.0, items_more size lines items line i h.1 k)
 
-pub as_many : (size : ℕ) (lines : List (List ℕ)) (items : List Item) → AreItemLines size lines items → length lines ≡ length items
+pub as_many : (size : ℕ) (lines : List (List ℕ)) (items : List Item) → AreItemLines size lines items
+    → length lines ≡ length items
 as_many size [] [] h = refl
 as_many size [] (j ∷ items) h = absurd h
 as_many size (l ∷ lines) [] h = absurd h
 as_many size (l ∷ lines) (j ∷ items) h = ap (λ n. suc n) (as_many size lines items h.1)
 
-pub last_of : (ended : List (List (List ℕ))) (last : List (List ℕ)) → last_block (ended ++ last ∷ []) ≡ last
+pub last_of : (ended : List (List (List ℕ))) (last : List (List ℕ))
+    → last_block (ended ++ last ∷ []) ≡ last
 last_of [] last = refl
 last_of (block ∷ []) last = refl
 last_of (block ∷ next ∷ ended) last = last_of (next ∷ ended) last

@@ -14,17 +14,21 @@ use Rattle.uring_play_text.specs.ItemLines.{SpellsItem, IsItemLine}
 use Rattle.uring_play_text.specs.Calls.{is_blank}
 use Rattle.uring_play_text.specs.LineReads.{IsNoBadWord, IsNoItem}
 
-other_name : (b : ℕ) (us vs : List ℕ) (xs ys : List (List ℕ)) → (98 ≡ b → ⊥) → (98 ∷ us) ∷ xs ≡ (b ∷ vs) ∷ ys → ⊥
+other_name : (b : ℕ) (us vs : List ℕ) (xs ys : List (List ℕ)) → (98 ≡ b → ⊥)
+    → (98 ∷ us) ∷ xs ≡ (b ∷ vs) ∷ ys → ⊥
 other_name b us vs xs ys other e = other cc
 
 -- no form is named so
-no_form : (f : Form) (flags : List ℕ) (rest : List (List ℕ)) → codes "bad" ∷ rest ≡ spelled f flags → ⊥
+no_form : (f : Form) (flags : List ℕ) (rest : List (List ℕ)) → codes "bad" ∷ rest ≡ spelled f flags
+    → ⊥
 no_form (form.Nop user_data fl) flags rest e = other_name _ _ _ _ _ (λ n. omega arith) e
 no_form (form.Fsync user_data fl fd) flags rest e = other_name _ _ _ _ _ (λ n. omega arith) e
 no_form (form.Read user_data fl fd off len) flags rest e = other_name _ _ _ _ _ (λ n. omega arith) e
-no_form (form.Write user_data fl fd off bytes) flags rest e = other_name _ _ _ _ _ (λ n. omega arith) e
+no_form (form.Write user_data fl fd off bytes) flags rest e =
+    other_name _ _ _ _ _ (λ n. omega arith) e
 no_form (form.Cancel user_data fl target) flags rest e = other_name _ _ _ _ _ (λ n. omega arith) e
-no_form (form.CancelAll user_data fl target) flags rest e = other_name _ _ _ _ _ (λ n. omega arith) e
+no_form (form.CancelAll user_data fl target) flags rest e =
+    other_name _ _ _ _ _ (λ n. omega arith) e
 no_form (form.Op code user_data fl) flags rest e = other_name _ _ _ _ _ (λ n. omega arith) e
 no_form (form.Raw bytes) flags rest e = other_name _ _ _ _ _ (λ n. omega arith) e
 
@@ -32,34 +36,47 @@ pub no_entry : (rest : List (List ℕ)) (entry : Sqe) → SpellsEntry (codes "ba
 no_entry rest entry h = no_form h.form h.spells.0 rest h.spells.2
 
 -- `bad` and a token that is no such word
-pub bad_is_none : (size : ℕ) (token : List ℕ) (tokens : List (List ℕ)) → tokens ≡ codes "bad" ∷ token ∷ [] → IsNoBadWord size token → IsNoItem size tokens
-bad_is_none size token tokens is none (item.Entry entry) h = no_entry (token ∷ []) entry (subst (λ (l : List (List ℕ)). SpellsEntry l entry) is h)
+pub bad_is_none : (size : ℕ) (token : List ℕ) (tokens : List (List ℕ))
+    → tokens ≡ codes "bad" ∷ token ∷ [] → IsNoBadWord size token → IsNoItem size tokens
+bad_is_none size token tokens is none (item.Entry entry) h =
+    no_entry (token ∷ []) entry (subst (λ (l : List (List ℕ)). SpellsEntry l entry) is h)
 bad_is_none size token tokens is none (item.Bad word) h =
     let same : h.0 ≡ token = head-eq_of_cons-eq (tail-eq_of_cons-eq (sym h.1 ∙ is)) in
     none word (subst (λ (t : List ℕ). SpellsNumber (2 ^ 32) t word) same h.2, h.3)
 
 -- a number below the size
-pub below : (size : ℕ) (token : List ℕ) (word : ℕ) → SpellsNumber (2 ^ 32) token word → word < size → IsNoBadWord size token
+pub below : (size : ℕ) (token : List ℕ) (word : ℕ) → SpellsNumber (2 ^ 32) token word → word < size
+    → IsNoBadWord size token
 below size token word h lt other k =
     let same : other ≡ word = number_once (2 ^ 32) token other word (omega arith) k.0 h in
     let le : size ≤ other = k.1 in
     absurd (omega arith)
 
 -- tokens are one item at most
-pub item_once : (size : ℕ) (tokens : List (List ℕ)) (i j : Item) → SpellsItem size tokens i → SpellsItem size tokens j → i ≡ j
-item_once size tokens (item.Entry a) (item.Entry b) h k = ap (λ (e : Sqe). item.Entry e) (spelled_once tokens a b h k)
-item_once size tokens (item.Entry a) (item.Bad word) h k = absurd (no_entry (k.0 ∷ []) a (subst (λ (l : List (List ℕ)). SpellsEntry l a) k.1 h))
-item_once size tokens (item.Bad word) (item.Entry b) h k = absurd (no_entry (h.0 ∷ []) b (subst (λ (l : List (List ℕ)). SpellsEntry l b) h.1 k))
+pub item_once : (size : ℕ) (tokens : List (List ℕ)) (i j : Item) → SpellsItem size tokens i
+    → SpellsItem size tokens j → i ≡ j
+item_once size tokens (item.Entry a) (item.Entry b) h k =
+    ap (λ (e : Sqe). item.Entry e) (spelled_once tokens a b h k)
+item_once size tokens (item.Entry a) (item.Bad word) h k =
+    absurd (no_entry (k.0 ∷ []) a (subst (λ (l : List (List ℕ)). SpellsEntry l a) k.1 h))
+item_once size tokens (item.Bad word) (item.Entry b) h k =
+    absurd (no_entry (h.0 ∷ []) b (subst (λ (l : List (List ℕ)). SpellsEntry l b) h.1 k))
 item_once size tokens (item.Bad word) (item.Bad other) h k =
     let same : h.0 ≡ k.0 = head-eq_of_cons-eq (tail-eq_of_cons-eq (sym h.1 ∙ k.1)) in
     ap (λ (w : ℕ). item.Bad w) (number_once (2 ^ 32) k.0 word other (omega arith) (subst (λ (t : List ℕ). SpellsNumber (2 ^ 32) t word) same h.2) k.2)
 
-pub line_once : (size : ℕ) (line : List ℕ) (i j : Item) → IsItemLine size line i → IsItemLine size line j → i ≡ j
+pub line_once : (size : ℕ) (line : List ℕ) (i j : Item) → IsItemLine size line i
+    → IsItemLine size line j → i ≡ j
 line_once size line i j h k = item_once size _ i j h.spells k.spells
 
 -- what a line is, whose tokens spell an item or none
-pub item_line : (size : ℕ) (text line : List ℕ) (tokens : List (List ℕ)) (i : Item) → line ≡ text → length text ≤ 300 → tokens ≡ tokens_of line → SpellsItem size tokens i → IsItemLine size text i
-item_line size text line tokens i same short are h = record { short = short; spells = subst (λ (l : List (List ℕ)). SpellsItem size l i) (are ∙ ap tokens_of same) h }
+pub item_line : (size : ℕ) (text line : List ℕ) (tokens : List (List ℕ)) (i : Item) → line ≡ text
+    → length text ≤ 300 → tokens ≡ tokens_of line → SpellsItem size tokens i
+    → IsItemLine size text i
+item_line size text line tokens i same short are h = record {
+  short = short;
+  spells = subst (λ (l : List (List ℕ)). SpellsItem size l i) (are ∙ ap tokens_of same) h;
+}
 
 -- an empty line is no item
 named : (f : Form) (flags rest : List ℕ) → [] ∷ [] ≡ spelled f flags → ⊥
@@ -76,6 +93,7 @@ empty_spells : (size : ℕ) (i : Item) → SpellsItem size ([] ∷ []) i → ⊥
 empty_spells size (item.Entry entry) h = named h.form h.spells.0 [] h.spells.2
 empty_spells size (item.Bad word) h = absurd (let no : [] ∷ [] ≡ codes "bad" ∷ h.0 ∷ [] = h.1 in cc)
 
-pub item_not_blank : (size : ℕ) (line : List ℕ) (i : Item) → IsItemLine size line i → is_blank line ≡ false
+pub item_not_blank : (size : ℕ) (line : List ℕ) (i : Item) → IsItemLine size line i
+    → is_blank line ≡ false
 item_not_blank size [] i h = absurd (empty_spells size i h.spells)
 item_not_blank size (b ∷ line) i h = ne_eqb (length (b ∷ line)) 0 (λ e. omega arith)

@@ -22,7 +22,8 @@ Block = List (List ℕ)
 
 -- ---- calls are one list at most
 
-items_once : (size : ℕ) (lines : Block) (a b : List Item) → AreItemLines size lines a → AreItemLines size lines b → a ≡ b
+items_once : (size : ℕ) (lines : Block) (a b : List Item) → AreItemLines size lines a
+    → AreItemLines size lines b → a ≡ b
 items_once size [] [] [] h k = refl
 items_once size [] [] (j ∷ b) h k = absurd k
 items_once size [] (i ∷ a) b h k = absurd h
@@ -30,7 +31,8 @@ items_once size (l ∷ lines) [] b h k = absurd h
 items_once size (l ∷ lines) (i ∷ a) [] h k = absurd k
 items_once size (l ∷ lines) (i ∷ a) (j ∷ b) h k = ap (λ (x : Item). x ∷ a) (line_once size l i j h.0 k.0) ∙ ap (λ (xs : List Item). j ∷ xs) (items_once size lines a b h.1 k.1)
 
-calls_once : (size : ℕ) (blocks : List Block) (a b : List (List Item)) → AreCalls size blocks a → AreCalls size blocks b → a ≡ b
+calls_once : (size : ℕ) (blocks : List Block) (a b : List (List Item)) → AreCalls size blocks a
+    → AreCalls size blocks b → a ≡ b
 calls_once size [] [] [] h k = refl
 calls_once size [] [] (d ∷ b) h k = absurd k
 calls_once size [] (c ∷ a) b h k = absurd h
@@ -47,11 +49,13 @@ glue [] b bs = b ∷ bs
 glue (a ∷ []) b bs = (a ++ b) ∷ bs
 glue (a ∷ c ∷ parts) b bs = a ∷ glue (c ∷ parts) b bs
 
-glue_nil : {X : Type 0} (parts : List (List X)) (b : List X) (bs : List (List X)) → 0 < length parts → [] ∷ glue parts b bs ≡ glue ([] ∷ parts) b bs
+glue_nil : {X : Type 0} (parts : List (List X)) (b : List X) (bs : List (List X)) → 0 < length parts
+    → [] ∷ glue parts b bs ≡ glue ([] ∷ parts) b bs
 glue_nil [] b bs lt = absurd (omega arith)
 glue_nil (c ∷ parts) b bs lt = refl
 
-glue_first : {X : Type 0} (x : X) (parts : List (List X)) (b : List X) (bs : List (List X)) → 0 < length parts → onto_first x (glue parts b bs) ≡ glue (onto_first x parts) b bs
+glue_first : {X : Type 0} (x : X) (parts : List (List X)) (b : List X) (bs : List (List X))
+    → 0 < length parts → onto_first x (glue parts b bs) ≡ glue (onto_first x parts) b bs
 glue_first x [] b bs lt = absurd (omega arith)
 glue_first x (a ∷ []) b bs lt = refl
 glue_first x (a ∷ c ∷ parts) b bs lt = refl
@@ -65,7 +69,9 @@ module _ {X : Type 0} (p : X → Bool) where
   glue_of false x parts b bs lt = glue_first x parts b bs lt
 
   -- an element that doesn't cut, among others
-  pub split_among : (xs : List X) (y : X) (ys : List X) (b : List X) (bs : List (List X)) → p y ≡ false → slice_split p ys ≡ b ∷ bs → slice_split p (xs ++ y ∷ ys) ≡ glue (slice_split p xs) (y ∷ b) bs
+  pub split_among : (xs : List X) (y : X) (ys : List X) (b : List X) (bs : List (List X))
+      → p y ≡ false → slice_split p ys ≡ b ∷ bs
+      → slice_split p (xs ++ y ∷ ys) ≡ glue (slice_split p xs) (y ∷ b) bs
   split_among [] y ys b bs keeps e = slice_split-cons_no p y ys keeps ∙ ap (λ (l : List (List X)). onto_first y l) e
   split_among (x ∷ xs) y ys b bs keeps e = ap (λ (l : List (List X)). cond (p x) ([] ∷ l) (onto_first x l)) (split_among xs y ys b bs keeps e) ∙ glue_of (p x) x (slice_split p xs) (y ∷ b) bs (some_part xs)
 
@@ -74,7 +80,9 @@ some_list [] lt = absurd (omega arith)
 some_list (x ∷ xs) lt = (x, xs, refl)
 
 -- a line of a call, behind others of it
-among : (size : ℕ) (a : Block) (line : Line) (b : Block) (items : List Item) → AreItemLines size (a ++ line ∷ b) items → (i : Item) × IsItemLine size line i × (length a < length items)
+among : (size : ℕ) (a : Block) (line : Line) (b : Block) (items : List Item)
+    → AreItemLines size (a ++ line ∷ b) items
+    → (i : Item) × IsItemLine size line i × (length a < length items)
 among size [] line b [] h = absurd h
 among size [] line b (i ∷ items) h = (i, h.0, omega arith)
 among size (l ∷ a) line b [] h = absurd h
@@ -86,38 +94,47 @@ among size (l ∷ a) line b (i ∷ items) h =
 abbrev Has : ℕ → Block → Line → Type 0
 Has size block line = (i : Item) × IsItemLine size line i × (length block < size)
 
-of_call : (size : ℕ) (a : Block) (line : Line) (b : Block) (items : List Item) → IsCall size (a ++ line ∷ b) items → Has size a line
+of_call : (size : ℕ) (a : Block) (line : Line) (b : Block) (items : List Item)
+    → IsCall size (a ++ line ∷ b) items → Has size a line
 of_call size a line b items h =
     let r = among size a line b items h.lines_are in
     let lt : length a < length items = r.2 in
     let le : length items ≤ size = h.fits in
     (r.0, r.1, omega arith)
 
-inside : (size : ℕ) (blocks : List Block) (line : Line) (b : Block) (bs : List Block) (calls : List (List Item)) → 0 < length blocks → AreCalls size (glue blocks (line ∷ b) bs) calls → Has size (last_block blocks) line
+inside : (size : ℕ) (blocks : List Block) (line : Line) (b : Block) (bs : List Block) (calls : List (List Item))
+    → 0 < length blocks → AreCalls size (glue blocks (line ∷ b) bs) calls
+    → Has size (last_block blocks) line
 inside size [] line b bs calls lt h = absurd (omega arith)
 inside size ([] ∷ []) line b bs [] lt h = absurd h
 inside size ([] ∷ []) line b bs (c ∷ calls) lt h = of_call size [] line b c h.0
 inside size ((l ∷ a) ∷ []) line b bs [] lt h = absurd h
 inside size ((l ∷ a) ∷ []) line b bs (c ∷ calls) lt h = of_call size (l ∷ a) line b c h.0
-inside size ([] ∷ c ∷ blocks) line b bs calls lt h = inside size (c ∷ blocks) line b bs calls (omega arith) h
+inside size ([] ∷ c ∷ blocks) line b bs calls lt h =
+    inside size (c ∷ blocks) line b bs calls (omega arith) h
 inside size ((l ∷ a) ∷ c ∷ blocks) line b bs [] lt h = absurd h
-inside size ((l ∷ a) ∷ c ∷ blocks) line b bs (d ∷ calls) lt h = inside size (c ∷ blocks) line b bs calls (omega arith) h.1
+inside size ((l ∷ a) ∷ c ∷ blocks) line b bs (d ∷ calls) lt h =
+    inside size (c ∷ blocks) line b bs calls (omega arith) h.1
 
 -- a line that isn't empty is an item for which its call has a place
-good : (size : ℕ) (before : Block) (line : Line) (after : Block) (calls : List (List Item)) → is_blank line ≡ false → SpellsCalls size (before ++ line ∷ after) calls → Has size (open_block before) line
+good : (size : ℕ) (before : Block) (line : Line) (after : Block) (calls : List (List Item))
+    → is_blank line ≡ false → SpellsCalls size (before ++ line ∷ after) calls
+    → Has size (open_block before) line
 good size before line after calls keeps h =
     let parts = some_list (blocks_of after) (some_part is_blank after) in
     inside size (blocks_of before) line parts.0 parts.1 calls (some_part is_blank before) (subst (λ (l : List Block). AreCalls size l calls) (split_among is_blank before line after parts.0 parts.1 keeps parts.2) h)
 
 -- the line is faulty behind these lines
 abbrev IsFaulty : ℕ → Block → Line → Type 0
-IsFaulty size before line = IsBadLine size line ⊎ ((i : Item) × IsItemLine size line i × (size ≤ length (open_block before)))
+IsFaulty size before line = IsBadLine size line
+    ⊎ ((i : Item) × IsItemLine size line i × (size ≤ length (open_block before)))
 
 not_blank : (line : Line) → (line ≡ [] → ⊥) → is_blank line ≡ false
 not_blank [] some = absurd (some refl)
 not_blank (b ∷ line) some = ne_eqb (length (b ∷ line)) 0 (λ e. omega arith)
 
-no_fault : (size : ℕ) (before : Block) (line : Line) (after : Block) (calls : List (List Item)) → SpellsCalls size (before ++ line ∷ after) calls → IsFaulty size before line → ⊥
+no_fault : (size : ℕ) (before : Block) (line : Line) (after : Block) (calls : List (List Item))
+    → SpellsCalls size (before ++ line ∷ after) calls → IsFaulty size before line → ⊥
 no_fault size before line after calls h (inl bad) =
     let g = good size before line after calls (not_blank line bad.some) h in
     bad.none g.0 g.1
@@ -135,9 +152,11 @@ heads x y a b e = cc
 tails : (x y : Line) (a b : Block) → x ∷ a ≡ y ∷ b → a ≡ b
 tails x y a b e = cc
 
-places : (b : Block) (l : Line) (a c : Block) (m : Line) (d : Block) → b ++ l ∷ a ≡ c ++ m ∷ d → ((b ≡ c) × (l ≡ m)) ⊎ (((x : Block) × (c ≡ b ++ l ∷ x)) ⊎ ((x : Block) × (b ≡ c ++ m ∷ x)))
+places : (b : Block) (l : Line) (a c : Block) (m : Line) (d : Block) → b ++ l ∷ a ≡ c ++ m ∷ d
+    → ((b ≡ c) × (l ≡ m)) ⊎ (((x : Block) × (c ≡ b ++ l ∷ x)) ⊎ ((x : Block) × (b ≡ c ++ m ∷ x)))
 places [] l a [] m d e = inl (refl, heads l m a d e)
-places [] l a (y ∷ c) m d e = inr (inl (c, ap (λ (x : Line). x ∷ c) (sym (heads l y a (c ++ m ∷ d) e))))
+places [] l a (y ∷ c) m d e =
+    inr (inl (c, ap (λ (x : Line). x ∷ c) (sym (heads l y a (c ++ m ∷ d) e))))
 places (x ∷ b) l a [] m d e = inr (inr (b, ap (λ (z : Line). z ∷ b) (heads x m (b ++ l ∷ a) d e)))
 places (x ∷ b) l a (y ∷ c) m d e =
     let same : x ≡ y = heads x y (b ++ l ∷ a) (c ++ m ∷ d) e in
@@ -149,7 +168,9 @@ places (x ∷ b) l a (y ∷ c) m d e =
       ]
     ]
 
-same_place : (size : ℕ) (lines : Block) (j k : ℕ) (r : Reaches size lines j) (s : Reaches size lines k) → IsFaulty size r.before r.line → IsFaulty size s.before s.line → (j ≡ k) × (r.before ≡ s.before) × (r.line ≡ s.line)
+same_place : (size : ℕ) (lines : Block) (j k : ℕ) (r : Reaches size lines j) (s : Reaches size lines k)
+    → IsFaulty size r.before r.line → IsFaulty size s.before s.line
+    → (j ≡ k) × (r.before ≡ s.before) × (r.line ≡ s.line)
 same_place size lines j k r s f g =
     elim (places r.before r.line r.after s.before s.line s.after (sym r.all ∙ s.all)) [
       | inl p ↦ (r.number ∙ ap (λ (b : Block). length b + 1) p.0 ∙ sym s.number, p.0, p.1)
@@ -159,12 +180,14 @@ same_place size lines j k r s f g =
       ]
     ]
 
-not_both : (size : ℕ) (lines : Block) (j k : ℕ) → IsBadFirst size lines j → IsLongFirst size lines k → ⊥
+not_both : (size : ℕ) (lines : Block) (j k : ℕ) → IsBadFirst size lines j → IsLongFirst size lines k
+    → ⊥
 not_both size lines j k h l =
     let same = same_place size lines j k h.0 l.0 (inl h.1) (inr (l.1, l.2, l.3)) in
     h.1.none l.1 (subst (λ (x : Line). IsItemLine size x l.1) (sym same.2) l.2)
 
-not_calls : (size : ℕ) (lines : Block) (calls : List (List Item)) (k : ℕ) (r : Reaches size lines k) → IsFaulty size r.before r.line → SpellsCalls size lines calls → ⊥
+not_calls : (size : ℕ) (lines : Block) (calls : List (List Item)) (k : ℕ) (r : Reaches size lines k)
+    → IsFaulty size r.before r.line → SpellsCalls size lines calls → ⊥
 not_calls size lines calls k r f h = no_fault size r.before r.line r.after calls (subst (λ (b : Block). SpellsCalls size b calls) r.all h) f
 
 abbrev made : PlayFault → Told
@@ -173,16 +196,24 @@ made f = Err f
 abbrev spelled : List (List Item) → Told
 spelled calls = Ok calls
 
-lines_once : (size : ℕ) (lines : Block) (a b : Told) → Tells size lines a → Tells size lines b → a ≡ b
+lines_once : (size : ℕ) (lines : Block) (a b : Told) → Tells size lines a → Tells size lines b
+    → a ≡ b
 lines_once size lines (Ok a) (Ok b) h k = ap spelled (calls_once size (blocks_of lines) a b h k)
-lines_once size lines (Ok a) (Err (fault.Line j)) h k = absurd (not_calls size lines a j k.0 (inl k.1) h)
-lines_once size lines (Ok a) (Err (fault.Long j)) h k = absurd (not_calls size lines a j k.0 (inr (k.1, k.2, k.3)) h)
-lines_once size lines (Err (fault.Line i)) (Ok b) h k = absurd (not_calls size lines b i h.0 (inl h.1) k)
-lines_once size lines (Err (fault.Long i)) (Ok b) h k = absurd (not_calls size lines b i h.0 (inr (h.1, h.2, h.3)) k)
-lines_once size lines (Err (fault.Line i)) (Err (fault.Line j)) h k = ap (λ (n : ℕ). made (fault.Line n)) (same_place size lines i j h.0 k.0 (inl h.1) (inl k.1)).0
+lines_once size lines (Ok a) (Err (fault.Line j)) h k =
+    absurd (not_calls size lines a j k.0 (inl k.1) h)
+lines_once size lines (Ok a) (Err (fault.Long j)) h k =
+    absurd (not_calls size lines a j k.0 (inr (k.1, k.2, k.3)) h)
+lines_once size lines (Err (fault.Line i)) (Ok b) h k =
+    absurd (not_calls size lines b i h.0 (inl h.1) k)
+lines_once size lines (Err (fault.Long i)) (Ok b) h k =
+    absurd (not_calls size lines b i h.0 (inr (h.1, h.2, h.3)) k)
+lines_once size lines (Err (fault.Line i)) (Err (fault.Line j)) h k =
+    ap (λ (n : ℕ). made (fault.Line n)) (same_place size lines i j h.0 k.0 (inl h.1) (inl k.1)).0
 lines_once size lines (Err (fault.Long i)) (Err (fault.Long j)) h k = ap (λ (n : ℕ). made (fault.Long n)) (same_place size lines i j h.0 k.0 (inr (h.1, h.2, h.3)) (inr (k.1, k.2, k.3))).0
-lines_once size lines (Err (fault.Line i)) (Err (fault.Long j)) h k = absurd (not_both size lines i j h k)
-lines_once size lines (Err (fault.Long i)) (Err (fault.Line j)) h k = absurd (not_both size lines j i k h)
+lines_once size lines (Err (fault.Line i)) (Err (fault.Long j)) h k =
+    absurd (not_both size lines i j h k)
+lines_once size lines (Err (fault.Long i)) (Err (fault.Line j)) h k =
+    absurd (not_both size lines j i k h)
 lines_once size lines (Err fault.Read) b h k = absurd h
 lines_once size lines (Err fault.Write) b h k = absurd h
 lines_once size lines (Err fault.Memory) b h k = absurd h
@@ -190,11 +221,13 @@ lines_once size lines a (Err fault.Read) h k = absurd k
 lines_once size lines a (Err fault.Write) h k = absurd k
 lines_once size lines a (Err fault.Memory) h k = absurd k
 
-one_list : (bytes : List ℕ) (lines others : Block) → HasLines bytes lines → HasLines bytes others → lines ≡ others
+one_list : (bytes : List ℕ) (lines others : Block) → HasLines bytes lines → HasLines bytes others
+    → lines ≡ others
 one_list bytes lines others h k =
     let same = split_once bytes h.ended k.ended h.rest k.rest h.splits k.splits in
     h.all ∙ ap (λ (l : Block). reverse (with_last l h.rest)) same.0 ∙ ap (λ (l : Line). reverse (with_last k.ended l)) same.1 ∙ sym k.all
 
 -- bytes tell one thing at most
-pub told_once : (size : ℕ) (bytes : List ℕ) (a b : Told) → IsTold size bytes a → IsTold size bytes b → a ≡ b
+pub told_once : (size : ℕ) (bytes : List ℕ) (a b : Told) → IsTold size bytes a → IsTold size bytes b
+    → a ≡ b
 told_once size bytes a b h k = lines_once size k.0 a b (subst (λ (l : Block). Tells size l a) (one_list bytes h.0 k.0 h.1 k.1) h.2) k.2

@@ -22,7 +22,10 @@ use Rattle.uring_play_text.specs.Scripts.{Gathers, IsEarly, Returns}
 use Rattle.uring_play_text.specs.Readings.{Holds, Has, TakesIn, ReadsIn}
 
 -- what is given of a kept line
-pub given_of : (kept : KeptLine) (given : Option (Bor (List ℕ))) → ((line : List ℕ) → kept ≡ kept_of line → MatchOption given (300 < length line) (λ bytes. bytes.now ≡ line)) → IfSome given (λ bytes. length bytes.now ≤ 300) → (line : List ℕ) → kept ≡ kept_of line → IsGiven line given
+pub given_of : (kept : KeptLine) (given : Option (Bor (List ℕ)))
+    → ((line : List ℕ) → kept ≡ kept_of line → MatchOption given (300 < length line) (λ bytes. bytes.now ≡ line))
+    → IfSome given (λ bytes. length bytes.now ≤ 300) → (line : List ℕ) → kept ≡ kept_of line
+    → IsGiven line given
 given_of kept None is short line e = is line e
 given_of kept (Some bytes) is short line e =
     let same : bytes.now ≡ line = is line e in
@@ -30,10 +33,13 @@ given_of kept (Some bytes) is short line e =
 
 -- what a script makes of one line more
 abbrev pub Takes : Option (Bor (List ℕ)) → Script → Script → Type 0
-Takes given old new = (size : ℕ) (lines : List (List ℕ)) (text : List ℕ) → IsGiven text given → Gathers size lines old → Gathers size (lines ++ text ∷ []) new
+Takes given old new = (size : ℕ) (lines : List (List ℕ)) (text : List ℕ) → IsGiven text given
+    → Gathers size lines old → Gathers size (lines ++ text ∷ []) new
 
 -- the end of a line
-pub took_line : (size : ℕ) (kept : KeptLine) (old new : Script) (given : Option (Bor (List ℕ))) (before : List ℕ) → ((line : List ℕ) → kept ≡ kept_of line → IsGiven line given) → Takes given old new → Holds size kept old before → Holds size (kept_of []) new (before ++ 10 ∷ [])
+pub took_line : (size : ℕ) (kept : KeptLine) (old new : Script) (given : Option (Bor (List ℕ))) (before : List ℕ)
+    → ((line : List ℕ) → kept ≡ kept_of line → IsGiven line given) → Takes given old new
+    → Holds size kept old before → Holds size (kept_of []) new (before ++ 10 ∷ [])
 took_line size kept old new given before is takes h = record {
   ended = h.line ∷ h.ended;
   line = [];
@@ -47,7 +53,8 @@ took_line size kept old new given before is takes h = record {
 abbrev Answer : Type 0
 Answer = Result (Vec (Vec Item Global) Global) PlayFault
 
-returned : (size : ℕ) (bytes : List ℕ) (lines : List (List ℕ)) (answer : Answer) → HasLines bytes lines → Returns size lines answer → IsReturned size bytes answer
+returned : (size : ℕ) (bytes : List ℕ) (lines : List (List ℕ)) (answer : Answer)
+    → HasLines bytes lines → Returns size lines answer → IsReturned size bytes answer
 returned size bytes lines (Ok calls) are h = (lines, are, h)
 returned size bytes lines (Err (fault.Line k)) are h = (lines, are, h)
 returned size bytes lines (Err (fault.Long k)) are h = (lines, are, h)
@@ -56,8 +63,11 @@ returned size bytes lines (Err fault.Memory) are h = tt
 returned size bytes lines (Err fault.Write) are h = absurd h
 
 -- a last line that has begun
-pub ended_last : (size : ℕ) (kept : KeptLine) (old new : Script) (given : Option (Bor (List ℕ))) (answer : Answer) (bytes : List ℕ) → ((line : List ℕ) → kept ≡ kept_of line → IsGiven line given) → ((line : List ℕ) → kept ≡ kept_of line → line ≢ []) → Takes given old new
-    → ((size : ℕ) (lines : List (List ℕ)) → Gathers size lines new → Returns size lines answer) → Holds size kept old bytes → IsReturned size bytes answer
+pub ended_last : (size : ℕ) (kept : KeptLine) (old new : Script) (given : Option (Bor (List ℕ))) (answer : Answer) (bytes : List ℕ)
+    → ((line : List ℕ) → kept ≡ kept_of line → IsGiven line given)
+    → ((line : List ℕ) → kept ≡ kept_of line → line ≢ []) → Takes given old new
+    → ((size : ℕ) (lines : List (List ℕ)) → Gathers size lines new → Returns size lines answer)
+    → Holds size kept old bytes → IsReturned size bytes answer
 ended_last size kept old new given answer bytes is some takes ends h =
     let lines : List (List ℕ) = reverse (h.line ∷ h.ended) in
     let all : reverse (with_last h.ended h.line) ≡ reverse (h.line ∷ h.ended) = ap (λ (l : List (List ℕ)). reverse l) (last_some h.ended h.line (some h.line h.keeps)) in
@@ -65,13 +75,17 @@ ended_last size kept old new given answer bytes is some takes ends h =
     returned size bytes (reverse (h.line ∷ h.ended)) answer (record { ended = h.ended; rest = h.line; splits = h.splits; all = sym all }) (ends size (reverse (h.line ∷ h.ended)) gathers)
 
 -- no last line has begun
-pub ended_none : (size : ℕ) (kept : KeptLine) (script : Script) (answer : Answer) (bytes : List ℕ) → ((line : List ℕ) → kept ≡ kept_of line → line ≡ []) → ((size : ℕ) (lines : List (List ℕ)) → Gathers size lines script → Returns size lines answer) → Holds size kept script bytes → IsReturned size bytes answer
+pub ended_none : (size : ℕ) (kept : KeptLine) (script : Script) (answer : Answer) (bytes : List ℕ)
+    → ((line : List ℕ) → kept ≡ kept_of line → line ≡ [])
+    → ((size : ℕ) (lines : List (List ℕ)) → Gathers size lines script → Returns size lines answer)
+    → Holds size kept script bytes → IsReturned size bytes answer
 ended_none size kept script answer bytes none ends h =
     let all : reverse (with_last h.ended h.line) ≡ reverse h.ended = ap (λ (l : List ℕ). reverse (with_last h.ended l)) (none h.line h.keeps) in
     returned size bytes (reverse h.ended) answer (record { ended = h.ended; rest = h.line; splits = h.splits; all = sym all }) (ends size (reverse h.ended) h.gathers)
 
 -- a fault that comes early says nothing of lines
-pub early_returned : (size : ℕ) (bytes : List ℕ) (f : PlayFault) → IsEarly f → IsReturned size bytes (Err f)
+pub early_returned : (size : ℕ) (bytes : List ℕ) (f : PlayFault) → IsEarly f
+    → IsReturned size bytes (Err f)
 early_returned size bytes fault.Read h = tt
 early_returned size bytes fault.Memory h = tt
 early_returned size bytes fault.Write h = absurd h
@@ -88,28 +102,36 @@ abbrev pub So : ℕ → Known → Known → Reading → Type 0
 So size a r s = (bytes : List ℕ) × Consumes a r bytes × Has size s bytes
 
 -- a read that was interrupted
-pub tried_again : (size : ℕ) (a r r' : Known) (s : Reading) → Keeps r r' → So size a r s → So size a r' s
+pub tried_again : (size : ℕ) (a r r' : Known) (s : Reading) → Keeps r r' → So size a r s
+    → So size a r' s
 tried_again size a r r' s h so = (so.0, Consumes-kept a r r' so.0 so.1 h, so.2)
 
 -- bytes that were taken in
-pub goes_on : (size : ℕ) (a r r' : Known) (s s' : Reading) (more : List ℕ) → Consumes r r' more → ((size : ℕ) (before : List ℕ) → Has size s before → Has size s' (before ++ more)) → So size a r s → So size a r' s'
-goes_on size a r r' s s' more read took so = (so.0 ++ more, Consumes-trans a r r' so.0 more so.1 read, took size so.0 so.2)
+pub goes_on : (size : ℕ) (a r r' : Known) (s s' : Reading) (more : List ℕ) → Consumes r r' more
+    → ((size : ℕ) (before : List ℕ) → Has size s before → Has size s' (before ++ more))
+    → So size a r s → So size a r' s'
+goes_on size a r r' s s' more read took so =
+    (so.0 ++ more, Consumes-trans a r r' so.0 more so.1 read, took size so.0 so.2)
 
 -- bytes that were not
-pub not_taken : (size : ℕ) (answer : Result (Unit {0}) PlayFault) (f : PlayFault) (a r r' : Known) (s s' : Reading) (more : List ℕ) → answer ≡ Err f → IsEarly f → Consumes r r' more → So size a r s → ReadsIn size answer a r' s'
+pub not_taken : (size : ℕ) (answer : Result (Unit {0}) PlayFault) (f : PlayFault) (a r r' : Known) (s s' : Reading) (more : List ℕ)
+    → answer ≡ Err f → IsEarly f → Consumes r r' more → So size a r s → ReadsIn size answer a r' s'
 not_taken size answer f a r r' s s' more is early read so = (so.0 ++ more, Consumes-trans a r r' so.0 more so.1 read, subst (λ (x : Result (Unit {0}) PlayFault). TakesIn size x r' s' (so.0 ++ more)) (sym is) early)
 
 -- the end of the input
-pub all_read : (size : ℕ) (a r r' : Known) (s : Reading) → Consumes r r' [] → IsAtEnd r' → So size a r s → (bytes : List ℕ) × Consumes a r' bytes × (Has size s bytes × IsAtEnd r')
+pub all_read : (size : ℕ) (a r r' : Known) (s : Reading) → Consumes r r' [] → IsAtEnd r'
+    → So size a r s → (bytes : List ℕ) × Consumes a r' bytes × (Has size s bytes × IsAtEnd r')
 all_read size a r r' s read end so = (so.0 ++ [], Consumes-trans a r r' so.0 [] so.1 read, (subst (Has size s) (sym (append-nil so.0)) so.2, end))
 
 -- no further read
-pub read_failed : (size : ℕ) (a r : Known) (s : Reading) → So size a r s → (bytes : List ℕ) × Consumes a r bytes × Unit {0}
+pub read_failed : (size : ℕ) (a r : Known) (s : Reading) → So size a r s
+    → (bytes : List ℕ) × Consumes a r bytes × Unit {0}
 read_failed size a r s so = (so.0, so.1, tt)
 
 -- ---- all calls
 
-ends_at : (answer : Answer) (size : ℕ) (bytes : List ℕ) (left : Known) → IsReturned size bytes answer → IsAtEnd left → ReadsAll answer left
+ends_at : (answer : Answer) (size : ℕ) (bytes : List ℕ) (left : Known)
+    → IsReturned size bytes answer → IsAtEnd left → ReadsAll answer left
 ends_at (Ok calls) size bytes left h end = end
 ends_at (Err (fault.Line k)) size bytes left h end = end
 ends_at (Err (fault.Long k)) size bytes left h end = end
@@ -117,7 +139,10 @@ ends_at (Err fault.Read) size bytes left h end = tt
 ends_at (Err fault.Memory) size bytes left h end = tt
 ends_at (Err fault.Write) size bytes left h end = absurd h
 
-pub whole_read : (setup : Setup) (answer : Answer) (a r : Known) (s : Reading) → ((size : ℕ) (bytes : List ℕ) → Has size s bytes → IsReturned size bytes answer) → (bytes : List ℕ) × Consumes a r bytes × (Has setup.sq s bytes × IsAtEnd r) → ReadsCalls setup answer a r
+pub whole_read : (setup : Setup) (answer : Answer) (a r : Known) (s : Reading)
+    → ((size : ℕ) (bytes : List ℕ) → Has size s bytes → IsReturned size bytes answer)
+    → (bytes : List ℕ) × Consumes a r bytes × (Has setup.sq s bytes × IsAtEnd r)
+    → ReadsCalls setup answer a r
 whole_read setup answer a r s ends so =
     let told : IsReturned setup.sq so.0 answer = ends setup.sq so.0 so.2.0 in
     record { bytes = so.0; consumed = so.1; returned = told; whole = ends_at answer setup.sq so.0 r told so.2.1 }
@@ -129,7 +154,8 @@ early_all fault.Write left h = absurd h
 early_all (fault.Line k) left h = absurd h
 early_all (fault.Long k) left h = absurd h
 
-pub stopped : (setup : Setup) (answer : Answer) (f : PlayFault) (a r : Known) (s : Reading) → answer ≡ Err f → ReadsIn setup.sq (Err f) a r s → ReadsCalls setup answer a r
+pub stopped : (setup : Setup) (answer : Answer) (f : PlayFault) (a r : Known) (s : Reading)
+    → answer ≡ Err f → ReadsIn setup.sq (Err f) a r s → ReadsCalls setup answer a r
 stopped setup answer f a r s is so =
     let told : ReadsCalls setup (Err f) a r = record { bytes = so.0; consumed = so.1; returned = early_returned setup.sq so.0 f so.2; whole = early_all f r so.2 } in
     subst (λ (x : Answer). ReadsCalls setup x a r) (sym is) told

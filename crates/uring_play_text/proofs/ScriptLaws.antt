@@ -18,11 +18,14 @@ pub at_start : (size : ℕ) → Goes size [] 0 [] []
 at_start size = record { number_is = refl; ended = []; last = []; blocks = refl; calls_are = tt; call_is = record { lines_are = tt; fits = omega arith } }
 
 -- the calls so far
-pub so_far : (size : ℕ) (lines : List (List ℕ)) (n : ℕ) (calls : List (List Item)) (call : List Item) → Goes size lines n calls call → SpellsCalls size lines (calls ++ one_call call)
+pub so_far : (size : ℕ) (lines : List (List ℕ)) (n : ℕ) (calls : List (List Item)) (call : List Item)
+    → Goes size lines n calls call → SpellsCalls size lines (calls ++ one_call call)
 so_far size lines n calls call h = subst (λ (b : List (List (List ℕ))). AreCalls size b (calls ++ one_call call)) (sym h.blocks) (calls_more size h.ended calls h.last call h.calls_are h.call_is)
 
 -- an empty line
-pub blank_more : (size : ℕ) (lines : List (List ℕ)) (line : List ℕ) (n : ℕ) (calls : List (List Item)) (call : List Item) → line ≡ [] → Goes size lines n calls call → Goes size (lines ++ line ∷ []) (n + 1) (calls ++ one_call call) []
+pub blank_more : (size : ℕ) (lines : List (List ℕ)) (line : List ℕ) (n : ℕ) (calls : List (List Item)) (call : List Item)
+    → line ≡ [] → Goes size lines n calls call
+    → Goes size (lines ++ line ∷ []) (n + 1) (calls ++ one_call call) []
 blank_more size lines line n calls call none h = record {
   number_is = omega (arith, h.number_is, length-append lines (line ∷ []));
   ended = h.ended ++ h.last ∷ [];
@@ -33,7 +36,9 @@ blank_more size lines line n calls call none h = record {
 }
 
 -- an item
-pub item_more : (size : ℕ) (lines : List (List ℕ)) (line : List ℕ) (n : ℕ) (calls : List (List Item)) (call : List Item) (i : Item) → IsItemLine size line i → length call < size → Goes size lines n calls call → Goes size (lines ++ line ∷ []) (n + 1) calls (call ++ i ∷ [])
+pub item_more : (size : ℕ) (lines : List (List ℕ)) (line : List ℕ) (n : ℕ) (calls : List (List Item)) (call : List Item) (i : Item)
+    → IsItemLine size line i → length call < size → Goes size lines n calls call
+    → Goes size (lines ++ line ∷ []) (n + 1) calls (call ++ i ∷ [])
 item_more size lines line n calls call i is lt h = record {
   number_is = omega (arith, h.number_is, length-append lines (line ∷ []));
   ended = h.ended;
@@ -44,7 +49,8 @@ item_more size lines line n calls call i is lt h = record {
 }
 
 -- the next line, as one that is reached
-abbrev reached : (size : ℕ) (lines : List (List ℕ)) (line : List ℕ) (n : ℕ) (calls : List (List Item)) (call : List Item) → Goes size lines n calls call → Reaches size (lines ++ line ∷ []) (n + 1)
+abbrev reached : (size : ℕ) (lines : List (List ℕ)) (line : List ℕ) (n : ℕ) (calls : List (List Item)) (call : List Item)
+    → Goes size lines n calls call → Reaches size (lines ++ line ∷ []) (n + 1)
 reached size lines line n calls call h = record {
   before = lines;
   line = line;
@@ -56,18 +62,23 @@ reached size lines line n calls call h = record {
 }
 
 -- a bad line
-pub bad_first : (size : ℕ) (lines : List (List ℕ)) (line : List ℕ) (n : ℕ) (calls : List (List Item)) (call : List Item) → IsBadLine size line → Goes size lines n calls call → IsBadFirst size (lines ++ line ∷ []) (n + 1)
+pub bad_first : (size : ℕ) (lines : List (List ℕ)) (line : List ℕ) (n : ℕ) (calls : List (List Item)) (call : List Item)
+    → IsBadLine size line → Goes size lines n calls call
+    → IsBadFirst size (lines ++ line ∷ []) (n + 1)
 bad_first size lines line n calls call bad h = (reached size lines line n calls call h, bad)
 
 -- an item past the room
-pub long_first : (size : ℕ) (lines : List (List ℕ)) (line : List ℕ) (n : ℕ) (calls : List (List Item)) (call : List Item) (i : Item) → IsItemLine size line i → size ≤ length call → Goes size lines n calls call → IsLongFirst size (lines ++ line ∷ []) (n + 1)
+pub long_first : (size : ℕ) (lines : List (List ℕ)) (line : List ℕ) (n : ℕ) (calls : List (List Item)) (call : List Item) (i : Item)
+    → IsItemLine size line i → size ≤ length call → Goes size lines n calls call
+    → IsLongFirst size (lines ++ line ∷ []) (n + 1)
 long_first size lines line n calls call i is le h =
     let last : open_block lines ≡ h.last = ap last_block h.blocks ∙ last_of h.ended h.last in
     let size_is : length (open_block lines) ≡ length call = ap length last ∙ as_many size h.last call h.call_is.lines_are in
     (reached size lines line n calls call h, i, is, omega arith)
 
 -- a line behind the first faulty one
-abbrev reaches_more : (size : ℕ) (lines : List (List ℕ)) (line : List ℕ) (k : ℕ) → (r : Reaches size lines k) → Reaches size (lines ++ line ∷ []) k
+abbrev reaches_more : (size : ℕ) (lines : List (List ℕ)) (line : List ℕ) (k : ℕ)
+    → (r : Reaches size lines k) → Reaches size (lines ++ line ∷ []) k
 reaches_more size lines line k r = record {
   before = r.before;
   line = r.line;
@@ -78,7 +89,8 @@ reaches_more size lines line k r = record {
   faultless = r.faultless;
 }
 
-pub fault_stays : (size : ℕ) (lines : List (List ℕ)) (line : List ℕ) (f : PlayFault) → Tells size lines (Err f) → Tells size (lines ++ line ∷ []) (Err f)
+pub fault_stays : (size : ℕ) (lines : List (List ℕ)) (line : List ℕ) (f : PlayFault)
+    → Tells size lines (Err f) → Tells size (lines ++ line ∷ []) (Err f)
 fault_stays size lines line (fault.Line k) h = (reaches_more size lines line k h.0, h.1)
 fault_stays size lines line (fault.Long k) h = (reaches_more size lines line k h.0, h.1, h.2, h.3)
 fault_stays size lines line fault.Read h = absurd h
@@ -87,18 +99,27 @@ fault_stays size lines line fault.Memory h = absurd h
 
 -- ---- over scripts
 
-moved : (size : ℕ) (lines : List (List ℕ)) (f f' : Option PlayFault) (n n' : ℕ) (calls calls' : List (List Item)) (call call' : List Item) → f' ≡ f → n' ≡ n → calls' ≡ calls → call' ≡ call → IsAt size lines f n calls call → IsAt size lines f' n' calls' call'
+moved : (size : ℕ) (lines : List (List ℕ)) (f f' : Option PlayFault) (n n' : ℕ) (calls calls' : List (List Item)) (call call' : List Item)
+    → f' ≡ f → n' ≡ n → calls' ≡ calls → call' ≡ call → IsAt size lines f n calls call
+    → IsAt size lines f' n' calls' call'
 moved size lines f f' n n' calls calls' call call' a b c d h = rw (a, b, c, d) h
 
-goes : (size : ℕ) (lines : List (List ℕ)) (f : Option PlayFault) (n : ℕ) (calls : List (List Item)) (call : List Item) → f ≡ None → IsAt size lines f n calls call → Goes size lines n calls call
+goes : (size : ℕ) (lines : List (List ℕ)) (f : Option PlayFault) (n : ℕ) (calls : List (List Item)) (call : List Item)
+    → f ≡ None → IsAt size lines f n calls call → Goes size lines n calls call
 goes size lines f n calls call none h = rw none at h
 
-pub took_blank : (old new : Script) (number : ℕ) → old.fault ≡ None → number ≡ old.number + 1 → EndsCall (record old { number = number }) new → (size : ℕ) (lines : List (List ℕ)) (text : List ℕ) → text ≡ [] → Gathers size lines old → Gathers size (lines ++ text ∷ []) new
+pub took_blank : (old new : Script) (number : ℕ) → old.fault ≡ None → number ≡ old.number + 1
+    → EndsCall (record old { number = number }) new
+    → (size : ℕ) (lines : List (List ℕ)) (text : List ℕ) → text ≡ [] → Gathers size lines old
+    → Gathers size (lines ++ text ∷ []) new
 took_blank old new number none next e size lines text blank h =
     let g : Goes size lines old.number (lists_of old.calls.items) old.call.items = goes size lines old.fault _ _ _ none h.1 in
     (e.size ∙ h.0, moved size (lines ++ text ∷ []) None new.fault (old.number + 1) new.number _ _ [] _ (e.fault ∙ none) (e.number ∙ next) e.calls e.call (blank_more size lines text _ _ _ blank g))
 
-pub took_item : (old new : Script) (number : ℕ) (i : Item) → old.fault ≡ None → number ≡ old.number + 1 → Adds (record old { number = number }) new i → (size : ℕ) (lines : List (List ℕ)) (text : List ℕ) → IsItemLine old.size text i → Gathers size lines old → Gathers size (lines ++ text ∷ []) new
+pub took_item : (old new : Script) (number : ℕ) (i : Item) → old.fault ≡ None
+    → number ≡ old.number + 1 → Adds (record old { number = number }) new i
+    → (size : ℕ) (lines : List (List ℕ)) (text : List ℕ) → IsItemLine old.size text i
+    → Gathers size lines old → Gathers size (lines ++ text ∷ []) new
 took_item old new number i none next (inl a) size lines text is h =
     let g : Goes size lines old.number (lists_of old.calls.items) old.call.items = goes size lines old.fault _ _ _ none h.1 in
     let here : IsItemLine size text i = subst (λ (n : ℕ). IsItemLine n text i) h.0 is in
@@ -111,19 +132,24 @@ took_item old new number i none next (inr a) size lines text is h =
     let long : IsLongFirst size (lines ++ text ∷ []) number = subst (IsLongFirst size (lines ++ text ∷ [])) (sym next) (long_first size lines text _ _ _ i here full g) in
     (ap (λ (s : Script). s.size) a.1 ∙ h.0, moved size (lines ++ text ∷ []) (Some (fault.Long number)) new.fault _ new.number _ (lists_of new.calls.items) _ new.call.items (ap (λ (s : Script). s.fault) a.1) refl refl refl long)
 
-pub took_bad : (old : Script) (number : ℕ) → old.fault ≡ None → number ≡ old.number + 1 → (size : ℕ) (lines : List (List ℕ)) (text : List ℕ) → IsBadLine old.size text → Gathers size lines old → IsBadFirst size (lines ++ text ∷ []) number
+pub took_bad : (old : Script) (number : ℕ) → old.fault ≡ None → number ≡ old.number + 1
+    → (size : ℕ) (lines : List (List ℕ)) (text : List ℕ) → IsBadLine old.size text
+    → Gathers size lines old → IsBadFirst size (lines ++ text ∷ []) number
 took_bad old number none next size lines text bad h =
     let g : Goes size lines old.number (lists_of old.calls.items) old.call.items = goes size lines old.fault _ _ _ none h.1 in
     let here : IsBadLine size text = subst (λ (n : ℕ). IsBadLine n text) h.0 bad in
     subst (IsBadFirst size (lines ++ text ∷ [])) (sym next) (bad_first size lines text _ _ _ here g)
 
 -- a script with a fault keeps it
-pub stays : (size : ℕ) (lines : List (List ℕ)) (text : List ℕ) (f : Option PlayFault) (n : ℕ) (calls : List (List Item)) (call : List Item) → IsSome f → IsAt size lines f n calls call → IsAt size (lines ++ text ∷ []) f n calls call
+pub stays : (size : ℕ) (lines : List (List ℕ)) (text : List ℕ) (f : Option PlayFault) (n : ℕ) (calls : List (List Item)) (call : List Item)
+    → IsSome f → IsAt size lines f n calls call → IsAt size (lines ++ text ∷ []) f n calls call
 stays size lines text None n calls call some h = absurd cc
 stays size lines text (Some f) n calls call some h = fault_stays size lines text f h
 
 -- the end of the input
-pub ended : (old new : Script) → EndsCall old new → new.fault ≡ None → (size : ℕ) (lines : List (List ℕ)) → Gathers size lines old → SpellsCalls size lines (lists_of new.calls.items)
+pub ended : (old new : Script) → EndsCall old new → new.fault ≡ None
+    → (size : ℕ) (lines : List (List ℕ)) → Gathers size lines old
+    → SpellsCalls size lines (lists_of new.calls.items)
 ended old new e none size lines h =
     let g : Goes size lines old.number (lists_of old.calls.items) old.call.items = goes size lines old.fault _ _ _ (sym e.fault ∙ none) h.1 in
     subst (SpellsCalls size lines) (sym e.calls) (so_far size lines _ _ _ g)

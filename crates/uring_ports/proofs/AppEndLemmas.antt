@@ -11,18 +11,22 @@ use Rattle.uring_ports.specs.AppEnd.{AppEnd, IsAmiss, RefusesCall}
 use Rattle.uring_ports.specs.Items.{AreItems, published_as, all_published_as}
 
 -- each of them is one
-pub item_at : (size : ℕ) (items : List Item) (i : ℕ) (x : Item) → i < length items → x ≡ get_or items i x → AreItems size items → IsItem size (published_as x)
+pub item_at : (size : ℕ) (items : List Item) (i : ℕ) (x : Item) → i < length items
+    → x ≡ get_or items i x → AreItems size items → IsItem size (published_as x)
 item_at size items i x below at are_items =
     let here = All-get_or (IsItem size) (all_published_as items) i (published_as x) (omega (arith, length-map items published_as)) are_items in
     let P : Item → Type 0 = λ y. IsItem size (published_as y) in
     subst P (sym at) (rw (get_or-map published_as items i x (published_as x) below) at here)
 
 -- all of them, if those up to an index past the last are
-pub all_items : (size : ℕ) (items : List Item) (i : ℕ) → length items ≤ i → AreItems size (take i items) → AreItems size items
-all_items size items i all are_items = let P : List Item → Type 0 = λ l. AreItems size l in subst P (take_all i items all) are_items
+pub all_items : (size : ℕ) (items : List Item) (i : ℕ) → length items ≤ i
+    → AreItems size (take i items) → AreItems size items
+all_items size items i all are_items =
+    let P : List Item → Type 0 = λ l. AreItems size l in subst P (take_all i items all) are_items
 
 -- what is wrong with a call by itself refuses it at an open end
-pub amiss_refuses : (a : AppEnd) (items : List Item) (refusal : SubmitRefusal) → a.submitted.closed ≡ false → IsAmiss a.sizes.sq items refusal → RefusesCall a items refusal
+pub amiss_refuses : (a : AppEnd) (items : List Item) (refusal : SubmitRefusal)
+    → a.submitted.closed ≡ false → IsAmiss a.sizes.sq items refusal → RefusesCall a items refusal
 amiss_refuses a items submit.Closed open' amiss = absurd amiss
 amiss_refuses a items submit.Empty open' amiss = (open', amiss)
 amiss_refuses a items submit.TooLong open' amiss = (open', amiss)

@@ -10,11 +10,18 @@ use Rattle.uring_ports.proofs.MessageLemmas.{items_before-snoc}
 use Rattle.uring_ports.proofs.MessageSteps.{Sent, sends_call, sends_close, item_may_follow, next_item, next_close, owed-snoc}
 
 -- the next item of a call may be sent
-pub may_send : (ms past : List Message) (items : List Item) (i n : ℕ) (x : Item) → has_close_mark ms ≡ false → owed ms ≡ 0 → length items - i ≡ suc n → past ≡ ms ++ items_before (length items - i) (take i items) → MayFollow past (item_before n x)
-may_send ms past items i n x open' none left is = let is' = rw left at is in rw is' (item_may_follow ms n (take i items) x open' none)
+pub may_send : (ms past : List Message) (items : List Item) (i n : ℕ) (x : Item)
+    → has_close_mark ms ≡ false → owed ms ≡ 0 → length items - i ≡ suc n
+    → past ≡ ms ++ items_before (length items - i) (take i items) → MayFollow past (item_before n x)
+may_send ms past items i n x open' none left is =
+    let is' = rw left at is in rw is' (item_may_follow ms n (take i items) x open' none)
 
 -- and then one item more is sent
-pub sends_item : (ms past : List Message) (items : List Item) (i n : ℕ) (x : Item) → i < length items → x ≡ get_or items i x → length items - i ≡ suc n → past ≡ ms ++ items_before (length items - i) (take i items) → past ++ item_before n x ∷ [] ≡ ms ++ items_before (length items - (i + 1)) (take (i + 1) items)
+pub sends_item : (ms past : List Message) (items : List Item) (i n : ℕ) (x : Item)
+    → i < length items → x ≡ get_or items i x → length items - i ≡ suc n
+    → past ≡ ms ++ items_before (length items - i) (take i items)
+    → past ++ item_before n x ∷ []
+    ≡ ms ++ items_before (length items - (i + 1)) (take (i + 1) items)
 sends_item ms past items i n x below at left is =
     let is' = rw left at is in
     let next : length items - (i + 1) ≡ n = omega arith in
@@ -26,7 +33,9 @@ sends_item ms past items i n x below at left is =
     ∙ ap (λ k. ms ++ items_before k (take (i + 1) items)) (sym next)
 
 -- one item more is taken
-pub takes_item : (before past : List Message) (items : List Item) (left n : ℕ) (m : Message) → left ≡ suc n → owed past ≡ left → MayFollow past m → past ≡ before ++ items_before left items → past ++ m ∷ [] ≡ before ++ items_before n (items ++ m.item ∷ [])
+pub takes_item : (before past : List Message) (items : List Item) (left n : ℕ) (m : Message)
+    → left ≡ suc n → owed past ≡ left → MayFollow past m → past ≡ before ++ items_before left items
+    → past ++ m ∷ [] ≡ before ++ items_before n (items ++ m.item ∷ [])
 takes_item before past items left n m more owes may is =
     let is' = rw more at is in
     ap (λ x. past ++ x ∷ []) (next_item past m n (owes ∙ more) may)
@@ -35,23 +44,30 @@ takes_item before past items left n m more owes may is =
     ∙ ap (λ l. before ++ l) (items_before-snoc n items m.item)
 
 -- and one item less is owed
-pub owes_less : (past : List Message) (n : ℕ) (m : Message) → owed past ≡ suc n → MayFollow past m → owed (past ++ m ∷ []) ≡ n
+pub owes_less : (past : List Message) (n : ℕ) (m : Message) → owed past ≡ suc n → MayFollow past m
+    → owed (past ++ m ∷ []) ≡ n
 owes_less past n m owes may = owed-snoc past m ∙ ap (λ x. x.left) (next_item past m n owes may)
 
 -- the message at the head of the lane is the one that a pop takes
-pub same_head : (known rest : List Message) (seen taken : Message) → IsPrefix (seen ∷ []) known → known ≡ taken ∷ rest → taken ≡ seen
+pub same_head : (known rest : List Message) (seen taken : Message) → IsPrefix (seen ∷ []) known
+    → known ≡ taken ∷ rest → taken ≡ seen
 same_head known rest seen taken prefix popped = cc (prefix.1, popped)
 
 -- the first item of a call is taken
-pub takes_first : (past : List Message) (m : Message) (items : List Item) → m.closes ≡ false → items ≡ m.item ∷ [] → past ++ m ∷ [] ≡ past ++ items_before m.left items
+pub takes_first : (past : List Message) (m : Message) (items : List Item) → m.closes ≡ false
+    → items ≡ m.item ∷ [] → past ++ m ∷ [] ≡ past ++ items_before m.left items
 takes_first past m items goes_on is =
     let item : m ≡ item_before m.left m.item = ap (λ b. record { item = m.item; left = m.left; closes = b }) goes_on in
     rw (is, zero-add) (ap (λ x. past ++ x ∷ []) item)
 
 -- the close mark is taken
-pub takes_close : (ms after : List Message) (m : Message) → AreWhole ms → MayFollow ms m → m.closes ≡ true → after ≡ ms ++ m ∷ [] → Sent after (with_close (put_of ms))
-takes_close ms after m are_whole may closes is = rw (is, next_close ms m are_whole may closes) (sends_close ms are_whole may.0)
+pub takes_close : (ms after : List Message) (m : Message) → AreWhole ms → MayFollow ms m
+    → m.closes ≡ true → after ≡ ms ++ m ∷ [] → Sent after (with_close (put_of ms))
+takes_close ms after m are_whole may closes is =
+    rw (is, next_close ms m are_whole may closes) (sends_close ms are_whole may.0)
 
 -- a whole call is taken
-pub takes_call : (ms after : List Message) (items : List Item) → AreWhole ms → has_close_mark ms ≡ false → 0 < length items → after ≡ ms ++ items_before 0 items → Sent after (with_call (put_of ms) items)
+pub takes_call : (ms after : List Message) (items : List Item) → AreWhole ms
+    → has_close_mark ms ≡ false → 0 < length items → after ≡ ms ++ items_before 0 items
+    → Sent after (with_call (put_of ms) items)
 takes_call ms after items are_whole open' some is = rw is (sends_call ms items are_whole open' some)

@@ -11,11 +11,13 @@ use Rattle.uring_ports.specs.Messages.{close_mark, item_before, items_before, me
 use Rattle.uring_ports.proofs.MessageLemmas.{AreSome, some-calls_of, some-append, calls_of-calls, stands, whole, length-messages_of, owed_from-append, owed_from-items, owed-calls}
 
 -- whole messages with no close mark are those of their calls
-pub open_calls : (ms : List Message) → AreWhole ms → has_close_mark ms ≡ false → ms ≡ messages_of_calls (calls_of ms)
+pub open_calls : (ms : List Message) → AreWhole ms → has_close_mark ms ≡ false
+    → ms ≡ messages_of_calls (calls_of ms)
 open_calls ms are_whole open' = sym are_whole ∙ ap (λ b. messages_of_calls (calls_of ms) ++ (if b then close_mark ∷ [] else [])) open' ∙ append-nil (messages_of_calls (calls_of ms))
 
 -- with one they are those of their calls and the mark
-pub closed_calls : (ms : List Message) → AreWhole ms → has_close_mark ms ≡ true → ms ≡ messages_of_calls (calls_of ms) ++ close_mark ∷ []
+pub closed_calls : (ms : List Message) → AreWhole ms → has_close_mark ms ≡ true
+    → ms ≡ messages_of_calls (calls_of ms) ++ close_mark ∷ []
 closed_calls ms are_whole closed = sym are_whole ∙ ap (λ b. messages_of_calls (calls_of ms) ++ (if b then close_mark ∷ [] else [])) closed
 
 -- nothing is owed behind whole messages with no close mark
@@ -35,7 +37,9 @@ pub record Sent (ms : List Message) (p : Put) : Type 0 where
   pub put : put_of ms ≡ p
   pub whole : AreWhole ms
 
-messages-with_call : (ms : List Message) (items : List Item) → AreWhole ms → has_close_mark ms ≡ false → ms ++ items_before 0 items ≡ messages_of (with_call (put_of ms) items)
+messages-with_call : (ms : List Message) (items : List Item) → AreWhole ms
+    → has_close_mark ms ≡ false
+    → ms ++ items_before 0 items ≡ messages_of (with_call (put_of ms) items)
 messages-with_call ms items are_whole open' =
     ap (λ l. l ++ items_before 0 items) (open_calls ms are_whole open')
     ∙ ap (λ l. messages_of_calls (calls_of ms) ++ l) (sym (append-nil (items_before 0 items)))
@@ -44,19 +48,22 @@ messages-with_call ms items are_whole open' =
     ∙ ap (λ b. messages_of_calls (calls_of ms ++ items ∷ []) ++ (if b then close_mark ∷ [] else [])) (sym open')
 
 -- a call more
-pub sends_call : (ms : List Message) (items : List Item) → AreWhole ms → has_close_mark ms ≡ false → 0 < length items → Sent (ms ++ items_before 0 items) (with_call (put_of ms) items)
+pub sends_call : (ms : List Message) (items : List Item) → AreWhole ms → has_close_mark ms ≡ false
+    → 0 < length items → Sent (ms ++ items_before 0 items) (with_call (put_of ms) items)
 sends_call ms items are_whole open' some =
     let all_some = some-append (calls_of ms) (items ∷ []) (some-calls_of ms) (one_some items some) in
     let is = messages-with_call ms items are_whole open' in
     record { put = stands _ (with_call (put_of ms) items) all_some is; whole = whole _ (with_call (put_of ms) items) all_some is }
 
 -- the close mark behind all calls
-pub sends_close : (ms : List Message) → AreWhole ms → has_close_mark ms ≡ false → Sent (ms ++ close_mark ∷ []) (with_close (put_of ms))
+pub sends_close : (ms : List Message) → AreWhole ms → has_close_mark ms ≡ false
+    → Sent (ms ++ close_mark ∷ []) (with_close (put_of ms))
 sends_close ms are_whole open' =
     let is : ms ++ close_mark ∷ [] ≡ messages_of (with_close (put_of ms)) = ap (λ l. l ++ close_mark ∷ []) (open_calls ms are_whole open') in
     record { put = stands _ (with_close (put_of ms)) (some-calls_of ms) is; whole = whole _ (with_close (put_of ms)) (some-calls_of ms) is }
 
-pub close_mark-append : (xs ys : List Message) → has_close_mark (xs ++ ys) ≡ has_close_mark xs || has_close_mark ys
+pub close_mark-append : (xs ys : List Message)
+    → has_close_mark (xs ++ ys) ≡ has_close_mark xs || has_close_mark ys
 close_mark-append [] ys = refl
 close_mark-append (x ∷ xs) ys = ap (λ b. x.closes || b) (close_mark-append xs ys) ∙ sym (or_assoc x.closes (has_close_mark xs) (has_close_mark ys))
 
@@ -64,19 +71,25 @@ close_mark-items : (left : ℕ) (xs : List Item) → has_close_mark (items_befor
 close_mark-items left [] = refl
 close_mark-items left (x ∷ xs) = close_mark-items left xs
 
-no_mark : (ms : List Message) (left : ℕ) (xs : List Item) → has_close_mark ms ≡ false → has_close_mark (ms ++ items_before left xs) ≡ false
+no_mark : (ms : List Message) (left : ℕ) (xs : List Item) → has_close_mark ms ≡ false
+    → has_close_mark (ms ++ items_before left xs) ≡ false
 no_mark ms left xs open' = close_mark-append ms (items_before left xs) ∙ ap (λ b. b || has_close_mark (items_before left xs)) open' ∙ close_mark-items left xs
 
-continues : (ms : List Message) (left : ℕ) (xs : List Item) (x : Item) → owed ms ≡ 0 → Continues (owed (ms ++ items_before (suc left) xs)) (item_before left x)
+continues : (ms : List Message) (left : ℕ) (xs : List Item) (x : Item) → owed ms ≡ 0
+    → Continues (owed (ms ++ items_before (suc left) xs)) (item_before left x)
 continues ms left [] x none = rw (append-nil ms, none) (λ e. cc)
 continues ms left (y ∷ ys) x none = rw (owed_from-append 0 ms (items_before (suc left) (y ∷ ys)), owed_from-items (owed ms) (suc left) y ys) refl
 
 -- the next item of a call may follow
-pub item_may_follow : (ms : List Message) (left : ℕ) (xs : List Item) (x : Item) → has_close_mark ms ≡ false → owed ms ≡ 0 → MayFollow (ms ++ items_before (suc left) xs) (item_before left x)
-item_may_follow ms left xs x open' none = (no_mark ms (suc left) xs open', continues ms left xs x none)
+pub item_may_follow : (ms : List Message) (left : ℕ) (xs : List Item) (x : Item)
+    → has_close_mark ms ≡ false → owed ms ≡ 0
+    → MayFollow (ms ++ items_before (suc left) xs) (item_before left x)
+item_may_follow ms left xs x open' none =
+    (no_mark ms (suc left) xs open', continues ms left xs x none)
 
 -- behind whole messages with no close mark, the close mark may follow
-pub close_may_follow : (ms : List Message) → AreWhole ms → has_close_mark ms ≡ false → MayFollow ms close_mark
+pub close_may_follow : (ms : List Message) → AreWhole ms → has_close_mark ms ≡ false
+    → MayFollow ms close_mark
 close_may_follow ms are_whole open' = (open', rw (nothing_owed ms are_whole open') (λ _. refl))
 
 -- the last message says how many items are to come
@@ -84,50 +97,63 @@ pub owed-snoc : (ms : List Message) (m : Message) → owed (ms ++ m ∷ []) ≡ 
 owed-snoc ms m = owed_from-append 0 ms (m ∷ [])
 
 -- if items of a call are to come, the next message is the next of them
-pub next_item : (ms : List Message) (m : Message) (left : ℕ) → owed ms ≡ suc left → MayFollow ms m → m ≡ item_before left m.item
+pub next_item : (ms : List Message) (m : Message) (left : ℕ) → owed ms ≡ suc left → MayFollow ms m
+    → m ≡ item_before left m.item
 next_item ms m left more may = rw more at may.1
 
 -- behind whole messages with no close mark, a message that closes is the close mark
-pub next_close : (ms : List Message) (m : Message) → AreWhole ms → MayFollow ms m → m.closes ≡ true → m ≡ close_mark
-next_close ms m are_whole may closes = let c = rw (nothing_owed ms are_whole may.0) at may.1 in c closes
+pub next_close : (ms : List Message) (m : Message) → AreWhole ms → MayFollow ms m → m.closes ≡ true
+    → m ≡ close_mark
+next_close ms m are_whole may closes =
+    let c = rw (nothing_owed ms are_whole may.0) at may.1 in c closes
 
-items-with_item : (left : ℕ) (x : Item) (calls : List (List Item)) → items_of_calls (with_item left x calls) ≡ x ∷ items_of_calls calls
+items-with_item : (left : ℕ) (x : Item) (calls : List (List Item))
+    → items_of_calls (with_item left x calls) ≡ x ∷ items_of_calls calls
 items-with_item zero x calls = refl
 items-with_item (suc left) x [] = refl
 items-with_item (suc left) x (call ∷ calls) = refl
 
-items_if : (b : Bool) (x : Item) (left : ℕ) (calls : List (List Item)) (xs : List Item) → xs ≡ items_of_calls calls → (if b then [] else x ∷ xs) ≡ items_of_calls (if b then [] else with_item left x calls)
+items_if : (b : Bool) (x : Item) (left : ℕ) (calls : List (List Item)) (xs : List Item)
+    → xs ≡ items_of_calls calls
+    → (if b then [] else x ∷ xs) ≡ items_of_calls (if b then [] else with_item left x calls)
 items_if true x left calls xs is = refl
 items_if false x left calls xs is = ap (λ l. x ∷ l) is ∙ sym (items-with_item left x calls)
 
 -- the items that messages were sent for are those of the calls that they were sent for
 pub items-calls_of : (ms : List Message) → items_of ms ≡ items_of_calls (calls_of ms)
 items-calls_of [] = refl
-items-calls_of (m ∷ ms) = items_if m.closes m.item m.left (calls_of ms) (items_of ms) (items-calls_of ms)
+items-calls_of (m ∷ ms) =
+    items_if m.closes m.item m.left (calls_of ms) (items_of ms) (items-calls_of ms)
 
-calls_of_closed : (past known : List Message) → AreWhole past → has_close_mark past ≡ true → calls_of (past ++ known) ≡ calls_of past
+calls_of_closed : (past known : List Message) → AreWhole past → has_close_mark past ≡ true
+    → calls_of (past ++ known) ≡ calls_of past
 calls_of_closed past known past_whole closed =
     ap (λ l. calls_of (l ++ known)) (closed_calls past past_whole closed)
     ∙ ap calls_of (append_assoc (messages_of_calls (calls_of past)) (close_mark ∷ []) known)
     ∙ calls_of-calls (calls_of past) (close_mark ∷ known) (some-calls_of past)
     ∙ append-nil (calls_of past)
 
-same_closed : (past all : List Message) → AreWhole past → AreWhole all → has_close_mark past ≡ true → has_close_mark all ≡ true → calls_of all ≡ calls_of past → all ≡ past
+same_closed : (past all : List Message) → AreWhole past → AreWhole all → has_close_mark past ≡ true
+    → has_close_mark all ≡ true → calls_of all ≡ calls_of past → all ≡ past
 same_closed past all past_whole all_whole past_closed all_closed calls =
     closed_calls all all_whole all_closed
     ∙ ap (λ l. messages_of_calls l ++ close_mark ∷ []) calls
     ∙ sym (closed_calls past past_whole past_closed)
 
-mark_stays : (past known : List Message) → has_close_mark past ≡ true → has_close_mark (past ++ known) ≡ true
-mark_stays past known closed = close_mark-append past known ∙ ap (λ b. b || has_close_mark known) closed
+mark_stays : (past known : List Message) → has_close_mark past ≡ true
+    → has_close_mark (past ++ known) ≡ true
+mark_stays past known closed =
+    close_mark-append past known ∙ ap (λ b. b || has_close_mark known) closed
 
 -- nothing follows a close mark
-pub nothing_behind : (past known : List Message) → AreWhole past → AreWhole (past ++ known) → has_close_mark past ≡ true → known ≡ []
+pub nothing_behind : (past known : List Message) → AreWhole past → AreWhole (past ++ known)
+    → has_close_mark past ≡ true → known ≡ []
 nothing_behind past known past_whole all_whole closed =
     let same = same_closed past (past ++ known) past_whole all_whole closed (mark_stays past known closed) (calls_of_closed past known past_whole closed) in
     append_cancel_left past known [] (same ∙ sym (append-nil past))
 
-leaves_open : (past known : List Message) → AreWhole past → has_close_mark past ≡ false → LeavesItems (put_of (past ++ known)) (put_of past) (items_of known)
+leaves_open : (past known : List Message) → AreWhole past → has_close_mark past ≡ false
+    → LeavesItems (put_of (past ++ known)) (put_of past) (items_of known)
 leaves_open past known past_whole open' = record {
   rest = calls_of known;
   calls = sym (ap (λ l. calls_of (l ++ known)) (open_calls past past_whole open') ∙ calls_of-calls (calls_of past) known (some-calls_of past));
@@ -135,7 +161,9 @@ leaves_open past known past_whole open' = record {
   closed = λ e. absurd (false≢true (sym open' ∙ e));
 }
 
-leaves_closed : (past known : List Message) → AreWhole past → AreWhole (past ++ known) → has_close_mark past ≡ true → LeavesItems (put_of (past ++ known)) (put_of past) (items_of known)
+leaves_closed : (past known : List Message) → AreWhole past → AreWhole (past ++ known)
+    → has_close_mark past ≡ true
+    → LeavesItems (put_of (past ++ known)) (put_of past) (items_of known)
 leaves_closed past known past_whole all_whole closed = record {
   rest = [];
   calls = append-nil (calls_of past) ∙ sym (calls_of_closed past known past_whole closed);
@@ -143,10 +171,13 @@ leaves_closed past known past_whole all_whole closed = record {
   closed = λ e. (mark_stays past known closed, refl);
 }
 
-by_mark : (past known : List Message) (b : Bool) → AreWhole past → AreWhole (past ++ known) → has_close_mark past ≡ b → LeavesItems (put_of (past ++ known)) (put_of past) (items_of known)
+by_mark : (past known : List Message) (b : Bool) → AreWhole past → AreWhole (past ++ known)
+    → has_close_mark past ≡ b → LeavesItems (put_of (past ++ known)) (put_of past) (items_of known)
 by_mark past known true past_whole all_whole is = leaves_closed past known past_whole all_whole is
 by_mark past known false past_whole all_whole is = leaves_open past known past_whole is
 
 -- what is left of all behind a beginning of it, both whole
-pub leaves : (past known all : List Message) → AreWhole past → AreWhole all → past ++ known ≡ all → LeavesItems (put_of all) (put_of past) (items_of known)
-leaves past known all past_whole all_whole is = rw (← is) (by_mark past known (has_close_mark past) past_whole (rw is all_whole) refl)
+pub leaves : (past known all : List Message) → AreWhole past → AreWhole all → past ++ known ≡ all
+    → LeavesItems (put_of all) (put_of past) (items_of known)
+leaves past known all past_whole all_whole is =
+    rw (← is) (by_mark past known (has_close_mark past) past_whole (rw is all_whole) refl)

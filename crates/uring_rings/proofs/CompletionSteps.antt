@@ -13,7 +13,8 @@ use Rattle.uring_rings.specs.Cq.{Cq, IsCq, ShowsCompletions}
 use Rattle.uring_rings.proofs.Counts.{distance_of_words, word_after, cells_after_write}
 
 -- How many completions were put above the head last loaded.
-pub put_above : (g : Setup) (q : Cq) (l : Completions) (d : ℕ) → IsCq q.size q.cells → ShowsCompletions g q l → d < 2 ^ 32
+pub put_above : (g : Setup) (q : Cq) (l : Completions) (d : ℕ) → IsCq q.size q.cells
+    → ShowsCompletions g q l → d < 2 ^ 32
     → (q.seen_head + d) % 2 ^ 32 ≡ q.tail → d ≡ l.put - l.seen_head
 put_above g q l d i s small leads =
     let limit : g.cq ≤ 8192 = omega (arith, i.limit, s.size) in
@@ -22,7 +23,8 @@ put_above g q l d i s small leads =
     distance_of_words g.start l.put l.seen_head d small ordered near (ap (λ (w : ℕ). (w + d) % 2 ^ 32) (sym s.seen_head) ∙ leads ∙ s.tail)
 
 -- The oldest of the overflow list is put into the next cell.
-pub put_shows : (g : Setup) (q : Cq) (l : Completions) (x : Cqe) (rest : List Cqe) (spare : ℕ) → IsCq q.size q.cells
+pub put_shows : (g : Setup) (q : Cq) (l : Completions) (x : Cqe) (rest : List Cqe) (spare : ℕ)
+    → IsCq q.size q.cells
     → ShowsCompletions g q l → l.put < l.seen_head + g.cq → q.overflow ≡ x ∷ rest
     → ShowsCompletions g (record q { tail = (q.tail + 1) % 2 ^ 32; spare = spare; cells = set q.cells (q.tail % q.size) x; overflow = rest }) (record l { put = l.put + 1 })
 put_shows g q l x rest spare i s room oldest =
@@ -57,7 +59,8 @@ put_shows g q l x rest spare i s room oldest =
     }
 
 -- A completion is posted, and waits behind the others.
-pub wait_shows : (g : Setup) (q : Cq) (l : Completions) (x : Cqe) (room spare : ℕ) → ShowsCompletions g q l
+pub wait_shows : (g : Setup) (q : Cq) (l : Completions) (x : Cqe) (room spare : ℕ)
+    → ShowsCompletions g q l
     → ShowsCompletions g (record q { room = room; spare = spare; posted = (q.posted + 1) % 2 ^ 64; overflow = q.overflow ++ x ∷ [] }) (record l { posted = l.posted ++ x ∷ [] })
 wait_shows g q l x room spare s =
     let long = length_push l.posted x in
@@ -83,11 +86,13 @@ wait_shows g q l x room spare s =
     }
 
 -- whether the overflow list is empty says whether all was put
-pub all_put : (g : Setup) (q : Cq) (l : Completions) → ShowsCompletions g q l → length q.overflow ≡ length l.posted - l.put
+pub all_put : (g : Setup) (q : Cq) (l : Completions) → ShowsCompletions g q l
+    → length q.overflow ≡ length l.posted - l.put
 all_put g q l s = ap length s.waiting ∙ length-drop l.put l.posted
 
 -- A post puts the completion into the ring, where none waits and a cell is free.
-pub post_puts : (g : Setup) (q : Cq) (l : Completions) (x : Cqe) (room : ℕ) → IsCq q.size q.cells → ShowsCompletions g q l
+pub post_puts : (g : Setup) (q : Cq) (l : Completions) (x : Cqe) (room : ℕ) → IsCq q.size q.cells
+    → ShowsCompletions g q l
     → has_room g.cq l ≡ true
     → ShowsCompletions g (record q { room = room; posted = (q.posted + 1) % 2 ^ 64; tail = (q.tail + 1) % 2 ^ 32; cells = set q.cells (q.tail % q.size) x }) (with_posted g.cq l x)
 post_puts g q l x room i s open_ring =
@@ -106,14 +111,16 @@ post_puts g q l x room i s open_ring =
     subst (λ (b : Bool). ShowsCompletions g (record q { room = room; posted = (q.posted + 1) % 2 ^ 64; tail = (q.tail + 1) % 2 ^ 32; cells = set q.cells (q.tail % q.size) x }) (record l1 { put = cond b (l.put + 1) l.put })) (sym open_ring) at_none
 
 -- A post that finds the ring full, or others waiting, leaves the completion behind them.
-pub post_waits : (g : Setup) (q : Cq) (l : Completions) (x : Cqe) (room spare : ℕ) → ShowsCompletions g q l
+pub post_waits : (g : Setup) (q : Cq) (l : Completions) (x : Cqe) (room spare : ℕ)
+    → ShowsCompletions g q l
     → has_room g.cq l ≡ false
     → ShowsCompletions g (record q { room = room; spare = spare; posted = (q.posted + 1) % 2 ^ 64; overflow = q.overflow ++ x ∷ [] }) (with_posted g.cq l x)
 post_waits g q l x room spare s full =
     subst (λ (b : Bool). ShowsCompletions g (record q { room = room; spare = spare; posted = (q.posted + 1) % 2 ^ 64; overflow = q.overflow ++ x ∷ [] }) (record l { posted = l.posted ++ x ∷ []; put = cond b (l.put + 1) l.put })) (sym full) (wait_shows g q l x room spare s)
 
 -- the position to be reaped next isn't the tail last loaded
-pub more_to_reap : (g : Setup) (q : Cq) (l : Completions) → IsCq q.size q.cells → ShowsCompletions g q l
+pub more_to_reap : (g : Setup) (q : Cq) (l : Completions) → IsCq q.size q.cells
+    → ShowsCompletions g q l
     → (q.next ≡ q.seen_tail → ⊥) → length l.reaped < l.seen_tail
 more_to_reap g q l i s apart =
     ⊎_elim
@@ -124,15 +131,18 @@ more_to_reap g q l i s apart =
     (cases_lt (length l.reaped) l.seen_tail)
 
 -- what is read from the next cell is the next of the posted
-pub reaps : (g : Setup) (q : Cq) (l : Completions) (cell : ℕ) (x : Cqe) → IsCq q.size q.cells → ShowsCompletions g q l
-    → (q.next ≡ q.seen_tail → ⊥) → cell ≡ q.next % q.size → x ≡ get_or q.cells cell x → get_or l.posted (length l.reaped) x ≡ x
+pub reaps : (g : Setup) (q : Cq) (l : Completions) (cell : ℕ) (x : Cqe) → IsCq q.size q.cells
+    → ShowsCompletions g q l
+    → (q.next ≡ q.seen_tail → ⊥) → cell ≡ q.next % q.size → x ≡ get_or q.cells cell x
+    → get_or l.posted (length l.reaped) x ≡ x
 reaps g q l cell x i s apart is_cell read =
     let more = more_to_reap g q l i s apart in
     let cell_is : cell ≡ word_of g.start (length l.reaped) % g.cq = is_cell ∙ ap (λ (n : ℕ). q.next % n) s.size ∙ ap (λ (w : ℕ). w % g.cq) s.next in
     sym (read ∙ ap (λ (n : ℕ). get_or q.cells n x) cell_is ∙ s.cells (length l.reaped) x (omega arith) (omega (arith, s.seen_tail_first)))
 
 -- a reap answers the next of the posted
-pub reap_answers : (g : Setup) (q : Cq) (l : Completions) (x : Cqe) → IsCq q.size q.cells → ShowsCompletions g q l
+pub reap_answers : (g : Setup) (q : Cq) (l : Completions) (x : Cqe) → IsCq q.size q.cells
+    → ShowsCompletions g q l
     → (q.next ≡ q.seen_tail → ⊥) → get_or l.posted (length l.reaped) x ≡ x → Some x ≡ next_to_reap l
 reap_answers g q l x i s apart next =
     let more = more_to_reap g q l i s apart in
@@ -143,8 +153,10 @@ reap_answers g q l x i s apart next =
     ∙ ap (λ (y : Cqe). Some y) next)
 
 -- and the ring shows it as reaped
-pub reap_shows : (g : Setup) (q : Cq) (l : Completions) (x : Cqe) (next : ℕ) → IsCq q.size q.cells → ShowsCompletions g q l
-    → (q.next ≡ q.seen_tail → ⊥) → get_or l.posted (length l.reaped) x ≡ x → next ≡ (q.next + 1) % 2 ^ 32
+pub reap_shows : (g : Setup) (q : Cq) (l : Completions) (x : Cqe) (next : ℕ) → IsCq q.size q.cells
+    → ShowsCompletions g q l
+    → (q.next ≡ q.seen_tail → ⊥) → get_or l.posted (length l.reaped) x ≡ x
+    → next ≡ (q.next + 1) % 2 ^ 32
     → ShowsCompletions g (record q { next = next; reaped = (q.reaped + 1) % 2 ^ 64 }) (with_reaped l x)
 reap_shows g q l x next i s apart is is_next =
     let more = more_to_reap g q l i s apart in
@@ -197,7 +209,8 @@ load_shows g q l s =
 -- where no more can be moved, as many are put as a flush puts
 pub all_moved : (g : Setup) (q : Cq) (l : Completions) (moved : ℕ)
     → ShowsCompletions g q (record l { seen_head = l.head; put = l.put + moved })
-    → false ≡ ltb (l.put + moved) (min (length l.posted) (l.head + g.cq)) → l.put + moved ≡ put_by_flush g.cq l
+    → false ≡ ltb (l.put + moved) (min (length l.posted) (l.head + g.cq))
+    → l.put + moved ≡ put_by_flush g.cq l
 all_moved g q l moved s through =
     let over = ltb-false (l.put + moved) (min (length l.posted) (l.head + g.cq)) (sym through) in
     omega (arith, s.put_first, s.few)

@@ -11,7 +11,8 @@ use Rattle.std.specs.Int.RustNames.{bit_and}
 use Rattle.std.specs.Int.{IsPowerOfTwo}
 
 -- The number that leads from the word of one count to the word of another is their difference.
-pub distance_of_words : (s a b d : ℕ) → d < 2 ^ 32 → b ≤ a → a < b + 2 ^ 32 → ((s + b) % 2 ^ 32 + d) % 2 ^ 32 ≡ (s + a) % 2 ^ 32 → d ≡ a - b
+pub distance_of_words : (s a b d : ℕ) → d < 2 ^ 32 → b ≤ a → a < b + 2 ^ 32
+    → ((s + b) % 2 ^ 32 + d) % 2 ^ 32 ≡ (s + a) % 2 ^ 32 → d ≡ a - b
 distance_of_words s a b d small ordered near leads = omega arith
 
 -- A word goes on as its count does.
@@ -36,7 +37,8 @@ same_remainder n a b some ordered near same =
 
 -- In a ring whose size is a power of two, up to 2 ^ 32, the cell of a count's word is the count's own.
 pub cell_of_word : (j k x : ℕ) → j + k ≡ 32 → x % 2 ^ 32 % 2 ^ k ≡ x % 2 ^ k
-cell_of_word j k x whole = subst (λ (w : ℕ). x % 2 ^ w % 2 ^ k ≡ x % 2 ^ k) whole (mod-mod-pow x j k)
+cell_of_word j k x whole =
+    subst (λ (w : ℕ). x % 2 ^ w % 2 ^ k ≡ x % 2 ^ k) whole (mod-mod-pow x j k)
 
 -- the mask of a power of two, which is one less, keeps the remainder
 pub cell_by_mask : (x size : ℕ) → IsPowerOfTwo size → bit_and x (size - 1) ≡ x % size
@@ -56,7 +58,8 @@ cell_of_count n s k (e, is) fits =
     subst (λ (m : ℕ). (s + k) % 2 ^ 32 % m ≡ (s + k) % m) (sym is) (cell_of_word (32 - e) e (s + k) whole)
 
 -- Counts less than the size apart have one cell only where they are equal.
-pub same_cell : (n s j k : ℕ) → IsPowerOfTwo n → n ≤ 2 ^ 32 → j ≤ k → k < j + n → (s + j) % 2 ^ 32 % n ≡ (s + k) % 2 ^ 32 % n → j ≡ k
+pub same_cell : (n s j k : ℕ) → IsPowerOfTwo n → n ≤ 2 ^ 32 → j ≤ k → k < j + n
+    → (s + j) % 2 ^ 32 % n ≡ (s + k) % 2 ^ 32 % n → j ≡ k
 same_cell n s j k power fits ordered near same =
     let some : 0 < n = omega arith in
     let left = cell_of_count n s j power fits in
@@ -71,7 +74,8 @@ same_cell n s j k power fits ordered near same =
 pub cells_after_write : {A : Type 0} (array : List A) (value_at : ℕ → A) (d x : A) (start size low tail cell : ℕ)
     → IsPowerOfTwo size → size ≤ 2 ^ 32 → length array ≡ size → low ≤ tail → tail < low + size
     → cell ≡ (start + tail) % 2 ^ 32 % size → x ≡ value_at tail
-    → ((k : ℕ) → low ≤ k → k < tail → get_or array ((start + k) % 2 ^ 32 % size) d ≡ value_at k) → (k : ℕ) → low ≤ k
+    → ((k : ℕ) → low ≤ k → k < tail → get_or array ((start + k) % 2 ^ 32 % size) d ≡ value_at k)
+    → (k : ℕ) → low ≤ k
     → k < tail + 1 → get_or (set array cell x) ((start + k) % 2 ^ 32 % size) d ≡ value_at k
 cells_after_write {A} array value_at d x start size low tail cell power fits len ordered near is_cell is_value held k from to =
     let some : 0 < size = omega arith in

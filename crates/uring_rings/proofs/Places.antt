@@ -10,12 +10,14 @@ use Rattle.std.specs.Prelude.{is_none}
 use Rattle.uring_entry.specs.Layout.{Sqe}
 use Rattle.uring_entry.specs.Submission.{Place, entries_of, dropped_in}
 
-one_more : (o : Option Sqe) (xs : List Sqe) (m n : ℕ) → length xs + m ≡ n → length (cons_option o xs) + (cond (is_none o) 1 0 + m) ≡ suc n
+one_more : (o : Option Sqe) (xs : List Sqe) (m n : ℕ) → length xs + m ≡ n
+    → length (cons_option o xs) + (cond (is_none o) 1 0 + m) ≡ suc n
 one_more None xs m n e = omega arith
 one_more (Some x) xs m n e = omega arith
 
 -- each place has an entry, or its word is dropped
-pub entries_and_dropped : (places : List Place) → length (entries_of places) + dropped_in places ≡ length places
+pub entries_and_dropped : (places : List Place)
+    → length (entries_of places) + dropped_in places ≡ length places
 entries_and_dropped [] = refl
 entries_and_dropped (p ∷ places) =
     rw sum_by-cons (one_more p.entry (entries_of places) (dropped_in places) (length places) (entries_and_dropped places))
@@ -30,18 +32,23 @@ places_more places n t p found =
     take_more (drop n places) t p short ∙ ap (λ (q : Place). take t (drop n places) ++ q ∷ []) here
 
 -- one more place with an entry is one more entry
-pub entry_more : (places : List Place) (n t : ℕ) (p : Place) (e : Sqe) → slice_get places (n + t) ≡ Some p → p.entry ≡ Some e
-    → length (entries_of (take (t + 1) (drop n places))) ≡ length (entries_of (take t (drop n places))) + 1
+pub entry_more : (places : List Place) (n t : ℕ) (p : Place) (e : Sqe)
+    → slice_get places (n + t) ≡ Some p → p.entry ≡ Some e
+    → length (entries_of (take (t + 1) (drop n places)))
+    ≡ length (entries_of (take t (drop n places))) + 1
 entry_more places n t p e found has =
     rw (places_more places n t p found, filter_map-append, has) (length_push _ _)
 
 -- one more place with no entry is no more entry
-pub dropped_more : (places : List Place) (n t : ℕ) (p : Place) → slice_get places (n + t) ≡ Some p → p.entry ≡ None
-    → length (entries_of (take (t + 1) (drop n places))) ≡ length (entries_of (take t (drop n places)))
+pub dropped_more : (places : List Place) (n t : ℕ) (p : Place) → slice_get places (n + t) ≡ Some p
+    → p.entry ≡ None
+    → length (entries_of (take (t + 1) (drop n places)))
+    ≡ length (entries_of (take t (drop n places)))
 dropped_more places n t p found has =
     rw (places_more places n t p found, filter_map-append, has) (ap length (append-nil _))
 
 -- the words dropped among the first n + m places
 pub dropped_beyond : (places : List Place) (n m : ℕ)
-    → dropped_in (take (n + m) places) ≡ dropped_in (take n places) + dropped_in (take m (drop n places))
+    → dropped_in (take (n + m) places)
+    ≡ dropped_in (take n places) + dropped_in (take m (drop n places))
 dropped_beyond places n m = rw take-add (sum_by-append _ (take n places) (take m (drop n places)))

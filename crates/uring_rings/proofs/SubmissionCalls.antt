@@ -43,8 +43,10 @@ pub record TakesPlace (g : Setup) (l : Submission) (c : OpenCall) (word : ℕ) :
   pub found : slice_get l.published (taken l + call.taken) ≡ Some place
   pub of_word : place ≡ place_of g.sq l.content word
 
-pub takes_place : (g : Setup) (q : Sq) (l : Submission) (c : OpenCall) (word : ℕ) → ShowsSubmission g q l → q.call ≡ Some c
-    → (c.taken ≡ c.count → ⊥) → get_or q.array ((q.head + c.taken) % 2 ^ 32 % q.size) 0 ≡ word → TakesPlace g l c word
+pub takes_place : (g : Setup) (q : Sq) (l : Submission) (c : OpenCall) (word : ℕ)
+    → ShowsSubmission g q l → q.call ≡ Some c
+    → (c.taken ≡ c.count → ⊥) → get_or q.array ((q.head + c.taken) % 2 ^ 32 % q.size) 0 ≡ word
+    → TakesPlace g l c word
 takes_place g q l c word s is_call more read =
     let o = is_open l c l.call (sym is_call ∙ s.call) s.call_fits in
     let at : c.taken ≡ o.call.taken = ap (λ (d : OpenCall). d.taken) o.same in
@@ -76,17 +78,20 @@ take_answer_is g l c word t =
     ∙ ap (λ (o : Option Place). given (option_and_then (λ (p : Place). p.entry) o)) t.found
     ∙ ap (λ (p : Place). given p.entry) t.of_word
 
-pub take_gives : (g : Setup) (l : Submission) (c : OpenCall) (word : ℕ) (entry : Sqe) → TakesPlace g l c word → word < g.sq
+pub take_gives : (g : Setup) (l : Submission) (c : OpenCall) (word : ℕ) (entry : Sqe)
+    → TakesPlace g l c word → word < g.sq
     → entry ≡ l.content word → Given entry ≡ take_answer l
 take_gives g l c word entry t valid held =
     sym (take_answer_is g l c word t ∙ ap (λ (b : Bool). given (cond b (Some (l.content word)) None)) (lt-ltb word g.sq valid) ∙ ap (λ (e : Sqe). Given e) (sym held))
 
-pub take_drops : (g : Setup) (l : Submission) (c : OpenCall) (word : ℕ) → TakesPlace g l c word → g.sq ≤ word → Dropped ≡ take_answer l
+pub take_drops : (g : Setup) (l : Submission) (c : OpenCall) (word : ℕ) → TakesPlace g l c word
+    → g.sq ≤ word → Dropped ≡ take_answer l
 take_drops g l c word t bad =
     sym (take_answer_is g l c word t ∙ ap (λ (b : Bool). given (cond b (Some (l.content word)) None)) (le-ltb word g.sq bad))
 
 -- open calls of the same numbers are the same
-same_progress : (c d : OpenCall) → c.count ≡ d.count → c.taken ≡ d.taken → c.accepted ≡ d.accepted → c ≡ d
+same_progress : (c d : OpenCall) → c.count ≡ d.count → c.taken ≡ d.taken → c.accepted ≡ d.accepted
+    → c ≡ d
 same_progress c d to at of =
     let counted : ℕ → OpenCall = λ n. record { count = n; taken = c.taken; accepted = c.accepted } in
     let moved : ℕ → OpenCall = λ n. record { count = d.count; taken = n; accepted = c.accepted } in
@@ -94,8 +99,10 @@ same_progress c d to at of =
     ap counted to ∙ ap moved at ∙ ap given_so_far of
 
 -- the call goes on by one position
-take_shows : (g : Setup) (q : Sq) (l : Submission) (c : OpenCall) (word n : ℕ) → ShowsSubmission g q l
-    → (t : TakesPlace g l c word) → n ≡ length (entries_of (take (t.call.taken + 1) (drop (taken l) l.published)))
+take_shows : (g : Setup) (q : Sq) (l : Submission) (c : OpenCall) (word n : ℕ)
+    → ShowsSubmission g q l
+    → (t : TakesPlace g l c word)
+    → n ≡ length (entries_of (take (t.call.taken + 1) (drop (taken l) l.published)))
     → ShowsSubmission g (record q { call = Some (record { count = c.count; taken = c.taken + 1; accepted = n }) }) (taken_on l l.call)
 take_shows g q l c word n s t is_n =
     let at : c.taken ≡ t.call.taken = ap (λ (d : OpenCall). d.taken) t.same in
@@ -120,7 +127,8 @@ take_shows g q l c word n s t is_n =
       places = s.places;
     })
 
-pub take_gives_shows : (g : Setup) (q : Sq) (l : Submission) (c : OpenCall) (word : ℕ) → ShowsSubmission g q l
+pub take_gives_shows : (g : Setup) (q : Sq) (l : Submission) (c : OpenCall) (word : ℕ)
+    → ShowsSubmission g q l
     → TakesPlace g l c word → word < g.sq
     → ShowsSubmission g (record q { call = Some (record { count = c.count; taken = c.taken + 1; accepted = c.accepted + 1 }) }) (taken_on l l.call)
 take_gives_shows g q l c word s t valid =
@@ -130,7 +138,8 @@ take_gives_shows g q l c word s t valid =
     take_shows g q l c word (c.accepted + 1) s t
     (ap (λ (m : ℕ). m + 1) before ∙ sym (entry_more l.published (taken l) t.call.taken t.place (l.content word) t.found has))
 
-pub take_drops_shows : (g : Setup) (q : Sq) (l : Submission) (c : OpenCall) (word : ℕ) → ShowsSubmission g q l
+pub take_drops_shows : (g : Setup) (q : Sq) (l : Submission) (c : OpenCall) (word : ℕ)
+    → ShowsSubmission g q l
     → TakesPlace g l c word → g.sq ≤ word
     → ShowsSubmission g (record q { call = Some (record { count = c.count; taken = c.taken + 1; accepted = c.accepted }) }) (taken_on l l.call)
 take_drops_shows g q l c word s t bad =
@@ -148,7 +157,8 @@ pub record IsDone (l : Submission) (c : OpenCall) : Type 0 where
   pub all : call.taken ≡ call.count
   pub ready : call.count ≤ pending l
 
-pub is_done : (g : Setup) (q : Sq) (l : Submission) (c : OpenCall) → ShowsSubmission g q l → q.call ≡ Some c → c.count ≤ c.taken
+pub is_done : (g : Setup) (q : Sq) (l : Submission) (c : OpenCall) → ShowsSubmission g q l
+    → q.call ≡ Some c → c.count ≤ c.taken
     → IsDone l c
 is_done g q l c s is_call through =
     let o = is_open l c l.call (sym is_call ∙ s.call) s.call_fits in
@@ -165,7 +175,8 @@ is_done g q l c s is_call through =
     }
 
 -- the words dropped once the call is closed
-dropped_closed : (g : Setup) (q : Sq) (l : Submission) (c : OpenCall) → ShowsSubmission g q l → (e : IsDone l c)
+dropped_closed : (g : Setup) (q : Sq) (l : Submission) (c : OpenCall) → ShowsSubmission g q l
+    → (e : IsDone l c)
     → (q.dropped + (c.count - c.accepted)) % 2 ^ 32 ≡ dropped (with_closed l e.call)
 dropped_closed g q l c s e =
     let all : taken (with_closed l e.call) ≡ taken l + e.call.count = sum_by_push (λ (n : ℕ). n) l.calls e.call.count in
@@ -178,7 +189,8 @@ dropped_closed g q l c s e =
     omega (arith, s.dropped, e.count, e.accepted)
 
 -- the head once the call is closed
-head_closed : (g : Setup) (q : Sq) (l : Submission) (c : OpenCall) (head : ℕ) → ShowsSubmission g q l → (e : IsDone l c)
+head_closed : (g : Setup) (q : Sq) (l : Submission) (c : OpenCall) (head : ℕ)
+    → ShowsSubmission g q l → (e : IsDone l c)
     → head ≡ (q.head + c.count) % 2 ^ 32 → head ≡ word_of g.start (taken (with_closed l e.call))
 head_closed g q l c head s e is_head =
     let all : taken (with_closed l e.call) ≡ taken l + e.call.count = sum_by_push (λ (n : ℕ). n) l.calls e.call.count in
@@ -188,16 +200,19 @@ head_closed g q l c head s e is_head =
     ∙ word_after g.start (taken l) e.call.count
     ∙ ap (word_of g.start) (sym all)
 
-pub end_answers : (g : Setup) (q : Sq) (l : Submission) (c : OpenCall) (head : ℕ) → ShowsSubmission g q l → IsDone l c
+pub end_answers : (g : Setup) (q : Sq) (l : Submission) (c : OpenCall) (head : ℕ)
+    → ShowsSubmission g q l → IsDone l c
     → head ≡ (q.head + c.count) % 2 ^ 32
-    → Closed (record { accepted = c.accepted; dropped = (q.dropped + (c.count - c.accepted)) % 2 ^ 32; head = head }) ≡ end_answer g l
+    → Closed (record { accepted = c.accepted; dropped = (q.dropped + (c.count - c.accepted)) % 2 ^ 32; head = head })
+    ≡ end_answer g l
 end_answers g q l c head s e is_head =
     let dropped_is = dropped_closed g q l c s e in
     let head_is = head_closed g q l c head s e is_head in
     let accepted_is = e.accepted in
     sym (ap (end_of g l) e.is ∙ ap (λ (b : Bool). cond b (Closed (record { accepted = length (entries_of (places_from l e.call.count)); dropped = dropped (with_closed l e.call); head = word_of g.start (taken (with_closed l e.call)) })) NotAll) (eq-eqb e.call.taken e.call.count e.all) ∙ cc)
 
-pub end_shows : (g : Setup) (q : Sq) (l : Submission) (c : OpenCall) (head : ℕ) → ShowsSubmission g q l → IsDone l c
+pub end_shows : (g : Setup) (q : Sq) (l : Submission) (c : OpenCall) (head : ℕ)
+    → ShowsSubmission g q l → IsDone l c
     → head ≡ (q.head + c.count) % 2 ^ 32
     → ShowsSubmission g (record q { head = head; dropped = (q.dropped + (c.count - c.accepted)) % 2 ^ 32; call = None }) (closed_on l l.call)
 end_shows g q l c head s e is_head =

@@ -17,13 +17,17 @@ use Rattle.uring_rings.proofs.Counts.{distance_of_words, word_after, cells_after
 use Rattle.uring_rings.proofs.SubmissionWords.{length-words, words-indexed, words-stored, size_limit, not_named}
 
 -- the size of the set-up is a power of two
-pub size_power : (g : Setup) (q : Sq) (l : Submission) → IsSq q.size q.table q.array q.call → ShowsSubmission g q l → IsPowerOfTwo g.sq
+pub size_power : (g : Setup) (q : Sq) (l : Submission) → IsSq q.size q.table q.array q.call
+    → ShowsSubmission g q l → IsPowerOfTwo g.sq
 size_power g q l i s = subst IsPowerOfTwo s.size i.power
 
 -- a word is staged in the next cell
-pub index_shows : (g : Setup) (q : Sq) (l : Submission) (d tail cell word : ℕ) → IsSq q.size q.table q.array q.call
-    → ShowsSubmission g q l → d < 2 ^ 32 → (q.seen_head + d) % 2 ^ 32 ≡ q.tail → (d ≡ q.size → ⊥) → tail ≡ (q.tail + 1) % 2 ^ 32
-    → cell ≡ q.tail % q.size → ShowsSubmission g (record q { tail = tail; array = set q.array cell word }) (with_staged l word)
+pub index_shows : (g : Setup) (q : Sq) (l : Submission) (d tail cell word : ℕ)
+    → IsSq q.size q.table q.array q.call
+    → ShowsSubmission g q l → d < 2 ^ 32 → (q.seen_head + d) % 2 ^ 32 ≡ q.tail → (d ≡ q.size → ⊥)
+    → tail ≡ (q.tail + 1) % 2 ^ 32
+    → cell ≡ q.tail % q.size
+    → ShowsSubmission g (record q { tail = tail; array = set q.array cell word }) (with_staged l word)
 index_shows g q l d tail cell word i s small leads not_full is_tail is_cell =
     let limit : g.sq ≤ 4096 = size_limit g q l i s in
     let ordered : l.seen_head ≤ staged l = omega (arith, s.seen_first, s.taken_first) in
@@ -57,7 +61,8 @@ index_shows g q l d tail cell word i s small leads not_full is_tail is_cell =
     }
 
 -- a table's slots after one was written
-slot_after_fill : (table : List Sqe) (content : ℕ → Sqe) (slot n : ℕ) (entry : Sqe) → slot < length table
+slot_after_fill : (table : List Sqe) (content : ℕ → Sqe) (slot n : ℕ) (entry : Sqe)
+    → slot < length table
     → slice_get table n ≡ Some (content n) → n < length table
     → slice_get (set table slot entry) n ≡ Some (cond (eqb n slot) entry (content n))
 slot_after_fill table content slot n entry within old short =
@@ -70,11 +75,13 @@ slot_after_fill table content slot n entry within old short =
 
 -- the place of a word that doesn't name the slot written
 place_kept : (size : ℕ) (content : ℕ → Sqe) (slot : ℕ) (entry : Sqe) (word : ℕ) → word ≢ slot
-    → place_of size content word ≡ place_of size (λ (n : ℕ). cond (eqb n slot) entry (content n)) word
+    → place_of size content word
+    ≡ place_of size (λ (n : ℕ). cond (eqb n slot) entry (content n)) word
 place_kept size content slot entry word apart = rw (ne_eqb word slot apart) refl
 
 -- a slot that isn't busy is filled
-pub fill_shows : (g : Setup) (q : Sq) (l : Submission) (slot : ℕ) (entry : Sqe) → IsSq q.size q.table q.array q.call
+pub fill_shows : (g : Setup) (q : Sq) (l : Submission) (slot : ℕ) (entry : Sqe)
+    → IsSq q.size q.table q.array q.call
     → ShowsSubmission g q l → slot < q.size → is_busy l slot ≡ false
     → ShowsSubmission g (record q { table = set q.table slot entry }) (with_filled l slot entry)
 fill_shows g q l slot entry i s below free =
@@ -98,7 +105,8 @@ fill_shows g q l slot entry i s below free =
 
 -- publishing leaves what an open call took
 progress_kept : (size : ℕ) (l : Submission) (o : Option Call)
-    → IfSome o (λ call. (call.taken ≤ call.count) × (call.count ≤ pending l)) → taken l ≤ length l.published
+    → IfSome o (λ call. (call.taken ≤ call.count) × (call.count ≤ pending l))
+    → taken l ≤ length l.published
     → option_map (progress l) o ≡ option_map (progress (with_published size l)) o
 progress_kept size l None fits first = refl
 progress_kept size l (Some call) (within, ready) first =
@@ -129,7 +137,8 @@ placed_by size content (w ∷ ws) (suc k) p found = placed_by size content ws k 
 
 -- what holds of the places of two lists holds of those of both together
 placed_both : (P : Place → Type 0) (xs ys : List Place) (low : ℕ)
-    → ((k : ℕ) (p : Place) → low ≤ k → slice_get xs k ≡ Some p → P p) → ((k : ℕ) (p : Place) → slice_get ys k ≡ Some p → P p)
+    → ((k : ℕ) (p : Place) → low ≤ k → slice_get xs k ≡ Some p → P p)
+    → ((k : ℕ) (p : Place) → slice_get ys k ≡ Some p → P p)
     → (k : ℕ) (p : Place) → low ≤ k → slice_get (xs ++ ys) k ≡ Some p → P p
 placed_both P xs ys low first second k p from found =
     ⊎_elim

@@ -17,7 +17,8 @@ pub length-words : (l : Submission) → length (words l) ≡ staged l
 length-words l = simp (length-append, length-map)
 
 -- the word of a published position is its place's
-pub word_published : (l : Submission) (k : ℕ) (p : Place) → slice_get l.published k ≡ Some p → get_or (words l) k 0 ≡ p.word
+pub word_published : (l : Submission) (k : ℕ) (p : Place) → slice_get l.published k ≡ Some p
+    → get_or (words l) k 0 ≡ p.word
 word_published l k p found =
     let within : k < length l.published = slice_get_within l.published k p found in
     let mapped : k < length (map (λ (q : Place). q.word) l.published) = simp length-map within in
@@ -26,19 +27,23 @@ word_published l k p found =
     ∙ ap (λ (q : Place). q.word) (get_or_from_slice_get l.published k p p found)
 
 -- each published position has a place
-pub place_at : (l : Submission) (k : ℕ) → k < length l.published → (p : Place) × (slice_get l.published k ≡ Some p)
+pub place_at : (l : Submission) (k : ℕ) → k < length l.published
+    → (p : Place) × (slice_get l.published k ≡ Some p)
 place_at l k within =
     let none : Place = record { word = 0; entry = None } in
     (get_or l.published k none, slice_get-get_or l.published k none within)
 
 -- one more word is staged
 pub words-indexed : (l : Submission) (word : ℕ) → words (with_staged l word) ≡ words l ++ word ∷ []
-words-indexed l word = sym (append_assoc (map (λ (q : Place). q.word) l.published) l.fresh (word ∷ []))
+words-indexed l word =
+    sym (append_assoc (map (λ (q : Place). q.word) l.published) l.fresh (word ∷ []))
 
 -- a place keeps its word
-words_of_places : (size : ℕ) (content : ℕ → Sqe) (ws : List ℕ) → map (λ (q : Place). q.word) (map (place_of size content) ws) ≡ ws
+words_of_places : (size : ℕ) (content : ℕ → Sqe) (ws : List ℕ)
+    → map (λ (q : Place). q.word) (map (place_of size content) ws) ≡ ws
 words_of_places size content [] = refl
-words_of_places size content (w ∷ ws) = ap (λ (vs : List ℕ). w ∷ vs) (words_of_places size content ws)
+words_of_places size content (w ∷ ws) =
+    ap (λ (vs : List ℕ). w ∷ vs) (words_of_places size content ws)
 
 -- publishing changes no word
 pub words-stored : (size : ℕ) (l : Submission) → words (with_published size l) ≡ words l
@@ -53,7 +58,8 @@ pub record ReadsPlace (g : Setup) (q : Sq) (l : Submission) (count word k : ℕ)
   pub found : slice_get l.published (count + k) ≡ Some place
   pub read : get_or q.array ((word + k) % 2 ^ 32 % q.size) 0 ≡ place.word
 
-pub reads_place : (g : Setup) (q : Sq) (l : Submission) (count word k : ℕ) → ShowsSubmission g q l → word ≡ word_of g.start count
+pub reads_place : (g : Setup) (q : Sq) (l : Submission) (count word k : ℕ) → ShowsSubmission g q l
+    → word ≡ word_of g.start count
     → l.seen_head ≤ count → count + k < length l.published → ReadsPlace g q l count word k
 reads_place g q l count word k s is_word seen within =
     let (p, found) = place_at l (count + k) within in
@@ -70,7 +76,8 @@ reads_place g q l count word k s is_word seen within =
     }
 
 -- the distance of the published tail from the head last loaded
-pub published_above : (g : Setup) (q : Sq) (l : Submission) (d : ℕ) → ShowsSubmission g q l → g.sq ≤ 4096 → d < 2 ^ 32
+pub published_above : (g : Setup) (q : Sq) (l : Submission) (d : ℕ) → ShowsSubmission g q l
+    → g.sq ≤ 4096 → d < 2 ^ 32
     → (q.seen_head + d) % 2 ^ 32 ≡ q.published → d ≡ length l.published - l.seen_head
 published_above g q l d s limit small leads =
     let ordered : l.seen_head ≤ length l.published = omega (arith, s.seen_first, s.taken_first) in
@@ -78,7 +85,8 @@ published_above g q l d s limit small leads =
     distance_of_words g.start (length l.published) l.seen_head d small ordered near (ap (λ (w : ℕ). (w + d) % 2 ^ 32) (sym s.seen_head) ∙ leads ∙ s.published)
 
 -- a slot that a cell above the head last loaded names is busy
-pub busy_at : (g : Setup) (q : Sq) (l : Submission) (k slot : ℕ) → ShowsSubmission g q l → l.seen_head + k < length l.published
+pub busy_at : (g : Setup) (q : Sq) (l : Submission) (k slot : ℕ) → ShowsSubmission g q l
+    → l.seen_head + k < length l.published
     → get_or q.array ((q.seen_head + k) % 2 ^ 32 % q.size) 0 ≡ slot → is_busy l slot ≡ true
 busy_at g q l k slot s within named =
     let r = reads_place g q l l.seen_head q.seen_head k s s.seen_head (omega arith) within in
@@ -118,11 +126,13 @@ not_named l slot k p free from found named =
     false≢true (sym free ∙ busy)
 
 -- The ring's size is below the limit.
-pub size_limit : (g : Setup) (q : Sq) (l : Submission) → IsSq q.size q.table q.array q.call → ShowsSubmission g q l → g.sq ≤ 4096
+pub size_limit : (g : Setup) (q : Sq) (l : Submission) → IsSq q.size q.table q.array q.call
+    → ShowsSubmission g q l → g.sq ≤ 4096
 size_limit g q l i s = omega (arith, i.limit, s.size)
 
 -- the loop over the d positions above the head last loaded found one that names the slot
-pub loop_finds : (g : Setup) (q : Sq) (l : Submission) (d k slot : ℕ) → IsSq q.size q.table q.array q.call → ShowsSubmission g q l
+pub loop_finds : (g : Setup) (q : Sq) (l : Submission) (d k slot : ℕ)
+    → IsSq q.size q.table q.array q.call → ShowsSubmission g q l
     → d < 2 ^ 32 → (q.seen_head + d) % 2 ^ 32 ≡ q.published → k < d
     → get_or q.array ((q.seen_head + k) % 2 ^ 32 % q.size) 0 ≡ slot → is_busy l slot ≡ true
 loop_finds g q l d k slot i s small leads below named =
@@ -130,9 +140,11 @@ loop_finds g q l d k slot i s small leads below named =
     busy_at g q l k slot s (omega arith) named
 
 -- it found none
-pub loop_passes : (g : Setup) (q : Sq) (l : Submission) (d k slot : ℕ) → IsSq q.size q.table q.array q.call
+pub loop_passes : (g : Setup) (q : Sq) (l : Submission) (d k slot : ℕ)
+    → IsSq q.size q.table q.array q.call
     → ShowsSubmission g q l → d < 2 ^ 32 → (q.seen_head + d) % 2 ^ 32 ≡ q.published → d ≤ k
-    → ((j : ℕ) → j < k → get_or q.array ((q.seen_head + j) % 2 ^ 32 % q.size) 0 ≡ slot → ⊥) → is_busy l slot ≡ false
+    → ((j : ℕ) → j < k → get_or q.array ((q.seen_head + j) % 2 ^ 32 % q.size) 0 ≡ slot → ⊥)
+    → is_busy l slot ≡ false
 loop_passes g q l d k slot i s small leads all unnamed =
     let above = published_above g q l d s (size_limit g q l i s) small leads in
     not_busy g q l slot s (λ j within. unnamed j (omega arith))

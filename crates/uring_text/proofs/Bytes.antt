@@ -4,7 +4,8 @@ use Rattle.std.proofs.lemmas.Grind.{common_steps}
 use Rattle.uring_entry.specs.Layout.{bytes_of}
 
 -- sixteen words and 128 bytes are all of both
-pub all_taken : (i : ℕ) (bytes words : List ℕ) → i ≡ 16 → length bytes ≡ 128 → length words ≡ 16 → take (8 * i) bytes ≡ bytes_of (take i words) → bytes ≡ bytes_of words
+pub all_taken : (i : ℕ) (bytes words : List ℕ) → i ≡ 16 → length bytes ≡ 128 → length words ≡ 16
+    → take (8 * i) bytes ≡ bytes_of (take i words) → bytes ≡ bytes_of words
 all_taken i bytes words i_is bytes_length words_length same =
     let e : take 128 bytes ≡ bytes_of (take 16 words) = subst (λ j. take (8 * j) bytes ≡ bytes_of (take j words)) i_is same in
     let a : take 128 bytes ≡ bytes = grind (arith, common_steps) in

@@ -40,7 +40,8 @@ letter_is b lt =
     ]
 
 -- two letters have no bit in common
-apart_at : (b c : ℕ) → IsLetter b → IsLetter c → (c ≡ b → ⊥) → bit_and (flag_value b) (flag_value c) ≡ 0
+apart_at : (b c : ℕ) → IsLetter b → IsLetter c → (c ≡ b → ⊥)
+    → bit_and (flag_value b) (flag_value c) ≡ 0
 apart_at b c (inl e) (inl f) ne = absurd (ne (f ∙ sym e))
 apart_at b c (inl e) (inr (inl f)) ne = rw (e, f) refl
 apart_at b c (inl e) (inr (inr (inl f))) ne = rw (e, f) refl
@@ -67,7 +68,8 @@ apart_at b c (inr (inr (inr (inr e)))) (inr (inr (inl f))) ne = rw (e, f) refl
 apart_at b c (inr (inr (inr (inr e)))) (inr (inr (inr (inl f)))) ne = rw (e, f) refl
 apart_at b c (inr (inr (inr (inr e)))) (inr (inr (inr (inr f)))) ne = absurd (ne (f ∙ sym e))
 
-letters_apart : (b c : ℕ) → 0 < flag_value b → 0 < flag_value c → (c ≡ b → ⊥) → bit_and (flag_value b) (flag_value c) ≡ 0
+letters_apart : (b c : ℕ) → 0 < flag_value b → 0 < flag_value c → (c ≡ b → ⊥)
+    → bit_and (flag_value b) (flag_value c) ≡ 0
 letters_apart b c hb hc ne = apart_at b c (letter_is b hb) (letter_is c hc) ne
 
 -- no letter of the token has a bit of these flags
@@ -77,16 +79,20 @@ AreApart flags token = AllByRecursion (λ b. bit_and flags (flag_value b) ≡ 0)
 abbrev AreLetterBytes : List ℕ → Type 0
 AreLetterBytes token = AllByRecursion (λ letter. 0 < flag_value letter) token
 
-apart_after : (flags b : ℕ) (token : List ℕ) → 0 < flag_value b → AreLetterBytes token → AllByRecursion (λ c. c ≢ b) token → AreApart flags token → AreApart (bit_or flags (flag_value b)) token
+apart_after : (flags b : ℕ) (token : List ℕ) → 0 < flag_value b → AreLetterBytes token
+    → AllByRecursion (λ c. c ≢ b) token → AreApart flags token
+    → AreApart (bit_or flags (flag_value b)) token
 apart_after flags b [] h l n a = tt
 apart_after flags b (c ∷ token) h l n a =
     (and_or_apart (flag_value c) flags (flag_value b) (letters_apart b c h l.0 n.0) ∙ a.0, apart_after flags b token h l.1 n.1 a.1)
 
-sum_first : (b : ℕ) (token : List ℕ) → sum_by flag_value (b ∷ token) ≡ flag_value b + sum_by flag_value token
+sum_first : (b : ℕ) (token : List ℕ)
+    → sum_by flag_value (b ∷ token) ≡ flag_value b + sum_by flag_value token
 sum_first b token = sum_by-cons flag_value b token
 
 -- what is read of letters
-letters_read : (flags : ℕ) (token : List ℕ) → AreLetterBytes token → NoneAgain token → AreApart flags token → letters_of flags token ≡ Some (flags + sum_by flag_value token)
+letters_read : (flags : ℕ) (token : List ℕ) → AreLetterBytes token → NoneAgain token
+    → AreApart flags token → letters_of flags token ≡ Some (flags + sum_by flag_value token)
 unfolding letters_of
 letters_read flags [] l n a = ap (λ (k : ℕ). Some k) (omega arith)
 letters_read flags (b ∷ token) l n a =
@@ -103,7 +109,9 @@ pub record IsRead (flags : ℕ) (token : List ℕ) (all : ℕ) : Type 0 where
   pub sum : all ≡ flags + sum_by flag_value token
 
 -- letters with no bit of these flags and one more have no bit of the flags, and aren't that one
-apart_before : (flags b : ℕ) (token : List ℕ) → 0 < flag_value b → AreLetterBytes token → AreApart (bit_or flags (flag_value b)) token → AreApart flags token × AllByRecursion (λ c. c ≢ b) token
+apart_before : (flags b : ℕ) (token : List ℕ) → 0 < flag_value b → AreLetterBytes token
+    → AreApart (bit_or flags (flag_value b)) token
+    → AreApart flags token × AllByRecursion (λ c. c ≢ b) token
 apart_before flags b [] h l a = (tt, tt)
 apart_before flags b (c ∷ token) h l a =
     let rest = apart_before flags b token h l.1 a.1 in
@@ -113,9 +121,15 @@ apart_before flags b (c ∷ token) h l a =
     let kept : bit_and flags (flag_value c) ≡ 0 = sym (and_or_apart (flag_value c) flags (flag_value b) (letters_apart b c h l.0 other)) ∙ a.0 in
     ((kept, rest.0), (other, rest.1))
 
-read_letters : (flags : ℕ) (token : List ℕ) (all : ℕ) → letters_of flags token ≡ Some all → IsRead flags token all
+read_letters : (flags : ℕ) (token : List ℕ) (all : ℕ) → letters_of flags token ≡ Some all
+    → IsRead flags token all
 unfolding letters_of
-read_letters flags [] all e = record { letters = tt; once = tt; apart = tt; sum = omega (arith, same_Some flags all e) }
+read_letters flags [] all e = record {
+  letters = tt;
+  once = tt;
+  apart = tt;
+  sum = omega (arith, same_Some flags all e);
+}
 read_letters flags (b ∷ token) all e =
     elim (chosen (eqb (flag_value b) 0) None (cond (eqb (bit_and flags (flag_value b)) 0) (letters_of (bit_or flags (flag_value b)) token) None) (Some all) e) [
       | inl p ↦ absurd (let no : None ≡ Some all = p.1 in cc)
@@ -144,7 +158,8 @@ letter_45 b e h =
     let none : flag_value b ≡ 0 = rw e refl in
     omega arith
 
-letters_no_dash : (b : ℕ) (token : List ℕ) → 0 < flag_value b → bytes_eq (b ∷ token) (codes "-") ≡ false
+letters_no_dash : (b : ℕ) (token : List ℕ) → 0 < flag_value b
+    → bytes_eq (b ∷ token) (codes "-") ≡ false
 letters_no_dash b token h =
     elim (cases_Bool (bytes_eq (b ∷ token) (codes "-"))) [
       | inr f ↦ f
@@ -173,7 +188,8 @@ flags_found token flags e =
 
 pub flags_again : (token : List ℕ) (flags : ℕ) → AreFlags token flags → flags_of token ≡ Some flags
 unfolding flags_of
-flags_again token flags (inl p) = rw ((bytes_eq-Decides token (codes "-")).1 p.0) (ap (λ (k : ℕ). Some k) (sym p.1))
+flags_again token flags (inl p) =
+    rw ((bytes_eq-Decides token (codes "-")).1 p.0) (ap (λ (k : ℕ). Some k) (sym p.1))
 flags_again [] flags (inr h) = absurd (omega (arith, h.some))
 flags_again (b ∷ token) flags (inr h) =
     let no_dash : bytes_eq (b ∷ token) (codes "-") ≡ false = letters_no_dash b token h.letters.0 in

@@ -14,17 +14,22 @@ use Rattle.uring_text.proofs.FlagLaws.{flags_found, flags_again}
 use Rattle.uring_text.proofs.HexLaws.{hex_found, hex_again, data_found, data_again}
 
 -- a token that is this name, or another
-pub named : {A : Type 0} (name text : List ℕ) (P : List ℕ → Type 0) (a other : Option A) (y : A) → cond (bytes_eq name text) a other ≡ Some y → (a ≡ Some y → P text) → (other ≡ Some y → P name) → P name
+pub named : {A : Type 0} (name text : List ℕ) (P : List ℕ → Type 0) (a other : Option A) (y : A)
+    → cond (bytes_eq name text) a other ≡ Some y → (a ≡ Some y → P text) → (other ≡ Some y → P name)
+    → P name
 named name text P a other y e here there =
     elim (chosen (bytes_eq name text) a other (Some y) e) [
       | inl p ↦ subst P (sym ((bytes_eq-Decides name text).0 p.0)) (here p.1)
       | inr p ↦ there p.1
     ]
 
-ap4 : (f : List ℕ → List ℕ → List ℕ → List ℕ → List (List ℕ)) {a b c d x y u v : List ℕ} → a ≡ b → c ≡ d → x ≡ y → u ≡ v → f a c x u ≡ f b d y v
-ap4 f {a} {b} {c} {d} {x} {y} {u} {v} p q r s = ap₂ (λ (z w : List ℕ). f z w x u) p q ∙ ap₂ (f b d) r s
+ap4 : (f : List ℕ → List ℕ → List ℕ → List ℕ → List (List ℕ)) {a b c d x y u v : List ℕ} → a ≡ b
+    → c ≡ d → x ≡ y → u ≡ v → f a c x u ≡ f b d y v
+ap4 f {a} {b} {c} {d} {x} {y} {u} {v} p q r s =
+    ap₂ (λ (z w : List ℕ). f z w x u) p q ∙ ap₂ (f b d) r s
 
-nop_found : (tokens : List (List ℕ)) (f : Form) → nop_of tokens ≡ Some f → SpellsForm (codes "nop" ∷ tokens) f
+nop_found : (tokens : List (List ℕ)) (f : Form) → nop_of tokens ≡ Some f
+    → SpellsForm (codes "nop" ∷ tokens) f
 unfolding nop_of
 nop_found [] f e = absurd cc
 nop_found (a ∷ []) f e = absurd cc
@@ -37,7 +42,8 @@ nop_found (ud ∷ fl ∷ []) f e =
     subst (SpellsForm (codes "nop" ∷ ud ∷ fl ∷ [])) (same_Some (form.Nop s0.0 s1.0) f s1.2) (fl, (n0.1, n1), tokens_are)
 nop_found (a ∷ b ∷ c ∷ more) f e = absurd cc
 
-fsync_found : (tokens : List (List ℕ)) (f : Form) → fsync_of tokens ≡ Some f → SpellsForm (codes "fsync" ∷ tokens) f
+fsync_found : (tokens : List (List ℕ)) (f : Form) → fsync_of tokens ≡ Some f
+    → SpellsForm (codes "fsync" ∷ tokens) f
 unfolding fsync_of
 fsync_found [] f e = absurd cc
 fsync_found (a ∷ []) f e = absurd cc
@@ -53,7 +59,8 @@ fsync_found (ud ∷ fl ∷ file ∷ []) f e =
     subst (SpellsForm (codes "fsync" ∷ ud ∷ fl ∷ file ∷ [])) (same_Some (form.Fsync s0.0 s1.0 s2.0) f s2.2) (fl, (n0.1, n1, n2.1), tokens_are)
 fsync_found (a ∷ b ∷ c ∷ d ∷ more) f e = absurd cc
 
-read_found : (tokens : List (List ℕ)) (f : Form) → read_of tokens ≡ Some f → SpellsForm (codes "read" ∷ tokens) f
+read_found : (tokens : List (List ℕ)) (f : Form) → read_of tokens ≡ Some f
+    → SpellsForm (codes "read" ∷ tokens) f
 unfolding read_of
 read_found [] f e = absurd cc
 read_found (a ∷ []) f e = absurd cc
@@ -75,7 +82,8 @@ read_found (ud ∷ fl ∷ file ∷ at ∷ count ∷ []) f e =
     subst (SpellsForm (codes "read" ∷ ud ∷ fl ∷ file ∷ at ∷ count ∷ [])) (same_Some (form.Read s0.0 s1.0 s2.0 s3.0 s4.0) f s4.2) (fl, (n0.1, n1, n2.1, n3.1, n4.1), tokens_are)
 read_found (a ∷ b ∷ c ∷ d ∷ g ∷ h ∷ more) f e = absurd cc
 
-cancel_found : (tokens : List (List ℕ)) (f : Form) → cancel_of tokens ≡ Some f → SpellsForm (codes "cancel" ∷ tokens) f
+cancel_found : (tokens : List (List ℕ)) (f : Form) → cancel_of tokens ≡ Some f
+    → SpellsForm (codes "cancel" ∷ tokens) f
 unfolding cancel_of
 cancel_found [] f e = absurd cc
 cancel_found (a ∷ []) f e = absurd cc
@@ -91,7 +99,8 @@ cancel_found (ud ∷ fl ∷ other ∷ []) f e =
     subst (SpellsForm (codes "cancel" ∷ ud ∷ fl ∷ other ∷ [])) (same_Some (form.Cancel s0.0 s1.0 s2.0) f s2.2) (fl, (n0.1, n1, n2.1), tokens_are)
 cancel_found (a ∷ b ∷ c ∷ d ∷ more) f e = absurd cc
 
-cancel_all_found : (tokens : List (List ℕ)) (f : Form) → cancel_all_of tokens ≡ Some f → SpellsForm (codes "cancelall" ∷ tokens) f
+cancel_all_found : (tokens : List (List ℕ)) (f : Form) → cancel_all_of tokens ≡ Some f
+    → SpellsForm (codes "cancelall" ∷ tokens) f
 unfolding cancel_all_of
 cancel_all_found [] f e = absurd cc
 cancel_all_found (a ∷ []) f e = absurd cc
@@ -107,7 +116,8 @@ cancel_all_found (ud ∷ fl ∷ other ∷ []) f e =
     subst (SpellsForm (codes "cancelall" ∷ ud ∷ fl ∷ other ∷ [])) (same_Some (form.CancelAll s0.0 s1.0 s2.0) f s2.2) (fl, (n0.1, n1, n2.1), tokens_are)
 cancel_all_found (a ∷ b ∷ c ∷ d ∷ more) f e = absurd cc
 
-op_found : (tokens : List (List ℕ)) (f : Form) → op_of tokens ≡ Some f → SpellsForm (codes "op" ∷ tokens) f
+op_found : (tokens : List (List ℕ)) (f : Form) → op_of tokens ≡ Some f
+    → SpellsForm (codes "op" ∷ tokens) f
 unfolding op_of
 op_found [] f e = absurd cc
 op_found (a ∷ []) f e = absurd cc
@@ -123,7 +133,8 @@ op_found (op ∷ ud ∷ fl ∷ []) f e =
     subst (SpellsForm (codes "op" ∷ op ∷ ud ∷ fl ∷ [])) (same_Some (form.Op s0.0 s1.0 s2.0) f s2.2) (fl, (n0.1, n1.1, n2), tokens_are)
 op_found (a ∷ b ∷ c ∷ d ∷ more) f e = absurd cc
 
-write_found : (tokens : List (List ℕ)) (f : Form) → write_of tokens ≡ Some f → SpellsForm (codes "write" ∷ tokens) f
+write_found : (tokens : List (List ℕ)) (f : Form) → write_of tokens ≡ Some f
+    → SpellsForm (codes "write" ∷ tokens) f
 unfolding write_of
 write_found [] f e = absurd cc
 write_found (a ∷ []) f e = absurd cc
@@ -146,7 +157,8 @@ write_found (ud ∷ fl ∷ file ∷ at ∷ token ∷ []) f e =
     subst (SpellsForm (codes "write" ∷ ud ∷ fl ∷ file ∷ at ∷ token ∷ [])) s4.2 (fl, (n0.1, n1, n2.1, n3.1, n4.1), tokens_are)
 write_found (a ∷ b ∷ c ∷ d ∷ g ∷ h ∷ more) f e = absurd cc
 
-raw_found : (tokens : List (List ℕ)) (f : Form) → raw_of tokens ≡ Some f → SpellsForm (codes "raw" ∷ tokens) f
+raw_found : (tokens : List (List ℕ)) (f : Form) → raw_of tokens ≡ Some f
+    → SpellsForm (codes "raw" ∷ tokens) f
 unfolding raw_of bytes_form_of
 raw_found [] f e = absurd cc
 raw_found (token ∷ []) f e =
@@ -172,7 +184,8 @@ form_found (name ∷ tokens) f e =
 
 form_again_of : (f : Form) (token : List ℕ) → IsForm f token → form_of (spelled f token) ≡ Some f
 unfolding form_of nop_of fsync_of read_of write_of cancel_of cancel_all_of op_of raw_of bytes_form_of
-form_again_of (form.Nop ud fl) token h = rw (number_again (2 ^ 64) ud (omega arith) h.0, flags_again token fl h.1) refl
+form_again_of (form.Nop ud fl) token h =
+    rw (number_again (2 ^ 64) ud (omega arith) h.0, flags_again token fl h.1) refl
 form_again_of (form.Fsync ud fl fd) token h = rw (number_again (2 ^ 64) ud (omega arith) h.0, flags_again token fl h.1, file_again fd h.2) refl
 form_again_of (form.Read ud fl fd off len) token h = rw (number_again (2 ^ 64) ud (omega arith) h.0, flags_again token fl h.1, file_again fd h.2, number_again (2 ^ 64) off (omega arith) h.3, number_again (2 ^ 32) len (omega arith) h.4) refl
 form_again_of (form.Write ud fl fd off bytes) token h = rw (number_again (2 ^ 64) ud (omega arith) h.0, flags_again token fl h.1, file_again fd h.2, number_again (2 ^ 64) off (omega arith) h.3, data_again bytes h.4) refl

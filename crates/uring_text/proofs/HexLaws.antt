@@ -52,10 +52,14 @@ no_capital (suc (suc (suc (suc (suc (suc (suc (suc (suc zero))))))))) lt = refl
 no_capital (suc (suc (suc (suc (suc (suc (suc (suc (suc (suc zero)))))))))) lt = refl
 no_capital (suc (suc (suc (suc (suc (suc (suc (suc (suc (suc (suc zero))))))))))) lt = refl
 no_capital (suc (suc (suc (suc (suc (suc (suc (suc (suc (suc (suc (suc zero)))))))))))) lt = refl
-no_capital (suc (suc (suc (suc (suc (suc (suc (suc (suc (suc (suc (suc (suc zero))))))))))))) lt = refl
-no_capital (suc (suc (suc (suc (suc (suc (suc (suc (suc (suc (suc (suc (suc (suc zero)))))))))))))) lt = refl
-no_capital (suc (suc (suc (suc (suc (suc (suc (suc (suc (suc (suc (suc (suc (suc (suc zero))))))))))))))) lt = refl
-no_capital (suc (suc (suc (suc (suc (suc (suc (suc (suc (suc (suc (suc (suc (suc (suc (suc v)))))))))))))))) lt = absurd (omega arith)
+no_capital (suc (suc (suc (suc (suc (suc (suc (suc (suc (suc (suc (suc (suc zero))))))))))))) lt =
+    refl
+no_capital (suc (suc (suc (suc (suc (suc (suc (suc (suc (suc (suc (suc (suc (suc zero)))))))))))))) lt =
+    refl
+no_capital (suc (suc (suc (suc (suc (suc (suc (suc (suc (suc (suc (suc (suc (suc (suc zero))))))))))))))) lt =
+    refl
+no_capital (suc (suc (suc (suc (suc (suc (suc (suc (suc (suc (suc (suc (suc (suc (suc (suc v)))))))))))))))) lt =
+    absurd (omega arith)
 
 bytes_from : (bytes : List ℕ) → AllByRecursion (λ b. b < 256) bytes → IsBytes bytes
 bytes_from [] h i = omega arith
@@ -67,7 +71,8 @@ bytes_to [] h = tt
 bytes_to (b ∷ bytes) h = (h 0, bytes_to bytes (λ i. h (suc i)))
 
 -- a digit that is no capital letter
-lower_digit : (c v : ℕ) → hex_digit_value c ≡ Some v → is_capital c ≡ false → (slice_index lower_digits v ≡ c) × (v < 16)
+lower_digit : (c v : ℕ) → hex_digit_value c ≡ Some v → is_capital c ≡ false
+    → (slice_index lower_digits v ≡ c) × (v < 16)
 lower_digit c v e small =
     elim (chosen (nat_le 65 c && nat_le c 70) (Some (c - 55)) (cond (nat_le 97 c && nat_le c 102) (Some (c - 87)) (cond (nat_le 48 c && nat_le c 57) (Some (c - 48)) None)) (Some v) e) [
       | inl p ↦
@@ -96,7 +101,8 @@ lower_digit c v e small =
       ]
     ]
 
-bind_ok : {A B : Type 0} (r : Result A FromHexError) (f : A → Result B FromHexError) (y : B) → (r >>= f) ≡ Ok y → (x : A) × (r ≡ Ok x) × (f x ≡ Ok y)
+bind_ok : {A B : Type 0} (r : Result A FromHexError) (f : A → Result B FromHexError) (y : B)
+    → (r >>= f) ≡ Ok y → (x : A) × (r ≡ Ok x) × (f x ≡ Ok y)
 bind_ok (Ok x) f y h = (x, refl, h)
 bind_ok (Err e) f y h = absurd cc
 
@@ -111,7 +117,8 @@ digit_read c i (Some w) v h = ap (λ (k : ℕ). Some k) (ok_is w v h)
 digit_read c i None v h = absurd cc
 
 -- what decodes, and has no capital letter
-pairs_lower : (i : ℕ) (s bytes : List ℕ) → decode_pairs i s ≡ Ok bytes → list_any is_capital s ≡ false → s ≡ encode_lower bytes
+pairs_lower : (i : ℕ) (s bytes : List ℕ) → decode_pairs i s ≡ Ok bytes
+    → list_any is_capital s ≡ false → s ≡ encode_lower bytes
 unfolding decode_pairs encode_with
 pairs_lower i [] bytes e n = ap encode_lower (ok_is [] bytes e)
 pairs_lower i (a ∷ []) bytes e n = absurd cc
@@ -133,11 +140,13 @@ pairs_lower i (a ∷ b ∷ rest) bytes e n =
     let all : a ∷ b ∷ rest ≡ encode_lower (p0.0 ∷ p3.0) = ap (λ (x : ℕ). x ∷ b ∷ rest) a_is ∙ ap (λ (x : ℕ). slice_index lower_digits (p0.0 / 16) ∷ x ∷ rest) b_is ∙ ap (λ (l : List ℕ). slice_index lower_digits (p0.0 / 16) ∷ slice_index lower_digits (p0.0 % 16) ∷ l) rest_is in
     all ∙ ap encode_lower (ok_is (p0.0 ∷ p3.0) bytes p3.2)
 
-ok_from : (r : Result (List ℕ) FromHexError) (bytes : List ℕ) → result_ok r ≡ Some bytes → r ≡ Ok bytes
+ok_from : (r : Result (List ℕ) FromHexError) (bytes : List ℕ) → result_ok r ≡ Some bytes
+    → r ≡ Ok bytes
 ok_from (Ok x) bytes e = ap (λ (l : List ℕ). ok l) (same_Some x bytes e)
 ok_from (Err d) bytes e = absurd cc
 
-pub hex_found : (count : ℕ) (token bytes : List ℕ) → hex_of count token ≡ Some bytes → (token ≡ encode_lower bytes) × AreBytes bytes count count
+pub hex_found : (count : ℕ) (token bytes : List ℕ) → hex_of count token ≡ Some bytes
+    → (token ≡ encode_lower bytes) × AreBytes bytes count count
 unfolding hex_of
 hex_found count token bytes e =
     elim (chosen (list_any is_capital token) None (result_ok (decode_sized token count)) (Some bytes) e) [
@@ -152,14 +161,16 @@ hex_found count token bytes e =
           (pairs_lower 0 token bytes pairs p.0, record { few = omega arith; enough = omega arith; each = bytes_to bytes facts.3 })
     ]
 
-encoded_small : (bytes : List ℕ) → AllByRecursion (λ b. b < 256) bytes → list_any is_capital (encode_lower bytes) ≡ false
+encoded_small : (bytes : List ℕ) → AllByRecursion (λ b. b < 256) bytes
+    → list_any is_capital (encode_lower bytes) ≡ false
 unfolding encode_with
 encoded_small [] h = refl
 encoded_small (b ∷ bytes) h =
     let small : b < 256 = h.0 in
     rw (no_capital (b / 16) (omega arith), no_capital (b % 16) (omega arith)) (encoded_small bytes h.1)
 
-pub hex_again : (count : ℕ) (bytes : List ℕ) → AreBytes bytes count count → hex_of count (encode_lower bytes) ≡ Some bytes
+pub hex_again : (count : ℕ) (bytes : List ℕ) → AreBytes bytes count count
+    → hex_of count (encode_lower bytes) ≡ Some bytes
 unfolding hex_of
 hex_again count bytes h =
     let few : count ≤ length bytes = h.few in
@@ -170,7 +181,8 @@ shown : (bytes : List ℕ) → 0 < length bytes → hex_or_dash bytes ≡ encode
 shown [] lt = absurd (omega arith)
 shown (b ∷ bytes) lt = refl
 
-pub data_found : (token bytes : List ℕ) → data_of token ≡ Some bytes → (token ≡ hex_or_dash bytes) × AreBytes bytes 0 64
+pub data_found : (token bytes : List ℕ) → data_of token ≡ Some bytes
+    → (token ≡ hex_or_dash bytes) × AreBytes bytes 0 64
 unfolding data_of
 data_found token bytes e =
     elim (chosen (bytes_eq token (codes "-")) (Some []) (cond (eqb (length token / 2) 0) None (cond (ltb 64 (length token / 2)) None (hex_of (length token / 2) token))) (Some bytes) e) [
@@ -199,7 +211,8 @@ no_dash token h =
       | inl t ↦ absurd (h (ap length ((bytes_eq-Decides token (codes "-")).0 t)))
     ]
 
-data_again_of : (bytes token : List ℕ) → 0 < length bytes → token ≡ encode_lower bytes → AreBytes bytes 0 64 → data_of token ≡ Some bytes
+data_again_of : (bytes token : List ℕ) → 0 < length bytes → token ≡ encode_lower bytes
+    → AreBytes bytes 0 64 → data_of token ≡ Some bytes
 unfolding data_of
 data_again_of bytes token lt is h =
     let size : length token ≡ 2 * length bytes = ap length is ∙ length-encode_with lower_digits bytes in

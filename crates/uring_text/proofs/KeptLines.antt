@@ -8,17 +8,22 @@ use Rattle.uring_text.specs.KeptLine.{KeptLine, kept_of}
 abbrev made : List ℕ → Bool → KeptLine
 made first is_long = record { first = first; is_long = is_long }
 
-alike : (first first' : List ℕ) (is_long is_long' : Bool) → first ≡ first' → is_long ≡ is_long' → made first is_long ≡ made first' is_long'
-alike first first' is_long is_long' p q = ap (λ (l : List ℕ). made l is_long) p ∙ ap (λ (b : Bool). made first' b) q
+alike : (first first' : List ℕ) (is_long is_long' : Bool) → first ≡ first' → is_long ≡ is_long'
+    → made first is_long ≡ made first' is_long'
+alike first first' is_long is_long' p q =
+    ap (λ (l : List ℕ). made l is_long) p ∙ ap (λ (b : Bool). made first' b) q
 
-first_is : (first line : List ℕ) (is_long : Bool) → made first is_long ≡ kept_of line → first ≡ take 300 line
+first_is : (first line : List ℕ) (is_long : Bool) → made first is_long ≡ kept_of line
+    → first ≡ take 300 line
 first_is first line is_long e = ap (λ (k : KeptLine). k.first) e
 
-long_is : (first line : List ℕ) (is_long : Bool) → made first is_long ≡ kept_of line → is_long ≡ ltb 300 (length line)
+long_is : (first line : List ℕ) (is_long : Bool) → made first is_long ≡ kept_of line
+    → is_long ≡ ltb 300 (length line)
 long_is first line is_long e = ap (λ (k : KeptLine). k.is_long) e
 
 -- a byte of a line that has room
-pub kept_more : (line first : List ℕ) (is_long : Bool) (b : ℕ) → length first < 300 → made first is_long ≡ kept_of line → made (first ++ b ∷ []) is_long ≡ kept_of (line ++ b ∷ [])
+pub kept_more : (line first : List ℕ) (is_long : Bool) (b : ℕ) → length first < 300
+    → made first is_long ≡ kept_of line → made (first ++ b ∷ []) is_long ≡ kept_of (line ++ b ∷ [])
 kept_more line first is_long b lt e =
     let size : length first ≡ length (take 300 line) = ap length (first_is first line is_long e) in
     let short : length line < 300 = omega (arith, length-take 300 line) in
@@ -28,7 +33,8 @@ kept_more line first is_long b lt e =
     (long_is first line is_long e ∙ le-ltb 300 (length line) (omega arith) ∙ sym (le-ltb 300 (length (line ++ b ∷ [])) longer))
 
 -- a byte past the room
-pub kept_full : (line first : List ℕ) (is_long : Bool) (b : ℕ) → 300 ≤ length first → made first is_long ≡ kept_of line → made first true ≡ kept_of (line ++ b ∷ [])
+pub kept_full : (line first : List ℕ) (is_long : Bool) (b : ℕ) → 300 ≤ length first
+    → made first is_long ≡ kept_of line → made first true ≡ kept_of (line ++ b ∷ [])
 kept_full line first is_long b le e =
     let size : length first ≡ length (take 300 line) = ap length (first_is first line is_long e) in
     let full : 300 ≤ length line = omega (arith, length-take 300 line) in

@@ -24,7 +24,8 @@ no_leading_zero (b ∷ bs) e z =
     let none : eqb (length bs) 0 ≡ true = rw first at e in
     omega (arith, eqb-true (length bs) 0 none)
 
-numeral_from : (w : List ℕ) → list_all is_ascii_digit w ≡ true → 0 < length w → (get_or w 0 0 ≡ 48 → length w ≡ 1) → is_numeral w ≡ true
+numeral_from : (w : List ℕ) → list_all is_ascii_digit w ≡ true → 0 < length w
+    → (get_or w 0 0 ≡ 48 → length w ≡ 1) → is_numeral w ≡ true
 unfolding is_numeral
 numeral_from [] digits lt one = absurd (omega arith)
 numeral_from (b ∷ bs) digits lt one =
@@ -41,9 +42,11 @@ leading zero lt e = ap length (decimal_digit 0 (omega arith))
 leading (suc n) lt e = absurd (omega (arith, first_decimal (suc n) (omega arith) lt))
 
 numeral_decimal : (n : ℕ) → n < 2 ^ 64 → is_numeral (decimal n) ≡ true
-numeral_decimal n lt = numeral_from (decimal n) (digits_decimal own n lt) (decimal_nonempty n lt) (leading n lt)
+numeral_decimal n lt =
+    numeral_from (decimal n) (digits_decimal own n lt) (decimal_nonempty n lt) (leading n lt)
 
-pub number_found : (limit : ℕ) (w : List ℕ) (n : ℕ) → limit ≤ 2 ^ 64 → number_of limit w ≡ Some n → (w ≡ decimal n) × (n < limit)
+pub number_found : (limit : ℕ) (w : List ℕ) (n : ℕ) → limit ≤ 2 ^ 64 → number_of limit w ≡ Some n
+    → (w ≡ decimal n) × (n < limit)
 number_found limit w n le e =
     let p = number_parts limit w n e in
     let small : digits_value 10 w < 2 ^ 64 = omega arith in
@@ -59,7 +62,8 @@ number_again limit n le lt =
 
 -- ---- signed numbers
 
-negative_found : (n : ℕ) (fd : ℤ) → negative_of n ≡ Some fd → (k : ℕ) × (n ≡ suc k) × (k < 2 ^ 31) × (fd ≡ negsuc k)
+negative_found : (n : ℕ) (fd : ℤ) → negative_of n ≡ Some fd
+    → (k : ℕ) × (n ≡ suc k) × (k < 2 ^ 31) × (fd ≡ negsuc k)
 negative_found zero fd e = absurd cc
 negative_found (suc k) fd e =
     let t = test_some (ltb k (2 ^ 31)) (Some (negsuc k)) fd e in
@@ -96,12 +100,15 @@ no_minus n lt e =
 pub file_again : (fd : ℤ) → IsFile fd → file_of (signed_decimal fd) ≡ Some fd
 unfolding file_of
 file_again (pos n) lt = sym (file_other (decimal n) (no_minus n (omega arith))) ∙ ap (option_map (λ n. pos n)) (number_again (2 ^ 31) n (omega arith) lt)
-file_again (negsuc k) lt = rw (number_again (2 ^ 64) (suc k) (omega arith) (omega arith), lt-ltb k (2 ^ 31) lt) refl
+file_again (negsuc k) lt =
+    rw (number_again (2 ^ 64) (suc k) (omega arith) (omega arith), lt-ltb k (2 ^ 31) lt) refl
 
 signed_other : (w : List ℕ) → file_of w ≡ None → (fd : ℤ) → IsFile fd → signed_decimal fd ≡ w → ⊥
-signed_other w none fd is same = let found : file_of w ≡ Some fd = subst (λ (l : List ℕ). file_of l ≡ Some fd) same (file_again fd is) in absurd cc
+signed_other w none fd is same = let found : file_of w
+    ≡ Some fd = subst (λ (l : List ℕ). file_of l ≡ Some fd) same (file_again fd is) in absurd cc
 
 -- what a token spells that is read as a signed number, or as none
-pub signed_tells : (w : List ℕ) (r : Option ℤ) → r ≡ file_of w → MatchOption r ((fd : ℤ) → IsFile fd → signed_decimal fd ≡ w → ⊥) (λ fd. (signed_decimal fd ≡ w) × IsFile fd)
+pub signed_tells : (w : List ℕ) (r : Option ℤ) → r ≡ file_of w
+    → MatchOption r ((fd : ℤ) → IsFile fd → signed_decimal fd ≡ w → ⊥) (λ fd. (signed_decimal fd ≡ w) × IsFile fd)
 signed_tells w None is = signed_other w (sym is)
 signed_tells w (Some fd) is = let found = file_found w fd (sym is) in (sym found.0, found.1)

@@ -19,7 +19,8 @@ use Rattle.uring_text.proofs.Options.{test_some, chosen, some}
 pub own : IsNumeralModel (λ ds. list_all is_ascii_digit ds ≡ true) (digits_value 10)
 own = numerals_by_value _ (search rules)
 
-digits_from : (b : ℕ) (bs : List ℕ) → is_numeral (b ∷ bs) ≡ true → list_all is_ascii_digit (b ∷ bs) ≡ true
+digits_from : (b : ℕ) (bs : List ℕ) → is_numeral (b ∷ bs) ≡ true
+    → list_all is_ascii_digit (b ∷ bs) ≡ true
 unfolding is_numeral
 digits_from b bs e =
     elim (chosen (eqb b 48) (eqb (length bs) 0) (list_all is_ascii_digit (b ∷ bs)) true e) [
@@ -45,20 +46,25 @@ some_length [] e = absurd cc
 some_length (b ∷ bs) e = omega arith
 
 -- what parsing a numeral gives
-parsed_as : {E : Type 0} (w : List ℕ) (r : Result ℕ E) → is_numeral w ≡ true → OkIff r ((0 < length w) × (digits_value 10 w < 2 ^ 64)) (digits_value 10 w) → result_ok r ≡ number_of (2 ^ 64) w
+parsed_as : {E : Type 0} (w : List ℕ) (r : Result ℕ E) → is_numeral w ≡ true
+    → OkIff r ((0 < length w) × (digits_value 10 w < 2 ^ 64)) (digits_value 10 w)
+    → result_ok r ≡ number_of (2 ^ 64) w
 unfolding number_of
-parsed_as w (Ok n) e h = rw (e, lt-ltb (digits_value 10 w) (2 ^ 64) h.0.1) (ap (λ (k : ℕ). some k) h.1)
+parsed_as w (Ok n) e h =
+    rw (e, lt-ltb (digits_value 10 w) (2 ^ 64) h.0.1) (ap (λ (k : ℕ). some k) h.1)
 parsed_as w (Err x) e h =
     elim (cases_lt (digits_value 10 w) (2 ^ 64)) [
       | inl lt ↦ absurd (h (some_length w e, lt))
       | inr le ↦ rw (e, le-ltb (digits_value 10 w) (2 ^ 64) le) refl
     ]
 
-pub numeral_parsed : {E : Type 0} (w : List ℕ) (r : Result ℕ E) → is_numeral w ≡ true → ParsesUnsigned 64 10 w r → result_ok r ≡ number_of (2 ^ 64) w
+pub numeral_parsed : {E : Type 0} (w : List ℕ) (r : Result ℕ E) → is_numeral w ≡ true
+    → ParsesUnsigned 64 10 w r → result_ok r ≡ number_of (2 ^ 64) w
 numeral_parsed w r e h = parsed_as w r e (parse_digits own 64 w r h (numeral_digits w e))
 
 -- what a token's number is
-pub number_parts : (limit : ℕ) (w : List ℕ) (n : ℕ) → number_of limit w ≡ Some n → (is_numeral w ≡ true) × (digits_value 10 w ≡ n) × (n < limit)
+pub number_parts : (limit : ℕ) (w : List ℕ) (n : ℕ) → number_of limit w ≡ Some n
+    → (is_numeral w ≡ true) × (digits_value 10 w ≡ n) × (n < limit)
 unfolding number_of
 number_parts limit w n e =
     let t = test_some (is_numeral w && ltb (digits_value 10 w) limit) (Some (digits_value 10 w)) n e in
@@ -67,19 +73,22 @@ number_parts limit w n e =
     (b.0, v, rw (← v) (ltb-true (digits_value 10 w) limit b.1))
 
 -- a number below a smaller limit
-pub number_below_is : (limit : ℕ) (w : List ℕ) (n : ℕ) → number_of (2 ^ 64) w ≡ Some n → n < limit → number_of limit w ≡ Some n
+pub number_below_is : (limit : ℕ) (w : List ℕ) (n : ℕ) → number_of (2 ^ 64) w ≡ Some n → n < limit
+    → number_of limit w ≡ Some n
 unfolding number_of
 number_below_is limit w n e lt =
     let p = number_parts (2 ^ 64) w n e in
     rw (p.0, p.1, lt-ltb n limit lt) refl
 
-pub number_above : (limit : ℕ) (w : List ℕ) (n : ℕ) → number_of (2 ^ 64) w ≡ Some n → limit ≤ n → number_of limit w ≡ None
+pub number_above : (limit : ℕ) (w : List ℕ) (n : ℕ) → number_of (2 ^ 64) w ≡ Some n → limit ≤ n
+    → number_of limit w ≡ None
 unfolding number_of
 number_above limit w n e le =
     let p = number_parts (2 ^ 64) w n e in
     rw (p.0, p.1, le-ltb n limit le) refl
 
-pub no_number : (limit : ℕ) (w : List ℕ) → number_of (2 ^ 64) w ≡ None → limit ≤ 2 ^ 64 → number_of limit w ≡ None
+pub no_number : (limit : ℕ) (w : List ℕ) → number_of (2 ^ 64) w ≡ None → limit ≤ 2 ^ 64
+    → number_of limit w ≡ None
 unfolding number_of
 no_number limit w e le =
     elim (cases_Bool (is_numeral w)) [
@@ -93,7 +102,8 @@ no_number limit w e le =
     ]
 
 -- a token that doesn't begin with `-`
-pub file_other : (w : List ℕ) → (get_or w 0 0 ≡ 45 → ⊥) → option_map (λ n. pos n) (number_of (2 ^ 31) w) ≡ file_of w
+pub file_other : (w : List ℕ) → (get_or w 0 0 ≡ 45 → ⊥)
+    → option_map (λ n. pos n) (number_of (2 ^ 31) w) ≡ file_of w
 unfolding number_of is_numeral file_of
 file_other [] h = refl
 file_other (b ∷ bs) h = rw (ne_eqb b 45 h) refl

@@ -13,28 +13,39 @@ some_entry : (entry : Sqe) (f : Form) → ReadsEntry (Some entry) (Some f) → I
 some_entry entry f h = h
 
 -- what a reader of an entry's tokens tells
-entry_read : (tokens : List (List ℕ)) (f : Option Form) (read : Option Sqe) → form_of tokens ≡ f → ReadsEntry read f → MatchOption read (IsNoEntry tokens) (SpellsEntry tokens)
+entry_read : (tokens : List (List ℕ)) (f : Option Form) (read : Option Sqe) → form_of tokens ≡ f
+    → ReadsEntry read f → MatchOption read (IsNoEntry tokens) (SpellsEntry tokens)
 entry_read tokens None None e h = λ entry s. absurd (let no : None ≡ Some s.form = sym e ∙ form_again tokens s.form s.spells in cc)
 entry_read tokens None (Some entry) e h = absurd (let no : Some entry ≡ None = h in cc)
 entry_read tokens (Some f) None e h = absurd h
-entry_read tokens (Some f) (Some entry) e h = record { form = f; spells = form_found tokens f e; is_entry = some_entry entry f h }
+entry_read tokens (Some f) (Some entry) e h = record {
+  form = f;
+  spells = form_found tokens f e;
+  is_entry = some_entry entry f h;
+}
 
-pub read_entry_tells : (tokens : List (List ℕ)) (read : Option Sqe) → ReadsEntry read (form_of tokens) → MatchOption read (IsNoEntry tokens) (SpellsEntry tokens)
+pub read_entry_tells : (tokens : List (List ℕ)) (read : Option Sqe)
+    → ReadsEntry read (form_of tokens) → MatchOption read (IsNoEntry tokens) (SpellsEntry tokens)
 read_entry_tells tokens read h = entry_read tokens (form_of tokens) read refl h
 
 -- tokens spell one entry at most
-pub spelled_once : (tokens : List (List ℕ)) (a b : Sqe) → SpellsEntry tokens a → SpellsEntry tokens b → a ≡ b
+pub spelled_once : (tokens : List (List ℕ)) (a b : Sqe) → SpellsEntry tokens a
+    → SpellsEntry tokens b → a ≡ b
 spelled_once tokens a b h k =
     let same : h.form ≡ k.form = same_Some h.form k.form (sym (form_again tokens h.form h.spells) ∙ form_again tokens k.form k.spells) in
     entry_once k.form a b (subst (λ (f : Form). IsEntryOf f a) same h.is_entry) k.is_entry
 
-number_read : (limit : ℕ) (token : List ℕ) (n : Option ℕ) → limit ≤ 2 ^ 64 → number_of limit token ≡ n → MatchOption n (IsNoNumber limit token) (SpellsNumber limit token)
+number_read : (limit : ℕ) (token : List ℕ) (n : Option ℕ) → limit ≤ 2 ^ 64
+    → number_of limit token ≡ n → MatchOption n (IsNoNumber limit token) (SpellsNumber limit token)
 number_read limit token None le e = λ n s. absurd (let no : None ≡ Some n = sym e ∙ ap (number_of limit) s.0 ∙ number_again limit n le s.1 in cc)
 number_read limit token (Some n) le e = number_found limit token n le e
 
-pub read_number_tells : (limit : ℕ) (token : List ℕ) (read : Option ℕ) → limit ≤ 2 ^ 64 → read ≡ number_of limit token → MatchOption read (IsNoNumber limit token) (SpellsNumber limit token)
+pub read_number_tells : (limit : ℕ) (token : List ℕ) (read : Option ℕ) → limit ≤ 2 ^ 64
+    → read ≡ number_of limit token
+    → MatchOption read (IsNoNumber limit token) (SpellsNumber limit token)
 read_number_tells limit token read le e = number_read limit token read le (sym e)
 
 -- a token is one number at most
-pub number_once : (limit : ℕ) (token : List ℕ) (n m : ℕ) → limit ≤ 2 ^ 64 → SpellsNumber limit token n → SpellsNumber limit token m → n ≡ m
+pub number_once : (limit : ℕ) (token : List ℕ) (n m : ℕ) → limit ≤ 2 ^ 64
+    → SpellsNumber limit token n → SpellsNumber limit token m → n ≡ m
 number_once limit token n m le h k = same_Some n m (sym (number_again limit n le h.1) ∙ ap (number_of limit) (sym h.0 ∙ k.0) ∙ number_again limit m le k.1)

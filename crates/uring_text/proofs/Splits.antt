@@ -9,7 +9,8 @@ unbroken_more [] b ne h = (ne, tt)
 unbroken_more (c ∷ line) b ne h = (h.0, unbroken_more line b ne h.1)
 
 -- a byte more of the rest
-pub split_more : (bytes : List ℕ) (lines : List (List ℕ)) (rest : List ℕ) (b : ℕ) → b ≢ 10 → Splits bytes lines rest → Splits (bytes ++ b ∷ []) lines (rest ++ b ∷ [])
+pub split_more : (bytes : List ℕ) (lines : List (List ℕ)) (rest : List ℕ) (b : ℕ) → b ≢ 10
+    → Splits bytes lines rest → Splits (bytes ++ b ∷ []) lines (rest ++ b ∷ [])
 split_more bytes lines rest b ne h = record {
   whole = ap (λ (l : List ℕ). l ++ b ∷ []) h.whole ∙ append_assoc (joined lines) rest (b ∷ []);
   each = h.each;
@@ -17,7 +18,8 @@ split_more bytes lines rest b ne h = record {
 }
 
 -- the end of the rest
-pub split_end : (bytes : List ℕ) (lines : List (List ℕ)) (rest : List ℕ) → Splits bytes lines rest → Splits (bytes ++ 10 ∷ []) (rest ∷ lines) []
+pub split_end : (bytes : List ℕ) (lines : List (List ℕ)) (rest : List ℕ) → Splits bytes lines rest
+    → Splits (bytes ++ 10 ∷ []) (rest ∷ lines) []
 split_end bytes lines rest h = record {
   whole = ap (λ (l : List ℕ). l ++ 10 ∷ []) h.whole ∙ simp (append_assoc, append-nil);
   each = (h.unbroken, h.each);
@@ -25,10 +27,16 @@ split_end bytes lines rest h = record {
 }
 
 -- lines with their ends
-pub split_whole : (lines : List (List ℕ)) → AllByRecursion IsUnbroken lines → Splits (joined lines) lines []
-split_whole lines each = record { whole = sym (append-nil (joined lines)); each = each; unbroken = tt }
+pub split_whole : (lines : List (List ℕ)) → AllByRecursion IsUnbroken lines
+    → Splits (joined lines) lines []
+split_whole lines each = record {
+  whole = sym (append-nil (joined lines));
+  each = each;
+  unbroken = tt;
+}
 
 -- a rest of some bytes is the last line
-pub last_some : (lines : List (List ℕ)) (rest : List ℕ) → rest ≢ [] → with_last lines rest ≡ rest ∷ lines
+pub last_some : (lines : List (List ℕ)) (rest : List ℕ) → rest ≢ []
+    → with_last lines rest ≡ rest ∷ lines
 last_some lines [] some = absurd (some refl)
 last_some lines (b ∷ rest) some = refl

@@ -18,13 +18,15 @@ alone : (b : ℕ) → (b ≡ 0 → ⊥) → before_others b [] ≡ b ∷ []
 alone zero h = absurd (h refl)
 alone (suc b) h = refl
 
-same_last : (b c : ℕ) (bytes : List ℕ) → get_or (c ∷ bytes) (length (c ∷ bytes) - 1) 0 ≡ 0 → get_or (b ∷ c ∷ bytes) (length (b ∷ c ∷ bytes) - 1) 0 ≡ 0
+same_last : (b c : ℕ) (bytes : List ℕ) → get_or (c ∷ bytes) (length (c ∷ bytes) - 1) 0 ≡ 0
+    → get_or (b ∷ c ∷ bytes) (length (b ∷ c ∷ bytes) - 1) 0 ≡ 0
 same_last b c bytes e =
     let at : length (b ∷ c ∷ bytes) - 1 ≡ suc (length (c ∷ bytes) - 1) = omega arith in
     rw at e
 
 -- bytes that don't end with a zero are whole
-pub trimmed-whole : (bytes : List ℕ) → (0 < length bytes → get_or bytes (length bytes - 1) 0 ≡ 0 → ⊥) → trimmed bytes ≡ bytes
+pub trimmed-whole : (bytes : List ℕ)
+    → (0 < length bytes → get_or bytes (length bytes - 1) 0 ≡ 0 → ⊥) → trimmed bytes ≡ bytes
 trimmed-whole [] h = refl
 trimmed-whole (b ∷ []) h = alone b (λ e. h (omega arith) e)
 trimmed-whole (b ∷ c ∷ bytes) h =
@@ -32,13 +34,15 @@ trimmed-whole (b ∷ c ∷ bytes) h =
     rw rest (kept_before b (c ∷ bytes) (omega arith))
 
 -- a zero at the end is cut off
-pub cut_zero : (bytes : List ℕ) (used : ℕ) → 0 < used → used ≤ length bytes → get_or bytes (used - 1) 0 ≡ 0 → trimmed (take (used - 1) bytes) ≡ trimmed (take used bytes)
+pub cut_zero : (bytes : List ℕ) (used : ℕ) → 0 < used → used ≤ length bytes
+    → get_or bytes (used - 1) 0 ≡ 0 → trimmed (take (used - 1) bytes) ≡ trimmed (take used bytes)
 cut_zero bytes used lt le zero_is =
     let last : take used bytes ≡ take (used - 1) bytes ++ get_or bytes (used - 1) 0 ∷ [] = ap (λ (n : ℕ). take n bytes) (omega arith) ∙ take_more bytes (used - 1) 0 (omega arith) in
     sym (ap trimmed last ∙ ap (λ (b : ℕ). trimmed (take (used - 1) bytes ++ b ∷ [])) zero_is ∙ trimmed-zero (take (used - 1) bytes))
 
 -- no zero is left at the end
-pub cut_whole : (bytes : List ℕ) (used : ℕ) → used ≤ length bytes → (0 < used → get_or bytes (used - 1) 0 ≡ 0 → ⊥) → take used bytes ≡ trimmed (take used bytes)
+pub cut_whole : (bytes : List ℕ) (used : ℕ) → used ≤ length bytes
+    → (0 < used → get_or bytes (used - 1) 0 ≡ 0 → ⊥) → take used bytes ≡ trimmed (take used bytes)
 cut_whole bytes used le h =
     let size : length (take used bytes) ≡ used = omega (arith, length-take used bytes) in
     sym (trimmed-whole (take used bytes) (λ lt e. h (omega arith) (sym (get_or-take used bytes (used - 1) 0 (omega arith)) ∙ ap (λ (n : ℕ). get_or (take used bytes) (n - 1) 0) (sym size) ∙ e)))

@@ -8,7 +8,8 @@ abbrev Known : Type 0
 Known = Option (List ℕ)
 
 -- some bytes more of a text
-pub wrote_more : (a b d : Known) (text rest : List ℕ) (n : ℕ) → (written : List ℕ) → Appends a b written → text ≡ written ++ rest → Appends b d (take n rest)
+pub wrote_more : (a b d : Known) (text rest : List ℕ) (n : ℕ) → (written : List ℕ)
+    → Appends a b written → text ≡ written ++ rest → Appends b d (take n rest)
     → (x : List ℕ) × Appends a d x × (text ≡ x ++ drop n rest)
 wrote_more a b d text rest n written before same now =
     (written ++ take n rest, Appends-trans a b d written (take n rest) before now, same ∙ ap (λ (l : List ℕ). written ++ l) (sym (take-append-drop n rest)) ∙ sym (append_assoc written (take n rest) (drop n rest)))

@@ -36,22 +36,27 @@ use Rattle.uring_threads.proofs.Collecting.{grown_history}
 
 -- A job that was sent is the last of its worker's, and of no other.
 
-jobs-own : (place : Op → ℕ) (k : ℕ) (jobs : List Job) (j : Job) → place j.op ≡ k → jobs_at place k (jobs ++ j ∷ []) ≡ jobs_at place k jobs ++ j ∷ []
+jobs-own : (place : Op → ℕ) (k : ℕ) (jobs : List Job) (j : Job) → place j.op ≡ k
+    → jobs_at place k (jobs ++ j ∷ []) ≡ jobs_at place k jobs ++ j ∷ []
 jobs-own place k jobs j own = filter-append (λ i. place i.op == k) jobs (j ∷ []) ∙ ap (λ (b : Bool). jobs_at place k jobs ++ cond b (j ∷ []) []) (eq-eqb (place j.op) k own)
 
-jobs-other : (place : Op → ℕ) (k : ℕ) (jobs : List Job) (j : Job) → place j.op ≢ k → jobs_at place k (jobs ++ j ∷ []) ≡ jobs_at place k jobs
+jobs-other : (place : Op → ℕ) (k : ℕ) (jobs : List Job) (j : Job) → place j.op ≢ k
+    → jobs_at place k (jobs ++ j ∷ []) ≡ jobs_at place k jobs
 jobs-other place k jobs j other = filter-append (λ i. place i.op == k) jobs (j ∷ []) ∙ ap (λ (b : Bool). jobs_at place k jobs ++ cond b (j ∷ []) []) (ne_eqb (place j.op) k other) ∙ append-nil (jobs_at place k jobs)
 
 -- Nothing is sent or taken in by an event that starts no request and takes in no result.
 
-quiet_event : (w : World) (e : Event) → count_by issues_request (e ∷ []) ≡ 0 → count_by takes_result (e ∷ []) ≡ 0 → (job_by w e ≡ None) × (done_by w e ≡ None)
+quiet_event : (w : World) (e : Event) → count_by issues_request (e ∷ []) ≡ 0
+    → count_by takes_result (e ∷ []) ≡ 0 → (job_by w e ≡ None) × (done_by w e ≡ None)
 quiet_event w (step.Issue n, answer.Run) none idle = absurd (omega (arith, none))
 quiet_event w (step.Finish n, a) none idle = absurd (omega (arith, idle))
 quiet_event w (s, a) none idle = (refl, refl)
 
 -- nor by several
-quiet_events : (g : Setup) (events : List Event) (h : History) → count_by issues_request events ≡ 0 → count_by takes_result events ≡ 0
-    → (jobs_in g (history_of events ++ h) ≡ jobs_in g h) × (done_in g (history_of events ++ h) ≡ done_in g h)
+quiet_events : (g : Setup) (events : List Event) (h : History) → count_by issues_request events ≡ 0
+    → count_by takes_result events ≡ 0
+    → (jobs_in g (history_of events ++ h) ≡ jobs_in g h)
+    × (done_in g (history_of events ++ h) ≡ done_in g h)
 quiet_events g [] h none idle = (refl, refl)
 quiet_events g (e ∷ later) h none idle =
     let issues = sum_by-append (λ x. cond (issues_request x) 1 0) (e ∷ []) later in
@@ -64,10 +69,14 @@ quiet_events g (e ∷ later) h none idle =
 
 -- the jobs sent and the operations done stay
 pub record WorkStays (old new : Kept) : Type 0 where
-  pub jobs : (workers k : ℕ) → jobs_to new.setup workers k (history new) ≡ jobs_to old.setup workers k (history old)
-  pub done : (workers k : ℕ) → done_by_worker new.setup workers k (history new) ≡ done_by_worker old.setup workers k (history old)
+  pub jobs : (workers k : ℕ)
+      → jobs_to new.setup workers k (history new) ≡ jobs_to old.setup workers k (history old)
+  pub done : (workers k : ℕ)
+      → done_by_worker new.setup workers k (history new)
+      ≡ done_by_worker old.setup workers k (history old)
 
-pub quiet_stays : (a b : Kept) (t : Tally) → Appends a b t → t.issues ≡ 0 → t.finishes ≡ 0 → WorkStays a b
+pub quiet_stays : (a b : Kept) (t : Tally) → Appends a b t → t.issues ≡ 0 → t.finishes ≡ 0
+    → WorkStays a b
 quiet_stays a b t p none idle =
     let g : Setup = a.setup in
     let told_so : history b ≡ history_of p.events ++ history a = ap history_of p.trace ∙ sym (append-nil (history_of (a.trace ++ p.events))) ∙ history_of-append a.trace p.events [] ∙ ap (λ h. history_of p.events ++ h) (append-nil (history a)) in
@@ -77,14 +86,16 @@ quiet_stays a b t p none idle =
       done = λ workers k. ap₂ (λ (s : Setup) h. done_by_worker s workers k h) p.setup told_so ∙ ap (filter (λ d. place_of workers g.files d.op == k)) quiet.1;
     }
 
-pub carried_stays : (a b : Kept) (lanes : List WorkLanes) → WorkStays a b → HaveCarried a lanes → HaveCarried b lanes
+pub carried_stays : (a b : Kept) (lanes : List WorkLanes) → WorkStays a b → HaveCarried a lanes
+    → HaveCarried b lanes
 carried_stays a b lanes stays carried = λ k d low.
     let c = carried k d low in
     record { jobs = c.jobs ∙ sym (stays.jobs (length lanes) k); results = c.results ∙ ap results_of (sym (stays.done (length lanes) k)) }
 
 -- A request was issued.
 
-only_posts : (a : Kept) (n : ℕ) (res : ℤ) (bytes : List ℕ) → OnlyPosts (now a) (issuing a.setup (now a) n (answer.Ended res bytes))
+only_posts : (a : Kept) (n : ℕ) (res : ℤ) (bytes : List ℕ)
+    → OnlyPosts (now a) (issuing a.setup (now a) n (answer.Ended res bytes))
 only_posts a n res bytes =
     let p = end_posts a.setup.cq (now a).completions (entry_of (now a).requests n) res no_bytes in
     record { submission = refl; is_closed = refl; reaped = p.0; head = p.1 }
@@ -106,13 +117,18 @@ ended_only a b n issued = by_answer issued.0 issued.1 issued.2 where
   by_answer _ g ended = absurd ended
 
 -- it ended at once: nothing was sent
-pub carried_ended : (a b : Kept) (n : ℕ) (lanes : List WorkLanes) → IssuedAs a b n None → HaveCarried a lanes → HaveCarried b lanes
-carried_ended a b n lanes issued carried = carried_stays a b lanes (ended_stays a b n issued) carried
+pub carried_ended : (a b : Kept) (n : ℕ) (lanes : List WorkLanes) → IssuedAs a b n None
+    → HaveCarried a lanes → HaveCarried b lanes
+carried_ended a b n lanes issued carried =
+    carried_stays a b lanes (ended_stays a b n issued) carried
 
 -- it runs: its job was sent to its worker
-pub carried_run : (a b : Kept) (n place : ℕ) (op : Op) (old new : List WorkLanes) → IssuedAs a b n (Some op) → HaveCarried a old → place ≡ place_of (length old) a.setup.files op → place < length old → length new ≡ length old
+pub carried_run : (a b : Kept) (n place : ℕ) (op : Op) (old new : List WorkLanes)
+    → IssuedAs a b n (Some op) → HaveCarried a old → place ≡ place_of (length old) a.setup.files op
+    → place < length old → length new ≡ length old
     → ((d : WorkLanes) → IsSent (record { number = n; op = op }) (get_or old place d) (get_or new place d))
-    → ((k : ℕ) (d : WorkLanes) → k < length old → k ≢ place → get_or new k d ≡ get_or old k d) → HaveCarried b new
+    → ((k : ℕ) (d : WorkLanes) → k < length old → k ≢ place → get_or new k d ≡ get_or old k d)
+    → HaveCarried b new
 carried_run a b n place op old new issued carried at low many was_sent others = λ k d within.
     let j : Job = record { number = n; op = op } in
     let g : Setup = a.setup in
@@ -139,9 +155,11 @@ carried_run a b n place op old new issued carried at low many was_sent others = 
     ]
 
 -- Results of a worker were taken in.
-pub carried_collected : (a b : Kept) (n place : ℕ) (old new : List WorkLanes) → HaveCarried a old → Collects a b (length old) place n → length new ≡ length old
+pub carried_collected : (a b : Kept) (n place : ℕ) (old new : List WorkLanes) → HaveCarried a old
+    → Collects a b (length old) place n → length new ≡ length old
     → ((d : WorkLanes) → (sent (get_or new place d).jobs ≡ sent (get_or old place d).jobs) × AreTakenIn b (length old) place (received (get_or new place d).results))
-    → ((k : ℕ) (d : WorkLanes) → k < length old → k ≢ place → get_or new k d ≡ get_or old k d) → HaveCarried b new
+    → ((k : ℕ) (d : WorkLanes) → k < length old → k ≢ place → get_or new k d ≡ get_or old k d)
+    → HaveCarried b new
 carried_collected a b n place old new carried p many here others = λ k d within.
     let within' : k < length old = omega (arith, within, many) in
     let before = carried k d within' in
@@ -160,12 +178,17 @@ carried_collected a b n place old new carried p many here others = λ k d within
     ]
 
 -- so some were, also where memory was refused
-pub some_collected : {E : Type 0} (r : Result ℕ E) (a b : Kept) (workers place : ℕ) (seen : List JobResult) → IfOk r (λ n. CollectsSeen a b workers place n seen) → OnErr r ((n : ℕ) × (n ≤ most_results) × Collects a b workers place n) → (n : ℕ) × Collects a b workers place n
+pub some_collected : {E : Type 0} (r : Result ℕ E) (a b : Kept) (workers place : ℕ) (seen : List JobResult)
+    → IfOk r (λ n. CollectsSeen a b workers place n seen)
+    → OnErr r ((n : ℕ) × (n ≤ most_results) × Collects a b workers place n)
+    → (n : ℕ) × Collects a b workers place n
 some_collected (Ok n) a b workers place seen ok err = (n, ok.collected)
 some_collected (Err e) a b workers place seen ok (n, most, collected) = (n, collected)
 
 -- with these lanes in their place
-pub carried_set : (a b : Kept) (n place : ℕ) (old : List WorkLanes) (y d : WorkLanes) → HaveCarried a old → place < length old → Collects a b (length old) place n → y.jobs ≡ (get_or old place d).jobs → AreTakenIn b (length old) place (received y.results)
+pub carried_set : (a b : Kept) (n place : ℕ) (old : List WorkLanes) (y d : WorkLanes)
+    → HaveCarried a old → place < length old → Collects a b (length old) place n
+    → y.jobs ≡ (get_or old place d).jobs → AreTakenIn b (length old) place (received y.results)
     → HaveCarried b (set old place y)
 carried_set a b n place old y d carried low p jobs taken =
     carried_collected a b n place old (set old place y) carried p (length-set old place y)

@@ -14,26 +14,33 @@ use Rattle.uring_threads.specs.declared.intake.Intake.{Intake}
 use Rattle.uring_threads.specs.declared.intake.Intake.TheVariants as intake
 
 -- closes of two lists of events
-pub closes-append : (es fs : List Event) → count_by closes_ring (es ++ fs) ≡ count_by closes_ring es + count_by closes_ring fs
+pub closes-append : (es fs : List Event)
+    → count_by closes_ring (es ++ fs) ≡ count_by closes_ring es + count_by closes_ring fs
 closes-append es fs = sum_by-append (λ e. cond (closes_ring e) 1 0) es fs
 
 -- nothing was appended, or nothing that closes
 pub once_unmoved : (a b : Kept) (i : Intake) → IsUnmoved a b → ClosesOnce a i → ClosesOnce b i
 once_unmoved a b i u once = ap (count_by closes_ring) u.trace ∙ once
 
-pub once_stays : (a b : Kept) (t : Tally) (i : Intake) → Appends a b t → t.closes ≡ 0 → ClosesOnce a i → ClosesOnce b i
+pub once_stays : (a b : Kept) (t : Tally) (i : Intake) → Appends a b t → t.closes ≡ 0
+    → ClosesOnce a i → ClosesOnce b i
 once_stays a b t i p none once =
     ap (count_by closes_ring) p.trace ∙ closes-append a.trace p.events ∙ ap (λ n. count_by closes_ring a.trace + n) (ap (λ (u : Tally). u.closes) p.tally ∙ none) ∙ omega arith ∙ once
 
 -- a call was begun
-not_shut : (a : Kept) (count : _) (b : Begun) → ClosesOnce a intake.Ready → ClosesOnce a (intake_after count b)
+not_shut : (a : Kept) (count : _) (b : Begun) → ClosesOnce a intake.Ready
+    → ClosesOnce a (intake_after count b)
 not_shut a count begun.Taken once = once
 not_shut a count begun.Again once = once
 not_shut a count begun.Spent once = once
 
-pub once_begun : (a b : Kept) (t : Tally) (i : Intake) (count : _) (x : Begun) → Appends a b t → t.closes ≡ 0 → (ClosesOnce a i → ClosesOnce a intake.Ready) → ClosesOnce a i → ClosesOnce b (intake_after count x)
-once_begun a b t i count x p none ready once = not_shut b count x (once_stays a b t intake.Ready p none (ready once))
+pub once_begun : (a b : Kept) (t : Tally) (i : Intake) (count : _) (x : Begun) → Appends a b t
+    → t.closes ≡ 0 → (ClosesOnce a i → ClosesOnce a intake.Ready) → ClosesOnce a i
+    → ClosesOnce b (intake_after count x)
+once_begun a b t i count x p none ready once =
+    not_shut b count x (once_stays a b t intake.Ready p none (ready once))
 
 -- the close mark was pulled
-pub once_shut : (a b : Kept) (x : Answer) → Grows a b (step.Close, x) → ClosesOnce a intake.Ready → ClosesOnce b intake.Closed
+pub once_shut : (a b : Kept) (x : Answer) → Grows a b (step.Close, x) → ClosesOnce a intake.Ready
+    → ClosesOnce b intake.Closed
 once_shut a b x g once = ap (count_by closes_ring) g.trace ∙ closes-append a.trace ((step.Close, x) ∷ []) ∙ ap (λ n. n + 1) once

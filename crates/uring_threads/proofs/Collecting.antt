@@ -35,11 +35,15 @@ pub grown_history : (a b : Kept) (e : Event) → Grows a b e → history b ≡ e
 grown_history a b e grows = ap history_of grows.trace ∙ history_of-snoc a.trace e
 
 -- a request that runs is ended
-pub ends_running : (a : Kept) (n : ℕ) (outcome : Outcome) (x : Answer) → is_running (now a).requests n ≡ true → IsFinished (now a) n outcome x → x ≡ answer.Ended outcome.res outcome.bytes
+pub ends_running : (a : Kept) (n : ℕ) (outcome : Outcome) (x : Answer)
+    → is_running (now a).requests n ≡ true → IsFinished (now a) n outcome x
+    → x ≡ answer.Ended outcome.res outcome.bytes
 ends_running a n outcome x runs finished = finished ∙ ap (λ b. if b then answer.Ended outcome.res outcome.bytes else answer.NotRunning) runs
 
 -- so the trace has the Finish that takes the result in
-pub takes_in : (a b : Kept) (workers place : ℕ) (r : JobResult) (x : Answer) → CanBeTaken a workers place r.number → IsFinished (now a) r.number r.outcome x → Grows a b (step.Finish r.number, x) → Grows a b (finish_of r)
+pub takes_in : (a b : Kept) (workers place : ℕ) (r : JobResult) (x : Answer)
+    → CanBeTaken a workers place r.number → IsFinished (now a) r.number r.outcome x
+    → Grows a b (step.Finish r.number, x) → Grows a b (finish_of r)
 takes_in a b workers place r x can finished grows = subst (λ y. Grows a b (step.Finish r.number, y)) (ends_running a r.number r.outcome x can.runs finished) grows
 
 module _ (a b : Kept) (workers place : ℕ) (r : JobResult) (can : CanBeTaken a workers place r.number) (grows : Grows a b (finish_of r)) where
@@ -47,7 +51,8 @@ module _ (a b : Kept) (workers place : ℕ) (r : JobResult) (can : CanBeTaken a 
   end : Done
   end = record { number = r.number; op = operation_of (entry_of (now a).requests r.number); outcome = r.outcome }
 
-  pub result_taken : (results : List JobResult) → AreTakenIn a workers place results → AreTakenIn b workers place (results ++ r ∷ [])
+  pub result_taken : (results : List JobResult) → AreTakenIn a workers place results
+      → AreTakenIn b workers place (results ++ r ∷ [])
   unfolding end
   result_taken results taken =
       ap (λ rs. rs ++ r ∷ []) taken
@@ -71,8 +76,10 @@ module _ (a b : Kept) (workers place : ℕ) (r : JobResult) (can : CanBeTaken a 
       }
 
 -- what was seen first is what is popped
-pub first_known : {known later : List JobResult} {seen popped : JobResult} → IsPrefix (seen ∷ []) known → known ≡ popped ∷ later → seen ≡ popped
-first_known {known} {later} {seen} {popped} first all = ap (λ rs. slice_index_or rs 0 seen) (first.1 ∙ all)
+pub first_known : {known later : List JobResult} {seen popped : JobResult}
+    → IsPrefix (seen ∷ []) known → known ≡ popped ∷ later → seen ≡ popped
+first_known {known} {later} {seen} {popped} first all =
+    ap (λ rs. slice_index_or rs 0 seen) (first.1 ∙ all)
 
 -- Several results.
 
@@ -83,11 +90,17 @@ same_others a b workers place u =
       results = λ k other. ap₂ (λ g es. done_by_worker g workers k (history_of es)) u.setup u.trace;
     }
 
-pub then_others : (a b c : Kept) (workers place : ℕ) → OthersStay a b workers place → OthersStay b c workers place → OthersStay a c workers place
-then_others a b c workers place p q = record { jobs = λ k. q.jobs k ∙ p.jobs k; results = λ k other. q.results k other ∙ p.results k other }
+pub then_others : (a b c : Kept) (workers place : ℕ) → OthersStay a b workers place
+    → OthersStay b c workers place → OthersStay a c workers place
+then_others a b c workers place p q = record {
+  jobs = λ k. q.jobs k ∙ p.jobs k;
+  results = λ k other. q.results k other ∙ p.results k other;
+}
 
-pub same_taken_in : (a b : Kept) (workers k : ℕ) → IsUnmoved a b → results_taken_in workers k b ≡ results_taken_in workers k a
-same_taken_in a b workers k u = ap₂ (λ g es. length (done_by_worker g workers k (history_of es))) u.setup u.trace
+pub same_taken_in : (a b : Kept) (workers k : ℕ) → IsUnmoved a b
+    → results_taken_in workers k b ≡ results_taken_in workers k a
+same_taken_in a b workers k u =
+    ap₂ (λ g es. length (done_by_worker g workers k (history_of es))) u.setup u.trace
 
 -- the end of a request posts a completion, or none
 posts_end : (a b : Kept) (r : JobResult) → Grows a b (finish_of r) → OnlyPosts (now a) (now b)
@@ -104,7 +117,8 @@ same_comes a b workers u = λ k number can.
     }
 
 -- and where a request ended: no other runs by it
-end_comes : (a b : Kept) (workers : ℕ) (r : JobResult) → Grows a b (finish_of r) → NoneComes a b workers
+end_comes : (a b : Kept) (workers : ℕ) (r : JobResult) → Grows a b (finish_of r)
+    → NoneComes a b workers
 end_comes a b workers r grows = λ k number can.
     let n = r.number in
     let res = r.outcome.res in
@@ -131,7 +145,8 @@ collects_none a b workers place u =
       none_comes = same_comes a b workers u;
     }
 
-pub collects_then : (a b c : Kept) (workers place n m sum : ℕ) → n + m ≡ sum → Collects a b workers place n → Collects b c workers place m → Collects a c workers place sum
+pub collects_then : (a b c : Kept) (workers place n m sum : ℕ) → n + m ≡ sum
+    → Collects a b workers place n → Collects b c workers place m → Collects a c workers place sum
 collects_then a b c workers place n m sum e p q =
     record {
       tally = appends_then a b c (finishes_counted n) (finishes_counted m) (finishes_counted sum) p.tally q.tally (ap finishes_counted e);
@@ -143,7 +158,9 @@ collects_then a b c workers place n m sum e p q =
     }
 
 -- the next one, after more room was asked for
-pub collects_one : (a b c : Kept) (workers place : ℕ) (before after seen : List JobResult) (more : Bool) → IsUnmoved a b → OthersStay b c workers place → TakesNext b c workers place before after seen more → CollectsNext a c workers place seen more
+pub collects_one : (a b c : Kept) (workers place : ℕ) (before after seen : List JobResult) (more : Bool)
+    → IsUnmoved a b → OthersStay b c workers place
+    → TakesNext b c workers place before after seen more → CollectsNext a c workers place seen more
 collects_one a b c workers place before after seen true u others (r, _, can, grows) =
     collects_then a b c workers place 0 1 1 refl (collects_none a b workers place u)
     (record {
@@ -160,12 +177,21 @@ collects_one a b c workers place before after seen false u others (same, _, stay
 )
 
 -- a turn's results, and a round more of them
-pub collects_more : (a b c : Kept) (workers place n : ℕ) (seen : List JobResult) (more : Bool) → more ≡ true → Collects a b workers place n → CollectsNext b c workers place seen more → Collects a c workers place (n + 1)
-collects_more a b c workers place n seen true e p q = collects_then a b c workers place n 1 (n + 1) refl p q
+pub collects_more : (a b c : Kept) (workers place n : ℕ) (seen : List JobResult) (more : Bool)
+    → more ≡ true → Collects a b workers place n → CollectsNext b c workers place seen more
+    → Collects a c workers place (n + 1)
+collects_more a b c workers place n seen true e p q =
+    collects_then a b c workers place n 1 (n + 1) refl p q
 collects_more a b c workers place n seen false e p q = absurd (let f : false ≡ true = e in cc)
 
-pub collects_no_more : (a b c : Kept) (workers place n : ℕ) (seen : List JobResult) (more : Bool) → more ≡ false → n < 64 → Collects a b workers place n → CollectsNext b c workers place seen more → CollectsSeen a c workers place n seen
-collects_no_more a b c workers place n seen false e few p q = record { collected = collects_then a b c workers place n 0 n (omega arith) p q.0; most = omega (arith, few); rest = λ fewer. q.1 }
+pub collects_no_more : (a b c : Kept) (workers place n : ℕ) (seen : List JobResult) (more : Bool)
+    → more ≡ false → n < 64 → Collects a b workers place n
+    → CollectsNext b c workers place seen more → CollectsSeen a c workers place n seen
+collects_no_more a b c workers place n seen false e few p q = record {
+  collected = collects_then a b c workers place n 0 n (omega arith) p q.0;
+  most = omega (arith, few);
+  rest = λ fewer. q.1;
+}
 collects_no_more a b c workers place n seen true e few p q = absurd (let f : true ≡ false = e in cc)
 
 -- what holds anyway holds of an error
@@ -176,14 +202,22 @@ on_err (Err e) p = p
 -- All that wait.
 
 -- the first result that waits can be taken in, and then the next one is the first
-pub first_waits : (a : Kept) (r : JobResult) (later : List JobResult) → IsLawfulApart a.setup (history a) → (w : Wait a (r ∷ later)) → IsTakenIn a.setup w.0 (history a) w.1 (record { done = w.2; untaken = w.3; waiting = later }) r
-first_waits a r later lawful (workers, k, done, untaken, work) = results_run a.setup workers (history a) k done untaken r later lawful work
+pub first_waits : (a : Kept) (r : JobResult) (later : List JobResult)
+    → IsLawfulApart a.setup (history a) → (w : Wait a (r ∷ later))
+    → IsTakenIn a.setup w.0 (history a) w.1 (record { done = w.2; untaken = w.3; waiting = later }) r
+first_waits a r later lawful (workers, k, done, untaken, work) =
+    results_run a.setup workers (history a) k done untaken r later lawful work
 
-pub first_grows : (a b : Kept) (r : JobResult) (later : List JobResult) (x : Answer) → IsLawfulApart a.setup (history a) → Wait a (r ∷ later) → IsFinished (now a) r.number r.outcome x → Grows a b (step.Finish r.number, x) → Grows a b (finish_of r)
+pub first_grows : (a b : Kept) (r : JobResult) (later : List JobResult) (x : Answer)
+    → IsLawfulApart a.setup (history a) → Wait a (r ∷ later)
+    → IsFinished (now a) r.number r.outcome x → Grows a b (step.Finish r.number, x)
+    → Grows a b (finish_of r)
 first_grows a b r later x lawful w finished grows =
     subst (λ y. Grows a b (step.Finish r.number, y)) (ends_running a r.number r.outcome x (first_waits a r later lawful w).runs finished) grows
 
-pub next_waits : (a b : Kept) (r : JobResult) (later : List JobResult) → IsLawfulApart a.setup (history a) → Wait a (r ∷ later) → Grows a b (finish_of r) → Wait b later
+pub next_waits : (a b : Kept) (r : JobResult) (later : List JobResult)
+    → IsLawfulApart a.setup (history a) → Wait a (r ∷ later) → Grows a b (finish_of r)
+    → Wait b later
 next_waits a b r later lawful w grows = (
   w.0,
   w.1,

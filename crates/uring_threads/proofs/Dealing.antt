@@ -9,15 +9,20 @@ use Rattle.uring_laws.proofs.FileLaws.{places_join, files_by_place}
 use Rattle.uring_threads.specs.Work.{place_of_file, place_of, IsDealtByFile, DealtByFile, WorkersJoin, FilesByWorker}
 
 -- what is on a file is its worker's
-on_place : (workers files : ℕ) (fd : ℤ) (op : Op) → is_on fd op ≡ true → place_of workers files op ≡ place_of_file workers files fd
+on_place : (workers files : ℕ) (fd : ℤ) (op : Op) → is_on fd op ≡ true
+    → place_of workers files op ≡ place_of_file workers files fd
 on_place workers files fd Nop on = absurd (let f : false ≡ true = on in cc)
-on_place workers files fd (Read own off len) on = ap (place_of_file workers files) (sym ((Decides-int_eq fd own).0 on))
-on_place workers files fd (Write own off len bytes) on = ap (place_of_file workers files) (sym ((Decides-int_eq fd own).0 on))
-on_place workers files fd (Fsync own) on = ap (place_of_file workers files) (sym ((Decides-int_eq fd own).0 on))
+on_place workers files fd (Read own off len) on =
+    ap (place_of_file workers files) (sym ((Decides-int_eq fd own).0 on))
+on_place workers files fd (Write own off len bytes) on =
+    ap (place_of_file workers files) (sym ((Decides-int_eq fd own).0 on))
+on_place workers files fd (Fsync own) on =
+    ap (place_of_file workers files) (sym ((Decides-int_eq fd own).0 on))
 on_place workers files fd (Cancel target all) on = absurd (let f : false ≡ true = on in cc)
 
 -- one of the workers
-pub file_within : (workers files : ℕ) (fd : ℤ) → 0 < workers → place_of_file workers files fd < workers
+pub file_within : (workers files : ℕ) (fd : ℤ) → 0 < workers
+    → place_of_file workers files fd < workers
 file_within workers files (pos fd) some = either (nat_lt fd files) where
   either : (there : Bool) → cond there (fd % workers) 0 < workers
   either true = omega arith

@@ -11,7 +11,8 @@ use Rattle.uring_threads.specs.Tallies.{Tally, Appends, none_counted, reaps_coun
 use Rattle.uring_threads.specs.Turns.{IsDelivered}
 use Rattle.uring_threads.proofs.TraceSteps.{grown, unmoved_now, appends_one, appends_then, appends_behind}
 
-reaps_are : (k n : ℕ) → k ≡ n → ◌≡◌ {A = Tally} (record { items = 0; issues = 0; finishes = 0; reaps = k; calls = 0; closes = 0 }) (reaps_counted n)
+reaps_are : (k n : ℕ) → k ≡ n
+    → ◌≡◌ {A = Tally} (record { items = 0; issues = 0; finishes = 0; reaps = k; calls = 0; closes = 0 }) (reaps_counted n)
 reaps_are k n same = ap (λ m. reaps_counted m) same
 
 module _ (a room flushed loaded reaped b : Kept) (x y z : Answer) (all : List Cqe) (u : IsUnmoved a room) (flush : Grows room flushed (step.Flush, x)) (load : Grows flushed loaded (step.LoadCqTail, y))

@@ -14,15 +14,20 @@ pub record Drains (first now : Kept) (seen known before received : List JobResul
   pub counted : length taken ≡ count
   pub left : Wait now known
 
-pub drains_none : (first : Kept) (seen before : List JobResult) → Wait first seen → Drains first first seen seen before before 0
+pub drains_none : (first : Kept) (seen before : List JobResult) → Wait first seen
+    → Drains first first seen seen before before 0
 drains_none first seen before left =
     record { taken = []; all = refl; came = sym (append-nil before); recorded = record { trace = sym (append-nil first.trace); setup = refl; room = omega arith }; counted = refl; left = left }
 
 -- the next one
-abbrev pub OneMore : Kept → Kept → List JobResult → List JobResult → List JobResult → List JobResult → Type 0
-OneMore a b known later received now = (r : JobResult) × (known ≡ r ∷ later) × (now ≡ received ++ r ∷ []) × Grows a b (finish_of r)
+abbrev pub OneMore : Kept → Kept → List JobResult → List JobResult → List JobResult → List JobResult
+    → Type 0
+OneMore a b known later received now =
+    (r : JobResult) × (known ≡ r ∷ later) × (now ≡ received ++ r ∷ []) × Grows a b (finish_of r)
 
-pub drains_one : (first a b : Kept) (seen known later before received now : List JobResult) (count : ℕ) → Drains first a seen known before received count → OneMore a b known later received now → Wait b later
+pub drains_one : (first a b : Kept) (seen known later before received now : List JobResult) (count : ℕ)
+    → Drains first a seen known before received count → OneMore a b known later received now
+    → Wait b later
     → Drains first b seen later before now (count + 1)
 drains_one first a b seen known later before received now count d (r, next, came, grows) left =
     record {
@@ -42,7 +47,9 @@ drains_one first a b seen known later before received now count d (r, next, came
     }
 
 -- there is room for one more, and there is one, while there are some
-pub room_left : (first a : Kept) (seen known before received : List JobResult) (count : ℕ) → Drains first a seen known before received count → length first.trace + length seen ≤ first.room → count < length seen
+pub room_left : (first a : Kept) (seen known before received : List JobResult) (count : ℕ)
+    → Drains first a seen known before received count
+    → length first.trace + length seen ≤ first.room → count < length seen
     → (length a.trace < a.room) × (0 < length known)
 room_left first a seen known before received count d room some =
     let events = ap length d.recorded.trace ∙ length-append first.trace (map finish_of d.taken) in
@@ -52,7 +59,9 @@ room_left first a seen known before received count d room some =
     let counted = d.counted in (omega arith, omega arith)
 
 -- at the end all were taken in
-pub drained : (first a : Kept) (seen known before received : List JobResult) (count : ℕ) → Drains first a seen known before received count → length seen ≤ count → TakesAll first a seen × (received ≡ before ++ seen) × (known ≡ [])
+pub drained : (first a : Kept) (seen known before received : List JobResult) (count : ℕ)
+    → Drains first a seen known before received count → length seen ≤ count
+    → TakesAll first a seen × (received ≡ before ++ seen) × (known ≡ [])
 drained first a seen known before received count d all_counted =
     let all = ap length d.all ∙ length-append d.taken known in
     let counted = d.counted in

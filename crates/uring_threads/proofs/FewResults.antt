@@ -26,7 +26,8 @@ no_result : (w : World) (e : Event) → count_by takes_result (e ∷ []) ≡ 0 �
 no_result w (step.Finish n, a) none = absurd (omega (arith, none))
 no_result w (s, a) none = refl
 
-no_results : (g : Setup) (events : List Event) (h : History) → count_by takes_result events ≡ 0 → done_in g (history_of events ++ h) ≡ done_in g h
+no_results : (g : Setup) (events : List Event) (h : History) → count_by takes_result events ≡ 0
+    → done_in g (history_of events ++ h) ≡ done_in g h
 no_results g [] h none = refl
 no_results g (e ∷ later) h none =
     let both = sum_by-append (λ x. cond (takes_result x) 1 0) (e ∷ []) later in
@@ -34,7 +35,8 @@ no_results g (e ∷ later) h none =
     ap (done_in g) (history_of-cons e later h) ∙ no_results g later (e ∷ h) (omega (arith, none, both)) ∙ ap (with_told (done_in g h)) here
 
 -- by events none of which takes one in
-pub none_taken_in : (a b : Kept) (t : Tally) → Appends a b t → t.finishes ≡ 0 → (workers k : ℕ) → results_taken_in workers k b ≡ results_taken_in workers k a
+pub none_taken_in : (a b : Kept) (t : Tally) → Appends a b t → t.finishes ≡ 0 → (workers k : ℕ)
+    → results_taken_in workers k b ≡ results_taken_in workers k a
 none_taken_in a b t p none workers k =
     let told_so : history b ≡ history_of p.events ++ history a = ap history_of p.trace ∙ sym (append-nil (history_of (a.trace ++ p.events))) ∙ history_of-append a.trace p.events [] ∙ ap (λ h. history_of p.events ++ h) (append-nil (history a)) in
     let same : done_in a.setup (history_of p.events ++ history a) ≡ done_in a.setup (history a) = no_results a.setup p.events (history a) (ap (λ (u : Tally). u.finishes) p.tally ∙ none) in
@@ -43,25 +45,36 @@ none_taken_in a b t p none workers k =
 -- Results of one worker were.
 
 -- as many as the answer says
-pub own_collected : {E : Type 0} (r : Result ℕ E) (a b : Kept) (workers place : ℕ) (seen : List JobResult) → IfOk r (λ n. CollectsSeen a b workers place n seen) → IfOk r (λ n. results_taken_in workers place b ≡ results_taken_in workers place a + n)
+pub own_collected : {E : Type 0} (r : Result ℕ E) (a b : Kept) (workers place : ℕ) (seen : List JobResult)
+    → IfOk r (λ n. CollectsSeen a b workers place n seen)
+    → IfOk r (λ n. results_taken_in workers place b ≡ results_taken_in workers place a + n)
 own_collected (Ok n) a b workers place seen ok = ok.collected.own
 own_collected (Err e) a b workers place seen ok = tt
 
-few_of : (a b : Kept) (workers place n : ℕ) → n ≤ most_results → Collects a b workers place n → CollectsFew a b workers place
-few_of a b workers place n most p = record { own = omega (arith, p.own, most); others = λ k other. ap length (p.others.results k other) }
+few_of : (a b : Kept) (workers place n : ℕ) → n ≤ most_results → Collects a b workers place n
+    → CollectsFew a b workers place
+few_of a b workers place n most p = record {
+  own = omega (arith, p.own, most);
+  others = λ k other. ap length (p.others.results k other);
+}
 
 -- also where memory was refused
-pub few_collected : {E : Type 0} (r : Result ℕ E) (a b : Kept) (workers place : ℕ) (seen : List JobResult) → IfOk r (λ n. CollectsSeen a b workers place n seen) → OnErr r ((n : ℕ) × (n ≤ most_results) × Collects a b workers place n)
+pub few_collected : {E : Type 0} (r : Result ℕ E) (a b : Kept) (workers place : ℕ) (seen : List JobResult)
+    → IfOk r (λ n. CollectsSeen a b workers place n seen)
+    → OnErr r ((n : ℕ) × (n ≤ most_results) × Collects a b workers place n)
     → CollectsFew a b workers place
 few_collected (Ok n) a b workers place seen ok err = few_of a b workers place n ok.most ok.collected
-few_collected (Err e) a b workers place seen ok (n, most, collected) = few_of a b workers place n most collected
+few_collected (Err e) a b workers place seen ok (n, most, collected) =
+    few_of a b workers place n most collected
 
 -- Results were taken in of the workers before this place, few of each, and none of the others.
 pub record FewBefore (workers place : ℕ) (a b : Kept) : Type 0 where
-  pub before : (k : ℕ) → k < place → results_taken_in workers k b ≤ results_taken_in workers k a + most_results
+  pub before : (k : ℕ) → k < place
+      → results_taken_in workers k b ≤ results_taken_in workers k a + most_results
   pub others : (k : ℕ) → place ≤ k → results_taken_in workers k b ≡ results_taken_in workers k a
 
-few_more : (workers place : ℕ) (a b c : Kept) → FewBefore workers place a b → CollectsFew b c workers place → FewBefore workers (place + 1) a c
+few_more : (workers place : ℕ) (a b c : Kept) → FewBefore workers place a b
+    → CollectsFew b c workers place → FewBefore workers (place + 1) a c
 few_more workers place a b c p q =
     record {
       before = λ k low.
@@ -79,26 +92,38 @@ few_more workers place a b c p q =
     }
 
 -- the same, of lanes that stay the same
-pub few_at : (old lanes : List WorkLanes) (place : ℕ) (a b c : Kept) → AreSameLanes old lanes → FewBefore (length old) place a b → CollectsFew b c (length lanes) place → FewBefore (length old) (place + 1) a c
-few_at old lanes place a b c same p q = few_more (length old) place a b c p (subst (λ n. CollectsFew b c n place) same.many q)
+pub few_at : (old lanes : List WorkLanes) (place : ℕ) (a b c : Kept) → AreSameLanes old lanes
+    → FewBefore (length old) place a b → CollectsFew b c (length lanes) place
+    → FewBefore (length old) (place + 1) a c
+few_at old lanes place a b c same p q =
+    few_more (length old) place a b c p (subst (λ n. CollectsFew b c n place) same.many q)
 
 -- of all
-pub few_in_all : (workers place : ℕ) (a b : Kept) → FewBefore workers place a b → TakesFewResults workers a b
+pub few_in_all : (workers place : ℕ) (a b : Kept) → FewBefore workers place a b
+    → TakesFewResults workers a b
 few_in_all workers place a b p = λ k. elim (cases_lt k place) [ inl low ↦ p.before k low | inr high ↦ (let none = p.others k high in omega (arith, none)) ]
 
 -- Of the workers before this place, what was seen was taken in.
 
 -- what couldn't be taken in next still can't
-next_stays : (a b : Kept) (workers k : ℕ) (seen : List JobResult) → NoneComes a b workers → NextStays a workers k seen → NextStays b workers k seen
+next_stays : (a b : Kept) (workers k : ℕ) (seen : List JobResult) → NoneComes a b workers
+    → NextStays a workers k seen → NextStays b workers k seen
 next_stays a b workers k [] none stays = tt
 next_stays a b workers k (r ∷ later) none stays = λ can. stays (none k r.number can)
 
 -- of each of them, fewer were taken in only if no other result is seen, or the next can't be taken in
 abbrev pub SeenBefore : ℕ → ℕ → Kept → Kept → List WorkLanes → Type 0
-SeenBefore workers place a b lanes = (k : ℕ) → k < place → results_taken_in workers k b < results_taken_in workers k a + most_results → (d : WorkLanes) → NextStays b workers k (known_items (get_or lanes k d).results)
+SeenBefore workers place a b lanes = (k : ℕ) → k < place
+    → results_taken_in workers k b < results_taken_in workers k a + most_results → (d : WorkLanes)
+    → NextStays b workers k (known_items (get_or lanes k d).results)
 
-seen_more : (workers place count : ℕ) (a b c : Kept) (lanes later : List WorkLanes) → FewBefore workers place a b → CollectsFew b c workers place → results_taken_in workers place c ≡ results_taken_in workers place b + count → NoneComes b c workers
-    → OtherLanesStay lanes later place → (count < most_results → (d : WorkLanes) → NextStays c workers place (known_items (get_or later place d).results)) → SeenBefore workers place a b lanes → SeenBefore workers (place + 1) a c later
+seen_more : (workers place count : ℕ) (a b c : Kept) (lanes later : List WorkLanes)
+    → FewBefore workers place a b → CollectsFew b c workers place
+    → results_taken_in workers place c ≡ results_taken_in workers place b + count
+    → NoneComes b c workers
+    → OtherLanesStay lanes later place
+    → (count < most_results → (d : WorkLanes) → NextStays c workers place (known_items (get_or later place d).results))
+    → SeenBefore workers place a b lanes → SeenBefore workers (place + 1) a c later
 seen_more workers place count a b c lanes later p q own none others sees seen = λ k low fewer d.
     elim (cases_eq k place) [
       | inl here ↦
@@ -112,8 +137,12 @@ seen_more workers place count a b c lanes later p q own none others sees seen = 
     ]
 
 -- the same, of lanes that stay the same
-pub seen_at : (old lanes later : List WorkLanes) (place count : ℕ) (a b c : Kept) → AreSameLanes old lanes → AreSameLanes lanes later → FewBefore (length old) place a b → CollectsFew b c (length lanes) place
-    → results_taken_in (length lanes) place c ≡ results_taken_in (length lanes) place b + count → NoneComes b c (length lanes) → OtherLanesStay lanes later place → (count < most_results → SeesNoMore c later place)
+pub seen_at : (old lanes later : List WorkLanes) (place count : ℕ) (a b c : Kept)
+    → AreSameLanes old lanes → AreSameLanes lanes later → FewBefore (length old) place a b
+    → CollectsFew b c (length lanes) place
+    → results_taken_in (length lanes) place c ≡ results_taken_in (length lanes) place b + count
+    → NoneComes b c (length lanes) → OtherLanesStay lanes later place
+    → (count < most_results → SeesNoMore c later place)
     → SeenBefore (length old) place a b lanes → SeenBefore (length old) (place + 1) a c later
 seen_at old lanes later place count a b c same stay p q own none others sees =
     seen_more (length old) place count a b c lanes later p
@@ -124,26 +153,32 @@ seen_at old lanes later place count a b c same stay p q own none others sees =
     (subst (λ n. count < most_results → (d : WorkLanes) → NextStays c n place (known_items (get_or later place d).results)) (stay.many ∙ same.many) sees)
 
 -- of all
-pub seen_in_all : (old lanes : List WorkLanes) (a b : Kept) → AreSameLanes old lanes → SeenBefore (length old) (length old) a b lanes → TakesSeen a b lanes
+pub seen_in_all : (old lanes : List WorkLanes) (a b : Kept) → AreSameLanes old lanes
+    → SeenBefore (length old) (length old) a b lanes → TakesSeen a b lanes
 seen_in_all old lanes a b same seen = subst (λ n. SeenBefore n n a b lanes) (sym same.many) seen
 
 -- The parts of a turn, all but one of which take none in.
 
-pub few_of_none : (workers : ℕ) (a b : Kept) (t : Tally) → Appends a b t → t.finishes ≡ 0 → TakesFewResults workers a b
-few_of_none workers a b t p none = λ k. let same = none_taken_in a b t p none workers k in omega (arith, same)
+pub few_of_none : (workers : ℕ) (a b : Kept) (t : Tally) → Appends a b t → t.finishes ≡ 0
+    → TakesFewResults workers a b
+few_of_none workers a b t p none =
+    λ k. let same = none_taken_in a b t p none workers k in omega (arith, same)
 
-pub few_behind : (workers : ℕ) (a b c : Kept) (t : Tally) → Appends a b t → t.finishes ≡ 0 → TakesFewResults workers b c → TakesFewResults workers a c
+pub few_behind : (workers : ℕ) (a b c : Kept) (t : Tally) → Appends a b t → t.finishes ≡ 0
+    → TakesFewResults workers b c → TakesFewResults workers a c
 few_behind workers a b c t p none few = λ k.
     let same = none_taken_in a b t p none workers k in
     let more = few k in
     omega (arith, same, more)
 
-pub few_before : (workers : ℕ) (a b c : Kept) (t : Tally) → TakesFewResults workers a b → Appends b c t → t.finishes ≡ 0 → TakesFewResults workers a c
+pub few_before : (workers : ℕ) (a b c : Kept) (t : Tally) → TakesFewResults workers a b
+    → Appends b c t → t.finishes ≡ 0 → TakesFewResults workers a c
 few_before workers a b c t few p none = λ k.
     let more = few k in
     let same = none_taken_in b c t p none workers k in
     omega (arith, same, more)
 
 -- a turn, of the same end
-pub few_same : (workers same : ℕ) (a b c : Kept) → TakesFewResults workers a c → same ≡ workers → b ≡ a → TakesFewResults same b c
+pub few_same : (workers same : ℕ) (a b c : Kept) → TakesFewResults workers a c → same ≡ workers
+    → b ≡ a → TakesFewResults same b c
 few_same workers same a b c few e f = rw (e, f) few

@@ -11,7 +11,8 @@ use Rattle.uring_threads.specs.Worker.{Worker}
 use Rattle.uring_threads.specs.declared.work_lanes.WorkLanes.{WorkLanes}
 
 -- what is true of each place is so of one more
-each_next : {X : Type 0} (P : ℕ → X → Type 0) (xs : List X) (x : X) → ((k : ℕ) (d : X) → k < length xs → P k (get_or xs k d)) → P (length xs) x
+each_next : {X : Type 0} (P : ℕ → X → Type 0) (xs : List X) (x : X)
+    → ((k : ℕ) (d : X) → k < length xs → P k (get_or xs k d)) → P (length xs) x
     → (k : ℕ) (d : X) → k < length (xs ++ x ∷ []) → P k (get_or (xs ++ x ∷ []) k d)
 each_next P xs x all last k d low =
     elim (cases_lt k (length xs)) [
@@ -21,8 +22,11 @@ each_next P xs x all last k d low =
           subst (λ i. P i (get_or (xs ++ x ∷ []) i d)) here (subst (P (length xs)) (sym (get_or-append_seam xs x [] d)) last)
     ]
 
-add_opened : (files : ℕ) (lanes : List WorkLanes) (workers : List Worker) (l : WorkLanes) (w : Worker) → AreOpened files lanes workers → sent l.jobs ≡ [] → received l.results ≡ [] → producer_capacity l.jobs ≡ 64 → consumer_capacity l.results ≡ 64
-    → w.pairing ≡ pairing_of l.jobs l.results → IsFreshWorker files (length lanes) w → AreOpened files (lanes ++ l ∷ []) (workers ++ w ∷ [])
+add_opened : (files : ℕ) (lanes : List WorkLanes) (workers : List Worker) (l : WorkLanes) (w : Worker)
+    → AreOpened files lanes workers → sent l.jobs ≡ [] → received l.results ≡ []
+    → producer_capacity l.jobs ≡ 64 → consumer_capacity l.results ≡ 64
+    → w.pairing ≡ pairing_of l.jobs l.results → IsFreshWorker files (length lanes) w
+    → AreOpened files (lanes ++ l ∷ []) (workers ++ w ∷ [])
 add_opened files lanes workers l w o jobs results jobs_hold results_hold pairing fresh =
     let many : length workers ≡ length lanes = o.pairs.many in
     let longer : length (workers ++ w ∷ []) ≡ length (lanes ++ l ∷ []) = omega (arith, many, length-append workers (w ∷ []), length-append lanes (l ∷ [])) in
@@ -43,7 +47,11 @@ add_opened files lanes workers l w o jobs results jobs_hold results_hold pairing
       fresh = each_next (IsFreshWorker files) workers w o.fresh (subst (λ n. IsFreshWorker files n w) (sym many) fresh);
     }
 
-pub opened_next : (files : ℕ) (lanes later : List WorkLanes) (workers more : List Worker) (l : WorkLanes) (w : Worker) → later ≡ lanes ++ l ∷ [] → more ≡ workers ++ w ∷ [] → AreOpened files lanes workers → sent l.jobs ≡ [] → received l.results ≡ [] → producer_capacity l.jobs ≡ 64 → consumer_capacity l.results ≡ 64
-    → w.pairing ≡ pairing_of l.jobs l.results → IsFreshWorker files (length lanes) w → AreOpened files later more
+pub opened_next : (files : ℕ) (lanes later : List WorkLanes) (workers more : List Worker) (l : WorkLanes) (w : Worker)
+    → later ≡ lanes ++ l ∷ [] → more ≡ workers ++ w ∷ [] → AreOpened files lanes workers
+    → sent l.jobs ≡ [] → received l.results ≡ [] → producer_capacity l.jobs ≡ 64
+    → consumer_capacity l.results ≡ 64
+    → w.pairing ≡ pairing_of l.jobs l.results → IsFreshWorker files (length lanes) w
+    → AreOpened files later more
 opened_next files lanes later workers more l w with_lanes with_worker o jobs results jobs_hold results_hold pairing fresh =
     subst (λ xs. AreOpened files xs more) (sym with_lanes) (subst (AreOpened files (lanes ++ l ∷ [])) (sym with_worker) (add_opened files lanes workers l w o jobs results jobs_hold results_hold pairing fresh))

@@ -23,13 +23,16 @@ use Rattle.uring_threads.specs.declared.work_lanes.WorkLanes.{WorkLanes}
 use Rattle.uring_threads.proofs.Times.{times, times-append, times-counts}
 
 -- a history counts what its events do
-times_history : (p : Event → Bool) (events : List Event) → times p (history_of events) ≡ times p events
+times_history : (p : Event → Bool) (events : List Event)
+    → times p (history_of events) ≡ times p events
 times_history p [] = refl
 times_history p (e ∷ later) = omega (arith, ap (times p) (history_of-cons e later []), times-append p (history_of (e ∷ later)) [], times-append p (history_of later) (e ∷ []), times_history p later)
 
 -- each request that starts sends a job
-told_length : (w : World) (jobs : List Job) (e : Event) → length (with_told jobs (job_by w e)) ≡ cond (starts_request e) 1 0 + length jobs
-told_length w jobs (step.Issue n, answer.Run) = omega (arith, length-append jobs (job_in w.requests n ∷ []))
+told_length : (w : World) (jobs : List Job) (e : Event)
+    → length (with_told jobs (job_by w e)) ≡ cond (starts_request e) 1 0 + length jobs
+told_length w jobs (step.Issue n, answer.Run) =
+    omega (arith, length-append jobs (job_in w.requests n ∷ []))
 told_length w jobs (s, a) = omega arith
 
 jobs_count : (g : Setup) (h : History) → length (jobs_in g h) ≡ times starts_request h
@@ -37,10 +40,12 @@ jobs_count g [] = refl
 jobs_count g (e ∷ h) = omega (arith, told_length (world g h) (jobs_in g h) e, jobs_count g h)
 
 -- a lane that shows no room has carried what it holds
-lane_full : (l : WorkLanes) → producer_capacity l.jobs ≡ 64 → known_free l.jobs ≡ 0 → 64 ≤ length (sent l.jobs)
+lane_full : (l : WorkLanes) → producer_capacity l.jobs ≡ 64 → known_free l.jobs ≡ 0
+    → 64 ≤ length (sent l.jobs)
 lane_full l hold none = omega (arith, hold, none, l.jobs.counts.0)
 
-some_full : (k : Kept) (lanes : List WorkLanes) → HaveCarried k lanes → HoldJobs lanes → SomeIsFull lanes → 64 ≤ count_by starts_request k.trace
+some_full : (k : Kept) (lanes : List WorkLanes) → HaveCarried k lanes → HoldJobs lanes
+    → SomeIsFull lanes → 64 ≤ count_by starts_request k.trace
 some_full k [] carried hold full = absurd (omega (arith, full.1))
 some_full k (d ∷ lanes) carried hold full =
     let at : Job → Bool = λ j. place_of (length (d ∷ lanes)) k.setup.files j.op == full.0 in
@@ -62,18 +67,22 @@ hold_stays old new same hold = λ k d low.
     (same.jobs k d before).1 ∙ hold k d before
 
 -- and as many results
-pub short_stays : (old new : List WorkLanes) → AreSameLanes old new → HoldResults old → HoldResults new
+pub short_stays : (old new : List WorkLanes) → AreSameLanes old new → HoldResults old
+    → HoldResults new
 short_stays old new same short = λ k d low.
     let before : k < length old = omega (arith, low, same.many) in
     subst (λ n. n ≤ 64) (sym (same.results k d before).1) (short k d before)
 
 -- so as long as fewer requests were started, no lane keeps one from being issued
-pub next_is_none : {X E : Type 0} (r : Result X E) (k : Kept) (lanes : List WorkLanes) → IfOk r (λ turn. (next_of (now k).requests ≡ None) ⊎ SomeIsFull lanes) → HaveCarried k lanes → HoldJobs lanes
+pub next_is_none : {X E : Type 0} (r : Result X E) (k : Kept) (lanes : List WorkLanes)
+    → IfOk r (λ turn. (next_of (now k).requests ≡ None) ⊎ SomeIsFull lanes) → HaveCarried k lanes
+    → HoldJobs lanes
     → IfOk r (λ turn. count_by starts_request k.trace < 64 → next_of (now k).requests ≡ None)
 next_is_none (Ok x) k lanes left carried hold = λ few. elim left [ inl none ↦ none | inr full ↦ absurd (omega (arith, few, some_full k lanes carried hold full)) ]
 next_is_none (Err e) k lanes left carried hold = tt
 
 -- a turn leaves the set-up
-pub setup_stays : {E : Type 0} (r : Result Turn E) (a b : Kept) → IfOk r (Counts a b) → OnErr r ((t : Tally) × Appends a b t) → b.setup ≡ a.setup
+pub setup_stays : {E : Type 0} (r : Result Turn E) (a b : Kept) → IfOk r (Counts a b)
+    → OnErr r ((t : Tally) × Appends a b t) → b.setup ≡ a.setup
 setup_stays (Ok x) a b counts err = counts.appends.setup
 setup_stays (Err e) a b counts err = err.1.setup

@@ -19,7 +19,9 @@ next_issuable : (r : Requests) (n : ℕ) → next_of r ≡ Some n → is_issuabl
 next_issuable r n next = (least_below-tells (is_issuable r) (length r.accepted) n next).holds
 
 -- its Issue is answered in one of two ways
-pub issue_cases : (a : Kept) (n : ℕ) (x : Answer) → next_of (now a).requests ≡ Some n → CalledForApart a.setup (now a) (step.Issue n) x → (x ≡ answer.Run → ⊥) → ((res : ℤ) (bytes : List ℕ) → x ≡ answer.Ended res bytes → ⊥) → ⊥
+pub issue_cases : (a : Kept) (n : ℕ) (x : Answer) → next_of (now a).requests ≡ Some n
+    → CalledForApart a.setup (now a) (step.Issue n) x → (x ≡ answer.Run → ⊥)
+    → ((res : ℤ) (bytes : List ℕ) → x ≡ answer.Ended res bytes → ⊥) → ⊥
 issue_cases a n x next called not_run not_ended =
     no_end x not_ended (issued_ends x (subst IsIssued (sym called) (issue_goes (now a) n (next_issuable (now a).requests n next))) not_run) where
       no_end : (y : Answer) → ((res : ℤ) (bytes : List ℕ) → y ≡ answer.Ended res bytes → ⊥) → IsEnded y → ⊥
@@ -27,7 +29,8 @@ issue_cases a n x next called not_run not_ended =
       no_end _ other ended = ended
 
 -- what it starts runs
-pub started_runs : (a b : Kept) (n : ℕ) → next_of (now a).requests ≡ Some n → Grows a b (step.Issue n, answer.Run) → operation_running (now b).requests n ≡ None → ⊥
+pub started_runs : (a b : Kept) (n : ℕ) → next_of (now a).requests ≡ Some n
+    → Grows a b (step.Issue n, answer.Run) → operation_running (now b).requests n ≡ None → ⊥
 started_runs a b n next grows none =
     let waits = and_parts _ _ (and_parts _ _ (next_issuable (now a).requests n next)).0 in
     let unended = (outstanding_tells (now a).requests n waits.0).1 in

@@ -38,11 +38,15 @@ module _ (a k r : Kept) (first old new : List WorkLanes) (u : IsUnmoved k r) (ma
 
 -- One request more was issued.
 
-pub issued_length : (r b : Kept) → Appends r b (issues_counted 1) → length r.trace + 1 ≤ length b.trace
+pub issued_length : (r b : Kept) → Appends r b (issues_counted 1)
+    → length r.trace + 1 ≤ length b.trace
 issued_length r b p = omega (arith, ap length p.trace, length-append r.trace p.events, count_by-le-length issues_request p.events, ap (λ (t : Tally). t.issues) p.tally)
 
-pub one_issued : (a k r b : Kept) (n : ℕ) → Appends a k (issues_counted n) → IsUnmoved k r → Appends r b (issues_counted 1) → Appends a b (issues_counted (n + 1))
+pub one_issued : (a k r b : Kept) (n : ℕ) → Appends a k (issues_counted n) → IsUnmoved k r
+    → Appends r b (issues_counted 1) → Appends a b (issues_counted (n + 1))
 one_issued a k r b n p u q = appends_then a k b _ _ _ p (appends_behind k r b _ u q) refl
 
-pub issued_posts : (a k r b : Kept) → OnlyPosts (now a) (now k) → IsUnmoved k r → OnlyPosts (now r) (now b) → OnlyPosts (now a) (now b)
-issued_posts a k r b p u q = posts_then (now a) (now k) (now b) p (subst (λ w. OnlyPosts w (now b)) (unmoved_now k r u) q)
+pub issued_posts : (a k r b : Kept) → OnlyPosts (now a) (now k) → IsUnmoved k r
+    → OnlyPosts (now r) (now b) → OnlyPosts (now a) (now b)
+issued_posts a k r b p u q =
+    posts_then (now a) (now k) (now b) p (subst (λ w. OnlyPosts w (now b)) (unmoved_now k r u) q)

@@ -14,7 +14,9 @@ use Rattle.uring_threads.specs.Rows.{on_submission, with_item_put, with_items_pu
 use Rattle.uring_threads.proofs.TraceSteps.{grown}
 
 -- the ring stands after items are put, with a word staged for each
-pub items_stand : (l : Submission) (slot : ℕ) (items : List Published) → Stands l l.fresh 0 → Stands (with_items l slot items) (with_items l slot items).fresh 0 × (length (with_items l slot items).fresh ≡ length l.fresh + length items)
+pub items_stand : (l : Submission) (slot : ℕ) (items : List Published) → Stands l l.fresh 0
+    → Stands (with_items l slot items) (with_items l slot items).fresh 0
+    × (length (with_items l slot items).fresh ≡ length l.fresh + length items)
 items_stand l slot [] s = (s, omega arith)
 items_stand l slot (with_entry entry ∷ later) s =
     let next = items_stand (with_item l slot (with_entry entry)) (slot + 1) later (record { fresh = refl; call = s.call; head = s.head; waiting = s.waiting }) in
@@ -24,12 +26,15 @@ items_stand l slot (bad_word word ∷ later) s =
     (next.0, omega (arith, next.1, length_push l.fresh word))
 
 -- the last item is put last
-with_items-snoc : (l : Submission) (slot : ℕ) (items : List Published) (item : Published) → with_items l slot (items ++ item ∷ []) ≡ with_item (with_items l slot items) (slot + length items) item
+with_items-snoc : (l : Submission) (slot : ℕ) (items : List Published) (item : Published)
+    → with_items l slot (items ++ item ∷ [])
+    ≡ with_item (with_items l slot items) (slot + length items) item
 with_items-snoc l slot [] item = ap (λ s. with_item l s item) (omega arith)
 with_items-snoc l slot (first ∷ later) item = with_items-snoc (with_item l slot first) (slot + 1) later item ∙ ap (λ s. with_item (with_items (with_item l slot first) (slot + 1) later) s item) (omega arith)
 
 -- so many items are put, and the ring stands
-pub put_stands : (w : World) (items : List Item) (i : ℕ) → Stands w.submission [] 0 → i ≤ length items
+pub put_stands : (w : World) (items : List Item) (i : ℕ) → Stands w.submission [] 0
+    → i ≤ length items
     → Stands (with_items_put w (all_published_as (take i items))).submission (with_items_put w (all_published_as (take i items))).submission.fresh 0
     × (length (with_items_put w (all_published_as (take i items))).submission.fresh ≡ i)
 put_stands w items i s within =
@@ -38,8 +43,10 @@ put_stands w items i s within =
     (next.0, omega (arith, next.1, ap length s.fresh, length-map (take i items) published_as, length-take-le i items within))
 
 -- the next one is put
-pub items_more : (w : World) (items : List Item) (i slot : ℕ) (item : Item) → slot ≡ i → i < length items → item ≡ get_or items i item
-    → with_item_put (with_items_put w (all_published_as (take i items))) slot (published_as item) ≡ with_items_put w (all_published_as (take (i + 1) items))
+pub items_more : (w : World) (items : List Item) (i slot : ℕ) (item : Item) → slot ≡ i
+    → i < length items → item ≡ get_or items i item
+    → with_item_put (with_items_put w (all_published_as (take i items))) slot (published_as item)
+    ≡ with_items_put w (all_published_as (take (i + 1) items))
 items_more w items i slot item at within is =
     let before : List Published = all_published_as (take i items) in
     let many : slot ≡ 0 + length before = omega (arith, at, length-map (take i items) published_as, length-take-le i items (omega arith)) in
@@ -47,8 +54,11 @@ items_more w items i slot item at within is =
     (ap (on_submission w) (ap (λ s. with_item (with_items w.submission 0 before) s (published_as item)) many ∙ sym (with_items-snoc w.submission 0 before (published_as item)) ∙ ap (with_items w.submission 0) (sym (map-append published_as (take i items) (item ∷ [])))))
 
 -- a store of the tail published them, and so many positions wait
-pub published_now : (a b : Kept) (w : World) (items : List Item) (x : Answer) → Stands w.submission [] 0 → now a ≡ with_items_put w (all_published_as items) → Grows a b (step.StoreTail, x)
-    → (now b ≡ with_items_published a.setup.sq w (all_published_as items)) × Stands (now b).submission [] (length items)
+pub published_now : (a b : Kept) (w : World) (items : List Item) (x : Answer)
+    → Stands w.submission [] 0 → now a ≡ with_items_put w (all_published_as items)
+    → Grows a b (step.StoreTail, x)
+    → (now b ≡ with_items_published a.setup.sq w (all_published_as items))
+    × Stands (now b).submission [] (length items)
 published_now a b w items x s at g =
     let l : Submission = w.submission in
     let put = items_stand l 0 (all_published_as items) (record { fresh = refl; call = s.call; head = s.head; waiting = s.waiting }) in

@@ -24,43 +24,53 @@ op_at accepted n = operation_of (slice_index_or accepted n zero_entry)
 -- What was sent to a place, and what was carried out of it.
 
 -- a request's job is sent to its place as often as it starts
-sent_own : (place : Op → ℕ) (k n : ℕ) (r : Requests) (ns : List ℕ) → (place (operation_of (entry_of r n)) == k) ≡ true → times (λ j. j.number == n) (jobs_at place k (map (job_in r) ns)) ≡ times (λ m. m == n) ns
+sent_own : (place : Op → ℕ) (k n : ℕ) (r : Requests) (ns : List ℕ)
+    → (place (operation_of (entry_of r n)) == k) ≡ true
+    → times (λ j. j.number == n) (jobs_at place k (map (job_in r) ns)) ≡ times (λ m. m == n) ns
 sent_own place k n r [] own = refl
-sent_own place k n r (m ∷ ns) own = by_test (place (operation_of (entry_of r m)) == k) refl (sent_own place k n r ns own) where
-  by_test : (here : Bool) → (place (operation_of (entry_of r m)) == k) ≡ here → times (λ j. j.number == n) (jobs_at place k (map (job_in r) ns)) ≡ times (λ l. l == n) ns
-      → times (λ j. j.number == n) (cond here (job_in r m ∷ jobs_at place k (map (job_in r) ns)) (jobs_at place k (map (job_in r) ns))) ≡ cond (m == n) 1 0 + times (λ l. l == n) ns
-  by_test true e rest = omega (arith, rest)
-  by_test false e rest =
-      let other : (m == n) ≡ false = false_from_ne_true _ (λ same. both_ways _ e (ap (λ l. place (operation_of (entry_of r l)) == k) (eqb-true _ _ same) ∙ own)) in
-      let none : ◌≡◌ {A = ℕ} (cond (m == n) 1 0) 0 = ap (λ b. cond b 1 0) other in
-      omega (arith, rest)
+sent_own place k n r (m ∷ ns) own =
+    by_test (place (operation_of (entry_of r m)) == k) refl (sent_own place k n r ns own) where
+      by_test : (here : Bool) → (place (operation_of (entry_of r m)) == k) ≡ here → times (λ j. j.number == n) (jobs_at place k (map (job_in r) ns)) ≡ times (λ l. l == n) ns
+          → times (λ j. j.number == n) (cond here (job_in r m ∷ jobs_at place k (map (job_in r) ns)) (jobs_at place k (map (job_in r) ns))) ≡ cond (m == n) 1 0 + times (λ l. l == n) ns
+      by_test true e rest = omega (arith, rest)
+      by_test false e rest =
+          let other : (m == n) ≡ false = false_from_ne_true _ (λ same. both_ways _ e (ap (λ l. place (operation_of (entry_of r l)) == k) (eqb-true _ _ same) ∙ own)) in
+          let none : ◌≡◌ {A = ℕ} (cond (m == n) 1 0) 0 = ap (λ b. cond b 1 0) other in
+          omega (arith, rest)
 
 -- and to no other
-sent_other : (place : Op → ℕ) (k n : ℕ) (r : Requests) (ns : List ℕ) → (place (operation_of (entry_of r n)) == k) ≡ false → times (λ j. j.number == n) (jobs_at place k (map (job_in r) ns)) ≡ 0
+sent_other : (place : Op → ℕ) (k n : ℕ) (r : Requests) (ns : List ℕ)
+    → (place (operation_of (entry_of r n)) == k) ≡ false
+    → times (λ j. j.number == n) (jobs_at place k (map (job_in r) ns)) ≡ 0
 sent_other place k n r [] other = refl
-sent_other place k n r (m ∷ ns) other = by_test (place (operation_of (entry_of r m)) == k) refl (sent_other place k n r ns other) where
-  by_test : (here : Bool) → (place (operation_of (entry_of r m)) == k) ≡ here → times (λ j. j.number == n) (jobs_at place k (map (job_in r) ns)) ≡ 0
-      → times (λ j. j.number == n) (cond here (job_in r m ∷ jobs_at place k (map (job_in r) ns)) (jobs_at place k (map (job_in r) ns))) ≡ 0
-  by_test true e rest =
-      let unlike : (m == n) ≡ false = false_from_ne_true _ (λ same. both_ways _ other (ap (λ l. place (operation_of (entry_of r l)) == k) (sym (eqb-true _ _ same)) ∙ e)) in
-      let none : ◌≡◌ {A = ℕ} (cond (m == n) 1 0) 0 = ap (λ b. cond b 1 0) unlike in
-      omega (arith, rest)
-  by_test false e rest = rest
+sent_other place k n r (m ∷ ns) other =
+    by_test (place (operation_of (entry_of r m)) == k) refl (sent_other place k n r ns other) where
+      by_test : (here : Bool) → (place (operation_of (entry_of r m)) == k) ≡ here → times (λ j. j.number == n) (jobs_at place k (map (job_in r) ns)) ≡ 0
+          → times (λ j. j.number == n) (cond here (job_in r m ∷ jobs_at place k (map (job_in r) ns)) (jobs_at place k (map (job_in r) ns))) ≡ 0
+      by_test true e rest =
+          let unlike : (m == n) ≡ false = false_from_ne_true _ (λ same. both_ways _ other (ap (λ l. place (operation_of (entry_of r l)) == k) (sym (eqb-true _ _ same)) ∙ e)) in
+          let none : ◌≡◌ {A = ℕ} (cond (m == n) 1 0) 0 = ap (λ b. cond b 1 0) unlike in
+          omega (arith, rest)
+      by_test false e rest = rest
 
 -- what was carried out of a request was carried out at its place
-done_own : (place : Op → ℕ) (k n : ℕ) (accepted : List Sqe) (ds : List Done) → AreOf accepted ds → (place (op_at accepted n) == k) ≡ true → times (λ d. d.number == n) (done_at place k ds) ≡ times (λ d. d.number == n) ds
+done_own : (place : Op → ℕ) (k n : ℕ) (accepted : List Sqe) (ds : List Done) → AreOf accepted ds
+    → (place (op_at accepted n) == k) ≡ true
+    → times (λ d. d.number == n) (done_at place k ds) ≡ times (λ d. d.number == n) ds
 done_own place k n accepted [] all own = refl
-done_own place k n accepted (d ∷ ds) all own = by_test (place d.op == k) refl (done_own place k n accepted ds all.2 own) where
-  by_test : (here : Bool) → (place d.op == k) ≡ here → times (λ x. x.number == n) (done_at place k ds) ≡ times (λ x. x.number == n) ds
-      → times (λ x. x.number == n) (cond here (d ∷ done_at place k ds) (done_at place k ds)) ≡ cond (d.number == n) 1 0 + times (λ x. x.number == n) ds
-  by_test true e rest = omega (arith, rest)
-  by_test false e rest =
-      let other : (d.number == n) ≡ false = false_from_ne_true _ (λ same. both_ways _ e (ap (λ op. place op == k) (all.1 ∙ ap (op_at accepted) (eqb-true _ _ same)) ∙ own)) in
-      let none : ◌≡◌ {A = ℕ} (cond (d.number == n) 1 0) 0 = ap (λ b. cond b 1 0) other in
-      omega (arith, rest)
+done_own place k n accepted (d ∷ ds) all own =
+    by_test (place d.op == k) refl (done_own place k n accepted ds all.2 own) where
+      by_test : (here : Bool) → (place d.op == k) ≡ here → times (λ x. x.number == n) (done_at place k ds) ≡ times (λ x. x.number == n) ds
+          → times (λ x. x.number == n) (cond here (d ∷ done_at place k ds) (done_at place k ds)) ≡ cond (d.number == n) 1 0 + times (λ x. x.number == n) ds
+      by_test true e rest = omega (arith, rest)
+      by_test false e rest =
+          let other : (d.number == n) ≡ false = false_from_ne_true _ (λ same. both_ways _ e (ap (λ op. place op == k) (all.1 ∙ ap (op_at accepted) (eqb-true _ _ same)) ∙ own)) in
+          let none : ◌≡◌ {A = ℕ} (cond (d.number == n) 1 0) 0 = ap (λ b. cond b 1 0) other in
+          omega (arith, rest)
 
 -- jobs have the numbers of their operations
-pub jobs-times : (n : ℕ) (ds : List Done) → times (λ j. j.number == n) (jobs_of ds) ≡ times (λ d. d.number == n) ds
+pub jobs-times : (n : ℕ) (ds : List Done)
+    → times (λ j. j.number == n) (jobs_of ds) ≡ times (λ d. d.number == n) ds
 jobs-times n [] = refl
 jobs-times n (d ∷ ds) = omega (arith, jobs-times n ds)
 
@@ -74,7 +84,8 @@ module _ (g : Setup) (h : History) (lawful : IsLawfulApart g h) (place : Op → 
       ∙ times-append (λ (j : Job). j.number == n) (jobs_of (done_at place k (done_in g h))) later ∙ ap (λ m. m + times (λ j. j.number == n) later) (jobs-times n (done_at place k (done_in g h)))
 
   -- what is left is the place's own
-  pub left_own : (n : ℕ) → 1 ≤ times (λ j. j.number == n) later → (place (operation_of (entry_of (world g h).requests n)) == k) ≡ true
+  pub left_own : (n : ℕ) → 1 ≤ times (λ j. j.number == n) later
+      → (place (operation_of (entry_of (world g h).requests n)) == k) ≡ true
   left_own n some =
       elim (cases_Bool (place (operation_of (entry_of (world g h).requests n)) == k)) [
         | inl own ↦ own
@@ -82,7 +93,8 @@ module _ (g : Setup) (h : History) (lawful : IsLawfulApart g h) (place : Op → 
       ]
 
   -- what is left runs
-  pub left_runs : (n : ℕ) → 1 ≤ times (λ j. j.number == n) later → is_running (world g h).requests n ≡ true
+  pub left_runs : (n : ℕ) → 1 ≤ times (λ j. j.number == n) later
+      → is_running (world g h).requests n ≡ true
   left_runs n some =
       let r : Requests = (world g h).requests in
       let own = left_own n some in
@@ -94,7 +106,8 @@ module _ (g : Setup) (h : History) (lawful : IsLawfulApart g h) (place : Op → 
         running r n started open_end = ap (λ b. b && not (has_ended r n)) started ∙ ap not (false_from_ne_true _ open_end)
 
   -- what runs and is the place's own is left
-  pub runs_left : (n : ℕ) → place (operation_of (entry_of (world g h).requests n)) ≡ k → is_running (world g h).requests n ≡ true → 1 ≤ times (λ j. j.number == n) later
+  pub runs_left : (n : ℕ) → place (operation_of (entry_of (world g h).requests n)) ≡ k
+      → is_running (world g h).requests n ≡ true → 1 ≤ times (λ j. j.number == n) later
   runs_left n own running =
       let r : Requests = (world g h).requests in
       let parts = and_parts _ _ running in
@@ -109,10 +122,12 @@ module _ (g : Setup) (h : History) (lawful : IsLawfulApart g h) (place : Op → 
 
 -- Operations of a place, with one more carried out.
 
-pub done-own : (place : Op → ℕ) (k : ℕ) (ds : List Done) (d : Done) → place d.op ≡ k → done_at place k (ds ++ d ∷ []) ≡ done_at place k ds ++ d ∷ []
+pub done-own : (place : Op → ℕ) (k : ℕ) (ds : List Done) (d : Done) → place d.op ≡ k
+    → done_at place k (ds ++ d ∷ []) ≡ done_at place k ds ++ d ∷ []
 done-own place k ds d own = filter-append (λ (x : Done). place x.op == k) ds (d ∷ []) ∙ ap (λ b. done_at place k ds ++ cond b (d ∷ []) []) (eq-eqb _ _ own)
 
-pub done-other : (place : Op → ℕ) (k : ℕ) (ds : List Done) (d : Done) → place d.op ≢ k → done_at place k (ds ++ d ∷ []) ≡ done_at place k ds
+pub done-other : (place : Op → ℕ) (k : ℕ) (ds : List Done) (d : Done) → place d.op ≢ k
+    → done_at place k (ds ++ d ∷ []) ≡ done_at place k ds
 done-other place k ds d other =
     filter-append (λ (x : Done). place x.op == k) ds (d ∷ [])
     ∙ ap (λ b. done_at place k ds ++ cond b (d ∷ []) []) (false_from_ne_true _ (λ same. other (eqb-true _ _ same)))

@@ -48,7 +48,8 @@ use Rattle.uring_threads.proofs.Tying.{all_first}
 
 -- Finishes leave the rings, but for what is posted.
 
-finishes_post : (g : Setup) (events : List Event) (rs : List JobResult) → OnlyPosts (world g (history_of events)) (world g (history_of (events ++ map finish_of rs)))
+finishes_post : (g : Setup) (events : List Event) (rs : List JobResult)
+    → OnlyPosts (world g (history_of events)) (world g (history_of (events ++ map finish_of rs)))
 finishes_post g events [] = subst (λ es. OnlyPosts (world g (history_of events)) (world g (history_of es))) (sym (append-nil events)) (posts_none (world g (history_of events)))
 finishes_post g events (r ∷ rs) =
     let w : World = world g (history_of events) in
@@ -57,7 +58,8 @@ finishes_post g events (r ∷ rs) =
     subst (λ es. OnlyPosts w (world g (history_of es))) (append_assoc events (finish_of r ∷ []) (map finish_of rs))
     (posts_then w (world g (history_of (events ++ finish_of r ∷ []))) (world g (history_of ((events ++ finish_of r ∷ []) ++ map finish_of rs))) one (finishes_post g (events ++ finish_of r ∷ []) rs))
 
-pub posts_only : (k : Kept) (lanes : List WorkLanes) (workers : List Worker) (r : Report) → r.setup ≡ k.setup → FinishesAll k.trace lanes workers r → OnlyPosts (now k) (left_by r)
+pub posts_only : (k : Kept) (lanes : List WorkLanes) (workers : List Worker) (r : Report)
+    → r.setup ≡ k.setup → FinishesAll k.trace lanes workers r → OnlyPosts (now k) (left_by r)
 posts_only k lanes workers r setup trace =
     subst (λ es. OnlyPosts (now k) (world r.setup (history_of es))) (sym trace)
     (subst (λ g. OnlyPosts (now k) (world g (history_of (k.trace ++ map finish_of (all_waiting lanes workers))))) (sym setup) (finishes_post k.setup k.trace (all_waiting lanes workers)))
@@ -113,20 +115,27 @@ no_close rs = sym (times-counts closes_ring (map finish_of rs)) ∙ none rs wher
 abbrev one_if : Bool → ℕ
 one_if b = if b then 1 else 0
 
-pub has_one_close : (size : ℕ) (k : Kept) (pulled : Put) (i : Intake) (lanes : List WorkLanes) (workers : List Worker) (r : Report) → Tied size (now k) pulled i → ClosesOnce k i → OnlyPosts (now k) (left_by r) → FinishesAll k.trace lanes workers r → HasOneClose r
+pub has_one_close : (size : ℕ) (k : Kept) (pulled : Put) (i : Intake) (lanes : List WorkLanes) (workers : List Worker) (r : Report)
+    → Tied size (now k) pulled i → ClosesOnce k i → OnlyPosts (now k) (left_by r)
+    → FinishesAll k.trace lanes workers r → HasOneClose r
 has_one_close size k pulled i lanes workers r t once posts trace =
     ap (count_by closes_ring) trace ∙ closes-append k.trace (map finish_of (all_waiting lanes workers))
     ∙ omega (arith, no_close (all_waiting lanes workers)) ∙ once ∙ ap one_if (t.shut ∙ sym t.closed ∙ sym posts.is_closed)
 
 -- What the application received.
 
-pub delivers_reaped : (w : World) (reaped received : List Cqe) (r : Report) → IsDelivered w.completions reaped → OnlyPosts w (left_by r) → LeavesCompletions reaped received r.undelivered → DeliversReaped received r
-delivers_reaped w reaped received r delivered posts leaves = sym leaves ∙ sym delivered.reaped ∙ sym posts.reaped
+pub delivers_reaped : (w : World) (reaped received : List Cqe) (r : Report)
+    → IsDelivered w.completions reaped → OnlyPosts w (left_by r)
+    → LeavesCompletions reaped received r.undelivered → DeliversReaped received r
+delivers_reaped w reaped received r delivered posts leaves =
+    sym leaves ∙ sym delivered.reaped ∙ sym posts.reaped
 
 -- What runs.
 
 -- some job of all is some job of one of them
-any_of : (p : Job → Bool) (ls : List WorkLanes) (ws : List Worker) (d : WorkLanes) (e : Worker) → length ws ≡ length ls → list_any p (all_untaken ls ws) ≡ true → (k : ℕ) × (k < length ws) × (list_any p (untaken_at (get_or ls k d) (get_or ws k e)) ≡ true)
+any_of : (p : Job → Bool) (ls : List WorkLanes) (ws : List Worker) (d : WorkLanes) (e : Worker)
+    → length ws ≡ length ls → list_any p (all_untaken ls ws) ≡ true
+    → (k : ℕ) × (k < length ws) × (list_any p (untaken_at (get_or ls k d) (get_or ws k e)) ≡ true)
 any_of p [] [] d e many some = absurd (let f : false ≡ true = some in cc)
 any_of p [] (w ∷ ws) d e many some = absurd (omega (arith, many))
 any_of p (l ∷ ls) [] d e many some = absurd (omega (arith, many))
@@ -136,11 +145,15 @@ any_of p (l ∷ ls) (w ∷ ws) d e many some =
       | inr later ↦ let one = any_of p ls ws d e (omega (arith, many)) later in (suc one.0, omega (arith, one.1), one.2)
     ]
 
-of_any : (p : Job → Bool) (ls : List WorkLanes) (ws : List Worker) (d : WorkLanes) (e : Worker) (k : ℕ) → length ws ≡ length ls → k < length ws → list_any p (untaken_at (get_or ls k d) (get_or ws k e)) ≡ true → list_any p (all_untaken ls ws) ≡ true
+of_any : (p : Job → Bool) (ls : List WorkLanes) (ws : List Worker) (d : WorkLanes) (e : Worker) (k : ℕ)
+    → length ws ≡ length ls → k < length ws
+    → list_any p (untaken_at (get_or ls k d) (get_or ws k e)) ≡ true
+    → list_any p (all_untaken ls ws) ≡ true
 of_any p [] [] d e k many low some = absurd (omega (arith, low))
 of_any p [] (w ∷ ws) d e k many low some = absurd (omega (arith, many))
 of_any p (l ∷ ls) [] d e k many low some = absurd (omega (arith, many))
-of_any p (l ∷ ls) (w ∷ ws) d e zero many low some = list_any-append p (untaken_at l w) (all_untaken ls ws) ∙ or_left _ _ some
+of_any p (l ∷ ls) (w ∷ ws) d e zero many low some =
+    list_any-append p (untaken_at l w) (all_untaken ls ws) ∙ or_left _ _ some
 of_any p (l ∷ ls) (w ∷ ws) d e (suc k) many low some = list_any-append p (untaken_at l w) (all_untaken ls ws) ∙ or_right _ _ (of_any p ls ws d e k (omega (arith, many)) (omega (arith, low)) some)
 
 module _ (k : Kept) (ls : List WorkLanes) (ws vs : List Worker) (settled : AreSettled k vs) (looked : HaveLooked ws vs) (seen : HaveSeenAll ls vs) (many : length ws ≡ length ls) where
@@ -151,7 +164,8 @@ module _ (k : Kept) (ls : List WorkLanes) (ws vs : List Worker) (settled : AreSe
       let counted : length (get_or ws j e).done ≡ length (jobs_of (get_or vs j e).done) = ap length (sym same) ∙ sym (length-map (get_or vs j e).done job_of) in
       ap₂ (λ n js. drop n js) counted (sym (seen j d e (omega (arith, low, many)))) ∙ drop-append_seam (jobs_of (get_or vs j e).done) (get_or vs j e).seen
 
-  pub runs_untaken : (d : WorkLanes) (e : Worker) (n : ℕ) → (is_running (now k).requests n ≡ true) ↔ (has_job (all_untaken ls ws) n ≡ true)
+  pub runs_untaken : (d : WorkLanes) (e : Worker) (n : ℕ)
+      → (is_running (now k).requests n ≡ true) ↔ (has_job (all_untaken ls ws) n ≡ true)
   runs_untaken d e n =
       let p : Job → Bool = λ job. job.number == n in
       let both = (settled e).running n in (
@@ -163,36 +177,48 @@ module _ (k : Kept) (ls : List WorkLanes) (ws vs : List Worker) (settled : AreSe
             both.1 (one.0, omega (arith, one.1, looked.many), ap (list_any p) (sym (untaken_seen one.0 d e one.1)) ∙ one.2),
       )
 
-pub all_run : (k : Kept) (ls : List WorkLanes) (ws vs : List Worker) → 0 < length ls → AreSettled k vs → HaveLooked ws vs → HaveSeenAll ls vs → length ws ≡ length ls → (n : ℕ) → (is_running (now k).requests n ≡ true) ↔ (has_job (all_untaken ls ws) n ≡ true)
+pub all_run : (k : Kept) (ls : List WorkLanes) (ws vs : List Worker) → 0 < length ls
+    → AreSettled k vs → HaveLooked ws vs → HaveSeenAll ls vs → length ws ≡ length ls → (n : ℕ)
+    → (is_running (now k).requests n ≡ true) ↔ (has_job (all_untaken ls ws) n ≡ true)
 all_run k [] ws vs some settled looked seen many = absurd (omega (arith, some))
 all_run k (l ∷ ls) [] vs some settled looked seen many = absurd (omega (arith, many))
-all_run k (l ∷ ls) (w ∷ ws) vs some settled looked seen many = runs_untaken k (l ∷ ls) (w ∷ ws) vs settled looked seen many l w
+all_run k (l ∷ ls) (w ∷ ws) vs some settled looked seen many =
+    runs_untaken k (l ∷ ls) (w ∷ ws) vs settled looked seen many l w
 
 -- What waits.
 
 -- there is room for the next one that waits
-pub room_for_next : {X : Type 0} (xs : List X) (i : ℕ) (x : X) (len first room : ℕ) → slice_get xs i ≡ Some x → len ≡ i → length xs ≤ first → first ≤ room → len < room
-room_for_next xs i x len first room here same fits more = omega (arith, slice_get_within xs i x here, same, fits, more)
+pub room_for_next : {X : Type 0} (xs : List X) (i : ℕ) (x : X) (len first room : ℕ)
+    → slice_get xs i ≡ Some x → len ≡ i → length xs ≤ first → first ≤ room → len < room
+room_for_next xs i x len first room here same fits more =
+    omega (arith, slice_get_within xs i x here, same, fits, more)
 
 -- and then one more is listed
-pub one_more_listed : {X : Type 0} (xs items later : List X) (i : ℕ) (x : X) → slice_get xs i ≡ Some x → items ≡ take i xs → later ≡ items ++ x ∷ [] → later ≡ take (i + 1) xs
+pub one_more_listed : {X : Type 0} (xs items later : List X) (i : ℕ) (x : X)
+    → slice_get xs i ≡ Some x → items ≡ take i xs → later ≡ items ++ x ∷ []
+    → later ≡ take (i + 1) xs
 one_more_listed xs items later i x here so_far more =
     more ∙ ap (λ ys. ys ++ x ∷ []) so_far ∙ ap (λ y. take i xs ++ y ∷ []) (sym (get_or_from_slice_get xs i x x here)) ∙ sym (take_more xs i x (slice_get_within xs i x here))
 
 -- in the end all are
-pub all_listed : (size : ℕ) (l : Completions) (items : List Cqe) (k : ℕ) → ReapedBeginPosted size l → items ≡ take k (unreaped l) → length l.posted ≤ length l.reaped + k → l.reaped ++ items ≡ l.posted
+pub all_listed : (size : ℕ) (l : Completions) (items : List Cqe) (k : ℕ) → ReapedBeginPosted size l
+    → items ≡ take k (unreaped l) → length l.posted ≤ length l.reaped + k
+    → l.reaped ++ items ≡ l.posted
 all_listed size l items k law so_far many =
     let rest : unreaped l ≡ in_ring l ++ in_overflow l = ap (drop (length l.reaped)) law.in_order ∙ drop-append_seam l.reaped (in_ring l ++ in_overflow l) in
     ap (λ xs. l.reaped ++ xs) (so_far ∙ take_all k (unreaped l) (omega (arith, length-drop (length l.reaped) l.posted, many)) ∙ rest) ∙ sym law.in_order
 
 -- Each result that is taken in posts at most one completion.
-one_end : (size : ℕ) (l : Completions) (entry : Sqe) (res : ℤ) (bytes : List ℕ) → length (unreaped (with_end size l entry res bytes)) ≤ length (unreaped l) + 1
+one_end : (size : ℕ) (l : Completions) (entry : Sqe) (res : ℤ) (bytes : List ℕ)
+    → length (unreaped (with_end size l entry res bytes)) ≤ length (unreaped l) + 1
 one_end size l entry res bytes = by_posts (posts_completion entry res) where
   by_posts : (posts : Bool) → length (unreaped (if posts then with_posted size l (completion_for entry res bytes) else l)) ≤ length (unreaped l) + 1
   by_posts true = omega (arith, length-drop (length l.reaped) (l.posted ++ completion_for entry res bytes ∷ []), length-append l.posted (completion_for entry res bytes ∷ []), length-drop (length l.reaped) l.posted)
   by_posts false = omega arith
 
-each_posts : (g : Setup) (events : List Event) (rs : List JobResult) → length (unreaped (world g (history_of (events ++ map finish_of rs))).completions) ≤ length (unreaped (world g (history_of events)).completions) + length rs
+each_posts : (g : Setup) (events : List Event) (rs : List JobResult)
+    → length (unreaped (world g (history_of (events ++ map finish_of rs))).completions)
+    ≤ length (unreaped (world g (history_of events)).completions) + length rs
 each_posts g events [] = subst (λ es. length (unreaped (world g (history_of es)).completions) ≤ length (unreaped (world g (history_of events)).completions) + 0) (sym (append-nil events)) (omega arith)
 each_posts g events (r ∷ rs) =
     let w : World = world g (history_of events) in
@@ -201,7 +227,9 @@ each_posts g events (r ∷ rs) =
     subst (λ es. length (unreaped (world g (history_of es)).completions) ≤ length (unreaped w.completions) + length (r ∷ rs)) (append_assoc events (finish_of r ∷ []) (map finish_of rs))
     (omega (arith, one, each_posts g (events ++ finish_of r ∷ []) rs))
 
-pub few_unreaped : (a b : Kept) (rs : List JobResult) (most : ℕ) → TakesAll a b rs → length b.trace ≤ length a.trace + most → length (unreaped (now b).completions) ≤ length (unreaped (now a).completions) + most
+pub few_unreaped : (a b : Kept) (rs : List JobResult) (most : ℕ) → TakesAll a b rs
+    → length b.trace ≤ length a.trace + most
+    → length (unreaped (now b).completions) ≤ length (unreaped (now a).completions) + most
 few_unreaped a b rs most all few =
     let counted : length rs ≤ most = omega (arith, few, ap length all.trace, length-append a.trace (map finish_of rs), length-map rs finish_of) in
     let posts = each_posts a.setup a.trace rs in
@@ -209,16 +237,21 @@ few_unreaped a b rs most all few =
     (subst (λ g. length (unreaped (world g (history_of (a.trace ++ map finish_of rs))).completions) ≤ length (unreaped (now a).completions) + most) (sym all.setup) (omega (arith, posts, counted)))
 
 -- a list behind which others stand is taken whole
-pub take_whole : {X : Type 0} (n : ℕ) (xs others : List X) → length xs ≡ n → take n (xs ++ others) ≡ xs
-take_whole n xs others same = subst (λ m. take m (xs ++ others) ≡ xs) same (take-append_seam xs others)
+pub take_whole : {X : Type 0} (n : ℕ) (xs others : List X) → length xs ≡ n
+    → take n (xs ++ others) ≡ xs
+take_whole n xs others same =
+    subst (λ m. take m (xs ++ others) ≡ xs) same (take-append_seam xs others)
 
 -- lanes that are lent are written back whole
-pub lanes_back : (n : ℕ) (old lent new : List WorkLanes) → lent ≡ old → AreSameLanes lent new → length old ≡ n → take n (new ++ drop (length new) old) ≡ new
-lanes_back n old lent new same lanes many = take_whole n new (drop (length new) old) (omega (arith, lanes.many, ap length same, many))
+pub lanes_back : (n : ℕ) (old lent new : List WorkLanes) → lent ≡ old → AreSameLanes lent new
+    → length old ≡ n → take n (new ++ drop (length new) old) ≡ new
+lanes_back n old lent new same lanes many =
+    take_whole n new (drop (length new) old) (omega (arith, lanes.many, ap length same, many))
 
 -- The history is lawful.
 
-pub settled_lawful : (k : Kept) (workers : List Worker) → 0 < length workers → AreSettled k workers → IsLawful k.setup (history k)
+pub settled_lawful : (k : Kept) (workers : List Worker) → 0 < length workers → AreSettled k workers
+    → IsLawful k.setup (history k)
 settled_lawful k [] some settled = absurd (omega (arith, some))
 settled_lawful k (w ∷ ws) some settled = (settled w).lawful
 
@@ -233,9 +266,13 @@ pub record TellsEnds (app : AppEnd) (kernel : Kernel) (workers : List Worker) (r
   pub reaped : DeliversReaped app.received r
 
 pub tells_ends : (app : AppEnd) (kernel same : Kernel) (workers : List Worker) (kept : Kept) (lanes : List WorkLanes) (unsent : List Item) (undelivered : List Cqe) (r : Report)
-    → AreTogether app kernel workers → IsSameKernel kernel same → IsKernel same → kept ≡ same.kept → lanes ≡ same.lanes
-    → LeavesItems app.submitted same.pulled unsent → LeavesCompletions same.reaped app.received undelivered → AreItems app.sizes.sq (items_of_calls app.submitted.calls)
-    → r.setup ≡ kept.setup → FinishesAll kept.trace lanes workers r → LeavesRunning lanes workers r → (r.unsent ≡ unsent) × (r.undelivered ≡ undelivered) → TellsEnds app kernel workers r
+    → AreTogether app kernel workers → IsSameKernel kernel same → IsKernel same → kept ≡ same.kept
+    → lanes ≡ same.lanes
+    → LeavesItems app.submitted same.pulled unsent
+    → LeavesCompletions same.reaped app.received undelivered
+    → AreItems app.sizes.sq (items_of_calls app.submitted.calls)
+    → r.setup ≡ kept.setup → FinishesAll kept.trace lanes workers r → LeavesRunning lanes workers r
+    → (r.unsent ≡ unsent) × (r.undelivered ≡ undelivered) → TellsEnds app kernel workers r
 tells_ends app kernel same workers kept lanes unsent undelivered r t s is keeps these items completions good setup trace running rests =
     let goes_on : FinishesAll same.kept.trace lanes workers r = subst (λ (k : Kept). FinishesAll k.trace lanes workers r) keeps trace in
     let posts : OnlyPosts (now same.kept) (left_by r) = posts_only same.kept lanes workers r (setup ∙ ap (λ (k : Kept). k.setup) keeps) goes_on in

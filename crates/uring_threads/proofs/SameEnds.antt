@@ -16,20 +16,25 @@ use Rattle.uring_threads.specs.declared.work_lanes.WorkLanes.{WorkLanes}
 use Rattle.uring_threads.proofs.Working.{same_ring}
 
 -- two lists are told the same if their elements are, place by place
-pub told_same : {X Y A : Type 0} (f : X → A) (g : Y → A) (xs : List X) (ys : List Y) → length xs ≡ length ys → ((k : ℕ) (d : X) (e : Y) → k < length xs → f (get_or xs k d) ≡ g (get_or ys k e)) → map f xs ≡ map g ys
+pub told_same : {X Y A : Type 0} (f : X → A) (g : Y → A) (xs : List X) (ys : List Y)
+    → length xs ≡ length ys
+    → ((k : ℕ) (d : X) (e : Y) → k < length xs → f (get_or xs k d) ≡ g (get_or ys k e))
+    → map f xs ≡ map g ys
 told_same f g [] [] many each = refl
 told_same f g [] (y ∷ ys) many each = absurd (omega (arith, many))
 told_same f g (x ∷ xs) [] many each = absurd (omega (arith, many))
 told_same f g (x ∷ xs) (y ∷ ys) many each = ap₂ (λ a more. a ∷ more) (each 0 x y (omega arith)) (told_same f g xs ys (omega (arith, many)) (λ k d e low. each (suc k) d e (omega (arith, low))))
 
 -- and the other way round
-pub same_told : {X Y A : Type 0} (f : X → A) (g : Y → A) (xs : List X) (ys : List Y) (k : ℕ) (d : X) (e : Y) → map f xs ≡ map g ys → k < length ys → f (get_or xs k d) ≡ g (get_or ys k e)
+pub same_told : {X Y A : Type 0} (f : X → A) (g : Y → A) (xs : List X) (ys : List Y) (k : ℕ) (d : X) (e : Y)
+    → map f xs ≡ map g ys → k < length ys → f (get_or xs k d) ≡ g (get_or ys k e)
 same_told f g xs ys k d e same low =
     let many : length xs ≡ length ys = sym (length-map xs f) ∙ ap length same ∙ length-map ys g in
     sym (get_or-map f xs k d (f d) (omega (arith, low, many))) ∙ ap (λ told. get_or told k (f d)) same ∙ get_or-map g ys k e (f d) low
 
 -- the same lanes have the same numbers
-pub same_numbers : (old new : List WorkLanes) → AreSameLanes old new → numbers_of_lanes new ≡ numbers_of_lanes old
+pub same_numbers : (old new : List WorkLanes) → AreSameLanes old new
+    → numbers_of_lanes new ≡ numbers_of_lanes old
 same_numbers old new same =
     told_same (λ (l : WorkLanes). pairing_of l.jobs l.results) (λ (l : WorkLanes). pairing_of l.jobs l.results) new old same.many (λ k d e low. at k d e (omega (arith, low, same.many))) where
       at : (k : ℕ) (d e : WorkLanes) → k < length old → pairing_of (get_or new k d).jobs (get_or new k d).results ≡ pairing_of (get_or old k e).jobs (get_or old k e).results
@@ -42,7 +47,9 @@ same_numbers old new same =
           ∙ ap (λ (x : WorkLanes). pairing_of x.jobs x.results) (get_or_default old k d e low)
 
 -- the dispatcher's lanes are those of the workers
-pub lanes_of_workers : (app : AppEnd) (kernel : Kernel) (workers : List Worker) → AreTogether app kernel workers → IsKernel kernel → AreLanesOf kernel.kept.setup.files kernel.lanes workers
+pub lanes_of_workers : (app : AppEnd) (kernel : Kernel) (workers : List Worker)
+    → AreTogether app kernel workers → IsKernel kernel
+    → AreLanesOf kernel.kept.setup.files kernel.lanes workers
 lanes_of_workers app kernel workers together is =
     let many : length workers ≡ length kernel.lanes = sym (length-map workers (λ (w : Worker). w.pairing)) ∙ ap length together.lanes ∙ length-map kernel.lanes (λ (l : WorkLanes). pairing_of l.jobs l.results) in
     record {
@@ -53,7 +60,9 @@ lanes_of_workers app kernel workers together is =
     }
 
 -- the ends of a set-up, as they are opened
-pub opened_together : (files : ℕ) (app : AppEnd) (kernel : Kernel) (workers : List Worker) → kernel.pairing ≡ app.pairing → kernel.sizes ≡ app.sizes → kernel.kept.setup.files ≡ files → AreLanesOf files kernel.lanes workers → AreTogether app kernel workers
+pub opened_together : (files : ℕ) (app : AppEnd) (kernel : Kernel) (workers : List Worker)
+    → kernel.pairing ≡ app.pairing → kernel.sizes ≡ app.sizes → kernel.kept.setup.files ≡ files
+    → AreLanesOf files kernel.lanes workers → AreTogether app kernel workers
 opened_together files app kernel workers ports sizes same of =
     record {
       ports = ports;
@@ -64,10 +73,20 @@ opened_together files app kernel workers ports sizes same of =
 
 -- Who does something goes on to be of the same ends.
 
-pub app_stays : (old new : AppEnd) (kernel : Kernel) (workers : List Worker) → new.pairing ≡ old.pairing → new.sizes ≡ old.sizes → AreTogether old kernel workers → AreTogether new kernel workers
-app_stays old new kernel workers pairing sizes t = record { ports = t.ports ∙ sym pairing; sizes = t.sizes ∙ sym sizes; lanes = t.lanes; files = t.files }
+pub app_stays : (old new : AppEnd) (kernel : Kernel) (workers : List Worker)
+    → new.pairing ≡ old.pairing → new.sizes ≡ old.sizes → AreTogether old kernel workers
+    → AreTogether new kernel workers
+app_stays old new kernel workers pairing sizes t = record {
+  ports = t.ports ∙ sym pairing;
+  sizes = t.sizes ∙ sym sizes;
+  lanes = t.lanes;
+  files = t.files;
+}
 
-pub kernel_stays : (app : AppEnd) (old new : Kernel) (workers : List Worker) → new.pairing ≡ old.pairing → new.sizes ≡ old.sizes → numbers_of_lanes new.lanes ≡ numbers_of_lanes old.lanes → new.kept.setup ≡ old.kept.setup → AreTogether app old workers → AreTogether app new workers
+pub kernel_stays : (app : AppEnd) (old new : Kernel) (workers : List Worker)
+    → new.pairing ≡ old.pairing → new.sizes ≡ old.sizes
+    → numbers_of_lanes new.lanes ≡ numbers_of_lanes old.lanes → new.kept.setup ≡ old.kept.setup
+    → AreTogether app old workers → AreTogether app new workers
 kernel_stays app old new workers pairing sizes numbers setup t =
     record {
       ports = pairing ∙ t.ports;
@@ -85,7 +104,9 @@ module _ (workers : List Worker) (k : ℕ) (d new : Worker) (low : k < length wo
         | inr other ↦ ap f (get_or-set_other workers k j new x other) ∙ ap f (get_or_default workers j x y (omega (arith, within, length-set workers k new)))
       ]
 
-  pub worker_stays : (app : AppEnd) (kernel : Kernel) → new.pairing ≡ (get_or workers k d).pairing → length new.files ≡ length (get_or workers k d).files → AreTogether app kernel workers → AreTogether app kernel (slice_set workers k new)
+  pub worker_stays : (app : AppEnd) (kernel : Kernel) → new.pairing ≡ (get_or workers k d).pairing
+      → length new.files ≡ length (get_or workers k d).files → AreTogether app kernel workers
+      → AreTogether app kernel (slice_set workers k new)
   worker_stays app kernel pairing files t =
       record {
         ports = t.ports;
@@ -96,20 +117,25 @@ module _ (workers : List Worker) (k : ℕ) (d new : Worker) (low : k < length wo
 
 -- Asking for room changes nothing else.
 
-pub together_same : (app : AppEnd) (kernel same : Kernel) (workers : List Worker) → IsSameKernel kernel same → AreTogether app kernel workers → AreTogether app same workers
+pub together_same : (app : AppEnd) (kernel same : Kernel) (workers : List Worker)
+    → IsSameKernel kernel same → AreTogether app kernel workers → AreTogether app same workers
 together_same app kernel same workers s t =
     kernel_stays app kernel same workers (ap (λ (k : Kernel). k.pairing) s.others) (ap (λ (k : Kernel). k.sizes) s.others) (ap (λ (k : Kernel). numbers_of_lanes k.lanes) s.others) s.kept.setup t
 
-pub lanes_to_settle : (app : AppEnd) (kernel same : Kernel) (workers : List Worker) (kept : Kept) (lanes : List WorkLanes) → AreTogether app kernel workers → IsSameKernel kernel same → IsKernel same → kept ≡ same.kept → lanes ≡ same.lanes → AreLanesOf kept.setup.files lanes workers
+pub lanes_to_settle : (app : AppEnd) (kernel same : Kernel) (workers : List Worker) (kept : Kept) (lanes : List WorkLanes)
+    → AreTogether app kernel workers → IsSameKernel kernel same → IsKernel same → kept ≡ same.kept
+    → lanes ≡ same.lanes → AreLanesOf kept.setup.files lanes workers
 lanes_to_settle app kernel same workers kept lanes t s is keeps these =
     subst (λ (k : Kept). AreLanesOf k.setup.files lanes workers) (sym keeps)
     (subst (λ ls. AreLanesOf same.kept.setup.files ls workers) (sym these) (lanes_of_workers app same workers (together_same app kernel same workers s t) is))
 
-pub carried_to_settle : (same : Kernel) (kept : Kept) (lanes : List WorkLanes) → IsKernel same → kept ≡ same.kept → lanes ≡ same.lanes → HaveCarried kept lanes
+pub carried_to_settle : (same : Kernel) (kept : Kept) (lanes : List WorkLanes) → IsKernel same
+    → kept ≡ same.kept → lanes ≡ same.lanes → HaveCarried kept lanes
 carried_to_settle same kept lanes is keeps these = subst (λ (k : Kept). HaveCarried k lanes) (sym keeps) (subst (HaveCarried same.kept) (sym these) is.ties.carried)
 
 -- workers that looked have as many files as before
-pub files_had : (files : ℕ) (lanes : List WorkLanes) (old new : List Worker) → 0 < length lanes → AreLanesOf files lanes old → HaveLooked old new → HaveFiles files new
+pub files_had : (files : ℕ) (lanes : List WorkLanes) (old new : List Worker) → 0 < length lanes
+    → AreLanesOf files lanes old → HaveLooked old new → HaveFiles files new
 files_had files lanes old new some of looked =
     record {
       some = omega (arith, some, of.many, looked.many);

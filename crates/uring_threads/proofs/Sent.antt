@@ -32,22 +32,29 @@ use Rattle.uring_threads.proofs.Times.{times, times-append, times-told}
 -- Jobs: one for each request that started.
 
 -- jobs of accepted requests stay as more are accepted
-jobs_stay : (r : Requests) (entries : List Sqe) (ns : List ℕ) → ((n : ℕ) → list_any (λ m. m == n) ns ≡ true → n < length r.accepted) → map (job_in r) ns ≡ map (job_in (with_call r entries)) ns
+jobs_stay : (r : Requests) (entries : List Sqe) (ns : List ℕ)
+    → ((n : ℕ) → list_any (λ m. m == n) ns ≡ true → n < length r.accepted)
+    → map (job_in r) ns ≡ map (job_in (with_call r entries)) ns
 jobs_stay r entries [] within = refl
 jobs_stay r entries (n ∷ ns) within =
     let here : job_in r n ≡ job_in (with_call r entries) n = ap (λ e. record { number = n; op = operation_of e }) (sym (entry_stays r entries n (within n (or_left _ _ (eq-eqb n n refl))))) in
     ap (λ j. j ∷ map (job_in r) ns) here ∙ ap (λ js. job_in (with_call r entries) n ∷ js) (jobs_stay r entries ns (λ m there. within m (or_right _ _ there)))
 
-jobs_then : (r q : Requests) (s : Step) (a : Answer) (jobs : List Job) → Move r s a q → IsSoundRequests r → jobs ≡ map (job_in r) r.started
+jobs_then : (r q : Requests) (s : Step) (a : Answer) (jobs : List Job) → Move r s a q
+    → IsSoundRequests r → jobs ≡ map (job_in r) r.started
     → with_told jobs (option_map (job_in r) (started_by (s, a))) ≡ map (job_in q) q.started
-jobs_then r q s a jobs (stays _ _ no_start no_end) i same = ap (λ o. with_told jobs (option_map (job_in r) o)) no_start ∙ same
-jobs_then r q s a jobs (accepts accepted missed head entries) i same = same ∙ jobs_stay r entries r.started i.started_accepted
-jobs_then r q s a jobs (starts n outstanding idle spared ready no_cancel) i same = ap (λ js. js ++ job_in r n ∷ []) same ∙ sym (map-append (job_in r) r.started (n ∷ []))
+jobs_then r q s a jobs (stays _ _ no_start no_end) i same =
+    ap (λ o. with_told jobs (option_map (job_in r) o)) no_start ∙ same
+jobs_then r q s a jobs (accepts accepted missed head entries) i same =
+    same ∙ jobs_stay r entries r.started i.started_accepted
+jobs_then r q s a jobs (starts n outstanding idle spared ready no_cancel) i same =
+    ap (λ js. js ++ job_in r n ∷ []) same ∙ sym (map-append (job_in r) r.started (n ∷ []))
 jobs_then r q s a jobs (ends_doomed n outstanding) i same = same
 jobs_then r q s a jobs (ends_cancel n outstanding spared ready cancel) i same = same
 jobs_then r q s a jobs (ends_run n res bytes running) i same = same
 
-pub jobs_are_starts : (g : Setup) (h : History) → IsLawfulApart g h → jobs_in g h ≡ map (job_in (world g h).requests) (world g h).requests.started
+pub jobs_are_starts : (g : Setup) (h : History) → IsLawfulApart g h
+    → jobs_in g h ≡ map (job_in (world g h).requests) (world g h).requests.started
 jobs_are_starts g [] lawful = refl
 jobs_are_starts g ((s, a) ∷ h) lawful = jobs_then (world g h).requests _ s a (jobs_in g h) (move_of g s a h lawful) (sound_of g h lawful.1).requests (jobs_are_starts g h lawful.1)
 
@@ -56,44 +63,59 @@ jobs_are_starts g ((s, a) ∷ h) lawful = jobs_then (world g h).requests _ s a (
 -- these operations are those that the entries of their requests ask for, where these were accepted
 abbrev pub AreOf : List Sqe → List Done → Type 0
 AreOf accepted [] = Unit {0}
-AreOf accepted (d ∷ ds) = (d.number < length accepted) × (d.op ≡ operation_of (slice_index_or accepted d.number zero_entry)) × AreOf accepted ds
+AreOf accepted (d ∷ ds) = (d.number < length accepted)
+    × (d.op ≡ operation_of (slice_index_or accepted d.number zero_entry)) × AreOf accepted ds
 
-of-snoc : (accepted : List Sqe) (ds : List Done) (d : Done) → AreOf accepted ds → d.number < length accepted → d.op ≡ operation_of (slice_index_or accepted d.number zero_entry) → AreOf accepted (ds ++ d ∷ [])
+of-snoc : (accepted : List Sqe) (ds : List Done) (d : Done) → AreOf accepted ds
+    → d.number < length accepted → d.op ≡ operation_of (slice_index_or accepted d.number zero_entry)
+    → AreOf accepted (ds ++ d ∷ [])
 of-snoc accepted [] d all within op = (within, op, tt)
-of-snoc accepted (first ∷ ds) d all within op = (all.0, all.1, of-snoc accepted ds d all.2 within op)
+of-snoc accepted (first ∷ ds) d all within op =
+    (all.0, all.1, of-snoc accepted ds d all.2 within op)
 
-of_call : (r : Requests) (entries : List Sqe) (ds : List Done) → AreOf r.accepted ds → AreOf (r.accepted ++ entries) ds
+of_call : (r : Requests) (entries : List Sqe) (ds : List Done) → AreOf r.accepted ds
+    → AreOf (r.accepted ++ entries) ds
 of_call r entries [] all = tt
 of_call r entries (d ∷ ds) all = (omega (arith, all.0, length-append r.accepted entries), all.1 ∙ ap operation_of (sym (entry_stays r entries d.number all.0)), of_call r entries ds all.2)
 
 -- what tells no end carries no operation out
-silent_none : (w : World) (s : Step) (a : Answer) → end_told_by (s, a) ≡ None → done_by w (s, a) ≡ None
+silent_none : (w : World) (s : Step) (a : Answer) → end_told_by (s, a) ≡ None
+    → done_by w (s, a) ≡ None
 silent_none w (step.Finish n) (answer.Ended res bytes) e = absurd cc
 silent_none w (step.Finish n) a e = refl
 silent_none w s a e = refl
 
-done_then : (w : World) (q : Requests) (s : Step) (a : Answer) (done : List Done) → Move w.requests s a q → IsSoundRequests w.requests → AreOf w.requests.accepted done → AreOf q.accepted (with_told done (done_by w (s, a)))
-done_then w q s a done (stays _ _ no_start no_end) i all = subst (λ o. AreOf w.requests.accepted (with_told done o)) (sym (silent_none w s a no_end)) all
-done_then w q s a done (accepts accepted missed head entries) i all = of_call w.requests entries done all
+done_then : (w : World) (q : Requests) (s : Step) (a : Answer) (done : List Done)
+    → Move w.requests s a q → IsSoundRequests w.requests → AreOf w.requests.accepted done
+    → AreOf q.accepted (with_told done (done_by w (s, a)))
+done_then w q s a done (stays _ _ no_start no_end) i all =
+    subst (λ o. AreOf w.requests.accepted (with_told done o)) (sym (silent_none w s a no_end)) all
+done_then w q s a done (accepts accepted missed head entries) i all =
+    of_call w.requests entries done all
 done_then w q s a done (starts n outstanding idle spared ready no_cancel) i all = all
 done_then w q s a done (ends_doomed n outstanding) i all = all
 done_then w q s a done (ends_cancel n outstanding spared ready cancel) i all = all
-done_then w q s a done (ends_run n res bytes running) i all = of-snoc w.requests.accepted done _ all (i.started_accepted n (and_parts _ _ running).0) refl
+done_then w q s a done (ends_run n res bytes running) i all =
+    of-snoc w.requests.accepted done _ all (i.started_accepted n (and_parts _ _ running).0) refl
 
-pub done_is_of : (g : Setup) (h : History) → IsLawfulApart g h → AreOf (world g h).requests.accepted (done_in g h)
+pub done_is_of : (g : Setup) (h : History) → IsLawfulApart g h
+    → AreOf (world g h).requests.accepted (done_in g h)
 done_is_of g [] lawful = tt
 done_is_of g ((s, a) ∷ h) lawful = done_then (world g h) _ s a (done_in g h) (move_of g s a h lawful) (sound_of g h lawful.1).requests (done_is_of g h lawful.1)
 
 -- what an Issue ends wasn't running
 issue_idle : (outstanding running doomed ready cancel : Bool) (as_doomed as_cancel res : ℤ) (bytes : List ℕ)
-    → answer.Ended res bytes ≡ (if not outstanding then answer.Unknown else (if running then answer.Running else (if doomed then answer.Ended as_doomed no_bytes else (if not ready then answer.NotReady else (if cancel then answer.Ended as_cancel no_bytes else answer.Run)))))
+    → answer.Ended res bytes
+    ≡ (if not outstanding then answer.Unknown else (if running then answer.Running else (if doomed then answer.Ended as_doomed no_bytes else (if not ready then answer.NotReady else (if cancel then answer.Ended as_cancel no_bytes else answer.Run)))))
     → running ≡ false
 issue_idle outstanding false doomed ready cancel as_doomed as_cancel res bytes e = refl
 issue_idle false true doomed ready cancel as_doomed as_cancel res bytes e = absurd cc
 issue_idle true true doomed ready cancel as_doomed as_cancel res bytes e = absurd cc
 
 -- so it hadn't started
-not_started : (w : World) (n : ℕ) (res : ℤ) (bytes : List ℕ) → answer.Ended res bytes ≡ issue_answer w n → is_outstanding w.requests n ≡ true → has_started w.requests n ≡ false
+not_started : (w : World) (n : ℕ) (res : ℤ) (bytes : List ℕ)
+    → answer.Ended res bytes ≡ issue_answer w n → is_outstanding w.requests n ≡ true
+    → has_started w.requests n ≡ false
 not_started w n res bytes called outstanding =
     idle_tells w.requests n
     (issue_idle (is_outstanding w.requests n) (is_running w.requests n) (is_doomed w.requests n) (is_ready w.requests n) (is_cancel (entry_of w.requests n)) (doomed_result w.requests n) (cancel_result w.requests n) res bytes called)
@@ -101,20 +123,27 @@ not_started w n res bytes called outstanding =
 
 -- what has started and ended was carried out
 abbrev Carried : Requests → List Done → Type 0
-Carried r done = (n : ℕ) → has_started r n ≡ true → has_ended r n ≡ true → 1 ≤ times (λ d. d.number == n) done
+Carried r done =
+    (n : ℕ) → has_started r n ≡ true → has_ended r n ≡ true → 1 ≤ times (λ d. d.number == n) done
 
 -- one more end, of a request that hadn't started
-end_carries : (r : Requests) (m : ℕ) (end : Ending) (done : List Done) → end.number ≡ m → has_started r m ≡ false → Carried r done → (n : ℕ) → has_started r n ≡ true → list_any (λ e. e.number == n) (r.ended ++ end ∷ []) ≡ true → 1 ≤ times (λ d. d.number == n) done
+end_carries : (r : Requests) (m : ℕ) (end : Ending) (done : List Done) → end.number ≡ m
+    → has_started r m ≡ false → Carried r done → (n : ℕ) → has_started r n ≡ true
+    → list_any (λ e. e.number == n) (r.ended ++ end ∷ []) ≡ true
+    → 1 ≤ times (λ d. d.number == n) done
 end_carries r m end done at fresh all n started ended =
     elim (any_new (λ e. e.number == n) r.ended end ended) [
       | inl old ↦ all n started old
       | inr new ↦ absurd (both_ways _ (subst (λ k. has_started r k ≡ false) (sym at ∙ eqb-true _ _ new) fresh) started)
     ]
 
-carried_then : (g : Setup) (w : World) (q : Requests) (s : Step) (a : Answer) (done : List Done) → Move w.requests s a q → CalledForApart g w s a → Carried w.requests done → Carried q (with_told done (done_by w (s, a)))
+carried_then : (g : Setup) (w : World) (q : Requests) (s : Step) (a : Answer) (done : List Done)
+    → Move w.requests s a q → CalledForApart g w s a → Carried w.requests done
+    → Carried q (with_told done (done_by w (s, a)))
 carried_then g w q s a done (stays _ _ no_start no_end) called all = λ n started ended. omega (arith, all n started ended, times-told (λ (d : Done). d.number == n) done (done_by w (s, a)))
 carried_then g w q s a done (accepts accepted missed head entries) called all = all
-carried_then g w q s a done (starts m outstanding idle spared ready no_cancel) called all = λ n started ended.
+carried_then g w q s a done (starts m outstanding idle spared ready no_cancel) called all =
+    λ n started ended.
     elim (any_new (λ k. k == n) w.requests.started m started) [
       | inl old ↦ all n old ended
       | inr new ↦ absurd (both_ways _ (subst (λ k. has_ended w.requests k ≡ false) (eqb-true _ _ new) (outstanding_tells w.requests m outstanding).1) ended)
@@ -129,7 +158,8 @@ carried_then g w q s a done (ends_run m res bytes running) called all = λ n sta
       | inr new ↦ let one : ◌≡◌ {A = ℕ} (cond (m == n) 1 0) 1 = ap (λ b. cond b 1 0) new in omega (arith, times-append (λ (d : Done). d.number == n) done (record { number = m; op = operation_of (entry_of w.requests m); outcome = record { res = res; bytes = bytes } } ∷ []))
     ]
 
-pub carried_out : (g : Setup) (h : History) → IsLawfulApart g h → Carried (world g h).requests (done_in g h)
+pub carried_out : (g : Setup) (h : History) → IsLawfulApart g h
+    → Carried (world g h).requests (done_in g h)
 carried_out g [] lawful = λ n started ended. absurd (let f : false ≡ true = started in cc)
 carried_out g ((s, a) ∷ h) lawful = carried_then g (world g h) _ s a (done_in g h) (move_of g s a h lawful) lawful.0 (carried_out g h lawful.1)
 
@@ -137,8 +167,11 @@ carried_out g ((s, a) ∷ h) lawful = carried_then g (world g h) _ s a (done_in 
 abbrev FewerDone : Requests → List Done → Type 0
 FewerDone r done = (n : ℕ) → times (λ d. d.number == n) done ≤ times (λ e. e.number == n) r.ended
 
-ended_then : (w : World) (q : Requests) (s : Step) (a : Answer) (done : List Done) → Move w.requests s a q → FewerDone w.requests done → FewerDone q (with_told done (done_by w (s, a)))
-ended_then w q s a done (stays _ _ no_start no_end) all = subst (λ o. FewerDone w.requests (with_told done o)) (sym (silent_none w s a no_end)) all
+ended_then : (w : World) (q : Requests) (s : Step) (a : Answer) (done : List Done)
+    → Move w.requests s a q → FewerDone w.requests done
+    → FewerDone q (with_told done (done_by w (s, a)))
+ended_then w q s a done (stays _ _ no_start no_end) all =
+    subst (λ o. FewerDone w.requests (with_told done o)) (sym (silent_none w s a no_end)) all
 ended_then w q s a done (accepts accepted missed head entries) all = all
 ended_then w q s a done (starts m outstanding idle spared ready no_cancel) all = all
 ended_then w q s a done (ends_doomed m outstanding) all = λ n. omega (arith, all n, times-append (λ (e : Ending). e.number == n) w.requests.ended (record { number = m; res = doomed_result w.requests m; bytes = no_bytes } ∷ []))
@@ -151,6 +184,8 @@ ended_then w q s a done (ends_run m res bytes running) all = λ n.
       times-append (λ (d : Done). d.number == n) done (record { number = m; op = operation_of (entry_of w.requests m); outcome = record { res = res; bytes = bytes } } ∷ []),
     )
 
-pub done_ended : (g : Setup) (h : History) → IsLawfulApart g h → FewerDone (world g h).requests (done_in g h)
+pub done_ended : (g : Setup) (h : History) → IsLawfulApart g h
+    → FewerDone (world g h).requests (done_in g h)
 done_ended g [] lawful = λ n. omega arith
-done_ended g ((s, a) ∷ h) lawful = ended_then (world g h) _ s a (done_in g h) (move_of g s a h lawful) (done_ended g h lawful.1)
+done_ended g ((s, a) ∷ h) lawful =
+    ended_then (world g h) _ s a (done_in g h) (move_of g s a h lawful) (done_ended g h lawful.1)

@@ -17,12 +17,14 @@ use Rattle.uring_machine.proofs.Following.{history_of-cons, history_of-append}
 use Rattle.uring_threads.proofs.Settling.{IsDrained, drain}
 
 -- results that are taken in send no job
-pub jobs_keep : (g : Setup) (workers k : ℕ) (rs : List JobResult) (h : History) → jobs_to g workers k (with_taken_in rs h) ≡ jobs_to g workers k h
+pub jobs_keep : (g : Setup) (workers k : ℕ) (rs : List JobResult) (h : History)
+    → jobs_to g workers k (with_taken_in rs h) ≡ jobs_to g workers k h
 jobs_keep g workers k [] h = refl
 jobs_keep g workers k (r ∷ rs) h = ap (jobs_to g workers k) (history_of-cons (finish_of r) (map finish_of rs) h) ∙ jobs_keep g workers k rs (finish_of r ∷ h)
 
 -- the history of a trace that goes on
-pub longer_history : (a b : Kept) (events : List Event) → b.trace ≡ a.trace ++ events → history b ≡ history_of events ++ history a
+pub longer_history : (a b : Kept) (events : List Event) → b.trace ≡ a.trace ++ events
+    → history b ≡ history_of events ++ history a
 longer_history a b events same =
     ap history_of same ∙ sym (append-nil (history_of (a.trace ++ events))) ∙ history_of-append a.trace events [] ∙ ap (λ h. history_of events ++ h) (append-nil (history_of a.trace))
 
@@ -46,7 +48,9 @@ module _ (a b : Kept) (workers k : ℕ) (done : List Done) (untaken : List Job) 
       subst (λ h. IsWork b.setup workers h k (record { done = done; untaken = untaken; waiting = [] })) (sym later)
       (subst (λ g. IsWork g workers (with_taken_in waiting (history a)) k (record { done = done; untaken = untaken; waiting = [] })) (sym all.setup) drained.own)
 
-  pub settled_at : (now : WorkLanes) → sent now.jobs ≡ sent lanes.jobs → received now.results ≡ received lanes.results ++ waiting → IsSettledAt a b workers k now done untaken
+  pub settled_at : (now : WorkLanes) → sent now.jobs ≡ sent lanes.jobs
+      → received now.results ≡ received lanes.results ++ waiting
+      → IsSettledAt a b workers k now done untaken
   settled_at now same came =
       record {
         work = settled;

@@ -26,7 +26,8 @@ use Rattle.uring_threads.proofs.Settling.{none_waits}
 takes_none : (a : Kept) → TakesAll a a []
 takes_none a = record { trace = sym (append-nil a.trace); setup = refl; room = omega arith }
 
-takes_then : (a b c : Kept) (first second : List JobResult) → TakesAll a b first → TakesAll b c second → TakesAll a c (first ++ second)
+takes_then : (a b c : Kept) (first second : List JobResult) → TakesAll a b first
+    → TakesAll b c second → TakesAll a c (first ++ second)
 takes_then a b c first second p q =
     record {
       trace = q.trace ∙ ap (λ es. es ++ map finish_of second) p.trace ∙ append_assoc a.trace (map finish_of first) (map finish_of second) ∙ ap (λ es. a.trace ++ es) (sym (map-append finish_of first second));
@@ -35,21 +36,25 @@ takes_then a b c first second p q =
     }
 
 -- what wasn't received waits
-waits_behind : (before waiting all : List JobResult) → all ≡ before ++ waiting → drop (length before) all ≡ waiting
+waits_behind : (before waiting all : List JobResult) → all ≡ before ++ waiting
+    → drop (length before) all ≡ waiting
 waits_behind before waiting all same = ap (drop (length before)) same ∙ behind before waiting where
   behind : (xs ys : List JobResult) → drop (length xs) (xs ++ ys) ≡ ys
   behind [] ys = refl
   behind (x ∷ xs) ys = behind xs ys
 
-waiting-append : (ls ms : List WorkLanes) (ws vs : List Worker) → length ls ≡ length ws → all_waiting (ls ++ ms) (ws ++ vs) ≡ all_waiting ls ws ++ all_waiting ms vs
+waiting-append : (ls ms : List WorkLanes) (ws vs : List Worker) → length ls ≡ length ws
+    → all_waiting (ls ++ ms) (ws ++ vs) ≡ all_waiting ls ws ++ all_waiting ms vs
 waiting-append [] ms [] vs same = refl
 waiting-append [] ms (w ∷ ws) vs same = absurd (omega (arith, same))
 waiting-append (l ∷ ls) ms [] vs same = absurd (omega (arith, same))
 waiting-append (l ∷ ls) ms (w ∷ ws) vs same = ap (λ rs. waiting_at l w ++ rs) (waiting-append ls ms ws vs (omega (arith, same))) ∙ sym (append_assoc (waiting_at l w) (all_waiting ls ws) (all_waiting ms vs))
 
 -- one worker more
-waiting_more : (ls : List WorkLanes) (ws : List Worker) (d : WorkLanes) (e : Worker) (k : ℕ) → length ws ≡ length ls → k < length ls
-    → all_waiting (take (k + 1) ls) (take (k + 1) ws) ≡ all_waiting (take k ls) (take k ws) ++ waiting_at (get_or ls k d) (get_or ws k e)
+waiting_more : (ls : List WorkLanes) (ws : List Worker) (d : WorkLanes) (e : Worker) (k : ℕ)
+    → length ws ≡ length ls → k < length ls
+    → all_waiting (take (k + 1) ls) (take (k + 1) ws)
+    ≡ all_waiting (take k ls) (take k ws) ++ waiting_at (get_or ls k d) (get_or ws k e)
 waiting_more ls ws d e k many lt =
     rw (take_more ls k d lt, take_more ws k e (omega (arith, many, lt)))
     (waiting-append (take k ls) (get_or ls k d ∷ []) (take k ws) (get_or ws k e ∷ []) (length-take-le k ls (omega arith) ∙ sym (length-take-le k ws (omega (arith, many, lt))))
@@ -61,11 +66,19 @@ same_looks w = record { same = refl; seen = ([], append-nil w.seen); room = omeg
 
 -- Others' work stays.
 
-work_stays : (b c : Kept) (workers k j : ℕ) (work : Work) → OthersStay b c workers k → j ≢ k → IsWork b.setup workers (history b) j work → IsWork c.setup workers (history c) j work
-work_stays b c workers k j work others unlike is = record { jobs = is.jobs ∙ sym (others.jobs j); results = ap (λ ds. results_of ds ++ work.waiting) (others.results j unlike) ∙ is.results }
+work_stays : (b c : Kept) (workers k j : ℕ) (work : Work) → OthersStay b c workers k → j ≢ k
+    → IsWork b.setup workers (history b) j work → IsWork c.setup workers (history c) j work
+work_stays b c workers k j work others unlike is = record {
+  jobs = is.jobs ∙ sym (others.jobs j);
+  results = ap (λ ds. results_of ds ++ work.waiting) (others.results j unlike) ∙ is.results;
+}
 
-carried_stays : (b c : Kept) (workers k j : ℕ) (lanes : WorkLanes) → OthersStay b c workers k → j ≢ k → HasCarried b workers j lanes → HasCarried c workers j lanes
-carried_stays b c workers k j lanes others unlike has = record { jobs = has.jobs ∙ sym (others.jobs j); results = has.results ∙ ap results_of (sym (others.results j unlike)) }
+carried_stays : (b c : Kept) (workers k j : ℕ) (lanes : WorkLanes) → OthersStay b c workers k
+    → j ≢ k → HasCarried b workers j lanes → HasCarried c workers j lanes
+carried_stays b c workers k j lanes others unlike has = record {
+  jobs = has.jobs ∙ sym (others.jobs j);
+  results = has.results ∙ ap results_of (sym (others.results j unlike));
+}
 
 -- The loop: the first workers are settled.
 
@@ -76,12 +89,14 @@ pub record SoFar (a b : Kept) (ls ms : List WorkLanes) (ws vs : List Worker) (co
   pub workers_stay : (k : ℕ) (e : Worker) → count ≤ k → get_or vs k e ≡ get_or ws k e
   pub looked : (k : ℕ) (e : Worker) → Looks (get_or ws k e) (get_or vs k e)
   pub carried : (k : ℕ) (d : WorkLanes) → k < length ls → HasCarried b (length ls) k (get_or ms k d)
-  pub settled : (k : ℕ) (e : Worker) → k < count → IsWork b.setup (length ls) (history b) k (settled_work (get_or vs k e))
+  pub settled : (k : ℕ) (e : Worker) → k < count
+      → IsWork b.setup (length ls) (history b) k (settled_work (get_or vs k e))
   pub right : (k : ℕ) (e : Worker) → k < count → IsRight (get_or vs k e)
   pub recorded : TakesAll a b (all_waiting (take count ls) (take count ws))
   pub few : length b.trace ≤ length a.trace + 64 * count
 
-pub none_so_far : (a : Kept) (ls : List WorkLanes) (ws : List Worker) → HaveCarried a ls → SoFar a a ls ls ws ws 0
+pub none_so_far : (a : Kept) (ls : List WorkLanes) (ws : List Worker) → HaveCarried a ls
+    → SoFar a a ls ls ws ws 0
 none_so_far a ls ws carried =
     record {
       many = refl;
@@ -98,20 +113,24 @@ none_so_far a ls ws carried =
 
 -- The next worker: its lanes are still those of these ends, and there is room for its results.
 module _ (a b : Kept) (ls ms : List WorkLanes) (ws vs : List Worker) (count files : ℕ) (d : WorkLanes) (e : Worker) (s : SoFar a b ls ms ws vs count) (lt : count < length ls) (of : AreLanesOf files ls ws) where
-  pub next_paired : (get_or vs count e).pairing ≡ pairing_of (get_or ms count d).jobs (get_or ms count d).results
+  pub next_paired : (get_or vs count e).pairing
+      ≡ pairing_of (get_or ms count d).jobs (get_or ms count d).results
   next_paired = ap (λ w. w.pairing) (s.workers_stay count e (omega arith)) ∙ of.pairing count d e lt ∙ sym (ap (λ (l : WorkLanes). pairing_of l.jobs l.results) (s.lanes_stay count d (omega arith)))
 
   pub next_short : consumer_capacity (get_or ms count d).results ≤ 64
   next_short = subst (λ l. consumer_capacity l.results ≤ 64) (sym (s.lanes_stay count d (omega arith))) (of.short count d lt)
 
-  pub next_fits : length a.trace + 64 * length ls ≤ a.room → length b.trace + consumer_capacity (get_or ms count d).results ≤ b.room
+  pub next_fits : length a.trace + 64 * length ls ≤ a.room
+      → length b.trace + consumer_capacity (get_or ms count d).results ≤ b.room
   next_fits room = omega (arith, room, s.few, s.recorded.room, next_short, lt)
 
 -- what settling one worker ensures
 pub record SettlesOne (b c : Kept) (m now : WorkLanes) (v after : Worker) : Type 0 where
-  pub trace : (waiting : List JobResult) × (results_of v.done ≡ received m.results ++ waiting) × TakesAll b c waiting
+  pub trace : (waiting : List JobResult) × (results_of v.done ≡ received m.results ++ waiting)
+      × TakesAll b c waiting
   pub few : length c.trace ≤ length b.trace + consumer_capacity m.results
-  pub settled : (workers k : ℕ) → HasCarried b workers k m → IsSettledAt b c workers k now v.done after.seen
+  pub settled : (workers k : ℕ) → HasCarried b workers k m
+      → IsSettledAt b c workers k now v.done after.seen
   pub looks : Looks v after
   pub right : IsRight after
 
@@ -176,10 +195,13 @@ module _ (a b c : Kept) (ls ms : List WorkLanes) (ws vs : List Worker) (count fi
 
 -- All are settled.
 
-pub all_recorded : (a b : Kept) (ls ms : List WorkLanes) (ws vs : List Worker) → SoFar a b ls ms ws vs (length ls) → length ws ≡ length ls → TakesAll a b (all_waiting ls ws)
+pub all_recorded : (a b : Kept) (ls ms : List WorkLanes) (ws vs : List Worker)
+    → SoFar a b ls ms ws vs (length ls) → length ws ≡ length ls → TakesAll a b (all_waiting ls ws)
 all_recorded a b ls ms ws vs s many = subst (TakesAll a b) (ap₂ all_waiting (take_all (length ls) ls (omega arith)) (take_all (length ls) ws (omega (arith, many)))) s.recorded
 
-pub all_settled : (a b : Kept) (ls ms : List WorkLanes) (ws vs : List Worker) (e : Worker) → SoFar a b ls ms ws vs (length ls) → 0 < length ls → AreLanesOf a.setup.files ls ws → IsLawfulApart b.setup (history b) → IsSettled b.setup (length vs) (history b) (works_of vs e)
+pub all_settled : (a b : Kept) (ls ms : List WorkLanes) (ws vs : List Worker) (e : Worker)
+    → SoFar a b ls ms ws vs (length ls) → 0 < length ls → AreLanesOf a.setup.files ls ws
+    → IsLawfulApart b.setup (history b) → IsSettled b.setup (length vs) (history b) (works_of vs e)
 all_settled a b ls ms ws vs e s some of lawful =
     subst (λ n. IsSettled b.setup n (history b) (works_of vs e)) (sym (s.many_workers ∙ of.many))
     (none_waits b.setup (length ls) (history b) (works_of vs e) some lawful
@@ -193,7 +215,8 @@ all_settled a b ls ms ws vs e s some of lawful =
 
 -- Each has seen all that was sent to it.
 
-pub all_seen : (a b : Kept) (ls ms : List WorkLanes) (ws vs : List Worker) → SoFar a b ls ms ws vs (length ls) → HaveCarried a ls → HaveSeenAll ls vs
+pub all_seen : (a b : Kept) (ls ms : List WorkLanes) (ws vs : List Worker)
+    → SoFar a b ls ms ws vs (length ls) → HaveCarried a ls → HaveSeenAll ls vs
 all_seen a b ls ms ws vs s carried = λ k d e low.
     let taken : List JobResult = all_waiting (take (length ls) ls) (take (length ls) ws) in
     (s.settled k e low).jobs

@@ -31,19 +31,23 @@ abbrev AreJobsOf : List Sqe → List Job → Type 0
 AreJobsOf accepted [] = Unit {0}
 AreJobsOf accepted (j ∷ js) = (j.op ≡ op_at accepted j.number) × AreJobsOf accepted js
 
-sent_are : (place : Op → ℕ) (k : ℕ) (r : Requests) (ns : List ℕ) → AreJobsOf r.accepted (jobs_at place k (map (job_in r) ns))
+sent_are : (place : Op → ℕ) (k : ℕ) (r : Requests) (ns : List ℕ)
+    → AreJobsOf r.accepted (jobs_at place k (map (job_in r) ns))
 sent_are place k r [] = tt
-sent_are place k r (n ∷ ns) = by_test (place (operation_of (entry_of r n)) == k) (sent_are place k r ns) where
-  by_test : (here : Bool) → AreJobsOf r.accepted (jobs_at place k (map (job_in r) ns)) → AreJobsOf r.accepted (cond here (job_in r n ∷ jobs_at place k (map (job_in r) ns)) (jobs_at place k (map (job_in r) ns)))
-  by_test true rest = (refl, rest)
-  by_test false rest = rest
+sent_are place k r (n ∷ ns) =
+    by_test (place (operation_of (entry_of r n)) == k) (sent_are place k r ns) where
+      by_test : (here : Bool) → AreJobsOf r.accepted (jobs_at place k (map (job_in r) ns)) → AreJobsOf r.accepted (cond here (job_in r n ∷ jobs_at place k (map (job_in r) ns)) (jobs_at place k (map (job_in r) ns)))
+      by_test true rest = (refl, rest)
+      by_test false rest = rest
 
-first_are : (accepted : List Sqe) (js later : List Job) → AreJobsOf accepted (js ++ later) → AreJobsOf accepted js
+first_are : (accepted : List Sqe) (js later : List Job) → AreJobsOf accepted (js ++ later)
+    → AreJobsOf accepted js
 first_are accepted [] later all = tt
 first_are accepted (j ∷ js) later all = (all.0, first_are accepted js later all.1)
 
 -- operations of the same request with the same outcome
-same_done : (accepted : List Sqe) (c d : Done) → c.op ≡ op_at accepted c.number → d.op ≡ op_at accepted d.number → result_of c ≡ result_of d → c ≡ d
+same_done : (accepted : List Sqe) (c d : Done) → c.op ≡ op_at accepted c.number
+    → d.op ≡ op_at accepted d.number → result_of c ≡ result_of d → c ≡ d
 same_done accepted c d c_op d_op same =
     let number : c.number ≡ d.number = ap (λ r. r.number) same in
     let op : c.op ≡ d.op = c_op ∙ ap (op_at accepted) number ∙ sym d_op in
@@ -54,9 +58,12 @@ same_done accepted c d c_op d_op same =
 
 -- one list begins another
 abbrev Begins : List Done → List Done → List JobResult → Type 0
-Begins first done waiting = (more : List Done) × (done ≡ first ++ more) × (results_of more ≡ waiting)
+Begins first done waiting =
+    (more : List Done) × (done ≡ first ++ more) × (results_of more ≡ waiting)
 
-begins : (accepted : List Sqe) (first done : List Done) (waiting : List JobResult) → AreOf accepted first → AreJobsOf accepted (jobs_of done) → results_of first ++ waiting ≡ results_of done → Begins first done waiting
+begins : (accepted : List Sqe) (first done : List Done) (waiting : List JobResult)
+    → AreOf accepted first → AreJobsOf accepted (jobs_of done)
+    → results_of first ++ waiting ≡ results_of done → Begins first done waiting
 begins accepted [] done waiting firsts all same = (done, refl, sym same)
 begins accepted (c ∷ first) [] waiting firsts all same = absurd cc
 begins accepted (c ∷ first) (d ∷ done) waiting firsts all same =
@@ -65,12 +72,14 @@ begins accepted (c ∷ first) (d ∷ done) waiting firsts all same =
     (rest.0, ap (λ x. x ∷ done) (sym (same_done accepted c d firsts.1 all.0 head)) ∙ ap (λ ds. c ∷ ds) rest.1, rest.2)
 
 -- what was carried out at a place
-of_place : (accepted : List Sqe) (place : Op → ℕ) (k : ℕ) (ds : List Done) → AreOf accepted ds → AreOf accepted (done_at place k ds)
+of_place : (accepted : List Sqe) (place : Op → ℕ) (k : ℕ) (ds : List Done) → AreOf accepted ds
+    → AreOf accepted (done_at place k ds)
 of_place accepted place k [] all = tt
-of_place accepted place k (d ∷ ds) all = by_test (place d.op == k) (of_place accepted place k ds all.2) where
-  by_test : (here : Bool) → AreOf accepted (done_at place k ds) → AreOf accepted (cond here (d ∷ done_at place k ds) (done_at place k ds))
-  by_test true rest = (all.0, all.1, rest)
-  by_test false rest = rest
+of_place accepted place k (d ∷ ds) all =
+    by_test (place d.op == k) (of_place accepted place k ds all.2) where
+      by_test : (here : Bool) → AreOf accepted (done_at place k ds) → AreOf accepted (cond here (d ∷ done_at place k ds) (done_at place k ds))
+      by_test true rest = (all.0, all.1, rest)
+      by_test false rest = rest
 
 module _ (g : Setup) (workers : ℕ) (h : History) (k : ℕ) (lawful : IsLawfulApart g h) where
   sent_jobs : AreJobsOf (world g h).requests.accepted (jobs_to g workers k h)
@@ -93,14 +102,16 @@ module _ (g : Setup) (workers : ℕ) (h : History) (k : ℕ) (lawful : IsLawfulA
       ∙ append_assoc (jobs_of (done_by_worker g workers k h)) (jobs_of more.0) work.untaken
 
 -- results have the numbers of their operations
-results-times : (n : ℕ) (ds : List Done) → times (λ j. j.number == n) (jobs_of ds) ≡ times (λ r. r.number == n) (results_of ds)
+results-times : (n : ℕ) (ds : List Done)
+    → times (λ j. j.number == n) (jobs_of ds) ≡ times (λ r. r.number == n) (results_of ds)
 results-times n [] = refl
 results-times n (d ∷ ds) = omega (arith, results-times n ds)
 
 -- One result.
 
 -- the first result that waits is of a request that is left
-first_is_left : (ds : List Done) (untaken : List Job) (r : JobResult) (later : List JobResult) → results_of ds ≡ r ∷ later → 1 ≤ times (λ j. j.number == r.number) (jobs_of ds ++ untaken)
+first_is_left : (ds : List Done) (untaken : List Job) (r : JobResult) (later : List JobResult)
+    → results_of ds ≡ r ∷ later → 1 ≤ times (λ j. j.number == r.number) (jobs_of ds ++ untaken)
 first_is_left ds untaken r later same =
     let n = r.number in
     let one : ◌≡◌ {A = ℕ} (cond (r.number == n) 1 0) 1 = ap (λ b. cond b 1 0) (eq-eqb n n refl) in
@@ -135,7 +146,10 @@ results_run g workers h k done untaken r later lawful is =
 -- None waits.
 
 -- then all that a worker carried out was taken in
-all_came : (g : Setup) (workers : ℕ) (h : History) (k : ℕ) (work : Work) → IsLawfulApart g h → IsWork g workers h k work → work.waiting ≡ [] → (done_by_worker g workers k h ≡ work.done) × (jobs_to g workers k h ≡ jobs_of (done_by_worker g workers k h) ++ work.untaken)
+all_came : (g : Setup) (workers : ℕ) (h : History) (k : ℕ) (work : Work) → IsLawfulApart g h
+    → IsWork g workers h k work → work.waiting ≡ []
+    → (done_by_worker g workers k h ≡ work.done)
+    × (jobs_to g workers k h ≡ jobs_of (done_by_worker g workers k h) ++ work.untaken)
 all_came g workers h k work lawful is none =
     let more = work_begins g workers h k lawful work is in
     let left = work_left g workers h k lawful work is in
@@ -178,9 +192,16 @@ pub record IsDrained (g : Setup) (workers : ℕ) (h later : History) (k : ℕ) (
   pub sent : (j : ℕ) → jobs_to g workers j later ≡ jobs_to g workers j h
   pub others : (j : ℕ) → j ≢ k → done_by_worker g workers j later ≡ done_by_worker g workers j h
 
-pub drain : (g : Setup) (workers : ℕ) (h : History) (k : ℕ) (done : List Done) (untaken : List Job) (waiting : List JobResult) → IsLawfulApart g h
-    → IsWork g workers h k (record { done = done; untaken = untaken; waiting = waiting }) → IsDrained g workers h (with_taken_in waiting h) k (record { done = done; untaken = untaken; waiting = waiting })
-drain g workers h k done untaken [] lawful is = record { lawful = lawful; own = is; sent = λ j. refl; others = λ j unlike. refl }
+pub drain : (g : Setup) (workers : ℕ) (h : History) (k : ℕ) (done : List Done) (untaken : List Job) (waiting : List JobResult)
+    → IsLawfulApart g h
+    → IsWork g workers h k (record { done = done; untaken = untaken; waiting = waiting })
+    → IsDrained g workers h (with_taken_in waiting h) k (record { done = done; untaken = untaken; waiting = waiting })
+drain g workers h k done untaken [] lawful is = record {
+  lawful = lawful;
+  own = is;
+  sent = λ j. refl;
+  others = λ j unlike. refl;
+}
 drain g workers h k done untaken (r ∷ later) lawful is =
     let one = results_run g workers h k done untaken r later lawful is in
     let next : IsLawfulApart g (finish_of r ∷ h) = (subst (λ b. FinishesApart b (answer.Ended r.outcome.res r.outcome.bytes)) (sym one.runs) tt, lawful) in
@@ -189,8 +210,14 @@ drain g workers h k done untaken (r ∷ later) lawful is =
     (record { lawful = rest.lawful; own = rest.own; sent = λ j. rest.sent j ∙ one.sent j; others = λ j unlike. rest.others j unlike ∙ one.others j unlike })
 
 -- the work of a worker of which nothing was taken in
-pub same_work : (g : Setup) (workers : ℕ) (h later : History) (k : ℕ) (work : Work) → jobs_to g workers k later ≡ jobs_to g workers k h → done_by_worker g workers k later ≡ done_by_worker g workers k h → IsWork g workers h k work → IsWork g workers later k work
-same_work g workers h later k work sent taken is = record { jobs = is.jobs ∙ sym sent; results = ap (λ ds. results_of ds ++ work.waiting) taken ∙ is.results }
+pub same_work : (g : Setup) (workers : ℕ) (h later : History) (k : ℕ) (work : Work)
+    → jobs_to g workers k later ≡ jobs_to g workers k h
+    → done_by_worker g workers k later ≡ done_by_worker g workers k h → IsWork g workers h k work
+    → IsWork g workers later k work
+same_work g workers h later k work sent taken is = record {
+  jobs = is.jobs ∙ sym sent;
+  results = ap (λ ds. results_of ds ++ work.waiting) taken ∙ is.results;
+}
 
 -- a history into which the results of the first workers were taken
 record AreDrained (g : Setup) (workers : ℕ) (h : History) (works : ℕ → Work) (count : ℕ) : Type 0 where
@@ -198,14 +225,20 @@ record AreDrained (g : Setup) (workers : ℕ) (h : History) (works : ℕ → Wor
   before : (k : ℕ) → k < count → IsWork g workers h k (drained (works k))
   behind : (k : ℕ) → count ≤ k → k < workers → IsWork g workers h k (works k)
 
-taken_in-append : (earlier later : List JobResult) (h : History) → with_taken_in (earlier ++ later) h ≡ with_taken_in later (with_taken_in earlier h)
+taken_in-append : (earlier later : List JobResult) (h : History)
+    → with_taken_in (earlier ++ later) h ≡ with_taken_in later (with_taken_in earlier h)
 taken_in-append earlier later h =
     ap (λ events. history_of events ++ h) (map-append finish_of earlier later) ∙ history_of-append (map finish_of earlier) (map finish_of later) h
 
-drain_first : (g : Setup) (workers : ℕ) (h : History) (works : ℕ → Work) → IsLawfulApart g h → ((k : ℕ) → k < workers → IsWork g workers h k (works k)) → (count : ℕ) → count ≤ workers
+drain_first : (g : Setup) (workers : ℕ) (h : History) (works : ℕ → Work) → IsLawfulApart g h
+    → ((k : ℕ) → k < workers → IsWork g workers h k (works k)) → (count : ℕ) → count ≤ workers
     → AreDrained g workers (with_taken_in (waiting_of works count) h) works count
 unfolding drained
-drain_first g workers h works lawful are zero le = record { lawful = lawful; before = λ k lt. absurd (omega arith); behind = λ k from lt. are k lt }
+drain_first g workers h works lawful are zero le = record {
+  lawful = lawful;
+  before = λ k lt. absurd (omega arith);
+  behind = λ k from lt. are k lt;
+}
 drain_first g workers h works lawful are (suc count) le =
     let so_far = drain_first g workers h works lawful are count (omega arith) in
     let there : History = with_taken_in (waiting_of works count) h in

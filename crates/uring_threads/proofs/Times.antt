@@ -9,7 +9,8 @@ abbrev pub times : {X : Type 0} → (X → Bool) → List X → ℕ
 times p [] = 0
 times p (x ∷ xs) = cond (p x) 1 0 + times p xs
 
-pub times-append : {X : Type 0} (p : X → Bool) (xs ys : List X) → times p (xs ++ ys) ≡ times p xs + times p ys
+pub times-append : {X : Type 0} (p : X → Bool) (xs ys : List X)
+    → times p (xs ++ ys) ≡ times p xs + times p ys
 times-append p [] ys = omega arith
 times-append p (x ∷ xs) ys = omega (arith, times-append p xs ys)
 
@@ -36,7 +37,8 @@ times-any p (x ∷ xs) some =
     ]
 
 -- what is told comes behind what was told
-pub times-told : {X : Type 0} (p : X → Bool) (xs : List X) (o : Option X) → times p xs ≤ times p (with_told xs o)
+pub times-told : {X : Type 0} (p : X → Bool) (xs : List X) (o : Option X)
+    → times p xs ≤ times p (with_told xs o)
 times-told p xs None = omega arith
 times-told p xs (Some x) = omega (arith, times-append p xs (x ∷ []))
 

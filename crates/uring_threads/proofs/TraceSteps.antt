@@ -12,7 +12,8 @@ use Rattle.uring_threads.specs.Kept.{Kept, now, Grows, IsUnmoved}
 use Rattle.uring_threads.specs.Tallies.{Tally, tally_of, both, none_counted, Appends, stages_item, issues_request, takes_result, reaps_completion, begins_call, closes_ring}
 
 -- the world after one event more
-pub grown : (a b : Kept) (s : Step) (x : Answer) → Grows a b (s, x) → now b ≡ happens a.setup (now a) s x
+pub grown : (a b : Kept) (s : Step) (x : Answer) → Grows a b (s, x)
+    → now b ≡ happens a.setup (now a) s x
 grown a b s x g = ap₂ (λ (k : Setup) es. world k (history_of es)) g.setup g.trace ∙ ap (world a.setup) (history_of-snoc a.trace (s, x))
 
 -- the trace is one event longer
@@ -38,15 +39,29 @@ tally-append es fs =
     refl
 
 -- one event
-pub appends_one : (a b : Kept) (e : Event) (t : Tally) → Grows a b e → tally_of (e ∷ []) ≡ t → Appends a b t
-appends_one a b e t g counted = record { events = e ∷ []; trace = g.trace; tally = counted; room = g.room; setup = g.setup }
+pub appends_one : (a b : Kept) (e : Event) (t : Tally) → Grows a b e → tally_of (e ∷ []) ≡ t
+    → Appends a b t
+appends_one a b e t g counted = record {
+  events = e ∷ [];
+  trace = g.trace;
+  tally = counted;
+  room = g.room;
+  setup = g.setup;
+}
 
 -- no event
 pub appends_none : (a b : Kept) → IsUnmoved a b → Appends a b none_counted
-appends_none a b u = record { events = []; trace = u.trace ∙ sym (append-nil a.trace); tally = refl; room = u.room; setup = u.setup }
+appends_none a b u = record {
+  events = [];
+  trace = u.trace ∙ sym (append-nil a.trace);
+  tally = refl;
+  room = u.room;
+  setup = u.setup;
+}
 
 -- one after the other
-pub appends_then : (a b c : Kept) (t u v : Tally) → Appends a b t → Appends b c u → both t u ≡ v → Appends a c v
+pub appends_then : (a b c : Kept) (t u v : Tally) → Appends a b t → Appends b c u → both t u ≡ v
+    → Appends a c v
 appends_then a b c t u v p q sums =
     record {
       events = p.events ++ q.events;

@@ -22,7 +22,9 @@ use Rattle.uring_threads.proofs.Closing.{once_stays, once_unmoved}
 use Rattle.uring_threads.proofs.TraceSteps.{unmoved_now, appends_none, appends_then}
 
 -- a call or the close mark was taken in
-pub ties_taken : (a b : Kept) (pulled later : Put) (delivered : List Cqe) (i j : Intake) (lanes : List WorkLanes) (n : ℕ) → AreTies a pulled delivered i lanes → TakesIn a b n → Tied a.setup.sq (now b) later j → (ClosesOnce a i → ClosesOnce b j) → (now b).completions ≡ (now a).completions
+pub ties_taken : (a b : Kept) (pulled later : Put) (delivered : List Cqe) (i j : Intake) (lanes : List WorkLanes) (n : ℕ)
+    → AreTies a pulled delivered i lanes → TakesIn a b n → Tied a.setup.sq (now b) later j
+    → (ClosesOnce a i → ClosesOnce b j) → (now b).completions ≡ (now a).completions
     → AreTies b later delivered j lanes
 ties_taken a b pulled later delivered i j lanes n t p tied once same =
     record {
@@ -33,7 +35,9 @@ ties_taken a b pulled later delivered i j lanes n t p tied once same =
     }
 
 -- requests were issued or ended
-pub ties_posted : (a b : Kept) (pulled : Put) (delivered : List Cqe) (i : Intake) (lanes later : List WorkLanes) (t : Tally) → AreTies a pulled delivered i lanes → Appends a b t → t.closes ≡ 0 → OnlyPosts (now a) (now b) → HaveCarried b later → AreTies b pulled delivered i later
+pub ties_posted : (a b : Kept) (pulled : Put) (delivered : List Cqe) (i : Intake) (lanes later : List WorkLanes) (t : Tally)
+    → AreTies a pulled delivered i lanes → Appends a b t → t.closes ≡ 0 → OnlyPosts (now a) (now b)
+    → HaveCarried b later → AreTies b pulled delivered i later
 ties_posted a b pulled delivered i lanes later t s p closes posts carried =
     record {
       tied = subst (λ (g : Setup). Tied g.sq (now b) pulled i) (sym p.setup)
@@ -50,7 +54,9 @@ ties_posted a b pulled delivered i lanes later t s p closes posts carried =
     }
 
 -- completions were delivered
-pub ties_delivered : (a b : Kept) (pulled : Put) (before delivered : List Cqe) (i : Intake) (lanes : List WorkLanes) (t : Tally) → AreTies a pulled before i lanes → Appends a b t → t.issues ≡ 0 → t.finishes ≡ 0 → t.closes ≡ 0 → KeepsAllBut (now a) (now b)
+pub ties_delivered : (a b : Kept) (pulled : Put) (before delivered : List Cqe) (i : Intake) (lanes : List WorkLanes) (t : Tally)
+    → AreTies a pulled before i lanes → Appends a b t → t.issues ≡ 0 → t.finishes ≡ 0 → t.closes ≡ 0
+    → KeepsAllBut (now a) (now b)
     → IsDelivered (now b).completions delivered → AreTies b pulled delivered i lanes
 ties_delivered a b pulled before delivered i lanes t s p issues finishes closes keeps now_delivered =
     record {
@@ -72,8 +78,11 @@ tally_is : (i n f r c x i' n' f' r' c' x' : ℕ) → i' ≡ i → n' ≡ n → f
 tally_is i n f r c x i' n' f' r' c' x' a b d e g h = rw (a, b, d, e, g, h) refl
 
 -- the four parts of a turn add up
-pub counts_all : (a b c d e : Kept) (popped finished issued delivered : ℕ) → TakesIn a b popped → Appends b c (finishes_counted finished) → (finished ≡ 0 → c.trace ≡ b.trace) → Appends c d (issues_counted issued) → (issued ≡ 0 → d.trace ≡ c.trace)
-    → Appends d e (reaps_counted delivered) → (delivered ≡ 0 → IsUnmoved d e) → Counts a e (record { popped = popped; issued = issued; finished = finished; delivered = delivered })
+pub counts_all : (a b c d e : Kept) (popped finished issued delivered : ℕ) → TakesIn a b popped
+    → Appends b c (finishes_counted finished) → (finished ≡ 0 → c.trace ≡ b.trace)
+    → Appends c d (issues_counted issued) → (issued ≡ 0 → d.trace ≡ c.trace)
+    → Appends d e (reaps_counted delivered) → (delivered ≡ 0 → IsUnmoved d e)
+    → Counts a e (record { popped = popped; issued = issued; finished = finished; delivered = delivered })
 counts_all a b c d e popped finished issued delivered p q q_idle r r_idle s s_idle =
     let qr : Appends b d (record { items = 0; issues = issued; finishes = finished; reaps = 0; calls = 0; closes = 0 }) =
     appends_then b c d (finishes_counted finished) (issues_counted issued) _ q r (ap₂ (λ n m. record { items = 0; issues = n; finishes = m; reaps = 0; calls = 0; closes = 0 }) (omega arith) (omega arith)) in
@@ -88,18 +97,26 @@ counts_all a b c d e popped finished issued delivered p q q_idle r r_idle s s_id
     }
 
 -- the ties before a delivery: a call was taken in, results were, and requests were issued
-pub ties_worked : (a b c d : Kept) (pulled later : Put) (before delivered : List Cqe) (i j : Intake) (lanes collected issued : List WorkLanes) (n : ℕ) (t u : Tally) → AreTies a pulled before i lanes → TakesIn a b n → Tied a.setup.sq (now b) later j → (ClosesOnce a i → ClosesOnce b j) → (now b).completions ≡ (now a).completions → delivered ≡ before
-    → Appends b c t → t.closes ≡ 0 → OnlyPosts (now b) (now c) → HaveCarried c collected → Appends c d u → u.closes ≡ 0 → OnlyPosts (now c) (now d) → HaveCarried d issued → AreTies d later delivered j issued
+pub ties_worked : (a b c d : Kept) (pulled later : Put) (before delivered : List Cqe) (i j : Intake) (lanes collected issued : List WorkLanes) (n : ℕ) (t u : Tally)
+    → AreTies a pulled before i lanes → TakesIn a b n → Tied a.setup.sq (now b) later j
+    → (ClosesOnce a i → ClosesOnce b j) → (now b).completions ≡ (now a).completions
+    → delivered ≡ before
+    → Appends b c t → t.closes ≡ 0 → OnlyPosts (now b) (now c) → HaveCarried c collected
+    → Appends c d u → u.closes ≡ 0 → OnlyPosts (now c) (now d) → HaveCarried d issued
+    → AreTies d later delivered j issued
 ties_worked a b c d pulled later before delivered i j lanes collected issued n t u s p tied once same reaped q q_closes q_posts q_carried r r_closes r_posts r_carried =
     subst (λ l. AreTies d later l j issued) (sym reaped)
     (ties_posted c d later before j collected issued u (ties_posted b c later before j lanes collected t (ties_taken a b pulled later before i j lanes n s p tied once same) q q_closes q_posts q_carried) r r_closes r_posts r_carried)
 
 -- where nothing was delivered
-pub ties_unmoved : (a b : Kept) (pulled : Put) (before delivered : List Cqe) (i : Intake) (lanes : List WorkLanes) → AreTies a pulled before i lanes → IsUnmoved a b → KeepsAllBut (now a) (now b) → IsDelivered (now b).completions delivered → AreTies b pulled delivered i lanes
+pub ties_unmoved : (a b : Kept) (pulled : Put) (before delivered : List Cqe) (i : Intake) (lanes : List WorkLanes)
+    → AreTies a pulled before i lanes → IsUnmoved a b → KeepsAllBut (now a) (now b)
+    → IsDelivered (now b).completions delivered → AreTies b pulled delivered i lanes
 ties_unmoved a b pulled before delivered i lanes s u keeps reaped = ties_delivered a b pulled before delivered i lanes none_counted s (appends_none a b u) refl refl refl keeps reaped
 
 -- The dispatcher's end where nothing happened but that its trace may have more memory.
-pub kernel_unmoved : (k : Kernel) (kept : Kept) → IsUnmoved k.kept kept → IsKernel k → IsKernel (record k { kept = kept })
+pub kernel_unmoved : (k : Kernel) (kept : Kept) → IsUnmoved k.kept kept → IsKernel k
+    → IsKernel (record k { kept = kept })
 kernel_unmoved k kept u is =
     let sizes : kept.setup ≡ k.kept.setup = u.setup in
     let same : now kept ≡ now k.kept = unmoved_now k.kept kept u in
@@ -119,7 +136,8 @@ kernel_unmoved k kept u is =
     }
 
 -- some events, and then some
-pub some_then : (a b c : Kept) (t u : Tally) → Appends a b t → Appends b c u → (x : Tally) × Appends a c x
+pub some_then : (a b c : Kept) (t u : Tally) → Appends a b t → Appends b c u
+    → (x : Tally) × Appends a c x
 some_then a b c t u p q = (both t u, appends_then a b c t u (both t u) p q refl)
 
 -- the same lanes twice
@@ -138,5 +156,8 @@ lanes_then a b c p q =
     }
 
 -- what a turn leaves to issue, of the same lanes
-pub left_same : {X E : Type 0} (r : Result X E) (k : Kept) (lanes same : List WorkLanes) → IfOk r (λ turn. (next_of (now k).requests ≡ None) ⊎ SomeIsFull lanes) → same ≡ lanes → IfOk r (λ turn. (next_of (now k).requests ≡ None) ⊎ SomeIsFull same)
-left_same r k lanes same left e = subst (λ ls. IfOk r (λ turn. (next_of (now k).requests ≡ None) ⊎ SomeIsFull ls)) (sym e) left
+pub left_same : {X E : Type 0} (r : Result X E) (k : Kept) (lanes same : List WorkLanes)
+    → IfOk r (λ turn. (next_of (now k).requests ≡ None) ⊎ SomeIsFull lanes) → same ≡ lanes
+    → IfOk r (λ turn. (next_of (now k).requests ≡ None) ⊎ SomeIsFull same)
+left_same r k lanes same left e =
+    subst (λ ls. IfOk r (λ turn. (next_of (now k).requests ≡ None) ⊎ SomeIsFull ls)) (sym e) left

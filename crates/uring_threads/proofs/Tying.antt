@@ -36,7 +36,9 @@ use Rattle.uring_threads.specs.declared.intake.Intake.{Intake}
 use Rattle.uring_threads.specs.declared.intake.Intake.TheVariants as intake
 
 -- the call that waited was begun
-pub tied_begun : (size : ℕ) (w v : World) (put : Put) (count : ℕ) (b : Begun) → Tied size w put (intake.Waiting count) → v ≡ with_begun_as w count b → Tied size v put (intake_after count b)
+pub tied_begun : (size : ℕ) (w v : World) (put : Put) (count : ℕ) (b : Begun)
+    → Tied size w put (intake.Waiting count) → v ≡ with_begun_as w count b
+    → Tied size v put (intake_after count b)
 tied_begun size w v put count begun.Taken t e =
     subst (λ u. Tied size u put intake.Ready) (sym e)
     (record {
@@ -46,11 +48,13 @@ tied_begun size w v put count begun.Taken t e =
       closed = t.closed;
       shut = t.shut;
     })
-tied_begun size w v put count begun.Again t e = subst (λ u. Tied size u put (intake.Waiting count)) (sym e) t
+tied_begun size w v put count begun.Again t e =
+    subst (λ u. Tied size u put (intake.Waiting count)) (sym e) t
 tied_begun size w v put count begun.Spent t e = subst (λ u. Tied size u put (intake.Spent count)) (sym e) (record { published = t.published; calls = t.calls; stands = t.stands; closed = t.closed; shut = t.shut })
 
 -- the items of calls with one more
-items_of_calls-snoc : (calls : List (List Item)) (items : List Item) → items_of_calls (calls ++ items ∷ []) ≡ items_of_calls calls ++ items
+items_of_calls-snoc : (calls : List (List Item)) (items : List Item)
+    → items_of_calls (calls ++ items ∷ []) ≡ items_of_calls calls ++ items
 items_of_calls-snoc [] items = append-nil items
 items_of_calls-snoc (call ∷ later) items = ap (λ xs. call ++ xs) (items_of_calls-snoc later items) ∙ sym (append_assoc call (items_of_calls later) items)
 
@@ -63,13 +67,17 @@ all_last P [] ys all = all
 all_last P (x ∷ xs) ys all = all_last P xs ys (All-tail P x (xs ++ ys) all)
 
 -- items that are put leave the calls
-items_keep_calls : (l : Submission) (slot : ℕ) (items : List Published) → (with_items l slot items).calls ≡ l.calls
+items_keep_calls : (l : Submission) (slot : ℕ) (items : List Published)
+    → (with_items l slot items).calls ≡ l.calls
 items_keep_calls l slot [] = refl
-items_keep_calls l slot (with_entry entry ∷ later) = items_keep_calls (with_item l slot (with_entry entry)) (slot + 1) later
-items_keep_calls l slot (bad_word word ∷ later) = items_keep_calls (with_item l slot (bad_word word)) (slot + 1) later
+items_keep_calls l slot (with_entry entry ∷ later) =
+    items_keep_calls (with_item l slot (with_entry entry)) (slot + 1) later
+items_keep_calls l slot (bad_word word ∷ later) =
+    items_keep_calls (with_item l slot (bad_word word)) (slot + 1) later
 
 -- a call was pulled and published, and waits to be begun
-tied_published : (size : ℕ) (w : World) (put : Put) (items : List Item) → Tied size w put intake.Ready → put.closed ≡ false → length items ≤ size
+tied_published : (size : ℕ) (w : World) (put : Put) (items : List Item)
+    → Tied size w put intake.Ready → put.closed ≡ false → length items ≤ size
     → Tied size (with_items_published size w (all_published_as items)) (with_call put items) (intake.Waiting (length items))
 tied_published size w put items t not_closed few =
     let l : Submission = w.submission in
@@ -90,8 +98,11 @@ tied_published size w put items t not_closed few =
     }
 
 -- a call was pulled, published and begun
-pub tied_pulled : (size : ℕ) (w v : World) (put after : Put) (items : List Item) (b : Begun) → Tied size w put intake.Ready → put.closed ≡ false → length items ≤ size → after ≡ with_call put items
-    → v ≡ with_begun_as (with_items_published size w (all_published_as items)) (length items) b → Tied size v after (intake_after (length items) b)
+pub tied_pulled : (size : ℕ) (w v : World) (put after : Put) (items : List Item) (b : Begun)
+    → Tied size w put intake.Ready → put.closed ≡ false → length items ≤ size
+    → after ≡ with_call put items
+    → v ≡ with_begun_as (with_items_published size w (all_published_as items)) (length items) b
+    → Tied size v after (intake_after (length items) b)
 tied_pulled size w v put after items b t not_closed few pulled e =
     subst (λ p. Tied size v p (intake_after (length items) b)) (sym pulled)
     (tied_begun size (with_items_published size w (all_published_as items)) v (with_call put items) (length items) b (tied_published size w put items t not_closed few) e)
@@ -99,19 +110,40 @@ tied_pulled size w v put after items b t not_closed few pulled e =
 -- What a row of the intake appends.
 
 pub takes_nothing : (a b : Kept) → IsUnmoved a b → TakesIn a b 0
-takes_nothing a b u = record { calls = 0; closes = 0; appends = appends_none a b u; idle = λ none. u.trace }
+takes_nothing a b u = record {
+  calls = 0;
+  closes = 0;
+  appends = appends_none a b u;
+  idle = λ none. u.trace;
+}
 
 pub takes_again : (a b : Kept) → Appends a b call_counted → TakesIn a b 0
-takes_again a b p = record { calls = 1; closes = 0; appends = p; idle = λ none. absurd (omega (arith, none)) }
+takes_again a b p = record {
+  calls = 1;
+  closes = 0;
+  appends = p;
+  idle = λ none. absurd (omega (arith, none));
+}
 
 pub takes_call : (a b : Kept) (n : ℕ) → Appends a b (whole_call_counted n) → TakesIn a b n
-takes_call a b n p = record { calls = 1; closes = 0; appends = p; idle = λ none. absurd (omega (arith, none)) }
+takes_call a b n p = record {
+  calls = 1;
+  closes = 0;
+  appends = p;
+  idle = λ none. absurd (omega (arith, none));
+}
 
 pub takes_close : (a b : Kept) → Appends a b close_counted → TakesIn a b 0
-takes_close a b p = record { calls = 0; closes = 1; appends = p; idle = λ none. absurd (omega (arith, none)) }
+takes_close a b p = record {
+  calls = 0;
+  closes = 1;
+  appends = p;
+  idle = λ none. absurd (omega (arith, none));
+}
 
 -- one after the other
-pub takes_then : (a b c : Kept) (n m k : ℕ) → TakesIn a b n → TakesIn b c m → n + m ≡ k → TakesIn a c k
+pub takes_then : (a b c : Kept) (n m k : ℕ) → TakesIn a b n → TakesIn b c m → n + m ≡ k
+    → TakesIn a c k
 takes_then a b c n m k p q sums =
     record {
       calls = p.calls + q.calls;
@@ -122,35 +154,45 @@ takes_then a b c n m k p q sums =
 
 -- A row of the intake where nothing happened before but that room was asked for.
 
-pub tied_still : (a r : Kept) (put : Put) (i : Intake) → IsUnmoved a r → Tied a.setup.sq (now a) put i → Tied a.setup.sq (now r) put i
+pub tied_still : (a r : Kept) (put : Put) (i : Intake) → IsUnmoved a r
+    → Tied a.setup.sq (now a) put i → Tied a.setup.sq (now r) put i
 tied_still a r put i u t = subst (λ w. Tied a.setup.sq w put i) (sym (unmoved_now a r u)) t
 
 pub takes_behind : (a r b : Kept) (n : ℕ) → IsUnmoved a r → TakesIn r b n → TakesIn a b n
 takes_behind a r b n u p = takes_then a r b 0 n n (takes_nothing a r u) p (omega arith)
 
-pub completions_behind : (a r b : Kept) → IsUnmoved a r → (now b).completions ≡ (now r).completions → (now b).completions ≡ (now a).completions
+pub completions_behind : (a r b : Kept) → IsUnmoved a r → (now b).completions ≡ (now r).completions
+    → (now b).completions ≡ (now a).completions
 completions_behind a r b u same = same ∙ ap (λ (w : World). w.completions) (unmoved_now a r u)
 
 -- the call that waits, as it stands then
-pub call_waits : (a r : Kept) (put : Put) (count : ℕ) (i : Intake) → IsUnmoved a r → i ≡ intake.Waiting count → Tied a.setup.sq (now a) put i → ((now r).is_closed ≡ false) × Stands (now r).submission [] count
+pub call_waits : (a r : Kept) (put : Put) (count : ℕ) (i : Intake) → IsUnmoved a r
+    → i ≡ intake.Waiting count → Tied a.setup.sq (now a) put i
+    → ((now r).is_closed ≡ false) × Stands (now r).submission [] count
 call_waits a r put count i u waits t =
     let s : Tied a.setup.sq (now a) put (intake.Waiting count) = subst (Tied a.setup.sq (now a) put) waits t in
     subst (λ (w : World). (w.is_closed ≡ false) × Stands w.submission [] count) (sym (unmoved_now a r u)) (s.closed ∙ sym s.shut, subst (Stands (now a).submission []) (omega arith) s.stands)
 
 -- and once it was begun again
-pub tied_again : (a r b : Kept) (put : Put) (count : ℕ) (i : Intake) (x : Begun) → IsUnmoved a r → i ≡ intake.Waiting count → now b ≡ with_begun_as (now r) count x → Tied a.setup.sq (now a) put i → Tied a.setup.sq (now b) put (intake_after count x)
+pub tied_again : (a r b : Kept) (put : Put) (count : ℕ) (i : Intake) (x : Begun) → IsUnmoved a r
+    → i ≡ intake.Waiting count → now b ≡ with_begun_as (now r) count x
+    → Tied a.setup.sq (now a) put i → Tied a.setup.sq (now b) put (intake_after count x)
 tied_again a r b put count i x u waits e t = tied_begun a.setup.sq (now a) (now b) put count x (subst (Tied a.setup.sq (now a) put) waits t) (e ∙ ap (λ w. with_begun_as w count x) (unmoved_now a r u))
 
-pub begun_completions : (w : World) (count : ℕ) (x : Begun) → (with_begun_as w count x).completions ≡ w.completions
+pub begun_completions : (w : World) (count : ℕ) (x : Begun)
+    → (with_begun_as w count x).completions ≡ w.completions
 begun_completions w count begun.Taken = refl
 begun_completions w count begun.Again = refl
 begun_completions w count begun.Spent = refl
 
-pub again_completions : (a r b : Kept) (count : ℕ) (x : Begun) → IsUnmoved a r → now b ≡ with_begun_as (now r) count x → (now b).completions ≡ (now a).completions
+pub again_completions : (a r b : Kept) (count : ℕ) (x : Begun) → IsUnmoved a r
+    → now b ≡ with_begun_as (now r) count x → (now b).completions ≡ (now a).completions
 again_completions a r b count x u e = completions_behind a r b u (ap (λ (w : World). w.completions) e ∙ begun_completions (now r) count x)
 
 -- what was pulled
-pub pulled_at : (a r : Kept) (before after : Put) (size : ℕ) (x : Pulled) (items taken : List Item) (i : Intake) → IsUnmoved a r → size ≡ a.setup.sq → taken ≡ items → Tied a.setup.sq (now a) before i → Pulls size before x items after
+pub pulled_at : (a r : Kept) (before after : Put) (size : ℕ) (x : Pulled) (items taken : List Item) (i : Intake)
+    → IsUnmoved a r → size ≡ a.setup.sq → taken ≡ items → Tied a.setup.sq (now a) before i
+    → Pulls size before x items after
     → Tied r.setup.sq (now r) before i × Pulls r.setup.sq before x taken after
 pulled_at a r before after size x items taken i u sizes same t p = (
   subst (λ (g : Setup). Tied g.sq (now r) before i) (sym u.setup) (tied_still a r before i u t),
@@ -159,18 +201,30 @@ pulled_at a r before after size x items taken i u sizes same t p = (
 
 -- What was pulled is taken.
 
-pub tied_taken : (a b : Kept) (before after : Put) (items : List Item) (i : Intake) (x : Begun) → i ≡ intake.Ready → now b ≡ with_begun_as (with_items_published a.setup.sq (now a) (all_published_as items)) (length items) x → Tied a.setup.sq (now a) before i
-    → (0 < length items) × (length items ≤ a.setup.sq) × (before.closed ≡ false) × (after ≡ with_call before items) → Tied a.setup.sq (now b) after (intake_after (length items) x)
+pub tied_taken : (a b : Kept) (before after : Put) (items : List Item) (i : Intake) (x : Begun)
+    → i ≡ intake.Ready
+    → now b
+    ≡ with_begun_as (with_items_published a.setup.sq (now a) (all_published_as items)) (length items) x
+    → Tied a.setup.sq (now a) before i
+    → (0 < length items) × (length items ≤ a.setup.sq) × (before.closed ≡ false)
+    × (after ≡ with_call before items)
+    → Tied a.setup.sq (now b) after (intake_after (length items) x)
 tied_taken a b before after items i x ready e t pulled = tied_pulled a.setup.sq (now a) (now b) before after items x (subst (Tied a.setup.sq (now a) before) ready t) pulled.2 pulled.1 pulled.3 e
 
-pub taken_completions : (a b : Kept) (items : List Item) (x : Begun) → now b ≡ with_begun_as (with_items_published a.setup.sq (now a) (all_published_as items)) (length items) x → (now b).completions ≡ (now a).completions
+pub taken_completions : (a b : Kept) (items : List Item) (x : Begun)
+    → now b
+    ≡ with_begun_as (with_items_published a.setup.sq (now a) (all_published_as items)) (length items) x
+    → (now b).completions ≡ (now a).completions
 taken_completions a b items x e = ap (λ (w : World). w.completions) e ∙ begun_completions (with_items_published a.setup.sq (now a) (all_published_as items)) (length items) x
 
 -- the close mark, of a ring that is in no call
-pub closed_world : (a b : Kept) (x : Answer) → Grows a b (step.Close, x) → x ≡ close_answer (now a) → (now a).submission.call ≡ None → now b ≡ record (now a) { is_closed = true }
+pub closed_world : (a b : Kept) (x : Answer) → Grows a b (step.Close, x) → x ≡ close_answer (now a)
+    → (now a).submission.call ≡ None → now b ≡ record (now a) { is_closed = true }
 closed_world a b x g called between = grown a b step.Close x g ∙ ap (closing (now a)) (called ∙ ap (λ c. if is_some c then answer.InCall else answer.Shut) between)
 
-pub tied_shut : (a b : Kept) (x : Answer) (before after : Put) (i : Intake) → i ≡ intake.Ready → Grows a b (step.Close, x) → x ≡ close_answer (now a) → Tied a.setup.sq (now a) before i → after ≡ with_close before → Tied a.setup.sq (now b) after intake.Closed
+pub tied_shut : (a b : Kept) (x : Answer) (before after : Put) (i : Intake) → i ≡ intake.Ready
+    → Grows a b (step.Close, x) → x ≡ close_answer (now a) → Tied a.setup.sq (now a) before i
+    → after ≡ with_close before → Tied a.setup.sq (now b) after intake.Closed
 tied_shut a b x before after i ready g called tied pulled =
     let t : Tied a.setup.sq (now a) before intake.Ready = subst (Tied a.setup.sq (now a) before) ready tied in
     subst (λ w. Tied a.setup.sq w after intake.Closed) (sym (closed_world a b x g called t.stands.call))
@@ -181,10 +235,12 @@ pub takes_shut : (a b : Kept) (x : Answer) → Grows a b (step.Close, x) → Tak
 takes_shut a b x g = takes_close a b (appends_one a b (step.Close, x) close_counted g refl)
 
 -- what a pull took in behind a retry
-pub ok_then : {E : Type 0} (r : Result ℕ E) (a b c : Kept) → TakesIn a b 0 → IfOk r (λ n. TakesIn b c n) → IfOk r (λ n. TakesIn a c n)
+pub ok_then : {E : Type 0} (r : Result ℕ E) (a b c : Kept) → TakesIn a b 0
+    → IfOk r (λ n. TakesIn b c n) → IfOk r (λ n. TakesIn a c n)
 ok_then (Ok n) a b c p q = takes_then a b c 0 n n p q (omega arith)
 ok_then (Err e) a b c p q = tt
 
-pub err_then : {E : Type 0} (r : Result ℕ E) (a b c : Kept) → TakesIn a b 0 → OnErr r (TakesIn b c 0) → OnErr r (TakesIn a c 0)
+pub err_then : {E : Type 0} (r : Result ℕ E) (a b c : Kept) → TakesIn a b 0
+    → OnErr r (TakesIn b c 0) → OnErr r (TakesIn a c 0)
 err_then (Ok n) a b c p q = tt
 err_then (Err e) a b c p q = takes_then a b c 0 0 0 p q refl

@@ -13,8 +13,10 @@ use Rattle.uring_threads.specs.SettledWorker.{AreSettled, HaveFiles}
 use Rattle.uring_threads.specs.Work.{place_of_file}
 use Rattle.uring_threads.specs.Worker.{Worker, IsRight, empty_files}
 
-pub own_file : (kept : Kept) (files : ℕ) (workers : List Worker) (fd : ℤ) (e : Worker) → kept.setup.files ≡ files → AreSettled kept workers
-    → length (get_or workers (place_of_file (length workers) files fd) e).files ≡ files → IsRight (get_or workers (place_of_file (length workers) files fd) e)
+pub own_file : (kept : Kept) (files : ℕ) (workers : List Worker) (fd : ℤ) (e : Worker)
+    → kept.setup.files ≡ files → AreSettled kept workers
+    → length (get_or workers (place_of_file (length workers) files fd) e).files ≡ files
+    → IsRight (get_or workers (place_of_file (length workers) files fd) e)
     → AgreeAt fd (files_of kept.setup (now kept)) (get_or workers (place_of_file (length workers) files fd) e).files
 own_file kept files workers fd e same settled many right =
     let w : ℕ → Worker = λ n. get_or workers (place_of_file (length workers) n fd) e in
@@ -24,15 +26,22 @@ own_file kept files workers fd e same settled many right =
     ∙ ap (λ fs. file_of fs fd) (sym right.files)
 
 -- the same at a place that was looked up
-pub file_at : (kept : Kept) (files : ℕ) (workers : List Worker) (fd : ℤ) (place : ℕ) (d e : Worker) → kept.setup.files ≡ files → AreSettled kept workers → place ≡ place_of_file (length workers) files fd → place < length workers → HaveFiles files workers
-    → IsRight (get_or workers place d) → AgreeAt fd (files_of kept.setup (now kept)) (get_or workers place e).files
+pub file_at : (kept : Kept) (files : ℕ) (workers : List Worker) (fd : ℤ) (place : ℕ) (d e : Worker)
+    → kept.setup.files ≡ files → AreSettled kept workers
+    → place ≡ place_of_file (length workers) files fd → place < length workers
+    → HaveFiles files workers
+    → IsRight (get_or workers place d)
+    → AgreeAt fd (files_of kept.setup (now kept)) (get_or workers place e).files
 file_at kept files workers fd place d e same settled here within have right =
     let k : ℕ = place_of_file (length workers) files fd in
     own_file kept files workers fd e same settled (have.each k e (subst (λ n. n < length workers) here within)) (subst (λ n. IsRight (get_or workers n e)) here (subst IsRight (get_or_default workers place d e within) right))
     ∙ ap (λ n. file_of (get_or workers n e).files fd) (sym here)
 
-pub state_same : (fd : ℤ) (files others : List FileContents) → AgreeAt fd files others → state_of files fd ≡ state_of others fd
+pub state_same : (fd : ℤ) (files others : List FileContents) → AgreeAt fd files others
+    → state_of files fd ≡ state_of others fd
 state_same fd files others same = ap (option_map (λ (f : FileContents). record { len = length f.bytes; writes = f.writes; synced = f.synced })) same
 
-pub byte_same : (fd : ℤ) (at : ℕ) (files others : List FileContents) → AgreeAt fd files others → byte_of files fd at ≡ byte_of others fd at
-byte_same fd at files others same = ap (option_and_then (λ (f : FileContents). slice_get f.bytes at)) same
+pub byte_same : (fd : ℤ) (at : ℕ) (files others : List FileContents) → AgreeAt fd files others
+    → byte_of files fd at ≡ byte_of others fd at
+byte_same fd at files others same =
+    ap (option_and_then (λ (f : FileContents). slice_get f.bytes at)) same

@@ -19,15 +19,18 @@ use Rattle.rtrb.specs.declared.end.End.{End}
 use Rattle.uring_threads.specs.Worker.{Worker, done_of, empty_files, IsWorking}
 
 -- as many files as before
-many_changed : (chosen : Bool) (files : List FileContents) (fd : ℤ) (change : FileContents → FileContents) → length (cond chosen (with_changed files fd change) files) ≡ length files
+many_changed : (chosen : Bool) (files : List FileContents) (fd : ℤ) (change : FileContents → FileContents)
+    → length (cond chosen (with_changed files fd change) files) ≡ length files
 many_changed false files fd change = refl
 many_changed true files (pos fd) change = length-set files fd _
 many_changed true files (negsuc below) change = refl
 
-pub many_after : (files : List FileContents) (op : Op) (res : ℤ) → length (after files op res) ≡ length files
+pub many_after : (files : List FileContents) (op : Op) (res : ℤ)
+    → length (after files op res) ≡ length files
 many_after files Nop res = refl
 many_after files (Read fd off len) res = refl
-many_after files (Write fd off len bytes) res = many_changed (int_eq res (pos len)) files fd (written off (take len bytes))
+many_after files (Write fd off len bytes) res =
+    many_changed (int_eq res (pos len)) files fd (written off (take len bytes))
 many_after files (Fsync fd) res = many_changed (int_eq res (pos 0)) files fd with_writes_synced
 many_after files (Cancel target all) res = refl
 
@@ -40,8 +43,10 @@ done_of-own (d ∷ ds) = ap (λ xs. d ∷ xs) (done_of-own ds)
 abbrev pub done_as : Job → Outcome → Done
 done_as j outcome = record { number = j.number; op = j.op; outcome = outcome }
 
-pub done_of-snoc : (jobs : List Job) (results : List JobResult) (files : List FileContents) → IsWorking jobs results files → (j : Job) (outcome : Outcome)
-    → done_of (jobs ++ j ∷ []) (results ++ record { number = j.number; outcome = outcome } ∷ []) ≡ done_of jobs results ++ done_as j outcome ∷ []
+pub done_of-snoc : (jobs : List Job) (results : List JobResult) (files : List FileContents)
+    → IsWorking jobs results files → (j : Job) (outcome : Outcome)
+    → done_of (jobs ++ j ∷ []) (results ++ record { number = j.number; outcome = outcome } ∷ [])
+    ≡ done_of jobs results ++ done_as j outcome ∷ []
 done_of-snoc jobs results files w j outcome =
     ap (λ js. done_of js (results ++ result_of (done_as j outcome) ∷ [])) (jobs_snoc jobs (done_of jobs results) j outcome w.jobs_done)
     ∙ ap (λ rs. done_of (jobs_of (done_of jobs results ++ done_as j outcome ∷ [])) rs) (results_snoc results (done_of jobs results) j outcome w.results_done)
@@ -52,7 +57,8 @@ done_of-snoc jobs results files w j outcome =
       results_snoc : (results : List JobResult) (done : List Done) (j : Job) (outcome : Outcome) → results ≡ results_of done → results ++ result_of (done_as j outcome) ∷ [] ≡ results_of (done ++ done_as j outcome ∷ [])
       results_snoc results done j outcome same = ap (λ rs. rs ++ result_of (done_as j outcome) ∷ []) same ∙ sym (map-append result_of done (done_as j outcome ∷ []))
 
-pub goes_on : (jobs : List Job) (results : List JobResult) (files : List FileContents) → IsWorking jobs results files → (j : Job) (outcome : Outcome) → IsOutcome files j.op outcome
+pub goes_on : (jobs : List Job) (results : List JobResult) (files : List FileContents)
+    → IsWorking jobs results files → (j : Job) (outcome : Outcome) → IsOutcome files j.op outcome
     → IsWorking (jobs ++ j ∷ []) (results ++ record { number = j.number; outcome = outcome } ∷ []) (after files j.op outcome.res)
 goes_on jobs results files w j outcome right =
     let done : List Done = done_of jobs results in
@@ -69,7 +75,8 @@ goes_on jobs results files w j outcome right =
     }
 
 -- workers whose parts are the same are the same
-pub same_ring : {T A P : Type 0} (a b : End T A P) → a.words ≡ b.words → a.slots ≡ b.slots → a.names ≡ b.names → numbers_of a ≡ numbers_of b
+pub same_ring : {T A P : Type 0} (a b : End T A P) → a.words ≡ b.words → a.slots ≡ b.slots
+    → a.names ≡ b.names → numbers_of a ≡ numbers_of b
 same_ring a b words slots names =
     ap (λ p. numbers_of_pointer p ++ numbers_of_pointer a.slots ++ (a.names.0 ∷ a.names.1.0 ∷ a.names.1.1 ∷ [])) words
     ∙ ap (λ p. numbers_of_pointer b.words ++ numbers_of_pointer p ++ (a.names.0 ∷ a.names.1.0 ∷ a.names.1.1 ∷ [])) slots

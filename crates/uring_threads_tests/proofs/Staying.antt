@@ -9,7 +9,8 @@ use Rattle.uring_threads.specs.Worker.{Worker}
 use Rattle.uring_threads.proofs.SameEnds.{same_told, told_same}
 use Rattle.uring_threads_tests.specs.Workers.{files_of, lanes_of}
 
-any_worker : (workers : List Worker) (k : ℕ) (d e : Worker) → k < length workers → get_or workers k d ≡ get_or workers k e
+any_worker : (workers : List Worker) (k : ℕ) (d e : Worker) → k < length workers
+    → get_or workers k d ≡ get_or workers k e
 any_worker [] k d e low = absurd (omega (arith, low))
 any_worker (w ∷ workers) zero d e low = refl
 any_worker (w ∷ workers) (suc k) d e low = any_worker workers k d e (omega (arith, low))
@@ -24,7 +25,9 @@ same_workers old new many pairing files = (
   told_same (λ (w : Worker). length w.files) (λ (w : Worker). length w.files) new old many (λ k d e low. files k d (omega (arith, low, many)) ∙ ap (λ (w : Worker). length w.files) (any_worker old k d e (omega (arith, low, many)))),
 )
 
-pub workers_stay : (app : AppEnd) (kernel : Kernel) (old new : List Worker) → lanes_of new ≡ lanes_of old → files_of new ≡ files_of old → AreTogether app kernel old → AreTogether app kernel new
+pub workers_stay : (app : AppEnd) (kernel : Kernel) (old new : List Worker)
+    → lanes_of new ≡ lanes_of old → files_of new ≡ files_of old → AreTogether app kernel old
+    → AreTogether app kernel new
 workers_stay app kernel old new lanes files t =
     record {
       ports = t.ports;
@@ -38,11 +41,13 @@ workers_stay app kernel old new lanes files t =
       many = sym (length-map new (λ (w : Worker). w.pairing)) ∙ ap length lanes ∙ length-map old (λ (w : Worker). w.pairing)
 
 -- two lists of workers of one set-up are equally long
-pub same_many : (app : AppEnd) (kernel : Kernel) (old new : List Worker) → AreTogether app kernel old → AreTogether app kernel new → length new ≡ length old
+pub same_many : (app : AppEnd) (kernel : Kernel) (old new : List Worker)
+    → AreTogether app kernel old → AreTogether app kernel new → length new ≡ length old
 same_many app kernel old new s t =
     sym (length-map new (λ (w : Worker). w.pairing)) ∙ ap length (t.lanes ∙ sym s.lanes) ∙ length-map old (λ (w : Worker). w.pairing)
 
 -- what was lent is written back whole
-pub written_back : (app : AppEnd) (kernel : Kernel) (old new : List Worker) (n : ℕ) → length new ≡ n → AreTogether app kernel new → AreTogether app kernel (take n (new ++ drop (length new) old))
+pub written_back : (app : AppEnd) (kernel : Kernel) (old new : List Worker) (n : ℕ) → length new ≡ n
+    → AreTogether app kernel new → AreTogether app kernel (take n (new ++ drop (length new) old))
 written_back app kernel old new n many t =
     subst (AreTogether app kernel) (sym (ap (λ k. take k (new ++ drop (length new) old)) (sym many) ∙ take-append_seam new (drop (length new) old))) t

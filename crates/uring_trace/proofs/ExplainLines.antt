@@ -29,13 +29,15 @@ use Rattle.uring_text.proofs.Splits.{split_more, split_end, split_whole, last_so
 use Rattle.uring_trace.proofs.Sessions.{one_more}
 
 -- two facts of a value, whatever the value
-pub if_ok_both : {T E : Type 0} (r : Result T E) (P Q R : T → Type 0) → ((x : T) → P x → Q x → R x) → IfOk r P → IfOk r Q → IfOk r R
+pub if_ok_both : {T E : Type 0} (r : Result T E) (P Q R : T → Type 0) → ((x : T) → P x → Q x → R x)
+    → IfOk r P → IfOk r Q → IfOk r R
 if_ok_both (Ok x) P Q R f a b = f x a b
 if_ok_both (Err e) P Q R f a b = tt
 
 -- an answer and what is kept of its reason, with the end of the line
 pub line_reasoned : (before one two three : List ℕ) (answer : Answer) (why w : Option Why) (found f : Option Found) (kept : Option Reason)
-    → one ≡ before ++ text_of answer → two ≡ one ++ reason_text kept → three ≡ ended two → kept ≡ kept_reason answer why found → why ≡ w → found ≡ f
+    → one ≡ before ++ text_of answer → two ≡ one ++ reason_text kept → three ≡ ended two
+    → kept ≡ kept_reason answer why found → why ≡ w → found ≡ f
     → three ≡ before ++ ended (text_of answer ++ reason_text (kept_reason answer w f))
 line_reasoned before one two three answer why w found f kept said told end is asked sought =
     let reason : kept ≡ kept_reason answer w f = is ∙ ap (λ (x : Option Why). kept_reason answer x found) asked ∙ ap (λ (x : Option Found). kept_reason answer w x) sought in
@@ -45,7 +47,9 @@ line_reasoned before one two three answer why w found f kept said told end is as
 
 -- what becomes of a line: a step, a question, a remark, or a bad one
 
-pub line_made : (old new : Machine) (number : ℕ) (bad : Bool) (line before after notes : List ℕ) (step : Step) → IsStep line step → TellsStep old new step before after → AppendsLine old new number bad bad line before after notes notes
+pub line_made : (old new : Machine) (number : ℕ) (bad : Bool) (line before after notes : List ℕ) (step : Step)
+    → IsStep line step → TellsStep old new step before after
+    → AppendsLine old new number bad bad line before after notes notes
 line_made old new number bad line before after notes step is t = record {
   said = Made (step, t.answer);
   read = is;
@@ -56,7 +60,9 @@ line_made old new number bad line before after notes step is t = record {
   fits = t.fits;
 }
 
-pub line_asked : (m : Machine) (number : ℕ) (bad : Bool) (line before after notes : List ℕ) (question : Question) → IsQuestion line question → TellsShown m question before after → AppendsLine m m number bad bad line before after notes notes
+pub line_asked : (m : Machine) (number : ℕ) (bad : Bool) (line before after notes : List ℕ) (question : Question)
+    → IsQuestion line question → TellsShown m question before after
+    → AppendsLine m m number bad bad line before after notes notes
 line_asked m number bad line before after notes question is tells = record {
   said = Asked question;
   read = is;
@@ -67,7 +73,9 @@ line_asked m number bad line before after notes question is tells = record {
   fits = λ h f. f;
 }
 
-pub line_bad : (m : Machine) (number : ℕ) (was_bad : Bool) (line before after notes notes' : List ℕ) → IsBad line → is_remark line ≡ false → IsNoQuestion line → after ≡ before ++ ended (codes "bad line") → notes' ≡ notes ++ bad_note number
+pub line_bad : (m : Machine) (number : ℕ) (was_bad : Bool) (line before after notes notes' : List ℕ)
+    → IsBad line → is_remark line ≡ false → IsNoQuestion line
+    → after ≡ before ++ ended (codes "bad line") → notes' ≡ notes ++ bad_note number
     → AppendsLine m m number was_bad true line before after notes notes'
 line_bad m number was_bad line before after notes notes' is remark none told noted = record {
   said = Bad;
@@ -80,8 +88,10 @@ line_bad m number was_bad line before after notes notes' is remark none told not
 }
 
 -- one byte more of a line
-pub explain_byte : (setup : Setup) (m : Machine) (kept kept' : KeptLine) (number : ℕ) (bad : Bool) (before text notes : List ℕ) (b : ℕ) → b ≢ 10 → ((line : List ℕ) → kept ≡ kept_of line → kept' ≡ kept_of (line ++ b ∷ []))
-    → Explaining setup m kept number bad before text notes → Explaining setup m kept' number bad (before ++ b ∷ []) text notes
+pub explain_byte : (setup : Setup) (m : Machine) (kept kept' : KeptLine) (number : ℕ) (bad : Bool) (before text notes : List ℕ) (b : ℕ)
+    → b ≢ 10 → ((line : List ℕ) → kept ≡ kept_of line → kept' ≡ kept_of (line ++ b ∷ []))
+    → Explaining setup m kept number bad before text notes
+    → Explaining setup m kept' number bad (before ++ b ∷ []) text notes
 explain_byte setup m kept kept' number bad before text notes b ne more h = record {
   sayings = h.sayings;
   line = h.line ++ b ∷ [];
@@ -95,7 +105,10 @@ explain_byte setup m kept kept' number bad before text notes b ne more h = recor
 }
 
 -- one line more
-explained_more : (setup : Setup) (m m' : Machine) (number : ℕ) (was_bad bad : Bool) (xs : List Saying) (line text before after notes noted noted' : List ℕ) → Explains setup xs (text ++ before) (notes ++ noted) → number ≡ line_number (length xs) → m.core.setup ≡ setup → Fits m (history_of (events_in xs)) → (a : AppendsLine m m' number was_bad bad line before after noted noted')
+explained_more : (setup : Setup) (m m' : Machine) (number : ℕ) (was_bad bad : Bool) (xs : List Saying) (line text before after notes noted noted' : List ℕ)
+    → Explains setup xs (text ++ before) (notes ++ noted) → number ≡ line_number (length xs)
+    → m.core.setup ≡ setup → Fits m (history_of (events_in xs))
+    → (a : AppendsLine m m' number was_bad bad line before after noted noted')
     → Explains setup (record { line = line; said = a.said } ∷ xs) (text ++ after) (notes ++ noted')
 explained_more setup m m' number was_bad bad xs line text before after notes noted noted' h numbered same fits a =
     let past : History = history_of (events_in xs) in
@@ -114,15 +127,19 @@ explained_more setup m m' number was_bad bad xs line text before after notes not
           ∙ ap (λ (t : List ℕ). t ++ noted_of (line_number (length xs)) a.said) h.noted;
     }
 
-bad_more : (m m' : Machine) (number : ℕ) (was_bad bad : Bool) (xs : List Saying) (line before after noted noted' : List ℕ) → was_bad ≡ list_any (λ x. is_bad x.said) xs → (a : AppendsLine m m' number was_bad bad line before after noted noted')
+bad_more : (m m' : Machine) (number : ℕ) (was_bad bad : Bool) (xs : List Saying) (line before after noted noted' : List ℕ)
+    → was_bad ≡ list_any (λ x. is_bad x.said) xs
+    → (a : AppendsLine m m' number was_bad bad line before after noted noted')
     → bad ≡ list_any (λ x. is_bad x.said) (record { line = line; said = a.said } ∷ xs)
 bad_more m m' number was_bad bad xs line before after noted noted' was a =
     a.bad_line ∙ ap (λ b. b || is_bad a.said) was ∙ or_comm (list_any (λ x. is_bad x.said) xs) (is_bad a.said)
 
 -- a line that has its end
-pub explain_line : (setup : Setup) (m m' : Machine) (kept : KeptLine) (number number' : ℕ) (was_bad bad : Bool) (bytes text before after notes noted noted' : List ℕ) → number' ≡ min (number + 1) (2 ^ 64 - 1)
+pub explain_line : (setup : Setup) (m m' : Machine) (kept : KeptLine) (number number' : ℕ) (was_bad bad : Bool) (bytes text before after notes noted noted' : List ℕ)
+    → number' ≡ min (number + 1) (2 ^ 64 - 1)
     → ((line : List ℕ) → kept ≡ kept_of line → AppendsLine m m' number was_bad bad line before after noted noted')
-    → Explaining setup m kept number was_bad bytes (text ++ before) (notes ++ noted) → Explaining setup m' (kept_of []) number' bad (bytes ++ 10 ∷ []) (text ++ after) (notes ++ noted')
+    → Explaining setup m kept number was_bad bytes (text ++ before) (notes ++ noted)
+    → Explaining setup m' (kept_of []) number' bad (bytes ++ 10 ∷ []) (text ++ after) (notes ++ noted')
 explain_line setup m m' kept number number' was_bad bad bytes text before after notes noted noted' next tells h =
     let a = tells h.line h.keeps in
     let numbered = h.numbered in
@@ -140,12 +157,15 @@ explain_line setup m m' kept number number' was_bad bad bytes text before after 
 
 -- the lines to their end, and the machine that fits them
 abbrev pub Ended : Setup → Machine → Bool → List ℕ → List ℕ → List ℕ → Type 0
-Ended setup m bad bytes text notes = (whole : ExplainsWhole setup bad bytes text notes) × (m.core.setup ≡ setup) × Fits m (history_of (events_in whole.0))
+Ended setup m bad bytes text notes = (whole : ExplainsWhole setup bad bytes text notes)
+    × (m.core.setup ≡ setup) × Fits m (history_of (events_in whole.0))
 
 -- a last line that has begun
-pub explain_last : (setup : Setup) (m m' : Machine) (kept : KeptLine) (number : ℕ) (was_bad bad : Bool) (bytes text before after notes noted noted' : List ℕ) → ((line : List ℕ) → kept ≡ kept_of line → line ≡ [] → ⊥)
+pub explain_last : (setup : Setup) (m m' : Machine) (kept : KeptLine) (number : ℕ) (was_bad bad : Bool) (bytes text before after notes noted noted' : List ℕ)
+    → ((line : List ℕ) → kept ≡ kept_of line → line ≡ [] → ⊥)
     → ((line : List ℕ) → kept ≡ kept_of line → AppendsLine m m' number was_bad bad line before after noted noted')
-    → Explaining setup m kept number was_bad bytes (text ++ before) (notes ++ noted) → Ended setup m' bad bytes (text ++ after) (notes ++ noted')
+    → Explaining setup m kept number was_bad bytes (text ++ before) (notes ++ noted)
+    → Ended setup m' bad bytes (text ++ after) (notes ++ noted')
 explain_last setup m m' kept number was_bad bad bytes text before after notes noted noted' some tells h =
     let a = tells h.line h.keeps in (
       (
@@ -162,15 +182,20 @@ explain_last setup m m' kept number was_bad bad bytes text before after notes no
     )
 
 -- no last line has begun
-pub explain_none : (setup : Setup) (m : Machine) (kept : KeptLine) (number : ℕ) (bad : Bool) (bytes text notes : List ℕ) → ((line : List ℕ) → kept ≡ kept_of line → line ≡ []) → Explaining setup m kept number bad bytes text notes → Ended setup m bad bytes text notes
+pub explain_none : (setup : Setup) (m : Machine) (kept : KeptLine) (number : ℕ) (bad : Bool) (bytes text notes : List ℕ)
+    → ((line : List ℕ) → kept ≡ kept_of line → line ≡ [])
+    → Explaining setup m kept number bad bytes text notes → Ended setup m bad bytes text notes
 explain_none setup m kept number bad bytes text notes none h =
     ((h.sayings, lines_in h.sayings, h.line, h.explains, h.splits, sym (ap (with_last (lines_in h.sayings)) (none h.line h.keeps)), h.bad_lines), h.same, h.fits)
 
 -- what an explainer holds, for the outcomes that end early
-pub explain_ended : (setup : Setup) (m : Machine) (kept : KeptLine) (number : ℕ) (bad : Bool) (bytes text notes : List ℕ) → Explaining setup m kept number bad bytes text notes → ExplainsEnded setup bytes text notes
+pub explain_ended : (setup : Setup) (m : Machine) (kept : KeptLine) (number : ℕ) (bad : Bool) (bytes text notes : List ℕ)
+    → Explaining setup m kept number bad bytes text notes → ExplainsEnded setup bytes text notes
 explain_ended setup m kept number bad bytes text notes h = (h.sayings, h.line, h.explains, h.splits)
 
-pub explain_beginning : (setup : Setup) (m : Machine) (kept : KeptLine) (number : ℕ) (bad : Bool) (bytes text notes more : List ℕ) → Explaining setup m kept number bad bytes text notes → ExplainsBeginning setup (bytes ++ more) text notes
+pub explain_beginning : (setup : Setup) (m : Machine) (kept : KeptLine) (number : ℕ) (bad : Bool) (bytes text notes more : List ℕ)
+    → Explaining setup m kept number bad bytes text notes
+    → ExplainsBeginning setup (bytes ++ more) text notes
 explain_beginning setup m kept number bad bytes text notes more h =
     let lines = lines_in h.sayings in
     (joined lines, h.line ++ more, h.sayings, h.explains, split_whole lines h.splits.each, ap (λ (l : List ℕ). l ++ more) h.splits.whole ∙ append_assoc (joined lines) h.line more)

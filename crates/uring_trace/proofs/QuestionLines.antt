@@ -11,7 +11,8 @@ abbrev pub IsFileAsked : List ℕ → Option ℤ → Type 0
 IsFileAsked line read = MatchOption read ((fd : ℤ) → ¬ Asks line (question.File fd)) (λ fd. Asks line (question.File fd))
 
 -- the line begins with the words, and what follows is read as a file
-pub file_words : (line token : List ℕ) (read : Option ℤ) → line ≡ codes "show file " ++ token → read ≡ file_of token → IsFileAsked line read
+pub file_words : (line token : List ℕ) (read : Option ℤ) → line ≡ codes "show file " ++ token
+    → read ≡ file_of token → IsFileAsked line read
 file_words line token None words is = λ fd asks.
     let same : token ≡ signed_decimal fd = ap (λ (l : List ℕ). drop 10 l) (sym words ∙ asks.0) in
     let found : None ≡ Some fd = is ∙ ap file_of same ∙ file_again fd asks.1 in

@@ -24,7 +24,8 @@ on_ok_from (Ok x) Q f = f refl
 on_ok_from (Err e) Q f = tt
 
 -- one byte more of a line
-pub took_byte : (manner : Manner) (m : Machine) (is_echo : Bool) (kept kept' : KeptLine) (before text : List ℕ) (b : ℕ) → b ≢ 10 → ((line : List ℕ) → kept ≡ kept_of line → kept' ≡ kept_of (line ++ b ∷ []))
+pub took_byte : (manner : Manner) (m : Machine) (is_echo : Bool) (kept kept' : KeptLine) (before text : List ℕ) (b : ℕ)
+    → b ≢ 10 → ((line : List ℕ) → kept ≡ kept_of line → kept' ≡ kept_of (line ++ b ∷ []))
     → Holds manner m is_echo kept before text → Holds manner m is_echo kept' (before ++ b ∷ []) text
 took_byte manner m is_echo kept kept' before text b ne more h = record {
   exchanges = h.exchanges;
@@ -38,8 +39,11 @@ took_byte manner m is_echo kept kept' before text b ne more h = record {
 }
 
 -- a step was made, and its answer appended behind what stands before it
-pub told_step : (old new : Machine) (is_echo : Bool) (line before middle told after : List ℕ) (s : Step) (a : Answer) → IsStep line s → middle ≡ before ++ step_text is_echo line → told ≡ text_of a → after ≡ middle ++ told
-    → new.core.setup ≡ old.core.setup → ((h : History) → Fits old h → Fits new ((s, a) ∷ h)) → AppendsAnswer old new is_echo line before after
+pub told_step : (old new : Machine) (is_echo : Bool) (line before middle told after : List ℕ) (s : Step) (a : Answer)
+    → IsStep line s → middle ≡ before ++ step_text is_echo line → told ≡ text_of a
+    → after ≡ middle ++ told
+    → new.core.setup ≡ old.core.setup → ((h : History) → Fits old h → Fits new ((s, a) ∷ h))
+    → AppendsAnswer old new is_echo line before after
 told_step old new is_echo line before middle told after s a read m t e same fits = record {
   event = Some (s, a);
   read = read;
@@ -52,12 +56,15 @@ told_step old new is_echo line before middle told after s a read m t e same fits
 }
 
 -- the history of one exchange more
-pub one_more : (event : Option Event) (events : List Event) → with_event event (history_of events) ≡ history_of (events ++ option_to_list event)
+pub one_more : (event : Option Event) (events : List Event)
+    → with_event event (history_of events) ≡ history_of (events ++ option_to_list event)
 one_more None events = ap (λ (es : List Event). history_of es) (sym (append-nil events))
 one_more (Some event) events = sym (history_of-snoc events event)
 
 -- one exchange more
-answered : (manner : Manner) (m m' : Machine) (is_echo : Bool) (xs : List Exchange) (line text before after : List ℕ) → Answers manner xs (text ++ before) → m.core.setup ≡ manner.setup → is_echo ≡ manner.is_echo → Fits m (history_of (events_of xs)) → (a : AppendsAnswer m m' is_echo line before after)
+answered : (manner : Manner) (m m' : Machine) (is_echo : Bool) (xs : List Exchange) (line text before after : List ℕ)
+    → Answers manner xs (text ++ before) → m.core.setup ≡ manner.setup → is_echo ≡ manner.is_echo
+    → Fits m (history_of (events_of xs)) → (a : AppendsAnswer m m' is_echo line before after)
     → Answers manner (record { line = line; event = a.event } ∷ xs) (text ++ (after ++ 10 ∷ []))
 answered manner m m' is_echo xs line text before after h same echoes fits a = record {
   lawful =
@@ -68,8 +75,10 @@ answered manner m m' is_echo xs line text before after h same echoes fits a = re
 }
 
 -- the answer to a line that has its end
-pub ended_line : (manner : Manner) (m m' : Machine) (is_echo : Bool) (kept : KeptLine) (bytes text before after : List ℕ) → ((line : List ℕ) → kept ≡ kept_of line → AppendsAnswer m m' is_echo line before after)
-    → Holds manner m is_echo kept bytes (text ++ before) → Holds manner m' is_echo (kept_of []) (bytes ++ 10 ∷ []) (text ++ (after ++ 10 ∷ []))
+pub ended_line : (manner : Manner) (m m' : Machine) (is_echo : Bool) (kept : KeptLine) (bytes text before after : List ℕ)
+    → ((line : List ℕ) → kept ≡ kept_of line → AppendsAnswer m m' is_echo line before after)
+    → Holds manner m is_echo kept bytes (text ++ before)
+    → Holds manner m' is_echo (kept_of []) (bytes ++ 10 ∷ []) (text ++ (after ++ 10 ∷ []))
 ended_line manner m m' is_echo kept bytes text before after answer h =
     let a = answer h.line h.keeps in
     record {
@@ -84,17 +93,22 @@ ended_line manner m m' is_echo kept bytes text before after answer h =
     }
 
 -- the answer to a last line that has begun
-pub ended_last : (manner : Manner) (m m' : Machine) (is_echo : Bool) (kept : KeptLine) (bytes text before after : List ℕ) → ((line : List ℕ) → kept ≡ kept_of line → line ≡ [] → ⊥) → ((line : List ℕ) → kept ≡ kept_of line → AppendsAnswer m m' is_echo line before after)
-    → Holds manner m is_echo kept bytes (text ++ before) → IsWhole manner bytes (text ++ (after ++ 10 ∷ []))
+pub ended_last : (manner : Manner) (m m' : Machine) (is_echo : Bool) (kept : KeptLine) (bytes text before after : List ℕ)
+    → ((line : List ℕ) → kept ≡ kept_of line → line ≡ [] → ⊥)
+    → ((line : List ℕ) → kept ≡ kept_of line → AppendsAnswer m m' is_echo line before after)
+    → Holds manner m is_echo kept bytes (text ++ before)
+    → IsWhole manner bytes (text ++ (after ++ 10 ∷ []))
 ended_last manner m m' is_echo kept bytes text before after some answer h =
     let a = answer h.line h.keeps in
     (record { line = h.line; event = a.event } ∷ h.exchanges, lines_of h.exchanges, h.line, answered manner m m' is_echo h.exchanges h.line text before after h.answers h.same h.echoes h.fits a, h.splits, sym (last_some (lines_of h.exchanges) h.line (some h.line h.keeps)))
 
 -- what a session holds, for the outcomes that end a trace early
-pub held_ended : (manner : Manner) (m : Machine) (is_echo : Bool) (kept : KeptLine) (bytes text : List ℕ) → Holds manner m is_echo kept bytes text → IsEnded manner bytes text
+pub held_ended : (manner : Manner) (m : Machine) (is_echo : Bool) (kept : KeptLine) (bytes text : List ℕ)
+    → Holds manner m is_echo kept bytes text → IsEnded manner bytes text
 held_ended manner m is_echo kept bytes text h = (h.exchanges, h.line, h.answers, h.splits)
 
-pub held_beginning : (manner : Manner) (m : Machine) (is_echo : Bool) (kept : KeptLine) (bytes text more : List ℕ) → Holds manner m is_echo kept bytes text → IsBeginning manner (bytes ++ more) text
+pub held_beginning : (manner : Manner) (m : Machine) (is_echo : Bool) (kept : KeptLine) (bytes text more : List ℕ)
+    → Holds manner m is_echo kept bytes text → IsBeginning manner (bytes ++ more) text
 held_beginning manner m is_echo kept bytes text more h =
     let lines = lines_of h.exchanges in
     (joined lines, h.line ++ more, h.exchanges, h.answers, split_whole lines h.splits.each, ap (λ (l : List ℕ). l ++ more) h.splits.whole ∙ append_assoc (joined lines) h.line more)

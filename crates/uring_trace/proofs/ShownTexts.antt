@@ -6,7 +6,8 @@ use Rattle.uring_entry.specs.Layout.{Cqe}
 use Rattle.uring_trace.specs.Shown.{list_text, listed_text}
 
 -- one completion more
-pub list_more : (cs : List Cqe) (i : ℕ) → list_text (take (suc i) cs) ≡ list_text (take i cs) ++ listed_text (slice_get cs i)
+pub list_more : (cs : List Cqe) (i : ℕ)
+    → list_text (take (suc i) cs) ≡ list_text (take i cs) ++ listed_text (slice_get cs i)
 list_more [] zero = refl
 list_more [] (suc i) = refl
 list_more (c ∷ cs) zero = append-nil (listed_text (Some c))
@@ -14,7 +15,9 @@ list_more (c ∷ cs) (suc i) =
     ap (λ (l : List ℕ). listed_text (Some c) ++ l) (list_more cs i) ∙ sym (append_assoc (listed_text (Some c)) (list_text (take i cs)) (listed_text (slice_get cs i)))
 
 -- a text with one completion more
-pub overflow_more : (cs : List Cqe) (place : ℕ) (o : Option Cqe) (front so after : List ℕ) → so ≡ front ++ list_text (take place cs) → after ≡ so ++ listed_text o → o ≡ slice_get cs place → after ≡ front ++ list_text (take (place + 1) cs)
+pub overflow_more : (cs : List Cqe) (place : ℕ) (o : Option Cqe) (front so after : List ℕ)
+    → so ≡ front ++ list_text (take place cs) → after ≡ so ++ listed_text o → o ≡ slice_get cs place
+    → after ≡ front ++ list_text (take (place + 1) cs)
 overflow_more cs place o front so after a b is =
     let t = list_text (take place cs) in
     let x = listed_text (slice_get cs place) in

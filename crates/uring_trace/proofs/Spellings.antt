@@ -47,13 +47,16 @@ one_found name s e =
 abbrev SpellsTwo : List ℕ → Step → List ℕ → Type 0
 SpellsTwo token s name = Spells (name ∷ token ∷ []) s
 
-two_is : (text token : List ℕ) (limit : ℕ) (made : ℕ → Step) (s : Step) → limit ≤ 2 ^ 64 → ((n : ℕ) → n < limit → Spells (text ∷ decimal n ∷ []) (made n)) → option_map made (number_of limit token) ≡ Some s → SpellsTwo token s text
+two_is : (text token : List ℕ) (limit : ℕ) (made : ℕ → Step) (s : Step) → limit ≤ 2 ^ 64
+    → ((n : ℕ) → n < limit → Spells (text ∷ decimal n ∷ []) (made n))
+    → option_map made (number_of limit token) ≡ Some s → SpellsTwo token s text
 two_is text token limit made s le h e =
     let m = mapped made (number_of limit token) s e in
     let n = number_found limit token m.0 le m.1 in
     subst (λ (w : List ℕ). Spells (text ∷ w ∷ []) s) (sym n.0) (subst (Spells (text ∷ decimal m.0 ∷ [])) m.2 (h m.0 n.1))
 
-two_found : (name token : List ℕ) (s : Step) → step_of_two name token ≡ Some s → Spells (name ∷ token ∷ []) s
+two_found : (name token : List ℕ) (s : Step) → step_of_two name token ≡ Some s
+    → Spells (name ∷ token ∷ []) s
 unfolding step_of_two
 two_found name token s e =
     named name (codes "index") (SpellsTwo token s) (option_map (λ n. step.Index n) (number_of (2 ^ 32) token)) _ s e (two_is (codes "index") token (2 ^ 32) (λ n. step.Index n) s (omega arith) (λ n lt. (refl, lt))) (λ e.
@@ -62,7 +65,9 @@ two_found name token s e =
     named name (codes "finish") (SpellsTwo token s) (option_map (λ n. step.Finish n) (number_of (2 ^ 64) token)) None s e (two_is (codes "finish") token (2 ^ 64) (λ n. step.Finish n) s (omega arith) (λ n lt. (refl, lt))) (λ e. absurd (let no : None ≡ Some s = e in cc)))))
 
 -- a fill
-fill_found : (token : List ℕ) (rest : List (List ℕ)) (s : Step) (o : Option ℕ) (f : Option Form) → number_of (2 ^ 32) token ≡ o → form_of rest ≡ f → ReadsFill (Some s) o f → Spells (codes "fill" ∷ token ∷ rest) s
+fill_found : (token : List ℕ) (rest : List (List ℕ)) (s : Step) (o : Option ℕ) (f : Option Form)
+    → number_of (2 ^ 32) token ≡ o → form_of rest ≡ f → ReadsFill (Some s) o f
+    → Spells (codes "fill" ∷ token ∷ rest) s
 fill_found token rest s None f n r e = absurd cc
 fill_found token rest s (Some slot) None n r e = absurd cc
 fill_found token rest s (Some slot) (Some f) n r e =
@@ -71,7 +76,10 @@ fill_found token rest s (Some slot) (Some f) n r e =
     (rest, ap (λ (w : List ℕ). codes "fill" ∷ w ∷ rest) number.0, number.1, record { form = f; spells = form_found rest f r; is_entry = e.2 }) in
     subst (Spells (codes "fill" ∷ token ∷ rest)) (same_Some (step.Fill slot e.0) s (sym e.1)) filled
 
-some_of_more : (name token : List ℕ) (rest : List (List ℕ)) (s : Step) (b : Bool) → bytes_eq name (codes "fill") ≡ b → MatchBool b (ReadsFill (Some s) (number_of (2 ^ 32) token) (form_of rest)) (Some s ≡ cond (eqb (length rest) 0) (step_of_two name token) None) → Spells (name ∷ token ∷ rest) s
+some_of_more : (name token : List ℕ) (rest : List (List ℕ)) (s : Step) (b : Bool)
+    → bytes_eq name (codes "fill") ≡ b
+    → MatchBool b (ReadsFill (Some s) (number_of (2 ^ 32) token) (form_of rest)) (Some s ≡ cond (eqb (length rest) 0) (step_of_two name token) None)
+    → Spells (name ∷ token ∷ rest) s
 some_of_more name token rest s true is e =
     subst (λ (n : List ℕ). Spells (n ∷ token ∷ rest) s) (sym ((bytes_eq-Decides name (codes "fill")).0 is)) (fill_found token rest s (number_of (2 ^ 32) token) (form_of rest) refl refl e)
 some_of_more name token rest s false is e =
@@ -83,31 +91,42 @@ some_of_more name token rest s false is e =
 step_found : (tokens : List (List ℕ)) (s : Step) → ReadsStep (Some s) tokens → Spells tokens s
 step_found [] s e = absurd cc
 step_found (name ∷ []) s e = one_found name s (sym e)
-step_found (name ∷ token ∷ rest) s e = some_of_more name token rest s (bytes_eq name (codes "fill")) refl e
+step_found (name ∷ token ∷ rest) s e =
+    some_of_more name token rest s (bytes_eq name (codes "fill")) refl e
 
 -- ---- what is spelled is read
 
-one_again : (name : List ℕ) (s : Step) → step_of_one name ≡ Some s → (tokens : List (List ℕ)) → tokens ≡ name ∷ [] → ReadsStep (Some s) tokens
+one_again : (name : List ℕ) (s : Step) → step_of_one name ≡ Some s → (tokens : List (List ℕ))
+    → tokens ≡ name ∷ [] → ReadsStep (Some s) tokens
 one_again name s e tokens is = subst (ReadsStep (Some s)) (sym is) (sym e)
 
-two_again : (name : List ℕ) (n limit : ℕ) (made : ℕ → Step) → limit ≤ 2 ^ 64 → n < limit → bytes_eq name (codes "fill") ≡ false → step_of_two name (decimal n) ≡ option_map made (number_of limit (decimal n)) → (tokens : List (List ℕ)) → tokens ≡ name ∷ decimal n ∷ []
+two_again : (name : List ℕ) (n limit : ℕ) (made : ℕ → Step) → limit ≤ 2 ^ 64 → n < limit
+    → bytes_eq name (codes "fill") ≡ false
+    → step_of_two name (decimal n) ≡ option_map made (number_of limit (decimal n))
+    → (tokens : List (List ℕ)) → tokens ≡ name ∷ decimal n ∷ []
     → ReadsStep (Some (made n)) tokens
 two_again name n limit made le lt other e tokens is =
     let read : Some (made n) ≡ step_of_two name (decimal n) = sym (e ∙ ap (option_map made) (number_again limit n le lt)) in
     let reads : ReadsStep (Some (made n)) (name ∷ decimal n ∷ []) = rw other read in
     subst (ReadsStep (Some (made n))) (sym is) reads
 
-fill_again : (slot : ℕ) (entry : Sqe) (rest : List (List ℕ)) (f : Form) → slot < 2 ^ 32 → SpellsForm rest f → IsEntryOf f entry → (tokens : List (List ℕ)) → tokens ≡ codes "fill" ∷ decimal slot ∷ rest → ReadsStep (Some (step.Fill slot entry)) tokens
+fill_again : (slot : ℕ) (entry : Sqe) (rest : List (List ℕ)) (f : Form) → slot < 2 ^ 32
+    → SpellsForm rest f → IsEntryOf f entry → (tokens : List (List ℕ))
+    → tokens ≡ codes "fill" ∷ decimal slot ∷ rest → ReadsStep (Some (step.Fill slot entry)) tokens
 fill_again slot entry rest f lt h is_entry tokens is =
     let filled : ReadsFill (Some (step.Fill slot entry)) (number_of (2 ^ 32) (decimal slot)) (form_of rest) = rw (number_again (2 ^ 32) slot (omega arith) lt, form_again rest f h) (entry, refl, is_entry) in
     subst (ReadsStep (Some (step.Fill slot entry))) (sym is) filled
 
 step_again : (tokens : List (List ℕ)) (s : Step) → Spells tokens s → ReadsStep (Some s) tokens
 unfolding step_of_one step_of_two
-step_again tokens (step.Fill slot entry) h = fill_again slot entry h.0 h.3.form h.2 h.3.spells h.3.is_entry tokens h.1
-step_again tokens (step.Index n) h = two_again (codes "index") n (2 ^ 32) (λ n. step.Index n) (omega arith) h.1 refl refl tokens h.0
-step_again tokens (step.Begin n) h = two_again (codes "begin") n (2 ^ 32) (λ n. step.Begin n) (omega arith) h.1 refl refl tokens h.0
-step_again tokens (step.Issue n) h = two_again (codes "issue") n (2 ^ 64) (λ n. step.Issue n) (omega arith) h.1 refl refl tokens h.0
+step_again tokens (step.Fill slot entry) h =
+    fill_again slot entry h.0 h.3.form h.2 h.3.spells h.3.is_entry tokens h.1
+step_again tokens (step.Index n) h =
+    two_again (codes "index") n (2 ^ 32) (λ n. step.Index n) (omega arith) h.1 refl refl tokens h.0
+step_again tokens (step.Begin n) h =
+    two_again (codes "begin") n (2 ^ 32) (λ n. step.Begin n) (omega arith) h.1 refl refl tokens h.0
+step_again tokens (step.Issue n) h =
+    two_again (codes "issue") n (2 ^ 64) (λ n. step.Issue n) (omega arith) h.1 refl refl tokens h.0
 step_again tokens (step.Finish n) h = two_again (codes "finish") n (2 ^ 64) (λ n. step.Finish n) (omega arith) h.1 refl refl tokens h.0
 step_again tokens step.StoreTail h = one_again (codes "tail") step.StoreTail refl tokens h
 step_again tokens step.LoadHead h = one_again (codes "head") step.LoadHead refl tokens h
@@ -125,21 +144,27 @@ step_again tokens step.Next h = one_again (codes "next") step.Next refl tokens h
 none_some : (o : Option Step) (s : Step) → None ≡ o → Some s ≡ o → ⊥
 none_some o s r q = absurd (let no : None ≡ Some s = r ∙ sym q in cc)
 
-no_fill : (o : Option ℕ) (f : Option Form) (s : Step) → ReadsFill None o f → ReadsFill (Some s) o f → ⊥
+no_fill : (o : Option ℕ) (f : Option Form) (s : Step) → ReadsFill None o f → ReadsFill (Some s) o f
+    → ⊥
 no_fill None f s r q = absurd cc
 no_fill (Some slot) None s r q = absurd cc
-no_fill (Some slot) (Some f) s r q = none_some (Some (step.Fill slot r.0)) (step.Fill slot r.0) r.1 refl
+no_fill (Some slot) (Some f) s r q =
+    none_some (Some (step.Fill slot r.0)) (step.Fill slot r.0) r.1 refl
 
-no_more : (b : Bool) (o : Option ℕ) (f : Option Form) (other : Option Step) (s : Step) → MatchBool b (ReadsFill None o f) (None ≡ other) → MatchBool b (ReadsFill (Some s) o f) (Some s ≡ other) → ⊥
+no_more : (b : Bool) (o : Option ℕ) (f : Option Form) (other : Option Step) (s : Step)
+    → MatchBool b (ReadsFill None o f) (None ≡ other)
+    → MatchBool b (ReadsFill (Some s) o f) (Some s ≡ other) → ⊥
 no_more true o f other s r q = no_fill o f s r q
 no_more false o f other s r q = none_some other s r q
 
-none_and_step : (tokens : List (List ℕ)) (s : Step) → ReadsStep None tokens → ReadsStep (Some s) tokens → ⊥
+none_and_step : (tokens : List (List ℕ)) (s : Step) → ReadsStep None tokens
+    → ReadsStep (Some s) tokens → ⊥
 none_and_step [] s r q = absurd cc
 none_and_step (name ∷ []) s r q = none_some (step_of_one name) s r q
 none_and_step (name ∷ token ∷ rest) s r q = no_more (bytes_eq name (codes "fill")) (number_of (2 ^ 32) token) (form_of rest) (cond (eqb (length rest) 0) (step_of_two name token) None) s r q
 
-fill_once : (o : Option ℕ) (f : Option Form) (s t : Step) → ReadsFill (Some s) o f → ReadsFill (Some t) o f → s ≡ t
+fill_once : (o : Option ℕ) (f : Option Form) (s t : Step) → ReadsFill (Some s) o f
+    → ReadsFill (Some t) o f → s ≡ t
 fill_once None f s t r q = absurd cc
 fill_once (Some slot) None s t r q = absurd cc
 fill_once (Some slot) (Some f) s t r q =
@@ -148,11 +173,14 @@ fill_once (Some slot) (Some f) s t r q =
     let same : r.0 ≡ q.0 = entry_once f r.0 q.0 r.2 q.2 in
     s_is ∙ ap (λ (entry : Sqe). step.Fill slot entry) same ∙ sym t_is
 
-more_once : (b : Bool) (o : Option ℕ) (f : Option Form) (other : Option Step) (s t : Step) → MatchBool b (ReadsFill (Some s) o f) (Some s ≡ other) → MatchBool b (ReadsFill (Some t) o f) (Some t ≡ other) → s ≡ t
+more_once : (b : Bool) (o : Option ℕ) (f : Option Form) (other : Option Step) (s t : Step)
+    → MatchBool b (ReadsFill (Some s) o f) (Some s ≡ other)
+    → MatchBool b (ReadsFill (Some t) o f) (Some t ≡ other) → s ≡ t
 more_once true o f other s t r q = fill_once o f s t r q
 more_once false o f other s t r q = same_Some s t (r ∙ sym q)
 
-read_once : (tokens : List (List ℕ)) (s t : Step) → ReadsStep (Some s) tokens → ReadsStep (Some t) tokens → s ≡ t
+read_once : (tokens : List (List ℕ)) (s t : Step) → ReadsStep (Some s) tokens
+    → ReadsStep (Some t) tokens → s ≡ t
 read_once [] s t r q = absurd cc
 read_once (name ∷ []) s t r q = same_Some s t (r ∙ sym q)
 read_once (name ∷ token ∷ rest) s t r q = more_once (bytes_eq name (codes "fill")) (number_of (2 ^ 32) token) (form_of rest) (cond (eqb (length rest) 0) (step_of_two name token) None) s t r q
@@ -162,6 +190,8 @@ pub step_once : (line : List ℕ) (s t : Step) → IsStep line s → IsStep line
 step_once line s t h k = read_once (tokens_of line) s t (step_again (tokens_of line) s h.spells) (step_again (tokens_of line) t k.spells)
 
 -- what a line is read as
-pub read_line : (line : List ℕ) (read : Option Step) → length line ≤ 300 → ReadsStep read (tokens_of line) → MatchOption read (IsBad line) (IsStep line)
-read_line line None le e = λ s h. none_and_step (tokens_of line) s e (step_again (tokens_of line) s h.spells)
+pub read_line : (line : List ℕ) (read : Option Step) → length line ≤ 300
+    → ReadsStep read (tokens_of line) → MatchOption read (IsBad line) (IsStep line)
+read_line line None le e =
+    λ s h. none_and_step (tokens_of line) s e (step_again (tokens_of line) s h.spells)
 read_line line (Some s) le e = record { short = le; spells = step_found (tokens_of line) s e }

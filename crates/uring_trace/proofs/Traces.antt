@@ -20,7 +20,8 @@ Known = Option (List ℕ)
 
 -- What was read and written so far: the reader had a left and has r, the writer held d and holds w.
 abbrev pub So : Manner → Known → Known → Known → Known → Session → Type 0
-So manner a r d w s = (bytes : List ℕ) × (text : List ℕ) × Consumes a r bytes × Appends d w text × Has manner s bytes text
+So manner a r d w s = (bytes : List ℕ) × (text : List ℕ) × Consumes a r bytes × Appends d w text
+    × Has manner s bytes text
 
 -- What a call wrote for the bytes that it was given, on a session that had taken in others.
 abbrev pub Wrote : Known → Known → List ℕ → (List ℕ → Type 0) → Type 0
@@ -28,59 +29,81 @@ Wrote w w' told P = (written : List ℕ) × Appends w w' written × P (told ++ w
 
 -- What a write of a text wrote.
 abbrev pub WroteText : Known → Known → Answer → List ℕ → Type 0
-WroteText w w' answer new = (written : List ℕ) × Appends w w' written × WritesText answer new written
+WroteText w w' answer new =
+    (written : List ℕ) × Appends w w' written × WritesText answer new written
 
-no_text_yet : (manner : Manner) (s : Session) (bytes text none : List ℕ) → none ≡ [] → Has manner s bytes text → Has manner s bytes (text ++ none)
+no_text_yet : (manner : Manner) (s : Session) (bytes text none : List ℕ) → none ≡ []
+    → Has manner s bytes text → Has manner s bytes (text ++ none)
 no_text_yet manner s bytes text none e h = subst (λ (l : List ℕ). Has manner s bytes l) (sym (ap (λ (l : List ℕ). text ++ l) e ∙ append-nil text)) h
 
 -- a beginning, as what is written when memory is refused
-beginning : (manner : Manner) (s : Session) (bytes told more : List ℕ) → Has manner s bytes told → Writes manner (Err fault.Memory) (bytes ++ more) (told ++ [])
+beginning : (manner : Manner) (s : Session) (bytes told more : List ℕ) → Has manner s bytes told
+    → Writes manner (Err fault.Memory) (bytes ++ more) (told ++ [])
 beginning manner s bytes told more h = subst (λ (l : List ℕ). Writes manner (Err fault.Memory) (bytes ++ more) l) (sym (append-nil told)) (held_beginning manner s.machine s.is_echo s.line bytes told more h)
 
 -- ---- the answers to some bytes
 
 -- memory was refused
-pub none_answered : (manner : Manner) (answer : Answer) (w : Known) (s s' : Session) (before told more : List ℕ) → answer ≡ Err fault.Memory → Has manner s before told → Wrote w w told (TookIn manner answer s' (before ++ more))
+pub none_answered : (manner : Manner) (answer : Answer) (w : Known) (s s' : Session) (before told more : List ℕ)
+    → answer ≡ Err fault.Memory → Has manner s before told
+    → Wrote w w told (TookIn manner answer s' (before ++ more))
 none_answered manner answer w s s' before told more e h = ([], Appends-nil w, subst (λ (x : Answer). TookIn manner x s' (before ++ more) (told ++ [])) (sym e) (beginning manner s before told more h))
 
-cut_short : (manner : Manner) (bytes told new written more : List ℕ) → IsBeginning manner bytes (told ++ new) → 0 < length more → new ≡ written ++ more → IsCutShort manner bytes (told ++ written)
+cut_short : (manner : Manner) (bytes told new written more : List ℕ)
+    → IsBeginning manner bytes (told ++ new) → 0 < length more → new ≡ written ++ more
+    → IsCutShort manner bytes (told ++ written)
 cut_short manner bytes told new written more h lt e = (more, lt, inl (subst (λ (l : List ℕ). IsBeginning manner bytes l) (ap (λ (l : List ℕ). told ++ l) e ∙ sym (append_assoc told written more)) h))
 
-took_in : (manner : Manner) (answer : Answer) (s : Session) (bytes told new written : List ℕ) → Has manner s bytes (told ++ new) → WritesText answer new written → TookIn manner answer s bytes (told ++ written)
-took_in manner (Ok done) s bytes told new written h e = subst (λ (l : List ℕ). Has manner s bytes (told ++ l)) (sym e) h
+took_in : (manner : Manner) (answer : Answer) (s : Session) (bytes told new written : List ℕ)
+    → Has manner s bytes (told ++ new) → WritesText answer new written
+    → TookIn manner answer s bytes (told ++ written)
+took_in manner (Ok done) s bytes told new written h e =
+    subst (λ (l : List ℕ). Has manner s bytes (told ++ l)) (sym e) h
 took_in manner (Err e) s bytes told new written h w =
     let held = held_beginning manner s.machine s.is_echo s.line bytes (told ++ new) [] h in
     let whole : IsBeginning manner bytes (told ++ new) = subst (λ (l : List ℕ). IsBeginning manner l (told ++ new)) (append-nil bytes) held in
     subst (λ (x : TraceFault). Writes manner (Err x) bytes (told ++ written)) (sym w.0) (cut_short manner bytes told new written w.1 whole w.2 w.3)
 
 -- the answers were written, or a part of them
-pub answers_written : (manner : Manner) (answer : Answer) (w w' : Known) (s s' : Session) (before told more none new : List ℕ) → none ≡ [] → ((before told : List ℕ) → Has manner s before (told ++ none) → Has manner s' (before ++ more) (told ++ new))
-    → WroteText w w' answer new → Has manner s before told → Wrote w w' told (TookIn manner answer s' (before ++ more))
+pub answers_written : (manner : Manner) (answer : Answer) (w w' : Known) (s s' : Session) (before told more none new : List ℕ)
+    → none ≡ []
+    → ((before told : List ℕ) → Has manner s before (told ++ none) → Has manner s' (before ++ more) (told ++ new))
+    → WroteText w w' answer new → Has manner s before told
+    → Wrote w w' told (TookIn manner answer s' (before ++ more))
 answers_written manner answer w w' s s' before told more none new nothing feed wrote h =
     (wrote.0, wrote.1, took_in manner answer s' (before ++ more) told new wrote.0 (feed before told (no_text_yet manner s before told none nothing h)) wrote.2)
 
 -- ---- the answer to the last line
 
 -- memory was refused
-pub last_not_answered : (manner : Manner) (answer : Answer) (w : Known) (s : Session) (before told : List ℕ) → answer ≡ Err fault.Memory → Has manner s before told → Wrote w w told (Writes manner answer before)
+pub last_not_answered : (manner : Manner) (answer : Answer) (w : Known) (s : Session) (before told : List ℕ)
+    → answer ≡ Err fault.Memory → Has manner s before told
+    → Wrote w w told (Writes manner answer before)
 last_not_answered manner answer w s before told e h =
     ([], Appends-nil w, subst (λ (x : Answer). Writes manner x before (told ++ [])) (sym e) (subst (λ (l : List ℕ). Writes manner (Err fault.Memory) l (told ++ [])) (append-nil before) (beginning manner s before told [] h)))
 
-written_whole : (manner : Manner) (answer : Answer) (bytes told new written : List ℕ) → IsWhole manner bytes (told ++ new) → WritesText answer new written → Writes manner answer bytes (told ++ written)
-written_whole manner (Ok done) bytes told new written h e = subst (λ (l : List ℕ). IsWhole manner bytes (told ++ l)) (sym e) h
+written_whole : (manner : Manner) (answer : Answer) (bytes told new written : List ℕ)
+    → IsWhole manner bytes (told ++ new) → WritesText answer new written
+    → Writes manner answer bytes (told ++ written)
+written_whole manner (Ok done) bytes told new written h e =
+    subst (λ (l : List ℕ). IsWhole manner bytes (told ++ l)) (sym e) h
 written_whole manner (Err e) bytes told new written h w =
     let cut : IsCutShort manner bytes (told ++ written) = (w.1, w.2, inr (subst (λ (l : List ℕ). IsWhole manner bytes l) (ap (λ (l : List ℕ). told ++ l) w.3 ∙ sym (append_assoc told written w.1)) h)) in
     subst (λ (x : TraceFault). Writes manner (Err x) bytes (told ++ written)) (sym w.0) cut
 
 -- the answer was written, or a part of it
-pub last_written : (manner : Manner) (answer : Answer) (w w' : Known) (s : Session) (before told none new : List ℕ) → none ≡ [] → ((before told : List ℕ) → Has manner s before (told ++ none) → IsWhole manner before (told ++ new))
-    → WroteText w w' answer new → Has manner s before told → Wrote w w' told (Writes manner answer before)
+pub last_written : (manner : Manner) (answer : Answer) (w w' : Known) (s : Session) (before told none new : List ℕ)
+    → none ≡ []
+    → ((before told : List ℕ) → Has manner s before (told ++ none) → IsWhole manner before (told ++ new))
+    → WroteText w w' answer new → Has manner s before told
+    → Wrote w w' told (Writes manner answer before)
 last_written manner answer w w' s before told none new nothing finish wrote h = (wrote.0, wrote.1, written_whole manner answer before told new wrote.0 (finish before told (no_text_yet manner s before told none nothing h)) wrote.2)
 
 -- ---- a whole trace
 
 -- memory was refused at the start
-pub none_read : (manner : Manner) (answer : Answer) (a d : Known) → answer ≡ Err fault.Memory → Traces manner answer a a d d
+pub none_read : (manner : Manner) (answer : Answer) (a d : Known) → answer ≡ Err fault.Memory
+    → Traces manner answer a a d d
 none_read manner answer a d e = record {
   bytes = [];
   text = [];
@@ -91,21 +114,28 @@ none_read manner answer a d e = record {
 }
 
 -- nothing read yet
-pub at_start : (manner : Manner) (a d : Known) (s : Session) → Has manner s [] [] → So manner a a d d s
+pub at_start : (manner : Manner) (a d : Known) (s : Session) → Has manner s [] []
+    → So manner a a d d s
 at_start manner a d s h = ([], [], Consumes-nil a, Appends-nil d, h)
 
 -- a read that was interrupted
-pub tried_again : (manner : Manner) (a r r' d w : Known) (s : Session) → Keeps r r' → So manner a r d w s → So manner a r' d w s
+pub tried_again : (manner : Manner) (a r r' d w : Known) (s : Session) → Keeps r r'
+    → So manner a r d w s → So manner a r' d w s
 tried_again manner a r r' d w s h so = (so.0, so.1, Consumes-kept a r r' so.0 so.2 h, so.3, so.4)
 
 -- bytes that were read, with their answers
-pub goes_on : (manner : Manner) (a r r' d w w' : Known) (s s' : Session) (more : List ℕ) → Consumes r r' more → ((before told : List ℕ) → Has manner s before told → Wrote w w' told (Has manner s' (before ++ more))) → So manner a r d w s → So manner a r' d w' s'
+pub goes_on : (manner : Manner) (a r r' d w w' : Known) (s s' : Session) (more : List ℕ)
+    → Consumes r r' more
+    → ((before told : List ℕ) → Has manner s before told → Wrote w w' told (Has manner s' (before ++ more)))
+    → So manner a r d w s → So manner a r' d w' s'
 goes_on manner a r r' d w w' s s' more read answer so =
     let wrote = answer so.0 so.1 so.4 in
     (so.0 ++ more, so.1 ++ wrote.0, Consumes-trans a r r' so.0 more so.2 read, Appends-trans d w w' so.1 wrote.0 so.3 wrote.1, wrote.2)
 
 -- bytes that were read, with answers that a fault cut short
-pub not_answered : (manner : Manner) (answer : Answer) (e : TraceFault) (a r r' d w w' : Known) (s : Session) (more : List ℕ) → answer ≡ Err e → Consumes r r' more → ((before told : List ℕ) → Has manner s before told → Wrote w w' told (Writes manner (Err e) (before ++ more)))
+pub not_answered : (manner : Manner) (answer : Answer) (e : TraceFault) (a r r' d w w' : Known) (s : Session) (more : List ℕ)
+    → answer ≡ Err e → Consumes r r' more
+    → ((before told : List ℕ) → Has manner s before told → Wrote w w' told (Writes manner (Err e) (before ++ more)))
     → So manner a r d w s → Traces manner answer a r' d w'
 not_answered manner answer e a r r' d w w' s more is read answered so =
     let wrote = answered so.0 so.1 so.4 in
@@ -123,7 +153,9 @@ at_end (Ok done) left h = h
 at_end (Err e) left h = tt
 
 -- the end of the input, with the last answer
-pub all_read : (manner : Manner) (answer : Answer) (a r r' d w w' : Known) (s : Session) → Consumes r r' [] → IsAtEnd r' → ((before told : List ℕ) → Has manner s before told → Wrote w w' told (Writes manner answer before))
+pub all_read : (manner : Manner) (answer : Answer) (a r r' d w w' : Known) (s : Session)
+    → Consumes r r' [] → IsAtEnd r'
+    → ((before told : List ℕ) → Has manner s before told → Wrote w w' told (Writes manner answer before))
     → So manner a r d w s → Traces manner answer a r' d w'
 all_read manner answer a r r' d w w' s read end answered so =
     let wrote = answered so.0 so.1 so.4 in
@@ -137,7 +169,8 @@ all_read manner answer a r r' d w w' s read end answered so =
     }
 
 -- no further read
-pub read_failed : (manner : Manner) (answer : Answer) (a r d w : Known) (s : Session) → answer ≡ Err fault.Read → So manner a r d w s → Traces manner answer a r d w
+pub read_failed : (manner : Manner) (answer : Answer) (a r d w : Known) (s : Session)
+    → answer ≡ Err fault.Read → So manner a r d w s → Traces manner answer a r d w
 read_failed manner answer a r d w s is so = record {
   bytes = so.0;
   text = so.1;

@@ -30,16 +30,19 @@ next_doomed r n below bytes next =
       failed = has_failed-same r n (negsuc below) bytes unended ∙ ap not (never_success (entry_of r n) below);
     }))
 
-doomed_ends : (outstanding running doomed ready cancel : Bool) (as_doomed as_cancel : ℤ) → outstanding ≡ true → running ≡ false
+doomed_ends : (outstanding running doomed ready cancel : Bool) (as_doomed as_cancel : ℤ)
+    → outstanding ≡ true → running ≡ false
     → doomed ≡ true
-    → (if not outstanding then answer.Unknown else (if running then answer.Running else (if doomed then answer.Ended as_doomed no_bytes else (if not ready then answer.NotReady else (if cancel then answer.Ended as_cancel no_bytes else answer.Run))))) ≡ answer.Ended as_doomed no_bytes
+    → (if not outstanding then answer.Unknown else (if running then answer.Running else (if doomed then answer.Ended as_doomed no_bytes else (if not ready then answer.NotReady else (if cancel then answer.Ended as_cancel no_bytes else answer.Run)))))
+    ≡ answer.Ended as_doomed no_bytes
 doomed_ends false running doomed ready cancel x y o r d = cc
 doomed_ends true true doomed ready cancel x y o r d = cc
 doomed_ends true false false ready cancel x y o r d = cc
 doomed_ends true false true ready cancel x y o r d = refl
 
 -- so its issue ends it
-pub next_cancelled : (w : World) (after : World) (n below : ℕ) (bytes : List ℕ) → IsNextInChain w.requests n
+pub next_cancelled : (w : World) (after : World) (n below : ℕ) (bytes : List ℕ)
+    → IsNextInChain w.requests n
     → after.requests ≡ with_ended w.requests n (negsuc below) bytes
     → issue_answer after (n + 1) ≡ answer.Ended (doomed_result w.requests (n + 1)) no_bytes
 next_cancelled w after n below bytes next is =
@@ -55,7 +58,8 @@ next_cancelled w after n below bytes next is =
 -- the failure is a finish, and the issue is the next step
 pub cancelled_after : (g : Setup) (h : History) (n below : ℕ) (bytes : List ℕ) (a b : Answer)
     → IsNextInChain (world g h).requests n → a ≡ answer.Ended (negsuc below) bytes
-    → b ≡ issue_answer (world g ((step.Finish n, a) ∷ h)) (n + 1) → b ≡ answer.Ended (doomed_result (world g h).requests (n + 1)) no_bytes
+    → b ≡ issue_answer (world g ((step.Finish n, a) ∷ h)) (n + 1)
+    → b ≡ answer.Ended (doomed_result (world g h).requests (n + 1)) no_bytes
 cancelled_after g h n below bytes a b next failed is =
     let told : b ≡ issue_answer (world g ((step.Finish n, answer.Ended (negsuc below) bytes) ∷ h)) (n + 1) = subst (λ d. b ≡ issue_answer (world g ((step.Finish n, d) ∷ h)) (n + 1)) failed is in
     told ∙ next_cancelled (world g h) (world g ((step.Finish n, answer.Ended (negsuc below) bytes) ∷ h)) n below bytes next refl

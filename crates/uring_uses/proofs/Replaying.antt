@@ -34,18 +34,24 @@ opened_same _ x y p q = inl (p ∙ sym q)
 abbrev ended : Outcome → Answer
 ended outcome = answer.Ended outcome.res outcome.bytes
 
-finished_same : (files : List FileContents) (r : Requests) (n : ℕ) (running : Bool) (x y : Answer) → EndsOn files r n running x
+finished_same : (files : List FileContents) (r : Requests) (n : ℕ) (running : Bool) (x y : Answer)
+    → EndsOn files r n running x
     → EndsOn files r n running y → AreSame x y
 finished_same files r n false x y p q = inl (p ∙ sym q)
-finished_same files r n true (answer.Ended res bytes) (answer.Ended other more) (inl p) (inl q) = inl (ap ended (p ∙ sym q))
-finished_same files r n true (answer.Ended res bytes) (answer.Ended other more) (inl p) (inr q) = inr (inr (ap (λ (o : Outcome). int_eq o.res (neg_ℤ ENOMEM)) q.1))
-finished_same files r n true (answer.Ended res bytes) (answer.Ended other more) (inr p) q = inr (inl (ap (λ (o : Outcome). int_eq o.res (neg_ℤ ENOMEM)) p.1))
+finished_same files r n true (answer.Ended res bytes) (answer.Ended other more) (inl p) (inl q) =
+    inl (ap ended (p ∙ sym q))
+finished_same files r n true (answer.Ended res bytes) (answer.Ended other more) (inl p) (inr q) =
+    inr (inr (ap (λ (o : Outcome). int_eq o.res (neg_ℤ ENOMEM)) q.1))
+finished_same files r n true (answer.Ended res bytes) (answer.Ended other more) (inr p) q =
+    inr (inl (ap (λ (o : Outcome). int_eq o.res (neg_ℤ ENOMEM)) p.1))
 finished_same files r n true (answer.Ended res bytes) _ p q = absurd q
 finished_same files r n true _ y p q = absurd p
 
-called_same : (g : Setup) (w : World) (s : Step) (x y : Answer) → CalledFor g w s x → CalledFor g w s y → AreSame x y
+called_same : (g : Setup) (w : World) (s : Step) (x y : Answer) → CalledFor g w s x
+    → CalledFor g w s y → AreSame x y
 called_same g w (step.Begin count) x y p q = opened_same (begin_answer w count) x y p q
-called_same g w (step.Finish n) x y p q = finished_same (files_of g w) w.requests n (is_running w.requests n) x y p q
+called_same g w (step.Finish n) x y p q =
+    finished_same (files_of g w) w.requests n (is_running w.requests n) x y p q
 called_same g w _ x y p q = inl (p ∙ sym q)
 
 lawful_before : (g : Setup) (h later : History) → IsLawful g (later ++ h) → IsLawful g h
@@ -53,19 +59,25 @@ lawful_before g h [] lawful = lawful
 lawful_before g h ((s, a) ∷ later) lawful = lawful_before g h later lawful.1
 
 -- the first of some events comes before the others
-first_before : (g : Setup) (h : History) (e : Event) (events : List Event) → IsLawful g (history_of (e ∷ events) ++ h)
+first_before : (g : Setup) (h : History) (e : Event) (events : List Event)
+    → IsLawful g (history_of (e ∷ events) ++ h)
     → IsLawful g (history_of events ++ e ∷ h)
 first_before g h e events lawful = subst (λ k. IsLawful g k) (history_of-cons e events h) lawful
 
 -- one more answer, the same in both
-one_more : (x y : Answer) (xs ys : List Answer) → x ≡ y → AreReplays xs ys → AreReplays (x ∷ xs) (y ∷ ys)
+one_more : (x y : Answer) (xs ys : List Answer) → x ≡ y → AreReplays xs ys
+    → AreReplays (x ∷ xs) (y ∷ ys)
 one_more x y xs ys same (inl rest) = inl (cc)
-one_more x y xs ys same (inr (inl refused)) = inr (inl (or_right (is_out_of_memory x) (list_any is_out_of_memory xs) refused))
-one_more x y xs ys same (inr (inr refused)) = inr (inr (or_right (is_out_of_memory y) (list_any is_out_of_memory ys) refused))
+one_more x y xs ys same (inr (inl refused)) =
+    inr (inl (or_right (is_out_of_memory x) (list_any is_out_of_memory xs) refused))
+one_more x y xs ys same (inr (inr refused)) =
+    inr (inr (or_right (is_out_of_memory y) (list_any is_out_of_memory ys) refused))
 
 -- the same steps after the same history
-replayed : (g : Setup) (h : History) (steps : List Step) (xs ys : List Answer) → length xs ≡ length steps
-    → length ys ≡ length steps → IsLawful g (history_of (zip steps xs) ++ h) → IsLawful g (history_of (zip steps ys) ++ h)
+replayed : (g : Setup) (h : History) (steps : List Step) (xs ys : List Answer)
+    → length xs ≡ length steps
+    → length ys ≡ length steps → IsLawful g (history_of (zip steps xs) ++ h)
+    → IsLawful g (history_of (zip steps ys) ++ h)
     → AreReplays xs ys
 replayed g h [] [] [] m n p q = inl refl
 replayed g h [] [] (y ∷ ys) m n p q = absurd (omega (arith, n))
@@ -88,8 +100,10 @@ replayed g h (s ∷ steps) (x ∷ xs) (y ∷ ys) m n p q =
     ]
 
 -- the same steps from the beginning
-pub replayed_anew : (g : Setup) (steps : List Step) (xs ys : List Answer) → length xs ≡ length steps → length ys ≡ length steps
-    → IsLawful g (history_of (zip steps xs)) → IsLawful g (history_of (zip steps ys)) → AreReplays xs ys
+pub replayed_anew : (g : Setup) (steps : List Step) (xs ys : List Answer) → length xs ≡ length steps
+    → length ys ≡ length steps
+    → IsLawful g (history_of (zip steps xs)) → IsLawful g (history_of (zip steps ys))
+    → AreReplays xs ys
 replayed_anew g steps xs ys m n p q =
     let anew : (answers : List Answer) → IsLawful g (history_of (zip steps answers)) → IsLawful g (history_of (zip steps answers) ++ []) = λ answers. subst (λ k. IsLawful g k) (sym (append-nil (history_of (zip steps answers)))) in
     replayed g [] steps xs ys m n (anew xs p) (anew ys q)

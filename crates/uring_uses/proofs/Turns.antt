@@ -22,7 +22,8 @@ use Rattle.uring_uses.specs.Simulations.{NoneRuns, HasRun, IsIdle}
 -- The next request.
 
 -- with something outstanding and nothing running there is a next
-pub some_next : (r : Requests) (a : Answer) → ((n : ℕ) → is_running r n ≡ false) → 1 ≤ outstanding_in r
+pub some_next : (r : Requests) (a : Answer) → ((n : ℕ) → is_running r n ≡ false)
+    → 1 ≤ outstanding_in r
     → a ≡ next_answer_of (next_of r) → ((k : ℕ) → a ≡ answer.Next k → ⊥) → ⊥
 some_next r a quiet some is other = by_least (least_of r) refl where
   by_next : (n : ℕ) → least_of r ≡ Some n → (next : Option ℕ) → next_of r ≡ next → a ≡ next_answer_of next → ⊥
@@ -54,13 +55,16 @@ issuable_waits r n issuable =
     record { outstanding = q.0; unended = not-true _ (and_parts _ _ q.0).1; unstarted = not-true _ q.1; free = p.1 }
 
 -- what is issued next and doesn't run, ends
-pub issue_ends : (w : World) (n : ℕ) (a : Answer) → is_issuable w.requests n ≡ true → a ≡ issue_answer w n → (a ≡ answer.Run → ⊥)
+pub issue_ends : (w : World) (n : ℕ) (a : Answer) → is_issuable w.requests n ≡ true
+    → a ≡ issue_answer w n → (a ≡ answer.Run → ⊥)
     → IsEnded a
-issue_ends w n a issuable is other = issued_ends a (subst IsIssued (sym is) (issue_goes w n issuable)) other
+issue_ends w n a issuable is other =
+    issued_ends a (subst IsIssued (sym is) (issue_goes w n issuable)) other
 
 -- Nothing runs afterwards.
 
-quiet_after_end : (r : Requests) (n : ℕ) (res : ℤ) (bytes : List ℕ) → ((k : ℕ) → is_running r k ≡ false) → (k : ℕ)
+quiet_after_end : (r : Requests) (n : ℕ) (res : ℤ) (bytes : List ℕ)
+    → ((k : ℕ) → is_running r k ≡ false) → (k : ℕ)
     → is_running (with_ended r n res bytes) k ≡ false
 quiet_after_end r n res bytes quiet k =
     elim (cases_eq k n) [
@@ -68,7 +72,8 @@ quiet_after_end r n res bytes quiet k =
       | inr other ↦ is_running-ended_other r n res bytes k other ∙ quiet k
     ]
 
-quiet_after_run : (r : Requests) (n : ℕ) (res : ℤ) (bytes : List ℕ) → ((k : ℕ) → is_running r k ≡ false) → (k : ℕ)
+quiet_after_run : (r : Requests) (n : ℕ) (res : ℤ) (bytes : List ℕ)
+    → ((k : ℕ) → is_running r k ≡ false) → (k : ℕ)
     → is_running (with_ended (with_started r n) n res bytes) k ≡ false
 quiet_after_run r n res bytes quiet k =
     elim (cases_eq k n) [
@@ -79,12 +84,14 @@ quiet_after_run r n res bytes quiet k =
 -- A turn.
 
 -- a core that answered Next fits what it fitted
-pub fits_without_next : (p : Core) (a : Answer) (h : History) → FitsApart p ((step.Next, a) ∷ h) → FitsApart p h
+pub fits_without_next : (p : Core) (a : Answer) (h : History) → FitsApart p ((step.Next, a) ∷ h)
+    → FitsApart p h
 fits_without_next p a h fits = record { shows = fits.shows; lawful = fits.lawful.1 }
 
 -- it ended as it was issued
 pub turn_ended : (p : Core) (h : History) (n : ℕ) (a : Answer) → NoneRuns (world p.setup h)
-    → is_outstanding (world p.setup h).requests n ≡ true → IsEnded a → FitsApart p ((step.Issue n, a) ∷ h) → HasRun p h 1
+    → is_outstanding (world p.setup h).requests n ≡ true → IsEnded a
+    → FitsApart p ((step.Issue n, a) ∷ h) → HasRun p h 1
 turn_ended p h n (answer.Ended res bytes) quiet outstanding ended fits =
     record {
       events = (step.Issue n, answer.Ended res bytes) ∷ [];
@@ -96,9 +103,11 @@ turn_ended p h n (answer.Ended res bytes) quiet outstanding ended fits =
 turn_ended p h n _ quiet outstanding ended fits = absurd ended
 
 -- it ran, and was finished
-pub turn_run : (p : Core) (h : History) (n : ℕ) (res : ℤ) (bytes : List ℕ) → NoneRuns (world p.setup h)
+pub turn_run : (p : Core) (h : History) (n : ℕ) (res : ℤ) (bytes : List ℕ)
+    → NoneRuns (world p.setup h)
     → is_outstanding (world p.setup h).requests n ≡ true
-    → FitsApart p ((step.Finish n, answer.Ended res bytes) ∷ (step.Issue n, answer.Run) ∷ h) → HasRun p h 1
+    → FitsApart p ((step.Finish n, answer.Ended res bytes) ∷ (step.Issue n, answer.Run) ∷ h)
+    → HasRun p h 1
 turn_run p h n res bytes quiet outstanding fits =
     record {
       events = (step.Finish n, answer.Ended res bytes) ∷ (step.Issue n, answer.Run) ∷ [];
@@ -109,23 +118,31 @@ turn_run p h n res bytes quiet outstanding fits =
     }
 
 -- the parts as a turn leaves them have the set-up that they had
-next_told : (old asked : Core) (h : History) (a : Answer) → asked.setup ≡ old.setup → FitsApart asked ((step.Next, a) ∷ h)
+next_told : (old asked : Core) (h : History) (a : Answer) → asked.setup ≡ old.setup
+    → FitsApart asked ((step.Next, a) ∷ h)
     → a ≡ next_answer_of (next_of (world old.setup h).requests)
-next_told old asked h a same fits = subst (λ g. a ≡ next_answer_of (next_of (world g h).requests)) same fits.lawful.0
+next_told old asked h a same fits =
+    subst (λ g. a ≡ next_answer_of (next_of (world g h).requests)) same fits.lawful.0
 
 -- Next is answered
-pub turn_goes_on : (old asked : Core) (h : History) (a : Answer) → asked.setup ≡ old.setup → NoneRuns (world old.setup h)
-    → 1 ≤ outstanding_in (world old.setup h).requests → FitsApart asked ((step.Next, a) ∷ h) → ((k : ℕ) → a ≡ answer.Next k → ⊥)
+pub turn_goes_on : (old asked : Core) (h : History) (a : Answer) → asked.setup ≡ old.setup
+    → NoneRuns (world old.setup h)
+    → 1 ≤ outstanding_in (world old.setup h).requests → FitsApart asked ((step.Next, a) ∷ h)
+    → ((k : ℕ) → a ≡ answer.Next k → ⊥)
     → ⊥
-turn_goes_on old asked h a same quiet some fits other = some_next (world old.setup h).requests a quiet some (next_told old asked h a same fits) other
+turn_goes_on old asked h a same quiet some fits other =
+    some_next (world old.setup h).requests a quiet some (next_told old asked h a same fits) other
 
 -- the next request, named by the answer
-named_waits : (old asked : Core) (h : History) (n : ℕ) (a : Answer) → asked.setup ≡ old.setup → a ≡ answer.Next n
+named_waits : (old asked : Core) (h : History) (n : ℕ) (a : Answer) → asked.setup ≡ old.setup
+    → a ≡ answer.Next n
     → FitsApart asked ((step.Next, a) ∷ h) → is_issuable (world old.setup h).requests n ≡ true
-named_waits old asked h n a same named fits = next_tells (world old.setup h).requests n (sym named ∙ next_told old asked h a same fits)
+named_waits old asked h n a same named fits =
+    next_tells (world old.setup h).requests n (sym named ∙ next_told old asked h a same fits)
 
 -- the next request ends as it is issued
-pub turn_issue : (old asked new : Core) (h : History) (n : ℕ) (a b : Answer) → asked.setup ≡ old.setup → new.setup ≡ asked.setup
+pub turn_issue : (old asked new : Core) (h : History) (n : ℕ) (a b : Answer)
+    → asked.setup ≡ old.setup → new.setup ≡ asked.setup
     → a ≡ answer.Next n → (b ≡ answer.Run → ⊥) → NoneRuns (world old.setup h)
     → FitsApart asked ((step.Next, a) ∷ h) → FitsApart new ((step.Issue n, b) ∷ h) → HasRun new h 1
 turn_issue old asked new h n a b same kept named other quiet asked_fits fits =
@@ -140,9 +157,11 @@ pub record IsStarted (p : Core) (h : History) (n : ℕ) : Type 0 where
   pub runs : is_running (world p.setup ((step.Issue n, answer.Run) ∷ h)).requests n ≡ true
   pub fits : FitsApart p ((step.Issue n, answer.Run) ∷ h)
 
-pub turn_start : (old asked new : Core) (h : History) (n : ℕ) (a b : Answer) → asked.setup ≡ old.setup → new.setup ≡ asked.setup
+pub turn_start : (old asked new : Core) (h : History) (n : ℕ) (a b : Answer)
+    → asked.setup ≡ old.setup → new.setup ≡ asked.setup
     → a ≡ answer.Next n → b ≡ answer.Run → NoneRuns (world old.setup h)
-    → FitsApart asked ((step.Next, a) ∷ h) → FitsApart new ((step.Issue n, b) ∷ h) → IsStarted new h n
+    → FitsApart asked ((step.Next, a) ∷ h) → FitsApart new ((step.Issue n, b) ∷ h)
+    → IsStarted new h n
 turn_start old asked new h n a b same kept named ran quiet asked_fits fits =
     let issuable : is_issuable (world new.setup h).requests n ≡ true = subst (λ g. is_issuable (world g h).requests n ≡ true) (sym (kept ∙ same)) (named_waits old asked h n a same named asked_fits) in
     let waits = issuable_waits (world new.setup h).requests n issuable in
@@ -162,12 +181,15 @@ turn_operation p h n started none = by_running (is_running (world p.setup ((step
   by_running false is f = cc
 
 -- and is finished
-finish_ended : (p : Core) (h : History) (n : ℕ) (d : Answer) → IsWaiting (world p.setup h).requests n → NoneRuns (world p.setup h)
+finish_ended : (p : Core) (h : History) (n : ℕ) (d : Answer)
+    → IsWaiting (world p.setup h).requests n → NoneRuns (world p.setup h)
     → IsEnded d → FitsApart p ((step.Finish n, d) ∷ (step.Issue n, answer.Run) ∷ h) → HasRun p h 1
-finish_ended p h n (answer.Ended res bytes) waits quiet ended fits = turn_run p h n res bytes quiet waits.outstanding fits
+finish_ended p h n (answer.Ended res bytes) waits quiet ended fits =
+    turn_run p h n res bytes quiet waits.outstanding fits
 finish_ended p h n _ waits quiet ended fits = absurd ended
 
-pub turn_finish : (ran new : Core) (h : History) (n : ℕ) (d : Answer) → new.setup ≡ ran.setup → IsStarted ran h n
+pub turn_finish : (ran new : Core) (h : History) (n : ℕ) (d : Answer) → new.setup ≡ ran.setup
+    → IsStarted ran h n
     → FitsApart new ((step.Finish n, d) ∷ (step.Issue n, answer.Run) ∷ h) → HasRun new h 1
 turn_finish ran new h n d same started fits =
     let waits : IsWaiting (world new.setup h).requests n = subst (λ g. IsWaiting (world g h).requests n) (sym same) started.waits in
@@ -177,9 +199,16 @@ turn_finish ran new h n d same started fits =
 -- Many turns.
 
 pub run_none : (p : Core) (h : History) → NoneRuns (world p.setup h) → FitsApart p h → HasRun p h 0
-run_none p h quiet fits = record { events = []; issues_and_finishes = refl; fits = fits; quiet = quiet; fewer = omega arith }
+run_none p h quiet fits = record {
+  events = [];
+  issues_and_finishes = refl;
+  fits = fits;
+  quiet = quiet;
+  fewer = omega arith;
+}
 
-pub run_more : (old new : Core) (h : History) (ended : ℕ) → new.setup ≡ old.setup → (before : HasRun old h ended)
+pub run_more : (old new : Core) (h : History) (ended : ℕ) → new.setup ≡ old.setup
+    → (before : HasRun old h ended)
     → HasRun new (before.events ++ h) 1 → HasRun new h (ended + 1)
 run_more old new h ended same before last =
     record {
@@ -191,7 +220,8 @@ run_more old new h ended same before last =
           (omega (arith, last.fewer, before.fewer, ap (λ g. outstanding_in (world g (before.events ++ h)).requests) same, ap (λ g. outstanding_in (world g h).requests) same));
     }
 
-pub run_all : (p : Core) (h : History) (ended : ℕ) → ended ≡ outstanding_in (world p.setup h).requests → HasRun p h ended → IsIdle p h
+pub run_all : (p : Core) (h : History) (ended : ℕ)
+    → ended ≡ outstanding_in (world p.setup h).requests → HasRun p h ended → IsIdle p h
 run_all p h ended all run =
     record {
       events = run.events;

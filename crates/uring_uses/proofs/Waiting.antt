@@ -8,7 +8,8 @@ use Rattle.uring_machine.specs.StepAnswers.{issue_answer}
 use Rattle.uring_machine.specs.declared.answer.Answer.TheVariants as answer
 
 run_ready : (outstanding running doomed ready cancel : Bool) (as_doomed as_cancel : ℤ)
-    → answer.Run ≡ (if not outstanding then answer.Unknown else (if running then answer.Running else (if doomed then answer.Ended as_doomed no_bytes else (if not ready then answer.NotReady else (if cancel then answer.Ended as_cancel no_bytes else answer.Run)))))
+    → answer.Run
+    ≡ (if not outstanding then answer.Unknown else (if running then answer.Running else (if doomed then answer.Ended as_doomed no_bytes else (if not ready then answer.NotReady else (if cancel then answer.Ended as_cancel no_bytes else answer.Run)))))
     → ready ≡ true
 run_ready false running doomed ready cancel x y is = cc
 run_ready true true doomed ready cancel x y is = cc
@@ -21,7 +22,8 @@ ended_or true waits back waiting = refl
 ended_or false waits back waiting = cc
 
 -- what a request that runs waits for has ended
-pub run_waits_for_none : (w : World) (n m : ℕ) → answer.Run ≡ issue_answer w n → m < n → waits_for w.requests n m ≡ true
+pub run_waits_for_none : (w : World) (n m : ℕ) → answer.Run ≡ issue_answer w n → m < n
+    → waits_for w.requests n m ≡ true
     → has_ended w.requests m ≡ true
 run_waits_for_none w n m is lt waits =
     let r : Requests = w.requests in

@@ -12,7 +12,8 @@ use Rattle.uring_words.specs.declared.submission.view.Position.{Position}
 use Rattle.uring_words.proofs.Standing.{few_words, place_below, apart, stands_elsewhere, one_more}
 
 -- the sizes of the table after a store
-resized : (words : List ℕ) (i w : ℕ) (a b : AppSide) (d : KernelSide) → b.start ≡ a.start → b.size ≡ a.size → AreSized words a d → AreSized (set words i w) b d
+resized : (words : List ℕ) (i w : ℕ) (a b : AppSide) (d : KernelSide) → b.start ≡ a.start
+    → b.size ≡ a.size → AreSized words a d → AreSized (set words i w) b d
 resized words i w a b d start size s = record {
   start = s.start ∙ sym start;
   size = s.size ∙ sym size;
@@ -22,11 +23,13 @@ resized words i w a b d start size s = record {
 }
 
 -- the head is at most as far as what was stored
-pub head_below : (words : List ℕ) (a : AppSide) (d : KernelSide) → Agree words a d → d.taken ≤ length (stored a)
+pub head_below : (words : List ℕ) (a : AppSide) (d : KernelSide) → Agree words a d
+    → d.taken ≤ length (stored a)
 head_below words a d h = let o = h.ordered in omega (arith, length-append a.published a.staged, o.head_seen, o.taken, o.tail_seen)
 
 -- an entry word is stored where the next position goes
-pub keeps-word_stored : (words : List ℕ) (a : AppSide) (d : KernelSide) (w : ℕ) → Agree words a d → length (stored a) < a.head_seen + a.size → length a.entry < 16
+pub keeps-word_stored : (words : List ℕ) (a : AppSide) (d : KernelSide) (w : ℕ) → Agree words a d
+    → length (stored a) < a.head_seen + a.size → length a.entry < 16
     → Agree (set words (entry_index (place_of a.start a.size (length (stored a))) (length a.entry)) w) (word_stored a w) d
 keeps-word_stored words a d w h room few =
     let n : ℕ = length (stored a) in
@@ -60,7 +63,8 @@ keeps-word_stored words a d w h room few =
     }
 
 -- an array word is stored where the next position goes, if that is now whole
-pub keeps-mark_stored : (words : List ℕ) (a : AppSide) (d : KernelSide) (w : ℕ) → Agree words a d → length (stored a) < a.head_seen + a.size
+pub keeps-mark_stored : (words : List ℕ) (a : AppSide) (d : KernelSide) (w : ℕ) → Agree words a d
+    → length (stored a) < a.head_seen + a.size
     → IsPosition a.size (place_of a.start a.size (length (stored a))) (record { mark = w; entry = a.entry })
     → Agree (set words (array_index a.size (place_of a.start a.size (length (stored a)))) w) (mark_stored a w) d
 keeps-mark_stored words a d w h room new =
@@ -104,7 +108,8 @@ keeps-mark_stored words a d w h room new =
     }
 
 -- the tail is stored behind all that is staged
-pub keeps-tail_stored : (words : List ℕ) (a : AppSide) (d : KernelSide) (w : ℕ) → Agree words a d → a.entry ≡ [] → w ≡ word_of a.start (length (stored a)) → AreWhole (stored a)
+pub keeps-tail_stored : (words : List ℕ) (a : AppSide) (d : KernelSide) (w : ℕ) → Agree words a d
+    → a.entry ≡ [] → w ≡ word_of a.start (length (stored a)) → AreWhole (stored a)
     → Agree (set words (tail_index a.size) w) (tail_stored a) d
 keeps-tail_stored words a d w h none is_word whole =
     let size : ℕ = a.size in
@@ -137,7 +142,8 @@ keeps-tail_stored words a d w h none is_word whole =
     }
 
 -- the head is loaded
-pub keeps-head_loaded : (words : List ℕ) (a : AppSide) (d : KernelSide) → Agree words a d → Agree words (head_loaded a d.taken) d
+pub keeps-head_loaded : (words : List ℕ) (a : AppSide) (d : KernelSide) → Agree words a d
+    → Agree words (head_loaded a d.taken) d
 keeps-head_loaded words a d h =
     let o = h.ordered in
     record {

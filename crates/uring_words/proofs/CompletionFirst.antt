@@ -8,8 +8,11 @@ use Rattle.uring_words.specs.declared.sides.Shape.{Shape}
 use Rattle.uring_words.proofs.FirstTable.{start_word}
 use Rattle.uring_words.proofs.Seats.{opens_with}
 
-first_agree : (words : List ℕ) (key : Shape) → IsPowerOfTwo key.size → key.size ≤ 8192 → key.start < 2 ^ 32 → length words ≡ word_count key.size
-    → get_or words (tail_index key.size) 0 ≡ key.start → get_or words (head_index key.size) 0 ≡ key.start → get_or words (dropped_index key.size) 0 ≡ 0 → Agree words (at_first key).app (at_first key).kernel
+first_agree : (words : List ℕ) (key : Shape) → IsPowerOfTwo key.size → key.size ≤ 8192
+    → key.start < 2 ^ 32 → length words ≡ word_count key.size
+    → get_or words (tail_index key.size) 0 ≡ key.start
+    → get_or words (head_index key.size) 0 ≡ key.start → get_or words (dropped_index key.size) 0 ≡ 0
+    → Agree words (at_first key).app (at_first key).kernel
 first_agree words key power limit small many tail head dropped =
     let start = start_word key.start small in
     record {
@@ -29,6 +32,10 @@ first_agree words key power limit small many tail head dropped =
       loaded = tt;
     }
 
-pub opens : (words : List ℕ) (key : Shape) → IsPowerOfTwo key.size → key.size ≤ 8192 → key.start < 2 ^ 32 → length words ≡ word_count key.size
-    → get_or words (tail_index key.size) 0 ≡ key.start → get_or words (head_index key.size) 0 ≡ key.start → get_or words (dropped_index key.size) 0 ≡ 0 → BothAgree (opening words [] (at_first key))
-opens words key power limit small many tail head dropped = opens_with words _ _ (first_agree words key power limit small many tail head dropped)
+pub opens : (words : List ℕ) (key : Shape) → IsPowerOfTwo key.size → key.size ≤ 8192
+    → key.start < 2 ^ 32 → length words ≡ word_count key.size
+    → get_or words (tail_index key.size) 0 ≡ key.start
+    → get_or words (head_index key.size) 0 ≡ key.start → get_or words (dropped_index key.size) 0 ≡ 0
+    → BothAgree (opening words [] (at_first key))
+opens words key power limit small many tail head dropped =
+    opens_with words _ _ (first_agree words key power limit small many tail head dropped)

@@ -15,34 +15,43 @@ use Rattle.uring_words.proofs.CompletionSteps.{keeps-word_stored, keeps-tail_sto
 use Rattle.uring_words.proofs.Seats.{app_step, kernel_step}
 
 -- a word of the next cell is stored
-pub stores_word : (slots id i : ℕ) (me : Holder) (word : ℕ) → me.0.is_kernel ≡ true → length me.0.kernel.put < me.0.kernel.head_seen + me.0.kernel.size → length me.0.kernel.cell < 10
-    → i ≡ cell_index (place_of me.0.kernel.start me.0.kernel.size (length me.0.kernel.put)) (length me.0.kernel.cell)
+pub stores_word : (slots id i : ℕ) (me : Holder) (word : ℕ) → me.0.is_kernel ≡ true
+    → length me.0.kernel.put < me.0.kernel.head_seen + me.0.kernel.size
+    → length me.0.kernel.cell < 10
+    → i
+    ≡ cell_index (place_of me.0.kernel.start me.0.kernel.size (length me.0.kernel.put)) (length me.0.kernel.cell)
     → Allows BothAgree slots id me i (λ _. word) (λ _. StoresWord (step slots i word 0 none) me word)
 stores_word slots id i me word is_kernel room few is =
     kernel_step slots id i (λ _. word) me (λ _. StoresWord (step slots i word 0 none) me word) is_kernel
     (λ words a h both. (word_stored me.0.kernel word, rw is (keeps-word_stored words a me.0.kernel word h room few), refl))
 
 -- the tail is stored
-pub stores_tail : (slots id i : ℕ) (me : Holder) (word : ℕ) → me.0.is_kernel ≡ true → length me.0.kernel.put < me.0.kernel.head_seen + me.0.kernel.size → length me.0.kernel.cell ≡ 10
-    → word ≡ word_of me.0.kernel.start (length me.0.kernel.put + 1) → i ≡ tail_index me.0.kernel.size
+pub stores_tail : (slots id i : ℕ) (me : Holder) (word : ℕ) → me.0.is_kernel ≡ true
+    → length me.0.kernel.put < me.0.kernel.head_seen + me.0.kernel.size
+    → length me.0.kernel.cell ≡ 10
+    → word ≡ word_of me.0.kernel.start (length me.0.kernel.put + 1)
+    → i ≡ tail_index me.0.kernel.size
     → Allows BothAgree slots id me i (λ _. word) (λ _. StoresTail (step slots i word 0 none) me word)
 stores_tail slots id i me word is_kernel room ten is_word is =
     kernel_step slots id i (λ _. word) me (λ _. StoresTail (step slots i word 0 none) me word) is_kernel
     (λ words a h both. (tail_stored me.0.kernel, rw is (keeps-tail_stored words a me.0.kernel word h room ten is_word), refl))
 
 -- the dropped word is stored
-pub stores_dropped : (slots id i : ℕ) (me : Holder) (word : ℕ) → me.0.is_kernel ≡ true → word < 2 ^ 32 → i ≡ dropped_index me.0.kernel.size
+pub stores_dropped : (slots id i : ℕ) (me : Holder) (word : ℕ) → me.0.is_kernel ≡ true
+    → word < 2 ^ 32 → i ≡ dropped_index me.0.kernel.size
     → Allows BothAgree slots id me i (λ _. word) (λ _. StoresDropped (step slots i word 0 none) me word)
 stores_dropped slots id i me word is_kernel small is =
     kernel_step slots id i (λ _. word) me (λ _. StoresDropped (step slots i word 0 none) me word) is_kernel
     (λ words a h both. (dropped_stored me.0.kernel word, rw is (keeps-dropped_stored words a me.0.kernel word h small), refl))
 
 -- how many were got is at most how many were put
-got_few : (words : List ℕ) (a : AppSide) (d : KernelSide) → (h : Agree words a d) → length d.put ≡ tail_seen a + length h.rest
+got_few : (words : List ℕ) (a : AppSide) (d : KernelSide) → (h : Agree words a d)
+    → length d.put ≡ tail_seen a + length h.rest
 got_few words a d h = omega (arith, ap length h.begins, length-append (a.got ++ a.known) h.rest, length-append a.got a.known)
 
 -- the head is loaded
-pub loads_head : (slots id i : ℕ) (me : Holder) → me.0.is_kernel ≡ true → i ≡ head_index me.0.kernel.size
+pub loads_head : (slots id i : ℕ) (me : Holder) → me.0.is_kernel ≡ true
+    → i ≡ head_index me.0.kernel.size
     → Allows BothAgree slots id me i (λ n. n) (LoadsHead (step slots i 0 0 none) me)
 loads_head slots id i me is_kernel is =
     kernel_step slots id i (λ n. n) me (LoadsHead (step slots i 0 0 none) me) is_kernel (λ words a h both.
@@ -75,7 +84,8 @@ loads_tail slots id i me is_app is =
     ))
 
 -- a word of the first of the known completions is loaded
-pub loads_word : (slots id i : ℕ) (me : Holder) → me.0.is_app ≡ true → Allows BothAgree slots id me i (λ n. n) (LoadsWord (step slots i 0 0 none) me)
+pub loads_word : (slots id i : ℕ) (me : Holder) → me.0.is_app ≡ true
+    → Allows BothAgree slots id me i (λ n. n) (LoadsWord (step slots i 0 0 none) me)
 loads_word slots id i me is_app =
     app_step slots id i (λ n. n) me (LoadsWord (step slots i 0 0 none) me) is_app (λ words d h both.
     let P : List ℕ → Type 0 = λ ws. Agree ws me.0.app d in (
@@ -90,7 +100,9 @@ loads_word slots id i me is_app =
     ))
 
 -- the head is stored
-pub stores_head : (slots id i : ℕ) (me : Holder) (word : ℕ) (c : List ℕ) (cs : List (List ℕ)) → me.0.is_app ≡ true → me.0.app.known ≡ c ∷ cs → word ≡ word_of me.0.app.start (length me.0.app.got + 1)
+pub stores_head : (slots id i : ℕ) (me : Holder) (word : ℕ) (c : List ℕ) (cs : List (List ℕ))
+    → me.0.is_app ≡ true → me.0.app.known ≡ c ∷ cs
+    → word ≡ word_of me.0.app.start (length me.0.app.got + 1)
     → i ≡ head_index me.0.app.size
     → Allows BothAgree slots id me i (λ _. word) (λ _. StoresHead (step slots i word 0 none) me word)
 stores_head slots id i me word c cs is_app known is_word is =
@@ -99,7 +111,8 @@ stores_head slots id i me word c cs is_app known is_word is =
     (head_stored me.0.app, subst P (sym known) (rw is (keeps-head_stored words me.0.app d word c cs h known is_word)), refl))
 
 -- the dropped word is loaded
-pub loads_dropped : (slots id i : ℕ) (me : Holder) → me.0.is_app ≡ true → i ≡ dropped_index me.0.app.size
+pub loads_dropped : (slots id i : ℕ) (me : Holder) → me.0.is_app ≡ true
+    → i ≡ dropped_index me.0.app.size
     → Allows BothAgree slots id me i (λ n. n) (LoadsDropped (step slots i 0 0 none) me)
 loads_dropped slots id i me is_app is =
     app_step slots id i (λ n. n) me (LoadsDropped (step slots i 0 0 none) me) is_app (λ words d h both.

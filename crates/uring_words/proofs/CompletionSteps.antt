@@ -12,7 +12,9 @@ use Rattle.uring_words.specs.declared.completion.view.KernelSide.{KernelSide}
 use Rattle.uring_words.proofs.Standing.{some_size, place_below, apart, one_more}
 
 -- the sizes of the table after a store
-resized : (words : List ℕ) (i w : ℕ) (a b : AppSide) (d e : KernelSide) → b.start ≡ a.start → b.size ≡ a.size → e.start ≡ d.start → e.size ≡ d.size → AreSized words a d → AreSized (set words i w) b e
+resized : (words : List ℕ) (i w : ℕ) (a b : AppSide) (d e : KernelSide) → b.start ≡ a.start
+    → b.size ≡ a.size → e.start ≡ d.start → e.size ≡ d.size → AreSized words a d
+    → AreSized (set words i w) b e
 resized words i w a b d e start size start' size' s = record {
   start = start ∙ s.start ∙ sym start';
   size = size ∙ s.size ∙ sym size';
@@ -22,11 +24,15 @@ resized words i w a b d e start size start' size' s = record {
 }
 
 -- a store elsewhere leaves a cell as it was
-stands_elsewhere : (words : List ℕ) (cell i w : ℕ) (c : List ℕ) → ((k : ℕ) → k < 10 → cell_index cell k ≢ i) → StandsAt words cell c → StandsAt (set words i w) cell c
-stands_elsewhere words cell i w c other s k below = get_or-set_other words i (cell_index cell k) w 0 (other k below) ∙ s k below
+stands_elsewhere : (words : List ℕ) (cell i w : ℕ) (c : List ℕ)
+    → ((k : ℕ) → k < 10 → cell_index cell k ≢ i) → StandsAt words cell c
+    → StandsAt (set words i w) cell c
+stands_elsewhere words cell i w c other s k below =
+    get_or-set_other words i (cell_index cell k) w 0 (other k below) ∙ s k below
 
 -- a cell word is stored in the next cell
-pub keeps-word_stored : (words : List ℕ) (a : AppSide) (d : KernelSide) (w : ℕ) → Agree words a d → length d.put < d.head_seen + d.size → length d.cell < 10
+pub keeps-word_stored : (words : List ℕ) (a : AppSide) (d : KernelSide) (w : ℕ) → Agree words a d
+    → length d.put < d.head_seen + d.size → length d.cell < 10
     → Agree (set words (cell_index (place_of d.start d.size (length d.put)) (length d.cell)) w) a (word_stored d w)
 keeps-word_stored words a d w h room few =
     let n : ℕ = length d.put in
@@ -60,7 +66,9 @@ keeps-word_stored words a d w h room few =
     }
 
 -- the tail is stored behind the next cell, which is written whole
-pub keeps-tail_stored : (words : List ℕ) (a : AppSide) (d : KernelSide) (w : ℕ) → Agree words a d → length d.put < d.head_seen + d.size → length d.cell ≡ 10 → w ≡ word_of d.start (length d.put + 1)
+pub keeps-tail_stored : (words : List ℕ) (a : AppSide) (d : KernelSide) (w : ℕ) → Agree words a d
+    → length d.put < d.head_seen + d.size → length d.cell ≡ 10
+    → w ≡ word_of d.start (length d.put + 1)
     → Agree (set words (tail_index d.size) w) a (tail_stored d)
 keeps-tail_stored words a d w h room ten is_word =
     let size : ℕ = d.size in
@@ -102,12 +110,14 @@ last_is : (v : ℕ) (vs : List ℕ) → (before : List ℕ) × (v ∷ vs ≡ bef
 last_is v [] = ([], refl)
 last_is v (x ∷ xs) = let r = last_is x xs in (v ∷ r.0, ap (λ l. v ∷ l) r.1)
 
-last-behind : (v : ℕ) (before : List ℕ) (w : ℕ) (after : List ℕ) → last_of v (before ++ w ∷ after) ≡ last_of w after
+last-behind : (v : ℕ) (before : List ℕ) (w : ℕ) (after : List ℕ)
+    → last_of v (before ++ w ∷ after) ≡ last_of w after
 last-behind v [] w after = refl
 last-behind v (x ∷ xs) w after = last-behind x xs w after
 
 -- the word that stands there is the last that was had
-pub had_last : (v : ℕ) (vs ws : List ℕ) → WereHad (v ∷ vs) ws → WereHad (v ∷ vs) (ws ++ last_of v vs ∷ [])
+pub had_last : (v : ℕ) (vs ws : List ℕ) → WereHad (v ∷ vs) ws
+    → WereHad (v ∷ vs) (ws ++ last_of v vs ∷ [])
 had_last v vs [] h = let r = last_is v vs in (r.0, [], r.1, tt)
 had_last v vs (w ∷ ws) h =
     let rest = had_last w h.1 ws h.3 in
@@ -115,7 +125,8 @@ had_last v vs (w ∷ ws) h =
     (h.0, h.1, h.2, subst P (sym (last-behind 0 h.0 w h.1) ∙ sym (ap (last_of 0) h.2)) rest)
 
 -- the dropped word is stored
-pub keeps-dropped_stored : (words : List ℕ) (a : AppSide) (d : KernelSide) (w : ℕ) → Agree words a d → w < 2 ^ 32 → Agree (set words (dropped_index d.size) w) a (dropped_stored d w)
+pub keeps-dropped_stored : (words : List ℕ) (a : AppSide) (d : KernelSide) (w : ℕ) → Agree words a d
+    → w < 2 ^ 32 → Agree (set words (dropped_index d.size) w) a (dropped_stored d w)
 keeps-dropped_stored words a d w h is_small =
     let size : ℕ = d.size in
     let index : ℕ = dropped_index size in
@@ -143,7 +154,8 @@ keeps-dropped_stored words a d w h is_small =
     }
 
 -- the head is loaded
-pub keeps-head_loaded : (words : List ℕ) (a : AppSide) (d : KernelSide) → Agree words a d → Agree words a (head_loaded d (length a.got))
+pub keeps-head_loaded : (words : List ℕ) (a : AppSide) (d : KernelSide) → Agree words a d
+    → Agree words a (head_loaded d (length a.got))
 keeps-head_loaded words a d h = record {
   sized = record { start = h.sized.start; size = h.sized.size; power = h.sized.power; limit = h.sized.limit; many = h.sized.many };
   head_seen = omega arith;
@@ -162,7 +174,9 @@ keeps-head_loaded words a d h = record {
 }
 
 -- What the application knows changed, but for what it got: it is still what was put, and the dropped words that it loaded were had.
-known_changes : (words : List ℕ) (a b : AppSide) (d : KernelSide) (rest : List (List ℕ)) → Agree words a d → b.start ≡ a.start → b.size ≡ a.size → b.got ≡ a.got → d.put ≡ (b.got ++ b.known) ++ rest → WereHad (0 ∷ d.dropped) b.dropped → Agree words b d
+known_changes : (words : List ℕ) (a b : AppSide) (d : KernelSide) (rest : List (List ℕ))
+    → Agree words a d → b.start ≡ a.start → b.size ≡ a.size → b.got ≡ a.got
+    → d.put ≡ (b.got ++ b.known) ++ rest → WereHad (0 ∷ d.dropped) b.dropped → Agree words b d
 known_changes words a b d rest h start size got begins loaded = record {
   sized = record { start = start ∙ h.sized.start; size = size ∙ h.sized.size; power = h.sized.power; limit = h.sized.limit; many = h.sized.many };
   head_seen = rw got h.head_seen;
@@ -181,16 +195,19 @@ known_changes words a b d rest h start size got begins loaded = record {
 }
 
 -- the tail is loaded: all that was put is known
-pub keeps-tail_loaded : (words : List ℕ) (a : AppSide) (d : KernelSide) → (h : Agree words a d) → Agree words (tail_loaded a h.rest) d
+pub keeps-tail_loaded : (words : List ℕ) (a : AppSide) (d : KernelSide) → (h : Agree words a d)
+    → Agree words (tail_loaded a h.rest) d
 keeps-tail_loaded words a d h =
     known_changes words a (tail_loaded a h.rest) d [] h refl refl refl (h.begins ∙ append_assoc a.got a.known h.rest ∙ sym (append-nil (a.got ++ (a.known ++ h.rest)))) h.loaded
 
 -- the dropped word is loaded
-pub keeps-dropped_loaded : (words : List ℕ) (a : AppSide) (d : KernelSide) → (h : Agree words a d) → Agree words (dropped_loaded a (last_of 0 d.dropped)) d
+pub keeps-dropped_loaded : (words : List ℕ) (a : AppSide) (d : KernelSide) → (h : Agree words a d)
+    → Agree words (dropped_loaded a (last_of 0 d.dropped)) d
 keeps-dropped_loaded words a d h = known_changes words a (dropped_loaded a (last_of 0 d.dropped)) d h.rest h refl refl refl h.begins (had_last 0 d.dropped a.dropped h.loaded)
 
 -- the first of the known completions is the next that was put
-known_at : (words : List ℕ) (a : AppSide) (d : KernelSide) (c : List ℕ) (cs : List (List ℕ)) → (h : Agree words a d) → a.known ≡ c ∷ cs
+known_at : (words : List ℕ) (a : AppSide) (d : KernelSide) (c : List ℕ) (cs : List (List ℕ))
+    → (h : Agree words a d) → a.known ≡ c ∷ cs
     → (get_or d.put (length a.got) c ≡ c) × (length a.got < length d.put)
 known_at words a d c cs h is =
     let all : d.put ≡ a.got ++ c ∷ (cs ++ h.rest) = h.begins ∙ append_assoc a.got a.known h.rest ∙ ap (λ l. a.got ++ (l ++ h.rest)) is in (
@@ -199,7 +216,8 @@ known_at words a d c cs h is =
     )
 
 -- so its words stand, and are ten
-pub known_stands : (words : List ℕ) (a : AppSide) (d : KernelSide) (c : List ℕ) (cs : List (List ℕ)) → Agree words a d → a.known ≡ c ∷ cs
+pub known_stands : (words : List ℕ) (a : AppSide) (d : KernelSide) (c : List ℕ) (cs : List (List ℕ))
+    → Agree words a d → a.known ≡ c ∷ cs
     → StandsAt words (place_of a.start a.size (length a.got)) c × (length c ≡ 10)
 known_stands words a d c cs h is =
     let at = known_at words a d c cs h is in
@@ -209,7 +227,8 @@ known_stands words a d c cs h is =
     )
 
 -- the head is stored behind the first of the known completions, which is then got
-pub keeps-head_stored : (words : List ℕ) (a : AppSide) (d : KernelSide) (w : ℕ) (c : List ℕ) (cs : List (List ℕ)) → Agree words a d → a.known ≡ c ∷ cs → w ≡ word_of a.start (length a.got + 1)
+pub keeps-head_stored : (words : List ℕ) (a : AppSide) (d : KernelSide) (w : ℕ) (c : List ℕ) (cs : List (List ℕ))
+    → Agree words a d → a.known ≡ c ∷ cs → w ≡ word_of a.start (length a.got + 1)
     → Agree (set words (head_index a.size) w) (record a { got = a.got ++ c ∷ []; known = cs }) d
 keeps-head_stored words a d w c cs h is is_word =
     let size : ℕ = d.size in

@@ -20,8 +20,11 @@ use Rattle.uring_words.specs.declared.submission.view.Position.{Position}
 use Rattle.uring_words.proofs.CallLemmas.{Holding, holds_call, holds_close, goes_on-snoc, whole_rest, not_whole, no_mark_inside}
 
 -- a call was staged behind whole calls
-pub staged_call : (before after : Holder) (items : List Item) → StagesCall before after items → before.0.app.staged ≡ [] → AreWhole before.0.app.published → has_close_mark before.0.app.published ≡ false
-    → Holding (stored after.0.app) (with_call (put_of before.0.app.published) items) × (length (stored after.0.app) ≡ length before.0.app.published + length items)
+pub staged_call : (before after : Holder) (items : List Item) → StagesCall before after items
+    → before.0.app.staged ≡ [] → AreWhole before.0.app.published
+    → has_close_mark before.0.app.published ≡ false
+    → Holding (stored after.0.app) (with_call (put_of before.0.app.published) items)
+    × (length (stored after.0.app) ≡ length before.0.app.published + length items)
 staged_call before after items s none whole open' =
     let all = ap (λ (me : Holder). stored me.0.app) s.is in
     let call = s.front ++ s.last ∷ [] in
@@ -32,8 +35,11 @@ staged_call before after items s none whole open' =
     )
 
 -- the close mark was staged behind whole calls
-pub staged_close : (before after : Holder) → after ≡ with_app before (mark_stored before.0.app close_mark) → before.0.app.staged ≡ [] → AreWhole before.0.app.published → has_close_mark before.0.app.published ≡ false
-    → Holding (stored after.0.app) (with_close (put_of before.0.app.published)) × (length (stored after.0.app) ≡ length before.0.app.published + 1)
+pub staged_close : (before after : Holder)
+    → after ≡ with_app before (mark_stored before.0.app close_mark) → before.0.app.staged ≡ []
+    → AreWhole before.0.app.published → has_close_mark before.0.app.published ≡ false
+    → Holding (stored after.0.app) (with_close (put_of before.0.app.published))
+    × (length (stored after.0.app) ≡ length before.0.app.published + 1)
 staged_close before after is none whole open' =
     let p : Position = record { mark = close_mark; entry = before.0.app.entry } in
     let all : stored after.0.app ≡ before.0.app.published ++ p ∷ [] = ap (λ (me : Holder). stored me.0.app) is ∙ ap (λ l. before.0.app.published ++ (l ++ p ∷ [])) none in
@@ -41,8 +47,11 @@ staged_close before after is none whole open' =
     let P : List Position → Type 0 = λ ps. Holding ps (with_close (put_of before.0.app.published)) in
     (subst P (sym all) holding, omega (arith, ap length all, length-append before.0.app.published (p ∷ [])))
 
-copies : (before now after : Holder) (n : ℕ) (items : List Item) (what : Copied) → before.0.kernel.loaded ≡ 0 → (call : InCall before now n items) → (one : CopiesOne now after what)
-    → (after ≡ with_kernel before (record before.0.kernel { copied = before.0.kernel.copied ++ (call.part ++ one.position ∷ []); known = after.0.kernel.known })) × ((call.part ++ one.position ∷ []) ++ after.0.kernel.known ≡ before.0.kernel.known)
+copies : (before now after : Holder) (n : ℕ) (items : List Item) (what : Copied)
+    → before.0.kernel.loaded ≡ 0 → (call : InCall before now n items)
+    → (one : CopiesOne now after what)
+    → (after ≡ with_kernel before (record before.0.kernel { copied = before.0.kernel.copied ++ (call.part ++ one.position ∷ []); known = after.0.kernel.known }))
+    × ((call.part ++ one.position ∷ []) ++ after.0.kernel.known ≡ before.0.kernel.known)
 copies before now after n items what none call one =
     let d = before.0.kernel in
     let p = one.position in
@@ -54,7 +63,9 @@ copies before now after n items what none call one =
     )
 
 -- one position more of the call that is copied
-pub in_call_more : (before now after : Holder) (n : ℕ) (items : List Item) (what : Copied) (x : Item) → before.0.kernel.loaded ≡ 0 → InCall before now n items → CopiesOne now after what → what ≡ copied.More x
+pub in_call_more : (before now after : Holder) (n : ℕ) (items : List Item) (what : Copied) (x : Item)
+    → before.0.kernel.loaded ≡ 0 → InCall before now n items → CopiesOne now after what
+    → what ≡ copied.More x
     → InCall before after (n + 1) (items ++ x ∷ [])
 in_call_more before now after n items what x none call one is =
     let h = rw is at one.holds in
@@ -71,12 +82,16 @@ in_call_more before now after n items what x none call one is =
 
 -- positions are copied, which are of the known ones
 pub record Copies (before after : Holder) (items : List Item) : Type 0 where
-  pub is : after ≡ with_kernel before (record before.0.kernel { copied = after.0.kernel.copied; known = after.0.kernel.known })
-  pub same : after.0.kernel.copied ++ after.0.kernel.known ≡ before.0.kernel.copied ++ before.0.kernel.known
+  pub is : after
+      ≡ with_kernel before (record before.0.kernel { copied = after.0.kernel.copied; known = after.0.kernel.known })
+  pub same : after.0.kernel.copied ++ after.0.kernel.known
+      ≡ before.0.kernel.copied ++ before.0.kernel.known
   pub few : length items ≤ length before.0.kernel.known
   pub more : length before.0.kernel.copied ≤ length after.0.kernel.copied
 
-copies_all : (before now after : Holder) (n : ℕ) (items more : List Item) (what : Copied) → before.0.kernel.loaded ≡ 0 → InCall before now n items → CopiesOne now after what → length more ≤ n + 1 → Copies before after more
+copies_all : (before now after : Holder) (n : ℕ) (items more : List Item) (what : Copied)
+    → before.0.kernel.loaded ≡ 0 → InCall before now n items → CopiesOne now after what
+    → length more ≤ n + 1 → Copies before after more
 copies_all before now after n items more what none call one few =
     let c = copies before now after n items what none call one in
     let d = before.0.kernel in
@@ -90,9 +105,12 @@ copies_all before now after n items more what none call one few =
     }
 
 -- the last position of a call is copied
-pub in_call_last : (before now after : Holder) (n : ℕ) (items : List Item) (what : Copied) (x : Item) → before.0.kernel.loaded ≡ 0 → AreWhole before.0.kernel.copied → has_close_mark before.0.kernel.copied ≡ false
+pub in_call_last : (before now after : Holder) (n : ℕ) (items : List Item) (what : Copied) (x : Item)
+    → before.0.kernel.loaded ≡ 0 → AreWhole before.0.kernel.copied
+    → has_close_mark before.0.kernel.copied ≡ false
     → InCall before now n items → CopiesOne now after what → what ≡ copied.Last x
-    → Holding after.0.kernel.copied (with_call (put_of before.0.kernel.copied) (items ++ x ∷ [])) × Copies before after (items ++ x ∷ [])
+    → Holding after.0.kernel.copied (with_call (put_of before.0.kernel.copied) (items ++ x ∷ []))
+    × Copies before after (items ++ x ∷ [])
 in_call_last before now after n items what x none whole open' call one is =
     let h = rw is at one.holds in
     let p = one.position in
@@ -106,14 +124,19 @@ in_call_last before now after n items what x none whole open' call one is =
       copies_all before now after n items (items ++ x ∷ []) what none call one (omega (arith, length-append items (x ∷ []), ap length call.holds, length-map call.part item_of, call.many)),
     )
 
-close_is_first : (part : List Position) (p : Position) (others : List Position) → AreWhole (part ++ p ∷ others) → AllGoOn part → closes p.mark ≡ true → part ≡ []
+close_is_first : (part : List Position) (p : Position) (others : List Position)
+    → AreWhole (part ++ p ∷ others) → AllGoOn part → closes p.mark ≡ true → part ≡ []
 close_is_first [] p others whole goes_on closing = refl
 close_is_first (q ∷ qs) p others whole goes_on closing = let whole' = rw (goes_on.0, goes_on.1) at whole in absurd (no_mark_inside qs p others goes_on.2 closing whole')
 
 -- the close mark is copied, which is no part of a call
-pub in_call_close : (before now after : Holder) (n : ℕ) (items : List Item) (what : Copied) → before.0.kernel.loaded ≡ 0 → AreWhole before.0.kernel.copied → has_close_mark before.0.kernel.copied ≡ false
-    → AreWhole (before.0.kernel.copied ++ before.0.kernel.known) → InCall before now n items → CopiesOne now after what → what ≡ copied.Close
-    → (items ≡ []) × Holding after.0.kernel.copied (with_close (put_of before.0.kernel.copied)) × Copies before after []
+pub in_call_close : (before now after : Holder) (n : ℕ) (items : List Item) (what : Copied)
+    → before.0.kernel.loaded ≡ 0 → AreWhole before.0.kernel.copied
+    → has_close_mark before.0.kernel.copied ≡ false
+    → AreWhole (before.0.kernel.copied ++ before.0.kernel.known) → InCall before now n items
+    → CopiesOne now after what → what ≡ copied.Close
+    → (items ≡ []) × Holding after.0.kernel.copied (with_close (put_of before.0.kernel.copied))
+    × Copies before after []
 in_call_close before now after n items what none whole open' known call one is =
     let h = rw is at one.holds in
     let p = one.position in
@@ -130,15 +153,19 @@ in_call_close before now after n items what none whole open' known call one is =
 
 never_open : (ps : List Position) → 0 < length ps → AllGoOn ps → AreWhole ps → ⊥
 never_open [] some goes_on whole = omega arith
-never_open (p ∷ ps) some goes_on whole = let whole' = rw (goes_on.0, goes_on.1) at whole in not_whole ps goes_on.2 whole'
+never_open (p ∷ ps) some goes_on whole =
+    let whole' = rw (goes_on.0, goes_on.1) at whole in not_whole ps goes_on.2 whole'
 
 empty : (ps : List Position) → length ps ≡ 0 → ps ≡ []
 empty [] none = refl
 empty (p ∷ ps) none = absurd (omega arith)
 
 -- what is known ends a call
-pub call_ends : (before now : Holder) (n : ℕ) (items : List Item) → AreWhole before.0.kernel.copied → has_close_mark before.0.kernel.copied ≡ false → AreWhole (before.0.kernel.copied ++ before.0.kernel.known)
-    → 0 < length before.0.kernel.known → n ≡ length before.0.kernel.known → InCall before now n items → ⊥
+pub call_ends : (before now : Holder) (n : ℕ) (items : List Item) → AreWhole before.0.kernel.copied
+    → has_close_mark before.0.kernel.copied ≡ false
+    → AreWhole (before.0.kernel.copied ++ before.0.kernel.known)
+    → 0 < length before.0.kernel.known → n ≡ length before.0.kernel.known
+    → InCall before now n items → ⊥
 call_ends before now n items whole open' known some all call =
     let d = before.0.kernel in
     let rest : AreWhole d.known = whole_rest false d.copied d.known whole open' known in
@@ -147,14 +174,16 @@ call_ends before now n items whole open' known some all call =
     never_open call.part (omega (arith, ap length same)) call.goes_on (subst AreWhole (sym same) rest)
 
 -- the items of a call but the last
-pub front_items : (size : ℕ) (items front : List Item) (last : Item) → items ≡ front ++ last ∷ [] → AreItems size items → AreItems size front
+pub front_items : (size : ℕ) (items front : List Item) (last : Item) → items ≡ front ++ last ∷ []
+    → AreItems size items → AreItems size front
 front_items size items front last is all k d below =
     let both = ap (map published_as) is ∙ map-append published_as front (last ∷ []) in
     let within : k < length (map published_as items) = omega (arith, ap length both, length-append (map published_as front) (map published_as (last ∷ []))) in
     subst (λ (x : Published). IsItem size x) (ap (λ l. get_or l k d) both ∙ get_or_append_left (map published_as front) (map published_as (last ∷ [])) d k below) (all k d within)
 
 -- and the last
-pub last_item : (size : ℕ) (items front : List Item) (last : Item) → items ≡ front ++ last ∷ [] → AreItems size items → IsItem size (published_as last)
+pub last_item : (size : ℕ) (items front : List Item) (last : Item) → items ≡ front ++ last ∷ []
+    → AreItems size items → IsItem size (published_as last)
 last_item size items front last is all =
     let n : ℕ = length (map published_as front) in
     let x : Published = published_as last in

@@ -7,8 +7,11 @@ use Rattle.uring_words.specs.Submission.Rule.{Agree, BothAgree, at_first}
 use Rattle.uring_words.specs.declared.sides.Shape.{Shape}
 use Rattle.uring_words.proofs.Seats.{opens_with}
 
-first_agree : (words : List ℕ) (key : Shape) → IsPowerOfTwo key.size → key.size ≤ 4096 → key.start < 2 ^ 32 → length words ≡ word_count key.size
-    → get_or words (tail_index key.size) 0 ≡ key.start → get_or words (head_index key.size) 0 ≡ key.start → Agree words (at_first key).app (at_first key).kernel
+first_agree : (words : List ℕ) (key : Shape) → IsPowerOfTwo key.size → key.size ≤ 4096
+    → key.start < 2 ^ 32 → length words ≡ word_count key.size
+    → get_or words (tail_index key.size) 0 ≡ key.start
+    → get_or words (head_index key.size) 0 ≡ key.start
+    → Agree words (at_first key).app (at_first key).kernel
 first_agree words key power limit small many tail head =
     let start : key.start ≡ (key.start + 0) % 2 ^ 32 = omega arith in
     record {
@@ -25,9 +28,12 @@ first_agree words key power limit small many tail head =
       whole = refl;
     }
 
-pub opens : (words : List ℕ) (key : Shape) → IsPowerOfTwo key.size → key.size ≤ 4096 → key.start < 2 ^ 32 → length words ≡ word_count key.size
-    → get_or words (tail_index key.size) 0 ≡ key.start → get_or words (head_index key.size) 0 ≡ key.start → BothAgree (opening words [] (at_first key))
-opens words key power limit small many tail head = opens_with words _ _ (first_agree words key power limit small many tail head)
+pub opens : (words : List ℕ) (key : Shape) → IsPowerOfTwo key.size → key.size ≤ 4096
+    → key.start < 2 ^ 32 → length words ≡ word_count key.size
+    → get_or words (tail_index key.size) 0 ≡ key.start
+    → get_or words (head_index key.size) 0 ≡ key.start → BothAgree (opening words [] (at_first key))
+opens words key power limit small many tail head =
+    opens_with words _ _ (first_agree words key power limit small many tail head)
 
 pub start_word : (start : ℕ) → start < 2 ^ 32 → start ≡ (start + 0) % 2 ^ 32
 start_word start small = omega arith

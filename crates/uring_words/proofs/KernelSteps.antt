@@ -12,7 +12,8 @@ use Rattle.uring_words.specs.declared.submission.view.Position.{Position}
 use Rattle.uring_words.proofs.Standing.{some_size, few_words, place_below, stands_elsewhere}
 
 -- the tail is loaded: all that was published is known
-pub keeps-tail_loaded : (words : List ℕ) (a : AppSide) (d : KernelSide) → (h : Agree words a d) → Agree words a (tail_loaded d h.rest)
+pub keeps-tail_loaded : (words : List ℕ) (a : AppSide) (d : KernelSide) → (h : Agree words a d)
+    → Agree words a (tail_loaded d h.rest)
 keeps-tail_loaded words a d h =
     let o = h.ordered in
     let all : a.published ≡ d.copied ++ (d.known ++ h.rest) = h.begins ∙ append_assoc d.copied d.known h.rest in
@@ -31,7 +32,8 @@ keeps-tail_loaded words a d h =
     }
 
 -- a word of the first known position is loaded
-pub keeps-loaded_of : (words : List ℕ) (a : AppSide) (d e : KernelSide) → Agree words a d → e.start ≡ d.start → e.size ≡ d.size → e.taken ≡ d.taken → d.taken ≤ length e.copied
+pub keeps-loaded_of : (words : List ℕ) (a : AppSide) (d e : KernelSide) → Agree words a d
+    → e.start ≡ d.start → e.size ≡ d.size → e.taken ≡ d.taken → d.taken ≤ length e.copied
     → e.copied ++ e.known ≡ d.copied ++ d.known → Agree words a e
 keeps-loaded_of words a d e h start size taken below same =
     let o = h.ordered in
@@ -49,22 +51,27 @@ keeps-loaded_of words a d e h start size taken below same =
       whole = h.whole;
     }
 
-keeps_either : (words : List ℕ) (a : AppSide) (d : KernelSide) (p : Position) (ps : List Position) → Agree words a d → d.known ≡ p ∷ ps → (b : Bool)
+keeps_either : (words : List ℕ) (a : AppSide) (d : KernelSide) (p : Position) (ps : List Position)
+    → Agree words a d → d.known ≡ p ∷ ps → (b : Bool)
     → Agree words a (if b then record d { copied = d.copied ++ p ∷ []; known = ps; loaded = 0 } else record d { loaded = d.loaded + 1 })
 keeps_either words a d p ps h is true =
     let t = h.ordered.taken in
     keeps-loaded_of words a d (record d { copied = d.copied ++ p ∷ []; known = ps; loaded = 0 }) h refl refl refl (omega (arith, length-append d.copied (p ∷ []))) (append_assoc d.copied (p ∷ []) ps ∙ ap (λ l. d.copied ++ l) (sym is))
 keeps_either words a d p ps h is false = keeps-loaded_of words a d (record d { loaded = d.loaded + 1 }) h refl refl refl h.ordered.taken refl
 
-keeps_known : (words : List ℕ) (a : AppSide) (d : KernelSide) → Agree words a d → (ps : List Position) → d.known ≡ ps → Agree words a (loaded_of d ps)
+keeps_known : (words : List ℕ) (a : AppSide) (d : KernelSide) → Agree words a d
+    → (ps : List Position) → d.known ≡ ps → Agree words a (loaded_of d ps)
 keeps_known words a d h [] is = h
-keeps_known words a d h (p ∷ ps) is = keeps_either words a d p ps h is (eqb d.loaded (length p.entry))
+keeps_known words a d h (p ∷ ps) is =
+    keeps_either words a d p ps h is (eqb d.loaded (length p.entry))
 
-pub keeps-word_loaded : (words : List ℕ) (a : AppSide) (d : KernelSide) → Agree words a d → Agree words a (word_loaded d)
+pub keeps-word_loaded : (words : List ℕ) (a : AppSide) (d : KernelSide) → Agree words a d
+    → Agree words a (word_loaded d)
 keeps-word_loaded words a d h = keeps_known words a d h d.known refl
 
 -- the first known position is the next stored one
-pub known_at : (words : List ℕ) (a : AppSide) (d : KernelSide) (p : Position) (ps : List Position) → (h : Agree words a d) → d.known ≡ p ∷ ps
+pub known_at : (words : List ℕ) (a : AppSide) (d : KernelSide) (p : Position) (ps : List Position)
+    → (h : Agree words a d) → d.known ≡ p ∷ ps
     → (get_or (stored a) (length d.copied) p ≡ p) × (length d.copied < length (stored a))
 known_at words a d p ps h is =
     let all : stored a ≡ d.copied ++ p ∷ (ps ++ h.rest ++ a.staged) =
@@ -74,8 +81,10 @@ known_at words a d p ps h is =
     )
 
 -- so its words stand, and are a position's
-pub known_stands : (words : List ℕ) (a : AppSide) (d : KernelSide) (p : Position) (ps : List Position) → Agree words a d → d.known ≡ p ∷ ps
-    → StandsAt words d.size (place_of d.start d.size (length d.copied)) p × IsPosition d.size (place_of d.start d.size (length d.copied)) p
+pub known_stands : (words : List ℕ) (a : AppSide) (d : KernelSide) (p : Position) (ps : List Position)
+    → Agree words a d → d.known ≡ p ∷ ps
+    → StandsAt words d.size (place_of d.start d.size (length d.copied)) p
+    × IsPosition d.size (place_of d.start d.size (length d.copied)) p
 known_stands words a d p ps h is =
     let at = known_at words a d p ps h is in
     rw (h.sized.start, h.sized.size) (
@@ -84,7 +93,9 @@ known_stands words a d p ps h is =
     )
 
 -- the head is stored behind all that was copied
-pub keeps-head_stored : (words : List ℕ) (a : AppSide) (d : KernelSide) (w : ℕ) → Agree words a d → w ≡ word_of d.start (length d.copied) → Agree (set words (head_index d.size) w) a (head_stored d)
+pub keeps-head_stored : (words : List ℕ) (a : AppSide) (d : KernelSide) (w : ℕ) → Agree words a d
+    → w ≡ word_of d.start (length d.copied)
+    → Agree (set words (head_index d.size) w) a (head_stored d)
 keeps-head_stored words a d w h is_word =
     let size : ℕ = a.size in
     let index : ℕ = head_index size in

@@ -17,24 +17,30 @@ use Rattle.uring_words.proofs.KernelSteps.{keeps-tail_loaded, keeps-word_loaded,
 use Rattle.uring_words.proofs.Seats.{app_step, kernel_step}
 
 -- an entry word is stored for the next position
-pub stores_word : (slots id i : ℕ) (me : Holder) (word : ℕ) → me.0.is_app ≡ true → length (stored me.0.app) < me.0.app.head_seen + me.0.app.size → length me.0.app.entry < 16
-    → i ≡ entry_index (place_of me.0.app.start me.0.app.size (length (stored me.0.app))) (length me.0.app.entry)
+pub stores_word : (slots id i : ℕ) (me : Holder) (word : ℕ) → me.0.is_app ≡ true
+    → length (stored me.0.app) < me.0.app.head_seen + me.0.app.size → length me.0.app.entry < 16
+    → i
+    ≡ entry_index (place_of me.0.app.start me.0.app.size (length (stored me.0.app))) (length me.0.app.entry)
     → Allows BothAgree slots id me i (λ _. word) (λ _. StoresWord (step slots i word 0 none) me word)
 stores_word slots id i me word is_app room few is =
     app_step slots id i (λ _. word) me (λ _. StoresWord (step slots i word 0 none) me word) is_app
     (λ words d h both. (word_stored me.0.app word, rw is (keeps-word_stored words me.0.app d word h room few), refl))
 
 -- the array word of the next position is stored
-pub stores_mark : (slots id i : ℕ) (me : Holder) (word : ℕ) → me.0.is_app ≡ true → length (stored me.0.app) < me.0.app.head_seen + me.0.app.size
+pub stores_mark : (slots id i : ℕ) (me : Holder) (word : ℕ) → me.0.is_app ≡ true
+    → length (stored me.0.app) < me.0.app.head_seen + me.0.app.size
     → IsPosition me.0.app.size (place_of me.0.app.start me.0.app.size (length (stored me.0.app))) (record { mark = word; entry = me.0.app.entry })
-    → i ≡ array_index me.0.app.size (place_of me.0.app.start me.0.app.size (length (stored me.0.app)))
+    → i
+    ≡ array_index me.0.app.size (place_of me.0.app.start me.0.app.size (length (stored me.0.app)))
     → Allows BothAgree slots id me i (λ _. word) (λ _. StoresMark (step slots i word 0 none) me word)
 stores_mark slots id i me word is_app room new is =
     app_step slots id i (λ _. word) me (λ _. StoresMark (step slots i word 0 none) me word) is_app
     (λ words d h both. (mark_stored me.0.app word, rw is (keeps-mark_stored words me.0.app d word h room new), refl))
 
 -- the tail is stored
-pub stores_tail : (slots id i : ℕ) (me : Holder) (word : ℕ) → me.0.is_app ≡ true → me.0.app.entry ≡ [] → word ≡ word_of me.0.app.start (length (stored me.0.app)) → AreWhole (stored me.0.app)
+pub stores_tail : (slots id i : ℕ) (me : Holder) (word : ℕ) → me.0.is_app ≡ true
+    → me.0.app.entry ≡ [] → word ≡ word_of me.0.app.start (length (stored me.0.app))
+    → AreWhole (stored me.0.app)
     → i ≡ tail_index me.0.app.size
     → Allows BothAgree slots id me i (λ _. word) (λ _. StoresTail (step slots i word 0 none) me word)
 stores_tail slots id i me word is_app none_written is_word whole is =
@@ -54,7 +60,8 @@ loads_head slots id i me is_app is =
     ))
 
 -- the tail is loaded
-pub loads_tail : (slots id i : ℕ) (me : Holder) → me.0.is_kernel ≡ true → i ≡ tail_index me.0.kernel.size
+pub loads_tail : (slots id i : ℕ) (me : Holder) → me.0.is_kernel ≡ true
+    → i ≡ tail_index me.0.kernel.size
     → Allows BothAgree slots id me i (λ n. n) (LoadsTail (step slots i 0 0 none) me)
 loads_tail slots id i me is_kernel is =
     kernel_step slots id i (λ n. n) me (LoadsTail (step slots i 0 0 none) me) is_kernel (λ words a h both.
@@ -77,8 +84,10 @@ loads_tail slots id i me is_kernel is =
     ))
 
 -- the array word of the first known position is loaded
-pub loads_mark : (slots id i : ℕ) (me : Holder) (p : Position) (ps : List Position) → me.0.is_kernel ≡ true → me.0.kernel.known ≡ p ∷ ps
-    → i ≡ array_index me.0.kernel.size (place_of me.0.kernel.start me.0.kernel.size (length me.0.kernel.copied))
+pub loads_mark : (slots id i : ℕ) (me : Holder) (p : Position) (ps : List Position)
+    → me.0.is_kernel ≡ true → me.0.kernel.known ≡ p ∷ ps
+    → i
+    ≡ array_index me.0.kernel.size (place_of me.0.kernel.start me.0.kernel.size (length me.0.kernel.copied))
     → Allows BothAgree slots id me i (λ n. n) (LoadsMark (step slots i 0 0 none) me)
 loads_mark slots id i me p ps is_kernel known is =
     kernel_step slots id i (λ n. n) me (LoadsMark (step slots i 0 0 none) me) is_kernel (λ words a h both.
@@ -91,7 +100,9 @@ loads_mark slots id i me p ps is_kernel known is =
     ))
 
 -- its next entry word is loaded
-pub loads_word : (slots id i k : ℕ) (me : Holder) (p : Position) (ps : List Position) → me.0.is_kernel ≡ true → me.0.kernel.known ≡ p ∷ ps → me.0.kernel.loaded ≡ k + 1 → k < length p.entry
+pub loads_word : (slots id i k : ℕ) (me : Holder) (p : Position) (ps : List Position)
+    → me.0.is_kernel ≡ true → me.0.kernel.known ≡ p ∷ ps → me.0.kernel.loaded ≡ k + 1
+    → k < length p.entry
     → i ≡ entry_index (place_of me.0.kernel.start me.0.kernel.size (length me.0.kernel.copied)) k
     → Allows BothAgree slots id me i (λ n. n) (LoadsWord (step slots i 0 0 none) me)
 loads_word slots id i k me p ps is_kernel known loaded within is =
@@ -110,7 +121,8 @@ loads_word slots id i k me p ps is_kernel known loaded within is =
     ))
 
 -- the head is stored
-pub stores_head : (slots id i : ℕ) (me : Holder) (word : ℕ) → me.0.is_kernel ≡ true → word ≡ word_of me.0.kernel.start (length me.0.kernel.copied) → i ≡ head_index me.0.kernel.size
+pub stores_head : (slots id i : ℕ) (me : Holder) (word : ℕ) → me.0.is_kernel ≡ true
+    → word ≡ word_of me.0.kernel.start (length me.0.kernel.copied) → i ≡ head_index me.0.kernel.size
     → Allows BothAgree slots id me i (λ _. word) (λ _. StoresHead (step slots i word 0 none) me word)
 stores_head slots id i me word is_kernel is_word is =
     kernel_step slots id i (λ _. word) me (λ _. StoresHead (step slots i word 0 none) me word) is_kernel

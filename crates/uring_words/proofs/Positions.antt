@@ -9,14 +9,17 @@ use Rattle.uring_words.specs.Submission.Steps.{loaded_of, word_loaded}
 use Rattle.uring_words.specs.declared.submission.view.KernelSide.{KernelSide}
 use Rattle.uring_words.specs.declared.submission.view.Position.{Position}
 
-pub entry_position : (size place mark : ℕ) (entry : List ℕ) → place < size → slot_of mark ≡ place → closes mark ≡ false → length entry ≡ 16 → IsPosition size place (record { mark = mark; entry = entry })
+pub entry_position : (size place mark : ℕ) (entry : List ℕ) → place < size → slot_of mark ≡ place
+    → closes mark ≡ false → length entry ≡ 16
+    → IsPosition size place (record { mark = mark; entry = entry })
 entry_position size place mark entry below slot open' many =
     let within : slot_of mark < size = omega arith in
     let test : nat_lt (slot_of mark) size ≡ true = grind (arith, nat_tests) in
     let has : has_entry size mark ≡ true = rw (open', test) refl in
     record { entry = rw has many; own_slot = λ _. slot }
 
-pub bad_position : (size place mark low : ℕ) → size ≤ low → slot_of mark ≡ low → closes mark ≡ false → IsPosition size place (record { mark = mark; entry = [] })
+pub bad_position : (size place mark low : ℕ) → size ≤ low → slot_of mark ≡ low → closes mark ≡ false
+    → IsPosition size place (record { mark = mark; entry = [] })
 bad_position size place mark low above slot open' =
     let without : size ≤ slot_of mark = omega arith in
     let test : nat_lt (slot_of mark) size ≡ false = grind (arith, nat_tests) in
@@ -24,31 +27,39 @@ bad_position size place mark low above slot open' =
     record { entry = rw none refl; own_slot = λ has. absurd (cc (none, has)) }
 
 -- entry words hold an entry
-pub item_with_words : (mark : ℕ) (entry : List ℕ) → length entry ≡ 16 → item_from mark entry ≡ item.Entry entry
+pub item_with_words : (mark : ℕ) (entry : List ℕ) → length entry ≡ 16
+    → item_from mark entry ≡ item.Entry entry
 item_with_words mark [] many = absurd (omega arith)
 item_with_words mark (w ∷ ws) many = refl
 
-pub words_of_mark : (size place : ℕ) (p : Position) → IsPosition size place p → (b : Bool) → has_entry size p.mark ≡ b → length p.entry ≡ (if b then 16 else 0)
+pub words_of_mark : (size place : ℕ) (p : Position) → IsPosition size place p → (b : Bool)
+    → has_entry size p.mark ≡ b → length p.entry ≡ (if b then 16 else 0)
 words_of_mark size place p formed b is = formed.entry ∙ ap (λ (c : Bool). if c then 16 else 0) is
 
 -- what the dispatcher knows once this many entry words of the first known position are loaded
 abbrev pub loaded_to : KernelSide → Position → List Position → ℕ → KernelSide
-loaded_to d p ps k = if eqb k (length p.entry) then copied_one d p ps else record d { loaded = k + 1 }
+loaded_to d p ps k =
+    if eqb k (length p.entry) then copied_one d p ps else record d { loaded = k + 1 }
 
 -- with its array word
-pub mark_is_loaded : (d : KernelSide) (p : Position) (ps : List Position) → d.known ≡ p ∷ ps → d.loaded ≡ 0 → word_loaded d ≡ loaded_to d p ps 0
+pub mark_is_loaded : (d : KernelSide) (p : Position) (ps : List Position) → d.known ≡ p ∷ ps
+    → d.loaded ≡ 0 → word_loaded d ≡ loaded_to d p ps 0
 mark_is_loaded d p ps known none =
     ap (loaded_of d) known ∙ ap (λ (n : ℕ). if eqb n (length p.entry) then copied_one d p ps else record d { loaded = n + 1 }) none
 
 -- with one entry word more
-pub word_is_loaded : (d : KernelSide) (p : Position) (ps : List Position) (k : ℕ) → d.known ≡ p ∷ ps → k < length p.entry → word_loaded (loaded_to d p ps k) ≡ loaded_to d p ps (k + 1)
+pub word_is_loaded : (d : KernelSide) (p : Position) (ps : List Position) (k : ℕ) → d.known ≡ p ∷ ps
+    → k < length p.entry → word_loaded (loaded_to d p ps k) ≡ loaded_to d p ps (k + 1)
 word_is_loaded d p ps k known more =
     let before : eqb k (length p.entry) ≡ false = ne_eqb k (length p.entry) (λ e. omega arith) in
     rw before (ap (loaded_of (record d { loaded = k + 1 })) known)
 
 -- at the last of them it is copied
-pub all_is_loaded : (d : KernelSide) (p : Position) (ps : List Position) (k : ℕ) → k ≡ length p.entry → loaded_to d p ps k ≡ copied_one d p ps
+pub all_is_loaded : (d : KernelSide) (p : Position) (ps : List Position) (k : ℕ)
+    → k ≡ length p.entry → loaded_to d p ps k ≡ copied_one d p ps
 all_is_loaded d p ps k all = rw (eq-eqb k (length p.entry) all) refl
 
-pub not_all_loaded : (d : KernelSide) (p : Position) (ps : List Position) (k : ℕ) → k < length p.entry → loaded_to d p ps k ≡ record d { loaded = k + 1 }
-not_all_loaded d p ps k more = let before : eqb k (length p.entry) ≡ false = ne_eqb k (length p.entry) (λ e. omega arith) in rw before refl
+pub not_all_loaded : (d : KernelSide) (p : Position) (ps : List Position) (k : ℕ)
+    → k < length p.entry → loaded_to d p ps k ≡ record d { loaded = k + 1 }
+not_all_loaded d p ps k more = let before : eqb k (length p.entry)
+    ≡ false = ne_eqb k (length p.entry) (λ e. omega arith) in rw before refl

@@ -9,13 +9,16 @@ use Rattle.uring_words.specs.Sides.{Knows, AgreeBy, both_know, with_app, with_ke
 use Rattle.uring_words.specs.declared.sides.View.{View}
 
 -- a view at a place of a longer list is there in the shorter one, or is the last
-at_longer : {A : Type 0} (l : List A) (a b : A) (j : ℕ) → get_elem? (l ++ a ∷ []) j ≡ some b → (get_elem? l j ≡ some b) ⊎ ((j ≡ length l) × (a ≡ b))
+at_longer : {A : Type 0} (l : List A) (a b : A) (j : ℕ) → get_elem? (l ++ a ∷ []) j ≡ some b
+    → (get_elem? l j ≡ some b) ⊎ ((j ≡ length l) × (a ≡ b))
 at_longer [] a b zero e = inr (refl, some-injective a b e)
 at_longer [] a b (suc j) e = absurd (some-ne-none b (sym e))
 at_longer (x ∷ xs) a b zero e = inl e
-at_longer (x ∷ xs) a b (suc j) e = ⊎_elim (λ t. inl t) (λ t. inr (ap suc t.0, t.1)) (at_longer xs a b j e)
+at_longer (x ∷ xs) a b (suc j) e =
+    ⊎_elim (λ t. inl t) (λ t. inr (ap suc t.0, t.1)) (at_longer xs a b j e)
 
-only_seat : {V : Type 0} (v w : V) (seat : ℕ) → get_elem? (v ∷ []) seat ≡ some w → (seat ≡ 0) × (v ≡ w)
+only_seat : {V : Type 0} (v w : V) (seat : ℕ) → get_elem? (v ∷ []) seat ≡ some w
+    → (seat ≡ 0) × (v ≡ w)
 only_seat v w zero e = (refl, some-injective v w e)
 only_seat v w (suc seat) e = absurd (some-ne-none w (sym e))
 
@@ -52,7 +55,8 @@ module _ {A D : Type 0} where
 
 module _ {A D : Type 0} {Agree : List ℕ → A → D → Type 0} where
   -- A step of the application's seat, if the agreement is kept whatever the words and what the dispatcher knows are.
-  pub app_step : (slots id i : ℕ) (f : ℕ → ℕ) (me : Me (Unit {0}) (View A D)) (then : ℕ → Me (Unit {0}) (View A D) → Type 0) → me.0.is_app ≡ true
+  pub app_step : (slots id i : ℕ) (f : ℕ → ℕ) (me : Me (Unit {0}) (View A D)) (then : ℕ → Me (Unit {0}) (View A D) → Type 0)
+      → me.0.is_app ≡ true
       → ((words : List ℕ) (d : D) → Agree words me.0.app d → (me.0.is_kernel ≡ true → me.0.kernel ≡ d) → (b : A) × Agree (set words i (f (get_or words i 0))) b d × then (get_or words i 0) (with_app me b))
       → Allows (AgreeBy Agree) slots id me i f then
   app_step slots id i f me then is_app asked s kept _ at _ =
@@ -75,7 +79,8 @@ module _ {A D : Type 0} {Agree : List ℕ → A → D → Type 0} where
       )
 
   -- The same of the dispatcher's seat. If it has both sides, what the application knows is told.
-  pub kernel_step : (slots id i : ℕ) (f : ℕ → ℕ) (me : Me (Unit {0}) (View A D)) (then : ℕ → Me (Unit {0}) (View A D) → Type 0) → me.0.is_kernel ≡ true
+  pub kernel_step : (slots id i : ℕ) (f : ℕ → ℕ) (me : Me (Unit {0}) (View A D)) (then : ℕ → Me (Unit {0}) (View A D) → Type 0)
+      → me.0.is_kernel ≡ true
       → ((words : List ℕ) (a : A) → Agree words a me.0.kernel → (me.0.is_app ≡ true → me.0.app ≡ a) → (e : D) × Agree (set words i (f (get_or words i 0))) a e × then (get_or words i 0) (with_kernel me e))
       → Allows (AgreeBy Agree) slots id me i f then
   kernel_step slots id i f me then is_kernel asked s kept _ at _ =
@@ -98,7 +103,8 @@ module _ {A D : Type 0} {Agree : List ℕ → A → D → Type 0} where
       )
 
   -- a new table keeps the rule, if what its first seat knows agrees
-  pub opens_with : (words : List ℕ) (a : A) (d : D) → Agree words a d → AgreeBy Agree (opening {S = Unit {0}} words [] (both_know a d))
+  pub opens_with : (words : List ℕ) (a : A) (d : D) → Agree words a d
+      → AgreeBy Agree (opening {S = Unit {0}} words [] (both_know a d))
   opens_with words a d agree = record {
     app_seat = 0;
     kernel_seat = 0;
@@ -112,7 +118,8 @@ module _ {A D : Type 0} {Agree : List ℕ → A → D → Type 0} where
   }
 
   -- a seat of both sides is cut into one of each
-  pub splits : (id : ℕ) (me : View A D) → me.is_app ≡ true → me.is_kernel ≡ true → Splits {S = Unit {0}} (AgreeBy Agree) id me (app_part me) (kernel_part me)
+  pub splits : (id : ℕ) (me : View A D) → me.is_app ≡ true → me.is_kernel ≡ true
+      → Splits {S = Unit {0}} (AgreeBy Agree) id me (app_part me) (kernel_part me)
   splits id me is_app is_kernel s kept at =
       let mine = kept.seats id me at in
       let new : ℕ = length (set s.views id (app_part me)) in
@@ -139,7 +146,9 @@ module _ {A D : Type 0} {Agree : List ℕ → A → D → Type 0} where
       }
 
   -- the dispatcher's seat takes in the application's
-  pub joins : (a : A) (d : D) (id other : ℕ) (me its : View A D) → me.is_kernel ≡ true → its.is_app ≡ true → Joins {S = Unit {0}} (AgreeBy Agree) id me other its (both_parts me its) (spent_with a d)
+  pub joins : (a : A) (d : D) (id other : ℕ) (me its : View A D) → me.is_kernel ≡ true
+      → its.is_app ≡ true
+      → Joins {S = Unit {0}} (AgreeBy Agree) id me other its (both_parts me its) (spent_with a d)
   joins a d id other me its is_kernel is_app s kept at apart there =
       let mine = (kept.seats id me at).kernel is_kernel in
       let there' : get_elem? s.views other ≡ some its =

@@ -26,13 +26,16 @@ pub place_below : (start size count : ℕ) → 0 < size → place_of start size 
 place_below start size count some = mod_below (word_of start count) size some
 
 -- two counts less than the size apart have places of their own
-pub apart : (start size j k : ℕ) → IsPowerOfTwo size → size ≤ 2 ^ 32 → j < k → k < j + size → place_of start size j ≢ place_of start size k
+pub apart : (start size j k : ℕ) → IsPowerOfTwo size → size ≤ 2 ^ 32 → j < k → k < j + size
+    → place_of start size j ≢ place_of start size k
 apart start size j k power fits before near e =
     let ordered : j ≤ k = omega arith in
     let one : j ≡ k = same_cell size start j k power fits ordered near e in
     omega arith
 
-pub stands_elsewhere : (words : List ℕ) (size place i w : ℕ) (p : Position) → i ≢ array_index size place → ((k : ℕ) → k < length p.entry → i ≢ entry_index place k) → StandsAt words size place p → StandsAt (set words i w) size place p
+pub stands_elsewhere : (words : List ℕ) (size place i w : ℕ) (p : Position)
+    → i ≢ array_index size place → ((k : ℕ) → k < length p.entry → i ≢ entry_index place k)
+    → StandsAt words size place p → StandsAt (set words i w) size place p
 stands_elsewhere words size place i w p array entry s = record {
   mark = get_or-set_other words i (array_index size place) w 0 (λ e. array (sym e)) ∙ s.mark;
   entry = λ k below. get_or-set_other words i (entry_index place k) w 0 (λ e. entry k below (sym e)) ∙ s.entry k below;
@@ -44,7 +47,8 @@ module _ {A : Type 0} where
   some_first (x ∷ rest) some = (x, rest, refl)
 
   -- what holds at each index, and of one element more, holds at each index of the longer list
-  pub one_more : (Q : ℕ → A → Type 0) (xs : List A) (x e : A) → ((k : ℕ) → k < length xs → Q k (get_or xs k e)) → Q (length xs) x
+  pub one_more : (Q : ℕ → A → Type 0) (xs : List A) (x e : A)
+      → ((k : ℕ) → k < length xs → Q k (get_or xs k e)) → Q (length xs) x
       → (k : ℕ) → k < length (xs ++ x ∷ []) → Q k (get_or (xs ++ x ∷ []) k e)
   one_more Q xs x e below here k within =
       let long = length-append xs (x ∷ []) in

@@ -15,14 +15,16 @@ same_table z y e =
     let slot_names : z.slot_names ≡ y.slot_names = cc in
     λ i. record { words = words i; slots = slots i; views_name = views_name i; atom = atom i; block = block i; offset = offset i; slot_names = slot_names i }
 
-same_parts : (xs ys us vs : List ℕ) → length xs ≡ length us → xs ++ ys ≡ us ++ vs → (xs ≡ us) × (ys ≡ vs)
+same_parts : (xs ys us vs : List ℕ) → length xs ≡ length us → xs ++ ys ≡ us ++ vs
+    → (xs ≡ us) × (ys ≡ vs)
 same_parts xs ys us vs many e = (
   sym (take-append_seam xs ys) ∙ ap₂ (λ (n : ℕ) (l : List ℕ). take n l) many e ∙ take-append_seam us vs,
   sym (drop-append_seam xs ys) ∙ ap₂ (λ (n : ℕ) (l : List ℕ). drop n l) many e ∙ drop-append_seam us vs,
 )
 
 -- the numbers of a pair of tables are those of no other
-pub same_tables : (z y u v : TableId) → numbers_of_tables z y ≡ numbers_of_tables u v → (z ≡ u) × (y ≡ v)
+pub same_tables : (z y u v : TableId) → numbers_of_tables z y ≡ numbers_of_tables u v
+    → (z ≡ u) × (y ≡ v)
 same_tables z y u v e =
     let many : length z.slot_names ≡ length u.slot_names = cc in
     let all : numbers_of_table z ++ numbers_of_table y ≡ numbers_of_table u ++ numbers_of_table v = cc in

@@ -23,4 +23,5 @@ pub loop-chunk-preserved : goal.loop-chunk-preserved
 loop-chunk-preserved g c = λ setup all h. tried_again setup all _ _ _ c.loop-chunk.reading c.in-Err.ensures.bytes (c.loop-chunk.invariant setup all h)
 
 pub returns-clause-bytes : goal.returns-clause-bytes
-returns-clause-bytes g c = λ setup all h. let so = c.loop-chunk.invariant setup all h in (so.0, so.1, read_alone)
+returns-clause-bytes g c =
+    λ setup all h. let so = c.loop-chunk.invariant setup all h in (so.0, so.1, read_alone)

@@ -20,7 +20,8 @@ returns-then-not-request-clause-answer c = λ r h.
     posted-none r c.args.n c.args.res (running-some _ _ r c.args.n _ h there ∙ c.if-not-request.true)
 
 pub end_by_key-requires-clause-there : goal.end_by_key-requires-clause-there
-end_by_key-requires-clause-there c = ap is_some (at-keyed _ c.args.n _ (sym c.in-Some.ensures.value) ∙ c.by_key-request.ensures)
+end_by_key-requires-clause-there c =
+    ap is_some (at-keyed _ c.args.n _ (sym c.in-Some.ensures.value) ∙ c.by_key-request.ensures)
 
 pub returns-clause-answer : goal.returns-clause-answer
 returns-clause-answer c = λ r h.

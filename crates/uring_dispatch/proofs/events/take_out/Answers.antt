@@ -70,7 +70,8 @@ returns-clause-held c = λ r res bytes h is.
     (shows-more r c.args.n res c.group_of-group.result _ refl refl refl refl (c.earlier_of-broken.ensures ∙ ap (λ b. earlier_of c.group_of-group.result.broken b c.args.n) breaks))
 
 pub returns-then-least-group-clause-doomed : goal.returns-then-least-group-clause-doomed
-returns-then-least-group-clause-doomed c = let within = within-end _ c.args.n c.requires.there in omega arith
+returns-then-least-group-clause-doomed c =
+    let within = within-end _ c.args.n c.requires.there in omega arith
 
 pub returns-then-least-group-clause-others : goal.returns-then-least-group-clause-others
 returns-then-least-group-clause-others c = λ k ne head beside.

@@ -7,7 +7,9 @@ use Rattle.uring_dispatch.specs.declared.answers.Issued.TheVariants.{Run, Ended,
 use Rattle.uring_dispatch.specs.Laws.{is_refusal}
 use Rattle.uring_dispatch.proofs.laws.issuable_is_not_refused.Goals as goal
 
-refused : (outstanding running doomed ready cancel : Bool) (doom result : ℤ) (op : Op) → (outstanding && not running && (doomed || ready)) ≡ not (is_refusal (if not outstanding then Unknown else if running then Running else if doomed then Ended doom else if not ready then NotReady else if cancel then Ended result else Run op))
+refused : (outstanding running doomed ready cancel : Bool) (doom result : ℤ) (op : Op)
+    → (outstanding && not running && (doomed || ready))
+    ≡ not (is_refusal (if not outstanding then Unknown else if running then Running else if doomed then Ended doom else if not ready then NotReady else if cancel then Ended result else Run op))
 refused false running doomed ready cancel doom result op = refl
 refused true true doomed ready cancel doom result op = refl
 refused true false true ready cancel doom result op = refl

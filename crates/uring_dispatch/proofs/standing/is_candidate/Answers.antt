@@ -3,10 +3,12 @@ use Rattle.uring_dispatch.proofs.HeldLemmas.{candidate-none, candidate-self, can
 use Rattle.uring_dispatch.proofs.standing.is_candidate.Goals as goal
 
 pub returns-in_default-clause-candidate : goal.returns-in_default-clause-candidate
-returns-in_default-clause-candidate c = λ r h e. sym (candidate-none _ _ r c.args.n c.args.m h (sym c.in_default.ensures))
+returns-in_default-clause-candidate c =
+    λ r h e. sym (candidate-none _ _ r c.args.n c.args.m h (sym c.in_default.ensures))
 
 pub returns-then-m-n-clause-candidate : goal.returns-then-m-n-clause-candidate
-returns-then-m-n-clause-candidate c = λ r h e. sym (candidate-self r c.args.n c.args.m (omega arith))
+returns-then-m-n-clause-candidate c =
+    λ r h e. sym (candidate-self r c.args.n c.args.m (omega arith))
 
 pub returns-then-user_data-clause-candidate : goal.returns-then-user_data-clause-candidate
 returns-then-user_data-clause-candidate c = λ r h e.

@@ -5,4 +5,5 @@ use Rattle.uring_dispatch.specs.Held.{AreHeld}
 use Rattle.uring_dispatch.proofs.standing.target.Given as goal
 
 abbrev pub invariant-loop-m : goal.invariant-loop-m
-invariant-loop-m l = (r : Requests) → AreHeld l.window l.groups r → l.user_data ≡ addr_of (entry_of r l.n) → (k : ℕ) → k < l.m → is_candidate r l.n k ≡ false
+invariant-loop-m l = (r : Requests) → AreHeld l.window l.groups r
+    → l.user_data ≡ addr_of (entry_of r l.n) → (k : ℕ) → k < l.m → is_candidate r l.n k ≡ false

@@ -4,4 +4,5 @@ use Rattle.uring_dispatch.specs.Held.{AreHeld}
 use Rattle.uring_dispatch.proofs.why.waiting.Given as goal
 
 abbrev pub invariant-loop-m : goal.invariant-loop-m
-invariant-loop-m l = (r : Requests) → AreHeld l.window l.groups r → (k : ℕ) → k < l.m → holds_back r l.n k ≡ false
+invariant-loop-m l =
+    (r : Requests) → AreHeld l.window l.groups r → (k : ℕ) → k < l.m → holds_back r l.n k ≡ false

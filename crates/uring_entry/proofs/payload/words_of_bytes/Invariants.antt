@@ -4,4 +4,5 @@ use Rattle.uring_entry.proofs.payload.words_of_bytes.Given as goal
 
 -- the first words hold the bytes so far
 abbrev pub invariant-loop-i : goal.invariant-loop-i
-invariant-loop-i l = (bytes_of (take l.i l.words) ≡ take (8 * l.i) l.bytes) × (length l.words ≡ 8) × AreWords l.words
+invariant-loop-i l =
+    (bytes_of (take l.i l.words) ≡ take (8 * l.i) l.bytes) × (length l.words ≡ 8) × AreWords l.words

@@ -3,7 +3,8 @@ use Rattle.uring_options.proofs.Refusals.{refused_by_words, all_small, all_fault
 use Rattle.uring_options.proofs.command_line.options.Goals as goal
 
 pub asked-requires : goal.asked-requires
-asked-requires c = (texts c.args.args.now, c.in_ok-matches_of.ensures.matches, c.in_ok-matches_of.ensures.kinds)
+asked-requires c =
+    (texts c.args.args.now, c.in_ok-matches_of.ensures.matches, c.in_ok-matches_of.ensures.kinds)
 
 pub returns-clause-ok : goal.returns-clause-ok
 returns-clause-ok c = c.asked.ensures.ok (texts c.args.args.now) c.in_ok-matches_of.ensures.matches c.in_ok-matches_of.ensures.kinds

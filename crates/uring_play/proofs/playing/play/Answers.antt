@@ -6,7 +6,8 @@ pub returns-in_err-calls : goal.returns-in_err-calls
 returns-in_err-calls g c = stopped_reading c.args.setup.now _ c.in_err-calls.field-0.0 _ _ _ (search rules) c.in_err-calls.ensures
 
 pub returns-in_err-played : goal.returns-in_err-played
-returns-in_err-played g c = out_of_memory c.args.setup.now _ c.in_ok-calls.calls _ _ _ (search rules) c.in_ok-calls.ensures
+returns-in_err-played g c =
+    out_of_memory c.args.setup.now _ c.in_ok-calls.calls _ _ _ (search rules) c.in_ok-calls.ensures
 
 pub returns : goal.returns
 returns g c =

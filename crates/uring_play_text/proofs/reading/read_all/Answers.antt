@@ -20,4 +20,5 @@ pub loop-chunk-preserved : goal.loop-chunk-preserved
 loop-chunk-preserved g c = λ size h. tried_again size _ _ _ c.loop-chunk.reading c.in-Err.ensures.bytes (c.loop-chunk.invariant size h)
 
 pub returns-clause-bytes : goal.returns-clause-bytes
-returns-clause-bytes g c = λ size h. read_failed size _ _ c.loop-chunk.reading (c.loop-chunk.invariant size h)
+returns-clause-bytes g c =
+    λ size h. read_failed size _ _ c.loop-chunk.reading (c.loop-chunk.invariant size h)

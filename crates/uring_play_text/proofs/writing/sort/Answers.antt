@@ -7,4 +7,5 @@ abbrev key : Cqe → ℕ × ℤ × List ℕ
 key c = (c.user_data, c.res, c.payload)
 
 pub returns-clause-order : goal.returns-clause-order
-returns-clause-order c = c.sort_unstable_by_key.ensures.sorted key (answers_always _ _ _ (λ f a r f' q. search rules))
+returns-clause-order c =
+    c.sort_unstable_by_key.ensures.sorted key (answers_always _ _ _ (λ f a r f' q. search rules))

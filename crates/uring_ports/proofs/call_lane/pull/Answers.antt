@@ -6,7 +6,8 @@ use Rattle.uring_ports.proofs.MessageSteps.{Sent, owed-snoc}
 use Rattle.uring_ports.proofs.LaneLemmas.{same_head, takes_first, takes_close, takes_call}
 use Rattle.uring_ports.proofs.call_lane.pull.Goals as goal
 
-took_close : (c : goal.After-pop_known) → Sent (received c.pop_known.new.self) (with_close (put_of (received c.args.lane.now)))
+took_close : (c : goal.After-pop_known)
+    → Sent (received c.pop_known.new.self) (with_close (put_of (received c.args.lane.now)))
 took_close c =
     let same = c.slots-seen.ensures.looked.1 in
     let first = same_head (known_items c.slots-seen.new.self) (known_items c.pop_known.new.self) c.peek_known-first.result.now c.pop_known.result c.peek_known-first.ensures c.pop_known.ensures.received.1 in
@@ -26,7 +27,8 @@ pull_rest-requires-clause-owed c =
 some_pulled : (c : goal.After-pull_rest) → 0 < length c.pull_rest.new.items.items
 some_pulled c = omega (arith, c.pull_rest.ensures.count)
 
-took_call : (c : goal.After-pull_rest) → Sent (received c.pull_rest.new.lane) (with_call (put_of (received c.args.lane.now)) c.pull_rest.new.items.items)
+took_call : (c : goal.After-pull_rest)
+    → Sent (received c.pull_rest.new.lane) (with_call (put_of (received c.args.lane.now)) c.pull_rest.new.items.items)
 took_call c =
     let same = c.slots-seen.ensures.looked.1 in
     let first = same_head (known_items c.slots-seen.new.self) (known_items c.pop_known-2.new.self) c.peek_known-first.result.now c.pop_known-2.result c.peek_known-first.ensures c.pop_known-2.ensures.received.1 in

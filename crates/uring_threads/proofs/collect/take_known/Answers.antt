@@ -6,7 +6,8 @@ use Rattle.uring_threads.specs.Settled.{finish_of}
 use Rattle.uring_threads.proofs.Collecting.{first_grows, next_waits}
 use Rattle.uring_threads.proofs.collect.take_known.Goals as goal
 
-grows : (c : goal.After-finish) → Grows c.args.kept.now c.finish.new.self (finish_of c.pop_known-result.result)
+grows : (c : goal.After-finish)
+    → Grows c.args.kept.now c.finish.new.self (finish_of c.pop_known-result.result)
 grows c =
     first_grows c.args.kept.now c.finish.new.self c.pop_known-result.result (known_items c.pop_known-result.new.self) c.finish.result c.is_lawful.ensures.lawful
     (subst (Wait c.args.kept.now) c.pop_known-result.ensures.received.1 c.requires.work) c.finish.ensures.outcome c.finish.ensures.grows

@@ -25,7 +25,10 @@ loop-taken-preserved c = (
       c.loop-taken.invariant.1 c.take_known.ensures.next c.take_known.ensures.work,
 )
 
-all_taken : (c : goal.After-loop-taken) → TakesAll c.args.kept.now c.loop-taken.kept (known_items c.args.results.now) × (received c.loop-taken.results ≡ received c.args.results.now ++ known_items c.args.results.now) × (known_items c.loop-taken.results ≡ [])
+all_taken : (c : goal.After-loop-taken)
+    → TakesAll c.args.kept.now c.loop-taken.kept (known_items c.args.results.now)
+    × (received c.loop-taken.results ≡ received c.args.results.now ++ known_items c.args.results.now)
+    × (known_items c.loop-taken.results ≡ [])
 all_taken c =
     drained c.args.kept.now c.loop-taken.kept (known_items c.args.results.now) (known_items c.loop-taken.results) (received c.args.results.now) (received c.loop-taken.results) c.loop-taken._taken c.loop-taken.invariant.1 (search (rules, arith))
 

@@ -14,7 +14,8 @@ pub returns-in_err-reserve-clause-err : goal.returns-in_err-reserve-clause-err
 returns-in_err-reserve-clause-err g c = on_err c.from_residual.result (takes_nothing c.args.kept.now c.reserve.new.self c.reserve.ensures.unmoved)
 
 pub returns-in_err-reserve-clause-once : goal.returns-in_err-reserve-clause-once
-returns-in_err-reserve-clause-once g c = once_unmoved c.args.kept.now c.reserve.new.self c.args.intake.now c.reserve.ensures.unmoved
+returns-in_err-reserve-clause-once g c =
+    once_unmoved c.args.kept.now c.reserve.new.self c.args.intake.now c.reserve.ensures.unmoved
 
 pub take_pulled-requires-clause-tied : goal.take_pulled-requires-clause-tied
 take_pulled-requires-clause-tied g c =

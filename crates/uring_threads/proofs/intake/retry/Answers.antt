@@ -19,10 +19,12 @@ pub returns-in_err-reserve-clause-completions : goal.returns-in_err-reserve-clau
 returns-in_err-reserve-clause-completions c = completions_behind c.args.kept.now c.reserve.new.self c.reserve.new.self c.reserve.ensures.unmoved refl
 
 pub returns-in_err-reserve-clause-taken : goal.returns-in_err-reserve-clause-taken
-returns-in_err-reserve-clause-taken c = takes_nothing c.args.kept.now c.reserve.new.self c.reserve.ensures.unmoved
+returns-in_err-reserve-clause-taken c =
+    takes_nothing c.args.kept.now c.reserve.new.self c.reserve.ensures.unmoved
 
 pub returns-in_err-reserve-clause-once : goal.returns-in_err-reserve-clause-once
-returns-in_err-reserve-clause-once c = once_unmoved c.args.kept.now c.reserve.new.self c.args.intake.now c.reserve.ensures.unmoved
+returns-in_err-reserve-clause-once c =
+    once_unmoved c.args.kept.now c.reserve.new.self c.args.intake.now c.reserve.ensures.unmoved
 
 pub returns-in_ok-reserve-clause-tied : goal.returns-in_ok-reserve-clause-tied
 returns-in_ok-reserve-clause-tied c = λ put tied.

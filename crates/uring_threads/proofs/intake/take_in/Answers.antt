@@ -11,7 +11,8 @@ pull_call-requires-clause-tied g c =
     subst (λ (s : Setup). Tied s.sq (now c.retry.new.kept) pulled c.retry.new.intake) (sym c.retry.ensures.taken.appends.setup) (c.retry.ensures.tied pulled c.requires.tied)
 
 pub returns-in_err-retry-clause-tied : goal.returns-in_err-retry-clause-tied
-returns-in_err-retry-clause-tied g c = c.retry.ensures.tied (g.P.KernelPort.pulled c.args.port.now) c.requires.tied
+returns-in_err-retry-clause-tied g c =
+    c.retry.ensures.tied (g.P.KernelPort.pulled c.args.port.now) c.requires.tied
 
 pub returns-in_err-retry-clause-once : goal.returns-in_err-retry-clause-once
 returns-in_err-retry-clause-once g c = c.retry.ensures.once
@@ -21,7 +22,8 @@ returns-in-Ready-clause-tied g c =
     subst (λ (s : Setup). Tied s.sq (now c.pull_call.new.kept) (g.P.KernelPort.pulled c.pull_call.new.port) c.pull_call.new.intake) c.retry.ensures.taken.appends.setup c.pull_call.ensures.tied
 
 pub returns-in-Ready-clause-completions : goal.returns-in-Ready-clause-completions
-returns-in-Ready-clause-completions g c = c.pull_call.ensures.completions ∙ c.retry.ensures.completions
+returns-in-Ready-clause-completions g c =
+    c.pull_call.ensures.completions ∙ c.retry.ensures.completions
 
 pub returns-in-Ready-clause-taken : goal.returns-in-Ready-clause-taken
 returns-in-Ready-clause-taken g c = ok_then c.pull_call.result c.args.kept.now c.retry.new.kept c.pull_call.new.kept c.retry.ensures.taken c.pull_call.ensures.taken

@@ -13,7 +13,8 @@ new-requires-clause-carried g c =
     let left = c.in-Ok-settle_ports.ensures in
     carried_to_settle c.make_room.new.self c.in-Ok-settle_ports.kept c.in-Ok-settle_ports.lanes.items c.is_right.ensures left.kept left.lanes
 
-told : (g : Over) (c : goal.After-new g) → TellsEnds c.args.app c.args.kernel c.args.workers.items c.new.result
+told : (g : Over) (c : goal.After-new g)
+    → TellsEnds c.args.app c.args.kernel c.args.workers.items c.new.result
 told g c =
     let left = c.in-Ok-settle_ports.ensures in
     let reported = c.new.ensures in

@@ -38,7 +38,10 @@ returns-clause-settled g c = λ e.
     (subst (SoFar c.args.kept.now c.loop-k.kept c.args.lanes.now c.loop-k.lanes c.args.workers.now c.loop-k.workers) end c.loop-k.invariant) c.requires.some c.requires.lanes c.is_lawful.ensures.lawful
 
 pub returns-clause-workers : goal.returns-clause-workers
-returns-clause-workers g c = record { many = c.loop-k.invariant.many_workers; looked = λ k e lt. c.loop-k.invariant.looked k e }
+returns-clause-workers g c = record {
+  many = c.loop-k.invariant.many_workers;
+  looked = λ k e lt. c.loop-k.invariant.looked k e;
+}
 
 pub returns-clause-seen : goal.returns-clause-seen
 returns-clause-seen g c =

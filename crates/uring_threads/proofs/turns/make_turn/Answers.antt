@@ -118,16 +118,20 @@ returns-clause-few_results g c =
     few_before (length c.args.lanes.now) c.args.kept.now c.issue_all.new.kept c.deliver.new.kept _ issued c.in_ok-delivered.ensures.tally refl
 
 pub returns-in_err-popped-clause-counts : goal.returns-in_err-popped-clause-counts
-returns-in_err-popped-clause-counts g c = IfOk-from_err c.from_residual.result _ c.from_residual.ensures.0
+returns-in_err-popped-clause-counts g c =
+    IfOk-from_err c.from_residual.result _ c.from_residual.ensures.0
 
 pub returns-in_err-popped-clause-begun : goal.returns-in_err-popped-clause-begun
-returns-in_err-popped-clause-begun g c = IfOk-from_err c.from_residual.result _ c.from_residual.ensures.0
+returns-in_err-popped-clause-begun g c =
+    IfOk-from_err c.from_residual.result _ c.from_residual.ensures.0
 
 pub returns-in_err-popped-clause-stored : goal.returns-in_err-popped-clause-stored
-returns-in_err-popped-clause-stored g c = IfOk-from_err c.from_residual.result _ c.from_residual.ensures.0
+returns-in_err-popped-clause-stored g c =
+    IfOk-from_err c.from_residual.result _ c.from_residual.ensures.0
 
 pub returns-in_err-popped-clause-not_stored : goal.returns-in_err-popped-clause-not_stored
-returns-in_err-popped-clause-not_stored g c = on_err c.from_residual.result c.take_in.ensures.dropped
+returns-in_err-popped-clause-not_stored g c =
+    on_err c.from_residual.result c.take_in.ensures.dropped
 
 pub returns-in_err-popped-clause-items : goal.returns-in_err-popped-clause-items
 returns-in_err-popped-clause-items g c = c.take_in.ensures.items
@@ -139,16 +143,20 @@ pub returns-in_err-popped-clause-sizes : goal.returns-in_err-popped-clause-sizes
 returns-in_err-popped-clause-sizes g c = c.take_in.ensures.sizes
 
 pub returns-in_err-finished-clause-counts : goal.returns-in_err-finished-clause-counts
-returns-in_err-finished-clause-counts g c = IfOk-from_err c.from_residual-in_err-finished.result _ c.from_residual-in_err-finished.ensures.0
+returns-in_err-finished-clause-counts g c =
+    IfOk-from_err c.from_residual-in_err-finished.result _ c.from_residual-in_err-finished.ensures.0
 
 pub returns-in_err-finished-clause-begun : goal.returns-in_err-finished-clause-begun
-returns-in_err-finished-clause-begun g c = IfOk-from_err c.from_residual-in_err-finished.result _ c.from_residual-in_err-finished.ensures.0
+returns-in_err-finished-clause-begun g c =
+    IfOk-from_err c.from_residual-in_err-finished.result _ c.from_residual-in_err-finished.ensures.0
 
 pub returns-in_err-finished-clause-stored : goal.returns-in_err-finished-clause-stored
-returns-in_err-finished-clause-stored g c = IfOk-from_err c.from_residual-in_err-finished.result _ c.from_residual-in_err-finished.ensures.0
+returns-in_err-finished-clause-stored g c =
+    IfOk-from_err c.from_residual-in_err-finished.result _ c.from_residual-in_err-finished.ensures.0
 
 pub returns-in_err-finished-clause-not_stored : goal.returns-in_err-finished-clause-not_stored
-returns-in_err-finished-clause-not_stored g c = on_err c.from_residual-in_err-finished.result c.take_in.ensures.dropped
+returns-in_err-finished-clause-not_stored g c =
+    on_err c.from_residual-in_err-finished.result c.take_in.ensures.dropped
 
 pub returns-in_err-finished-clause-items : goal.returns-in_err-finished-clause-items
 returns-in_err-finished-clause-items g c = c.take_in.ensures.items
@@ -160,16 +168,20 @@ pub returns-in_err-finished-clause-sizes : goal.returns-in_err-finished-clause-s
 returns-in_err-finished-clause-sizes g c = c.take_in.ensures.sizes
 
 pub returns-in_err-issued-clause-counts : goal.returns-in_err-issued-clause-counts
-returns-in_err-issued-clause-counts g c = IfOk-from_err c.from_residual-in_err-issued.result _ c.from_residual-in_err-issued.ensures.0
+returns-in_err-issued-clause-counts g c =
+    IfOk-from_err c.from_residual-in_err-issued.result _ c.from_residual-in_err-issued.ensures.0
 
 pub returns-in_err-issued-clause-begun : goal.returns-in_err-issued-clause-begun
-returns-in_err-issued-clause-begun g c = IfOk-from_err c.from_residual-in_err-issued.result _ c.from_residual-in_err-issued.ensures.0
+returns-in_err-issued-clause-begun g c =
+    IfOk-from_err c.from_residual-in_err-issued.result _ c.from_residual-in_err-issued.ensures.0
 
 pub returns-in_err-issued-clause-stored : goal.returns-in_err-issued-clause-stored
-returns-in_err-issued-clause-stored g c = IfOk-from_err c.from_residual-in_err-issued.result _ c.from_residual-in_err-issued.ensures.0
+returns-in_err-issued-clause-stored g c =
+    IfOk-from_err c.from_residual-in_err-issued.result _ c.from_residual-in_err-issued.ensures.0
 
 pub returns-in_err-issued-clause-not_stored : goal.returns-in_err-issued-clause-not_stored
-returns-in_err-issued-clause-not_stored g c = on_err c.from_residual-in_err-issued.result c.take_in.ensures.dropped
+returns-in_err-issued-clause-not_stored g c =
+    on_err c.from_residual-in_err-issued.result c.take_in.ensures.dropped
 
 pub returns-in_err-issued-clause-items : goal.returns-in_err-issued-clause-items
 returns-in_err-issued-clause-items g c = c.take_in.ensures.items
@@ -202,7 +214,8 @@ pub returns-in_err-delivered-clause-sizes : goal.returns-in_err-delivered-clause
 returns-in_err-delivered-clause-sizes g c = c.deliver.ensures.sizes ∙ c.take_in.ensures.sizes
 
 pub returns-in_err-popped-clause-err : goal.returns-in_err-popped-clause-err
-returns-in_err-popped-clause-err g c = on_err c.from_residual.result (_, c.in_err-popped.ensures.err.appends)
+returns-in_err-popped-clause-err g c =
+    on_err c.from_residual.result (_, c.in_err-popped.ensures.err.appends)
 
 pub returns-in_err-finished-clause-lanes : goal.returns-in_err-finished-clause-lanes
 returns-in_err-finished-clause-lanes g c = c.collect_all.ensures.lanes
@@ -222,10 +235,12 @@ pub returns-clause-items : goal.returns-clause-items
 returns-clause-items g c = c.take_in.ensures.items
 
 pub returns-clause-pairing : goal.returns-clause-pairing
-returns-clause-pairing g c = c.tell_dropped.ensures.pairing ∙ c.deliver.ensures.pairing ∙ c.take_in.ensures.pairing
+returns-clause-pairing g c =
+    c.tell_dropped.ensures.pairing ∙ c.deliver.ensures.pairing ∙ c.take_in.ensures.pairing
 
 pub returns-clause-sizes : goal.returns-clause-sizes
-returns-clause-sizes g c = c.tell_dropped.ensures.sizes ∙ c.deliver.ensures.sizes ∙ c.take_in.ensures.sizes
+returns-clause-sizes g c =
+    c.tell_dropped.ensures.sizes ∙ c.deliver.ensures.sizes ∙ c.take_in.ensures.sizes
 
 pub take_in-requires-clause-sizes : goal.take_in-requires-clause-sizes
 take_in-requires-clause-sizes g c = c.requires.sq
@@ -243,10 +258,12 @@ pub collect_all-requires-clause-few : goal.collect_all-requires-clause-few
 collect_all-requires-clause-few g c = c.requires.few
 
 pub issue_all-requires-clause-some : goal.issue_all-requires-clause-some
-issue_all-requires-clause-some g c = subst (λ n. 0 < n) (sym c.collect_all.ensures.lanes.many) c.requires.some
+issue_all-requires-clause-some g c =
+    subst (λ n. 0 < n) (sym c.collect_all.ensures.lanes.many) c.requires.some
 
 pub issue_all-requires-clause-few : goal.issue_all-requires-clause-few
-issue_all-requires-clause-few g c = subst (λ n. n ≤ 8) (sym c.collect_all.ensures.lanes.many) c.requires.few
+issue_all-requires-clause-few g c =
+    subst (λ n. n ≤ 8) (sym c.collect_all.ensures.lanes.many) c.requires.few
 
 pub issue_all-requires-clause-carried : goal.issue_all-requires-clause-carried
 issue_all-requires-clause-carried g c = c.collect_all.ensures.carried

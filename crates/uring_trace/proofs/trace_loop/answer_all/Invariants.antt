@@ -6,7 +6,8 @@ use Rattle.uring_trace.proofs.trace_loop.answer_all.Given as goal
 
 -- what was read and written so far is what the session took in and answered
 abbrev pub invariant-loop-alloc : goal.invariant-loop-alloc
-invariant-loop-alloc g l = (manner : Manner) → Has manner l.fn.session [] [] → So manner (g.R.Read.remaining l.fn.reader) (g.R.Read.remaining l.reader) (g.W.Write.contents l.fn.writer) (g.W.Write.contents l.writer) l.session
+invariant-loop-alloc g l = (manner : Manner) → Has manner l.fn.session [] []
+    → So manner (g.R.Read.remaining l.fn.reader) (g.R.Read.remaining l.reader) (g.W.Write.contents l.fn.writer) (g.W.Write.contents l.writer) l.session
 
 abbrev pub decreases-loop-alloc : goal.decreases-loop-alloc
 decreases-loop-alloc g l = 2 ^ 64 - 1 - l.reads.count

@@ -6,4 +6,5 @@ use Rattle.uring_uses.proofs.settling.settled_rest.Given as goal
 
 -- as many were copied as the loop has come
 abbrev pub invariant-loop-place : goal.invariant-loop-place
-invariant-loop-place l = (h : History) → Fits l.machine h → l.rest.items ≡ take l.place (unreaped (world l.machine.core.setup h).completions)
+invariant-loop-place l = (h : History) → Fits l.machine h
+    → l.rest.items ≡ take l.place (unreaped (world l.machine.core.setup h).completions)

@@ -17,7 +17,8 @@ invariant_of-self c =
     }
 
 pub returns-clause-answer : goal.returns-clause-answer
-returns-clause-answer c = λ r s. c.issue.ensures.answer r (held-from _ _ c.self.inside.groups _ _ r c.self.view_is s)
+returns-clause-answer c =
+    λ r s. c.issue.ensures.answer r (held-from _ _ c.self.inside.groups _ _ r c.self.view_is s)
 
 pub returns-clause-shows : goal.returns-clause-shows
 returns-clause-shows c = λ r s. shows-held _ _ _ _ _ (c.issue.ensures.held r (held-from _ _ c.self.inside.groups _ _ r c.self.view_is s))

@@ -2,4 +2,5 @@ use Rattle.uring_dispatch.proofs.Views.{held-from}
 use Rattle.uring_dispatch.proofs.dispatch.Dispatch.would_find.Goals as goal
 
 pub returns : goal.returns
-returns c = λ r s. c.would_find.ensures r (held-from _ _ c.self.inside.groups _ _ r c.self.view_is s)
+returns c =
+    λ r s. c.would_find.ensures r (held-from _ _ c.self.inside.groups _ _ r c.self.view_is s)

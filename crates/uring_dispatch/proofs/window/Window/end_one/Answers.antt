@@ -44,4 +44,5 @@ returns-clause-changes c =
     (trim-changes _ _ c.trim.new.first c.trim.new.keys.items c.args.n (λ n. c.trim.ensures.same n ∙ ap (λ ks. key_at c.self.inside.first ks n) c.forget.ensures.items) ended)
 
 pub returns-clause-running : goal.returns-clause-running
-returns-clause-running c = c.less_if-self-inside.ensures ∙ ap (λ (w : Window). w.running) c.self.view_is
+returns-clause-running c =
+    c.less_if-self-inside.ensures ∙ ap (λ (w : Window). w.running) c.self.view_is

@@ -3,4 +3,5 @@ use Rattle.std.proofs.Common.{arith}
 use Rattle.uring_dispatch.proofs.window.Window.first.Goals as goal
 
 pub returns-clause-before : goal.returns-clause-before
-returns-clause-before c = rw (← c.self.view_is) (λ n lt. before-none _ c.self.inside.first (omega arith) n lt)
+returns-clause-before c =
+    rw (← c.self.view_is) (λ n lt. before-none _ c.self.inside.first (omega arith) n lt)

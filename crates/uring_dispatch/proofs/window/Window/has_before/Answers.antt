@@ -10,7 +10,8 @@ returns-then-not-is_empty-clause-some c =
     rw (← c.self.view_is) (λ e. before-some _ c.args.n c.self.invariant.0 c.self.invariant.1 lt (ltb-true _ _ e))
 
 pub returns-then-not-is_empty-clause-none : goal.returns-then-not-is_empty-clause-none
-returns-then-not-is_empty-clause-none c = rw (← c.self.view_is) (λ e. before-none _ c.args.n (ltb-false _ _ e))
+returns-then-not-is_empty-clause-none c =
+    rw (← c.self.view_is) (λ e. before-none _ c.args.n (ltb-false _ _ e))
 
 pub returns-else-not-is_empty-clause-none : goal.returns-else-not-is_empty-clause-none
 returns-else-not-is_empty-clause-none c =

@@ -9,8 +9,10 @@ use Rattle.uring_machine.specs.declared.answer.Answer.TheVariants as answer
 use Rattle.uring_machine.proofs.CoreSteps.{core_after}
 use Rattle.uring_machine.proofs.cores.Core.close.Goals as goal
 
-close_goes : (p : Core) → ((g : Setup) (l : Submission) → ShowsSubmission g p.sq l → false ≡ is_some l.call)
-    → (h : History) → FitsApart p h → FitsApart (record p { is_closed = true }) ((step.Close, answer.Shut) ∷ h)
+close_goes : (p : Core)
+    → ((g : Setup) (l : Submission) → ShowsSubmission g p.sq l → false ≡ is_some l.call)
+    → (h : History) → FitsApart p h
+    → FitsApart (record p { is_closed = true }) ((step.Close, answer.Shut) ∷ h)
 close_goes p no_call h f = record {
   shows = let closed : true ≡ true = refl in assumption (f.shows, closed);
   lawful = (ap (λ b. cond b answer.InCall answer.Shut) (no_call p.setup _ f.shows.submission), f.lawful);

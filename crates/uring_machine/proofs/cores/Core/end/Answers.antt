@@ -22,12 +22,15 @@ use Rattle.uring_machine.proofs.cores.Core.end.Goals as goal
 use Rattle.uring_machine.proofs.cores.Core.end.Goals.{in-Taken, in_default}
 
 -- the ring's answer in a call, by whether all positions are taken
-in_call : (g : Setup) (l : Submission) (call : Call) (r : EndAnswer) (b : Bool) → r ≡ ring.end_of g l (Some call) → eqb call.taken call.count ≡ b
-    → r ≡ cond b (ended_as.Taken (record { accepted = length (entries_from l call.count); dropped = dropped (with_closed l call); head = word_of g.start (taken (with_closed l call)) })) ended_as.NotAll
+in_call : (g : Setup) (l : Submission) (call : Call) (r : EndAnswer) (b : Bool)
+    → r ≡ ring.end_of g l (Some call) → eqb call.taken call.count ≡ b
+    → r
+    ≡ cond b (ended_as.Taken (record { accepted = length (entries_from l call.count); dropped = dropped (with_closed l call); head = word_of g.start (taken (with_closed l call)) })) ended_as.NotAll
 in_call g l call r b e all = e ∙ ap (λ b. cond b (ended_as.Taken (record { accepted = length (entries_from l call.count); dropped = dropped (with_closed l call); head = word_of g.start (taken (with_closed l call)) })) ended_as.NotAll) all
 
 -- the ring knows of no call where the machine doesn't
-no_call : (g : Setup) (w : World) (c : Option Call) → ended_as.NoCall ≡ ring.end_of g w.submission c → answer.NoCall ≡ end_answer_in g w c
+no_call : (g : Setup) (w : World) (c : Option Call) → ended_as.NoCall ≡ ring.end_of g w.submission c
+    → answer.NoCall ≡ end_answer_in g w c
 no_call g w None e = refl
 no_call g w (Some call) e =
     elim (cases_Bool (eqb call.taken call.count)) [
@@ -41,7 +44,8 @@ refused_goes : (p : Core) (q : Sq) (r : EndAnswer) → ((t : Taken) → r ≡ en
     → (r ≡ ended_as.NoCall → q ≡ p.sq) → (r ≡ ended_as.NotAll → q ≡ p.sq)
     → (h : History) → FitsApart p h → FitsApart (record p { sq = q }) ((step.End, end_told r) ∷ h)
 refused_goes p q (ended_as.Taken t) other answered same same' h f = absurd (other t refl)
-refused_goes p q ended_as.NotAll other answered same same' h f = end_not_all_goes p q answered (same' refl) h f
+refused_goes p q ended_as.NotAll other answered same same' h f =
+    end_not_all_goes p q answered (same' refl) h f
 refused_goes p q ended_as.NoCall other answered same same' h f =
     subst (λ s. FitsApart (record p { sq = s }) ((step.End, answer.NoCall) ∷ h)) (sym (same refl)) (record {
       shows = f.shows;
@@ -49,7 +53,8 @@ refused_goes p q ended_as.NoCall other answered same same' h f =
     })
 
 pub accept_call-requires : goal.accept_call-requires
-accept_call-requires c = rw c.deref.ensures.value (held_accepted _ c.self.invariant.1.1 c.self.invariant.1.2)
+accept_call-requires c =
+    rw c.deref.ensures.value (held_accepted _ c.self.invariant.1.1 c.self.invariant.1.2)
 
 pub invariant_of-self : goal.invariant_of-self
 invariant_of-self c =

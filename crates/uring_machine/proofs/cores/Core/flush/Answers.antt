@@ -8,7 +8,8 @@ use Rattle.uring_machine.specs.declared.answer.Answer.TheVariants as answer
 use Rattle.uring_machine.proofs.CoreSteps.{on_completions, CompletionStep, core_after}
 use Rattle.uring_machine.proofs.cores.Core.flush.Goals as goal
 
-flush_goes : (p : Core) (q : Cq) (moved : ℕ) → CompletionStep p q (step.Flush, answer.Moved moved) (λ g l. moved ≡ (with_flushed g.cq l).put - l.put) (λ g l. with_flushed g.cq l)
+flush_goes : (p : Core) (q : Cq) (moved : ℕ)
+    → CompletionStep p q (step.Flush, answer.Moved moved) (λ g l. moved ≡ (with_flushed g.cq l).put - l.put) (λ g l. with_flushed g.cq l)
 flush_goes p q moved answered shown room memory h f = record {
   shows = on_completions p (world p.setup h) q (with_flushed p.setup.cq (world p.setup h).completions) f.shows (shown p.setup _ f.shows.completions) room memory refl;
   lawful = (ap (λ n. answer.Moved n) (answered p.setup _ f.shows.completions), f.lawful);

@@ -12,7 +12,8 @@ use Rattle.uring_machine.specs.declared.step.Step.TheVariants as step
 use Rattle.uring_machine.proofs.CoreSteps.{on_submission, SubmissionStep, told_if, core_after}
 use Rattle.uring_machine.proofs.cores.Core.index.Goals as goal
 
-index_shows : (p : Core) (w : World) (q : Sq) (word : ℕ) (r : IndexAnswer) → ShowsWorld p w → ShowsSubmission p.setup q (ring.after_index w.submission word r)
+index_shows : (p : Core) (w : World) (q : Sq) (word : ℕ) (r : IndexAnswer) → ShowsWorld p w
+    → ShowsSubmission p.setup q (ring.after_index w.submission word r)
     → ShowsWorld (record p { sq = q }) (staging w word (index_told r))
 index_shows p w q word index.Staged s shows = on_submission p w q (with_staged w.submission word) s shows refl (held_indexed w.submission word w.submission.call)
   where
@@ -21,7 +22,8 @@ index_shows p w q word index.Staged s shows = on_submission p w q (with_staged w
     held_indexed l word (Some call) = refl
 index_shows p w q word index.Full s shows = on_submission p w q w.submission s shows refl refl
 
-index_goes : (p : Core) (q : Sq) (word : ℕ) (r : IndexAnswer) → SubmissionStep p q (step.Index word, index_told r) (λ g l. r ≡ ring.index_answer g.sq l) (λ g l. ring.after_index l word r)
+index_goes : (p : Core) (q : Sq) (word : ℕ) (r : IndexAnswer)
+    → SubmissionStep p q (step.Index word, index_told r) (λ g l. r ≡ ring.index_answer g.sq l) (λ g l. ring.after_index l word r)
 index_goes p q word r answered shown h f = record {
   shows = index_shows p (world p.setup h) q word r f.shows (shown p.setup _ f.shows.submission);
   lawful = (ap index_told (answered p.setup _ f.shows.submission) ∙ told_if index_told _ index.Full index.Staged, f.lawful);

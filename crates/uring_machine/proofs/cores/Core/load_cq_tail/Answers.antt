@@ -9,7 +9,8 @@ use Rattle.uring_machine.specs.declared.answer.Answer.TheVariants as answer
 use Rattle.uring_machine.proofs.CoreSteps.{on_completions, CompletionStep, core_after}
 use Rattle.uring_machine.proofs.cores.Core.load_cq_tail.Goals as goal
 
-load_cq_tail_goes : (p : Core) (q : Cq) (tail : ℕ) → CompletionStep p q (step.LoadCqTail, answer.Tail tail) (λ g l. tail ≡ word_of g.start l.put) (λ g l. with_tail_loaded l)
+load_cq_tail_goes : (p : Core) (q : Cq) (tail : ℕ)
+    → CompletionStep p q (step.LoadCqTail, answer.Tail tail) (λ g l. tail ≡ word_of g.start l.put) (λ g l. with_tail_loaded l)
 load_cq_tail_goes p q tail answered shown room memory h f = record {
   shows = on_completions p (world p.setup h) q (with_tail_loaded (world p.setup h).completions) f.shows (shown p.setup _ f.shows.completions) room memory refl;
   lawful = (ap (λ n. answer.Tail n) (answered p.setup _ f.shows.completions), f.lawful);

@@ -9,7 +9,8 @@ use Rattle.uring_machine.specs.declared.answer.Answer.TheVariants as answer
 use Rattle.uring_machine.proofs.CoreSteps.{on_submission, SubmissionStep, core_after}
 use Rattle.uring_machine.proofs.cores.Core.load_head.Goals as goal
 
-load_head_goes : (p : Core) (q : Sq) (head : ℕ) → SubmissionStep p q (step.LoadHead, answer.Head head) (λ g l. head ≡ word_of g.start (taken l)) (λ g l. with_head_loaded l)
+load_head_goes : (p : Core) (q : Sq) (head : ℕ)
+    → SubmissionStep p q (step.LoadHead, answer.Head head) (λ g l. head ≡ word_of g.start (taken l)) (λ g l. with_head_loaded l)
 load_head_goes p q head answered shown h f =
     let s = f.shows.submission in
     let l = (world p.setup h).submission in

@@ -10,12 +10,17 @@ use Rattle.uring_machine.specs.declared.step.Step.TheVariants as step
 use Rattle.uring_machine.proofs.CoreSteps.{on_completions, CompletionStep, core_after}
 use Rattle.uring_machine.proofs.cores.Core.reap.Goals as goal
 
-reap_shows : (p : Core) (w : World) (q : Cq) (r : Option Cqe) → ShowsWorld p w → ShowsCompletions p.setup q (after_reap w.completions r) → q.room ≡ p.cq.room → KeepsMemory p.cq q
+reap_shows : (p : Core) (w : World) (q : Cq) (r : Option Cqe) → ShowsWorld p w
+    → ShowsCompletions p.setup q (after_reap w.completions r) → q.room ≡ p.cq.room
+    → KeepsMemory p.cq q
     → ShowsWorld (record p { cq = q }) (reaping w (reap_answer_of r))
-reap_shows p w q None s shows room memory = on_completions p w q w.completions s shows room memory refl
-reap_shows p w q (Some completion) s shows room memory = on_completions p w q (with_reaped w.completions completion) s shows room memory refl
+reap_shows p w q None s shows room memory =
+    on_completions p w q w.completions s shows room memory refl
+reap_shows p w q (Some completion) s shows room memory =
+    on_completions p w q (with_reaped w.completions completion) s shows room memory refl
 
-reap_goes : (p : Core) (q : Cq) (r : Option Cqe) → CompletionStep p q (step.Reap, reap_answer_of r) (λ g l. r ≡ next_to_reap l) (λ g l. after_reap l r)
+reap_goes : (p : Core) (q : Cq) (r : Option Cqe)
+    → CompletionStep p q (step.Reap, reap_answer_of r) (λ g l. r ≡ next_to_reap l) (λ g l. after_reap l r)
 reap_goes p q r answered shown room memory h f = record {
   shows = reap_shows p (world p.setup h) q r f.shows (shown p.setup _ f.shows.completions) room memory;
   lawful = (ap reap_answer_of (answered p.setup _ f.shows.completions), f.lawful);

@@ -9,7 +9,8 @@ use Rattle.uring_machine.specs.declared.answer.Answer.TheVariants as answer
 use Rattle.uring_machine.proofs.CoreSteps.{on_completions, CompletionStep, core_after}
 use Rattle.uring_machine.proofs.cores.Core.store_cq_head.Goals as goal
 
-store_cq_head_goes : (p : Core) (q : Cq) (head : ℕ) → CompletionStep p q (step.StoreCqHead, answer.Head head) (λ g l. head ≡ word_of g.start (length l.reaped)) (λ g l. with_head_stored l)
+store_cq_head_goes : (p : Core) (q : Cq) (head : ℕ)
+    → CompletionStep p q (step.StoreCqHead, answer.Head head) (λ g l. head ≡ word_of g.start (length l.reaped)) (λ g l. with_head_stored l)
 store_cq_head_goes p q head answered shown room memory h f = record {
   shows = on_completions p (world p.setup h) q (with_head_stored (world p.setup h).completions) f.shows (shown p.setup _ f.shows.completions) room memory refl;
   lawful = (ap (λ n. answer.Head n) (answered p.setup _ f.shows.completions), f.lawful);

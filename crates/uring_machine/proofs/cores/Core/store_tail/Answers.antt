@@ -11,14 +11,18 @@ use Rattle.uring_machine.proofs.CoreSteps.{on_submission, SubmissionStep, core_a
 use Rattle.uring_machine.proofs.cores.Core.store_tail.Goals as goal
 
 -- what a call took stays as more is published
-held_stored : (size : ℕ) (l : Submission) (c : Option Call) → IfSome c (λ call. (call.taken ≤ call.count) × (call.count ≤ pending l)) → taken l ≤ length l.published → held_by (with_published size l) c ≡ held_by l c
+held_stored : (size : ℕ) (l : Submission) (c : Option Call)
+    → IfSome c (λ call. (call.taken ≤ call.count) × (call.count ≤ pending l))
+    → taken l ≤ length l.published → held_by (with_published size l) c ≡ held_by l c
 held_stored size l None fits within = refl
-held_stored size l (Some call) fits within = ap entries_of (took_before (taken l) call.taken l.published _ (omega arith))
+held_stored size l (Some call) fits within =
+    ap entries_of (took_before (taken l) call.taken l.published _ (omega arith))
   where
     took_before : (n t : ℕ) (xs ys : List Place) → n + t ≤ length xs → take t (drop n (xs ++ ys)) ≡ take t (drop n xs)
     took_before n t xs ys within = grind (arith, common_steps)
 
-store_tail_goes : (p : Core) (q : Sq) (tail : ℕ) → SubmissionStep p q (step.StoreTail, answer.Tail tail) (λ g l. tail ≡ word_of g.start (staged l)) (λ g l. with_published g.sq l)
+store_tail_goes : (p : Core) (q : Sq) (tail : ℕ)
+    → SubmissionStep p q (step.StoreTail, answer.Tail tail) (λ g l. tail ≡ word_of g.start (staged l)) (λ g l. with_published g.sq l)
 store_tail_goes p q tail answered shown h f =
     let s = f.shows.submission in
     let l = (world p.setup h).submission in

@@ -30,12 +30,15 @@ given_no_call None e = cc
 given_no_call (Some entry) e = cc
 
 -- the ring's answer in a call, by whether all positions are taken
-in_call : (l : Submission) (call : Call) (r : TakeAnswer) (b : Bool) → r ≡ ring.take_in l (Some call) → eqb call.taken call.count ≡ b
-    → r ≡ cond b took_as.NoMore (ring.given (option_and_then (λ place. place.entry) (slice_get l.published (taken l + call.taken))))
+in_call : (l : Submission) (call : Call) (r : TakeAnswer) (b : Bool)
+    → r ≡ ring.take_in l (Some call) → eqb call.taken call.count ≡ b
+    → r
+    ≡ cond b took_as.NoMore (ring.given (option_and_then (λ place. place.entry) (slice_get l.published (taken l + call.taken))))
 in_call l call r b e all = e ∙ ap (λ b. cond b took_as.NoMore (ring.given (option_and_then (λ place. place.entry) (slice_get l.published (taken l + call.taken))))) all
 
 -- the ring refuses a take where the machine does
-no_more : (w : World) (c : Option Call) → took_as.NoMore ≡ ring.take_in w.submission c → answer.NoMore ≡ take_answer_in w c
+no_more : (w : World) (c : Option Call) → took_as.NoMore ≡ ring.take_in w.submission c
+    → answer.NoMore ≡ take_answer_in w c
 no_more w None e = absurd (let f : took_as.NoMore ≡ took_as.NoCall = e in cc)
 no_more w (Some call) e =
     elim (cases_Bool (eqb call.taken call.count)) [
@@ -43,7 +46,8 @@ no_more w (Some call) e =
       | inr more ↦ absurd (given_no_more _ (in_call w.submission call _ _ e more))
     ]
 
-no_call : (w : World) (c : Option Call) → took_as.NoCall ≡ ring.take_in w.submission c → answer.NoCall ≡ take_answer_in w c
+no_call : (w : World) (c : Option Call) → took_as.NoCall ≡ ring.take_in w.submission c
+    → answer.NoCall ≡ take_answer_in w c
 no_call w None e = refl
 no_call w (Some call) e =
     elim (cases_Bool (eqb call.taken call.count)) [
@@ -57,8 +61,10 @@ no_entry_goes : (p : Core) (q : Sq) (r : TakeAnswer) → ((entry : Sqe) → r �
     → ((g : Setup) (l : Submission) → ShowsSubmission g p.sq l → ShowsSubmission g q (ring.after_take l r))
     → (r ≡ took_as.NoCall → q ≡ p.sq) → (r ≡ took_as.NoMore → q ≡ p.sq)
     → (h : History) → FitsApart p h → FitsApart (record p { sq = q }) ((step.Take, take_told r) ∷ h)
-no_entry_goes p q (took_as.Entry entry) other answered shown same same' h f = absurd (other entry refl)
-no_entry_goes p q took_as.Dropped other answered shown same same' h f = take_dropped_goes p q answered shown h f
+no_entry_goes p q (took_as.Entry entry) other answered shown same same' h f =
+    absurd (other entry refl)
+no_entry_goes p q took_as.Dropped other answered shown same same' h f =
+    take_dropped_goes p q answered shown h f
 no_entry_goes p q took_as.NoMore other answered shown same same' h f =
     subst (λ s. FitsApart (record p { sq = s }) ((step.Take, answer.NoMore) ∷ h)) (sym (same' refl)) (record {
       shows = f.shows;

@@ -3,7 +3,8 @@ use Rattle.uring_number_set.specs.NumberSet.{NumberSet, block_at, holds, IsLeast
 use Rattle.uring_number_set.proofs.BlockLemmas.{holds-zero, lowest-least}
 use Rattle.uring_number_set.proofs.blocks.Blocks.least.Goals as goal
 
-nothing : (s : NumberSet) (o : Option ℕ) → o ≡ None → ((i : ℕ) → block_at s i ≡ 0) → MatchOption o ((n : ℕ) → holds s n ≡ false) (IsLeastIn s)
+nothing : (s : NumberSet) (o : Option ℕ) → o ≡ None → ((i : ℕ) → block_at s i ≡ 0)
+    → MatchOption o ((n : ℕ) → holds s n ≡ false) (IsLeastIn s)
 nothing s None e h = λ n. holds-zero s n (h (n / 64))
 nothing s (Some x) e h = cc
 

@@ -4,4 +4,5 @@ use Rattle.uring_number_set.proofs.BlockLemmas.{block_of-past}
 use Rattle.uring_number_set.proofs.blocks.Blocks.new.Goals as goal
 
 pub returns-clause-none : goal.returns-clause-none
-returns-clause-none c = λ i. ap (λ bs. block_of 0 bs i) c.new.ensures.items ∙ block_of-past 0 [] i (omega arith)
+returns-clause-none c =
+    λ i. ap (λ bs. block_of 0 bs i) c.new.ensures.items ∙ block_of-past 0 [] i (omega arith)

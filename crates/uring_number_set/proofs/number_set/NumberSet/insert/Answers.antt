@@ -3,7 +3,8 @@ use Rattle.uring_number_set.proofs.BlockLemmas.{insert-filled, limit-puts}
 use Rattle.uring_number_set.proofs.number_set.NumberSet.insert.Goals as goal
 
 pub invariant_of-self : goal.invariant_of-self
-invariant_of-self c = insert-filled _ _ _ _ c.args.n c.self.invariant c.insert.ensures c.insert-2.ensures
+invariant_of-self c =
+    insert-filled _ _ _ _ c.args.n c.self.invariant c.insert.ensures c.insert-2.ensures
 
 pub returns : goal.returns
 returns c =

@@ -3,8 +3,11 @@ use Rattle.uring_number_set.specs.NumberSet.{NumberSet, block_at, holds, IsFille
 use Rattle.uring_number_set.proofs.BlockLemmas.{holds-zero, lowest-least, filled-none, filled-some, limit-least}
 use Rattle.uring_number_set.proofs.number_set.NumberSet.least.Goals as goal
 
-nothing : (s t f : NumberSet) (o : Option ℕ) → IsFilled t f → ((i : ℕ) → block_at s i ≡ block_at t i) → o ≡ None → ((i : ℕ) → holds f i ≡ false) → MatchOption o ((n : ℕ) → holds s n ≡ false) (IsLeastIn s)
-nothing s t f None h same e none = λ n. holds-zero s n (same (n / 64) ∙ filled-none t f (n / 64) h (none (n / 64)))
+nothing : (s t f : NumberSet) (o : Option ℕ) → IsFilled t f
+    → ((i : ℕ) → block_at s i ≡ block_at t i) → o ≡ None → ((i : ℕ) → holds f i ≡ false)
+    → MatchOption o ((n : ℕ) → holds s n ≡ false) (IsLeastIn s)
+nothing s t f None h same e none =
+    λ n. holds-zero s n (same (n / 64) ∙ filled-none t f (n / 64) h (none (n / 64)))
 nothing s t f (Some x) h same e none = cc
 
 pub returns-in_err-place : goal.returns-in_err-place

@@ -3,7 +3,8 @@ use Rattle.uring_number_set.proofs.BlockLemmas.{remove-filled_zero, remove-fille
 use Rattle.uring_number_set.proofs.number_set.NumberSet.remove.Goals as goal
 
 pub returns-then-block-eq0 : goal.returns-then-block-eq0
-returns-then-block-eq0 c = rw (← c.self.view_is) (zero-puts _ c.args.n (sym c.block.ensures.value ∙ c.if-block-eq0.true))
+returns-then-block-eq0 c =
+    rw (← c.self.view_is) (zero-puts _ c.args.n (sym c.block.ensures.value ∙ c.if-block-eq0.true))
 
 pub invariant_of-self : goal.invariant_of-self
 invariant_of-self c = remove-filled_zero _ _ _ _ c.args.n c.self.invariant c.remove.ensures (sym c.block-2.ensures.value ∙ c.if-block-eq0-2.true) c.remove-then-block-eq0-2.ensures

@@ -16,7 +16,8 @@ invariant_of-self c =
     )
 
 pub returns-clause-grows : goal.returns-clause-grows
-returns-clause-grows c = rw (← c.self.view_is) (record { trace = cc; room = omega arith; setup = cc })
+returns-clause-grows c =
+    rw (← c.self.view_is) (record { trace = cc; room = omega arith; setup = cc })
 
 pub returns-clause-called : goal.returns-clause-called
 returns-clause-called c =

@@ -82,7 +82,8 @@ pub returns-clause-not_stored : goal.returns-clause-not_stored
 returns-clause-not_stored g c = subst (λ (k : Kernel). OnErr c.make_turn.result (g.P.KernelPort.dropped c.make_turn.new.port ≡ k.dropped)) c.self.view_is c.make_turn.ensures.not_stored
 
 pub returns-clause-pairing : goal.returns-clause-pairing
-returns-clause-pairing g c = c.make_turn.ensures.pairing ∙ ap (λ (k : Kernel). k.pairing) c.self.view_is
+returns-clause-pairing g c =
+    c.make_turn.ensures.pairing ∙ ap (λ (k : Kernel). k.pairing) c.self.view_is
 
 pub returns-clause-sizes : goal.returns-clause-sizes
 returns-clause-sizes g c = c.make_turn.ensures.sizes ∙ ap (λ (k : Kernel). k.sizes) c.self.view_is
@@ -97,7 +98,9 @@ pub make_turn-requires-clause-items : goal.make_turn-requires-clause-items
 make_turn-requires-clause-items g c = c.self.invariant.0
 
 pub make_turn-requires-clause-some : goal.make_turn-requires-clause-some
-make_turn-requires-clause-some g c = subst (λ ls. 0 < length ls) (sym c.deref_mut.ensures.value) c.self.invariant.1.some
+make_turn-requires-clause-some g c =
+    subst (λ ls. 0 < length ls) (sym c.deref_mut.ensures.value) c.self.invariant.1.some
 
 pub make_turn-requires-clause-few : goal.make_turn-requires-clause-few
-make_turn-requires-clause-few g c = subst (λ ls. length ls ≤ 8) (sym c.deref_mut.ensures.value) c.self.invariant.1.few
+make_turn-requires-clause-few g c =
+    subst (λ ls. length ls ≤ 8) (sym c.deref_mut.ensures.value) c.self.invariant.1.few

@@ -7,7 +7,8 @@ use Rattle.uring_threads.proofs.SameEnds.{files_had}
 use Rattle.uring_threads.proofs.report.Report.new.Goals as goal
 
 pub settle_workers-requires-clause-carried : goal.settle_workers-requires-clause-carried
-settle_workers-requires-clause-carried g c = subst (HaveCarried c.args.kept) (sym c.deref_mut.ensures.value) c.requires.carried
+settle_workers-requires-clause-carried g c =
+    subst (HaveCarried c.args.kept) (sym c.deref_mut.ensures.value) c.requires.carried
 
 pub list_unreaped-requires-clause-room : goal.list_unreaped-requires-clause-room
 list_unreaped-requires-clause-room g c =
