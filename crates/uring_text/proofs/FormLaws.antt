@@ -39,7 +39,7 @@ nop_found (ud ∷ fl ∷ []) f e =
     let n0 = number_found (2 ^ 64) ud s0.0 (omega arith) s0.1 in
     let n1 = flags_found fl s1.0 s1.1 in
     let tokens_are : codes "nop" ∷ ud ∷ fl ∷ [] ≡ spelled (form.Nop s0.0 s1.0) fl = ap (λ (w0 : List ℕ). codes "nop" ∷ w0 ∷ fl ∷ []) n0.0 in
-    subst (SpellsForm (codes "nop" ∷ ud ∷ fl ∷ [])) (same_Some (form.Nop s0.0 s1.0) f s1.2) (fl, (n0.1, n1), tokens_are)
+    subst (SpellsForm (codes "nop" ∷ ud ∷ fl ∷ [])) {x = form.Nop s0.0 s1.0} (same_Some (form.Nop s0.0 s1.0) f s1.2) (fl, (n0.1, n1), tokens_are)
 nop_found (a ∷ b ∷ c ∷ more) f e = absurd cc
 
 fsync_found : (tokens : List (List ℕ)) (f : Form) → fsync_of tokens ≡ Some f
@@ -56,7 +56,7 @@ fsync_found (ud ∷ fl ∷ file ∷ []) f e =
     let n1 = flags_found fl s1.0 s1.1 in
     let n2 = file_found file s2.0 s2.1 in
     let tokens_are : codes "fsync" ∷ ud ∷ fl ∷ file ∷ [] ≡ spelled (form.Fsync s0.0 s1.0 s2.0) fl = ap₂ (λ w0 w2. codes "fsync" ∷ w0 ∷ fl ∷ w2 ∷ []) n0.0 n2.0 in
-    subst (SpellsForm (codes "fsync" ∷ ud ∷ fl ∷ file ∷ [])) (same_Some (form.Fsync s0.0 s1.0 s2.0) f s2.2) (fl, (n0.1, n1, n2.1), tokens_are)
+    subst (SpellsForm (codes "fsync" ∷ ud ∷ fl ∷ file ∷ [])) {x = form.Fsync s0.0 s1.0 s2.0} (same_Some (form.Fsync s0.0 s1.0 s2.0) f s2.2) (fl, (n0.1, n1, n2.1), tokens_are)
 fsync_found (a ∷ b ∷ c ∷ d ∷ more) f e = absurd cc
 
 read_found : (tokens : List (List ℕ)) (f : Form) → read_of tokens ≡ Some f
@@ -79,7 +79,7 @@ read_found (ud ∷ fl ∷ file ∷ at ∷ count ∷ []) f e =
     let n3 = number_found (2 ^ 64) at s3.0 (omega arith) s3.1 in
     let n4 = number_found (2 ^ 32) count s4.0 (omega arith) s4.1 in
     let tokens_are : codes "read" ∷ ud ∷ fl ∷ file ∷ at ∷ count ∷ [] ≡ spelled (form.Read s0.0 s1.0 s2.0 s3.0 s4.0) fl = ap4 (λ w0 w2 w3 w4. codes "read" ∷ w0 ∷ fl ∷ w2 ∷ w3 ∷ w4 ∷ []) n0.0 n2.0 n3.0 n4.0 in
-    subst (SpellsForm (codes "read" ∷ ud ∷ fl ∷ file ∷ at ∷ count ∷ [])) (same_Some (form.Read s0.0 s1.0 s2.0 s3.0 s4.0) f s4.2) (fl, (n0.1, n1, n2.1, n3.1, n4.1), tokens_are)
+    subst (SpellsForm (codes "read" ∷ ud ∷ fl ∷ file ∷ at ∷ count ∷ [])) {x = form.Read s0.0 s1.0 s2.0 s3.0 s4.0} (same_Some (form.Read s0.0 s1.0 s2.0 s3.0 s4.0) f s4.2) (fl, (n0.1, n1, n2.1, n3.1, n4.1), tokens_are)
 read_found (a ∷ b ∷ c ∷ d ∷ g ∷ h ∷ more) f e = absurd cc
 
 cancel_found : (tokens : List (List ℕ)) (f : Form) → cancel_of tokens ≡ Some f
@@ -96,7 +96,7 @@ cancel_found (ud ∷ fl ∷ other ∷ []) f e =
     let n1 = flags_found fl s1.0 s1.1 in
     let n2 = number_found (2 ^ 64) other s2.0 (omega arith) s2.1 in
     let tokens_are : codes "cancel" ∷ ud ∷ fl ∷ other ∷ [] ≡ spelled (form.Cancel s0.0 s1.0 s2.0) fl = ap₂ (λ w0 w2. codes "cancel" ∷ w0 ∷ fl ∷ w2 ∷ []) n0.0 n2.0 in
-    subst (SpellsForm (codes "cancel" ∷ ud ∷ fl ∷ other ∷ [])) (same_Some (form.Cancel s0.0 s1.0 s2.0) f s2.2) (fl, (n0.1, n1, n2.1), tokens_are)
+    subst (SpellsForm (codes "cancel" ∷ ud ∷ fl ∷ other ∷ [])) {x = form.Cancel s0.0 s1.0 s2.0} (same_Some (form.Cancel s0.0 s1.0 s2.0) f s2.2) (fl, (n0.1, n1, n2.1), tokens_are)
 cancel_found (a ∷ b ∷ c ∷ d ∷ more) f e = absurd cc
 
 cancel_all_found : (tokens : List (List ℕ)) (f : Form) → cancel_all_of tokens ≡ Some f
@@ -113,7 +113,7 @@ cancel_all_found (ud ∷ fl ∷ other ∷ []) f e =
     let n1 = flags_found fl s1.0 s1.1 in
     let n2 = number_found (2 ^ 64) other s2.0 (omega arith) s2.1 in
     let tokens_are : codes "cancelall" ∷ ud ∷ fl ∷ other ∷ [] ≡ spelled (form.CancelAll s0.0 s1.0 s2.0) fl = ap₂ (λ w0 w2. codes "cancelall" ∷ w0 ∷ fl ∷ w2 ∷ []) n0.0 n2.0 in
-    subst (SpellsForm (codes "cancelall" ∷ ud ∷ fl ∷ other ∷ [])) (same_Some (form.CancelAll s0.0 s1.0 s2.0) f s2.2) (fl, (n0.1, n1, n2.1), tokens_are)
+    subst (SpellsForm (codes "cancelall" ∷ ud ∷ fl ∷ other ∷ [])) {x = form.CancelAll s0.0 s1.0 s2.0} (same_Some (form.CancelAll s0.0 s1.0 s2.0) f s2.2) (fl, (n0.1, n1, n2.1), tokens_are)
 cancel_all_found (a ∷ b ∷ c ∷ d ∷ more) f e = absurd cc
 
 op_found : (tokens : List (List ℕ)) (f : Form) → op_of tokens ≡ Some f
@@ -130,7 +130,7 @@ op_found (op ∷ ud ∷ fl ∷ []) f e =
     let n1 = number_found (2 ^ 64) ud s1.0 (omega arith) s1.1 in
     let n2 = flags_found fl s2.0 s2.1 in
     let tokens_are : codes "op" ∷ op ∷ ud ∷ fl ∷ [] ≡ spelled (form.Op s0.0 s1.0 s2.0) fl = ap₂ (λ w0 w1. codes "op" ∷ w0 ∷ w1 ∷ fl ∷ []) n0.0 n1.0 in
-    subst (SpellsForm (codes "op" ∷ op ∷ ud ∷ fl ∷ [])) (same_Some (form.Op s0.0 s1.0 s2.0) f s2.2) (fl, (n0.1, n1.1, n2), tokens_are)
+    subst (SpellsForm (codes "op" ∷ op ∷ ud ∷ fl ∷ [])) {x = form.Op s0.0 s1.0 s2.0} (same_Some (form.Op s0.0 s1.0 s2.0) f s2.2) (fl, (n0.1, n1.1, n2), tokens_are)
 op_found (a ∷ b ∷ c ∷ d ∷ more) f e = absurd cc
 
 write_found : (tokens : List (List ℕ)) (f : Form) → write_of tokens ≡ Some f
@@ -154,7 +154,7 @@ write_found (ud ∷ fl ∷ file ∷ at ∷ token ∷ []) f e =
     let n3 = number_found (2 ^ 64) at s3.0 (omega arith) s3.1 in
     let n4 = data_found token s4.0 s4.1 in
     let tokens_are : codes "write" ∷ ud ∷ fl ∷ file ∷ at ∷ token ∷ [] ≡ spelled (form.Write s0.0 s1.0 s2.0 s3.0 s4.0) fl = ap4 (λ w0 w2 w3 w4. codes "write" ∷ w0 ∷ fl ∷ w2 ∷ w3 ∷ w4 ∷ []) n0.0 n2.0 n3.0 n4.0 in
-    subst (SpellsForm (codes "write" ∷ ud ∷ fl ∷ file ∷ at ∷ token ∷ [])) s4.2 (fl, (n0.1, n1, n2.1, n3.1, n4.1), tokens_are)
+    subst (SpellsForm (codes "write" ∷ ud ∷ fl ∷ file ∷ at ∷ token ∷ [])) {x = form.Write s0.0 s1.0 s2.0 s3.0 s4.0} s4.2 (fl, (n0.1, n1, n2.1, n3.1, n4.1), tokens_are)
 write_found (a ∷ b ∷ c ∷ d ∷ g ∷ h ∷ more) f e = absurd cc
 
 raw_found : (tokens : List (List ℕ)) (f : Form) → raw_of tokens ≡ Some f
