@@ -24,4 +24,5 @@ mod FreshWorkers
 mod FullLanes
 mod Closing
 pub mod SameEnds
+pub mod Recording
 pub mod Reporting

@@ -1,8 +1,10 @@
 //! Submission calls: the items of one call published, and the call that takes them.
-ghost use Rattle.std.specs.Prelude.{◌≡◌, ◌+◌, ◌*◌, ◌≤◌, [], length, false};
+ghost use Rattle.std.specs.Prelude.{◌≡◌, ◌+◌, ◌*◌, ◌≤◌, [], length, replicate, false};
 ghost use Rattle.uring_laws.specs.Standing.{Stands, in_call};
 ghost use Rattle.uring_machine.specs.World.{World};
+ghost use Rattle.uring_machine.specs.declared.step.Step.TheVariants as step;
 ghost use Rattle.uring_ports.specs.Items.{all_published_as};
+ghost use Rattle.uring_threads.specs.EventRows.{Records, begin_row, call_row};
 ghost use Rattle.uring_threads.specs.Kept.{now};
 ghost use Rattle.uring_threads.specs.Rows.{with_items_published, with_begun_as};
 ghost use Rattle.uring_threads.specs.Tallies.{Appends, none_counted, call_counted, whole_call_counted};
@@ -32,6 +34,7 @@ fn take_all(kept: &mut Kept, count: u32)
         × (now kept.old ≡ in_call w count 0) }
     ensures world { now kept.new ≡ in_call (now kept.old) count count }
     ensures tally { Appends kept.old kept.new none_counted }
+    ensures row { Records kept.old kept.new (replicate count step.Take) }
     ensures length { length kept.new.trace ≤ length kept.old.trace + count }
 {
     kept.is_lawful();
@@ -47,6 +50,7 @@ pub fn begin_call(kept: &mut Kept, count: u32) -> Begun
     requires stands { Stands (now kept.old).submission [] count }
     ensures world { now kept.new ≡ with_begun_as (now kept.old) count result }
     ensures tally { Appends kept.old kept.new call_counted }
+    ensures row { Records kept.old kept.new (begin_row count result) }
     ensures length { length kept.new.trace ≤ length kept.old.trace + count + 3 }
 {
     match kept.step_reserved(Step::Begin { count }) {
@@ -72,6 +76,7 @@ pub fn take_call(kept: &mut Kept, items: &[Item]) -> Begun
         (with_items_published kept.old.setup.sq (now kept.old) (all_published_as items.now))
         (length items.now) result }
     ensures tally { Appends kept.old kept.new (whole_call_counted (length items.now)) }
+    ensures row { Records kept.old kept.new (call_row items.now result) }
     ensures length { length kept.new.trace ≤ length kept.old.trace + 3 * length items.now + 4 }
 {
     kept.is_lawful();

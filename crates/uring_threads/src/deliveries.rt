@@ -1,7 +1,9 @@
 //! Completions that the dispatcher delivers: the application reaps them as they are handed to its port.
-ghost use Rattle.std.specs.Prelude.{◌≡◌, ◌+◌, ◌≤◌, length, IfOk, OnErr};
+ghost use Rattle.std.specs.Prelude.{◌≡◌, ◌+◌, ◌≤◌, length, replicate, IfOk, OnErr};
+ghost use Rattle.uring_machine.specs.declared.step.Step.TheVariants as step;
 ghost use Rattle.uring_threads.specs.Delivered.{KeepsAllBut, on_completions, with_reaped_all};
 ghost use Rattle.uring_threads.specs.Turns.{IsDelivered};
+ghost use Rattle.uring_threads.specs.EventRows.{Records, delivery_row};
 ghost use Rattle.uring_threads.specs.Kept.{now, IsUnmoved};
 ghost use Rattle.uring_threads.specs.Tallies.{Appends, reaps_counted};
 
@@ -23,6 +25,7 @@ fn reap_all<P: KernelPort>(kept: &mut Kept, port: &mut P, count: u64)
         (with_reaped_all (now kept.old).completions (P.delivered port.new)) }
     ensures delivered { length (P.delivered port.new) ≡ length (P.delivered port.old) + count }
     ensures tally { Appends kept.old kept.new (reaps_counted count) }
+    ensures row { Records kept.old kept.new (replicate count step.Reap) }
     ensures length { length kept.new.trace ≤ length kept.old.trace + count }
     ensures pairing { P.pairing port.new ≡ P.pairing port.old }
     ensures sizes { P.sizes port.new ≡ P.sizes port.old }
@@ -46,6 +49,7 @@ pub fn deliver<P: KernelPort>(kept: &mut Kept, port: &mut P) -> Result<u64, Allo
     ensures delivered { IsDelivered (now kept.new).completions (P.delivered port.new) }
     ensures keeps { KeepsAllBut (now kept.old) (now kept.new) }
     ensures tally { IfOk result (λ n. Appends kept.old kept.new (reaps_counted n)) }
+    ensures row { IfOk result (λ n. Records kept.old kept.new (delivery_row n)) }
 
     // Nothing is recorded if nothing is delivered.
     ensures idle { IfOk result (λ n. n ≡ 0 → IsUnmoved kept.old kept.new) }

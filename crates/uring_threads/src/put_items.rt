@@ -2,6 +2,7 @@
 ghost use Rattle.std.specs.Prelude.{◌≡◌, ◌+◌, ◌*◌, ◌<◌, ◌≤◌, [], length};
 ghost use Rattle.uring_laws.specs.Standing.{Stands};
 ghost use Rattle.uring_ports.specs.Items.{published_as, all_published_as};
+ghost use Rattle.uring_threads.specs.EventRows.{Records, item_row, items_row};
 ghost use Rattle.uring_threads.specs.Kept.{now};
 ghost use Rattle.uring_threads.specs.Rows.{with_item_put, with_items_put};
 ghost use Rattle.uring_threads.specs.Tallies.{Appends, items_counted};
@@ -18,6 +19,7 @@ pub fn put_item(kept: &mut Kept, slot: u32, item: Item)
     requires few { length (now kept.old).submission.fresh < kept.old.setup.sq }
     ensures world { now kept.new ≡ with_item_put (now kept.old) slot (published_as item) }
     ensures tally { Appends kept.old kept.new (items_counted 1) }
+    ensures row { Records kept.old kept.new (item_row slot item) }
     ensures length { length kept.new.trace ≤ length kept.old.trace + 2 }
 {
     match item {
@@ -38,6 +40,7 @@ pub fn put_items(kept: &mut Kept, items: &[Item])
     requires stands { Stands (now kept.old).submission [] 0 }
     ensures world { now kept.new ≡ with_items_put (now kept.old) (all_published_as items.now) }
     ensures tally { Appends kept.old kept.new (items_counted (length items.now)) }
+    ensures row { Records kept.old kept.new (items_row 0 items.now) }
     ensures length { length kept.new.trace ≤ length kept.old.trace + 2 * length items.now }
 {
     kept.is_lawful();

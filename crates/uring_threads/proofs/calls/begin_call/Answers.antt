@@ -5,6 +5,7 @@ use Rattle.uring_machine.specs.declared.step.Step.TheVariants as step
 use Rattle.uring_threads.specs.Kept.{now}
 use Rattle.uring_threads.specs.Tallies.{call_counted}
 use Rattle.uring_threads.proofs.CallSteps.{begun_cases, opened_now, closed_now, call_counts}
+use Rattle.uring_threads.proofs.Recording.{records_one, call_recorded}
 use Rattle.uring_threads.proofs.TraceSteps.{appends_one, grown}
 use Rattle.uring_threads.proofs.calls.begin_call.Goals as goal
 
@@ -38,3 +39,16 @@ pub returns-clause-tally : goal.returns-clause-tally
 returns-clause-tally c =
     call_counts c.args.kept.now c.step_reserved.new.self c.take_all.new.kept c.step_reserved-2.new.self c.step_reserved-3.new.self c.args.count c.step_reserved.result c.step_reserved-2.result c.step_reserved-3.result
     c.step_reserved.ensures.grows c.take_all.ensures.tally c.step_reserved-2.ensures.grows c.step_reserved-3.ensures.grows
+
+pub returns-in-Again-clause-row : goal.returns-in-Again-clause-row
+returns-in-Again-clause-row c =
+    records_one c.args.kept.now c.step_reserved.new.self (step.Begin c.args.count) c.step_reserved.result c.step_reserved.ensures.grows
+
+pub returns-in-Spent-clause-row : goal.returns-in-Spent-clause-row
+returns-in-Spent-clause-row c =
+    records_one c.args.kept.now c.step_reserved.new.self (step.Begin c.args.count) c.step_reserved.result c.step_reserved.ensures.grows
+
+pub returns-clause-row : goal.returns-clause-row
+returns-clause-row c =
+    call_recorded c.args.kept.now c.step_reserved.new.self c.take_all.new.kept c.step_reserved-2.new.self c.step_reserved-3.new.self c.args.count c.step_reserved.result c.step_reserved-2.result c.step_reserved-3.result
+    c.step_reserved.ensures.grows c.take_all.ensures.row c.step_reserved-2.ensures.grows c.step_reserved-3.ensures.grows

@@ -1,7 +1,12 @@
 use Rattle.uring_threads.proofs.ItemSteps.{published_now}
+use Rattle.uring_threads.proofs.Recording.{put_recorded}
 use Rattle.uring_threads.proofs.calls.take_call.Goals as goal
 use Rattle.uring_threads.specs.Kept.{now}
 
 pub begin_call-requires-clause-stands : goal.begin_call-requires-clause-stands
 begin_call-requires-clause-stands c =
     (published_now c.put_items.new.kept c.step_reserved.new.self (now c.args.kept.now) c.args.items.now c.step_reserved.result c.requires.stands c.put_items.ensures.world c.step_reserved.ensures.grows).1
+
+pub returns-clause-row : goal.returns-clause-row
+returns-clause-row c =
+    put_recorded c.args.kept.now c.put_items.new.kept c.step_reserved.new.self c.begin_call.new.kept c.args.items.now c.begin_call.result c.step_reserved.result c.put_items.ensures.row c.step_reserved.ensures.grows c.begin_call.ensures.row

@@ -1,4 +1,6 @@
+use Rattle.std.proofs.Common.{arith}
 use Rattle.uring_threads.proofs.Delivering.{row_keeps, row_delivers, row_counts}
+use Rattle.uring_threads.proofs.Recording.{delivery_recorded}
 use Rattle.uring_threads.proofs.deliveries.deliver.Goals as goal
 
 pub returns-clause-keeps : goal.returns-clause-keeps
@@ -15,3 +17,8 @@ pub returns-clause-tally : goal.returns-clause-tally
 returns-clause-tally g c =
     row_counts c.args.kept.now c.reserve.new.self c.step_reserved.new.self c.step_reserved-2.new.self c.reap_all.new.kept c.step_reserved-3.new.self c.step_reserved.result c.step_reserved-2.result c.step_reserved-3.result (g.P.KernelPort.delivered c.reap_all.new.port)
     c.reserve.ensures.unmoved c.step_reserved.ensures.grows c.step_reserved-2.ensures.grows c.reap_all.ensures.world c.step_reserved-3.ensures.grows _ c.reap_all.ensures.tally
+
+pub returns-clause-row : goal.returns-clause-row
+returns-clause-row g c =
+    delivery_recorded c.args.kept.now c.reserve.new.self c.step_reserved.new.self c.step_reserved-2.new.self c.reap_all.new.kept c.step_reserved-3.new.self _ c.step_reserved.result c.step_reserved-2.result c.step_reserved-3.result (omega arith)
+    c.reserve.ensures.unmoved c.step_reserved.ensures.grows c.step_reserved-2.ensures.grows c.reap_all.ensures.row c.step_reserved-3.ensures.grows

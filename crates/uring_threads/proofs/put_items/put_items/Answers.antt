@@ -6,6 +6,7 @@ use Rattle.uring_ports.specs.Items.{published_as}
 use Rattle.uring_threads.specs.Kept.{now}
 use Rattle.uring_threads.specs.Rows.{with_item_put}
 use Rattle.uring_threads.proofs.ItemSteps.{put_stands, items_more}
+use Rattle.uring_threads.proofs.Recording.{items_recorded}
 use Rattle.uring_threads.proofs.TraceSteps.{appends_then}
 use Rattle.uring_threads.proofs.put_items.put_items.Goals as goal
 
@@ -26,4 +27,5 @@ loop-item-preserved c =
       events = omega (arith, i.events, c.put_item.ensures.length);
       world = c.put_item.ensures.world ∙ ap (λ w. with_item_put w c.loop-item.slot (published_as c.item-item.result)) i.world ∙ items_more (now c.args.kept.now) c.args.items.now c.loop-item.item-index c.loop-item.slot c.item-item.result i.slot (omega arith) c.item-item.is;
       tally = appends_then _ _ _ _ _ _ i.tally c.put_item.ensures.tally refl;
+      row = items_recorded c.args.kept.now c.loop-item.kept c.put_item.new.kept c.args.items.now c.loop-item.item-index c.loop-item.slot c.item-item.result i.slot (omega arith) c.item-item.is i.row c.put_item.ensures.row;
     }

@@ -1,5 +1,6 @@
 use Rattle.std.proofs.Common.{◌≡◌, ◌+◌, ◌*◌, ◌≤◌, length, take}
 use Rattle.uring_ports.specs.Items.{all_published_as}
+use Rattle.uring_threads.specs.EventRows.{Records, items_row}
 use Rattle.uring_threads.specs.Kept.{now}
 use Rattle.uring_threads.specs.Rows.{with_items_put}
 use Rattle.uring_threads.specs.Tallies.{Appends, items_counted}
@@ -12,4 +13,5 @@ invariant-loop-item l = record {
   events : length l.kept.trace ≤ length l.initial.kept.trace + 2 * l.item-index;
   world : now l.kept ≡ with_items_put (now l.initial.kept) (all_published_as (take l.item-index l.items));
   tally : Appends l.initial.kept l.kept (items_counted l.item-index);
+  row : Records l.initial.kept l.kept (items_row 0 (take l.item-index l.items));
 }
