@@ -27,6 +27,7 @@ use Rattle.uring_threads.specs.Work.{place_of, jobs_to, done_by_worker, result_o
 use Rattle.uring_threads.specs.Tallies.{finishes_counted, results_taken_in}
 use Rattle.uring_threads.proofs.LeftAt.{done-own, done-other}
 use Rattle.uring_threads.proofs.Posting.{posts_none, posts_then, end_posts}
+use Rattle.uring_threads.proofs.Recording.{records_none, records_one, finishes_then}
 use Rattle.uring_threads.proofs.Settling.{results_run}
 use Rattle.uring_threads.proofs.TraceSteps.{grown, appends_none, appends_one, appends_then, unmoved_now}
 
@@ -138,6 +139,7 @@ pub collects_none : (a b : Kept) (workers place : ℕ) → IsUnmoved a b → Col
 collects_none a b workers place u =
     record {
       tally = appends_none a b u;
+      row = ([], records_none a b u);
       posts = subst (OnlyPosts (now a)) (sym (unmoved_now a b u)) (posts_none (now a));
       idle = λ none. u.trace;
       own = let same : results_taken_in workers place b ≡ results_taken_in workers place a = same_taken_in a b workers place u in omega (arith, same);
@@ -150,6 +152,7 @@ pub collects_then : (a b c : Kept) (workers place n m sum : ℕ) → n + m ≡ s
 collects_then a b c workers place n m sum e p q =
     record {
       tally = appends_then a b c (finishes_counted n) (finishes_counted m) (finishes_counted sum) p.tally q.tally (ap finishes_counted e);
+      row = finishes_then a b c p.row q.row;
       posts = posts_then (now a) (now b) (now c) p.posts q.posts;
       idle = λ none. q.idle (omega (arith, none, e)) ∙ p.idle (omega (arith, none, e));
       own = omega (arith, p.own, q.own, e);
@@ -165,6 +168,7 @@ collects_one a b c workers place before after seen true u others (r, _, can, gro
     collects_then a b c workers place 0 1 1 refl (collects_none a b workers place u)
     (record {
       tally = appends_one b c (finish_of r) (finishes_counted 1) grows refl;
+      row = (r.number ∷ [], records_one b c (step.Finish r.number) (answer.Ended r.outcome.res r.outcome.bytes) grows);
       posts = posts_end b c r grows;
       idle = λ none. absurd (omega (arith, none));
       own = one_taken_in b c workers place r can grows;

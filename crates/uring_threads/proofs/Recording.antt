@@ -1,11 +1,11 @@
 -- What each event adds to the steps of the trace, and how rows of steps add up.
-use Rattle.std.proofs.Common.{◌≡◌, ℕ, ◌+◌, ◌<◌, List, [], ◌∷◌, ◌++◌, map, take, length, get_or, replicate, zero, suc, refl, sym, ap, ap₂, ◌∙◌, arith, append_assoc, append-nil}
+use Rattle.std.proofs.Common.{◌≡◌, ℕ, ◌+◌, ◌<◌, List, [], ◌∷◌, ◌++◌, map, take, length, inl, get_or, replicate, zero, suc, refl, sym, ap, ap₂, ◌∙◌, arith, append_assoc, append-nil}
 use Rattle.std.proofs.lemmas.List.{map-append, replicate_more, take_more, length-take-le}
 use Rattle.uring_machine.specs.declared.step.Step.{Step}
 use Rattle.uring_machine.specs.declared.step.Step.TheVariants as step
 use Rattle.uring_machine.specs.declared.answer.Answer.{Answer}
 use Rattle.uring_ports.specs.declared.item.Item.{Item}
-use Rattle.uring_threads.specs.EventRows.{step_of, steps_of, Records, item_row, items_row, begin_row, call_row, delivery_row}
+use Rattle.uring_threads.specs.EventRows.{step_of, steps_of, Records, item_row, items_row, begin_row, call_row, delivery_row, IsAgain, IsPulled, RecordsIntake, RecordsFinishes, RecordsIssues, RecordsTurn}
 use Rattle.uring_threads.specs.Kept.{Kept, Grows, IsUnmoved}
 use Rattle.uring_threads.specs.declared.calls.Begun.{Begun}
 use Rattle.uring_threads.specs.declared.calls.Begun.TheVariants as begun
@@ -80,3 +80,53 @@ delivery_recorded a b c d e f (suc n) x y z some u g h p k =
     (records_then b c f (step.Flush ∷ []) (step.LoadCqTail ∷ replicate (suc n) step.Reap ++ step.StoreCqHead ∷ []) (records_one b c step.Flush x g)
     (records_then c d f (step.LoadCqTail ∷ []) (replicate (suc n) step.Reap ++ step.StoreCqHead ∷ []) (records_one c d step.LoadCqTail y h)
     (records_then d e f (replicate (suc n) step.Reap) (step.StoreCqHead ∷ []) p (records_one e f step.StoreCqHead z k))))
+
+-- results of one time after those of another
+pub finishes_then : (a b c : Kept) → RecordsFinishes a b → RecordsFinishes b c → RecordsFinishes a c
+finishes_then a b c p q = (p.0 ++ q.0, records_then a b c (map step.Finish p.0) (map step.Finish q.0) p.1 q.1 ∙ ap (λ zs. steps_of a ++ zs) (sym (map-append step.Finish p.0 q.0)))
+
+-- requests issued at one time after those of another
+pub issues_then : (a b c : Kept) → RecordsIssues a b → RecordsIssues b c → RecordsIssues a c
+issues_then a b c p q = (p.0 ++ q.0, records_then a b c (map step.Issue p.0) (map step.Issue q.0) p.1 q.1 ∙ ap (λ zs. steps_of a ++ zs) (sym (map-append step.Issue p.0 q.0)))
+
+-- the next request that is issued, after more room was asked for
+pub issues_more : (a b c d : Kept) (n : ℕ) → RecordsIssues a b → IsUnmoved b c
+    → Records c d (step.Issue n ∷ [])
+    → RecordsIssues a d
+issues_more a b c d n p u q = issues_then a b d p (n ∷ [], records_then b c d [] (step.Issue n ∷ []) (records_none b c u) q)
+
+-- what waited, and what was pulled behind it
+pub intake_recorded : (a b c : Kept) (xs ys : List Step) → IsAgain xs → IsPulled ys → Records a b xs
+    → Records b c ys
+    → RecordsIntake a c
+intake_recorded a b c xs ys again pulled p q =
+    record { again = xs; pulled = ys; is_again = again; is_pulled = pulled; row = records_then a b c xs ys p q }
+
+-- what waited, and nothing behind it
+pub again_recorded : (a b : Kept) → (steps : List Step) × IsAgain steps × Records a b steps
+    → RecordsIntake a b
+again_recorded a b r =
+    record { again = r.0; pulled = []; is_again = r.1; is_pulled = inl refl; row = r.2 ∙ ap (λ zs. steps_of a ++ zs) (sym (append-nil r.0)) }
+
+-- no event at all
+pub records_nothing : (a : Kept) → Records a a []
+records_nothing a = sym (append-nil (steps_of a))
+
+-- a whole turn
+pub turn_recorded : (a b c d e : Kept) (n : ℕ) → RecordsIntake a b → RecordsFinishes b c
+    → RecordsIssues c d
+    → Records d e (delivery_row n)
+    → RecordsTurn a e
+turn_recorded a b c d e n i f s q =
+    record {
+      again = i.again;
+      pulled = i.pulled;
+      finished = f.0;
+      issued = s.0;
+      delivered = n;
+      is_again = i.is_again;
+      is_pulled = i.is_pulled;
+      row = records_then a d e (i.again ++ i.pulled ++ map step.Finish f.0 ++ map step.Issue s.0) (delivery_row n)
+          (records_then a c d (i.again ++ i.pulled ++ map step.Finish f.0) (map step.Issue s.0)
+          (records_then a b c (i.again ++ i.pulled) (map step.Finish f.0) i.row f.1) s.1) q;
+    }

@@ -7,6 +7,7 @@ use Rattle.uring_threads.specs.declared.job.Job.{Job}
 use Rattle.uring_threads.specs.declared.job.JobResult.{JobResult}
 use Rattle.uring_threads.specs.declared.work_lanes.WorkLanes.{WorkLanes}
 use Rattle.rtrb.specs.Ring.{known_items}
+use Rattle.uring_threads.specs.EventRows.{RecordsFinishes}
 use Rattle.uring_threads.specs.Kept.{Kept, now, Grows, history}
 use Rattle.uring_threads.specs.Delivered.{OnlyPosts}
 use Rattle.uring_threads.specs.Tallies.{Appends, finishes_counted, most_results, results_taken_in}
@@ -66,6 +67,7 @@ TakesNext old new workers place before after seen false =
 -- so many results of a worker were taken in, and recorded as Finishes
 pub record Collects (old new : Kept) (workers place count : ℕ) : Type 0 where
   pub tally : Appends old new (finishes_counted count)
+  pub row : RecordsFinishes old new
   pub posts : OnlyPosts (now old) (now new)
   pub idle : count ≡ 0 → new.trace ≡ old.trace
   pub own : results_taken_in workers place new ≡ results_taken_in workers place old + count

@@ -1,5 +1,5 @@
 -- The rows of steps that the dispatcher records: our own rule.
-use Rattle.std.specs.Prelude.{◌≡◌, ℕ, zero, suc, ◌+◌, List, [], ◌∷◌, ◌++◌, length, map, replicate}
+use Rattle.std.specs.Prelude.{◌≡◌, ◌⊎◌, ℕ, zero, suc, ◌+◌, List, [], ◌∷◌, ◌++◌, length, map, replicate}
 use Rattle.uring_machine.specs.Histories.{Event}
 use Rattle.uring_machine.specs.declared.step.Step.{Step}
 use Rattle.uring_machine.specs.declared.step.Step.TheVariants as step
@@ -47,3 +47,41 @@ abbrev pub delivery_row : ℕ → List Step
 delivery_row zero = []
 delivery_row (suc more) =
     step.Flush ∷ step.LoadCqTail ∷ replicate (suc more) step.Reap ++ step.StoreCqHead ∷ []
+
+-- A call that waits is begun once more, or nothing is.
+abbrev pub IsAgain : List Step → Type 0
+IsAgain steps = (steps ≡ []) ⊎ ((count : ℕ) × (begun : Begun) × (steps ≡ begin_row count begun))
+
+-- A call that was pulled is put and begun, or the ring is closed, or nothing was pulled.
+abbrev pub IsPulled : List Step → Type 0
+IsPulled steps = (steps ≡ []) ⊎ (steps ≡ step.Close ∷ [])
+    ⊎ ((items : List Item) × (begun : Begun) × (steps ≡ call_row items begun))
+
+-- The rows of a turn's first part: a call that waits, and what was pulled behind it.
+pub record RecordsIntake (old new : Kept) : Type 0 where
+  pub again : List Step
+  pub pulled : List Step
+  pub is_again : IsAgain again
+  pub is_pulled : IsPulled pulled
+  pub row : Records old new (again ++ pulled)
+
+-- Results are taken in, each by a Finish, and nothing else is recorded.
+abbrev pub RecordsFinishes : Kept → Kept → Type 0
+RecordsFinishes old new = (numbers : List ℕ) × Records old new (map step.Finish numbers)
+
+-- Requests are issued, and nothing else is recorded.
+abbrev pub RecordsIssues : Kept → Kept → Type 0
+RecordsIssues old new = (numbers : List ℕ) × Records old new (map step.Issue numbers)
+
+-- The rows of a turn: a call that waits, what was pulled, results that are taken in, requests that are issued, and completions that are delivered. Each may be missing, and nothing else is recorded.
+pub record RecordsTurn (old new : Kept) : Type 0 where
+  pub again : List Step
+  pub pulled : List Step
+  pub finished : List ℕ
+  pub issued : List ℕ
+  pub delivered : ℕ
+  pub is_again : IsAgain again
+  pub is_pulled : IsPulled pulled
+  pub row : Records old new
+      (again ++ pulled ++ map step.Finish finished ++ map step.Issue issued
+      ++ delivery_row delivered)

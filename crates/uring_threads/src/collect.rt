@@ -2,6 +2,7 @@
 ghost use Rattle.std.specs.Prelude.{◌≡◌, ℕ, ◌+◌, ◌<◌, ◌≤◌, ◌↔◌, [], ◌∷◌, ◌++◌, length, IsTrue, IfOk, OnOk, OnErr};
 ghost use Rattle.uring_threads.specs.Delivered.{OnlyPosts};
 ghost use Rattle.uring_threads.specs.Dispatched.{HaveCarried, AreSameLanes, AreTakenIn};
+ghost use Rattle.uring_threads.specs.EventRows.{RecordsFinishes};
 ghost use Rattle.uring_threads.specs.Kept.{now};
 ghost use Rattle.uring_threads.specs.Tallies.{Appends, TakesFewResults, finishes_counted, most_results, results_taken_in};
 ghost use Rattle.rtrb.specs.Ring.{received, known_items, SameConsumer};
@@ -30,6 +31,7 @@ pub fn collect_all(kept: &mut Kept, lanes: &mut [WorkLanes]) -> Result<u64, Allo
     // Of each worker, fewer than 64 only if no other result is seen, or the next can't be taken in.
     ensures seen { OnOk result (TakesSeen kept.old kept.new lanes.new) }
     ensures tally { IfOk result (λ count. Appends kept.old kept.new (finishes_counted count)) }
+    ensures row { RecordsFinishes kept.old kept.new }
     ensures idle { IfOk result (λ count. count ≡ 0 → kept.new.trace ≡ kept.old.trace) }
     ensures err { OnErr result ((count : ℕ) × Appends kept.old kept.new (finishes_counted count)) }
 {
@@ -55,6 +57,7 @@ fn collect_at(kept: &mut Kept, lanes: &mut [WorkLanes], place: u32) -> Result<u6
     ensures none_comes { NoneComes kept.old kept.new (length lanes.old) }
     ensures others { OtherLanesStay lanes.old lanes.new place }
     ensures tally { IfOk result (λ count. Appends kept.old kept.new (finishes_counted count)) }
+    ensures row { RecordsFinishes kept.old kept.new }
     ensures most { IfOk result (λ count. count ≤ 64) }
 
     // Fewer than 64 only if no other result is seen, or the next can't be taken in.

@@ -1,10 +1,12 @@
 //! Requests that the dispatcher issues.
-ghost use Rattle.std.specs.Prelude.{◌≡◌, ◌≤◌, ◌<◌, ℕ, ◌⊎◌, length, None, Some, IfSome, IfOk, OnErr};
+ghost use Rattle.std.specs.Prelude.{◌≡◌, ◌≤◌, ◌<◌, ℕ, ◌⊎◌, [], ◌∷◌, length, None, Some, IfSome, IfOk, OnErr};
 ghost use Rattle.uring_entry.specs.Requests.{next_of};
 ghost use Rattle.uring_files.specs.Operations.{IsForFiles};
+ghost use Rattle.uring_machine.specs.declared.step.Step.TheVariants as step;
 ghost use Rattle.uring_threads.specs.Dispatched.{HaveCarried, ShowRoom, SomeIsFull, AreSameLanes};
 ghost use Rattle.uring_threads.specs.Delivered.{OnlyPosts};
 ghost use Rattle.uring_threads.specs.Issued.{IssuedAs};
+ghost use Rattle.uring_threads.specs.EventRows.{Records, RecordsIssues};
 ghost use Rattle.uring_threads.specs.Kept.{now};
 ghost use Rattle.uring_threads.specs.Tallies.{Appends, issues_counted};
 
@@ -24,6 +26,7 @@ pub fn issue_next(kept: &mut Kept, number: u64) -> Option<Op>
     ensures issued { IssuedAs kept.old kept.new number result }
     ensures asks { IfSome result IsForFiles }
     ensures tally { Appends kept.old kept.new (issues_counted 1) }
+    ensures row { Records kept.old kept.new (step.Issue number ∷ []) }
 {
     match kept.step_reserved(Step::Issue { number }) {
         Answer::Run => {
@@ -49,6 +52,7 @@ fn issue_one(kept: &mut Kept, lanes: &mut [WorkLanes], number: u64)
     ensures lanes { AreSameLanes lanes.old lanes.new }
     ensures stays { OnlyPosts (now kept.old) (now kept.new) }
     ensures tally { Appends kept.old kept.new (issues_counted 1) }
+    ensures row { Records kept.old kept.new (step.Issue number ∷ []) }
 {
     if let Some(op) = issue_next(kept, number) {
         let place = place_of(&op, lanes.len() as u32, kept.setup().files());
@@ -67,6 +71,7 @@ pub fn issue_all(kept: &mut Kept, lanes: &mut [WorkLanes]) -> Result<u64, AllocE
     ensures lanes { AreSameLanes lanes.old lanes.new }
     ensures stays { OnlyPosts (now kept.old) (now kept.new) }
     ensures tally { IfOk result (λ count. Appends kept.old kept.new (issues_counted count)) }
+    ensures row { RecordsIssues kept.old kept.new }
     ensures none_left { IfOk result
         (λ count. (next_of (now kept.new).requests ≡ None) ⊎ SomeIsFull lanes.new) }
     ensures idle { IfOk result (λ count. count ≡ 0 → kept.new.trace ≡ kept.old.trace) }

@@ -7,6 +7,7 @@ ghost use Rattle.uring_ports.specs.Dropped.{with_word, WereStored};
 ghost use Rattle.uring_ports.specs.Items.{AreItems};
 ghost use Rattle.uring_ports.specs.Ports.{nothing_put, sizes_of, items_of_calls, LeavesItems, LeavesCompletions};
 ghost use Rattle.uring_threads.specs.Dispatched.{AreSameLanes, HaveCarriedNone, HoldJobs, HoldResults, SomeIsFull, numbers_of_lanes};
+ghost use Rattle.uring_threads.specs.EventRows.{RecordsTurn};
 ghost use Rattle.uring_threads.specs.Kept.{now};
 ghost use Rattle.uring_threads.specs.Tallies.{Tally, Appends, TakesFewResults, starts_request};
 ghost use Rattle.uring_threads.specs.Turns.{Counts, awaits_memory};
@@ -100,6 +101,9 @@ impl<P: KernelPort> Kernel<P> {
             (λ turn. length (now self.new.kept).completions.posted ≤ self.old.kept.setup.cq
             → length self.new.reaped ≡ length (now self.new.kept).completions.posted) }
         ensures err { OnErr result ((t : Tally) × Appends self.old.kept self.new.kept t) }
+
+        // Its events are rows of steps, one behind the other, also if memory was refused.
+        ensures rows { RecordsTurn self.old.kept self.new.kept }
 
         // Of each worker at most 64 results are taken in, also if memory was refused.
         ensures few_results { TakesFewResults (length self.old.lanes) self.old.kept self.new.kept }

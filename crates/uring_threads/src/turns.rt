@@ -4,6 +4,7 @@ ghost use Rattle.uring_entry.specs.Requests.{next_of};
 ghost use Rattle.uring_entry.specs.Submission.{dropped};
 ghost use Rattle.uring_ports.specs.Dropped.{with_word};
 ghost use Rattle.uring_threads.specs.Dispatched.{AreSameLanes, SomeIsFull};
+ghost use Rattle.uring_threads.specs.EventRows.{RecordsTurn};
 ghost use Rattle.uring_threads.specs.Kept.{now};
 ghost use Rattle.uring_threads.specs.Tallies.{Tally, Appends, TakesFewResults};
 ghost use Rattle.uring_threads.specs.Turns.{AreTies, Counts, awaits_memory};
@@ -64,6 +65,9 @@ pub fn make_turn<P: KernelPort>(
         (λ turn. length (now kept.new).completions.posted ≤ kept.old.setup.cq
         → length (P.delivered port.new) ≡ length (now kept.new).completions.posted) }
     ensures err { OnErr result ((t : Tally) × Appends kept.old kept.new t) }
+
+    // Its events are rows of steps, one behind the other, also if memory was refused.
+    ensures rows { RecordsTurn kept.old kept.new }
 
     // Of each worker at most 64 results are taken in, also if memory was refused.
     ensures few_results { TakesFewResults (length lanes.old) kept.old kept.new }

@@ -4,6 +4,7 @@ use Rattle.uring_threads.specs.Tallies.{finishes_counted}
 use Rattle.uring_threads.proofs.Collecting.{on_err}
 use Rattle.uring_threads.proofs.FewResults.{SeenBefore, few_at, few_in_all, seen_at, seen_in_all}
 use Rattle.uring_threads.proofs.Posting.{posts_then}
+use Rattle.uring_threads.proofs.Recording.{finishes_then}
 use Rattle.uring_threads.proofs.TraceSteps.{appends_then}
 use Rattle.uring_threads.proofs.Turning.{lanes_then}
 use Rattle.uring_threads.proofs.collect.collect_all.Goals as goal
@@ -12,6 +13,10 @@ pub returns-in_err-count-clause-err : goal.returns-in_err-count-clause-err
 returns-in_err-count-clause-err c =
     let later = c.in_err-count.ensures.err in
     on_err c.from_residual.result (c.loop-place.count + later.0, appends_then _ _ _ _ _ _ c.loop-place.invariant.tally later.1 refl)
+
+pub returns-in_err-count-clause-row : goal.returns-in_err-count-clause-row
+returns-in_err-count-clause-row c =
+    finishes_then c.args.kept.now c.loop-place.kept c.collect_at.new.kept c.loop-place.invariant.row c.collect_at.ensures.row
 
 pub returns-clause-few : goal.returns-clause-few
 returns-clause-few c = few_in_all (length c.args.lanes.now) c.loop-place.place c.args.kept.now c.loop-place.kept c.loop-place.invariant.few
@@ -35,6 +40,7 @@ loop-place-preserved c =
       lanes = lanes_then c.args.lanes.now c.loop-place.lanes c.collect_at.new.lanes c.loop-place.invariant.lanes c.collect_at.ensures.lanes;
       posts = posts_then (now c.args.kept.now) (now c.loop-place.kept) (now c.collect_at.new.kept) c.loop-place.invariant.posts c.collect_at.ensures.posts;
       tally = appends_then c.args.kept.now c.loop-place.kept c.collect_at.new.kept (finishes_counted c.loop-place.count) (finishes_counted c.in_ok-count.field-0) (finishes_counted (c.loop-place.count + c.in_ok-count.field-0)) c.loop-place.invariant.tally c.in_ok-count.ensures.tally refl;
+      row = finishes_then c.args.kept.now c.loop-place.kept c.collect_at.new.kept c.loop-place.invariant.row c.collect_at.ensures.row;
       few = few_at c.args.lanes.now c.loop-place.lanes c.loop-place.place c.args.kept.now c.loop-place.kept c.collect_at.new.kept c.loop-place.invariant.lanes c.loop-place.invariant.few c.collect_at.ensures.few;
       seen = seen_at c.args.lanes.now c.loop-place.lanes c.collect_at.new.lanes c.loop-place.place c.in_ok-count.field-0 c.args.kept.now c.loop-place.kept c.collect_at.new.kept c.loop-place.invariant.lanes c.collect_at.ensures.lanes c.loop-place.invariant.few c.collect_at.ensures.few
           c.in_ok-count.ensures.own c.collect_at.ensures.none_comes c.collect_at.ensures.others c.in_ok-count.ensures.seen c.loop-place.invariant.seen;

@@ -16,6 +16,11 @@ returns-clause-few c = few_collected c.collect.result c.args.kept.now c.collect.
 pub returns-clause-own : goal.returns-clause-own
 returns-clause-own c = own_collected c.collect.result c.args.kept.now c.collect.new.kept (length c.args.lanes.now) c.args.place (known_items c.collect.new.results) c.collect.ensures.ok
 
+pub returns-clause-row : goal.returns-clause-row
+returns-clause-row c =
+    let p = some_collected c.collect.result c.args.kept.now c.collect.new.kept (length c.args.lanes.now) c.args.place (known_items c.collect.new.results) c.collect.ensures.ok c.collect.ensures.err in
+    p.1.row
+
 pub returns-clause-none_comes : goal.returns-clause-none_comes
 returns-clause-none_comes c =
     let p = some_collected c.collect.result c.args.kept.now c.collect.new.kept (length c.args.lanes.now) c.args.place (known_items c.collect.new.results) c.collect.ensures.ok c.collect.ensures.err in

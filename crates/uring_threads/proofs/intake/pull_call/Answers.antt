@@ -1,7 +1,8 @@
-use Rattle.std.proofs.Common.{subst}
+use Rattle.std.proofs.Common.{[], inl, refl, subst}
 use Rattle.uring_entry.specs.Setup.{Setup}
 use Rattle.uring_threads.specs.Kept.{now}
 use Rattle.uring_threads.specs.Turns.{Tied}
+use Rattle.uring_threads.proofs.Recording.{records_none, records_then}
 use Rattle.uring_threads.proofs.Closing.{once_unmoved}
 use Rattle.uring_threads.proofs.Tying.{completions_behind, pulled_at, takes_behind, takes_nothing, tied_still}
 use Rattle.uring_threads.proofs.intake.pull_call.Goals as goal
@@ -35,6 +36,15 @@ returns-clause-completions g c = completions_behind c.args.kept.now c.reserve.ne
 
 pub returns-clause-taken : goal.returns-clause-taken
 returns-clause-taken g c = takes_behind c.args.kept.now c.reserve.new.self c.take_pulled.new.kept c.take_pulled.result c.reserve.ensures.unmoved c.take_pulled.ensures.taken
+
+pub returns-in_err-reserve-clause-row : goal.returns-in_err-reserve-clause-row
+returns-in_err-reserve-clause-row g c =
+    ([], inl refl, records_none c.args.kept.now c.reserve.new.self c.reserve.ensures.unmoved)
+
+pub returns-clause-row : goal.returns-clause-row
+returns-clause-row g c =
+    let r = c.take_pulled.ensures.row in
+    (r.0, r.1, records_then c.args.kept.now c.reserve.new.self c.take_pulled.new.kept [] r.0 (records_none c.args.kept.now c.reserve.new.self c.reserve.ensures.unmoved) r.2)
 
 pub returns-clause-once : goal.returns-clause-once
 returns-clause-once g c = λ once. c.take_pulled.ensures.once (once_unmoved c.args.kept.now c.reserve.new.self c.args.intake.now c.reserve.ensures.unmoved once)

@@ -1,6 +1,7 @@
-use Rattle.std.proofs.Common.{length, refl, ap, arith}
+use Rattle.std.proofs.Common.{[], length, refl, ap, arith}
 use Rattle.uring_threads.specs.Kept.{IsUnmoved}
 use Rattle.uring_threads.proofs.Issuing.{looked_carried, looked_same, looked_posts, looked_tally, issued_length, issued_posts, one_issued}
+use Rattle.uring_threads.proofs.Recording.{records_none, issues_then, issues_more}
 use Rattle.uring_threads.proofs.Turning.{lanes_then}
 use Rattle.uring_threads.proofs.issues.issue_all.Goals as goal
 
@@ -46,6 +47,14 @@ pub returns-in_default-clause-tally : goal.returns-in_default-clause-tally
 returns-in_default-clause-tally c =
     looked_tally c.args.kept.now c.loop-count.kept c.reserve.new.self c.args.lanes.now c.loop-count.lanes c.all_show_room.new.lanes c.reserve.ensures.unmoved c.all_show_room.ensures.length c.all_show_room.ensures.looked _ c.loop-count.invariant.tally
 
+pub returns-in_err-reserve-clause-row : goal.returns-in_err-reserve-clause-row
+returns-in_err-reserve-clause-row c =
+    issues_then c.args.kept.now c.loop-count.kept c.reserve.new.self c.loop-count.invariant.row ([], records_none c.loop-count.kept c.reserve.new.self c.reserve.ensures.unmoved)
+
+pub returns-in_default-clause-row : goal.returns-in_default-clause-row
+returns-in_default-clause-row c =
+    issues_then c.args.kept.now c.loop-count.kept c.reserve.new.self c.loop-count.invariant.row ([], records_none c.loop-count.kept c.reserve.new.self c.reserve.ensures.unmoved)
+
 pub loop-count-preserved : goal.loop-count-preserved
 loop-count-preserved c =
     let before = c.loop-count.invariant in
@@ -59,5 +68,6 @@ loop-count-preserved c =
           (looked_same c.args.kept.now c.loop-count.kept c.reserve.new.self c.args.lanes.now c.loop-count.lanes c.all_show_room.new.lanes unmoved c.all_show_room.ensures.length c.all_show_room.ensures.looked before.lanes) issued.lanes;
       stays = issued_posts c.args.kept.now c.loop-count.kept c.reserve.new.self c.issue_one.new.kept before.stays unmoved issued.stays;
       tally = one_issued c.args.kept.now c.loop-count.kept c.reserve.new.self c.issue_one.new.kept c.loop-count.count before.tally unmoved issued.tally;
+      row = issues_more c.args.kept.now c.loop-count.kept c.reserve.new.self c.issue_one.new.kept _ before.row unmoved issued.row;
       idle = λ none. absurd (omega (arith, none));
     }

@@ -1,6 +1,7 @@
 use Rattle.std.proofs.Common.{◌≡◌, ◌≤◌, ◌^◌, length}
 use Rattle.uring_threads.specs.Dispatched.{HaveCarried, AreSameLanes}
 use Rattle.uring_threads.specs.Delivered.{OnlyPosts}
+use Rattle.uring_threads.specs.EventRows.{RecordsIssues}
 use Rattle.uring_threads.specs.Kept.{now}
 use Rattle.uring_threads.specs.Tallies.{Appends, issues_counted}
 use Rattle.uring_threads.proofs.issues.issue_all.Given as goal
@@ -14,5 +15,6 @@ invariant-loop-count l = record {
   lanes : AreSameLanes l.initial.lanes l.lanes;
   stays : OnlyPosts (now l.initial.kept) (now l.kept);
   tally : Appends l.initial.kept l.kept (issues_counted l.count);
+  row : RecordsIssues l.initial.kept l.kept;
   idle : l.count ≡ 0 → l.kept.trace ≡ l.initial.kept.trace;
 }

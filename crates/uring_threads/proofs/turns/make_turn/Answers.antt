@@ -1,4 +1,4 @@
-use Rattle.std.proofs.Common.{◌≡◌, ◌<◌, ◌≤◌, length, subst, sym, refl, ap, ◌∙◌}
+use Rattle.std.proofs.Common.{◌≡◌, ◌<◌, ◌≤◌, zero, [], length, subst, sym, refl, ap, ◌∙◌}
 use Rattle.std.specs.Prelude.{OnOk, OnErr}
 use Rattle.uring_entry.specs.Setup.{Setup}
 use Rattle.uring_entry.specs.Submission.{dropped}
@@ -10,6 +10,7 @@ use Rattle.std.proofs.lemmas.Result.{IfOk-weaker, IfOk-from_err}
 use Rattle.uring_threads.specs.Turns.{AreTies, Counts}
 use Rattle.uring_threads.proofs.Collecting.{on_err}
 use Rattle.uring_threads.proofs.FewResults.{few_of_none, few_behind, few_before}
+use Rattle.uring_threads.proofs.Recording.{records_none, records_nothing, turn_recorded}
 use Rattle.uring_threads.proofs.TraceSteps.{appends_none}
 use Rattle.uring_threads.proofs.Turning.{ties_taken, ties_posted, ties_worked, ties_unmoved, ties_delivered, counts_all, some_then, lanes_then}
 use Rattle.uring_threads.proofs.turns.make_turn.Goals as goal
@@ -279,3 +280,26 @@ deliver-requires-clause-delivered g c =
     c.in_ok-popped.popped (finishes_counted c.in_ok-finished.finished) (issues_counted c.in_ok-issued.issued) c.requires.ties c.in_ok-popped.ensures.taken c.take_in.ensures.tied c.take_in.ensures.once c.take_in.ensures.completions c.take_in.ensures.delivered
     c.in_ok-finished.ensures.tally refl c.collect_all.ensures.posts c.collect_all.ensures.carried c.in_ok-issued.ensures.tally refl c.issue_all.ensures.stays c.issue_all.ensures.carried in
     t.delivered
+
+pub returns-in_err-popped-clause-rows : goal.returns-in_err-popped-clause-rows
+returns-in_err-popped-clause-rows g c =
+    let still = records_nothing c.take_in.new.kept in
+    turn_recorded c.args.kept.now c.take_in.new.kept c.take_in.new.kept c.take_in.new.kept c.take_in.new.kept zero c.take_in.ensures.row ([], still) ([], still) still
+
+pub returns-in_err-finished-clause-rows : goal.returns-in_err-finished-clause-rows
+returns-in_err-finished-clause-rows g c =
+    let still = records_nothing c.collect_all.new.kept in
+    turn_recorded c.args.kept.now c.take_in.new.kept c.collect_all.new.kept c.collect_all.new.kept c.collect_all.new.kept zero c.take_in.ensures.row c.collect_all.ensures.row ([], still) still
+
+pub returns-in_err-issued-clause-rows : goal.returns-in_err-issued-clause-rows
+returns-in_err-issued-clause-rows g c =
+    turn_recorded c.args.kept.now c.take_in.new.kept c.collect_all.new.kept c.issue_all.new.kept c.issue_all.new.kept zero c.take_in.ensures.row c.collect_all.ensures.row c.issue_all.ensures.row (records_nothing c.issue_all.new.kept)
+
+pub returns-in_err-delivered-clause-rows : goal.returns-in_err-delivered-clause-rows
+returns-in_err-delivered-clause-rows g c =
+    turn_recorded c.args.kept.now c.take_in.new.kept c.collect_all.new.kept c.issue_all.new.kept c.deliver.new.kept zero c.take_in.ensures.row c.collect_all.ensures.row c.issue_all.ensures.row
+    (records_none c.issue_all.new.kept c.deliver.new.kept c.in_err-delivered.ensures.err)
+
+pub returns-clause-rows : goal.returns-clause-rows
+returns-clause-rows g c =
+    turn_recorded c.args.kept.now c.take_in.new.kept c.collect_all.new.kept c.issue_all.new.kept c.deliver.new.kept c.in_ok-delivered.delivered c.take_in.ensures.row c.collect_all.ensures.row c.issue_all.ensures.row c.in_ok-delivered.ensures.row
