@@ -5,7 +5,7 @@ use Rattle.atomic_table.specs.Table.{step, Allows}
 use mathlib.Core.Option.{none}
 use Rattle.uring_entry.specs.IndexWords.{word_of}
 use Rattle.uring_ports.specs.Dropped.{WereHad}
-use Rattle.uring_words.specs.Completion.Layout.{cell_index, tail_index, head_index, dropped_index}
+use Rattle.uring_words.specs.Completion.Layout.{cell_index, tail_index, head_index, dropped_index, IsCell}
 use Rattle.uring_words.specs.Completion.Rule.{last_of, tail_seen, Agree, BothAgree}
 use Rattle.uring_words.specs.Completion.Steps.{Holder, word_stored, tail_stored, dropped_stored, head_loaded, tail_loaded, got_of, head_stored, dropped_loaded, StoresWord, StoresTail, StoresDropped, LoadsHead, LoadsTail, LoadsWord, StoresHead, LoadsDropped}
 use Rattle.uring_words.specs.Places.{place_of}
@@ -28,13 +28,13 @@ stores_word slots id i me word is_kernel room few is =
 -- the tail is stored
 pub stores_tail : (slots id i : ℕ) (me : Holder) (word : ℕ) → me.0.is_kernel ≡ true
     → length me.0.kernel.put < me.0.kernel.head_seen + me.0.kernel.size
-    → length me.0.kernel.cell ≡ 10
+    → IsCell me.0.kernel.cell
     → word ≡ word_of me.0.kernel.start (length me.0.kernel.put + 1)
     → i ≡ tail_index me.0.kernel.size
     → Allows BothAgree slots id me i (λ _. word) (λ _. StoresTail (step slots i word 0 none) me word)
-stores_tail slots id i me word is_kernel room ten is_word is =
+stores_tail slots id i me word is_kernel room cell is_word is =
     kernel_step slots id i (λ _. word) me (λ _. StoresTail (step slots i word 0 none) me word) is_kernel
-    (λ words a h both. (tail_stored me.0.kernel, rw is (keeps-tail_stored words a me.0.kernel word h room ten is_word), refl))
+    (λ words a h both. (tail_stored me.0.kernel, rw is (keeps-tail_stored words a me.0.kernel word h room cell is_word), refl))
 
 -- the dropped word is stored
 pub stores_dropped : (slots id i : ℕ) (me : Holder) (word : ℕ) → me.0.is_kernel ≡ true

@@ -3,7 +3,7 @@ use Rattle.std.proofs.Common.{◌≡◌, ◌≢◌, ℕ, ◌+◌, ◌^◌, ◌<�
 use Rattle.std.proofs.Math.Seq.{get_or-append_seam}
 use Rattle.uring_entry.specs.IndexWords.{word_of}
 use Rattle.uring_ports.specs.Dropped.{WereHad}
-use Rattle.uring_words.specs.Completion.Layout.{cell_index, tail_index, head_index, dropped_index, StandsAt}
+use Rattle.uring_words.specs.Completion.Layout.{cell_index, tail_index, head_index, dropped_index, IsCell, StandsAt}
 use Rattle.uring_words.specs.Completion.Rule.{last_of, AreSized, Agree}
 use Rattle.uring_words.specs.Completion.Steps.{word_stored, tail_stored, dropped_stored, head_loaded, tail_loaded, dropped_loaded}
 use Rattle.uring_words.specs.Places.{place_of}
@@ -67,10 +67,10 @@ keeps-word_stored words a d w h room few =
 
 -- the tail is stored behind the next cell, which is written whole
 pub keeps-tail_stored : (words : List ℕ) (a : AppSide) (d : KernelSide) (w : ℕ) → Agree words a d
-    → length d.put < d.head_seen + d.size → length d.cell ≡ 10
+    → length d.put < d.head_seen + d.size → IsCell d.cell
     → w ≡ word_of d.start (length d.put + 1)
     → Agree (set words (tail_index d.size) w) a (tail_stored d)
-keeps-tail_stored words a d w h room ten is_word =
+keeps-tail_stored words a d w h room cell is_word =
     let size : ℕ = d.size in
     let index : ℕ = tail_index size in
     let some : 0 < size = some_size size h.sized.power in
@@ -84,11 +84,11 @@ keeps-tail_stored words a d w h room ten is_word =
       head = get_or-set_other words index (head_index size) w 0 (λ e. omega arith) ∙ h.head;
       dropped = get_or-set_other words index (dropped_index size) w 0 (λ e. omega arith) ∙ h.dropped;
       small = h.small;
-      whole = λ k e. one_more (λ j x. length x ≡ 10) d.put d.cell e (λ j inside. h.whole j e inside) ten k;
+      whole = λ k e. one_more (λ j x. IsCell x) d.put d.cell e (λ j inside. h.whole j e inside) cell k;
       stand = λ k e low within.
           let there : place_of d.start size k < size = place_below d.start size k some in
           stands_elsewhere words (place_of d.start size k) index w (get_or (d.put ++ d.cell ∷ []) k e) (λ j inside is. omega arith)
-          (one_more (λ j x. length a.got ≤ j → StandsAt words (place_of d.start size j) x) d.put d.cell e (λ j inside low'. h.stand j e low' inside) (λ _ j inside. h.writing j (omega arith)) k within low);
+          (one_more (λ j x. length a.got ≤ j → StandsAt words (place_of d.start size j) x) d.put d.cell e (λ j inside low'. h.stand j e low' inside) (λ _ j inside. h.writing j (omega (arith, cell.many))) k within low);
       writing = λ k none. absurd (omega arith);
       few = omega arith;
       rest = h.rest ++ d.cell ∷ [];
@@ -223,7 +223,7 @@ known_stands words a d c cs h is =
     let at = known_at words a d c cs h is in
     rw (h.sized.start, h.sized.size) (
       subst (λ (x : List ℕ). StandsAt words (place_of d.start d.size (length a.got)) x) at.0 (h.stand (length a.got) c (omega arith) at.1),
-      subst (λ (x : List ℕ). length x ≡ 10) at.0 (h.whole (length a.got) c at.1),
+      subst (λ (x : List ℕ). length x ≡ 10) at.0 (h.whole (length a.got) c at.1).many,
     )
 
 -- the head is stored behind the first of the known completions, which is then got

@@ -1,5 +1,5 @@
 -- Which words are a position's, what it holds, and what loading its words makes of what the dispatcher knows.
-use Rattle.std.proofs.Common.{◌≡◌, ℕ, eqb, ◌+◌, ◌<◌, ◌≤◌, Bool, true, false, nat_lt, List, [], ◌∷◌, length, if◌then◌else◌, refl, ◌∙◌, ap, arith, eq-eqb, ne_eqb}
+use Rattle.std.proofs.Common.{◌≡◌, ℕ, eqb, ◌+◌, ◌^◌, ◌<◌, ◌≤◌, Bool, true, false, nat_lt, List, [], ◌∷◌, length, if◌then◌else◌, refl, ◌∙◌, ap, arith, eq-eqb, ne_eqb}
 use Rattle.std.proofs.lemmas.Bool.Decides.{nat_tests}
 use Rattle.uring_ports.specs.declared.item.Item.TheVariants as item
 use Rattle.uring_words.specs.Submission.Calls.{item_from}
@@ -10,21 +10,21 @@ use Rattle.uring_words.specs.declared.submission.view.KernelSide.{KernelSide}
 use Rattle.uring_words.specs.declared.submission.view.Position.{Position}
 
 pub entry_position : (size place mark : ℕ) (entry : List ℕ) → place < size → slot_of mark ≡ place
-    → closes mark ≡ false → length entry ≡ 16
+    → closes mark ≡ false → mark < 2 ^ 33 → length entry ≡ 16
     → IsPosition size place (record { mark = mark; entry = entry })
-entry_position size place mark entry below slot open' many =
+entry_position size place mark entry below slot open' high many =
     let within : slot_of mark < size = omega arith in
     let test : nat_lt (slot_of mark) size ≡ true = grind (arith, nat_tests) in
     let has : has_entry size mark ≡ true = rw (open', test) refl in
-    record { entry = rw has many; own_slot = λ _. slot }
+    record { high = λ _. high; entry = rw has many; own_slot = λ _. slot }
 
 pub bad_position : (size place mark low : ℕ) → size ≤ low → slot_of mark ≡ low → closes mark ≡ false
-    → IsPosition size place (record { mark = mark; entry = [] })
-bad_position size place mark low above slot open' =
+    → mark < 2 ^ 33 → IsPosition size place (record { mark = mark; entry = [] })
+bad_position size place mark low above slot open' high =
     let without : size ≤ slot_of mark = omega arith in
     let test : nat_lt (slot_of mark) size ≡ false = grind (arith, nat_tests) in
     let none : has_entry size mark ≡ false = rw (open', test) refl in
-    record { entry = rw none refl; own_slot = λ has. absurd (cc (none, has)) }
+    record { high = λ _. high; entry = rw none refl; own_slot = λ has. absurd (cc (none, has)) }
 
 -- entry words hold an entry
 pub item_with_words : (mark : ℕ) (entry : List ℕ) → length entry ≡ 16

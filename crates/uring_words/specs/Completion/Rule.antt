@@ -4,7 +4,7 @@ use Rattle.std.specs.Int.{IsPowerOfTwo}
 use Rattle.atomic_table.specs.Table.{State}
 use Rattle.uring_entry.specs.IndexWords.{word_of}
 use Rattle.uring_ports.specs.Dropped.{WereHad}
-use Rattle.uring_words.specs.Completion.Layout.{cell_index, tail_index, head_index, dropped_index, word_count, StandsAt}
+use Rattle.uring_words.specs.Completion.Layout.{cell_index, tail_index, head_index, dropped_index, word_count, IsCell, StandsAt}
 use Rattle.uring_words.specs.Places.{place_of}
 use Rattle.uring_words.specs.Sides.{AgreeBy, both_know}
 use Rattle.uring_words.specs.declared.completion.view.AppSide.{AppSide}
@@ -29,7 +29,7 @@ pub record AreSized (words : List ℕ) (a : AppSide) (d : KernelSide) : Type 0 w
   pub limit : d.size ≤ 8192
   pub many : length words ≡ word_count d.size
 
--- What the application and the dispatcher know of the table, between any two steps: the cells at every count from the head on, below the tail, hold what the dispatcher put there; what the application got, and then what it knows to be there, begins what was put; the dropped word is the last that the dispatcher stored, and those that the application loaded are, in order, words that it had.
+-- What the application and the dispatcher know of the table, between any two steps: the cells at every count from the head on, below the tail, hold what the dispatcher put there, ten words with no flags; what the application got, and then what it knows to be there, begins what was put; the dropped word is the last that the dispatcher stored, and those that the application loaded are, in order, words that it had.
 pub record Agree (words : List ℕ) (a : AppSide) (d : KernelSide) : Type 0 where
   pub sized : AreSized words a d
   pub head_seen : d.head_seen ≤ length a.got
@@ -38,7 +38,7 @@ pub record Agree (words : List ℕ) (a : AppSide) (d : KernelSide) : Type 0 wher
   pub head : slice_index words (head_index d.size) ≡ word_of d.start (length a.got)
   pub dropped : slice_index words (dropped_index d.size) ≡ last_of 0 d.dropped
   pub small : last_of 0 d.dropped < 2 ^ 32
-  pub whole : (k : ℕ) (e : List ℕ) → k < length d.put → length (slice_index_or d.put k e) ≡ 10
+  pub whole : (k : ℕ) (e : List ℕ) → k < length d.put → IsCell (slice_index_or d.put k e)
   pub stand : (k : ℕ) (e : List ℕ) → length a.got ≤ k → k < length d.put
       → StandsAt words (place_of d.start d.size k) (slice_index_or d.put k e)
   pub writing : (k : ℕ) → k < length d.cell

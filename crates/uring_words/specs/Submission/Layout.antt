@@ -1,5 +1,5 @@
 -- The words of the submission ring's table, and what they say. That each is a word of 64 bits, and all that the array words say beside a slot, is our own rule.
-use Rattle.std.specs.Prelude.{◌≡◌, ℕ, ◌+◌, ◌*◌, ◌/◌, ◌%◌, ◌^◌, ◌<◌, Bool, true, ◌==◌, not, ◌&&◌, nat_lt, List, length, slice_index, if◌then◌else◌}
+use Rattle.std.specs.Prelude.{◌≡◌, ℕ, ◌+◌, ◌*◌, ◌/◌, ◌%◌, ◌^◌, ◌<◌, Bool, true, false, ◌==◌, not, ◌&&◌, nat_lt, List, length, slice_index, if◌then◌else◌}
 use Rattle.uring_words.specs.declared.submission.view.Position.{Position}
 
 -- Each slot has 16 entry words. Behind those of all slots come the array words, one a place, the tail word and the head word. io_uring(7), Setting up io_uring
@@ -41,8 +41,9 @@ slot_of mark = mark % 2 ^ 32
 abbrev pub has_entry : ℕ → ℕ → Bool
 has_entry size mark = not (closes mark) && nat_lt (slot_of mark) size
 
--- What the application records for a place: an array word, and 16 entry words if that names the place's own slot, or else none.
+-- What the application records for a place: an array word, which is the close mark or has no bit above bit 32, and 16 entry words if that names the place's own slot, or else none.
 pub record IsPosition (size place : ℕ) (p : Position) : Type 0 where
+  pub high : closes p.mark ≡ false → p.mark < 2 ^ 33
   pub entry : length p.entry ≡ (if has_entry size p.mark then 16 else 0)
   pub own_slot : has_entry size p.mark ≡ true → slot_of p.mark ≡ place
 

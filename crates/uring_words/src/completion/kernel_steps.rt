@@ -2,7 +2,7 @@
 ghost use Rattle.std.specs.Prelude.{◌≡◌, ◌+◌, ◌<◌, ◌≤◌, true, [], length};
 ghost use Rattle.uring_entry.specs.IndexWords.{word_of};
 ghost use Rattle.uring_entry.specs.Layout.{completion_of};
-ghost use Rattle.uring_words.specs.Completion.Layout.{word_count};
+ghost use Rattle.uring_words.specs.Completion.Layout.{word_count, IsCell};
 ghost use Rattle.uring_words.specs.Completion.Steps.{tail_stored};
 ghost use Rattle.uring_words.specs.Places.{place_of};
 ghost use Rattle.uring_words.specs.Sides.{with_kernel};
@@ -11,9 +11,10 @@ use crate::completion::table::{Seat, StoreTail, StoreWord, Words};
 use uring_entry::Cqe;
 use uring_entry::laws::completions_have_their_words;
 
-// The words of a completion, which give it back.
+// The words of a completion, which give it back and have no flags.
 pub fn cell_of(completion: &Cqe) -> [u64; 10]
-    ensures { completion_of result ≡ completion.now }
+    ensures back { completion_of result ≡ completion.now }
+    ensures cell { IsCell result }
 {
     completions_have_their_words();
     // Says that the result has 32 bits.
@@ -46,7 +47,7 @@ pub fn store_tail(words: &Words, seat: &mut Seat, size: u32, tail: u32)
     requires table { (seat.old.table_id ≡ words.now.table_id)
         × (words.now.table_id.words ≡ word_count size) }
     requires kernel { (seat.old.me.0.is_kernel ≡ true) × (seat.old.me.0.kernel.size ≡ size)
-        × (length seat.old.me.0.kernel.cell ≡ 10) }
+        × IsCell seat.old.me.0.kernel.cell }
     requires tail { tail
         ≡ word_of seat.old.me.0.kernel.start (length seat.old.me.0.kernel.put + 1) }
     requires room { length seat.old.me.0.kernel.put < seat.old.me.0.kernel.head_seen + size }

@@ -1,5 +1,5 @@
 //! The application's steps on the table, from one word up to one call.
-ghost use Rattle.std.specs.Prelude.{◌≡◌, ◌+◌, ◌<◌, ◌≤◌, true, false, [], length};
+ghost use Rattle.std.specs.Prelude.{◌≡◌, ◌+◌, ◌^◌, ◌<◌, ◌≤◌, true, false, [], length};
 ghost use Rattle.std.specs.Int.{IsPowerOfTwo};
 ghost use Rattle.uring_entry.specs.IndexWords.{word_of};
 ghost use Rattle.uring_entry.specs.Submission.{IsItem};
@@ -26,6 +26,7 @@ fn mark_of(low: u32, last: bool) -> u64
     ensures low { slot_of result ≡ low }
     ensures last { ends_call result ≡ last }
     ensures open { closes result ≡ false }
+    ensures high { result < 2 ^ 33 }
 {
     if last {
         LAST_OF_CALL + low as u64

@@ -29,7 +29,7 @@ store_mark-requires c =
       size = (some, c.requires.size.1);
       place = place;
       room = c.requires.room;
-      formed = entry_position c.args.size (c.args.word % c.args.size) c.mark_of.result c.words.result (omega (arith, place)) m.low m.open e.many;
+      formed = entry_position c.args.size (c.args.word % c.args.size) c.mark_of.result c.words.result (omega (arith, place)) m.low m.open m.high e.many;
     })
 
 pub store_mark-requires-in-Bad : goal.store_mark-requires-in-Bad
@@ -44,5 +44,5 @@ store_mark-requires-in-Bad c =
       size = (some, c.requires.size.1);
       place = place;
       room = c.requires.room;
-      formed = rw c.requires.app.2 (bad_position c.args.size (c.args.word % c.args.size) c.mark_of-in-Bad.result c.in-Bad.low above m.low m.open);
+      formed = rw c.requires.app.2 (bad_position c.args.size (c.args.word % c.args.size) c.mark_of-in-Bad.result c.in-Bad.low above m.low m.open m.high);
     }
