@@ -39,8 +39,9 @@ and RAW 128 bytes, in lower case hexadecimal.";
 /// The reasons of `uring explain`, for its help.
 pub(crate) const REASONS: &str = "\
 Steps and answers are those of trace. Behind an answer to issue, and behind
-not running, stand two spaces, # and the reason:
-  never accepted, has ended, runs, waits for nobody
+not running, stand two spaces, # and the reason. The answer running has none,
+nor has a cancel of all that is carried out. The reasons:
+  never accepted, has ended, waits for nobody
   waits for M: a member of its group
   waits for M: M's group drains
   waits for M: its own group drains
@@ -97,6 +98,7 @@ call, as the end of the input does. A call without items is passed over. Items:
   read UD FLAGS FD OFF LEN
   write UD FLAGS FD OFF HEX
   cancel UD FLAGS TARGET
+  cancelall UD FLAGS TARGET
   op CODE UD FLAGS
   raw RAW
   bad WORD                                 a word that names no slot
