@@ -3,6 +3,7 @@ ghost use Rattle.std.specs.Prelude.{◌≡◌, ◌↔◌, ◌+◌, ◌*◌, ◌<
 ghost use Rattle.uring_entry.specs.Completions.{unreaped};
 ghost use Rattle.uring_entry.specs.Requests.{next_of};
 ghost use Rattle.uring_entry.specs.Submission.{dropped};
+ghost use Rattle.uring_machine.specs.Histories.{IsLawfulApart, history_of};
 ghost use Rattle.uring_ports.specs.Dropped.{with_word, WereStored};
 ghost use Rattle.uring_ports.specs.Items.{AreItems};
 ghost use Rattle.uring_ports.specs.Ports.{nothing_put, sizes_of, items_of_calls, LeavesItems, LeavesCompletions};
@@ -137,12 +138,12 @@ impl<P: KernelPort> Kernel<P> {
         let counts = self.kept.counts();
         self.intake == Intake::Closed && counts.outstanding == 0 && counts.posted == counts.reaped
     }
-    /// A law, and no code: the trace has all that went through this end's hands.
+    /// A law, and no code: at every moment the trace is lawful apart from what operations gave, and has all that went through this end's hands.
     pub fn is_right(&self)
-        ensures { IsKernel self.now }
+        ensures lawful { IsLawfulApart self.now.kept.setup (history_of self.now.kept.trace) }
+        ensures hands { IsKernel self.now }
     {
-        // A body knows the invariant once it reads a field.
-        let _intake = &self.intake;
+        self.kept.is_lawful();
     }
 
     /// Makes room in the trace for 64 results of each worker, and a list for all completions that may wait then. `AllocError`: the system is out of memory.

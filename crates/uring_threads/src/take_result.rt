@@ -1,6 +1,6 @@
 //! The dispatcher's step on a result that came from a worker.
-ghost use Rattle.std.specs.Prelude.{◌≡◌, ◌++◌, ◌∷◌, [], ◌<◌, ◌≤◌, length, IfOk, IsOk, OnErr, vec_capacity};
-ghost use Rattle.uring_machine.specs.Core.{FitsApart, IsFinished};
+ghost use Rattle.std.specs.Prelude.{◌≡◌, ◌++◌, ◌∷◌, [], ◌<◌, ◌≤◌, length, IfOk, IsOk, OnOk, OnErr, vec_capacity};
+ghost use Rattle.uring_machine.specs.Core.{FitsApart, HasNoLessMemory, IsFinished};
 ghost use Rattle.uring_machine.specs.Histories.{History, world};
 ghost use Rattle.uring_machine.specs.declared.answer.Answer.TheVariants as answer;
 ghost use Rattle.uring_machine.specs.declared.step.Step.TheVariants as step;
@@ -28,6 +28,9 @@ pub fn take_result(
         → IsFinished (world core.old.setup h) number outcome a) }
     ensures not_running { IfOk result
         (λ a. a ≡ answer.NotRunning → (h : History) → FitsApart core.old h → FitsApart core.new h) }
+
+    // No memory that the core had is given back.
+    ensures memory { OnOk result (HasNoLessMemory core.old core.new) }
 
     // It fails only if the trace had no room for one event more.
     ensures room { vec_capacity trace.old ≤ vec_capacity trace.new }

@@ -6,12 +6,12 @@ use Rattle.uring_threads.proofs.settle_ends.settle.Goals as goal
 pub new-requires-clause-lanes : goal.new-requires-clause-lanes
 new-requires-clause-lanes g c =
     let left = c.in-Ok-settle_ports.ensures in
-    lanes_to_settle c.args.app c.args.kernel c.make_room.new.self c.args.workers.items c.in-Ok-settle_ports.kept c.in-Ok-settle_ports.lanes.items c.requires c.in-Ok.ensures.same c.is_right.ensures left.kept left.lanes
+    lanes_to_settle c.args.app c.args.kernel c.make_room.new.self c.args.workers.items c.in-Ok-settle_ports.kept c.in-Ok-settle_ports.lanes.items c.requires c.in-Ok.ensures.same c.is_right.ensures.hands left.kept left.lanes
 
 pub new-requires-clause-carried : goal.new-requires-clause-carried
 new-requires-clause-carried g c =
     let left = c.in-Ok-settle_ports.ensures in
-    carried_to_settle c.make_room.new.self c.in-Ok-settle_ports.kept c.in-Ok-settle_ports.lanes.items c.is_right.ensures left.kept left.lanes
+    carried_to_settle c.make_room.new.self c.in-Ok-settle_ports.kept c.in-Ok-settle_ports.lanes.items c.is_right.ensures.hands left.kept left.lanes
 
 told : (g : Over) (c : goal.After-new g)
     → TellsEnds c.args.app c.args.kernel c.args.workers.items c.new.result
@@ -19,7 +19,7 @@ told g c =
     let left = c.in-Ok-settle_ports.ensures in
     let reported = c.new.ensures in
     tells_ends c.args.app c.args.kernel c.make_room.new.self c.args.workers.items c.in-Ok-settle_ports.kept c.in-Ok-settle_ports.lanes.items c.in-Ok-settle_ports.rests.unsent.items c.in-Ok-settle_ports.rests.undelivered.items c.new.result
-    c.requires c.in-Ok.ensures.same c.is_right.ensures left.kept left.lanes left.items left.completions left.submitted reported.setup reported.trace reported.running reported.rests
+    c.requires c.in-Ok.ensures.same c.is_right.ensures.hands left.kept left.lanes left.items left.completions left.submitted reported.setup reported.trace reported.running reported.rests
 
 pub returns-in-Ok-settle_ports-clause-running : goal.returns-in-Ok-settle_ports-clause-running
 returns-in-Ok-settle_ports-clause-running g c = (told g c).running
