@@ -89,7 +89,7 @@ is_in_group r m n = is_joined r (min m n) (max m n)
 unfoldable pub some_member : Requests → (Sqe → Bool) → ℕ → Bool
 some_member r p n = some_below (λ m. is_in_group r m n && p (entry_of r m)) (length r.accepted)
 
--- whether n's group drains. A group drains where some member does: our own rule
+-- whether n's group drains. A group drains if some member does: our own rule
 abbrev pub is_draining : Requests → ℕ → Bool
 is_draining r n = some_member r is_drain n
 
@@ -140,7 +140,7 @@ least_of r = least_below (is_outstanding r) (length r.accepted)
 
 -- How doomed requests and cancels end.
 
--- the result of a doomed request: EINVAL where it has a fault itself, else ECANCELED. io_uring_enter(2), CQE ERRORS and IOSQE_IO_LINK
+-- the result of a doomed request: EINVAL if it has a fault itself, else ECANCELED. io_uring_enter(2), CQE ERRORS and IOSQE_IO_LINK
 abbrev pub doomed_result : Requests → ℕ → ℤ
 doomed_result r n = if is_faulty (entry_of r n) then neg_ℤ EINVAL else neg_ℤ ECANCELED
 
@@ -153,7 +153,7 @@ is_candidate r n m =
 unfoldable pub target_of : Requests → ℕ → Option ℕ
 target_of r n = least_below (is_candidate r n) (length r.accepted)
 
--- what a cancel that chose this ends with: ENOENT where it chose none, EALREADY where the one chosen is running, else 0. io_uring_enter(2), IORING_OP_ASYNC_CANCEL
+-- what a cancel that chose this ends with: ENOENT if it chose none, EALREADY if the one chosen is running, else 0. io_uring_enter(2), IORING_OP_ASYNC_CANCEL
 abbrev pub result_for : Requests → Option ℕ → ℤ
 result_for r None = neg_ℤ ENOENT
 result_for r (Some m) = if is_running r m then neg_ℤ EALREADY else pos 0

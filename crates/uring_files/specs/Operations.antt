@@ -10,12 +10,12 @@ use Rattle.uring_entry.specs.declared.operation.Outcome.{Outcome}
 use Rattle.uring_files.specs.Contents.{FileContents, empty_file, read_outcome, is_too_long, is_past_end, written, with_writes_synced}
 use Rattle.uring_files.specs.declared.file.FileState.{FileState}
 
--- the file of a descriptor: none where it is negative, or not below the number of files
+-- the file of a descriptor: none if it is negative, or not below the number of files
 abbrev pub file_of : List FileContents → ℤ → Option FileContents
 file_of files (pos fd) = slice_get files fd
 file_of files (negsuc below) = None
 
--- the files with that of a descriptor changed, where it has one
+-- the files with that of a descriptor changed, if it has one
 abbrev pub with_changed : List FileContents → ℤ → (FileContents → FileContents) → List FileContents
 with_changed files (pos fd) change =
     slice_set files fd (change (slice_index_or files fd empty_file))
@@ -33,11 +33,11 @@ IsForFiles (Cancel target all) = ⊥
 abbrev pub ended_with : ℤ → Outcome
 ended_with res = record { res = res; bytes = no_bytes }
 
--- an end on a file: EBADF where the descriptor has none. io_uring_enter(2), CQE ERRORS
+-- an end on a file: EBADF if the descriptor has none. io_uring_enter(2), CQE ERRORS
 abbrev pub on_file : Option FileContents → (FileContents → Outcome) → Outcome
 on_file file outcome = option_map_or outcome file (ended_with (neg_ℤ EBADF))
 
--- The outcome that an operation calls for on these files: 0 where it has nothing to do with them. io_uring_enter(2), IORING_OP_NOP, READ, WRITE and FSYNC; EFBIG at the largest size is our own rule
+-- The outcome that an operation calls for on these files: 0 if it has nothing to do with them. io_uring_enter(2), IORING_OP_NOP, READ, WRITE and FSYNC; EFBIG at the largest size is our own rule
 abbrev pub result_of : List FileContents → Op → Outcome
 result_of files (Read fd off len) = on_file (file_of files fd) (read_outcome off len)
 result_of files (Write fd off len bytes) =
@@ -57,7 +57,7 @@ IsOutcome files op outcome =
     (outcome ≡ result_of files op)
     ⊎ ((is_lengthening files op ≡ true) × (outcome ≡ ended_with (neg_ℤ ENOMEM)))
 
--- The files after an end of an operation with this result: a write and a sync change their file where they succeeded, and nothing else changes any. io_uring_enter(2), IORING_OP_WRITE and IORING_OP_FSYNC
+-- The files after an end of an operation with this result: a write and a sync change their file if they succeeded, and nothing else changes any. io_uring_enter(2), IORING_OP_WRITE and IORING_OP_FSYNC
 abbrev pub after : List FileContents → Op → ℤ → List FileContents
 after files (Write fd off len bytes) res =
     if int_eq res (pos len) then with_changed files fd (written off (take len bytes)) else files

@@ -1,4 +1,4 @@
--- What of workers stays whatever they do.
+-- Glue. What of workers stays whatever they do.
 use Rattle.std.specs.Prelude.{ℕ, List, length, map}
 use Rattle.uring_threads.specs.Worker.{Worker}
 

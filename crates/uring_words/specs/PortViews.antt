@@ -1,4 +1,4 @@
--- What callers see of the two ports over shared words.
+-- Glue. What callers see of the two ports over shared words.
 use Rattle.std.specs.Prelude.{ℕ, List, ◌∷◌, ◌++◌, length}
 use Rattle.atomic_table.specs.Seated.{TableId}
 use Rattle.uring_entry.specs.Layout.{Cqe}
