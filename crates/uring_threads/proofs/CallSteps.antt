@@ -1,7 +1,7 @@
 -- How the steps of a submission call are answered, and what they make: from the laws of the call of the positions that wait.
-use Rattle.std.proofs.Common.{◌≡◌, ℕ, ◌+◌, ◌<◌, false, [], refl, subst, ap, ◌∙◌, inl, inr, arith}
+use Rattle.std.proofs.Common.{◌≡◌, ℕ, ◌+◌, ◌<◌, false, true, [], refl, sym, subst, ap, ◌∙◌, inl, inr, arith}
 use Rattle.uring_machine.specs.World.{World, happens, beginning}
-use Rattle.uring_machine.specs.StepAnswers.{CalledForApart}
+use Rattle.uring_machine.specs.StepAnswers.{CalledForApart, is_spent}
 use Rattle.uring_laws.specs.Standing.{Stands, in_call, after_call}
 use Rattle.uring_laws.proofs.Standing.{call_opens, call_closes, position_taken}
 use Rattle.uring_machine.specs.declared.step.Step.TheVariants as step
@@ -20,6 +20,17 @@ begun_cases a count x s not_closed called not_call not_again not_spent =
       | inl (inl same) ↦ not_call count same
       | inl (inr again) ↦ not_again again.0
       | inr spent ↦ not_spent spent.0
+    ]
+
+-- and with Spent only if the numbers are spent
+pub begun_spent : (a : Kept) (count : ℕ) (x : Answer) → Stands (now a).submission [] count
+    → (now a).is_closed ≡ false → CalledForApart a.setup (now a) (step.Begin count) x
+    → x ≡ answer.Spent → is_spent (now a) count ≡ true
+begun_spent a count x s not_closed called is =
+    elim (call_opens a.setup (now a) count count x s not_closed (omega arith) called).0 [
+      | inl (inl same) ↦ absurd (let clash : answer.Call count ≡ answer.Spent = sym same ∙ is in cc)
+      | inl (inr again) ↦ absurd (let clash : answer.Again ≡ answer.Spent = sym again.0 ∙ is in cc)
+      | inr spent ↦ spent.1
     ]
 
 -- a position was taken

@@ -98,7 +98,7 @@ only_posts : (a : Kept) (n : ℕ) (res : ℤ) (bytes : List ℕ)
     → OnlyPosts (now a) (issuing a.setup (now a) n (answer.Ended res bytes))
 only_posts a n res bytes =
     let p = end_posts a.setup.cq (now a).completions (entry_of (now a).requests n) res no_bytes in
-    record { submission = refl; is_closed = refl; reaped = p.0; head = p.1 }
+    record { submission = refl; accepted = refl; is_closed = refl; reaped = p.0; head = p.1 }
 
 ended_stays : (a b : Kept) (n : ℕ) → IssuedAs a b n None → WorkStays a b
 ended_stays a b n issued = by_answer issued.0 issued.1 issued.2 where

@@ -15,11 +15,12 @@ end_posts size l entry res bytes = by_posts (posts_completion entry res) where
   by_posts false = (refl, refl)
 
 pub posts_none : (w : World) → OnlyPosts w w
-posts_none w = record { submission = refl; is_closed = refl; reaped = refl; head = refl }
+posts_none w = record { submission = refl; accepted = refl; is_closed = refl; reaped = refl; head = refl }
 
 pub posts_then : (w v u : World) → OnlyPosts w v → OnlyPosts v u → OnlyPosts w u
 posts_then w v u p q = record {
   submission = q.submission ∙ p.submission;
+  accepted = q.accepted ∙ p.accepted;
   is_closed = q.is_closed ∙ p.is_closed;
   reaped = q.reaped ∙ p.reaped;
   head = q.head ∙ p.head;

@@ -54,7 +54,7 @@ finishes_post g events [] = subst (λ es. OnlyPosts (world g (history_of events)
 finishes_post g events (r ∷ rs) =
     let w : World = world g (history_of events) in
     let p = end_posts g.cq w.completions (entry_of w.requests r.number) r.outcome.res r.outcome.bytes in
-    let one : OnlyPosts w (world g (history_of (events ++ finish_of r ∷ []))) = subst (λ h. OnlyPosts w (world g h)) (sym (history_of-snoc events (finish_of r))) (record { submission = refl; is_closed = refl; reaped = p.0; head = p.1 }) in
+    let one : OnlyPosts w (world g (history_of (events ++ finish_of r ∷ []))) = subst (λ h. OnlyPosts w (world g h)) (sym (history_of-snoc events (finish_of r))) (record { submission = refl; accepted = refl; is_closed = refl; reaped = p.0; head = p.1 }) in
     subst (λ es. OnlyPosts w (world g (history_of es))) (append_assoc events (finish_of r ∷ []) (map finish_of rs))
     (posts_then w (world g (history_of (events ++ finish_of r ∷ []))) (world g (history_of ((events ++ finish_of r ∷ []) ++ map finish_of rs))) one (finishes_post g (events ++ finish_of r ∷ []) rs))
 

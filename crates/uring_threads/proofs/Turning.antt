@@ -1,9 +1,9 @@
 -- The dispatcher's ties stay through the parts of a turn, and their tallies add up.
 use Rattle.std.proofs.Common.{◌≡◌, ℕ, List, [], ◌++◌, sum, refl, sym, subst, ap, ap₂, ◌∙◌, arith}
-use Rattle.std.specs.Prelude.{◌⊎◌, None, Result, IfOk}
-use Rattle.uring_entry.specs.Requests.{next_of}
+use Rattle.std.specs.Prelude.{◌⊎◌, ◌+◌, ◌-◌, ◌^◌, length, nat_lt, None, Result, IfOk}
+use Rattle.uring_entry.specs.Requests.{Requests, next_of}
 use Rattle.uring_entry.specs.Setup.{Setup}
-use Rattle.uring_entry.specs.Layout.{Cqe}
+use Rattle.uring_entry.specs.Layout.{Cqe, Sqe}
 use Rattle.uring_entry.specs.Submission.{Submission, published_items}
 use Rattle.uring_laws.specs.Standing.{Stands}
 use Rattle.uring_ports.specs.Ports.{Put}
@@ -14,8 +14,9 @@ use Rattle.uring_threads.specs.Kept.{Kept, now, IsUnmoved}
 use Rattle.uring_threads.specs.Kernel.{Kernel, IsKernel}
 use Rattle.uring_threads.specs.Taking.{TakesIn}
 use Rattle.uring_threads.specs.Tallies.{Tally, Appends, both, none_counted, issues_counted, finishes_counted, reaps_counted}
-use Rattle.uring_threads.specs.Turns.{AreTies, Counts, IsDelivered, Tied, ClosesOnce, waiting_in}
+use Rattle.uring_threads.specs.Turns.{AreTies, Counts, IsDelivered, IsGivenUpAsSpent, Tied, ClosesOnce, waiting_in}
 use Rattle.uring_threads.specs.declared.intake.Intake.{Intake}
+use Rattle.uring_threads.specs.declared.intake.Intake.TheVariants as intake
 use Rattle.uring_threads.specs.declared.work_lanes.WorkLanes.{WorkLanes}
 use Rattle.uring_threads.proofs.Carrying.{quiet_stays, carried_stays}
 use Rattle.uring_threads.proofs.Closing.{once_stays, once_unmoved}
@@ -34,6 +35,15 @@ ties_taken a b pulled later delivered i j lanes n t p tied once same =
       carried = carried_stays a b lanes (quiet_stays a b _ p.appends refl refl) t.carried;
     }
 
+-- a call that was given up stays so where no request was accepted
+given_up_stays : (w v : World) (i : Intake) → v.requests.accepted ≡ w.requests.accepted
+    → IsGivenUpAsSpent w i → IsGivenUpAsSpent v i
+given_up_stays w v intake.Ready same given = tt
+given_up_stays w v (intake.Waiting count) same given = tt
+given_up_stays w v (intake.Spent count) same given =
+    ap (λ (es : List Sqe). nat_lt (2 ^ 63 - 1) (length es + count)) same ∙ given
+given_up_stays w v intake.Closed same given = tt
+
 -- requests were issued or ended
 pub ties_posted : (a b : Kept) (pulled : Put) (delivered : List Cqe) (i : Intake) (lanes later : List WorkLanes) (t : Tally)
     → AreTies a pulled delivered i lanes → Appends a b t → t.closes ≡ 0 → OnlyPosts (now a) (now b)
@@ -45,6 +55,7 @@ ties_posted a b pulled delivered i lanes later t s p closes posts carried =
             published = λ good. ap (λ l. published_items l) posts.submission ∙ s.tied.published good;
             calls = ap (λ (l : Submission). l.calls ++ waiting_in i) posts.submission ∙ s.tied.calls;
             stands = subst (λ l. Stands l [] (sum (waiting_in i))) (sym posts.submission) s.tied.stands;
+            spent = given_up_stays (now a) (now b) i posts.accepted s.tied.spent;
             closed = posts.is_closed ∙ s.tied.closed;
             shut = s.tied.shut;
           });
@@ -65,6 +76,7 @@ ties_delivered a b pulled before delivered i lanes t s p issues finishes closes 
             published = λ good. ap (λ l. published_items l) keeps.submission ∙ s.tied.published good;
             calls = ap (λ (l : Submission). l.calls ++ waiting_in i) keeps.submission ∙ s.tied.calls;
             stands = subst (λ l. Stands l [] (sum (waiting_in i))) (sym keeps.submission) s.tied.stands;
+            spent = given_up_stays (now a) (now b) i (ap (λ (r : Requests). r.accepted) keeps.requests) s.tied.spent;
             closed = keeps.is_closed ∙ s.tied.closed;
             shut = s.tied.shut;
           });

@@ -4,7 +4,7 @@ use Rattle.std.proofs.lemmas.List.{map-append}
 use Rattle.std.proofs.lemmas.List.Sums.{sum_by_push}
 use Rattle.uring_entry.specs.Submission.{Submission, Published, with_entry, bad_word, IsItem}
 use Rattle.uring_machine.specs.World.{World, closing}
-use Rattle.uring_machine.specs.StepAnswers.{close_answer}
+use Rattle.uring_machine.specs.StepAnswers.{close_answer, is_spent}
 use Rattle.uring_laws.specs.Standing.{Stands}
 use Rattle.uring_ports.specs.Items.{all_published_as}
 use Rattle.uring_ports.specs.Ports.{Put, items_of_calls}
@@ -38,19 +38,20 @@ use Rattle.uring_threads.specs.declared.intake.Intake.TheVariants as intake
 -- the call that waited was begun
 pub tied_begun : (size : ℕ) (w v : World) (put : Put) (count : ℕ) (b : Begun)
     → Tied size w put (intake.Waiting count) → v ≡ with_begun_as w count b
-    → Tied size v put (intake_after count b)
-tied_begun size w v put count begun.Taken t e =
+    → (b ≡ begun.Spent → is_spent w count ≡ true) → Tied size v put (intake_after count b)
+tied_begun size w v put count begun.Taken t e spent =
     subst (λ u. Tied size u put intake.Ready) (sym e)
     (record {
       published = t.published;
       calls = append-nil (w.submission.calls ++ count ∷ []) ∙ t.calls;
       stands = record { fresh = t.stands.fresh; call = refl; head = refl; waiting = omega (arith, t.stands.waiting, sum_by_push (λ x. x) w.submission.calls count) };
+      spent = tt;
       closed = t.closed;
       shut = t.shut;
     })
-tied_begun size w v put count begun.Again t e =
+tied_begun size w v put count begun.Again t e spent =
     subst (λ u. Tied size u put (intake.Waiting count)) (sym e) t
-tied_begun size w v put count begun.Spent t e = subst (λ u. Tied size u put (intake.Spent count)) (sym e) (record { published = t.published; calls = t.calls; stands = t.stands; closed = t.closed; shut = t.shut })
+tied_begun size w v put count begun.Spent t e spent = subst (λ u. Tied size u put (intake.Spent count)) (sym e) (record { published = t.published; calls = t.calls; stands = t.stands; spent = spent refl; closed = t.closed; shut = t.shut })
 
 -- the items of calls with one more
 items_of_calls-snoc : (calls : List (List Item)) (items : List Item)
@@ -93,6 +94,7 @@ tied_published size w put items t not_closed few =
           ∙ ap (λ xs. xs ++ shown) (t.published (all_first (IsItem size) before shown all)) ∙ sym whole;
       calls = ap (λ xs. xs ++ length items ∷ []) (items_keep_calls l 0 shown ∙ sym (append-nil l.calls) ∙ t.calls) ∙ sym (map-append length put.calls (items ∷ []));
       stands = subst (Stands _ []) (many ∙ omega arith) (tail_publishes (record { sq = size; cq = 0; files = 0; start = 0; stops = false }) _ _ put_stands.0);
+      spent = tt;
       closed = t.closed;
       shut = sym not_closed;
     }
@@ -102,10 +104,11 @@ pub tied_pulled : (size : ℕ) (w v : World) (put after : Put) (items : List Ite
     → Tied size w put intake.Ready → put.closed ≡ false → length items ≤ size
     → after ≡ with_call put items
     → v ≡ with_begun_as (with_items_published size w (all_published_as items)) (length items) b
+    → (b ≡ begun.Spent → is_spent w (length items) ≡ true)
     → Tied size v after (intake_after (length items) b)
-tied_pulled size w v put after items b t not_closed few pulled e =
+tied_pulled size w v put after items b t not_closed few pulled e spent =
     subst (λ p. Tied size v p (intake_after (length items) b)) (sym pulled)
-    (tied_begun size (with_items_published size w (all_published_as items)) v (with_call put items) (length items) b (tied_published size w put items t not_closed few) e)
+    (tied_begun size (with_items_published size w (all_published_as items)) v (with_call put items) (length items) b (tied_published size w put items t not_closed few) e spent)
 
 -- What a row of the intake appends.
 
@@ -176,8 +179,9 @@ call_waits a r put count i u waits t =
 -- and once it was begun again
 pub tied_again : (a r b : Kept) (put : Put) (count : ℕ) (i : Intake) (x : Begun) → IsUnmoved a r
     → i ≡ intake.Waiting count → now b ≡ with_begun_as (now r) count x
+    → (x ≡ begun.Spent → is_spent (now r) count ≡ true)
     → Tied a.setup.sq (now a) put i → Tied a.setup.sq (now b) put (intake_after count x)
-tied_again a r b put count i x u waits e t = tied_begun a.setup.sq (now a) (now b) put count x (subst (Tied a.setup.sq (now a) put) waits t) (e ∙ ap (λ w. with_begun_as w count x) (unmoved_now a r u))
+tied_again a r b put count i x u waits e spent t = tied_begun a.setup.sq (now a) (now b) put count x (subst (Tied a.setup.sq (now a) put) waits t) (e ∙ ap (λ w. with_begun_as w count x) (unmoved_now a r u)) (λ is. ap (λ w. is_spent w count) (sym (unmoved_now a r u)) ∙ spent is)
 
 pub begun_completions : (w : World) (count : ℕ) (x : Begun)
     → (with_begun_as w count x).completions ≡ w.completions
@@ -205,11 +209,12 @@ pub tied_taken : (a b : Kept) (before after : Put) (items : List Item) (i : Inta
     → i ≡ intake.Ready
     → now b
     ≡ with_begun_as (with_items_published a.setup.sq (now a) (all_published_as items)) (length items) x
+    → (x ≡ begun.Spent → is_spent (now a) (length items) ≡ true)
     → Tied a.setup.sq (now a) before i
     → (0 < length items) × (length items ≤ a.setup.sq) × (before.closed ≡ false)
     × (after ≡ with_call before items)
     → Tied a.setup.sq (now b) after (intake_after (length items) x)
-tied_taken a b before after items i x ready e t pulled = tied_pulled a.setup.sq (now a) (now b) before after items x (subst (Tied a.setup.sq (now a) before) ready t) pulled.2 pulled.1 pulled.3 e
+tied_taken a b before after items i x ready e spent t pulled = tied_pulled a.setup.sq (now a) (now b) before after items x (subst (Tied a.setup.sq (now a) before) ready t) pulled.2 pulled.1 pulled.3 e spent
 
 pub taken_completions : (a b : Kept) (items : List Item) (x : Begun)
     → now b
@@ -228,7 +233,7 @@ pub tied_shut : (a b : Kept) (x : Answer) (before after : Put) (i : Intake) → 
 tied_shut a b x before after i ready g called tied pulled =
     let t : Tied a.setup.sq (now a) before intake.Ready = subst (Tied a.setup.sq (now a) before) ready tied in
     subst (λ w. Tied a.setup.sq w after intake.Closed) (sym (closed_world a b x g called t.stands.call))
-    (subst (λ p. Tied a.setup.sq (record (now a) { is_closed = true }) p intake.Closed) (sym pulled) (record { published = t.published; calls = t.calls; stands = t.stands; closed = refl; shut = refl }))
+    (subst (λ p. Tied a.setup.sq (record (now a) { is_closed = true }) p intake.Closed) (sym pulled) (record { published = t.published; calls = t.calls; stands = t.stands; spent = tt; closed = refl; shut = refl }))
 
 -- what that appended
 pub takes_shut : (a b : Kept) (x : Answer) → Grows a b (step.Close, x) → TakesIn a b 0

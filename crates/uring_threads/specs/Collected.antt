@@ -55,7 +55,7 @@ abbrev pub OtherLanesStay : List WorkLanes → List WorkLanes → ℕ → Type 0
 OtherLanesStay old new place =
     (k : ℕ) → k ≢ place → (d : WorkLanes) → get_or new k d ≡ get_or old k d
 
--- the next result was taken in, or nothing was, where it can't be
+-- the next result was taken in, or nothing was, if it can't be
 abbrev pub TakesNext : Kept → Kept → ℕ → ℕ → List JobResult → List JobResult → List JobResult → Bool
     → Type 0
 TakesNext old new workers place before after seen true = (r : JobResult)
@@ -74,7 +74,7 @@ pub record Collects (old new : Kept) (workers place count : ℕ) : Type 0 where
   pub others : OthersStay old new workers place
   pub none_comes : NoneComes old new workers
 
--- one more result was taken in, or none, where none is seen or the next can't be taken in
+-- one more result was taken in, or none, if none is seen or the next can't be taken in
 abbrev pub CollectsNext : Kept → Kept → ℕ → ℕ → List JobResult → Bool → Type 0
 CollectsNext old new workers place seen true = Collects old new workers place 1
 CollectsNext old new workers place seen false =

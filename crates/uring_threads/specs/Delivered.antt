@@ -19,9 +19,10 @@ pub record KeepsAllBut (w v : World) : Type 0 where
   pub is_closed : v.is_closed ≡ w.is_closed
   pub posted : v.completions.posted ≡ w.completions.posted
 
--- Requests were issued or ended, and nothing else happened: the submission ring stays, and of the completions only more were posted.
+-- Requests were issued or ended, and nothing else happened: the submission ring stays, no request was accepted, and of the completions only more were posted.
 pub record OnlyPosts (w v : World) : Type 0 where
   pub submission : v.submission ≡ w.submission
+  pub accepted : v.requests.accepted ≡ w.requests.accepted
   pub is_closed : v.is_closed ≡ w.is_closed
   pub reaped : v.completions.reaped ≡ w.completions.reaped
   pub head : v.completions.head ≡ w.completions.head

@@ -10,7 +10,7 @@ use Rattle.uring_threads.specs.Turns.{AreTies}
 use Rattle.uring_threads.specs.declared.intake.Intake.{Intake}
 use Rattle.uring_threads.specs.declared.work_lanes.WorkLanes.{WorkLanes}
 
--- The trace; how the intake stands; the lanes of the workers; and of the port its pairing and sizes, all that it pulled, all that it delivered, and every dropped word that it stored, without a list where no such word lies between the ends.
+-- The trace; how the intake stands; the lanes of the workers; and of the port its pairing and sizes, all that it pulled, all that it delivered, and every dropped word that it stored, without a list if no such word lies between the ends.
 pub record Kernel : Type 0 where
   pub kept : Kept
   pub intake : Intake

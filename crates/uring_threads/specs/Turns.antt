@@ -4,6 +4,7 @@ use Rattle.uring_entry.specs.Completions.{Completions}
 use Rattle.uring_entry.specs.Layout.{Cqe}
 use Rattle.uring_entry.specs.Submission.{published_items}
 use Rattle.uring_laws.specs.Standing.{Stands}
+use Rattle.uring_machine.specs.StepAnswers.{is_spent}
 use Rattle.uring_machine.specs.World.{World}
 use Rattle.uring_ports.specs.Items.{all_published_as, AreItems}
 use Rattle.uring_ports.specs.Ports.{Put, items_of_calls}
@@ -27,12 +28,18 @@ abbrev pub is_shut : Intake → Bool
 is_shut intake.Closed = true
 is_shut _ = false
 
--- All that was pulled is in the submission ring: its items, in order, are published, if they are items of a ring of this size; its calls were begun, each as long as it was pulled, but for the last one where that waits; and the ring is closed once the close mark was pulled. Between calls the ring stands.
+-- a call is given up only if the numbers of requests are spent
+abbrev pub IsGivenUpAsSpent : World → Intake → Type 0
+IsGivenUpAsSpent w (intake.Spent count) = is_spent w count ≡ true
+IsGivenUpAsSpent w _ = Unit {0}
+
+-- All that was pulled is in the submission ring: its items, in order, are published, if they are items of a ring of this size; its calls were begun, each as long as it was pulled, but for the last one if that waits or was given up; and the ring is closed once the close mark was pulled. Between calls the ring stands.
 pub record Tied (size : ℕ) (w : World) (pulled : Put) (i : Intake) : Type 0 where
   pub published : AreItems size (items_of_calls pulled.calls)
       → published_items w.submission ≡ all_published_as (items_of_calls pulled.calls)
   pub calls : w.submission.calls ++ waiting_in i ≡ map length pulled.calls
   pub stands : Stands w.submission [] (sum (waiting_in i))
+  pub spent : IsGivenUpAsSpent w i
   pub closed : w.is_closed ≡ pulled.closed
   pub shut : is_shut i ≡ pulled.closed
 
@@ -57,7 +64,7 @@ abbrev pub awaits_memory : Intake → Bool
 awaits_memory (intake.Waiting count) = true
 awaits_memory other = false
 
--- The numbers of a turn are those of the events that it appended. Where all of them are 0 and no call was begun and nothing closed, it appended none.
+-- The numbers of a turn are those of the events that it appended. If all of them are 0 and no call was begun and nothing closed, it appended none.
 pub record Counts (old new : Kept) (turn : Turn) : Type 0 where
   pub calls : ℕ
   pub closes : ℕ

@@ -1,6 +1,7 @@
 //! Submission calls: the items of one call published, and the call that takes them.
-ghost use Rattle.std.specs.Prelude.{◌≡◌, ◌+◌, ◌*◌, ◌≤◌, [], length, replicate, false};
+ghost use Rattle.std.specs.Prelude.{◌≡◌, ◌+◌, ◌*◌, ◌≤◌, [], length, replicate, false, true};
 ghost use Rattle.uring_laws.specs.Standing.{Stands, in_call};
+ghost use Rattle.uring_machine.specs.StepAnswers.{is_spent};
 ghost use Rattle.uring_machine.specs.World.{World};
 ghost use Rattle.uring_machine.specs.declared.step.Step.TheVariants as step;
 ghost use Rattle.uring_ports.specs.Items.{all_published_as};
@@ -8,6 +9,7 @@ ghost use Rattle.uring_threads.specs.EventRows.{Records, begin_row, call_row};
 ghost use Rattle.uring_threads.specs.Kept.{now};
 ghost use Rattle.uring_threads.specs.Rows.{with_items_published, with_begun_as};
 ghost use Rattle.uring_threads.specs.Tallies.{Appends, none_counted, call_counted, whole_call_counted};
+ghost use Rattle.uring_threads.specs.declared.calls.Begun.TheVariants as begun;
 
 use crate::kept::Kept;
 use crate::put_items::put_items;
@@ -51,6 +53,9 @@ pub fn begin_call(kept: &mut Kept, count: u32) -> Begun
     ensures world { now kept.new ≡ with_begun_as (now kept.old) count result }
     ensures tally { Appends kept.old kept.new call_counted }
     ensures row { Records kept.old kept.new (begin_row count result) }
+
+    // It is given up only if the numbers of requests are spent.
+    ensures spent { result ≡ begun.Spent → is_spent (now kept.old) count ≡ true }
     ensures length { length kept.new.trace ≤ length kept.old.trace + count + 3 }
 {
     match kept.step_reserved(Step::Begin { count }) {
@@ -77,6 +82,9 @@ pub fn take_call(kept: &mut Kept, items: &[Item]) -> Begun
         (length items.now) result }
     ensures tally { Appends kept.old kept.new (whole_call_counted (length items.now)) }
     ensures row { Records kept.old kept.new (call_row items.now result) }
+
+    // The call is given up only if the numbers of requests are spent.
+    ensures spent { result ≡ begun.Spent → is_spent (now kept.old) (length items.now) ≡ true }
     ensures length { length kept.new.trace ≤ length kept.old.trace + 3 * length items.now + 4 }
 {
     kept.is_lawful();

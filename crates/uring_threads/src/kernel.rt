@@ -2,6 +2,7 @@
 ghost use Rattle.std.specs.Prelude.{◌≡◌, ◌↔◌, ◌+◌, ◌*◌, ◌<◌, ◌≤◌, ◌⊎◌, [], length, count_by, false, None, IsTrue, IfOk, IfErr, OnErr, OnOk, vec_capacity};
 ghost use Rattle.uring_entry.specs.Completions.{unreaped};
 ghost use Rattle.uring_entry.specs.Requests.{next_of};
+ghost use Rattle.uring_entry.specs.Setup.{IsWithinLimits};
 ghost use Rattle.uring_entry.specs.Submission.{dropped};
 ghost use Rattle.uring_machine.specs.Histories.{IsLawfulApart, history_of};
 ghost use Rattle.uring_ports.specs.Dropped.{with_word, WereStored};
@@ -79,7 +80,7 @@ impl<P: KernelPort> Kernel<P> {
         }
     }
 
-    /// One turn: begins the call that waits once more, if one does, and pulls one call or the close mark; takes in at most 64 results of each worker; issues what can be issued while each worker's lane shows room; and delivers what is posted while the port shows room. Without such work it records nothing. A turn that returns Ok stores the dropped word last, where such a word lies between the ends.
+    /// One turn: begins the call that waits once more, if one does, and pulls one call or the close mark; takes in at most 64 results of each worker; issues what can be issued while each worker's lane shows room; and delivers what is posted while the port shows room. Without such work it records nothing. A turn that returns Ok stores the dropped word last, if such a word lies between the ends.
     ///
     /// `AllocError`: the system is out of memory, for the trace or for a call, which then waits. All events made until then are recorded, nothing that was pulled or received is lost, and a later turn goes on.
     pub fn turn(&mut self) -> Result<Turn, AllocError>
@@ -88,7 +89,7 @@ impl<P: KernelPort> Kernel<P> {
         // No call waits for memory.
         ensures begun { OnOk result (awaits_memory self.new.intake ≡ false) }
 
-        // No request is left that can be issued, but where some worker's lane shows no room.
+        // No request is left that can be issued, unless some worker's lane shows no room.
         ensures none_left { IfOk result
             (λ turn. (next_of (now self.new.kept).requests ≡ None) ⊎ SomeIsFull self.new.lanes) }
 
@@ -138,9 +139,11 @@ impl<P: KernelPort> Kernel<P> {
         let counts = self.kept.counts();
         self.intake == Intake::Closed && counts.outstanding == 0 && counts.posted == counts.reaped
     }
-    /// A law, and no code: at every moment the trace is lawful apart from what operations gave, and has all that went through this end's hands.
+    /// A law, and no code: at every moment the set-up is within the limits, the trace is lawful apart from what operations gave, no call of it stops, and it has all that went through this end's hands.
     pub fn is_right(&self)
         ensures lawful { IsLawfulApart self.now.kept.setup (history_of self.now.kept.trace) }
+        ensures limits { IsWithinLimits self.now.kept.setup }
+        ensures goes_on { self.now.kept.setup.stops ≡ false }
         ensures hands { IsKernel self.now }
     {
         self.kept.is_lawful();

@@ -30,7 +30,7 @@ pub fn take_result(
         (λ a. a ≡ answer.NotRunning → (h : History) → FitsApart core.old h → FitsApart core.new h) }
 
     // No memory that the core had is given back.
-    ensures memory { OnOk result (HasNoLessMemory core.old core.new) }
+    ensures memory { HasNoLessMemory core.old core.new }
 
     // It fails only if the trace had no room for one event more.
     ensures room { vec_capacity trace.old ≤ vec_capacity trace.new }

@@ -56,7 +56,7 @@ pub fn make_turn<P: KernelPort>(
     ensures counts { IfOk result (λ turn. Counts kept.old kept.new turn) }
     ensures begun { OnOk result (awaits_memory intake.new ≡ false) }
 
-    // No request is left that can be issued, but where some worker's lane shows no room.
+    // No request is left that can be issued, unless some worker's lane shows no room.
     ensures none_left { IfOk result
         (λ turn. (next_of (now kept.new).requests ≡ None) ⊎ SomeIsFull lanes.new) }
 

@@ -73,6 +73,41 @@ fn one_thread_plays_all_ends(rt: HostRuntime) -> Result<(), Fail> {
     Ok(())
 }
 
+/// Whether worker 0 carries out a no-op, and the seven other workers are idle, while it runs and behind it.
+fn others_idle<K: KernelPort>(ends: &mut Ends<K, Open>) -> bool {
+    let submitted = ends.submit(&[nop(1)]);
+    let before = ends.turn() == Some(turn(1, 1, 0, 0)) && seven_idle(ends);
+    let done = ends.work(0) == Some(Worked::Done(0));
+    submitted && before && done && seven_idle(ends) && ends.work(0) == Some(Worked::Idle)
+}
+
+/// Whether the workers from 1 to 7 are idle, and there is no further one.
+fn seven_idle<K: KernelPort>(ends: &mut Ends<K, Open>) -> bool {
+    for place in 1..8 {
+        if ends.work(place) != Some(Worked::Idle) {
+            return false;
+        }
+    }
+    ends.work(8).is_none()
+}
+
+/// Whether it goes so at new ends.
+fn idle_right<K: Ports>(alloc: Global) -> Result<bool, Fail> {
+    let mut ends = new_ends::<K>(alloc, 2, 8)?;
+    let right = others_idle(&mut ends);
+    drop(ends);
+    Ok(right)
+}
+
+#[test]
+fn workers_without_a_job_are_idle(rt: HostRuntime) -> Result<(), Fail> {
+    let lanes = idle_right::<KernelLanes>(rt.alloc())?;
+    let words = idle_right::<KernelWords>(rt.alloc())?;
+    assert!(rt; lanes, "over lanes");
+    assert!(rt; words, "over words");
+    Ok(())
+}
+
 /// Whether worker 0 carries out four jobs.
 fn four_are_done<K: KernelPort>(ends: &mut Ends<K, Open>) -> bool {
     for _ in 0..4 {

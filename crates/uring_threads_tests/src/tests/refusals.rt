@@ -26,12 +26,12 @@ fn open_submits(app: &mut AppEnd<AppLanes>) -> Submits<6> {
     ]
 }
 
-/// What a close at a full ring returns, one behind a pull, and one more; and two submits behind them.
+/// What a close at a full ring returns, one behind a pull, and one more; and three submits behind them: of no item, of one, and of too many.
 fn closes(
     app: &mut AppEnd<AppLanes>,
     kernel: &mut KernelLanes,
     items: &mut Vec<Item>,
-) -> ([Option<CloseRefusal>; 3], Submits<2>)
+) -> ([Option<CloseRefusal>; 3], Submits<3>)
     requires { kernel.old.sizes.sq ≤ vec_capacity items.old }
     ensures sizes { kernel.new.sizes ≡ kernel.old.sizes }
     ensures room { vec_capacity items.old ≤ vec_capacity items.new }
@@ -42,7 +42,11 @@ fn closes(
     let again = app.close().err();
     (
         [full, ok, again],
-        [app.submit(&[]).err(), app.submit(&[nop(6)]).err()],
+        [
+            app.submit(&[]).err(),
+            app.submit(&[nop(6)]).err(),
+            app.submit(&[nop(6), nop(7), nop(8), nop(9), nop(10)]).err(),
+        ],
     )
 }
 
@@ -51,7 +55,7 @@ fn closes(
 struct Returned {
     open: Submits<6>,
     closes: [Option<CloseRefusal>; 3],
-    closed: Submits<2>,
+    closed: Submits<3>,
     pulls: [Pulled; 2],
 }
 
@@ -68,7 +72,7 @@ impl Returned {
         ];
         self.open == open
             && self.closes == [Some(CloseRefusal::Full), None, Some(CloseRefusal::Closed)]
-            && self.closed == [Some(SubmitRefusal::Closed); 2]
+            && self.closed == [Some(SubmitRefusal::Closed); 3]
             && self.pulls == [Pulled::Call, Pulled::Close]
     }
 }

@@ -4,7 +4,7 @@ use Rattle.uring_machine.specs.World.{beginning}
 use Rattle.uring_machine.specs.declared.step.Step.TheVariants as step
 use Rattle.uring_threads.specs.Kept.{now}
 use Rattle.uring_threads.specs.Tallies.{call_counted}
-use Rattle.uring_threads.proofs.CallSteps.{begun_cases, opened_now, closed_now, call_counts}
+use Rattle.uring_threads.proofs.CallSteps.{begun_cases, begun_spent, opened_now, closed_now, call_counts}
 use Rattle.uring_threads.proofs.Recording.{records_one, call_recorded}
 use Rattle.uring_threads.proofs.TraceSteps.{appends_one, grown}
 use Rattle.uring_threads.proofs.calls.begin_call.Goals as goal
@@ -43,6 +43,9 @@ returns-clause-tally c =
 pub returns-in-Again-clause-row : goal.returns-in-Again-clause-row
 returns-in-Again-clause-row c =
     records_one c.args.kept.now c.step_reserved.new.self (step.Begin c.args.count) c.step_reserved.result c.step_reserved.ensures.grows
+
+pub returns-in-Spent-clause-spent : goal.returns-in-Spent-clause-spent
+returns-in-Spent-clause-spent c = λ same. begun_spent c.args.kept.now c.args.count c.step_reserved.result c.requires.stands c.requires.not_closed c.step_reserved.ensures.called c.in-Spent.is
 
 pub returns-in-Spent-clause-row : goal.returns-in-Spent-clause-row
 returns-in-Spent-clause-row c =

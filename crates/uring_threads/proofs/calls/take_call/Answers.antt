@@ -1,3 +1,5 @@
+use Rattle.std.proofs.Common.{length, sym, ap, ◌∙◌}
+use Rattle.uring_machine.specs.StepAnswers.{is_spent}
 use Rattle.uring_threads.proofs.ItemSteps.{published_now}
 use Rattle.uring_threads.proofs.Recording.{put_recorded}
 use Rattle.uring_threads.proofs.calls.take_call.Goals as goal
@@ -10,3 +12,8 @@ begin_call-requires-clause-stands c =
 pub returns-clause-row : goal.returns-clause-row
 returns-clause-row c =
     put_recorded c.args.kept.now c.put_items.new.kept c.step_reserved.new.self c.begin_call.new.kept c.args.items.now c.begin_call.result c.step_reserved.result c.put_items.ensures.row c.step_reserved.ensures.grows c.begin_call.ensures.row
+
+pub returns-clause-spent : goal.returns-clause-spent
+returns-clause-spent c = λ given.
+    let at = (published_now c.put_items.new.kept c.step_reserved.new.self (now c.args.kept.now) c.args.items.now c.step_reserved.result c.requires.stands c.put_items.ensures.world c.step_reserved.ensures.grows).0 in
+    ap (λ w. is_spent w (length c.args.items.now)) (sym at) ∙ c.begin_call.ensures.spent given

@@ -31,7 +31,7 @@ returns-in_err-reserve-clause-once c =
 pub returns-in_ok-reserve-clause-tied : goal.returns-in_ok-reserve-clause-tied
 returns-in_ok-reserve-clause-tied c = λ put tied.
     subst (Tied c.args.kept.now.setup.sq (now c.begin_call.new.kept) put) (sym c.after.ensures)
-    (tied_again c.args.kept.now c.reserve.new.self c.begin_call.new.kept put c.in-Waiting.count c.args.intake.now c.begin_call.result c.reserve.ensures.unmoved c.in-Waiting.is c.begin_call.ensures.world tied)
+    (tied_again c.args.kept.now c.reserve.new.self c.begin_call.new.kept put c.in-Waiting.count c.args.intake.now c.begin_call.result c.reserve.ensures.unmoved c.in-Waiting.is c.begin_call.ensures.world c.begin_call.ensures.spent tied)
 
 pub returns-in_ok-reserve-clause-completions : goal.returns-in_ok-reserve-clause-completions
 returns-in_ok-reserve-clause-completions c = again_completions c.args.kept.now c.reserve.new.self c.begin_call.new.kept c.in-Waiting.count c.begin_call.result c.reserve.ensures.unmoved c.begin_call.ensures.world

@@ -26,7 +26,7 @@ take_call-begun-requires-clause-stands c = subst (λ i. Stands (now c.args.kept.
 pub returns-in-Call-clause-tied : goal.returns-in-Call-clause-tied
 returns-in-Call-clause-tied c = λ before after tied pulled.
     subst (Tied c.args.kept.now.setup.sq (now c.take_call-begun.new.kept) after) (sym c.after.ensures)
-    (tied_taken c.args.kept.now c.take_call-begun.new.kept before after c.args.items.now c.args.intake.now c.take_call-begun.result c.requires.ready c.take_call-begun.ensures.world tied
+    (tied_taken c.args.kept.now c.take_call-begun.new.kept before after c.args.items.now c.args.intake.now c.take_call-begun.result c.requires.ready c.take_call-begun.ensures.world c.take_call-begun.ensures.spent tied
     (subst (λ v. Pulls c.args.kept.now.setup.sq before v c.args.items.now after) c.in-Call.is pulled))
 
 pub returns-in-Call-clause-completions : goal.returns-in-Call-clause-completions

@@ -1,15 +1,17 @@
 //! Settling in the middle of a play, where a growth is refused.
 
+use super::super::ends::Ports;
 use super::super::nop;
 use super::super::told::{Told, tell};
 use super::{Made, make, settle};
 use std::alloc::Global;
 use std::test::Fail;
 use uring_entry::Cqe;
-use uring_threads::{Counts, Item};
+use uring_threads::{Counts, Item, KernelLanes};
+use uring_words::KernelWords;
 
 /// Turns the dispatcher twice, so that the second turn goes on where the first was refused memory, and has the worker take a job. Whether memory was refused.
-fn turn_and_work(made: &mut Made) -> bool {
+fn turn_and_work<K: Ports>(made: &mut Made<K>) -> bool {
     let first = made.turn().is_none();
     let second = made.turn().is_none();
     made.work(0);
@@ -17,7 +19,7 @@ fn turn_and_work(made: &mut Made) -> bool {
 }
 
 /// Has one no-op delivered and not reaped, two issued of which the worker did the first, and a call of a bad word and a no-op submitted. Whether a turn was refused memory.
-fn go_to_the_middle(made: &mut Made) -> bool {
+fn go_to_the_middle<K: Ports>(made: &mut Made<K>) -> bool {
     made.submit(&[nop(1)]);
     let first = turn_and_work(made);
     let second = turn_and_work(made);
@@ -43,8 +45,8 @@ fn is_right(told: &Told) -> bool {
 }
 
 /// Whether new ends that are settled then report it so, and whether memory was refused.
-fn settle_then(alloc: Global) -> Result<(bool, bool), Fail> {
-    let (mut made, refused) = make(alloc)?;
+fn settle_then<K: Ports>(alloc: Global) -> Result<(bool, bool), Fail> {
+    let (mut made, refused) = make::<K>(alloc)?;
     let refused_then = go_to_the_middle(&mut made);
     let (report, refused_last) = settle(alloc, made)?;
     let right = is_right(&tell(&report));
@@ -54,7 +56,17 @@ fn settle_then(alloc: Global) -> Result<(bool, bool), Fail> {
 
 #[test]
 fn settling_in_the_middle_loses_nothing(rt: HostRuntime) -> Result<(), Fail> {
-    let (right, was_refused) = settle_then(rt.alloc())?;
+    let (right, was_refused) = settle_then::<KernelLanes>(rt.alloc())?;
+    assert!(rt; right);
+    if was_refused {
+        println!(rt; "refused")?;
+    }
+    Ok(())
+}
+
+#[test]
+fn settling_over_words_in_the_middle_loses_nothing(rt: HostRuntime) -> Result<(), Fail> {
+    let (right, was_refused) = settle_then::<KernelWords>(rt.alloc())?;
     assert!(rt; right);
     if was_refused {
         println!(rt; "refused")?;

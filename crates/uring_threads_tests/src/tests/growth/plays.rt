@@ -6,7 +6,10 @@ use std::alloc::{AllocError, Global};
 use std::test::Fail;
 use uring_entry::{Cqe, Sqe};
 use uring_machine::Step;
-use uring_threads::{Answer, Counts, FileState, Item, Open, Report};
+use uring_threads::{Answer, Counts, FileState, Item, KernelLanes, Open, Report};
+
+/// All ends over lanes.
+type Lanes = Made<KernelLanes>;
 
 /// How many calls there are, of four requests each.
 const CALLS: u64 = 7;
@@ -88,7 +91,7 @@ impl Progress {
     }
 
     /// Submits the next call, or closes behind the last one.
-    fn submit(&mut self, made: &mut Made) {
+    fn submit(&mut self, made: &mut Lanes) {
         if self.submitted >= CALLS {
             self.is_closed |= made.close();
         } else if made.submit(&call(self.submitted)) {
@@ -97,14 +100,14 @@ impl Progress {
     }
 
     /// Reaps a completion, if there is one.
-    fn reap(&mut self, made: &mut Made) {
+    fn reap(&mut self, made: &mut Lanes) {
         if let Some(completion) = made.reap() {
             self.reaped.add(&completion);
         }
     }
 
     /// A round: submits, turns the dispatcher, does up to two jobs, and reaps up to two completions.
-    fn go_round(&mut self, made: &mut Made) {
+    fn go_round(&mut self, made: &mut Lanes) {
         self.submit(made);
         if made.turn().is_none() {
             self.refusals = self.refusals.wrapping_add(1);
@@ -117,7 +120,7 @@ impl Progress {
 }
 
 /// A play of so many rounds.
-fn go_rounds(made: &mut Made, rounds: u64) -> Progress {
+fn go_rounds(made: &mut Lanes, rounds: u64) -> Progress {
     let mut progress = Progress::new();
     for _ in 0..rounds {
         progress.go_round(made);
@@ -217,7 +220,7 @@ struct Played {
 }
 
 /// A play on these ends to its end, and the report of it.
-fn play_on(alloc: Global, mut made: Made) -> Result<Played, AllocError> {
+fn play_on(alloc: Global, mut made: Lanes) -> Result<Played, AllocError> {
     let progress = go_rounds(&mut made, 40);
     let is_idle = made.idle();
     let (report, was_refused) = settle(alloc, made)?;
