@@ -55,7 +55,7 @@ abbrev pub FitsBy : Follower → History → Type 0
 FitsBy (Whole m) h = Fits m h
 FitsBy (Apart c) h = FitsApart c h
 
--- What is found behind a history of a step with the text of an answer, and what the machine then fits: `None` where the text is that of an answer that is called for.
+-- What is found behind a history of a step with the text of an answer, and what the machine then fits: `None` if the text is that of an answer that is called for.
 abbrev pub IsJudged : Rules → History → Follower → Step → List ℕ → Option Wanted → Type 0
 IsJudged g h m s text None =
     (a : Answer) × (text_of a ≡ text) × IsPlain a g.is_apart s × FitsBy m ((s, a) ∷ h)

@@ -30,7 +30,7 @@ pub record IsVerdict (g : Rules) (all : Bool) (bytes text : List ℕ) (v : Verdi
   pub reported : text ≡ report g found
   pub says : Says g (lines_of found) v
 
--- what is written, by what a check returns: nothing where it failed before
+-- what is written, by what a check returns: nothing if it failed before
 abbrev pub Writes : Rules → Bool → Result Verdict TraceFault → List ℕ → List ℕ → Type 0
 Writes g all (Ok v) bytes text = IsVerdict g all bytes text v
 Writes g all (Err fault.Read) bytes text = text ≡ []

@@ -65,7 +65,7 @@ told_of_all g [] = []
 told_of_all g (x ∷ before) =
     told_of_all g before ++ told_of (world g.setup (history_behind before)) (line_number (length before)) x.line x.finding
 
--- the last line, where all is lawful: how many steps there were
+-- the last line, if all is lawful: how many steps there were
 abbrev pub closing : Verdict → ℕ → List ℕ
 closing verdict.Lawful steps = codes "lawful: " ++ decimal steps ++ ended (codes " steps")
 closing v steps = []

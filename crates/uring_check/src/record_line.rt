@@ -13,7 +13,7 @@ pub(crate) fn split_record(line: &[u8]) -> Option<(&[u8], &[u8])>
     Some((before.strip_suffix(b" ")?, rest.strip_prefix(b"= ")?))
 }
 
-/// How many bytes stand before the first `=`, or all where there is none.
+/// How many bytes stand before the first `=`, or all if there is none.
 fn sign_at(line: &[u8]) -> usize
     ensures within { result ≤ length line.now }
     ensures before { AllByRecursion (λ b. b ≢ 61) (take result line.now) }

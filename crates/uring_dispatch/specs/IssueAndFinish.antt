@@ -12,7 +12,7 @@ use Rattle.uring_dispatch.specs.declared.answers.Finished.TheVariants as finish
 use Rattle.uring_dispatch.specs.declared.answers.Posts.{Posts}
 use Rattle.uring_dispatch.specs.declared.answers.Posts.TheVariants as posts
 
--- what the issue of a request that was not started is answered: it ends where it is doomed, or is a cancel that may start; another runs where it may start; and else it waits
+-- what the issue of a request that was not started is answered: it ends if it is doomed, or is a cancel that may start; another runs if it may start; and else it waits
 abbrev pub issued_waiting : Requests → ℕ → Issued
 issued_waiting r n =
     if is_doomed r n then Ended (doomed_result r n) else

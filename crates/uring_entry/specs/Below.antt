@@ -6,7 +6,7 @@ abbrev pub some_below : (ℕ → Bool) → ℕ → Bool
 some_below p zero = false
 some_below p (suc n) = some_below p n || p n
 
--- what was found, or else n where p holds of it
+-- what was found, or else n if p holds of it
 abbrev pub found_or : Option ℕ → Bool → ℕ → Option ℕ
 found_or (Some m) holds n = Some m
 found_or None holds n = if holds then Some n else None

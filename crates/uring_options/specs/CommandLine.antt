@@ -106,17 +106,17 @@ pub record IsNumber (text : Text) (n : ℕ) : Type 0 where
   pub digits : IsNumeral 10 (without_leading_plus text)
   pub value : n ≡ digits_value 10 (without_leading_plus text)
 
--- what the option of a name gives: nothing where it is absent, and else the number that its text writes
+-- what the option of a name gives: nothing if it is absent, and else the number that its text writes
 abbrev pub Gives : List Row → Text → Option ℕ → Type 0
 Gives rows id None = one_of id rows ≡ None
 Gives rows id (Some n) = (text : Text) × (one_of id rows ≡ Some text) × IsNumber text n
 
--- the number, where it is given, is from low to high
+-- the number, if it is given, is from low to high
 abbrev pub IsWithin : ℕ → ℕ → Option ℕ → Type 0
 IsWithin low high None = Unit {0}
 IsWithin low high (Some n) = (low ≤ n) × (n ≤ high)
 
--- the numbers of a set-up, each where it is given
+-- the numbers of a set-up, each if it is given
 pub record Numbers : Type 0 where
   pub sq : Option ℕ
   pub cq : Option ℕ
@@ -142,7 +142,7 @@ pub record GivesNumbers (rows : List Row) (n : Numbers) : Type 0 where
 abbrev pub GivesWorkers : List Row → Option ℕ → Type 0
 GivesWorkers rows n = Gives rows (codes "workers") n × IsWithin 1 8 n
 
--- so many workers: 2 where no number is given
+-- so many workers: 2 if no number is given
 abbrev pub AreWorkers : List Row → ℕ → Type 0
 AreWorkers rows workers = (n : Option ℕ) × GivesWorkers rows n × (workers ≡ unwrap_or n 2)
 
@@ -151,7 +151,7 @@ pub record Writes (words : List Text) (n : Numbers) : Type 0 where
   pub no_fault : fault_of uring words ≡ []
   pub numbers : GivesNumbers (command_rows (subcommand_of uring words)) n
 
--- the set-up of these numbers: 4 entries, a completion ring of twice as many, 2 files and the word 0 where none is given
+-- the set-up of these numbers: 4 entries, a completion ring of twice as many, 2 files and the word 0 if none is given
 abbrev pub IsSetupOver : Numbers → Setup → Type 0
 IsSetupOver n s = IsSetupFor (unwrap_or n.sq 4) n.cq (unwrap_or n.files 2) (unwrap_or n.start 0) s
 
@@ -165,7 +165,7 @@ abbrev pub IsTracedOver : List Row → Numbers → Setup → Type 0
 IsTracedOver rows n s =
     IsSetupOver n (record s { stops = false }) × IsGiven rows (codes "stop") s.stops
 
--- what a command runs, over the set-up that these rows and numbers give: `uring explain` the graph where `--graph` is given, else the timeline where `--timeline` is, and else the answers; `uring play` a play over shared words where `--shared` is given, and else one over lanes
+-- what a command runs, over the set-up that these rows and numbers give: `uring explain` the graph if `--graph` is given, else the timeline if `--timeline` is, and else the answers; `uring play` a play over shared words if `--shared` is given, and else one over lanes
 abbrev pub IsRunOver : Run → List Row → Numbers → Options → Type 0
 IsRunOver run rows n (Trace s echo) =
     (run ≡ Traces) × IsTracedOver rows n s × IsGiven rows (codes "echo") echo

@@ -17,7 +17,7 @@ use std::alloc::{AllocError, Global};
 pub(crate) struct OptionRow {
     id: &'static str,
     help: &'static str,
-    /// The least and the most number that it takes, or none where it takes no value.
+    /// The least and the most number that it takes, or none if it takes no value.
     numbers: Option<(i64, i64)>,
 }
 

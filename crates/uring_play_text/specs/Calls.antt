@@ -25,7 +25,7 @@ pub record IsCall (size : ℕ) (lines : List (List ℕ)) (items : List Item) : T
   pub lines_are : AreItemLines size lines items
   pub fits : length items ≤ size
 
--- the blocks are these calls, one each, where a block of no line is passed over
+-- the blocks are these calls, one each, and a block of no line is passed over
 abbrev pub AreCalls : ℕ → List (List (List ℕ)) → List (List Item) → Type 0
 AreCalls size [] [] = Unit {0}
 AreCalls size [] (call ∷ calls) = ⊥

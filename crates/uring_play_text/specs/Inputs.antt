@@ -11,7 +11,7 @@ use Rattle.uring_play_text.specs.Faults.{IsBadFirst, IsLongFirst}
 use Rattle.uring_play_text.specs.declared.play_fault.PlayFault.{PlayFault}
 use Rattle.uring_play_text.specs.declared.play_fault.PlayFault.TheVariants as fault
 
--- the lines of the bytes, in order: those that have their ends, and a rest without one where it has some byte
+-- the lines of the bytes, in order: those that have their ends, and a rest without one if it has some byte
 pub record HasLines (bytes : List ℕ) (lines : List (List ℕ)) : Type 0 where
   pub ended : List (List ℕ)
   pub rest : List ℕ

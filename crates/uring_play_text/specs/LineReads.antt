@@ -7,7 +7,7 @@ use Rattle.uring_play_text.specs.ItemLines.{IsItemLine, IsBadLine, SpellsItem}
 use Rattle.uring_play_text.specs.declared.line_read.LineRead.{LineRead}
 use Rattle.uring_play_text.specs.declared.line_read.LineRead.TheVariants as read
 
--- the line as a reader is given it: whole, or not at all where it has more than 300 bytes
+-- the line as a reader is given it: whole, or not at all if it has more than 300 bytes
 abbrev pub IsGiven : List ℕ → Option (Bor (List ℕ)) → Type 0
 IsGiven line given =
     MatchOption given (300 < length line) (λ bytes. (bytes.now ≡ line) × (length line ≤ 300))

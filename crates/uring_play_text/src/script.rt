@@ -48,7 +48,7 @@ impl Script {
             → Gathers size lines self.old → Gathers size (lines ++ text ∷ []) self.new) }
         ensures early { IfErr result IsEarly }
 
-        // Reading stops only where no further line can be counted.
+        // Reading stops only if no further line can be counted.
         ensures read { result ≡ Err PlayFault.Read → self.new.number ≡ 2 ^ 64 - 1 }
     {
         if self.fault.is_some() {

@@ -10,7 +10,7 @@ use Rattle.uring_ports.specs.Dropped.{with_word}
 use Rattle.uring_ports.specs.Items.{AreItems}
 use Rattle.uring_ports.specs.Ports.{Sizes, Put, with_call, with_close, places_of}
 
--- The application's end: the numbers of its pair of ports, the sizes of the rings, the items of each submit that returned Ok, call by call, with whether it is closed, every completion reaped, and every dropped word loaded, oldest first; without a list where no such word lies between the ends.
+-- The application's end: the numbers of its pair of ports, the sizes of the rings, the items of each submit that returned Ok, call by call, with whether it is closed, every completion reaped, and every dropped word loaded, oldest first; without a list if no such word lies between the ends.
 pub record AppEnd : Type 0 where
   pub pairing : List ℕ
   pub sizes : Sizes

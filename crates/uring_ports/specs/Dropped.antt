@@ -1,4 +1,4 @@
--- The dropped word, which the dispatcher stores and the application loads, where such a word lies between the ends. Our own rule.
+-- The dropped word, which the dispatcher stores and the application loads, if such a word lies between the ends. Our own rule.
 use Rattle.std.specs.Prelude.{◌≡◌, ℕ, List, [], ◌∷◌, ◌++◌, Option, Some, None}
 
 -- this word behind those stored or loaded before, if there is such a word

@@ -21,7 +21,7 @@ pub record Splits (bytes : List ℕ) (lines : List (List ℕ)) (rest : List ℕ)
   pub each : AllByRecursion IsUnbroken lines
   pub unbroken : IsUnbroken rest
 
--- the lines, with the rest as the last one where it has some byte
+-- the lines, with the rest as the last one if it has some byte
 abbrev pub with_last : List (List ℕ) → List ℕ → List (List ℕ)
 with_last lines [] = lines
 with_last lines (b ∷ rest) = (b ∷ rest) ∷ lines

@@ -13,7 +13,7 @@ abbrev pub AreTakenIn : Kept → ℕ → ℕ → List JobResult → Type 0
 AreTakenIn kept workers place results =
     results ≡ results_of (done_by_worker kept.setup workers place (history kept))
 
--- A worker's lanes have carried what the trace has of this worker: the jobs of its requests that run, and the results that were taken in.
+-- A worker's lanes have carried what the trace has of this worker: the jobs that were sent to it, and the results that were taken in.
 pub record HasCarried (kept : Kept) (workers k : ℕ) (lanes : WorkLanes) : Type 0 where
   pub jobs : sent lanes.jobs ≡ jobs_to kept.setup workers k (history kept)
   pub results : AreTakenIn kept workers k (received lanes.results)

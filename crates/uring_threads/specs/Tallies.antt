@@ -127,7 +127,7 @@ pub record Appends (old new : Kept) (t : Tally) : Type 0 where
 abbrev pub most_results : ℕ
 most_results = 64
 
--- how many the trace has taken in of this one, where there are so many workers
+-- how many the trace has taken in of this one, of so many workers
 abbrev pub results_taken_in : ℕ → ℕ → Kept → ℕ
 results_taken_in workers k kept =
     length (done_by_worker kept.setup workers k (history_of kept.trace))

@@ -19,7 +19,7 @@ use Rattle.uring_threads.specs.declared.job.JobResult.{JobResult}
 
 -- Whose work it is.
 
--- the worker that has the file of a descriptor, where there are so many workers and files: they are dealt out in turn, and a descriptor without a file is worker 0's
+-- of so many workers, the one that has the file of a descriptor, of so many files: they are dealt out in turn, and a descriptor without a file is worker 0's
 abbrev pub place_of_file : ℕ → ℕ → ℤ → ℕ
 place_of_file workers files (pos fd) = if nat_lt fd files then fd % workers else 0
 place_of_file workers files (negsuc below) = 0

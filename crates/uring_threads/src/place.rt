@@ -4,7 +4,7 @@ ghost use Rattle.uring_threads.specs.Work as work;
 
 use uring_entry::Op;
 
-/// The worker, from 0, that carries out this operation, among so many workers where there are so many files: file `f` is with worker `f` modulo the number of workers. An operation on no file, or on a descriptor that has none, is worker 0's.
+/// The worker, from 0, that carries out this operation, of so many workers and files: file `f` is with worker `f` modulo the number of workers. An operation on no file, or on a descriptor that has none, is worker 0's.
 pub(crate) fn place_of(op: &Op, workers: u32, files: u32) -> u32
     requires { 0 < workers }
     ensures { result ≡ work.place_of workers files op.now }

@@ -20,7 +20,7 @@ pub struct NotSettled<K: KernelPort, G: Gate> {
     pub workers: Vec<Worker<G>>,
 }
 
-/// Settles all ends of one set-up, at any moment: takes in each result that waits at a worker, worker 0's first, and reports the trace, what is still on its way, and the files. Condition: the ends are those that one call of `lanes` or `ends` made, the workers in their order.
+/// Settles all ends of one set-up, at any moment: takes in each result that waits at a worker, worker 0's first, and reports the trace, what is still on its way, and the files. Condition: the ends are those that one call of `lanes`, `words` or `ends` made, the workers in their order.
 ///
 /// `NotSettled` says that the system is out of memory, which is asked for first: all ends come back unchanged, and can be settled again.
 pub fn settle<K: KernelPort, G: Gate>(

@@ -19,7 +19,7 @@ use Rattle.uring_trace.specs.Shown.{shown}
 use Rattle.uring_trace.specs.declared.questions.Question.{Question}
 use Rattle.uring_trace.specs.Explanations.{Said, Saying, IsSaid, event_in, lines_in, events_in, Explains, ExplainsWhole, WritesBoth, told_of, noted_of, line_number, is_bad}
 
--- What a line is told and noted as is appended, and a step is made where the line is one.
+-- What a line is told and noted as is appended, and a step is made if the line is one.
 pub record AppendsLine (old new : Machine) (number : ℕ) (was_bad bad : Bool) (line before after noted_before noted_after : List ℕ) : Type 0 where
   pub said : Said
   pub read : IsSaid line said

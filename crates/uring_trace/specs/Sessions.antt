@@ -14,7 +14,7 @@ abbrev pub with_event : Option Event → History → History
 with_event None before = before
 with_event (Some event) before = event ∷ before
 
--- the answer to a line is appended, and a step is made where the line is one
+-- the answer to a line is appended, and a step is made if the line is one
 pub record AppendsAnswer (old new : Machine) (is_echo : Bool) (line before after : List ℕ) : Type 0 where
   pub event : Option Event
   pub read : IsReadAs line event
