@@ -66,7 +66,7 @@ pub enum Answer {
     /// To Issue: the request runs.
     Run,
 
-    /// To Issue and Finish: the request ended with this result and these bytes. After an Issue the result is -22, -125 or that of a cancel, and the bytes are zeros; after a Finish they are what its operation gave.
+    /// To Issue and Finish: the request ended with this result and these bytes. After an Issue the result is -22, -125 or that of a cancel, and the bytes are zeros; after a Finish they are what its operation gave: on files of a machine's own, or as the caller of a core says.
     Ended {
         res: i32,
         bytes: [u8; 64],

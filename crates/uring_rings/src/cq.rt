@@ -283,6 +283,7 @@ impl Cq {
         self.cells[cell] = completion;
         self.tail = self.tail.after(1);
     }
+
     /// The cell of a position's completion.
     fn cell(&self, index: Index) -> usize
         ensures value { result ≡ index.0 % self.now.size }

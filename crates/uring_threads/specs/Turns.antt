@@ -13,7 +13,6 @@ use Rattle.uring_threads.specs.Kept.{Kept, now}
 use Rattle.uring_threads.specs.Tallies.{Appends, closes_ring}
 use Rattle.uring_threads.specs.declared.intake.Intake.{Intake}
 use Rattle.uring_threads.specs.declared.intake.Intake.TheVariants as intake
-use Rattle.uring_threads.specs.declared.intake.Intake.TheVariants as intake
 use Rattle.uring_threads.specs.declared.turns.Turn.{Turn}
 use Rattle.uring_threads.specs.declared.work_lanes.WorkLanes.{WorkLanes}
 

@@ -139,6 +139,7 @@ impl<P: KernelPort> Kernel<P> {
         let counts = self.kept.counts();
         self.intake == Intake::Closed && counts.outstanding == 0 && counts.posted == counts.reaped
     }
+
     /// A law, and no code: at every moment the set-up is within the limits, the trace is lawful apart from what operations gave, no call of it stops, and it has all that went through this end's hands.
     pub fn is_right(&self)
         ensures lawful { IsLawfulApart self.now.kept.setup (history_of self.now.kept.trace) }

@@ -159,7 +159,7 @@ pub fn word_ports(alloc: Global, setup: &Setup) -> Result<(AppWords, KernelWords
 }
 
 impl AppWords {
-    /// The dropped word as it is now: how many positions the dispatcher had dropped when it last stored the word, and 0 before it first did.
+    /// Loads the dropped word: one that the dispatcher stored, or the 0 before them, never older than the one loaded before.
     pub fn dropped(&mut self) -> u32
         ensures { self.new ≡ record self.old { dropped = self.old.dropped ++ result ∷ [] } }
     {
