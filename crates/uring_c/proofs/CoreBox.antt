@@ -6,7 +6,7 @@ use Rattle.std.proofs.BoxSteps.Form.{Bx}
 use Rattle.std.proofs.alloc.Global.TheLaws as heap
 use Rattle.std.specs.contracts.alloc.Global as Heap
 use Rattle.std.specs.contracts.impls.GlobalAllocator.TheImpl.{ghosts, dict}
-use Rattle.uring_machine.proofs.cores.Core.TheLaws as core
+use Rattle.uring_core.proofs.cores.Core.TheLaws as core
 use Rattle.uring_c.specs.Slots.{core_row}
 use Rattle.uring_c.specs.contracts.core_slot.CoreSlot as CoreSlot
 use Rattle.uring_c.specs.contracts.parts.Parts as Parts

@@ -1,7 +1,7 @@
 -- The words that tell an answer. Our own rule: kinds count the answers in the order of `Answer`, from 0, and a word that an answer hasn't is 0.
 use Rattle.std.specs.Prelude.{ℕ, ℤ, pos, List, replicate}
-use Rattle.uring_machine.specs.declared.answer.Answer.{Answer}
-use Rattle.uring_machine.specs.declared.answer.Answer.TheVariants as answer
+use Rattle.uring_core.specs.declared.answer.Answer.{Answer}
+use Rattle.uring_core.specs.declared.answer.Answer.TheVariants as answer
 use Rattle.uring_c.specs.declared.answer_words.AnswerWords.{AnswerWords}
 
 -- the kind

@@ -1,6 +1,6 @@
 -- What a place of a C program holds.
 use Rattle.std.specs.Prelude.{Option}
-use Rattle.uring_machine.specs.Core.{Core}
+use Rattle.uring_core.specs.Core.{Core}
 use Rattle.uring_machine.specs.Machine.{Machine}
 use Rattle.uring_c.specs.declared.core_place.CorePlace.{CorePlace}
 use Rattle.uring_c.specs.declared.machine_place.MachinePlace.{MachinePlace}

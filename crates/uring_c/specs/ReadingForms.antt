@@ -1,7 +1,7 @@
 -- The words that tell what is read off a core or a machine.
 use Rattle.uring_entry.specs.Layout.{Cqe}
 use Rattle.uring_files.specs.declared.file.FileState.{FileState}
-use Rattle.uring_machine.specs.declared.cores.Counts.{Counts}
+use Rattle.uring_core.specs.declared.cores.Counts.{Counts}
 use Rattle.uring_c.specs.declared.completion_words.CompletionWords.{CompletionWords}
 use Rattle.uring_c.specs.declared.count_words.CountWords.{CountWords}
 use Rattle.uring_c.specs.declared.state_words.StateWords.{StateWords}

@@ -7,7 +7,7 @@ use Rattle.std.specs.Coded.{Coded, coded_option}
 use Rattle.std.specs.Box.Ownership.{box_owns}
 use Rattle.std.specs.Global.{Global}
 use Rattle.std.specs.contracts.impls.GlobalAllocator.TheImpl.{ghosts}
-use Rattle.uring_machine.specs.contracts.cores.Core as Core
+use Rattle.uring_core.specs.contracts.cores.Core as Core
 use Rattle.uring_machine.specs.contracts.machine.Machine as Machine
 
 -- a core and a machine, as the logic of ownership sees them

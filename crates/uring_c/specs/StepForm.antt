@@ -1,7 +1,7 @@
 -- The step that words give. Our own rule: kinds count the steps in the order of `Step`, from 0.
 use Rattle.std.specs.Prelude.{ℕ, Bool, ◌==◌, nat_lt, ◌||◌, ◌&&◌, Option, Some, None, if◌then◌else◌}
-use Rattle.uring_machine.specs.declared.step.Step.{Step}
-use Rattle.uring_machine.specs.declared.step.Step.TheVariants as step
+use Rattle.uring_core.specs.declared.step.Step.{Step}
+use Rattle.uring_core.specs.declared.step.Step.TheVariants as step
 use Rattle.uring_c.specs.declared.step_words.StepWords.{StepWords}
 
 -- the steps of the application

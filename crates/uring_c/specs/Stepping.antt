@@ -1,14 +1,14 @@
 -- What a call makes of what a place holds.
 use Rattle.std.specs.Prelude.{◌≡◌, ℕ, ◌∷◌, Option, IsSomeAnd}
 use Rattle.uring_entry.specs.declared.operation.Outcome.{Outcome}
-use Rattle.uring_machine.specs.CalledFor.{CalledFor}
-use Rattle.uring_machine.specs.Core.{Core, FitsApart, IsFinished, IsShortOfMemory, HasNoLessMemory}
-use Rattle.uring_machine.specs.Histories.{History, world}
+use Rattle.uring_core.specs.CalledFor.{CalledFor}
+use Rattle.uring_core.specs.Core.{Core, FitsApart, IsFinished, IsShortOfMemory, HasNoLessMemory}
+use Rattle.uring_core.specs.Histories.{History, world}
 use Rattle.uring_machine.specs.Machine.{Machine, Fits}
-use Rattle.uring_machine.specs.declared.answer.Answer.{Answer}
-use Rattle.uring_machine.specs.declared.answer.Answer.TheVariants as answer
-use Rattle.uring_machine.specs.declared.step.Step.{Step}
-use Rattle.uring_machine.specs.declared.step.Step.TheVariants as step
+use Rattle.uring_core.specs.declared.answer.Answer.{Answer}
+use Rattle.uring_core.specs.declared.answer.Answer.TheVariants as answer
+use Rattle.uring_core.specs.declared.step.Step.{Step}
+use Rattle.uring_core.specs.declared.step.Step.TheVariants as step
 use Rattle.uring_c.specs.AnswerForm.{words_of}
 use Rattle.uring_c.specs.declared.answer_words.AnswerWords.{AnswerWords}
 

@@ -3,8 +3,8 @@ ghost use Rattle.std.specs.Prelude.{◌≡◌, [], IsSome, IfOk, IsSomeAnd, slic
 ghost use Rattle.uring_entry.specs.Completions.{unreaped};
 ghost use Rattle.uring_entry.specs.Requests.{least_of, operation_running};
 ghost use Rattle.uring_entry.specs.Why.{why_of};
-ghost use Rattle.uring_machine.specs.Core.{FitsApart, IsCounts, IsNoFinish};
-ghost use Rattle.uring_machine.specs.Histories.{History, world};
+ghost use Rattle.uring_core.specs.Core.{FitsApart, IsCounts, IsNoFinish};
+ghost use Rattle.uring_core.specs.Histories.{History, world};
 ghost use Rattle.uring_c.specs.Places.{core_in};
 ghost use Rattle.uring_c.specs.Stepping.{SteppedApart, FinishedApart};
 

@@ -1,9 +1,9 @@
 -- What findings say of the text of a lawful history.
 use Rattle.std.proofs.Common.{◌≡◌, ◌⊎◌, ℕ, Bool, false, List, [], ◌∷◌, refl, sym, ap, subst, ◌∙◌, inl, inr}
 use Rattle.std.proofs.lemmas.Bool.{true≢false}
-use Rattle.uring_machine.specs.Histories.{History}
-use Rattle.uring_machine.specs.declared.answer.Answer.{Answer}
-use Rattle.uring_machine.specs.declared.step.Step.{Step}
+use Rattle.uring_core.specs.Histories.{History}
+use Rattle.uring_core.specs.declared.answer.Answer.{Answer}
+use Rattle.uring_core.specs.declared.step.Step.{Step}
 use Rattle.uring_trace.specs.Text.{text_of}
 use Rattle.uring_check.specs.Checks.{Says}
 use Rattle.uring_check.specs.Findings.{Found, Finding, AreFound, IsFinding, IsFindingBehind, first_fault, has_stopped, history_behind, judged, lines_of, verdict_of}

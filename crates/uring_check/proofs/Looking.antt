@@ -6,10 +6,10 @@ use Rattle.std.specs.declared.vec.Vec.{Vec}
 use Rattle.std.proofs.lemmas.List.{append-nil}
 use Rattle.std.proofs.Math.Bool.{or-false}
 use Rattle.uring_entry.specs.declared.why.Why.{Why}
-use Rattle.uring_machine.specs.Histories.{History, world}
-use Rattle.uring_machine.specs.World.{World}
-use Rattle.uring_machine.specs.declared.step.Step.{Step}
-use Rattle.uring_machine.specs.declared.wanted.Wanted.{Wanted}
+use Rattle.uring_core.specs.Histories.{History, world}
+use Rattle.uring_core.specs.World.{World}
+use Rattle.uring_core.specs.declared.step.Step.{Step}
+use Rattle.uring_core.specs.declared.wanted.Wanted.{Wanted}
 use Rattle.uring_trace.specs.Explanations.{line_number}
 use Rattle.uring_text.specs.Lines.{ended}
 use Rattle.uring_text.specs.Remarks.{is_remark}

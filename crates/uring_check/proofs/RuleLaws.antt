@@ -6,13 +6,13 @@ use Rattle.std.specs.Fmt.{signed_decimal}
 use Rattle.std.proofs.lemmas.Fmt.{signed_decimal_injective}
 use Rattle.uring_entry.specs.Requests.{is_running}
 use Rattle.uring_entry.specs.Setup.{Setup}
-use Rattle.uring_machine.specs.Histories.{History, world}
-use Rattle.uring_machine.specs.StepAnswers.{CalledForApart, FinishesApart, begin_answer}
-use Rattle.uring_machine.specs.World.{World}
-use Rattle.uring_machine.specs.declared.answer.Answer.{Answer}
-use Rattle.uring_machine.specs.declared.answer.Answer.TheVariants as answer
-use Rattle.uring_machine.specs.declared.step.Step.{Step}
-use Rattle.uring_machine.specs.declared.step.Step.TheVariants as step
+use Rattle.uring_core.specs.Histories.{History, world}
+use Rattle.uring_core.specs.StepAnswers.{CalledForApart, FinishesApart, begin_answer}
+use Rattle.uring_core.specs.World.{World}
+use Rattle.uring_core.specs.declared.answer.Answer.{Answer}
+use Rattle.uring_core.specs.declared.answer.Answer.TheVariants as answer
+use Rattle.uring_core.specs.declared.step.Step.{Step}
+use Rattle.uring_core.specs.declared.step.Step.TheVariants as step
 use Rattle.uring_text.specs.Spelling.{IsFile}
 use Rattle.uring_trace.specs.Text.{text_of}
 use Rattle.uring_check.specs.Rules.{Rules, CalledIn, LawfulIn, IsCalled, IsLawfulBy, IsPlain}

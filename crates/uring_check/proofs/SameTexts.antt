@@ -13,13 +13,13 @@ use Rattle.uring_entry.specs.declared.operation.Op.TheVariants.{Nop, Read, Write
 use Rattle.uring_entry.specs.declared.operation.Outcome.{Outcome}
 use Rattle.uring_files.specs.Contents.{FileContents, is_past_end, is_too_long, max_len}
 use Rattle.uring_files.specs.Operations.{IsOutcome, ended_with, file_of, is_lengthening, on_file, result_of}
-use Rattle.uring_machine.specs.CalledFor.{CalledFor, EndsOn, files_of}
-use Rattle.uring_machine.specs.StepAnswers.{OrAgain, begin_answer}
-use Rattle.uring_machine.specs.World.{World}
-use Rattle.uring_machine.specs.declared.answer.Answer.{Answer}
-use Rattle.uring_machine.specs.declared.answer.Answer.TheVariants as answer
-use Rattle.uring_machine.specs.declared.step.Step.{Step}
-use Rattle.uring_machine.specs.declared.step.Step.TheVariants as step
+use Rattle.uring_core.specs.CalledFor.{CalledFor, EndsOn, files_of}
+use Rattle.uring_core.specs.StepAnswers.{OrAgain, begin_answer}
+use Rattle.uring_core.specs.World.{World}
+use Rattle.uring_core.specs.declared.answer.Answer.{Answer}
+use Rattle.uring_core.specs.declared.answer.Answer.TheVariants as answer
+use Rattle.uring_core.specs.declared.step.Step.{Step}
+use Rattle.uring_core.specs.declared.step.Step.TheVariants as step
 use Rattle.uring_trace.specs.Text.{text_of}
 
 -- ---- Begin

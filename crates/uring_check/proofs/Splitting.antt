@@ -4,7 +4,7 @@ use mathlib.Core.List.{head-eq_of_cons-eq, tail-eq_of_cons-eq}
 use Rattle.std.specs.List.{AllByRecursion}
 use Rattle.std.proofs.lemmas.Bool.{cases_lt}
 use Rattle.std.proofs.lemmas.List.{take-append-drop, drop_more, take_all, append_cancel_right}
-use Rattle.uring_machine.specs.declared.step.Step.{Step}
+use Rattle.uring_core.specs.declared.step.Step.{Step}
 use Rattle.uring_trace.specs.Spelling.{IsStep, IsBad}
 use Rattle.uring_trace.proofs.Spellings.{step_once}
 use Rattle.uring_check.specs.Checking.{IsSplit, IsUnsplit}

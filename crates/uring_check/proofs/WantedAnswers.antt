@@ -3,17 +3,17 @@ use Rattle.std.proofs.Common.{◌≡◌, ◌∷◌, ℕ, ℤ, neg_ℤ, Bool, tru
 use Rattle.uring_entry.specs.Requests.{is_running, no_bytes}
 use Rattle.uring_entry.specs.Setup.{Setup}
 use Rattle.uring_entry.specs.declared.errno.TheConstants.{ENOMEM}
-use Rattle.uring_machine.specs.Core.{IsNoFinish}
-use Rattle.uring_machine.specs.Histories.{History, world}
-use Rattle.uring_machine.specs.StepAnswers.{CalledForApart, FinishesApart}
-use Rattle.uring_machine.specs.World.{World}
-use Rattle.uring_machine.specs.declared.answer.Answer.{Answer}
-use Rattle.uring_machine.specs.declared.answer.Answer.TheVariants as answer
-use Rattle.uring_machine.specs.declared.step.Step.{Step}
-use Rattle.uring_machine.specs.declared.step.Step.TheVariants as step
-use Rattle.uring_machine.specs.Recorded.{IsWrong}
-use Rattle.uring_machine.specs.declared.wanted.Wanted.{Wanted}
-use Rattle.uring_machine.specs.declared.wanted.Wanted.TheVariants.{Only, CallOrAgain, EndOrNoMemory}
+use Rattle.uring_core.specs.Core.{IsNoFinish}
+use Rattle.uring_core.specs.Histories.{History, world}
+use Rattle.uring_core.specs.StepAnswers.{CalledForApart, FinishesApart}
+use Rattle.uring_core.specs.World.{World}
+use Rattle.uring_core.specs.declared.answer.Answer.{Answer}
+use Rattle.uring_core.specs.declared.answer.Answer.TheVariants as answer
+use Rattle.uring_core.specs.declared.step.Step.{Step}
+use Rattle.uring_core.specs.declared.step.Step.TheVariants as step
+use Rattle.uring_core.specs.Recorded.{IsWrong}
+use Rattle.uring_core.specs.declared.wanted.Wanted.{Wanted}
+use Rattle.uring_core.specs.declared.wanted.Wanted.TheVariants.{Only, CallOrAgain, EndOrNoMemory}
 use Rattle.uring_trace.specs.Text.{text_of}
 use Rattle.uring_check.specs.Checking.{FitsBy, HasOneAnswer, IsEither, IsJudged, IsOneJudged, IsWanted, Judges, rules_of}
 use Rattle.uring_check.specs.Findings.{IsWrongText}

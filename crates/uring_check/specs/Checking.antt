@@ -4,17 +4,17 @@ use Rattle.std.specs.Io.KnownBytes.{Consumes, IsAtEnd}
 use Rattle.std.specs.List.{AllByRecursion}
 use Rattle.std.specs.declared.alloc.Global.{Global}
 use Rattle.std.specs.declared.vec.Vec.{Vec}
-use Rattle.uring_machine.specs.Core.{FitsApart}
-use Rattle.uring_machine.specs.Histories.{History, world}
+use Rattle.uring_core.specs.Core.{FitsApart}
+use Rattle.uring_core.specs.Histories.{History, world}
 use Rattle.uring_machine.specs.Machine.{Fits}
-use Rattle.uring_machine.specs.Recorded.{IsWrong, Meets, resumed}
-use Rattle.uring_machine.specs.declared.answer.Answer.{Answer}
-use Rattle.uring_machine.specs.declared.answer.Answer.TheVariants as answer
-use Rattle.uring_machine.specs.declared.step.Step.{Step}
-use Rattle.uring_machine.specs.declared.step.Step.TheVariants as step
-use Rattle.uring_machine.specs.declared.wanted.Refusal.TheVariants as refusal
-use Rattle.uring_machine.specs.declared.wanted.Wanted.{Wanted}
-use Rattle.uring_machine.specs.declared.wanted.Wanted.TheVariants.{Only}
+use Rattle.uring_core.specs.Recorded.{IsWrong, Meets, resumed}
+use Rattle.uring_core.specs.declared.answer.Answer.{Answer}
+use Rattle.uring_core.specs.declared.answer.Answer.TheVariants as answer
+use Rattle.uring_core.specs.declared.step.Step.{Step}
+use Rattle.uring_core.specs.declared.step.Step.TheVariants as step
+use Rattle.uring_core.specs.declared.wanted.Refusal.TheVariants as refusal
+use Rattle.uring_core.specs.declared.wanted.Wanted.{Wanted}
+use Rattle.uring_core.specs.declared.wanted.Wanted.TheVariants.{Only}
 use Rattle.uring_trace.specs.Explanations.{line_number}
 use Rattle.uring_text.specs.KeptLine.{KeptLine, kept_of}
 use Rattle.uring_text.specs.Lines.{Splits}

@@ -1,12 +1,12 @@
 -- What a check finds of the lines of a recorded trace. That a check goes on behind a wrong line, and stops at a bad one, is our own rule.
 use Rattle.std.specs.Prelude.{◌≡◌, ℕ, Bool, true, false, not, List, [], ◌∷◌}
 use Rattle.std.specs.List.{list_any}
-use Rattle.uring_machine.specs.Histories.{History}
-use Rattle.uring_machine.specs.Recorded.{Meets, resumed}
-use Rattle.uring_machine.specs.declared.answer.Answer.{Answer}
-use Rattle.uring_machine.specs.declared.step.Step.{Step}
-use Rattle.uring_machine.specs.declared.wanted.Refusal.TheVariants as refusal
-use Rattle.uring_machine.specs.declared.wanted.Wanted.{Wanted}
+use Rattle.uring_core.specs.Histories.{History}
+use Rattle.uring_core.specs.Recorded.{Meets, resumed}
+use Rattle.uring_core.specs.declared.answer.Answer.{Answer}
+use Rattle.uring_core.specs.declared.step.Step.{Step}
+use Rattle.uring_core.specs.declared.wanted.Refusal.TheVariants as refusal
+use Rattle.uring_core.specs.declared.wanted.Wanted.{Wanted}
 use Rattle.uring_text.specs.Remarks.{is_remark}
 use Rattle.uring_trace.specs.Text.{text_of}
 use Rattle.uring_check.specs.Records.{IsRecord, IsNoRecord, IsPassed}

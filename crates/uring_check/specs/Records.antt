@@ -1,8 +1,8 @@
 -- The lines of a recorded trace: each a step with the text of its answer. The form is our own rule.
 use Rattle.std.specs.Prelude.{◌≡◌, ◌≢◌, ℕ, ◌≤◌, ◌⊎◌, true, List, [], ◌∷◌, ◌++◌, length}
 use Rattle.std.specs.List.{AllByRecursion}
-use Rattle.uring_machine.specs.Histories.{Event, History}
-use Rattle.uring_machine.specs.declared.step.Step.{Step}
+use Rattle.uring_core.specs.Histories.{Event, History}
+use Rattle.uring_core.specs.declared.step.Step.{Step}
 use Rattle.uring_text.specs.Remarks.{is_remark}
 use Rattle.uring_trace.specs.Spelling.{IsStep}
 use Rattle.uring_trace.specs.Text.{text_of}

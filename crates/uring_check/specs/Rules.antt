@@ -2,14 +2,14 @@
 use Rattle.std.specs.Prelude.{◌≡◌, Bool, true, false}
 use Rattle.uring_entry.specs.Requests.{no_bytes}
 use Rattle.uring_entry.specs.Setup.{Setup}
-use Rattle.uring_machine.specs.CalledFor.{CalledFor, IsLawful}
-use Rattle.uring_machine.specs.Histories.{History, world, IsLawfulApart}
-use Rattle.uring_machine.specs.StepAnswers.{CalledForApart}
-use Rattle.uring_machine.specs.World.{World}
-use Rattle.uring_machine.specs.declared.answer.Answer.{Answer}
-use Rattle.uring_machine.specs.declared.answer.Answer.TheVariants as answer
-use Rattle.uring_machine.specs.declared.step.Step.{Step}
-use Rattle.uring_machine.specs.declared.step.Step.TheVariants as step
+use Rattle.uring_core.specs.CalledFor.{CalledFor, IsLawful}
+use Rattle.uring_core.specs.Histories.{History, world, IsLawfulApart}
+use Rattle.uring_core.specs.StepAnswers.{CalledForApart}
+use Rattle.uring_core.specs.World.{World}
+use Rattle.uring_core.specs.declared.answer.Answer.{Answer}
+use Rattle.uring_core.specs.declared.answer.Answer.TheVariants as answer
+use Rattle.uring_core.specs.declared.step.Step.{Step}
+use Rattle.uring_core.specs.declared.step.Step.TheVariants as step
 use Rattle.uring_text.specs.Spelling.{IsFile}
 
 -- A set-up, and whether a trace is judged apart from what operations give: by a ring without files, whose requests end with any result.

@@ -1,7 +1,7 @@
 //! What a check makes of lines, one by one.
 
 ghost use Rattle.std.specs.Prelude.{◌≡◌, ◌∷◌, ◌++◌, [], false, not, ℕ, List, Bool, IfOk, OnOk, codes};
-ghost use Rattle.uring_machine.specs.Histories.{History, world};
+ghost use Rattle.uring_core.specs.Histories.{History, world};
 ghost use Rattle.uring_text.specs.KeptLine.{kept_of};
 ghost use Rattle.uring_text.specs.Lines.{ended};
 ghost use Rattle.uring_check.specs.Checking.{FitsBy, rules_of, Looks, LooksAt, IsTold};

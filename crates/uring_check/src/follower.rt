@@ -2,8 +2,8 @@
 
 ghost use Rattle.std.specs.Prelude.{◌≡◌, ◌∷◌, [], IfErr, IfOk, OnOk};
 ghost use Rattle.uring_entry.specs.Why.{why_of};
-ghost use Rattle.uring_machine.specs.Histories.{History, world};
-ghost use Rattle.uring_machine.specs.Recorded.{IsRefused, resumed};
+ghost use Rattle.uring_core.specs.Histories.{History, world};
+ghost use Rattle.uring_core.specs.Recorded.{IsRefused, resumed};
 ghost use Rattle.uring_check.specs.Checking.{FitsBy, HasOneAnswer, rules_of};
 ghost use Rattle.uring_check.specs.Rules.{IsCalled};
 

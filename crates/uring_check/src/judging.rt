@@ -2,8 +2,8 @@
 
 ghost use Rattle.std.specs.Prelude.{◌≡◌, ◌∷◌, ℤ, IfOk, MatchOption, OnOk};
 ghost use Rattle.uring_entry.specs.Requests.{no_bytes};
-ghost use Rattle.uring_machine.specs.Histories.{History};
-ghost use Rattle.uring_machine.specs.declared.answer.Answer.TheVariants as answer;
+ghost use Rattle.uring_core.specs.Histories.{History};
+ghost use Rattle.uring_core.specs.declared.answer.Answer.TheVariants as answer;
 ghost use Rattle.uring_text.specs.Spelling.{IsFile};
 ghost use Rattle.uring_trace.specs.Text.{text_of};
 ghost use Rattle.uring_check.specs.Rules.{IsPlain};

@@ -1,7 +1,7 @@
 //! What holds of recorded traces: laws of the definitions alone.
 
 ghost use Rattle.std.specs.Prelude.{◌≡◌, ℕ, List};
-ghost use Rattle.uring_machine.specs.Histories.{History};
+ghost use Rattle.uring_core.specs.Histories.{History};
 ghost use Rattle.uring_check.specs.Records.{AreRecorded};
 ghost use Rattle.uring_check.specs.Rules.{Rules, IsLawfulBy};
 

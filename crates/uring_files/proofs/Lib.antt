@@ -1,3 +1,4 @@
+pub mod DoneLemmas
 mod Overwrites
 pub mod Prepared
 pub mod StandAlone

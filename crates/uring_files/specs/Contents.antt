@@ -16,6 +16,10 @@ pub record FileContents : Type 0 where
 abbrev pub empty_file : FileContents
 empty_file = record { bytes = []; writes = 0; synced = 0 }
 
+-- so many files at first
+abbrev pub empty_files : ℕ → List FileContents
+empty_files count = replicate count empty_file
+
 -- the most bytes that a file may have. Our own rule
 abbrev pub max_len : ℕ
 max_len = 65536

@@ -1,3 +1,4 @@
 pub mod Contents
 pub mod Operations
+pub mod Done
 pub mod Laws

@@ -1,4 +1,4 @@
-ghost use Rattle.std.specs.Prelude.{◌≡◌, replicate, IfOk, IfSome, OnErr};
+ghost use Rattle.std.specs.Prelude.{◌≡◌, IfOk, IfSome, OnErr};
 ghost use Rattle.uring_files.specs.Operations as spec;
 
 use crate::file::{File, FileState, WriteFault};
@@ -24,12 +24,12 @@ impl Model for Files {
 impl Files {
     ghost use Rattle.std.specs.Prelude.{◌≤◌, pos, ◌<◌, length, IfNone, None};
     ghost use Rattle.std.specs.Option.{option_copied};
-    ghost use Rattle.uring_files.specs.Contents.{empty_file, max_len};
+    ghost use Rattle.uring_files.specs.Contents.{empty_files, max_len};
     ghost use Rattle.uring_files.specs.Operations.{IsForFiles, IsOutcome, is_lengthening, result_of, after, file_of, state_of, byte_of};
 
     /// As many files as `count`, each of no bytes. The only error is that memory for them was refused; no files take none.
     pub fn new(alloc: Global, count: u32) -> Result<Files, AllocError>
-        ensures ok { IfOk result (λ files. files ≡ replicate count empty_file) }
+        ensures ok { IfOk result (λ files. files ≡ empty_files count) }
         ensures err { OnErr result (0 < count) }
     {
         let mut files = Vec::with_capacity(alloc, count as usize)?;

@@ -11,16 +11,16 @@ use Rattle.uring_entry.specs.Preparation.{is_cancel}
 use Rattle.uring_entry.specs.Success.{is_success}
 use Rattle.uring_entry.specs.Requests.{Requests, entry_of, is_cancelled, target_of, targets_of, choices_of, chosen_by, doomed_result, cancel_result, no_bytes, with_issued_end}
 use Rattle.uring_laws.specs.HistoryLists.{IsChosenIn}
-use Rattle.uring_machine.specs.Events.{Chose}
-use Rattle.uring_machine.specs.World.{World}
-use Rattle.uring_machine.specs.Histories.{Event, History, world, IsLawfulApart}
-use Rattle.uring_machine.specs.declared.step.Step.{Step}
-use Rattle.uring_machine.specs.declared.step.Step.TheVariants as step
-use Rattle.uring_machine.specs.declared.answer.Answer.{Answer}
-use Rattle.uring_machine.specs.declared.answer.Answer.TheVariants as answer
-use Rattle.uring_machine.proofs.Moves.{Move, ends_doomed, ends_cancel, move_of}
-use Rattle.uring_machine.proofs.RequestEnds.{doomed_fails, chose, any_both}
-use Rattle.uring_machine.proofs.SoundRequests.{outstanding_tells}
+use Rattle.uring_core.specs.Events.{Chose}
+use Rattle.uring_core.specs.World.{World}
+use Rattle.uring_core.specs.Histories.{Event, History, world, IsLawfulApart}
+use Rattle.uring_core.specs.declared.step.Step.{Step}
+use Rattle.uring_core.specs.declared.step.Step.TheVariants as step
+use Rattle.uring_core.specs.declared.answer.Answer.{Answer}
+use Rattle.uring_core.specs.declared.answer.Answer.TheVariants as answer
+use Rattle.uring_core.proofs.Moves.{Move, ends_doomed, ends_cancel, move_of}
+use Rattle.uring_core.proofs.RequestEnds.{doomed_fails, chose, any_both}
+use Rattle.uring_core.proofs.SoundRequests.{outstanding_tells}
 use Rattle.uring_entry.proofs.RequestLemmas.{one_success, all_success, target-there}
 use Rattle.uring_laws.proofs.Growth.{event_grows}
 

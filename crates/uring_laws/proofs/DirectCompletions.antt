@@ -5,13 +5,13 @@ use Rattle.uring_entry.specs.Layout.{Cqe}
 use Rattle.uring_entry.specs.Success.{posts_completion}
 use Rattle.uring_entry.specs.Completions.{Completions, with_posted, completion_for}
 use Rattle.uring_entry.specs.Requests.{entry_of}
-use Rattle.uring_machine.specs.Events.{reaped_by, is_flush, is_load_cq_tail, is_store_cq_head}
+use Rattle.uring_core.specs.Events.{reaped_by, is_flush, is_load_cq_tail, is_store_cq_head}
 use Rattle.uring_laws.specs.Direct.{before_last, reaps as reaps_in, stored_head, flushed_head}
-use Rattle.uring_machine.specs.World.{World}
-use Rattle.uring_machine.specs.Histories.{History, world, IsLawfulApart}
-use Rattle.uring_machine.specs.declared.step.Step.{Step}
-use Rattle.uring_machine.specs.declared.answer.Answer.{Answer}
-use Rattle.uring_machine.proofs.CompletionMoves.{CompletionMove, stays, ends, flushes, sees_tail, reaps, stores_head, completion_move}
+use Rattle.uring_core.specs.World.{World}
+use Rattle.uring_core.specs.Histories.{History, world, IsLawfulApart}
+use Rattle.uring_core.specs.declared.step.Step.{Step}
+use Rattle.uring_core.specs.declared.answer.Answer.{Answer}
+use Rattle.uring_core.proofs.CompletionMoves.{CompletionMove, stays, ends, flushes, sees_tail, reaps, stores_head, completion_move}
 use Rattle.uring_laws.proofs.Telling.{told_same, before_same}
 
 pub record DirectCompletions (g : Setup) (h : History) (w : World) : Type 0 where

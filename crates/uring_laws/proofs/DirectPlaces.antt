@@ -6,15 +6,15 @@ use Rattle.std.proofs.lemmas.Option.{slice_get_within, slice_get-get_or, get_or_
 use Rattle.uring_entry.specs.Setup.{Setup}
 use Rattle.uring_entry.specs.Layout.{Sqe}
 use Rattle.uring_entry.specs.Submission.{Place, place_of}
-use Rattle.uring_machine.specs.Events.{staged_by, is_store_tail}
+use Rattle.uring_core.specs.Events.{staged_by, is_store_tail}
 use Rattle.uring_laws.specs.Direct.{staged_words, published_words, slot_content, before_published, published_entry}
-use Rattle.uring_machine.specs.World.{World}
-use Rattle.uring_machine.specs.Histories.{Event, History, world, IsLawfulApart}
-use Rattle.uring_machine.specs.declared.step.Step.{Step}
-use Rattle.uring_machine.specs.declared.step.Step.TheVariants as step
-use Rattle.uring_machine.specs.declared.answer.Answer.{Answer}
-use Rattle.uring_machine.specs.declared.answer.Answer.TheVariants as answer
-use Rattle.uring_machine.proofs.SubmissionMoves.{SubmissionMove, stays, stages, stores, submission_move}
+use Rattle.uring_core.specs.World.{World}
+use Rattle.uring_core.specs.Histories.{Event, History, world, IsLawfulApart}
+use Rattle.uring_core.specs.declared.step.Step.{Step}
+use Rattle.uring_core.specs.declared.step.Step.TheVariants as step
+use Rattle.uring_core.specs.declared.answer.Answer.{Answer}
+use Rattle.uring_core.specs.declared.answer.Answer.TheVariants as answer
+use Rattle.uring_core.proofs.SubmissionMoves.{SubmissionMove, stays, stages, stores, submission_move}
 use Rattle.uring_laws.proofs.Telling.{told_same}
 use Rattle.uring_laws.proofs.DirectSubmission.{DirectSubmission, direct_submission}
 

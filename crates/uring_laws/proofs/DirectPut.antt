@@ -8,14 +8,14 @@ use Rattle.uring_entry.specs.Layout.{Cqe}
 use Rattle.uring_entry.specs.Success.{posts_completion}
 use Rattle.uring_entry.specs.Completions.{Completions, with_posted, completion_for}
 use Rattle.uring_entry.specs.Requests.{Ending, entry_of}
-use Rattle.uring_machine.specs.World.{World}
-use Rattle.uring_machine.specs.Histories.{Event, History, world, IsLawfulApart}
-use Rattle.uring_machine.specs.Events.{end_told_by, is_flush}
+use Rattle.uring_core.specs.World.{World}
+use Rattle.uring_core.specs.Histories.{Event, History, world, IsLawfulApart}
+use Rattle.uring_core.specs.Events.{end_told_by, is_flush}
 use Rattle.uring_laws.specs.Direct.{before_last, completion_of, stored_head, flushed_head}
 use Rattle.uring_laws.specs.HistoryLists.{posted_count, put_count}
-use Rattle.uring_machine.specs.declared.step.Step.{Step}
-use Rattle.uring_machine.specs.declared.answer.Answer.{Answer}
-use Rattle.uring_machine.proofs.CompletionMoves.{CompletionMove, stays, ends, flushes, completion_move}
+use Rattle.uring_core.specs.declared.step.Step.{Step}
+use Rattle.uring_core.specs.declared.answer.Answer.{Answer}
+use Rattle.uring_core.proofs.CompletionMoves.{CompletionMove, stays, ends, flushes, completion_move}
 use Rattle.uring_laws.proofs.DirectCompletions.{direct_completions}
 use Rattle.uring_laws.proofs.DirectRequests.{direct_posted}
 use Rattle.uring_laws.proofs.ToldRequests.{tells_requests}

@@ -11,16 +11,16 @@ use Rattle.uring_entry.specs.Success.{posts_completion}
 use Rattle.uring_entry.specs.Submission.{Submission, taken, accepted, entries_of, places_from, place_of}
 use Rattle.uring_entry.specs.Completions.{Completions, with_posted, with_end}
 use Rattle.uring_entry.specs.Requests.{Ending}
-use Rattle.uring_machine.specs.Events.{accepted_by, closes_ring}
+use Rattle.uring_core.specs.Events.{accepted_by, closes_ring}
 use Rattle.uring_laws.specs.Direct.{told, sums_from, cut_counts, completion_of}
-use Rattle.uring_machine.specs.World.{World}
-use Rattle.uring_machine.specs.Histories.{History, world, IsLawfulApart}
-use Rattle.uring_machine.specs.declared.step.Step.{Step}
-use Rattle.uring_machine.specs.declared.answer.Answer.{Answer}
-use Rattle.uring_machine.proofs.SubmissionMoves.{SubmissionMove, stays, stores, closes, submission_move}
-use Rattle.uring_machine.proofs.CompletionMoves.{CompletionMove, stays as stays_off, ends, completion_move}
+use Rattle.uring_core.specs.World.{World}
+use Rattle.uring_core.specs.Histories.{History, world, IsLawfulApart}
+use Rattle.uring_core.specs.declared.step.Step.{Step}
+use Rattle.uring_core.specs.declared.answer.Answer.{Answer}
+use Rattle.uring_core.proofs.SubmissionMoves.{SubmissionMove, stays, stores, closes, submission_move}
+use Rattle.uring_core.proofs.CompletionMoves.{CompletionMove, stays as stays_off, ends, completion_move}
 use Rattle.uring_laws.proofs.Telling.{told_same}
-use Rattle.uring_machine.proofs.Sound.{IsSound, sound_of}
+use Rattle.uring_core.proofs.Sound.{IsSound, sound_of}
 
 pub record DirectRequests (h : History) (w : World) : Type 0 where
   pub taken_in : w.requests.accepted ≡ accepted w.submission

@@ -7,17 +7,17 @@ use Rattle.std.proofs.lemmas.List.{length_push, map-append}
 use Rattle.uring_entry.specs.Setup.{Setup}
 use Rattle.uring_entry.specs.Layout.{Sqe, zero_entry}
 use Rattle.uring_entry.specs.Submission.{Call, place_of, call_length}
-use Rattle.uring_machine.specs.Events.{filled_by, staged_by, takes_position, takes_last, opens_call, opened_by, closes_call, is_store_tail, is_load_head}
+use Rattle.uring_core.specs.Events.{filled_by, staged_by, takes_position, takes_last, opens_call, opened_by, closes_call, is_store_tail, is_load_head}
 use Rattle.uring_laws.specs.Direct.{last_told, since_last, staged_words, published_words, slot_content, taken_since, has_stopped, open_count, open_call, call_counts, taken_count, loaded_head}
-use Rattle.uring_machine.specs.World.{World}
-use Rattle.uring_machine.specs.Histories.{Event, History, world, IsLawfulApart}
-use Rattle.uring_machine.specs.declared.step.Step.{Step}
-use Rattle.uring_machine.specs.declared.step.Step.TheVariants as step
-use Rattle.uring_machine.specs.declared.answer.Answer.{Answer}
-use Rattle.uring_machine.specs.declared.answer.Answer.TheVariants as answer
-use Rattle.uring_machine.proofs.SubmissionMoves.{SubmissionMove, stays, fills, stages, stores, loads, begins, takes, drops, closes, submission_move}
-use Rattle.uring_machine.proofs.SoundRings.{IsSoundSubmission, open_taken, open_count as positions_open}
-use Rattle.uring_machine.proofs.Sound.{sound_of}
+use Rattle.uring_core.specs.World.{World}
+use Rattle.uring_core.specs.Histories.{Event, History, world, IsLawfulApart}
+use Rattle.uring_core.specs.declared.step.Step.{Step}
+use Rattle.uring_core.specs.declared.step.Step.TheVariants as step
+use Rattle.uring_core.specs.declared.answer.Answer.{Answer}
+use Rattle.uring_core.specs.declared.answer.Answer.TheVariants as answer
+use Rattle.uring_core.proofs.SubmissionMoves.{SubmissionMove, stays, fills, stages, stores, loads, begins, takes, drops, closes, submission_move}
+use Rattle.uring_core.proofs.SoundRings.{IsSoundSubmission, open_taken, open_count as positions_open}
+use Rattle.uring_core.proofs.Sound.{sound_of}
 use Rattle.uring_laws.proofs.Telling.{count_more, count_same, told_same, before_same}
 
 -- an open call is the one that was opened last

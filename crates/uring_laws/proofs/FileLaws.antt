@@ -1,45 +1,26 @@
 -- The laws of `files.rt` on histories: which are lawful, and which files they leave, by the operations that they carried out.
 -- By induction over the history: a Finish that ended its request is `files_ended`, and any other event is `files_kept`.
 -- Stable: other crates may import what is pub.
-use Rattle.std.proofs.Common.{◌≡◌, ◌==◌, ℕ, ℤ, Bool, true, false, List, [], ◌∷◌, ◌++◌, None, refl, sym, subst, ap, ◌∙◌}
+use Rattle.std.proofs.Common.{◌≡◌, ◌==◌, ℕ, ℤ, Bool, true, false, List, [], ◌∷◌, None, refl, sym, subst, ap, ◌∙◌}
 use Rattle.std.proofs.lemmas.Bool.{eq-eqb}
 use Rattle.uring_entry.specs.Setup.{Setup}
 use Rattle.uring_entry.specs.Preparation.{operation_of}
 use Rattle.uring_entry.specs.Requests.{Requests, entry_of, is_running}
-use Rattle.uring_files.specs.Contents.{FileContents}
 use Rattle.uring_files.specs.Operations.{file_of, after, IsOutcome}
-use Rattle.uring_machine.specs.StepAnswers.{FinishesApart}
-use Rattle.uring_machine.specs.CalledFor.{CalledFor, IsLawful, EndsOn, files_of}
+use Rattle.uring_core.specs.StepAnswers.{FinishesApart}
+use Rattle.uring_core.specs.CalledFor.{CalledFor, IsLawful, EndsOn, files_of}
 use Rattle.uring_laws.specs.Direct.{with_told}
-use Rattle.uring_laws.specs.Finishes.{Done, done_by, done_in, first_files, files_left, AreDone, LawfulByOperations, FilesByOperations, PlacesJoin, FilesByPlace}
-use Rattle.uring_machine.specs.Histories.{History, world, IsLawfulApart}
-use Rattle.uring_machine.specs.declared.step.Step.{Step}
-use Rattle.uring_machine.specs.declared.step.Step.TheVariants as step
-use Rattle.uring_machine.specs.declared.answer.Answer.{Answer}
-use Rattle.uring_machine.specs.declared.answer.Answer.TheVariants as answer
-use Rattle.uring_machine.proofs.FileHistory.{files_ended, files_kept}
+use Rattle.uring_files.specs.Done.{Done, files_left, AreDone}
+use Rattle.uring_files.proofs.DoneLemmas.{left-snoc, done-snoc, done-unsnoc}
+use Rattle.uring_laws.specs.Finishes.{done_by, done_in, first_files, LawfulByOperations, FilesByOperations, PlacesJoin, FilesByPlace}
+use Rattle.uring_core.specs.Histories.{History, world, IsLawfulApart}
+use Rattle.uring_core.specs.declared.step.Step.{Step}
+use Rattle.uring_core.specs.declared.step.Step.TheVariants as step
+use Rattle.uring_core.specs.declared.answer.Answer.{Answer}
+use Rattle.uring_core.specs.declared.answer.Answer.TheVariants as answer
+use Rattle.uring_core.proofs.FileHistory.{files_ended, files_kept}
 use Rattle.uring_laws.proofs.FilesApart.{left_by_own, join_places}
 use Rattle.uring_laws.proofs.WholeLaws.{lawful_apart}
-
--- The last operation.
-
-pub left-snoc : (files : List FileContents) (done : List Done) (d : Done)
-    → files_left files (done ++ d ∷ []) ≡ after (files_left files done) d.op d.outcome.res
-left-snoc files [] d = refl
-left-snoc files (first ∷ later) d = left-snoc (after files first.op first.outcome.res) later d
-
-pub done-snoc : (files : List FileContents) (done : List Done) (d : Done) → AreDone files done
-    → IsOutcome (files_left files done) d.op d.outcome → AreDone files (done ++ d ∷ [])
-done-snoc files [] d all last = (last, tt)
-done-snoc files (first ∷ later) d all last =
-    (all.0, done-snoc (after files first.op first.outcome.res) later d all.1 last)
-
--- all but the last, and the last
-done-unsnoc : (files : List FileContents) (done : List Done) (d : Done)
-    → AreDone files (done ++ d ∷ [])
-    → AreDone files done × IsOutcome (files_left files done) d.op d.outcome
-done-unsnoc files [] d all = (tt, all.0)
-done-unsnoc files (first ∷ later) d all = let rest = done-unsnoc (after files first.op first.outcome.res) later d all.1 in ((all.0, rest.0), rest.1)
 
 -- Events, by whether they carry an operation out.
 

@@ -12,8 +12,9 @@ use Rattle.uring_files.specs.Contents.{FileContents}
 use Rattle.uring_files.specs.Laws.{AgreeAt, is_on}
 use Rattle.uring_files.specs.Operations.{file_of, after, IsOutcome}
 use Rattle.uring_files.proofs.StandAlone.{others_stay, files_apart, ends_apart}
-use Rattle.uring_machine.specs.CalledFor.{files_after}
-use Rattle.uring_laws.specs.Finishes.{Done, files_left, AreDone, ends_of, done_at, IsByFile, FileByItsEnds}
+use Rattle.uring_core.specs.CalledFor.{files_after}
+use Rattle.uring_files.specs.Done.{Done, files_left, AreDone}
+use Rattle.uring_laws.specs.Finishes.{ends_of, done_at, IsByFile, FileByItsEnds}
 
 -- The file of a descriptor.
 

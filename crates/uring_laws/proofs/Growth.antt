@@ -5,14 +5,14 @@ use Rattle.std.proofs.Common.{◌≡◌, ℕ, ◌<◌, ◌≤◌, ℤ, true, Lis
 use Rattle.uring_entry.specs.Setup.{Setup}
 use Rattle.uring_entry.specs.Layout.{Sqe}
 use Rattle.uring_entry.specs.Requests.{Requests, entry_of, is_joined, is_draining, is_drain, some_member, is_doomed, is_cancelled, doomed_result, cancel_result, with_call, with_started}
-use Rattle.uring_machine.specs.Histories.{History, world, IsLawfulApart}
-use Rattle.uring_machine.specs.declared.step.Step.{Step}
-use Rattle.uring_machine.specs.declared.answer.Answer.{Answer}
-use Rattle.uring_machine.proofs.Moves.{Move, stays, accepts, starts, ends_doomed, ends_cancel, ends_run, move_of}
-use Rattle.uring_machine.proofs.RequestEnds.{IsChoice, ended_as, end_doom, end_join, choice_of, no_choice}
+use Rattle.uring_core.specs.Histories.{History, world, IsLawfulApart}
+use Rattle.uring_core.specs.declared.step.Step.{Step}
+use Rattle.uring_core.specs.declared.answer.Answer.{Answer}
+use Rattle.uring_core.proofs.Moves.{Move, stays, accepts, starts, ends_doomed, ends_cancel, ends_run, move_of}
+use Rattle.uring_core.proofs.RequestEnds.{IsChoice, ended_as, end_doom, end_join, choice_of, no_choice}
 use Rattle.uring_entry.proofs.EventLemmas.{is_doomed-started, is_joined-started, is_draining-started}
-use Rattle.uring_machine.proofs.Groups.{longer, entry_kept, join_kept, member_kept, doom_kept}
-use Rattle.uring_machine.proofs.Sound.{sound_of}
+use Rattle.uring_core.proofs.Groups.{longer, entry_kept, join_kept, member_kept, doom_kept}
+use Rattle.uring_core.proofs.Sound.{sound_of}
 use Rattle.std.specs.List.{list_any}
 use Rattle.std.proofs.Common.{◌==◌}
 

@@ -9,18 +9,18 @@ use Rattle.uring_entry.specs.Setup.{Setup}
 use Rattle.uring_entry.specs.declared.errno.TheConstants.{EALREADY, ECANCELED}
 use Rattle.uring_entry.specs.Requests.{Requests, Ending, has_started, has_ended, is_joined, is_draining, is_doomed, is_ready, is_running, waits_for, doomed_result, cancel_result, count_result, result_for, target_of, targets_of, entry_of}
 use Rattle.uring_entry.specs.Preparation.{is_cancel_all}
-use Rattle.uring_machine.specs.World.{World}
-use Rattle.uring_machine.specs.StepAnswers.{IsEnded}
-use Rattle.uring_machine.specs.Histories.{History, world, IsLawfulApart}
-use Rattle.uring_machine.specs.Events.{started_by}
+use Rattle.uring_core.specs.World.{World}
+use Rattle.uring_core.specs.StepAnswers.{IsEnded}
+use Rattle.uring_core.specs.Histories.{History, world, IsLawfulApart}
+use Rattle.uring_core.specs.Events.{started_by}
 use Rattle.uring_laws.specs.Laws.{DoomedNeverRun, IsStart, times_ended}
-use Rattle.uring_machine.specs.declared.step.Step.TheVariants as step
-use Rattle.uring_machine.specs.declared.answer.Answer.{Answer}
-use Rattle.uring_machine.specs.declared.answer.Answer.TheVariants as answer
-use Rattle.uring_machine.proofs.Changes.{Change, change_of, IsSilent, refuses, runs, dooms, cancels}
-use Rattle.uring_machine.proofs.SoundRequests.{IsSoundRequests, EndsDoomed, is_otherwise, outstanding_tells, waited}
-use Rattle.uring_machine.proofs.ListCounts.{count_none, count_some}
-use Rattle.uring_machine.proofs.Sound.{sound_of}
+use Rattle.uring_core.specs.declared.step.Step.TheVariants as step
+use Rattle.uring_core.specs.declared.answer.Answer.{Answer}
+use Rattle.uring_core.specs.declared.answer.Answer.TheVariants as answer
+use Rattle.uring_core.proofs.Changes.{Change, change_of, IsSilent, refuses, runs, dooms, cancels}
+use Rattle.uring_core.proofs.SoundRequests.{IsSoundRequests, EndsDoomed, is_otherwise, outstanding_tells, waited}
+use Rattle.uring_core.proofs.ListCounts.{count_none, count_some}
+use Rattle.uring_core.proofs.Sound.{sound_of}
 use Rattle.uring_laws.proofs.ToldRequests.{tells_requests}
 use Rattle.uring_laws.proofs.Growth.{Grows, grows, event_grows, then_grows, lawful_before}
 

@@ -12,20 +12,20 @@ use Rattle.std.proofs.lemmas.Option.{slice_get_within, get_or_from_slice_get}
 use Rattle.uring_entry.specs.Setup.{Setup}
 use Rattle.uring_entry.specs.Layout.{Sqe}
 use Rattle.uring_entry.specs.Submission.{Submission, Call, Place, place_of, taken, dropped_in, item_of, published_items, IsItem}
-use Rattle.uring_machine.specs.World.{World, ending_of}
-use Rattle.uring_machine.specs.Events.{takes_position, entry_taken_by, closes_call}
+use Rattle.uring_core.specs.World.{World, ending_of}
+use Rattle.uring_core.specs.Events.{takes_position, entry_taken_by, closes_call}
 use Rattle.uring_laws.specs.Direct.{with_told, entries_taken, positions_taken, staged_words, published_words, published_entry, slot_content, before_published}
-use Rattle.uring_machine.specs.Histories.{Event, History, world, IsLawfulApart}
+use Rattle.uring_core.specs.Histories.{Event, History, world, IsLawfulApart}
 use Rattle.uring_laws.specs.HistoryLists.{OwnSubmission}
 use Rattle.uring_laws.specs.Published.{items_told, drops_position, positions_dropped, OwnPublished}
-use Rattle.uring_machine.specs.declared.step.Step.{Step}
-use Rattle.uring_machine.specs.declared.step.Step.TheVariants as step
-use Rattle.uring_machine.specs.declared.answer.Answer.{Answer}
-use Rattle.uring_machine.specs.declared.answer.Answer.TheVariants as answer
-use Rattle.uring_machine.proofs.SubmissionMoves.{SubmissionMove, stays, stores, closes, submission_move}
+use Rattle.uring_core.specs.declared.step.Step.{Step}
+use Rattle.uring_core.specs.declared.step.Step.TheVariants as step
+use Rattle.uring_core.specs.declared.answer.Answer.{Answer}
+use Rattle.uring_core.specs.declared.answer.Answer.TheVariants as answer
+use Rattle.uring_core.proofs.SubmissionMoves.{SubmissionMove, stays, stores, closes, submission_move}
 use Rattle.uring_laws.proofs.ReadOff.{own_submission}
-use Rattle.uring_machine.proofs.Sound.{sound_of}
-use Rattle.uring_machine.proofs.SoundRings.{open_taken, open_count}
+use Rattle.uring_core.proofs.Sound.{sound_of}
+use Rattle.uring_core.proofs.SoundRings.{open_taken, open_count}
 use Rattle.uring_laws.proofs.TakenPlaces.{reached, takes_places}
 use Rattle.uring_laws.proofs.Telling.{count_more, count_same, before_same}
 use Rattle.uring_rings.proofs.Places.{entries_and_dropped}

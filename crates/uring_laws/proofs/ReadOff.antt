@@ -1,12 +1,12 @@
 -- The lists of a world are its history's own.
 use Rattle.std.proofs.Common.{sym, ap, ◌∙◌}
 use Rattle.uring_entry.specs.Setup.{Setup}
-use Rattle.uring_machine.specs.Histories.{History, world, IsLawfulApart}
+use Rattle.uring_core.specs.Histories.{History, world, IsLawfulApart}
 use Rattle.uring_laws.specs.HistoryLists.{OwnSubmission, OwnRequests, OwnCompletions}
 use Rattle.uring_laws.proofs.DirectSubmission.{direct_submission, call_direct}
 use Rattle.uring_laws.proofs.DirectCompletions.{direct_completions}
 use Rattle.std.specs.List.{filter_map}
-use Rattle.uring_machine.specs.Events.{is_load_cq_tail}
+use Rattle.uring_core.specs.Events.{is_load_cq_tail}
 use Rattle.uring_laws.specs.Direct.{completion_of, before_last}
 use Rattle.uring_laws.proofs.DirectPut.{direct_put, lawful_last}
 use Rattle.uring_laws.proofs.DirectRequests.{direct_requests, direct_posted}

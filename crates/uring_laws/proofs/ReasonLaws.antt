@@ -16,10 +16,10 @@ use Rattle.uring_entry.proofs.BelowLemmas.{IsLeast, least_below-out, least_below
 use Rattle.uring_entry.proofs.RequestLemmas.{is_joined-yes, is_joined-inside, is_ready-yes, is_ready-inside}
 use Rattle.uring_entry.proofs.WhyLemmas.{StillWaits, IsTold, told, told-as, why-waiting}
 use Rattle.uring_entry.specs.Preparation.{is_cancel}
-use Rattle.uring_machine.specs.World.{World}
-use Rattle.uring_machine.specs.StepAnswers.{issue_answer}
-use Rattle.uring_machine.specs.declared.answer.Answer.{Answer}
-use Rattle.uring_machine.specs.declared.answer.Answer.TheVariants as answer
+use Rattle.uring_core.specs.World.{World}
+use Rattle.uring_core.specs.StepAnswers.{issue_answer}
+use Rattle.uring_core.specs.declared.answer.Answer.{Answer}
+use Rattle.uring_core.specs.declared.answer.Answer.TheVariants as answer
 use Rattle.uring_laws.specs.Reasons.{answer_told, can_be_issued, IsUnstarted, CanStart, IsSince, IsWaiting, IsLeastOf, IsDoomOf, GoesOn}
 
 -- Standing.

@@ -12,15 +12,15 @@ use Rattle.uring_entry.specs.declared.operation.Op.{Op}
 use Rattle.uring_entry.specs.declared.operation.Outcome.{Outcome}
 use Rattle.uring_files.specs.Contents.{FileContents}
 use Rattle.uring_files.specs.Operations.{is_lengthening, result_of, ended_with, IsOutcome}
-use Rattle.uring_machine.specs.StepAnswers.{FinishesApart, OrAgain, begin_answer}
-use Rattle.uring_machine.specs.CalledFor.{IsLawful, EndsOn, files_of}
-use Rattle.uring_machine.specs.Histories.{Event, History, history_of, IsLawfulApart}
+use Rattle.uring_core.specs.StepAnswers.{FinishesApart, OrAgain, begin_answer}
+use Rattle.uring_core.specs.CalledFor.{IsLawful, EndsOn, files_of}
+use Rattle.uring_core.specs.Histories.{Event, History, history_of, IsLawfulApart}
 use Rattle.uring_laws.specs.Recorded.{CalledIsDecided, CalledIsDecidedApart, WrongIsUnlawful, WrongIsUnlawfulApart}
-use Rattle.uring_machine.specs.declared.step.Step.TheVariants as step
-use Rattle.uring_machine.specs.declared.answer.Answer.{Answer}
-use Rattle.uring_machine.specs.declared.answer.Answer.TheVariants as answer
-use Rattle.uring_machine.proofs.SameAnswers.{decided}
-use Rattle.uring_machine.proofs.Following.{history_of-snoc}
+use Rattle.uring_core.specs.declared.step.Step.TheVariants as step
+use Rattle.uring_core.specs.declared.answer.Answer.{Answer}
+use Rattle.uring_core.specs.declared.answer.Answer.TheVariants as answer
+use Rattle.uring_core.proofs.SameAnswers.{decided}
+use Rattle.uring_core.proofs.Following.{history_of-snoc}
 use Rattle.uring_laws.proofs.Growth as apart
 use Rattle.uring_laws.proofs.WholeLaws.{lawful_before}
 

@@ -8,12 +8,12 @@ use Rattle.uring_entry.specs.Requests.{Requests, has_ended, is_outstanding, leas
 use Rattle.uring_entry.proofs.BelowLemmas.{least_below-out, least_below-some, least_below-tells}
 use Rattle.uring_entry.proofs.RequestLemmas.{least_of-goes_on}
 use Rattle.uring_laws.specs.Laws.{LeastCanGoOn, EachEndsOnce}
-use Rattle.uring_machine.proofs.Issuable.{issue_goes, issuable_outstanding}
-use Rattle.uring_machine.specs.World.{World}
-use Rattle.uring_machine.specs.Histories.{History, world, IsLawfulApart}
-use Rattle.uring_machine.proofs.SoundRequests.{IsSoundRequests}
-use Rattle.uring_machine.proofs.ListCounts.{count_none, count_some}
-use Rattle.uring_machine.proofs.Sound.{sound_of}
+use Rattle.uring_core.proofs.Issuable.{issue_goes, issuable_outstanding}
+use Rattle.uring_core.specs.World.{World}
+use Rattle.uring_core.specs.Histories.{History, world, IsLawfulApart}
+use Rattle.uring_core.proofs.SoundRequests.{IsSoundRequests}
+use Rattle.uring_core.proofs.ListCounts.{count_none, count_some}
+use Rattle.uring_core.proofs.Sound.{sound_of}
 use Rattle.uring_laws.proofs.ToldRequests.{tells_requests}
 
 -- the least outstanding request is the next, where it isn't running

@@ -5,16 +5,16 @@ use Rattle.std.proofs.lemmas.Bool.{or_from, or_right}
 use Rattle.std.proofs.lemmas.List.{take-append-drop, take-take, length-drop, length-take}
 use Rattle.uring_entry.specs.Setup.{Setup}
 use Rattle.uring_entry.specs.Completions.{Completions}
-use Rattle.uring_machine.specs.World.{World}
-use Rattle.uring_machine.specs.Histories.{History, world, IsLawfulApart}
+use Rattle.uring_core.specs.World.{World}
+use Rattle.uring_core.specs.Histories.{History, world, IsLawfulApart}
 use Rattle.uring_laws.specs.Laws.{ReapedBeginPosted, in_ring, in_overflow}
-use Rattle.uring_machine.specs.Events.{takes_in}
-use Rattle.uring_machine.specs.declared.step.Step.{Step}
-use Rattle.uring_machine.specs.declared.step.Step.TheVariants as step
-use Rattle.uring_machine.specs.declared.answer.Answer.{Answer}
-use Rattle.uring_machine.specs.declared.answer.Answer.TheVariants as answer
-use Rattle.uring_machine.proofs.SubmissionMoves.{SubmissionMove, stays, begins, takes, drops, closes, submission_move}
-use Rattle.uring_machine.proofs.SoundRings.{IsSoundCompletions}
+use Rattle.uring_core.specs.Events.{takes_in}
+use Rattle.uring_core.specs.declared.step.Step.{Step}
+use Rattle.uring_core.specs.declared.step.Step.TheVariants as step
+use Rattle.uring_core.specs.declared.answer.Answer.{Answer}
+use Rattle.uring_core.specs.declared.answer.Answer.TheVariants as answer
+use Rattle.uring_core.proofs.SubmissionMoves.{SubmissionMove, stays, begins, takes, drops, closes, submission_move}
+use Rattle.uring_core.proofs.SoundRings.{IsSoundCompletions}
 
 pub begin_posted : (size : ℕ) (l : Completions) → IsSoundCompletions size l
     → ReapedBeginPosted size l

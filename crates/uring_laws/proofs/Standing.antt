@@ -14,12 +14,12 @@ use Rattle.uring_entry.specs.Setup.{Setup}
 use Rattle.uring_entry.specs.Layout.{Sqe}
 use Rattle.uring_entry.specs.Preparation.{is_faulty}
 use Rattle.uring_entry.specs.Submission.{Submission, Place, place_of, taken, staged, is_busy, is_full, with_closed, call_length, Published, with_entry, bad_word, item_of, IsItem}
-use Rattle.uring_machine.specs.World.{World, happens, taking, ending, ending_of}
-use Rattle.uring_machine.specs.StepAnswers.{OrAgain, is_spent, place_answer, entry_answer}
+use Rattle.uring_core.specs.World.{World, happens, taking, ending, ending_of}
+use Rattle.uring_core.specs.StepAnswers.{OrAgain, is_spent, place_answer, entry_answer}
 use Rattle.uring_laws.specs.Standing.{Stands, FreeSlotIsFilled, WordIsStaged, TailPublishes, with_item, with_items, ItemsArePublished, in_call, CallOpens, PositionIsTaken, CallCloses}
-use Rattle.uring_machine.specs.declared.step.Step.TheVariants as step
-use Rattle.uring_machine.specs.declared.answer.Answer.{Answer}
-use Rattle.uring_machine.specs.declared.answer.Answer.TheVariants as answer
+use Rattle.uring_core.specs.declared.step.Step.TheVariants as step
+use Rattle.uring_core.specs.declared.answer.Answer.{Answer}
+use Rattle.uring_core.specs.declared.answer.Answer.TheVariants as answer
 
 -- Filling and staging.
 

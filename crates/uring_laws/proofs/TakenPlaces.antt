@@ -9,18 +9,18 @@ use Rattle.std.proofs.lemmas.Option.{slice_get_within, get_or_from_slice_get}
 use Rattle.uring_entry.specs.Setup.{Setup, IsWithinLimits}
 use Rattle.uring_entry.specs.Layout.{Sqe}
 use Rattle.uring_entry.specs.Submission.{Submission, Call, Place, taken, entries_of, place_of, call_length}
-use Rattle.uring_machine.specs.World.{World, happens, taking_of, taking_entry_of, ending_of}
-use Rattle.uring_machine.specs.Histories.{History, world, IsLawfulApart}
-use Rattle.uring_machine.specs.Events.{takes_position, entry_taken_by}
+use Rattle.uring_core.specs.World.{World, happens, taking_of, taking_entry_of, ending_of}
+use Rattle.uring_core.specs.Histories.{History, world, IsLawfulApart}
+use Rattle.uring_core.specs.Events.{takes_position, entry_taken_by}
 use Rattle.uring_laws.specs.Direct.{entries_taken, positions_taken}
 use Rattle.uring_laws.specs.Laws.{TakenOnceInOrder}
-use Rattle.uring_machine.specs.declared.step.Step.{Step}
-use Rattle.uring_machine.specs.declared.step.Step.TheVariants as step
-use Rattle.uring_machine.specs.declared.answer.Answer.{Answer}
-use Rattle.uring_machine.specs.declared.answer.Answer.TheVariants as answer
-use Rattle.uring_machine.proofs.SubmissionMoves.{SubmissionMove, stays, stores, begins, takes, drops, closes, submission_move}
-use Rattle.uring_machine.proofs.SoundRings.{IsSoundSubmission, open_taken, open_count}
-use Rattle.uring_machine.proofs.Sound.{sound_of}
+use Rattle.uring_core.specs.declared.step.Step.{Step}
+use Rattle.uring_core.specs.declared.step.Step.TheVariants as step
+use Rattle.uring_core.specs.declared.answer.Answer.{Answer}
+use Rattle.uring_core.specs.declared.answer.Answer.TheVariants as answer
+use Rattle.uring_core.proofs.SubmissionMoves.{SubmissionMove, stays, stores, begins, takes, drops, closes, submission_move}
+use Rattle.uring_core.proofs.SoundRings.{IsSoundSubmission, open_taken, open_count}
+use Rattle.uring_core.proofs.Sound.{sound_of}
 use Rattle.uring_laws.proofs.Telling.{count_more, count_same, told_same}
 
 -- the positions taken, by calls that closed and by the open one

@@ -1,7 +1,7 @@
 -- What an event adds to what a history tells.
 use Rattle.std.proofs.Common.{◌≡◌, ℕ, ◌+◌, Bool, true, false, cond, ◌∷◌, Option, None, count_by, ap, arith}
 use Rattle.std.proofs.lemmas.List.Sums.{sum_by-cons}
-use Rattle.uring_machine.specs.Histories.{Event, History}
+use Rattle.uring_core.specs.Histories.{Event, History}
 use Rattle.uring_laws.specs.Direct.{told, with_told, before_last}
 
 -- a count of events, one event on

@@ -7,14 +7,14 @@ use Rattle.uring_entry.specs.Setup.{Setup}
 use Rattle.uring_entry.specs.Layout.{Sqe}
 use Rattle.uring_entry.specs.IndexWords.{word_of}
 use Rattle.uring_entry.specs.Submission.{Submission, staged, with_published, Published, with_entry, bad_word, published_items}
-use Rattle.uring_machine.specs.World.{World}
-use Rattle.uring_machine.specs.StepAnswers.{is_spent}
-use Rattle.uring_machine.specs.Histories.{Event, History, world, history_of, IsLawfulApart}
+use Rattle.uring_core.specs.World.{World}
+use Rattle.uring_core.specs.StepAnswers.{is_spent}
+use Rattle.uring_core.specs.Histories.{Event, History, world, history_of, IsLawfulApart}
 use Rattle.uring_laws.specs.Standing.{Stands, with_items, item_steps, item_answers, after_items, TakesWholeCall}
-use Rattle.uring_machine.specs.declared.step.Step.TheVariants as step
-use Rattle.uring_machine.specs.declared.answer.Answer.{Answer}
-use Rattle.uring_machine.specs.declared.answer.Answer.TheVariants as answer
-use Rattle.uring_machine.proofs.Following.{history_of-cons}
+use Rattle.uring_core.specs.declared.step.Step.TheVariants as step
+use Rattle.uring_core.specs.declared.answer.Answer.{Answer}
+use Rattle.uring_core.specs.declared.answer.Answer.TheVariants as answer
+use Rattle.uring_core.proofs.Following.{history_of-cons}
 use Rattle.uring_laws.proofs.Growth.{lawful_before}
 use Rattle.uring_laws.proofs.Standing.{slot_filled, word_staged, tail_publishes, items_keep, items_published, call_opens}
 

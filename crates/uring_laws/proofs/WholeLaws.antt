@@ -10,15 +10,15 @@ use Rattle.uring_entry.specs.declared.operation.Op.TheVariants.{Nop, Read, Write
 use Rattle.uring_entry.specs.declared.operation.Outcome.{Outcome}
 use Rattle.uring_files.specs.Contents.{FileContents, read_outcome, is_too_long}
 use Rattle.uring_files.specs.Operations.{IsOutcome, result_of, ended_with, on_file, file_of}
-use Rattle.uring_machine.specs.World.{World}
-use Rattle.uring_machine.specs.StepAnswers.{CalledForApart, FinishesApart}
-use Rattle.uring_machine.specs.CalledFor.{CalledFor, IsLawful, EndsOn, files_of}
-use Rattle.uring_machine.specs.Histories.{History, world, IsLawfulApart}
+use Rattle.uring_core.specs.World.{World}
+use Rattle.uring_core.specs.StepAnswers.{CalledForApart, FinishesApart}
+use Rattle.uring_core.specs.CalledFor.{CalledFor, IsLawful, EndsOn, files_of}
+use Rattle.uring_core.specs.Histories.{History, world, IsLawfulApart}
 use Rattle.uring_entry.specs.Requests.{Requests}
-use Rattle.uring_machine.specs.declared.step.Step.{Step}
-use Rattle.uring_machine.specs.declared.step.Step.TheVariants as step
-use Rattle.uring_machine.specs.declared.answer.Answer.{Answer}
-use Rattle.uring_machine.specs.declared.answer.Answer.TheVariants as answer
+use Rattle.uring_core.specs.declared.step.Step.{Step}
+use Rattle.uring_core.specs.declared.step.Step.TheVariants as step
+use Rattle.uring_core.specs.declared.answer.Answer.{Answer}
+use Rattle.uring_core.specs.declared.answer.Answer.TheVariants as answer
 
 -- an end on the files is an end apart from them
 finish_apart : (files : List FileContents) (r : Requests) (n : ℕ) (b : Bool) (a : Answer)

@@ -7,16 +7,17 @@ use Rattle.uring_entry.specs.Submission.{dropped, with_entry, bad_word, publishe
 use Rattle.uring_entry.specs.Requests.{no_bytes}
 use Rattle.uring_entry.specs.Completions.{Completions, no_completion, with_posted}
 use Rattle.uring_entry.specs.declared.operation.Op.TheVariants.{Fsync}
-use Rattle.uring_machine.specs.World.{World}
-use Rattle.uring_machine.specs.CalledFor.{IsLawful, files_of}
+use Rattle.uring_core.specs.World.{World}
+use Rattle.uring_core.specs.CalledFor.{IsLawful, files_of}
 use Rattle.uring_laws.specs.Direct.{call_counts, open_call}
-use Rattle.uring_laws.specs.Finishes.{done_in, files_left, first_files, AreDone, ends_of}
-use Rattle.uring_machine.specs.Histories.{Event, world, history_of}
+use Rattle.uring_laws.specs.Finishes.{done_in, first_files, ends_of}
+use Rattle.uring_files.specs.Done.{files_left, AreDone}
+use Rattle.uring_core.specs.Histories.{Event, world, history_of}
 use Rattle.uring_laws.specs.Laws.{in_ring, in_overflow}
 use Rattle.uring_laws.specs.Published.{items_told, positions_dropped}
 use Rattle.uring_laws.specs.Standing.{Stands, after_items, item_answers}
-use Rattle.uring_machine.specs.declared.step.Step.TheVariants as step
-use Rattle.uring_machine.specs.declared.answer.Answer.TheVariants as answer
+use Rattle.uring_core.specs.declared.step.Step.TheVariants as step
+use Rattle.uring_core.specs.declared.answer.Answer.TheVariants as answer
 
 abbrev setup : Setup
 setup = record { sq = 2; cq = 2; files = 3; start = 0; stops = false }

@@ -8,8 +8,8 @@ use Rattle.uring_entry.specs.Setup.{Setup}
 use Rattle.uring_entry.specs.Submission.{Call}
 use Rattle.uring_entry.specs.Completions.{completion_for}
 use Rattle.uring_entry.specs.Requests.{Ending}
-use Rattle.uring_machine.specs.Histories.{Event, History}
-use Rattle.uring_machine.specs.Events.{accepted_by, closes_call, end_told_by, entry_taken_by, filled_by, is_flush, is_load_head, is_store_cq_head, is_store_tail, opened_by, opens_call, reaped_by, staged_by, started_by, takes_last, takes_position}
+use Rattle.uring_core.specs.Histories.{Event, History}
+use Rattle.uring_core.specs.Events.{accepted_by, closes_call, end_told_by, entry_taken_by, filled_by, is_flush, is_load_head, is_store_cq_head, is_store_tail, opened_by, opens_call, reaped_by, staged_by, started_by, takes_last, takes_position}
 
 -- What a history tells.
 

@@ -1,26 +1,19 @@
--- The operations that finishes carried out, each with its outcome, and the files that they left.
-use Rattle.std.specs.Prelude.{◌≡◌, ◌↔◌, ℕ, ◌<◌, ◌==◌, ℤ, Bool, true, List, [], ◌∷◌, replicate, Option, Some, None}
+-- The operations that finishes carried out, each with its outcome, the files at first, and the laws of both.
+use Rattle.std.specs.Prelude.{◌≡◌, ◌↔◌, ℕ, ◌<◌, ◌==◌, ℤ, Bool, true, List, [], ◌∷◌, Option, Some, None}
 use Rattle.std.specs.List.{filter}
 use Rattle.uring_entry.specs.Setup.{Setup}
 use Rattle.uring_entry.specs.Preparation.{operation_of}
 use Rattle.uring_entry.specs.Requests.{Requests, Ending, entry_of}
 use Rattle.uring_entry.specs.declared.operation.Op.{Op}
-use Rattle.uring_entry.specs.declared.operation.Outcome.{Outcome}
-use Rattle.uring_files.specs.Contents.{FileContents, empty_file}
+use Rattle.uring_files.specs.Contents.{FileContents, empty_files}
+use Rattle.uring_files.specs.Done.{Done, files_left, AreDone}
 use Rattle.uring_files.specs.Laws.{AgreeAt, is_on}
-use Rattle.uring_files.specs.Operations.{after, IsOutcome}
-use Rattle.uring_machine.specs.World.{World}
-use Rattle.uring_machine.specs.CalledFor.{IsLawful, files_after, files_of}
+use Rattle.uring_core.specs.World.{World}
+use Rattle.uring_core.specs.CalledFor.{IsLawful, files_after, files_of}
 use Rattle.uring_laws.specs.Direct.{with_told}
-use Rattle.uring_machine.specs.Histories.{Event, History, world, IsLawfulApart}
-use Rattle.uring_machine.specs.declared.step.Step.TheVariants as step
-use Rattle.uring_machine.specs.declared.answer.Answer.TheVariants as answer
-
--- An operation that was carried out: of which request, and how it ended.
-pub record Done : Type 0 where
-  pub number : ℕ
-  pub op : Op
-  pub outcome : Outcome
+use Rattle.uring_core.specs.Histories.{Event, History, world, IsLawfulApart}
+use Rattle.uring_core.specs.declared.step.Step.TheVariants as step
+use Rattle.uring_core.specs.declared.answer.Answer.TheVariants as answer
 
 -- the operation that a Finish carried out, if it ended its request
 abbrev pub done_by : World → Event → Option Done
@@ -35,18 +28,7 @@ done_in g (event ∷ before) = with_told (done_in g before) (done_by (world g be
 
 -- the files at first: each is empty
 abbrev pub first_files : Setup → List FileContents
-first_files g = replicate g.files empty_file
-
--- the files after these operations, carried out on these files
-abbrev pub files_left : List FileContents → List Done → List FileContents
-files_left files [] = files
-files_left files (d ∷ later) = files_left (after files d.op d.outcome.res) later
-
--- each of these operations ended as the files call for that those before it left of these
-abbrev pub AreDone : List FileContents → List Done → Type 0
-AreDone files [] = Unit {0}
-AreDone files (d ∷ later) =
-    IsOutcome files d.op d.outcome × AreDone (after files d.op d.outcome.res) later
+first_files g = empty_files g.files
 
 -- The laws.
 

@@ -5,11 +5,11 @@ use Rattle.std.specs.Option.{option_and_then}
 use Rattle.uring_entry.specs.Setup.{Setup}
 use Rattle.uring_entry.specs.Submission.{Place, accepted}
 use Rattle.uring_entry.specs.Requests.{is_cancelled}
-use Rattle.uring_machine.specs.Histories.{Event, History, world}
-use Rattle.uring_machine.specs.Events.{closes_ring, is_flush, is_load_cq_tail, end_told_by, Chose}
+use Rattle.uring_core.specs.Histories.{Event, History, world}
+use Rattle.uring_core.specs.Events.{closes_ring, is_flush, is_load_cq_tail, end_told_by, Chose}
 use Rattle.uring_laws.specs.Direct.{completion_of, before_last, starts, ends, reaps, posts, staged_words, published_words, slot_content, published_entry, open_call, call_counts, cut_counts, loaded_head, stored_head, flushed_head}
-use Rattle.uring_machine.specs.declared.step.Step.TheVariants as step
-use Rattle.uring_machine.specs.declared.answer.Answer.TheVariants as answer
+use Rattle.uring_core.specs.declared.step.Step.TheVariants as step
+use Rattle.uring_core.specs.declared.answer.Answer.TheVariants as answer
 
 -- how many completions were posted
 abbrev pub posted_count : Setup → History → ℕ

@@ -3,11 +3,11 @@ use Rattle.std.specs.Prelude.{◌≡◌, ℕ, ◌%◌, ◌^◌, Bool, true, fals
 use Rattle.std.specs.List.{enumerate_from}
 use Rattle.uring_entry.specs.Setup.{Setup}
 use Rattle.uring_entry.specs.Submission.{dropped, IsItem, item_of, Published, published_items}
-use Rattle.uring_machine.specs.Events.{closes_call}
+use Rattle.uring_core.specs.Events.{closes_call}
 use Rattle.uring_laws.specs.Direct.{before_last, published_words, published_entry, call_counts}
-use Rattle.uring_machine.specs.Histories.{Event, History, world}
-use Rattle.uring_machine.specs.declared.step.Step.TheVariants as step
-use Rattle.uring_machine.specs.declared.answer.Answer.TheVariants as answer
+use Rattle.uring_core.specs.Histories.{Event, History, world}
+use Rattle.uring_core.specs.declared.step.Step.TheVariants as step
+use Rattle.uring_core.specs.declared.answer.Answer.TheVariants as answer
 
 -- the items published: at each position its word, with the entry that the word's slot held as it was published
 abbrev pub items_told : ℕ → History → List Published

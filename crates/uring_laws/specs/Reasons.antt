@@ -7,10 +7,10 @@ use Rattle.uring_entry.specs.Why.{is_faulty_member, is_failure_before, why_of}
 use Rattle.uring_dispatch.specs.Cancels.{found_by}
 use Rattle.uring_dispatch.specs.declared.answers.Found.{Found}
 use Rattle.uring_dispatch.specs.declared.answers.Found.TheVariants as found
-use Rattle.uring_machine.specs.World.{World}
-use Rattle.uring_machine.specs.StepAnswers.{issue_answer}
-use Rattle.uring_machine.specs.declared.answer.Answer.{Answer}
-use Rattle.uring_machine.specs.declared.answer.Answer.TheVariants as answer
+use Rattle.uring_core.specs.World.{World}
+use Rattle.uring_core.specs.StepAnswers.{issue_answer}
+use Rattle.uring_core.specs.declared.answer.Answer.{Answer}
+use Rattle.uring_core.specs.declared.answer.Answer.TheVariants as answer
 use Rattle.uring_entry.specs.declared.why.Why.{Why}
 use Rattle.uring_entry.specs.declared.why.Why.TheVariants.{NeverAccepted, HasEnded, Runs, IsDoomed, Waits, MayStart}
 use Rattle.uring_entry.specs.declared.why.Doom.{Doom}

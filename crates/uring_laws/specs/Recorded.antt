@@ -1,14 +1,14 @@
 -- Answers that were recorded elsewhere: each is called for or isn't, and a wrong one makes a list unlawful.
 use Rattle.std.specs.Prelude.{ℕ, List, ◌⊎◌}
 use Rattle.uring_entry.specs.Setup.{Setup}
-use Rattle.uring_machine.specs.World.{World}
-use Rattle.uring_machine.specs.StepAnswers.{CalledForApart}
-use Rattle.uring_machine.specs.CalledFor.{CalledFor, IsLawful}
-use Rattle.uring_machine.specs.Histories.{Event, IsLawfulApart, history_of}
-use Rattle.uring_machine.specs.Recorded.{IsFirstWrongAnswer, IsFirstWrongApart}
-use Rattle.uring_machine.specs.declared.step.Step.{Step}
-use Rattle.uring_machine.specs.declared.answer.Answer.{Answer}
-use Rattle.uring_machine.specs.declared.wanted.Wanted.{Wanted}
+use Rattle.uring_core.specs.World.{World}
+use Rattle.uring_core.specs.StepAnswers.{CalledForApart}
+use Rattle.uring_core.specs.CalledFor.{CalledFor, IsLawful}
+use Rattle.uring_core.specs.Histories.{Event, IsLawfulApart, history_of}
+use Rattle.uring_core.specs.Recorded.{IsFirstWrongAnswer, IsFirstWrongApart}
+use Rattle.uring_core.specs.declared.step.Step.{Step}
+use Rattle.uring_core.specs.declared.answer.Answer.{Answer}
+use Rattle.uring_core.specs.declared.wanted.Wanted.{Wanted}
 
 -- An answer is called for, or isn't: also in worlds that no history makes.
 abbrev pub CalledIsDecided : Type 0

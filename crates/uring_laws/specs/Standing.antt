@@ -6,13 +6,13 @@ use Rattle.uring_entry.specs.IndexWords.{word_of}
 use Rattle.uring_entry.specs.Layout.{Sqe}
 use Rattle.uring_entry.specs.Submission.{Submission, taken, with_filled, with_staged, with_published, with_head_loaded, with_closed, entries_from, Published, with_entry, bad_word, published_items, IsItem}
 use Rattle.uring_entry.specs.Requests.{with_call}
-use Rattle.uring_machine.specs.World.{World, happens}
-use Rattle.uring_machine.specs.StepAnswers.{CalledForApart, OrAgain, is_spent, place_answer}
-use Rattle.uring_machine.specs.Histories.{History, world, history_of, IsLawfulApart}
-use Rattle.uring_machine.specs.declared.step.Step.{Step}
-use Rattle.uring_machine.specs.declared.step.Step.TheVariants as step
-use Rattle.uring_machine.specs.declared.answer.Answer.{Answer}
-use Rattle.uring_machine.specs.declared.answer.Answer.TheVariants as answer
+use Rattle.uring_core.specs.World.{World, happens}
+use Rattle.uring_core.specs.StepAnswers.{CalledForApart, OrAgain, is_spent, place_answer}
+use Rattle.uring_core.specs.Histories.{History, world, history_of, IsLawfulApart}
+use Rattle.uring_core.specs.declared.step.Step.{Step}
+use Rattle.uring_core.specs.declared.step.Step.TheVariants as step
+use Rattle.uring_core.specs.declared.answer.Answer.{Answer}
+use Rattle.uring_core.specs.declared.answer.Answer.TheVariants as answer
 
 -- The ring stands between calls: these words are staged, no call is open, the application knows how many positions were taken, and so many that are published wait for a call.
 pub record Stands (l : Submission) (words : List ℕ) (count : ℕ) : Type 0 where

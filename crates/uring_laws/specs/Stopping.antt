@@ -1,11 +1,11 @@
 -- Where submission calls end, by the events: in a ring that stops behind an entry with a fault, and in one that goes on.
 use Rattle.std.specs.Prelude.{◌≡◌, ◌↔◌, ℕ, true, false, ◌⊎◌, take, count_by, Some, is_some}
 use Rattle.uring_entry.specs.Setup.{Setup}
-use Rattle.uring_machine.specs.StepAnswers.{take_answer, end_answer}
-use Rattle.uring_machine.specs.Histories.{History, world, IsLawfulApart}
-use Rattle.uring_machine.specs.Events.{opened_by, closes_call}
+use Rattle.uring_core.specs.StepAnswers.{take_answer, end_answer}
+use Rattle.uring_core.specs.Histories.{History, world, IsLawfulApart}
+use Rattle.uring_core.specs.Events.{opened_by, closes_call}
 use Rattle.uring_laws.specs.Direct.{told, last_told, taken_since, has_stopped, call_counts}
-use Rattle.uring_machine.specs.declared.answer.Answer.TheVariants as answer
+use Rattle.uring_core.specs.declared.answer.Answer.TheVariants as answer
 
 -- The open call, which opened with so many positions, takes no more exactly if it took them all, or an entry behind which it stops; and exactly then it may close. io_uring_setup(2), IORING_SETUP_SUBMIT_ALL
 pub record EndsThere (g : Setup) (h : History) (opened : ℕ) : Type 0 where

@@ -5,7 +5,7 @@ ghost use Rattle.std.specs.Prelude.{◌≡◌, ℕ, true};
 ghost use Rattle.uring_entry.specs.Requests.{is_outstanding};
 ghost use Rattle.uring_entry.specs.Setup.{Setup, IsWithinLimits};
 ghost use Rattle.uring_laws.specs.HistoryLists.{OwnSubmission, OwnRequests, OwnCompletions, OwnCancelled};
-ghost use Rattle.uring_machine.specs.Histories.{History, world, IsLawfulApart};
+ghost use Rattle.uring_core.specs.Histories.{History, world, IsLawfulApart};
 ghost use Rattle.uring_laws.specs.Laws.{TakenOnceInOrder, EachEndsOnce, DoomedNeverRun, DoomedStayDoomed, CancelledWereDoomed, LinksAndDrainsHold, ReapedBeginPosted, FlushPutsAll, NothingAfterClose, NoneIsOutstanding, LeastCanGoOn, LawfulStandsApart, NoFinishCancels, WhatRunsIsForFiles};
 ghost use Rattle.uring_laws.specs.Published.{OwnPublished};
 

@@ -5,13 +5,13 @@ use Rattle.std.specs.declared.alloc.AllocError.{AllocError}
 use Rattle.std.proofs.lemmas.Result.{IfOk-weaker}
 use Rattle.std.proofs.lemmas.Option.{slice_get_read}
 use Rattle.uring_entry.specs.Setup.{Setup}
-use Rattle.uring_machine.specs.StepAnswers.{CalledForApart}
-use Rattle.uring_machine.specs.CalledFor.{CalledFor, IsLawful}
-use Rattle.uring_machine.specs.Histories.{Event, world, history_of, IsLawfulApart}
-use Rattle.uring_machine.specs.Recorded.{IsRefused, IsFirstWrongAnswer, IsFirstWrongApart}
-use Rattle.uring_machine.specs.declared.wanted.Wanted.{Wanted}
-use Rattle.uring_machine.specs.declared.wanted.Refusal.{Refusal}
-use Rattle.uring_machine.specs.declared.wanted.Refusal.TheVariants.{Wrong, NoMemory}
+use Rattle.uring_core.specs.StepAnswers.{CalledForApart}
+use Rattle.uring_core.specs.CalledFor.{CalledFor, IsLawful}
+use Rattle.uring_core.specs.Histories.{Event, world, history_of, IsLawfulApart}
+use Rattle.uring_core.specs.Recorded.{IsRefused, IsFirstWrongAnswer, IsFirstWrongApart}
+use Rattle.uring_core.specs.declared.wanted.Wanted.{Wanted}
+use Rattle.uring_core.specs.declared.wanted.Refusal.{Refusal}
+use Rattle.uring_core.specs.declared.wanted.Refusal.TheVariants.{Wrong, NoMemory}
 
 pub stops : (refusal : Refusal) (place : ℕ) (r : Result (Option (ℕ × Wanted)) AllocError) (P : Type 0) (Q : ℕ × Wanted → Type 0)
     → ((w : Wanted) → refusal ≡ Wrong w → r ≡ Ok (Some (place, w)))

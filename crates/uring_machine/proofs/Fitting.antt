@@ -1,25 +1,24 @@
 -- That a machine fits a history with one more event.
-use Rattle.std.proofs.Common.{◌≡◌, ℕ, List, ◌∷◌, Bool, true, false, Option, Some, None, IfSome, if◌then◌else◌, refl, sym, subst, ◌∙◌, ap}
-use Rattle.std.proofs.lemmas.Option.{cond_some}
+use Rattle.std.proofs.Common.{◌≡◌, ℕ, List, ◌∷◌, Bool, true, false, Some, None, if◌then◌else◌, refl, sym, subst, ◌∙◌, ap}
 use Rattle.uring_entry.specs.Setup.{Setup}
 use Rattle.uring_entry.specs.Preparation.{operation_of}
-use Rattle.uring_entry.specs.Requests.{Requests, entry_of, is_running, operation_running}
+use Rattle.uring_entry.specs.Requests.{Requests, entry_of, operation_running}
 use Rattle.uring_entry.specs.declared.operation.Op.{Op}
 use Rattle.uring_entry.specs.declared.operation.Outcome.{Outcome}
 use Rattle.uring_files.specs.Contents.{FileContents}
-use Rattle.uring_files.specs.Operations.{after, IsOutcome, IsForFiles}
-use Rattle.uring_machine.specs.World.{World}
-use Rattle.uring_machine.specs.StepAnswers.{CalledForApart}
-use Rattle.uring_machine.specs.CalledFor.{CalledFor, IsLawful, EndsOn, files_of}
-use Rattle.uring_machine.specs.Core.{Core, FitsApart, IsCore, IsNoFinish, IsFinished}
-use Rattle.uring_machine.specs.Histories.{History, world}
+use Rattle.uring_files.specs.Operations.{after, IsOutcome}
+use Rattle.uring_core.specs.World.{World}
+use Rattle.uring_core.specs.StepAnswers.{CalledForApart}
+use Rattle.uring_core.specs.CalledFor.{CalledFor, IsLawful, EndsOn, files_of}
+use Rattle.uring_core.specs.Core.{Core, FitsApart, IsNoFinish, IsFinished}
+use Rattle.uring_core.specs.Histories.{History, world}
 use Rattle.uring_machine.specs.Machine.{Fits}
-use Rattle.uring_machine.specs.declared.step.Step.{Step}
-use Rattle.uring_machine.specs.declared.step.Step.TheVariants as step
-use Rattle.uring_machine.specs.declared.answer.Answer.{Answer}
-use Rattle.uring_machine.specs.declared.answer.Answer.TheVariants as answer
-use Rattle.uring_machine.proofs.FileHistory.{files_kept, files_ended}
-use Rattle.uring_machine.proofs.Running.{running_asks}
+use Rattle.uring_core.specs.declared.step.Step.{Step}
+use Rattle.uring_core.specs.declared.step.Step.TheVariants as step
+use Rattle.uring_core.specs.declared.answer.Answer.{Answer}
+use Rattle.uring_core.specs.declared.answer.Answer.TheVariants as answer
+use Rattle.uring_core.proofs.FileHistory.{files_kept, files_ended}
+use Rattle.uring_core.proofs.Running.{runs_with}
 
 -- but for a finish, answers are called for as they are apart from files
 called_apart : (g : Setup) (w : World) (s : Step) (a : Answer) → IsNoFinish s
@@ -39,23 +38,6 @@ step_fits core later files s a h same other fits next =
       files = subst (λ k. files ≡ files_of k (world k h)) (sym same) fits.files ∙ sym (files_kept g s a h next.lawful other);
       lawful = (called_apart g (world g h) s a other next.lawful.0, subst (λ k. IsLawful k h) (sym same) fits.lawful);
     }
-
--- what runs has this operation
-pub runs_with : (r : Requests) (n : ℕ) (op : Op) → Some op ≡ operation_running r n
-    → (is_running r n ≡ true) × (op ≡ operation_of (entry_of r n))
-runs_with r n op e =
-    let p = cond_some (is_running r n) (operation_of (entry_of r n)) op (sym e) in (p.0, sym p.1)
-
--- what runs can be asked of files
-pub asks_files : (core : Core) (n : ℕ) (r : Option Op) → IsCore core
-    → ((h : History) → FitsApart core h → r ≡ operation_running (world core.setup h).requests n)
-    → IfSome r IsForFiles
-asks_files core n None some is = tt
-asks_files core n (Some op) some is =
-    let h : History = some.1 in
-    let fits = some.2 in
-    let r = runs_with (world core.setup h).requests n op (is h fits) in
-    subst IsForFiles (sym r.1) (running_asks core.setup h n fits.lawful r.0)
 
 -- a running request ended
 pub finish_fits : (core later : Core) (files : List FileContents) (n : ℕ) (op : Op) (outcome : Outcome) (left : List FileContents) (a : Answer) (h : History)
@@ -94,8 +76,3 @@ pub called_for : (g : Setup) (core : Core) (files : List FileContents) (s : Step
     → CalledFor g (world g h) s a
 called_for g core files s a h same fits =
     subst (λ k. CalledFor k (world k h) s a) same fits.lawful.0
-
--- what isn't a Finish is no finish
-pub no_finish : (s : Step) → ((n : ℕ) → s ≡ step.Finish n → ⊥) → IsNoFinish s
-no_finish (step.Finish n) other = other n refl
-no_finish _ other = tt

@@ -10,23 +10,24 @@ use Rattle.uring_entry.specs.declared.operation.Op.{Op}
 use Rattle.uring_entry.specs.declared.operation.Outcome.{Outcome}
 use Rattle.uring_files.specs.Contents.{FileContents}
 use Rattle.uring_files.specs.Operations.{after, ended_with, is_lengthening, result_of, IsOutcome}
-use Rattle.uring_machine.specs.World.{World}
-use Rattle.uring_machine.specs.StepAnswers.{CalledForApart}
-use Rattle.uring_machine.specs.CalledFor.{CalledFor, IsLawful, EndsOn, files_of}
-use Rattle.uring_machine.specs.Core.{Core, FitsApart, IsNoFinish, IsFinished, IsShortOfMemory}
-use Rattle.uring_machine.specs.Histories.{History, world}
-use Rattle.uring_machine.specs.Machine.{Machine, Fits}
-use Rattle.uring_machine.specs.Recorded.{Meets, IsWrong, IsRefused, MayLackMemory, resumed}
-use Rattle.uring_machine.specs.declared.step.Step.{Step}
-use Rattle.uring_machine.specs.declared.step.Step.TheVariants as step
-use Rattle.uring_machine.specs.declared.answer.Answer.{Answer}
-use Rattle.uring_machine.specs.declared.answer.Answer.TheVariants as answer
-use Rattle.uring_machine.specs.declared.wanted.Wanted.TheVariants.{Only, EndOrNoMemory}
-use Rattle.uring_machine.specs.declared.wanted.Refusal.{Refusal}
-use Rattle.uring_machine.specs.declared.wanted.Refusal.TheVariants.{Wrong}
-use Rattle.uring_machine.proofs.Fitting.{step_fits, finish_fits, runs_with, not_running}
-use Rattle.uring_machine.proofs.RecordedAnswers.{wrong_beside}
-use Rattle.uring_machine.proofs.FileHistory.{failed}
+use Rattle.uring_core.specs.World.{World}
+use Rattle.uring_core.specs.StepAnswers.{CalledForApart}
+use Rattle.uring_core.specs.CalledFor.{CalledFor, IsLawful, EndsOn, files_of}
+use Rattle.uring_core.specs.Core.{Core, FitsApart, IsNoFinish, IsFinished, IsShortOfMemory}
+use Rattle.uring_core.specs.Histories.{History, world}
+use Rattle.uring_machine.specs.Machine.{Machine, Fits, MayLackMemory}
+use Rattle.uring_core.specs.Recorded.{Meets, IsWrong, IsRefused, resumed}
+use Rattle.uring_core.specs.declared.step.Step.{Step}
+use Rattle.uring_core.specs.declared.step.Step.TheVariants as step
+use Rattle.uring_core.specs.declared.answer.Answer.{Answer}
+use Rattle.uring_core.specs.declared.answer.Answer.TheVariants as answer
+use Rattle.uring_core.specs.declared.wanted.Wanted.TheVariants.{Only, EndOrNoMemory}
+use Rattle.uring_core.specs.declared.wanted.Refusal.{Refusal}
+use Rattle.uring_core.specs.declared.wanted.Refusal.TheVariants.{Wrong}
+use Rattle.uring_machine.proofs.Fitting.{step_fits, finish_fits, not_running}
+use Rattle.uring_core.proofs.Running.{runs_with}
+use Rattle.uring_core.proofs.RecordedAnswers.{wrong_beside}
+use Rattle.uring_core.proofs.FileHistory.{failed}
 
 -- Any step but a Finish: its core follows.
 

@@ -1,5 +1,4 @@
 -- What the steps make that settle requests.
--- Stable: other crates may import `next_tells`.
 use Rattle.std.proofs.Common.{◌≡◌, ℕ, ◌+◌, ◌-◌, ◌^◌, ◌≤◌, true, false, List, [], ◌∷◌, ◌++◌, length, Option, Some, None, refl, sym, subst, ◌∙◌, ap, arith, inl, inr, length-append}
 use Rattle.std.proofs.lemmas.Bool.{and_parts, and_from, or_cases, both_ways, not-true}
 use Rattle.std.proofs.lemmas.List.Folds.{list_all-append}
@@ -7,21 +6,21 @@ use Rattle.uring_entry.specs.Setup.{Setup}
 use Rattle.uring_entry.specs.Requests.{Requests, has_ended, is_outstanding, is_running, is_issuable, no_bytes, next_of, least_of, outstanding_in}
 use Rattle.uring_entry.proofs.BelowLemmas.{least_below-tells, least_below-out}
 use Rattle.uring_entry.proofs.RequestLemmas.{least_of-goes_on, is_running-started_same}
-use Rattle.uring_machine.specs.World.{World, issuing, finishing}
-use Rattle.uring_machine.specs.StepAnswers.{IsEnded, FinishesApart, next_answer_of, IsIssued}
-use Rattle.uring_machine.specs.Histories.{Event, History, world, history_of}
+use Rattle.uring_core.specs.World.{World, issuing, finishing}
+use Rattle.uring_core.specs.StepAnswers.{IsEnded, FinishesApart, next_answer_of, IsIssued}
+use Rattle.uring_core.specs.Histories.{Event, History, world, history_of}
 use Rattle.uring_files.specs.Contents.{FileContents}
-use Rattle.uring_machine.specs.Core.{Core, FitsApart}
+use Rattle.uring_core.specs.Core.{Core, FitsApart}
 use Rattle.uring_machine.specs.Machine.{Machine, Fits}
 use Rattle.uring_machine.specs.Settling.{is_issue_or_finish, started_last, settling_step, AreSettling, HasSettled, IsSettled}
-use Rattle.uring_machine.specs.Events.{started_by}
-use Rattle.uring_machine.specs.declared.step.Step.TheVariants as step
-use Rattle.uring_machine.specs.declared.answer.Answer.{Answer}
-use Rattle.uring_machine.specs.declared.answer.Answer.TheVariants as answer
-use Rattle.uring_machine.proofs.Following.{history_of-cons, history_of-append}
-use Rattle.uring_machine.proofs.Numbers.{few_outstanding}
-use Rattle.uring_machine.proofs.Outstanding.{ended_less, none_outstanding, count_below-zero}
-use Rattle.uring_machine.proofs.Issuable.{issue_goes, issued_ends, issuable_outstanding}
+use Rattle.uring_core.specs.Events.{started_by}
+use Rattle.uring_core.specs.declared.step.Step.TheVariants as step
+use Rattle.uring_core.specs.declared.answer.Answer.{Answer}
+use Rattle.uring_core.specs.declared.answer.Answer.TheVariants as answer
+use Rattle.uring_core.proofs.Following.{history_of-cons, history_of-append}
+use Rattle.uring_core.proofs.Numbers.{few_outstanding}
+use Rattle.uring_core.proofs.Outstanding.{ended_less, none_outstanding, count_below-zero}
+use Rattle.uring_core.proofs.Issuable.{issue_goes, issued_ends, issuable_outstanding, next_is, next_tells}
 
 -- Ends, each of which leaves one outstanding request less.
 
@@ -37,22 +36,11 @@ finish_less g w n (answer.Ended res bytes) outstanding ended =
     ended_less w.requests n res bytes outstanding
 finish_less g w n _ outstanding ended = absurd ended
 
--- the next that was answered
-next_is : (next : Option ℕ) (n : ℕ) → answer.Next n ≡ next_answer_of next → next ≡ Some n
-next_is None n e = absurd cc
-next_is (Some m) n e = let same : m ≡ n = cc in ap Some same
-
 -- there is no next where none was answered
 next_none : (next : Option ℕ) (a : Answer) → a ≡ next_answer_of next
     → ((k : ℕ) → a ≡ answer.Next k → ⊥) → next ≡ None
 next_none None a is other = refl
 next_none (Some m) a is other = absurd (other m is)
-
--- the next can be issued
-pub next_tells : (r : Requests) (n : ℕ) → answer.Next n ≡ next_answer_of (next_of r)
-    → is_issuable r n ≡ true
-next_tells r n e =
-    (least_below-tells (is_issuable r) (length r.accepted) n (next_is (next_of r) n e)).holds
 
 -- an issue not answered Run started nothing
 not_started : (n : ℕ) (a : Answer) → (a ≡ answer.Run → ⊥) → started_by (step.Issue n, a) ≡ None

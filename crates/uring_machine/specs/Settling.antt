@@ -3,11 +3,11 @@ use Rattle.std.specs.Prelude.{◌≡◌, ℕ, ◌+◌, ◌*◌, ◌≤◌, Bool,
 use Rattle.std.specs.List.{list_all}
 use Rattle.uring_entry.specs.Setup.{Setup}
 use Rattle.uring_entry.specs.Requests.{is_outstanding, next_of, least_of, outstanding_in}
-use Rattle.uring_machine.specs.Histories.{Event, History, world, history_of}
-use Rattle.uring_machine.specs.Events.{started_by}
+use Rattle.uring_core.specs.Histories.{Event, History, world, history_of}
+use Rattle.uring_core.specs.Events.{started_by}
 use Rattle.uring_machine.specs.Machine.{Machine, Fits}
-use Rattle.uring_machine.specs.declared.step.Step.{Step}
-use Rattle.uring_machine.specs.declared.step.Step.TheVariants as step
+use Rattle.uring_core.specs.declared.step.Step.{Step}
+use Rattle.uring_core.specs.declared.step.Step.TheVariants as step
 
 -- whether an event is an Issue or a Finish
 abbrev pub is_issue_or_finish : Event → Bool

@@ -1,19 +1,15 @@
 //! Lists of steps whose answers were recorded elsewhere.
 
 ghost use Rattle.std.specs.Prelude.{◌≡◌, [], Ok, Some, IfOk, OnOk, MatchOption};
-ghost use Rattle.uring_machine.specs.CalledFor.{IsLawful};
-ghost use Rattle.uring_machine.specs.Core.{FitsApart};
-ghost use Rattle.uring_machine.specs.Histories.{IsLawfulApart, history_of};
+ghost use Rattle.uring_core.specs.CalledFor.{IsLawful};
+ghost use Rattle.uring_core.specs.Core.{FitsApart};
+ghost use Rattle.uring_core.specs.Histories.{IsLawfulApart, history_of};
 ghost use Rattle.uring_machine.specs.Machine.{Fits};
-ghost use Rattle.uring_machine.specs.Recorded.{IsFirstWrongAnswer, IsFirstWrongApart};
+ghost use Rattle.uring_core.specs.Recorded.{IsFirstWrongAnswer, IsFirstWrongApart};
 
-use crate::answer::Answer;
-use crate::cores::Core;
 use crate::machine::Machine;
-use crate::step::Step;
-use crate::wanted::{Refusal, Wanted};
 use std::alloc::{AllocError, Global};
-use uring_entry::Setup;
+use uring_core::{Answer, Core, Refusal, Setup, Step, Wanted};
 
 /// Whether these steps, the oldest first, each with its answer, are what can happen on a new machine of this set-up: `None` if they are, else the place of the first answer that isn't called for, from 0, and those that are. `AllocError`: memory was refused, and nothing is said.
 pub fn check(

@@ -6,25 +6,23 @@ ghost use Rattle.uring_entry.specs.Why.{why_of};
 ghost use Rattle.uring_dispatch.specs.Cancels.{found_by};
 ghost use Rattle.uring_files.specs.Contents.{FileContents};
 ghost use Rattle.uring_files.specs.Operations.{IsForFiles, ended_with, is_lengthening, result_of, state_of, byte_of};
-ghost use Rattle.uring_machine.specs.CalledFor.{CalledFor, files_of};
-ghost use Rattle.uring_machine.specs.Core.{IsCounts, IsShortOfMemory, HasNoLessMemory};
-ghost use Rattle.uring_machine.specs.Histories.{History, world};
-ghost use Rattle.uring_machine.specs.Recorded.{IsRefused, MayLackMemory, resumed};
-ghost use Rattle.uring_machine.specs.StepAnswers.{begin_answer};
+ghost use Rattle.uring_core.specs.CalledFor.{CalledFor, files_of};
+ghost use Rattle.uring_core.specs.Core.{IsCounts, IsShortOfMemory, HasNoLessMemory};
+ghost use Rattle.uring_core.specs.Histories.{History, world};
+ghost use Rattle.uring_core.specs.Recorded.{IsRefused, resumed};
+ghost use Rattle.uring_machine.specs.Machine.{MayLackMemory};
+ghost use Rattle.uring_core.specs.StepAnswers.{begin_answer};
 ghost use Rattle.uring_machine.specs.Settling.{HasSettled, IsSettled};
-ghost use Rattle.uring_machine.specs.declared.step.Step.TheVariants as step;
-ghost use Rattle.uring_machine.specs.declared.answer.Answer.TheVariants as answer;
+ghost use Rattle.uring_core.specs.declared.step.Step.TheVariants as step;
+ghost use Rattle.uring_core.specs.declared.answer.Answer.TheVariants as answer;
 
-use crate::answer::{Answer, same_answer};
-use crate::conversions::ended;
-use crate::cores::{Core, Counts};
-use crate::follow::compared;
-use crate::step::Step;
-use crate::wanted::{Refusal, Wanted};
 use std::alloc::{AllocError, Global};
 use std::marker::Model;
-use uring_dispatch::Found;
-use uring_entry::{Cqe, Op, Outcome, Setup, Why, errno};
+use uring_core::{
+    Answer, Core, Counts, Cqe, Found, Op, Outcome, Refusal, Setup, Step, Wanted, Why, compared,
+    same_answer,
+};
+use uring_entry::errno;
 use uring_files::{FileState, Files};
 
 /// A pair of rings, its requests and files in memory, moved one step at a time.
@@ -41,7 +39,7 @@ impl Model for Machine {
 
     ghost Value = { Machine };
 
-    ghost use Rattle.uring_machine.specs.Histories.{History};
+    ghost use Rattle.uring_core.specs.Histories.{History};
     ghost use Rattle.uring_machine.specs.Machine.{Fits};
 
     ghost view = { λ m. record { core = m.core; files = m.files } };
@@ -319,12 +317,12 @@ impl Machine {
             res: -errno::ENOMEM,
             bytes: [0; 64],
         };
-        if same_answer(&given, &ended(refused.res, refused.bytes)) {
+        if same_answer(&given, &Answer::ended(refused.res, refused.bytes)) {
             self.core.finish(number, refused);
             return Ok(());
         }
         let length = written_length(op);
-        if !same_answer(&given, &ended(length, [0; 64])) {
+        if !same_answer(&given, &Answer::ended(length, [0; 64])) {
             return Err(Refusal::Wrong(Wanted::EndOrNoMemory(length)));
         }
         let outcome = self.files.apply(op);

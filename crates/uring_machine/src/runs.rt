@@ -1,12 +1,11 @@
 ghost use Rattle.std.specs.Prelude.{◌≡◌, ◌++◌, ◌<◌, length, IfOk, OnErr};
 ghost use Rattle.std.specs.List.{zip};
-ghost use Rattle.uring_machine.specs.Histories.{History, history_of};
+ghost use Rattle.uring_core.specs.Histories.{History, history_of};
 ghost use Rattle.uring_machine.specs.Machine.{Fits};
 
-use crate::answer::Answer;
 use crate::machine::Machine;
-use crate::step::Step;
 use std::alloc::{AllocError, Global};
+use uring_core::{Answer, Step};
 
 /// Makes these steps in order, and gives their answers. Room for all answers is asked for first: at `AllocError` no step was made. A list of no step needs none.
 pub fn run(alloc: Global, machine: &mut Machine, steps: &[Step]) -> Result<Vec<Answer>, AllocError>

@@ -3,7 +3,7 @@ use Rattle.std.proofs.Common.{◌≡◌, ℕ, Bool, List, [], ◌++◌, Ok, Err,
 use Rattle.std.specs.Prelude.{OnOk}
 use Rattle.std.specs.Io.KnownBytes.{Appends}
 use Rattle.uring_entry.specs.Setup.{Setup}
-use Rattle.uring_machine.specs.Histories.{History, history_of, world}
+use Rattle.uring_core.specs.Histories.{History, history_of, world}
 use Rattle.uring_machine.specs.Machine.{Machine, Fits}
 use Rattle.uring_trace.specs.declared.explainer.Explainer.{Explainer}
 use Rattle.uring_text.specs.Writing.{WritesText}

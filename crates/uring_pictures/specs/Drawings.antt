@@ -2,7 +2,7 @@
 use Rattle.std.specs.Prelude.{ℕ, Bool, List, Option}
 use Rattle.std.specs.Io.KnownBytes.{Consumes, Appends, IsAtEnd}
 use Rattle.uring_entry.specs.Setup.{Setup}
-use Rattle.uring_machine.specs.Histories.{world, history_of}
+use Rattle.uring_core.specs.Histories.{world, history_of}
 use Rattle.uring_trace.specs.Explanations.{Saying, ExplainsWhole, events_in}
 use Rattle.uring_pictures.specs.Graphs.{graph_of}
 

@@ -1,7 +1,7 @@
 //! The graph of the outstanding requests, in Graphviz's language.
 
 ghost use Rattle.std.specs.Prelude.{◌≡◌, ◌++◌, OnOk, string_bytes};
-ghost use Rattle.uring_machine.specs.Histories.{History, world};
+ghost use Rattle.uring_core.specs.Histories.{History, world};
 ghost use Rattle.uring_machine.specs.Machine.{Fits};
 ghost use Rattle.uring_pictures.specs.Graphs.{graph_of, request_text, node_text, edge_text, shape_of, standing_text};
 

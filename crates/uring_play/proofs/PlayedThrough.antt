@@ -6,13 +6,13 @@ use Rattle.std.proofs.lemmas.List.Sums.{sum_by_push, sum_by-cons}
 use Rattle.uring_entry.specs.Layout.{Cqe}
 use Rattle.uring_entry.specs.Requests.{outstanding_in}
 use Rattle.uring_entry.specs.Setup.{Setup}
-use Rattle.uring_machine.specs.CalledFor.{IsLawful}
-use Rattle.uring_machine.specs.Events.{accepted_by}
+use Rattle.uring_core.specs.CalledFor.{IsLawful}
+use Rattle.uring_core.specs.Events.{accepted_by}
 use Rattle.uring_laws.specs.Direct.{told, with_told}
-use Rattle.uring_machine.specs.Histories.{Event, History, world, history_of}
+use Rattle.uring_core.specs.Histories.{Event, History, world, history_of}
 use Rattle.uring_entry.specs.Submission.{published_items}
 use Rattle.uring_laws.proofs.DirectRequests.{direct_requests}
-use Rattle.uring_machine.proofs.Following.{history_of-cons, history_of-append}
+use Rattle.uring_core.proofs.Following.{history_of-cons, history_of-append}
 use Rattle.uring_laws.proofs.WholeLaws.{lawful_apart}
 use Rattle.uring_ports.specs.AppEnd.{AppEnd}
 use Rattle.uring_ports.specs.Items.{all_published_as}
@@ -22,8 +22,8 @@ use Rattle.uring_threads.specs.Kept.{now}
 use Rattle.uring_threads.specs.Kernel.{Kernel, IsIdle}
 use Rattle.uring_threads.specs.Report.{Report, AreTogether, left_by, FinishesAll, PublishesItems, ClosesOnlyAllTaken, DeliversReaped, ReapsPosted, all_waiting}
 use Rattle.uring_threads.specs.Settled.{finish_of}
-use Rattle.uring_threads.specs.Worker.{Worker}
-use Rattle.uring_threads.specs.declared.job.JobResult.{JobResult}
+use Rattle.uring_workers.specs.Worker.{Worker}
+use Rattle.uring_workers.specs.declared.job.JobResult.{JobResult}
 use Rattle.uring_play.specs.Plays.{IsPlay}
 use Rattle.uring_play.specs.Threads.{Applies, StaysKernel, StayWorkers}
 use Rattle.uring_play.specs.Totals.{accepted_in, accepted_of}

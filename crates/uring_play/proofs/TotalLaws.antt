@@ -2,7 +2,7 @@
 use Rattle.std.proofs.Common.{◌≡◌, ℕ, ◌+◌, ◌<◌, List, [], ◌∷◌, ◌++◌, length, take, get_or, Option, Some, None, refl, sym, ap, ◌∙◌}
 use Rattle.std.specs.Prelude.{unwrap_or}
 use Rattle.std.proofs.lemmas.List.{take_more}
-use Rattle.uring_machine.specs.Histories.{Event}
+use Rattle.uring_core.specs.Histories.{Event}
 use Rattle.uring_play.specs.Totals.{dropped_by, dropped_or, dropped_last}
 
 dropped_append : (before : ℕ) (es : List Event) (e : Event)

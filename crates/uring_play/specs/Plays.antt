@@ -5,10 +5,10 @@ use Rattle.std.specs.List.Sorted.{IsPermutation}
 use Rattle.uring_entry.specs.Layout.{Cqe}
 use Rattle.uring_entry.specs.Requests.{outstanding_in}
 use Rattle.uring_entry.specs.Setup.{Setup}
-use Rattle.uring_machine.specs.CalledFor.{IsLawful}
-use Rattle.uring_machine.specs.Histories.{Event, world, history_of}
+use Rattle.uring_core.specs.CalledFor.{IsLawful}
+use Rattle.uring_core.specs.Histories.{Event, world, history_of}
 use Rattle.uring_entry.specs.Submission.{published_items}
-use Rattle.uring_machine.specs.World.{World}
+use Rattle.uring_core.specs.World.{World}
 use Rattle.uring_ports.specs.Items.{all_published_as}
 use Rattle.uring_ports.specs.Ports.{items_of_calls}
 use Rattle.uring_ports.specs.declared.item.Item.{Item}

@@ -5,10 +5,10 @@ use Rattle.uring_entry.specs.Layout.{Cqe}
 use Rattle.uring_entry.specs.Requests.{outstanding_in}
 use Rattle.uring_ports.specs.AppEnd.{AppEnd}
 use Rattle.uring_ports.specs.declared.item.Item.{Item}
-use Rattle.uring_threads.specs.Dispatched.{numbers_of_lanes}
+use Rattle.uring_workers.specs.WorkLanes.{numbers_of_lanes}
 use Rattle.uring_threads.specs.Kernel.{Kernel}
 use Rattle.uring_threads.specs.Report.{Report, left_by}
-use Rattle.uring_threads.specs.Worker.{Worker}
+use Rattle.uring_workers.specs.Worker.{Worker}
 use Rattle.uring_play.specs.declared.application.Applied.{Applied}
 use Rattle.uring_play.specs.declared.drive.Played.{Played}
 use Rattle.uring_play.specs.declared.promises.GivesWorker.{GivesWorker}

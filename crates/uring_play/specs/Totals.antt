@@ -1,9 +1,9 @@
 -- What a trace, in the order in which it happened, says of its calls in all. That these two numbers are told is our own rule.
 use Rattle.std.specs.Prelude.{ℕ, List, [], ◌∷◌, Option, Some, None, sum_by, unwrap_or}
-use Rattle.uring_machine.specs.declared.answer.Answer.{Answer}
-use Rattle.uring_machine.specs.declared.answer.Answer.TheVariants as answer
-use Rattle.uring_machine.specs.Events.{accepted_by}
-use Rattle.uring_machine.specs.Histories.{Event}
+use Rattle.uring_core.specs.declared.answer.Answer.{Answer}
+use Rattle.uring_core.specs.declared.answer.Answer.TheVariants as answer
+use Rattle.uring_core.specs.Events.{accepted_by}
+use Rattle.uring_core.specs.Histories.{Event}
 
 -- how many requests were accepted by an event: those of the call that it closes, if it closes one
 abbrev pub accepted_of : Event → ℕ

@@ -7,7 +7,7 @@ ghost use Rattle.uring_play.specs.Threads.{Applies};
 use std::sync::Wait;
 use std::sync::atomic::{AtomicBool, Ordering};
 use std::thread;
-use uring_machine::Cqe;
+use uring_core::Cqe;
 use uring_threads::{AppEnd, AppPort, CloseRefusal, Item, SubmitRefusal};
 
 /// What the application's thread leaves.

@@ -15,7 +15,7 @@ use crate::running::{Ended, run_threads};
 use std::alloc::{AllocError, Global};
 use std::sync::Wait;
 use std::thread::Threads;
-use uring_machine::Cqe;
+use uring_core::Cqe;
 use uring_threads::{
     AppEnd, Item, Kernel, KernelPort, Open, Report, Setup, Worker, lanes, settle, words,
 };

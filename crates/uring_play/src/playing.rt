@@ -8,7 +8,7 @@ use std::alloc::Global;
 use std::io::{Read, Write};
 use std::sync::Wait;
 use std::thread::Threads;
-use uring_machine::Cqe;
+use uring_core::Cqe;
 use uring_play_text::{PlayFault, read_calls, write_out};
 use uring_threads::{Open, Report, Setup};
 

@@ -12,7 +12,7 @@ use std::sync::atomic::AtomicBool;
 use std::sync::{Arc, Wait};
 use std::thread;
 use std::thread::{Promise, PromisedHandle, Threads};
-use uring_machine::Cqe;
+use uring_core::Cqe;
 use uring_threads::{AppEnd, AppPort, Item, Kernel, KernelPort, Open, Worker};
 
 /// The application's thread submits these calls through this end.

@@ -10,7 +10,7 @@ use std::alloc::{AllocError, Global};
 use std::sync::atomic::{AtomicBool, Ordering};
 use std::sync::{Arc, Wait};
 use std::thread::Threads;
-use uring_machine::Cqe;
+use uring_core::Cqe;
 use uring_threads::{AppEnd, Item, Kernel, KernelPort, Open, Worker};
 
 /// The ends of a play, behind its threads.

@@ -3,7 +3,7 @@
 ghost use Rattle.std.specs.Prelude.{◌≡◌};
 ghost use Rattle.uring_play.specs.Totals.{dropped_by, dropped_last};
 
-use uring_machine::{Answer, Step};
+use uring_core::{Answer, Step};
 
 /// How many words the ring had dropped when the trace's last call closed: a count that wraps at 2^32, and 0 if no call closed.
 pub fn dropped_last(trace: &[(Step, Answer)]) -> u32

@@ -1,12 +1,12 @@
 -- How the steps of a submission call are answered, and what they make: from the laws of the call of the positions that wait.
 use Rattle.std.proofs.Common.{◌≡◌, ℕ, ◌+◌, ◌<◌, false, true, [], refl, sym, subst, ap, ◌∙◌, inl, inr, arith}
-use Rattle.uring_machine.specs.World.{World, happens, beginning}
-use Rattle.uring_machine.specs.StepAnswers.{CalledForApart, is_spent}
+use Rattle.uring_core.specs.World.{World, happens, beginning}
+use Rattle.uring_core.specs.StepAnswers.{CalledForApart, is_spent}
 use Rattle.uring_laws.specs.Standing.{Stands, in_call, after_call}
 use Rattle.uring_laws.proofs.Standing.{call_opens, call_closes, position_taken}
-use Rattle.uring_machine.specs.declared.step.Step.TheVariants as step
-use Rattle.uring_machine.specs.declared.answer.Answer.{Answer}
-use Rattle.uring_machine.specs.declared.answer.Answer.TheVariants as answer
+use Rattle.uring_core.specs.declared.step.Step.TheVariants as step
+use Rattle.uring_core.specs.declared.answer.Answer.{Answer}
+use Rattle.uring_core.specs.declared.answer.Answer.TheVariants as answer
 use Rattle.uring_threads.specs.Kept.{Kept, now, Grows}
 use Rattle.uring_threads.specs.Tallies.{Appends, none_counted, call_counted}
 use Rattle.uring_threads.proofs.TraceSteps.{grown, appends_one, appends_then}

@@ -8,29 +8,31 @@ use Rattle.uring_entry.specs.Setup.{Setup}
 use Rattle.uring_entry.specs.Requests.{entry_of, no_bytes}
 use Rattle.uring_entry.specs.declared.operation.Op.{Op}
 use Rattle.uring_laws.specs.Finishes.{done_in, done_by}
-use Rattle.uring_machine.specs.Histories.{Event, History, world, history_of}
-use Rattle.uring_machine.specs.StepAnswers.{IsEnded}
-use Rattle.uring_machine.specs.World.{World, issuing}
+use Rattle.uring_core.specs.Histories.{Event, History, world, history_of}
+use Rattle.uring_core.specs.StepAnswers.{IsEnded}
+use Rattle.uring_core.specs.World.{World, issuing}
 use Rattle.uring_laws.specs.Direct.{with_told}
-use Rattle.uring_machine.specs.declared.step.Step.TheVariants as step
-use Rattle.uring_machine.specs.declared.answer.Answer.{Answer}
-use Rattle.uring_machine.specs.declared.answer.Answer.TheVariants as answer
-use Rattle.uring_machine.proofs.Following.{history_of-cons, history_of-append}
-use Rattle.uring_threads.specs.declared.job.Job.{Job}
-use Rattle.uring_threads.specs.declared.work_lanes.WorkLanes.{WorkLanes}
+use Rattle.uring_core.specs.declared.step.Step.TheVariants as step
+use Rattle.uring_core.specs.declared.answer.Answer.{Answer}
+use Rattle.uring_core.specs.declared.answer.Answer.TheVariants as answer
+use Rattle.uring_core.proofs.Following.{history_of-cons, history_of-append}
+use Rattle.uring_workers.specs.declared.job.Job.{Job}
+use Rattle.uring_workers.specs.declared.work_lanes.WorkLanes.{WorkLanes}
 use Rattle.uring_threads.specs.Collected.{Collects, CollectsSeen}
-use Rattle.uring_threads.specs.declared.job.JobResult.{JobResult}
+use Rattle.uring_workers.specs.declared.job.JobResult.{JobResult}
 use Rattle.std.specs.Prelude.{Result, Ok, Err, IfOk, OnErr}
 use Rattle.std.proofs.Math.ListN.{set}
 use Rattle.std.proofs.lemmas.List.{length-set, get_or-set_same, get_or-set_other}
-use Rattle.uring_threads.specs.Dispatched.{HaveCarried, IsSent, AreTakenIn}
+use Rattle.uring_threads.specs.Dispatched.{HaveCarried, AreTakenIn}
+use Rattle.uring_workers.specs.WorkLanes.{IsSent}
 use Rattle.uring_threads.specs.Issued.{IssuedAs}
 use Rattle.uring_threads.specs.Delivered.{OnlyPosts}
 use Rattle.uring_threads.proofs.Posting.{end_posts}
 use Rattle.uring_threads.proofs.TraceSteps.{grown}
 use Rattle.uring_threads.specs.Kept.{Kept, now, Grows, history}
 use Rattle.uring_threads.specs.Tallies.{Tally, Appends, issues_request, most_results, takes_result}
-use Rattle.uring_threads.specs.Work.{place_of, job_by, jobs_in, jobs_at, jobs_to, done_by_worker, results_of}
+use Rattle.uring_workers.specs.Work.{place_of, results_of}
+use Rattle.uring_threads.specs.Dealt.{job_by, jobs_in, jobs_at, jobs_to, done_by_worker}
 use Rattle.rtrb.specs.Ring.{sent, received}
 use Rattle.uring_threads.proofs.Collecting.{grown_history}
 

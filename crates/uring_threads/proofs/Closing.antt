@@ -1,9 +1,9 @@
 -- The trace has one Close once the close mark was pulled, and none before: what else the dispatcher appends has none.
 use Rattle.std.proofs.Common.{◌≡◌, ◌+◌, List, [], ◌∷◌, ◌++◌, count_by, cond, ap, ◌∙◌, arith}
 use Rattle.std.proofs.lemmas.List.Sums.{sum_by-append}
-use Rattle.uring_machine.specs.Histories.{Event}
-use Rattle.uring_machine.specs.declared.step.Step.TheVariants as step
-use Rattle.uring_machine.specs.declared.answer.Answer.{Answer}
+use Rattle.uring_core.specs.Histories.{Event}
+use Rattle.uring_core.specs.declared.step.Step.TheVariants as step
+use Rattle.uring_core.specs.declared.answer.Answer.{Answer}
 use Rattle.uring_threads.specs.Kept.{Kept, Grows, IsUnmoved}
 use Rattle.uring_threads.specs.Taking.{intake_after}
 use Rattle.uring_threads.specs.Turns.{ClosesOnce}

@@ -9,21 +9,23 @@ use Rattle.uring_entry.specs.Requests.{entry_of, is_running, with_ended}
 use Rattle.uring_entry.specs.Setup.{Setup}
 use Rattle.uring_entry.proofs.RequestLemmas.{is_running-ended_same, is_running-ended_other}
 use Rattle.uring_entry.specs.declared.operation.Outcome.{Outcome}
-use Rattle.uring_machine.specs.Core.{IsFinished}
-use Rattle.uring_machine.specs.World.{World}
-use Rattle.uring_laws.specs.Finishes.{Done, done_in}
-use Rattle.uring_machine.specs.Histories.{Event, history_of, IsLawfulApart}
-use Rattle.uring_machine.specs.declared.step.Step.TheVariants as step
-use Rattle.uring_machine.specs.declared.answer.Answer.{Answer}
-use Rattle.uring_machine.specs.declared.answer.Answer.TheVariants as answer
-use Rattle.uring_machine.proofs.Following.{history_of-snoc}
-use Rattle.uring_threads.specs.declared.job.JobResult.{JobResult}
+use Rattle.uring_core.specs.Core.{IsFinished}
+use Rattle.uring_core.specs.World.{World}
+use Rattle.uring_files.specs.Done.{Done}
+use Rattle.uring_laws.specs.Finishes.{done_in}
+use Rattle.uring_core.specs.Histories.{Event, history_of, IsLawfulApart}
+use Rattle.uring_core.specs.declared.step.Step.TheVariants as step
+use Rattle.uring_core.specs.declared.answer.Answer.{Answer}
+use Rattle.uring_core.specs.declared.answer.Answer.TheVariants as answer
+use Rattle.uring_core.proofs.Following.{history_of-snoc}
+use Rattle.uring_workers.specs.declared.job.JobResult.{JobResult}
 use Rattle.uring_threads.specs.Collected.{CanBeTaken, OthersStay, Collects, CollectsNext, CollectsSeen, NextStays, NoneComes, TakesNext, Wait}
 use Rattle.uring_threads.specs.Dispatched.{AreTakenIn}
 use Rattle.uring_threads.specs.Delivered.{OnlyPosts}
 use Rattle.uring_threads.specs.Kept.{Kept, now, Grows, IsUnmoved, history}
 use Rattle.uring_threads.specs.Settled.{IsWork, IsTakenIn, finish_of}
-use Rattle.uring_threads.specs.Work.{place_of, jobs_to, done_by_worker, result_of, results_of}
+use Rattle.uring_workers.specs.Work.{place_of, result_of, results_of}
+use Rattle.uring_threads.specs.Dealt.{jobs_to, done_by_worker}
 use Rattle.uring_threads.specs.Tallies.{finishes_counted, results_taken_in}
 use Rattle.uring_threads.proofs.LeftAt.{done-own, done-other}
 use Rattle.uring_threads.proofs.Posting.{posts_none, posts_then, end_posts}

@@ -6,7 +6,8 @@ use Rattle.uring_entry.specs.declared.operation.Op.{Op}
 use Rattle.uring_entry.specs.declared.operation.Op.TheVariants.{Nop, Read, Write, Fsync, Cancel}
 use Rattle.uring_files.specs.Laws.{is_on}
 use Rattle.uring_laws.proofs.FileLaws.{places_join, files_by_place}
-use Rattle.uring_threads.specs.Work.{place_of_file, place_of, IsDealtByFile, DealtByFile, WorkersJoin, FilesByWorker}
+use Rattle.uring_workers.specs.Work.{place_of_file, place_of}
+use Rattle.uring_threads.specs.Dealt.{IsDealtByFile, DealtByFile, WorkersJoin, FilesByWorker}
 
 -- what is on a file is its worker's
 on_place : (workers files : ℕ) (fd : ℤ) (op : Op) → is_on fd op ≡ true

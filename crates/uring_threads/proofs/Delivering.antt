@@ -2,9 +2,9 @@
 use Rattle.std.proofs.Common.{◌≡◌, ℕ, ◌+◌, List, refl, sym, subst, ap, ◌∙◌, arith}
 use Rattle.uring_entry.specs.Completions.{with_flushed, with_tail_loaded, with_head_stored}
 use Rattle.uring_entry.specs.Layout.{Cqe}
-use Rattle.uring_machine.specs.World.{World}
-use Rattle.uring_machine.specs.declared.answer.Answer.{Answer}
-use Rattle.uring_machine.specs.declared.step.Step.TheVariants as step
+use Rattle.uring_core.specs.World.{World}
+use Rattle.uring_core.specs.declared.answer.Answer.{Answer}
+use Rattle.uring_core.specs.declared.step.Step.TheVariants as step
 use Rattle.uring_threads.specs.Delivered.{KeepsAllBut, on_completions, with_reaped_all}
 use Rattle.uring_threads.specs.Kept.{Kept, now, Grows, IsUnmoved}
 use Rattle.uring_threads.specs.Tallies.{Tally, Appends, none_counted, reaps_counted}

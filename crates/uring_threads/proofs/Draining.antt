@@ -1,7 +1,7 @@
 -- The loop that takes in all results that wait at a worker: some were taken in, and the others wait.
 use Rattle.std.proofs.Common.{◌≡◌, ℕ, ◌+◌, ◌<◌, ◌≤◌, List, [], ◌∷◌, ◌++◌, length, map, refl, sym, subst, ap, ◌∙◌, arith, append_assoc, append-nil}
 use Rattle.std.proofs.lemmas.List.{length-append, length-map, map-append, nil_from_length}
-use Rattle.uring_threads.specs.declared.job.JobResult.{JobResult}
+use Rattle.uring_workers.specs.declared.job.JobResult.{JobResult}
 use Rattle.uring_threads.specs.Collected.{TakesAll, Wait}
 use Rattle.uring_threads.specs.Kept.{Kept, Grows}
 use Rattle.uring_threads.specs.Settled.{finish_of}

@@ -7,18 +7,19 @@ use Rattle.std.proofs.lemmas.List.Sums.{sum_by-append}
 use Rattle.uring_entry.specs.Setup.{Setup}
 use Rattle.uring_laws.specs.Direct.{with_told}
 use Rattle.uring_laws.specs.Finishes.{done_in, done_by}
-use Rattle.uring_machine.specs.Histories.{Event, History, world, history_of}
-use Rattle.uring_machine.specs.World.{World}
-use Rattle.uring_machine.specs.declared.step.Step.TheVariants as step
-use Rattle.uring_machine.proofs.Following.{history_of-cons, history_of-append}
+use Rattle.uring_core.specs.Histories.{Event, History, world, history_of}
+use Rattle.uring_core.specs.World.{World}
+use Rattle.uring_core.specs.declared.step.Step.TheVariants as step
+use Rattle.uring_core.proofs.Following.{history_of-cons, history_of-append}
 use Rattle.rtrb.specs.Ring.{known_items}
 use Rattle.uring_threads.specs.Collected.{Collects, CollectsFew, CollectsSeen, NextStays, NoneComes, OtherLanesStay, SeesNoMore, TakesSeen}
-use Rattle.uring_threads.specs.Dispatched.{AreSameLanes}
+use Rattle.uring_workers.specs.WorkLanes.{AreSameLanes}
 use Rattle.uring_threads.specs.Kept.{Kept, history}
 use Rattle.uring_threads.specs.Tallies.{Tally, Appends, TakesFewResults, most_results, results_taken_in, takes_result}
-use Rattle.uring_threads.specs.Work.{done_by_worker, place_of}
-use Rattle.uring_threads.specs.declared.job.JobResult.{JobResult}
-use Rattle.uring_threads.specs.declared.work_lanes.WorkLanes.{WorkLanes}
+use Rattle.uring_threads.specs.Dealt.{done_by_worker}
+use Rattle.uring_workers.specs.Work.{place_of}
+use Rattle.uring_workers.specs.declared.job.JobResult.{JobResult}
+use Rattle.uring_workers.specs.declared.work_lanes.WorkLanes.{WorkLanes}
 
 -- No result was taken in.
 

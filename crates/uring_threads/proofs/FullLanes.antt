@@ -7,19 +7,21 @@ use Rattle.rtrb.specs.Ring.{sent, known_free, producer_capacity}
 use Rattle.uring_entry.specs.Requests.{next_of}
 use Rattle.uring_entry.specs.Setup.{Setup}
 use Rattle.uring_laws.specs.Direct.{with_told}
-use Rattle.uring_machine.specs.Histories.{Event, History, world, history_of}
-use Rattle.uring_machine.specs.World.{World}
-use Rattle.uring_machine.specs.declared.step.Step.TheVariants as step
-use Rattle.uring_machine.specs.declared.answer.Answer.TheVariants as answer
-use Rattle.uring_machine.proofs.Following.{history_of-cons}
-use Rattle.uring_threads.specs.Dispatched.{HaveCarried, HoldJobs, HoldResults, AreSameLanes, SomeIsFull}
+use Rattle.uring_core.specs.Histories.{Event, History, world, history_of}
+use Rattle.uring_core.specs.World.{World}
+use Rattle.uring_core.specs.declared.step.Step.TheVariants as step
+use Rattle.uring_core.specs.declared.answer.Answer.TheVariants as answer
+use Rattle.uring_core.proofs.Following.{history_of-cons}
+use Rattle.uring_threads.specs.Dispatched.{HaveCarried}
+use Rattle.uring_workers.specs.WorkLanes.{HoldJobs, HoldResults, AreSameLanes, SomeIsFull}
 use Rattle.uring_threads.specs.Kept.{Kept, now, history}
 use Rattle.uring_threads.specs.Tallies.{Tally, Appends, starts_request}
 use Rattle.uring_threads.specs.Turns.{Counts}
-use Rattle.uring_threads.specs.Work.{place_of, job_in, job_by, jobs_in}
-use Rattle.uring_threads.specs.declared.job.Job.{Job}
+use Rattle.uring_workers.specs.Work.{place_of}
+use Rattle.uring_threads.specs.Dealt.{job_in, job_by, jobs_in}
+use Rattle.uring_workers.specs.declared.job.Job.{Job}
 use Rattle.uring_threads.specs.declared.turns.Turn.{Turn}
-use Rattle.uring_threads.specs.declared.work_lanes.WorkLanes.{WorkLanes}
+use Rattle.uring_workers.specs.declared.work_lanes.WorkLanes.{WorkLanes}
 use Rattle.uring_threads.proofs.Times.{times, times-append, times-counts}
 
 -- a history counts what its events do

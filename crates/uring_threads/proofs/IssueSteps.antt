@@ -5,12 +5,12 @@ use Rattle.uring_entry.specs.Preparation.{operation_of}
 use Rattle.uring_entry.specs.Requests.{Requests, entry_of, is_running, is_issuable, next_of, operation_running}
 use Rattle.uring_entry.proofs.RequestLemmas.{is_running-started_same}
 use Rattle.uring_entry.proofs.BelowLemmas.{least_below-tells}
-use Rattle.uring_machine.specs.StepAnswers.{CalledForApart, IsEnded, IsIssued}
-use Rattle.uring_machine.proofs.Issuable.{issue_goes, issued_ends}
-use Rattle.uring_machine.proofs.SoundRequests.{outstanding_tells}
-use Rattle.uring_machine.specs.declared.step.Step.TheVariants as step
-use Rattle.uring_machine.specs.declared.answer.Answer.{Answer}
-use Rattle.uring_machine.specs.declared.answer.Answer.TheVariants as answer
+use Rattle.uring_core.specs.StepAnswers.{CalledForApart, IsEnded, IsIssued}
+use Rattle.uring_core.proofs.Issuable.{issue_goes, issued_ends}
+use Rattle.uring_core.proofs.SoundRequests.{outstanding_tells}
+use Rattle.uring_core.specs.declared.step.Step.TheVariants as step
+use Rattle.uring_core.specs.declared.answer.Answer.{Answer}
+use Rattle.uring_core.specs.declared.answer.Answer.TheVariants as answer
 use Rattle.uring_threads.specs.Kept.{Kept, Grows, now}
 use Rattle.uring_threads.proofs.TraceSteps.{grown}
 

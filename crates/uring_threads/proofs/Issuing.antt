@@ -4,10 +4,11 @@ use Rattle.std.proofs.lemmas.List.{length-append}
 use Rattle.std.proofs.lemmas.List.Sums.{count_by-le-length}
 use Rattle.rtrb.specs.Ring.{received, SameConsumer}
 use Rattle.uring_threads.specs.Delivered.{OnlyPosts}
-use Rattle.uring_threads.specs.Dispatched.{HasCarried, HaveCarried, AreSameLanes, IsLookedAt}
+use Rattle.uring_threads.specs.Dispatched.{HasCarried, HaveCarried}
+use Rattle.uring_workers.specs.WorkLanes.{AreSameLanes, IsLookedAt}
 use Rattle.uring_threads.specs.Kept.{Kept, now, IsUnmoved}
 use Rattle.uring_threads.specs.Tallies.{Tally, Appends, none_counted, issues_counted, issues_request}
-use Rattle.uring_threads.specs.declared.work_lanes.WorkLanes.{WorkLanes}
+use Rattle.uring_workers.specs.declared.work_lanes.WorkLanes.{WorkLanes}
 use Rattle.uring_threads.proofs.Carrying.{quiet_stays, carried_stays}
 use Rattle.uring_threads.proofs.Posting.{posts_then}
 use Rattle.uring_threads.proofs.TraceSteps.{unmoved_now, appends_none, appends_then, appends_behind}

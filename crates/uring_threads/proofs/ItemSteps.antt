@@ -2,11 +2,11 @@
 use Rattle.std.proofs.Common.{◌≡◌, ℕ, ◌+◌, ◌<◌, ◌≤◌, List, [], ◌∷◌, ◌++◌, length, take, get_or, refl, sym, subst, ap, ◌∙◌, arith}
 use Rattle.std.proofs.lemmas.List.{length-map, map-append, length_push, length-take-le, take_more}
 use Rattle.uring_entry.specs.Submission.{Submission, Published, with_entry, bad_word}
-use Rattle.uring_machine.specs.World.{World, happens}
+use Rattle.uring_core.specs.World.{World, happens}
 use Rattle.uring_laws.specs.Standing.{Stands, with_item, with_items}
 use Rattle.uring_laws.proofs.Standing.{tail_publishes}
-use Rattle.uring_machine.specs.declared.step.Step.TheVariants as step
-use Rattle.uring_machine.specs.declared.answer.Answer.{Answer}
+use Rattle.uring_core.specs.declared.step.Step.TheVariants as step
+use Rattle.uring_core.specs.declared.answer.Answer.{Answer}
 use Rattle.uring_ports.specs.Items.{published_as, all_published_as}
 use Rattle.uring_ports.specs.declared.item.Item.{Item}
 use Rattle.uring_threads.specs.Kept.{Kept, now, Grows}

@@ -9,11 +9,13 @@ use Rattle.uring_entry.specs.Layout.{Sqe, zero_entry}
 use Rattle.uring_entry.specs.Preparation.{operation_of}
 use Rattle.uring_entry.specs.Requests.{Requests, Ending, entry_of, has_started, has_ended, is_running}
 use Rattle.uring_entry.specs.declared.operation.Op.{Op}
-use Rattle.uring_laws.specs.Finishes.{Done, done_in, done_at}
-use Rattle.uring_machine.specs.Histories.{History, world, IsLawfulApart}
-use Rattle.uring_machine.proofs.Sound.{sound_of}
-use Rattle.uring_threads.specs.declared.job.Job.{Job}
-use Rattle.uring_threads.specs.Work.{job_in, jobs_in, jobs_at, jobs_of}
+use Rattle.uring_files.specs.Done.{Done}
+use Rattle.uring_laws.specs.Finishes.{done_in, done_at}
+use Rattle.uring_core.specs.Histories.{History, world, IsLawfulApart}
+use Rattle.uring_core.proofs.Sound.{sound_of}
+use Rattle.uring_workers.specs.declared.job.Job.{Job}
+use Rattle.uring_threads.specs.Dealt.{job_in, jobs_in, jobs_at}
+use Rattle.uring_workers.specs.Work.{jobs_of}
 use Rattle.uring_threads.proofs.Times.{times, times-append, times-counts, times-some, times-any, none_passes}
 use Rattle.uring_threads.proofs.Sent.{jobs_are_starts, AreOf, done_is_of, carried_out, done_ended}
 

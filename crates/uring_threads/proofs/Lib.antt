@@ -8,7 +8,6 @@ mod Times
 mod Sent
 mod LeftAt
 pub mod Settling
-mod Working
 mod Collecting
 mod Draining
 mod SettledWork
@@ -20,7 +19,6 @@ mod WorkerFiles
 pub mod Turning
 mod Issuing
 mod Delivering
-mod FreshWorkers
 mod FullLanes
 mod Closing
 pub mod SameEnds

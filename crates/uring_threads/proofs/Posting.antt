@@ -3,7 +3,7 @@ use Rattle.std.proofs.Common.{◌≡◌, ℕ, ℤ, Bool, true, false, List, if�
 use Rattle.uring_entry.specs.Layout.{Sqe}
 use Rattle.uring_entry.specs.Completions.{Completions, with_end, with_posted, completion_for}
 use Rattle.uring_entry.specs.Success.{posts_completion}
-use Rattle.uring_machine.specs.World.{World}
+use Rattle.uring_core.specs.World.{World}
 use Rattle.uring_threads.specs.Delivered.{OnlyPosts}
 
 pub end_posts : (size : ℕ) (l : Completions) (entry : Sqe) (res : ℤ) (bytes : List ℕ)

@@ -1,9 +1,9 @@
 -- What each event adds to the steps of the trace, and how rows of steps add up.
 use Rattle.std.proofs.Common.{◌≡◌, ℕ, ◌+◌, ◌<◌, List, [], ◌∷◌, ◌++◌, map, take, length, inl, get_or, replicate, zero, suc, refl, sym, ap, ◌∙◌, arith, append_assoc, append-nil}
 use Rattle.std.proofs.lemmas.List.{map-append, replicate_more, take_more, length-take-le}
-use Rattle.uring_machine.specs.declared.step.Step.{Step}
-use Rattle.uring_machine.specs.declared.step.Step.TheVariants as step
-use Rattle.uring_machine.specs.declared.answer.Answer.{Answer}
+use Rattle.uring_core.specs.declared.step.Step.{Step}
+use Rattle.uring_core.specs.declared.step.Step.TheVariants as step
+use Rattle.uring_core.specs.declared.answer.Answer.{Answer}
 use Rattle.uring_ports.specs.declared.item.Item.{Item}
 use Rattle.uring_threads.specs.EventRows.{step_of, steps_of, Records, item_row, items_row, begin_row, call_row, delivery_row, IsAgain, IsPulled, RecordsIntake, RecordsFinishes, RecordsIssues, RecordsTurn}
 use Rattle.uring_threads.specs.Kept.{Kept, Grows, IsUnmoved}

@@ -9,22 +9,22 @@ use Rattle.std.specs.List.{slice_get}
 use Rattle.std.proofs.lemmas.Option.{slice_get_within, get_or_from_slice_get}
 use Rattle.uring_entry.specs.Completions.{Completions, unreaped, with_end, with_posted, completion_for}
 use Rattle.uring_entry.specs.Success.{posts_completion}
-use Rattle.uring_machine.specs.CalledFor.{IsLawful}
+use Rattle.uring_core.specs.CalledFor.{IsLawful}
 use Rattle.uring_laws.specs.Laws.{ReapedBeginPosted, in_ring, in_overflow}
 use Rattle.uring_ports.specs.Items.{all_published_as, published_as, AreItems}
 use Rattle.uring_ports.specs.AppEnd.{AppEnd}
 use Rattle.uring_ports.specs.Ports.{Put, Sizes, items_of_calls, LeavesItems, LeavesCompletions}
 use Rattle.uring_ports.specs.declared.item.Item.{Item}
 use Rattle.uring_threads.specs.Collected.{TakesAll}
-use Rattle.uring_threads.specs.Dispatched.{AreSameLanes}
+use Rattle.uring_workers.specs.WorkLanes.{AreSameLanes}
 use Rattle.std.proofs.lemmas.List.Folds.{list_any-append}
 use Rattle.uring_entry.specs.Layout.{Cqe, Sqe}
 use Rattle.uring_entry.specs.Requests.{entry_of, is_running}
 use Rattle.uring_entry.specs.Setup.{Setup}
 use Rattle.uring_entry.specs.Submission.{Submission, taken, published_items, IsItem}
-use Rattle.uring_machine.specs.Histories.{Event, world, history_of}
-use Rattle.uring_machine.specs.World.{World}
-use Rattle.uring_machine.proofs.Following.{history_of-snoc}
+use Rattle.uring_core.specs.Histories.{Event, world, history_of}
+use Rattle.uring_core.specs.World.{World}
+use Rattle.uring_core.proofs.Following.{history_of-snoc}
 use Rattle.uring_threads.specs.Delivered.{OnlyPosts}
 use Rattle.uring_threads.specs.Turns.{IsDelivered, Tied, ClosesOnce, waiting_in, is_shut}
 use Rattle.uring_threads.specs.Kernel.{Kernel, IsKernel}
@@ -33,13 +33,13 @@ use Rattle.uring_threads.specs.Report.{Report, AreTogether, IsSameKernel, left_b
 use Rattle.uring_threads.specs.Settled.{finish_of}
 use Rattle.uring_threads.specs.SettledWorker.{AreSettled, HaveLooked, HaveSeenAll}
 use Rattle.uring_threads.specs.Tallies.{closes_ring}
-use Rattle.uring_threads.specs.Work.{jobs_of, job_of}
-use Rattle.uring_threads.specs.Worker.{Worker}
+use Rattle.uring_workers.specs.Work.{jobs_of, job_of}
+use Rattle.uring_workers.specs.Worker.{Worker}
 use Rattle.uring_threads.specs.declared.intake.Intake.{Intake}
 use Rattle.uring_threads.specs.declared.intake.Intake.TheVariants as intake
-use Rattle.uring_threads.specs.declared.job.Job.{Job}
-use Rattle.uring_threads.specs.declared.job.JobResult.{JobResult}
-use Rattle.uring_threads.specs.declared.work_lanes.WorkLanes.{WorkLanes}
+use Rattle.uring_workers.specs.declared.job.Job.{Job}
+use Rattle.uring_workers.specs.declared.job.JobResult.{JobResult}
+use Rattle.uring_workers.specs.declared.work_lanes.WorkLanes.{WorkLanes}
 use Rattle.uring_threads.proofs.Closing.{closes-append}
 use Rattle.uring_threads.proofs.Posting.{posts_none, posts_then, end_posts}
 use Rattle.uring_threads.proofs.SameEnds.{together_same}

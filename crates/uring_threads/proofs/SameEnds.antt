@@ -4,16 +4,17 @@ use Rattle.std.specs.Prelude.{slice_set}
 use Rattle.std.proofs.lemmas.Bool.{cases_eq}
 use Rattle.std.proofs.lemmas.List.{get_or-map, length-map, length-set, get_or-set_same, get_or-set_other, get_or_default}
 use Rattle.uring_ports.specs.AppEnd.{AppEnd}
-use Rattle.uring_threads.specs.Dispatched.{AreSameLanes, HaveCarried, numbers_of_lanes}
+use Rattle.uring_workers.specs.WorkLanes.{AreSameLanes, numbers_of_lanes}
+use Rattle.uring_threads.specs.Dispatched.{HaveCarried}
 use Rattle.uring_threads.specs.Kept.{Kept}
 use Rattle.uring_threads.specs.Kernel.{Kernel, IsKernel}
-use Rattle.uring_threads.specs.Pairings.{pairing_of}
+use Rattle.uring_workers.specs.Pairings.{pairing_of}
 use Rattle.uring_threads.specs.Report.{AreTogether, IsSameKernel}
 use Rattle.uring_threads.specs.SettledWorker.{HaveFiles, HaveLooked}
-use Rattle.uring_threads.specs.Opening.{AreLanesOf}
-use Rattle.uring_threads.specs.Worker.{Worker}
-use Rattle.uring_threads.specs.declared.work_lanes.WorkLanes.{WorkLanes}
-use Rattle.uring_threads.proofs.Working.{same_ring}
+use Rattle.uring_workers.specs.Opened.{AreLanesOf}
+use Rattle.uring_workers.specs.Worker.{Worker}
+use Rattle.uring_workers.specs.declared.work_lanes.WorkLanes.{WorkLanes}
+use Rattle.uring_workers.proofs.Working.{same_ring}
 
 -- two lists are told the same if their elements are, place by place
 pub told_same : {X Y A : Type 0} (f : X → A) (g : Y → A) (xs : List X) (ys : List Y)

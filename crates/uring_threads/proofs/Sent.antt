@@ -10,23 +10,24 @@ use Rattle.uring_entry.specs.Setup.{Setup}
 use Rattle.uring_entry.specs.Layout.{Sqe, zero_entry}
 use Rattle.uring_entry.specs.Preparation.{operation_of, is_cancel}
 use Rattle.uring_entry.specs.Requests.{Requests, Ending, entry_of, has_started, has_ended, is_outstanding, is_running, is_doomed, is_ready, doomed_result, cancel_result, no_bytes, with_call}
-use Rattle.uring_machine.specs.World.{World}
-use Rattle.uring_machine.specs.Events.{started_by, end_told_by}
+use Rattle.uring_core.specs.World.{World}
+use Rattle.uring_core.specs.Events.{started_by, end_told_by}
 use Rattle.uring_laws.specs.Direct.{with_told}
-use Rattle.uring_laws.specs.Finishes.{Done, done_by, done_in}
-use Rattle.uring_machine.specs.Histories.{History, world, IsLawfulApart}
-use Rattle.uring_machine.specs.StepAnswers.{CalledForApart, issue_answer}
-use Rattle.uring_machine.specs.declared.step.Step.{Step}
-use Rattle.uring_machine.specs.declared.step.Step.TheVariants as step
-use Rattle.uring_machine.specs.declared.answer.Answer.{Answer}
-use Rattle.uring_machine.specs.declared.answer.Answer.TheVariants as answer
-use Rattle.uring_machine.proofs.ListCounts.{any_new}
-use Rattle.uring_machine.proofs.Moves.{Move, stays, accepts, starts, ends_doomed, ends_cancel, ends_run, move_of}
-use Rattle.uring_machine.proofs.Running.{entry_stays}
-use Rattle.uring_machine.proofs.Sound.{sound_of}
-use Rattle.uring_machine.proofs.SoundRequests.{IsSoundRequests, outstanding_tells, idle_tells}
-use Rattle.uring_threads.specs.declared.job.Job.{Job}
-use Rattle.uring_threads.specs.Work.{job_in, jobs_in}
+use Rattle.uring_files.specs.Done.{Done}
+use Rattle.uring_laws.specs.Finishes.{done_by, done_in}
+use Rattle.uring_core.specs.Histories.{History, world, IsLawfulApart}
+use Rattle.uring_core.specs.StepAnswers.{CalledForApart, issue_answer}
+use Rattle.uring_core.specs.declared.step.Step.{Step}
+use Rattle.uring_core.specs.declared.step.Step.TheVariants as step
+use Rattle.uring_core.specs.declared.answer.Answer.{Answer}
+use Rattle.uring_core.specs.declared.answer.Answer.TheVariants as answer
+use Rattle.uring_core.proofs.ListCounts.{any_new}
+use Rattle.uring_core.proofs.Moves.{Move, stays, accepts, starts, ends_doomed, ends_cancel, ends_run, move_of}
+use Rattle.uring_core.proofs.Running.{entry_stays}
+use Rattle.uring_core.proofs.Sound.{sound_of}
+use Rattle.uring_core.proofs.SoundRequests.{IsSoundRequests, outstanding_tells, idle_tells}
+use Rattle.uring_workers.specs.declared.job.Job.{Job}
+use Rattle.uring_threads.specs.Dealt.{job_in, jobs_in}
 use Rattle.uring_threads.proofs.Times.{times, times-append, times-told}
 
 -- Jobs: one for each request that started.

@@ -1,19 +1,20 @@
 -- A worker whose results were all taken in is settled, and nothing of the others' work has changed.
 use Rattle.std.proofs.Common.{◌≡◌, ℕ, List, [], ◌∷◌, ◌++◌, map, refl, sym, subst, ap, ap₂, ◌∙◌, append-nil}
 use Rattle.uring_entry.specs.Setup.{Setup}
-use Rattle.uring_laws.specs.Finishes.{Done}
-use Rattle.uring_machine.specs.Histories.{Event, History, history_of, IsLawfulApart}
-use Rattle.uring_threads.specs.declared.job.Job.{Job}
-use Rattle.uring_threads.specs.declared.job.JobResult.{JobResult}
+use Rattle.uring_files.specs.Done.{Done}
+use Rattle.uring_core.specs.Histories.{Event, History, history_of, IsLawfulApart}
+use Rattle.uring_workers.specs.declared.job.Job.{Job}
+use Rattle.uring_workers.specs.declared.job.JobResult.{JobResult}
 use Rattle.rtrb.specs.Ring.{sent, received}
-use Rattle.uring_threads.specs.declared.work_lanes.WorkLanes.{WorkLanes}
+use Rattle.uring_workers.specs.declared.work_lanes.WorkLanes.{WorkLanes}
 use Rattle.uring_threads.specs.Collected.{TakesAll}
 use Rattle.uring_threads.specs.Dispatched.{HasCarried}
 use Rattle.uring_threads.specs.SettledWorker.{IsSettledAt}
 use Rattle.uring_threads.specs.Kept.{Kept, history}
 use Rattle.uring_threads.specs.Settled.{IsWork, finish_of, with_taken_in}
-use Rattle.uring_threads.specs.Work.{jobs_to, done_by_worker, jobs_of, results_of}
-use Rattle.uring_machine.proofs.Following.{history_of-cons, history_of-append}
+use Rattle.uring_threads.specs.Dealt.{jobs_to, done_by_worker}
+use Rattle.uring_workers.specs.Work.{jobs_of, results_of}
+use Rattle.uring_core.proofs.Following.{history_of-cons, history_of-append}
 use Rattle.uring_threads.proofs.Settling.{IsDrained, drain}
 
 -- results that are taken in send no job

@@ -4,20 +4,22 @@ use Rattle.std.specs.Prelude.{slice_set}
 use Rattle.std.proofs.lemmas.Bool.{cases_eq}
 use Rattle.std.proofs.lemmas.List.{map-append, length-set, get_or-set_same, get_or-set_other, take_all, take_more, length-take-le, get_or_default}
 use Rattle.rtrb.specs.Ring.{received, consumer_capacity}
-use Rattle.uring_laws.specs.Finishes.{AreDone}
-use Rattle.uring_machine.specs.Histories.{IsLawfulApart}
-use Rattle.uring_threads.specs.declared.job.JobResult.{JobResult}
-use Rattle.uring_threads.specs.declared.work_lanes.WorkLanes.{WorkLanes}
+use Rattle.uring_files.specs.Done.{AreDone}
+use Rattle.uring_core.specs.Histories.{IsLawfulApart}
+use Rattle.uring_workers.specs.declared.job.JobResult.{JobResult}
+use Rattle.uring_workers.specs.declared.work_lanes.WorkLanes.{WorkLanes}
 use Rattle.uring_threads.specs.Collected.{OthersStay, TakesAll}
 use Rattle.uring_threads.specs.Dispatched.{HasCarried, HaveCarried}
 use Rattle.uring_threads.specs.Kept.{Kept, history}
 use Rattle.uring_threads.specs.Settled.{Work, IsWork, IsSettled, finish_of}
 use Rattle.uring_threads.specs.SettledWorker.{HaveSeenAll, IsSettledAt, settled_work, works_of}
-use Rattle.uring_threads.specs.Opening.{AreLanesOf}
+use Rattle.uring_workers.specs.Opened.{AreLanesOf}
 use Rattle.uring_threads.specs.Report.{waiting_at, all_waiting}
-use Rattle.uring_threads.specs.Pairings.{pairing_of}
-use Rattle.uring_threads.specs.Work.{jobs_to, results_of}
-use Rattle.uring_threads.specs.Worker.{Worker, IsRight, Looks, empty_files}
+use Rattle.uring_workers.specs.Pairings.{pairing_of}
+use Rattle.uring_threads.specs.Dealt.{jobs_to}
+use Rattle.uring_workers.specs.Work.{results_of}
+use Rattle.uring_workers.specs.Worker.{Worker, IsRight, Looks}
+use Rattle.uring_files.specs.Contents.{empty_files}
 use Rattle.uring_threads.proofs.SettledWork.{jobs_keep, longer_history}
 use Rattle.uring_threads.proofs.Settling.{none_waits}
 

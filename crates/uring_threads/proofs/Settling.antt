@@ -10,14 +10,16 @@ use Rattle.uring_entry.specs.Preparation.{operation_of}
 use Rattle.uring_entry.specs.Requests.{Requests, entry_of}
 use Rattle.uring_entry.specs.declared.operation.Op.{Op}
 use Rattle.uring_files.specs.Operations.{file_of}
-use Rattle.uring_laws.specs.Finishes.{Done, done_in, done_at, first_files, files_left, AreDone}
-use Rattle.uring_machine.specs.Histories.{History, world, IsLawfulApart, history_of}
-use Rattle.uring_machine.specs.StepAnswers.{FinishesApart}
-use Rattle.uring_machine.specs.declared.answer.Answer.TheVariants as answer
-use Rattle.uring_machine.proofs.Following.{history_of-cons, history_of-append}
-use Rattle.uring_threads.specs.declared.job.Job.{Job}
-use Rattle.uring_threads.specs.declared.job.JobResult.{JobResult}
-use Rattle.uring_threads.specs.Work.{place_of_file, place_of, job_in, jobs_at, jobs_to, done_by_worker, jobs_of, results_of, result_of, job_of, IsDealtByFile}
+use Rattle.uring_files.specs.Done.{Done, files_left, AreDone}
+use Rattle.uring_laws.specs.Finishes.{done_in, done_at, first_files}
+use Rattle.uring_core.specs.Histories.{History, world, IsLawfulApart, history_of}
+use Rattle.uring_core.specs.StepAnswers.{FinishesApart}
+use Rattle.uring_core.specs.declared.answer.Answer.TheVariants as answer
+use Rattle.uring_core.proofs.Following.{history_of-cons, history_of-append}
+use Rattle.uring_workers.specs.declared.job.Job.{Job}
+use Rattle.uring_workers.specs.declared.job.JobResult.{JobResult}
+use Rattle.uring_workers.specs.Work.{place_of_file, place_of, jobs_of, results_of, result_of, job_of}
+use Rattle.uring_threads.specs.Dealt.{job_in, jobs_at, jobs_to, done_by_worker, IsDealtByFile}
 use Rattle.uring_threads.specs.Settled.{Work, IsWork, ResultsRun, NoneWaits, Settles, finish_of, with_taken_in, waiting_of}
 use Rattle.uring_threads.proofs.Dealing.{dealt_by_file, workers_join, files_by_worker, file_within}
 use Rattle.uring_threads.proofs.LeftAt.{op_at, left_own, left_runs, runs_left, done-own, done-other}

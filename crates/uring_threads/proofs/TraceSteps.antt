@@ -3,11 +3,11 @@ use Rattle.std.proofs.Common.{◌≡◌, ◌+◌, List, [], ◌∷◌, ◌++◌,
 use Rattle.std.proofs.lemmas.List.{length_push}
 use Rattle.std.proofs.lemmas.List.Sums.{sum_by-append}
 use Rattle.uring_entry.specs.Setup.{Setup}
-use Rattle.uring_machine.specs.World.{happens}
-use Rattle.uring_machine.specs.Histories.{Event, history_of, world}
-use Rattle.uring_machine.proofs.Following.{history_of-snoc}
-use Rattle.uring_machine.specs.declared.step.Step.{Step}
-use Rattle.uring_machine.specs.declared.answer.Answer.{Answer}
+use Rattle.uring_core.specs.World.{happens}
+use Rattle.uring_core.specs.Histories.{Event, history_of, world}
+use Rattle.uring_core.proofs.Following.{history_of-snoc}
+use Rattle.uring_core.specs.declared.step.Step.{Step}
+use Rattle.uring_core.specs.declared.answer.Answer.{Answer}
 use Rattle.uring_threads.specs.Kept.{Kept, now, Grows, IsUnmoved}
 use Rattle.uring_threads.specs.Tallies.{Tally, tally_of, both, none_counted, Appends, stages_item, issues_request, takes_result, reaps_completion, begins_call, closes_ring}
 

@@ -8,8 +8,9 @@ use Rattle.uring_entry.specs.Submission.{Submission, published_items}
 use Rattle.uring_laws.specs.Standing.{Stands}
 use Rattle.uring_ports.specs.Ports.{Put}
 use Rattle.uring_threads.specs.Delivered.{KeepsAllBut, OnlyPosts}
-use Rattle.uring_threads.specs.Dispatched.{HaveCarried, AreSameLanes, SomeIsFull}
-use Rattle.uring_machine.specs.World.{World}
+use Rattle.uring_threads.specs.Dispatched.{HaveCarried}
+use Rattle.uring_workers.specs.WorkLanes.{AreSameLanes, SomeIsFull}
+use Rattle.uring_core.specs.World.{World}
 use Rattle.uring_threads.specs.Kept.{Kept, now, IsUnmoved}
 use Rattle.uring_threads.specs.Kernel.{Kernel, IsKernel}
 use Rattle.uring_threads.specs.Taking.{TakesIn}
@@ -17,7 +18,7 @@ use Rattle.uring_threads.specs.Tallies.{Tally, Appends, both, none_counted, issu
 use Rattle.uring_threads.specs.Turns.{AreTies, Counts, IsDelivered, IsGivenUpAsSpent, Tied, ClosesOnce, waiting_in}
 use Rattle.uring_threads.specs.declared.intake.Intake.{Intake}
 use Rattle.uring_threads.specs.declared.intake.Intake.TheVariants as intake
-use Rattle.uring_threads.specs.declared.work_lanes.WorkLanes.{WorkLanes}
+use Rattle.uring_workers.specs.declared.work_lanes.WorkLanes.{WorkLanes}
 use Rattle.uring_threads.proofs.Carrying.{quiet_stays, carried_stays}
 use Rattle.uring_threads.proofs.Closing.{once_stays, once_unmoved}
 use Rattle.uring_threads.proofs.TraceSteps.{unmoved_now, appends_none, appends_then}

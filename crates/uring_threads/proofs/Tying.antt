@@ -3,8 +3,8 @@ use Rattle.std.proofs.Common.{◌≡◌, ℕ, ◌+◌, ◌<◌, ◌≤◌, true,
 use Rattle.std.proofs.lemmas.List.{map-append}
 use Rattle.std.proofs.lemmas.List.Sums.{sum_by_push}
 use Rattle.uring_entry.specs.Submission.{Submission, Published, with_entry, bad_word, IsItem}
-use Rattle.uring_machine.specs.World.{World, closing}
-use Rattle.uring_machine.specs.StepAnswers.{close_answer, is_spent}
+use Rattle.uring_core.specs.World.{World, closing}
+use Rattle.uring_core.specs.StepAnswers.{close_answer, is_spent}
 use Rattle.uring_laws.specs.Standing.{Stands}
 use Rattle.uring_ports.specs.Items.{all_published_as}
 use Rattle.uring_ports.specs.Ports.{Put, items_of_calls}
@@ -16,9 +16,9 @@ use Rattle.uring_threads.specs.Rows.{with_begun_as}
 use Rattle.uring_threads.specs.Taking.{intake_after}
 use Rattle.uring_threads.specs.Turns.{Tied}
 use Rattle.uring_entry.specs.Setup.{Setup}
-use Rattle.uring_machine.specs.declared.step.Step.TheVariants as step
-use Rattle.uring_machine.specs.declared.answer.Answer.{Answer}
-use Rattle.uring_machine.specs.declared.answer.Answer.TheVariants as answer
+use Rattle.uring_core.specs.declared.step.Step.TheVariants as step
+use Rattle.uring_core.specs.declared.answer.Answer.{Answer}
+use Rattle.uring_core.specs.declared.answer.Answer.TheVariants as answer
 use Rattle.uring_threads.specs.Kept.{Kept, IsUnmoved, Grows, now}
 use Rattle.uring_threads.specs.Rows.{with_items_published}
 use Rattle.uring_threads.specs.Taking.{TakesIn}

@@ -3,15 +3,15 @@ use Rattle.std.proofs.Common.{◌≡◌, ℕ, ◌<◌, ℤ, List, length, get_or
 use Rattle.std.specs.Prelude.{slice_get}
 use Rattle.std.specs.Option.{option_map, option_and_then}
 use Rattle.std.proofs.lemmas.List.{get_or_default}
-use Rattle.uring_files.specs.Contents.{FileContents}
+use Rattle.uring_files.specs.Contents.{FileContents, empty_files}
 use Rattle.uring_files.specs.Laws.{AgreeAt}
 use Rattle.uring_files.specs.Operations.{file_of, state_of, byte_of}
-use Rattle.uring_machine.specs.CalledFor.{files_of}
-use Rattle.uring_laws.specs.Finishes.{files_left}
+use Rattle.uring_core.specs.CalledFor.{files_of}
+use Rattle.uring_files.specs.Done.{files_left}
 use Rattle.uring_threads.specs.Kept.{Kept, now}
 use Rattle.uring_threads.specs.SettledWorker.{AreSettled, HaveFiles}
-use Rattle.uring_threads.specs.Work.{place_of_file}
-use Rattle.uring_threads.specs.Worker.{Worker, IsRight, empty_files}
+use Rattle.uring_workers.specs.Work.{place_of_file}
+use Rattle.uring_workers.specs.Worker.{Worker, IsRight}
 
 pub own_file : (kept : Kept) (files : ℕ) (workers : List Worker) (fd : ℤ) (e : Worker)
     → kept.setup.files ≡ files → AreSettled kept workers

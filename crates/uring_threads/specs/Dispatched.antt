@@ -1,12 +1,11 @@
 -- What went through the lanes between the dispatcher and the workers. All of it is our own rule.
-use Rattle.std.specs.Prelude.{◌≡◌, ℕ, ◌<◌, ◌≤◌, List, [], ◌∷◌, ◌++◌, length, map, get_or}
-use Rattle.rtrb.specs.Ring.{sent, known_free, producer_capacity, received, consumer_capacity, SameProducer, SameConsumer}
-use Rattle.uring_threads.specs.declared.job.JobResult.{JobResult}
+use Rattle.std.specs.Prelude.{◌≡◌, ℕ, ◌<◌, List, length, get_or}
+use Rattle.rtrb.specs.Ring.{sent, received}
+use Rattle.uring_workers.specs.declared.job.JobResult.{JobResult}
 use Rattle.uring_threads.specs.Kept.{Kept, history}
-use Rattle.uring_threads.specs.Pairings.{pairing_of}
-use Rattle.uring_threads.specs.Work.{jobs_to, done_by_worker, results_of}
-use Rattle.uring_threads.specs.declared.job.Job.{Job}
-use Rattle.uring_threads.specs.declared.work_lanes.WorkLanes.{WorkLanes}
+use Rattle.uring_threads.specs.Dealt.{jobs_to, done_by_worker}
+use Rattle.uring_workers.specs.Work.{results_of}
+use Rattle.uring_workers.specs.declared.work_lanes.WorkLanes.{WorkLanes}
 
 -- the results received from a worker are those that the trace has taken in of it
 abbrev pub AreTakenIn : Kept → ℕ → ℕ → List JobResult → Type 0
@@ -22,51 +21,3 @@ pub record HasCarried (kept : Kept) (workers k : ℕ) (lanes : WorkLanes) : Type
 abbrev pub HaveCarried : Kept → List WorkLanes → Type 0
 HaveCarried kept lanes =
     (k : ℕ) (d : WorkLanes) → k < length lanes → HasCarried kept (length lanes) k (get_or lanes k d)
-
--- nothing went through any of these lanes
-abbrev pub HaveCarriedNone : List WorkLanes → Type 0
-HaveCarriedNone lanes = (k : ℕ) (d : WorkLanes) → k < length lanes
-    → (sent (get_or lanes k d).jobs ≡ []) × (received (get_or lanes k d).results ≡ [])
-
--- each worker's lane for jobs holds 64
-abbrev pub HoldJobs : List WorkLanes → Type 0
-HoldJobs lanes =
-    (k : ℕ) (d : WorkLanes) → k < length lanes → producer_capacity (get_or lanes k d).jobs ≡ 64
-
--- each worker's lane for results holds at most 64
-abbrev pub HoldResults : List WorkLanes → Type 0
-HoldResults lanes =
-    (k : ℕ) (d : WorkLanes) → k < length lanes → consumer_capacity (get_or lanes k d).results ≤ 64
-
--- which lanes these are, as numbers that the workers' ends of them have too, worker 0's first
-abbrev pub numbers_of_lanes : List WorkLanes → List (List (List ℕ))
-numbers_of_lanes lanes = map (λ (l : WorkLanes). pairing_of l.jobs l.results) lanes
-
--- each worker's lane for jobs shows room
-abbrev pub ShowRoom : List WorkLanes → Type 0
-ShowRoom lanes = (k : ℕ) (d : WorkLanes) → k < length lanes → 0 < known_free (get_or lanes k d).jobs
-
--- some worker's lane for jobs shows none
-abbrev pub SomeIsFull : List WorkLanes → Type 0
-SomeIsFull lanes =
-    (k : ℕ) × (k < length lanes) × ((d : WorkLanes) → known_free (get_or lanes k d).jobs ≡ 0)
-
--- the same lanes, and nothing was sent or received
-pub record IsLookedAt (old new : WorkLanes) : Type 0 where
-  pub jobs : sent new.jobs ≡ sent old.jobs
-  pub ring : SameProducer old.jobs new.jobs
-  pub results : new.results ≡ old.results
-
--- the same lanes, and this job was sent
-pub record IsSent (job : Job) (old new : WorkLanes) : Type 0 where
-  pub jobs : sent new.jobs ≡ sent old.jobs ++ job ∷ []
-  pub ring : SameProducer old.jobs new.jobs
-  pub results : new.results ≡ old.results
-
--- The same lanes still, of each worker.
-pub record AreSameLanes (old new : List WorkLanes) : Type 0 where
-  pub many : length new ≡ length old
-  pub jobs : (k : ℕ) (d : WorkLanes) → k < length old
-      → SameProducer (get_or old k d).jobs (get_or new k d).jobs
-  pub results : (k : ℕ) (d : WorkLanes) → k < length old
-      → SameConsumer (get_or old k d).results (get_or new k d).results

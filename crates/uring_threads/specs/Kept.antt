@@ -1,8 +1,8 @@
 -- The dispatcher's trace: the events that it recorded, in the order in which they happened, and what they have made.
 use Rattle.std.specs.Prelude.{◌≡◌, ℕ, ◌≤◌, List, [], ◌∷◌, ◌++◌}
 use Rattle.uring_entry.specs.Setup.{Setup}
-use Rattle.uring_machine.specs.World.{World}
-use Rattle.uring_machine.specs.Histories.{Event, History, world, history_of}
+use Rattle.uring_core.specs.World.{World}
+use Rattle.uring_core.specs.Histories.{Event, History, world, history_of}
 
 -- A core with its trace: the events, the oldest first; for how many events the trace has memory; and the set-up.
 pub record Kept : Type 0 where

@@ -2,13 +2,13 @@
 use Rattle.std.specs.Prelude.{◌≡◌, ℕ, ◌<◌, ◌≤◌, true, List, length, Option}
 use Rattle.uring_entry.specs.Layout.{Cqe}
 use Rattle.uring_entry.specs.Requests.{outstanding_in}
-use Rattle.uring_machine.specs.World.{World}
+use Rattle.uring_core.specs.World.{World}
 use Rattle.uring_ports.specs.Ports.{Put, Sizes}
-use Rattle.uring_threads.specs.Dispatched.{HoldJobs, HoldResults}
+use Rattle.uring_workers.specs.WorkLanes.{HoldJobs, HoldResults}
 use Rattle.uring_threads.specs.Kept.{Kept}
 use Rattle.uring_threads.specs.Turns.{AreTies}
 use Rattle.uring_threads.specs.declared.intake.Intake.{Intake}
-use Rattle.uring_threads.specs.declared.work_lanes.WorkLanes.{WorkLanes}
+use Rattle.uring_workers.specs.declared.work_lanes.WorkLanes.{WorkLanes}
 
 -- The trace; how the intake stands; the lanes of the workers; and of the port its pairing and sizes, all that it pulled, all that it delivered, and every dropped word that it stored, without a list if no such word lies between the ends.
 pub record Kernel : Type 0 where

@@ -7,22 +7,22 @@ use Rattle.uring_entry.specs.Layout.{Cqe}
 use Rattle.uring_entry.specs.Setup.{Setup}
 use Rattle.uring_entry.specs.Submission.{taken, published_items}
 use Rattle.uring_entry.specs.Requests.{is_running}
-use Rattle.uring_machine.specs.Histories.{Event, world, history_of}
-use Rattle.uring_machine.specs.World.{World}
+use Rattle.uring_core.specs.Histories.{Event, world, history_of}
+use Rattle.uring_core.specs.World.{World}
 use Rattle.uring_ports.specs.AppEnd.{AppEnd}
 use Rattle.uring_ports.specs.Items.{all_published_as}
 use Rattle.uring_ports.specs.Ports.{Put, items_of_calls}
 use Rattle.uring_ports.specs.declared.item.Item.{Item}
-use Rattle.uring_threads.specs.Work.{results_of}
-use Rattle.uring_threads.specs.declared.job.JobResult.{JobResult}
-use Rattle.uring_threads.specs.Dispatched.{numbers_of_lanes}
+use Rattle.uring_workers.specs.Work.{results_of}
+use Rattle.uring_workers.specs.declared.job.JobResult.{JobResult}
+use Rattle.uring_workers.specs.WorkLanes.{numbers_of_lanes}
 use Rattle.uring_threads.specs.Kept.{IsUnmoved}
 use Rattle.uring_threads.specs.Kernel.{Kernel}
 use Rattle.uring_threads.specs.Settled.{finish_of}
 use Rattle.uring_threads.specs.Tallies.{closes_ring}
-use Rattle.uring_threads.specs.Worker.{Worker}
-use Rattle.uring_threads.specs.declared.job.Job.{Job}
-use Rattle.uring_threads.specs.declared.work_lanes.WorkLanes.{WorkLanes}
+use Rattle.uring_workers.specs.Worker.{Worker}
+use Rattle.uring_workers.specs.declared.job.Job.{Job}
+use Rattle.uring_workers.specs.declared.work_lanes.WorkLanes.{WorkLanes}
 
 -- All the ends of one set-up, the workers in their order: the two ports are a pair, the dispatcher's lanes are those of the workers, and each worker has as many files as there are. No call of an end changes any of it.
 pub record AreTogether (app : AppEnd) (kernel : Kernel) (workers : List Worker) : Type 0 where

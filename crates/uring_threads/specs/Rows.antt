@@ -1,7 +1,7 @@
 -- Glue. What the dispatcher's rows of steps make of the world.
 use Rattle.std.specs.Prelude.{ℕ, List}
 use Rattle.uring_entry.specs.Submission.{Submission, with_published, Published}
-use Rattle.uring_machine.specs.World.{World}
+use Rattle.uring_core.specs.World.{World}
 use Rattle.uring_laws.specs.Standing.{with_item, with_items, after_call}
 use Rattle.uring_threads.specs.declared.calls.Begun.{Begun}
 use Rattle.uring_threads.specs.declared.calls.Begun.TheVariants as begun

@@ -5,14 +5,16 @@ use Rattle.uring_entry.specs.Setup.{Setup}
 use Rattle.uring_entry.specs.Preparation.{operation_of}
 use Rattle.uring_entry.specs.Requests.{entry_of, is_running}
 use Rattle.uring_files.specs.Laws.{AgreeAt}
-use Rattle.uring_machine.specs.CalledFor.{IsLawful, files_of}
-use Rattle.uring_laws.specs.Finishes.{Done, first_files, files_left, AreDone}
-use Rattle.uring_machine.specs.Histories.{Event, History, world, IsLawfulApart, history_of}
-use Rattle.uring_machine.specs.declared.step.Step.TheVariants as step
-use Rattle.uring_machine.specs.declared.answer.Answer.TheVariants as answer
-use Rattle.uring_threads.specs.declared.job.Job.{Job}
-use Rattle.uring_threads.specs.declared.job.JobResult.{JobResult}
-use Rattle.uring_threads.specs.Work.{place_of_file, place_of, jobs_to, done_by_worker, jobs_of, results_of}
+use Rattle.uring_core.specs.CalledFor.{IsLawful, files_of}
+use Rattle.uring_files.specs.Done.{Done, files_left, AreDone}
+use Rattle.uring_laws.specs.Finishes.{first_files}
+use Rattle.uring_core.specs.Histories.{Event, History, world, IsLawfulApart, history_of}
+use Rattle.uring_core.specs.declared.step.Step.TheVariants as step
+use Rattle.uring_core.specs.declared.answer.Answer.TheVariants as answer
+use Rattle.uring_workers.specs.declared.job.Job.{Job}
+use Rattle.uring_workers.specs.declared.job.JobResult.{JobResult}
+use Rattle.uring_workers.specs.Work.{place_of_file, place_of, jobs_of, results_of}
+use Rattle.uring_threads.specs.Dealt.{jobs_to, done_by_worker}
 
 -- What a worker leaves.
 pub record Work : Type 0 where

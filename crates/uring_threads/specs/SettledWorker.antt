@@ -1,18 +1,18 @@
 -- Glue. Settling a worker: all its results are taken in. Our own rule.
 use Rattle.std.specs.Prelude.{◌≡◌, ℕ, ℤ, Option, ◌<◌, List, [], ◌++◌, length, get_or}
 use Rattle.rtrb.specs.Ring.{sent}
-use Rattle.uring_laws.specs.Finishes.{Done}
-use Rattle.uring_threads.specs.declared.job.Job.{Job}
-use Rattle.uring_threads.specs.declared.work_lanes.WorkLanes.{WorkLanes}
+use Rattle.uring_files.specs.Done.{Done}
+use Rattle.uring_workers.specs.declared.job.Job.{Job}
+use Rattle.uring_workers.specs.declared.work_lanes.WorkLanes.{WorkLanes}
 use Rattle.uring_threads.specs.Collected.{OthersStay}
 use Rattle.uring_threads.specs.Dispatched.{HasCarried}
 use Rattle.uring_files.specs.Operations.{state_of, byte_of}
 use Rattle.uring_files.specs.declared.file.FileState.{FileState}
-use Rattle.uring_machine.specs.CalledFor.{files_of}
+use Rattle.uring_core.specs.CalledFor.{files_of}
 use Rattle.uring_threads.specs.Kept.{Kept, now, history}
 use Rattle.uring_threads.specs.Settled.{Work, IsWork, IsSettled}
-use Rattle.uring_threads.specs.Work.{jobs_of}
-use Rattle.uring_threads.specs.Worker.{Worker, Looks}
+use Rattle.uring_workers.specs.Work.{jobs_of}
+use Rattle.uring_workers.specs.Worker.{Worker, Looks}
 
 -- All results of a worker were taken in, and of no other worker any: of the jobs that its lane has carried these are done, and these it hasn't taken.
 pub record IsSettledAt (old new : Kept) (workers k : ℕ) (lanes : WorkLanes) (done : List Done) (untaken : List Job) : Type 0 where

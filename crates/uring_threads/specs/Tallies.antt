@@ -1,10 +1,10 @@
 -- What is counted of the events that the dispatcher appends to its trace.
 use Rattle.std.specs.Prelude.{◌≡◌, ℕ, ◌+◌, ◌≤◌, Bool, true, false, List, ◌++◌, length, count_by}
-use Rattle.uring_machine.specs.Histories.{Event, history_of}
-use Rattle.uring_machine.specs.declared.step.Step.TheVariants as step
-use Rattle.uring_machine.specs.declared.answer.Answer.TheVariants as answer
+use Rattle.uring_core.specs.Histories.{Event, history_of}
+use Rattle.uring_core.specs.declared.step.Step.TheVariants as step
+use Rattle.uring_core.specs.declared.answer.Answer.TheVariants as answer
 use Rattle.uring_threads.specs.Kept.{Kept}
-use Rattle.uring_threads.specs.Work.{done_by_worker}
+use Rattle.uring_threads.specs.Dealt.{done_by_worker}
 
 -- an item was staged: each has one word
 abbrev pub stages_item : Event → Bool

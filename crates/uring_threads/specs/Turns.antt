@@ -4,8 +4,8 @@ use Rattle.uring_entry.specs.Completions.{Completions}
 use Rattle.uring_entry.specs.Layout.{Cqe}
 use Rattle.uring_entry.specs.Submission.{published_items}
 use Rattle.uring_laws.specs.Standing.{Stands}
-use Rattle.uring_machine.specs.StepAnswers.{is_spent}
-use Rattle.uring_machine.specs.World.{World}
+use Rattle.uring_core.specs.StepAnswers.{is_spent}
+use Rattle.uring_core.specs.World.{World}
 use Rattle.uring_ports.specs.Items.{all_published_as, AreItems}
 use Rattle.uring_ports.specs.Ports.{Put, items_of_calls}
 use Rattle.uring_threads.specs.Dispatched.{HaveCarried}
@@ -14,7 +14,7 @@ use Rattle.uring_threads.specs.Tallies.{Appends, closes_ring}
 use Rattle.uring_threads.specs.declared.intake.Intake.{Intake}
 use Rattle.uring_threads.specs.declared.intake.Intake.TheVariants as intake
 use Rattle.uring_threads.specs.declared.turns.Turn.{Turn}
-use Rattle.uring_threads.specs.declared.work_lanes.WorkLanes.{WorkLanes}
+use Rattle.uring_workers.specs.declared.work_lanes.WorkLanes.{WorkLanes}
 
 -- the length of the call that is published and not taken, if there is one
 abbrev pub waiting_in : Intake → List ℕ

@@ -1,9 +1,9 @@
 //! Submission calls: the items of one call published, and the call that takes them.
 ghost use Rattle.std.specs.Prelude.{◌≡◌, ◌+◌, ◌*◌, ◌≤◌, [], length, replicate, false, true};
 ghost use Rattle.uring_laws.specs.Standing.{Stands, in_call};
-ghost use Rattle.uring_machine.specs.StepAnswers.{is_spent};
-ghost use Rattle.uring_machine.specs.World.{World};
-ghost use Rattle.uring_machine.specs.declared.step.Step.TheVariants as step;
+ghost use Rattle.uring_core.specs.StepAnswers.{is_spent};
+ghost use Rattle.uring_core.specs.World.{World};
+ghost use Rattle.uring_core.specs.declared.step.Step.TheVariants as step;
 ghost use Rattle.uring_ports.specs.Items.{all_published_as};
 ghost use Rattle.uring_threads.specs.EventRows.{Records, begin_row, call_row};
 ghost use Rattle.uring_threads.specs.Kept.{now};
@@ -13,7 +13,7 @@ ghost use Rattle.uring_threads.specs.declared.calls.Begun.TheVariants as begun;
 
 use crate::kept::Kept;
 use crate::put_items::put_items;
-use uring_machine::{Answer, Step};
+use uring_core::{Answer, Step};
 use uring_ports::Item;
 
 /// How a call was begun.

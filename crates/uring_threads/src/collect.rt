@@ -1,7 +1,8 @@
 //! Results that came back from workers.
 ghost use Rattle.std.specs.Prelude.{◌≡◌, ℕ, ◌+◌, ◌<◌, ◌≤◌, ◌↔◌, [], ◌∷◌, ◌++◌, length, IsTrue, IfOk, OnOk, OnErr};
 ghost use Rattle.uring_threads.specs.Delivered.{OnlyPosts};
-ghost use Rattle.uring_threads.specs.Dispatched.{HaveCarried, AreSameLanes, AreTakenIn};
+ghost use Rattle.uring_threads.specs.Dispatched.{HaveCarried, AreTakenIn};
+ghost use Rattle.uring_workers.specs.WorkLanes.{AreSameLanes};
 ghost use Rattle.uring_threads.specs.EventRows.{RecordsFinishes};
 ghost use Rattle.uring_threads.specs.Kept.{now};
 ghost use Rattle.uring_threads.specs.Tallies.{Appends, TakesFewResults, finishes_counted, most_results, results_taken_in};
@@ -9,14 +10,12 @@ ghost use Rattle.rtrb.specs.Ring.{received, known_items, SameConsumer};
 ghost use Rattle.uring_threads.specs.Collected.{CanBeTaken, Collects, CollectsFew, CollectsNext, CollectsSeen, NoneComes, OtherLanesStay, OthersStay, SeesNoMore, TakesAll, TakesNext, TakesSeen, Wait};
 ghost use Rattle.uring_threads.specs.Kept.{Grows};
 ghost use Rattle.uring_threads.specs.Settled.{finish_of};
-ghost use Rattle.uring_threads.specs.declared.job.JobResult.{JobResult};
+ghost use Rattle.uring_workers.specs.declared.job.JobResult.{JobResult};
 
-use crate::job::JobResult;
 use crate::kept::Kept;
-use crate::place::place_of;
-use crate::work_lanes::{LANE_LENGTH, WorkLanes};
 use rtrb::Consumer;
 use std::alloc::AllocError;
+use uring_workers::{JobResult, LANE_LENGTH, WorkLanes, place_of};
 
 /// Takes in results of all workers, worker 0's first, at most 64 of each, and returns how many. Conditions: there are 1 to 8 workers. `AllocError`: room for the next event was refused; what was taken in until then is recorded, and nothing more was taken.
 pub fn collect_all(kept: &mut Kept, lanes: &mut [WorkLanes]) -> Result<u64, AllocError>

@@ -1,6 +1,6 @@
 //! Completions that the dispatcher delivers: the application reaps them as they are handed to its port.
 ghost use Rattle.std.specs.Prelude.{◌≡◌, ◌+◌, ◌≤◌, length, replicate, IfOk, OnErr};
-ghost use Rattle.uring_machine.specs.declared.step.Step.TheVariants as step;
+ghost use Rattle.uring_core.specs.declared.step.Step.TheVariants as step;
 ghost use Rattle.uring_threads.specs.Delivered.{KeepsAllBut, on_completions, with_reaped_all};
 ghost use Rattle.uring_threads.specs.Turns.{IsDelivered};
 ghost use Rattle.uring_threads.specs.EventRows.{Records, delivery_row};
@@ -9,7 +9,7 @@ ghost use Rattle.uring_threads.specs.Tallies.{Appends, reaps_counted};
 
 use crate::kept::Kept;
 use std::alloc::AllocError;
-use uring_machine::{Answer, Step};
+use uring_core::{Answer, Step};
 use uring_ports::KernelPort;
 
 /// Reaps so many completions and hands each to the port. Conditions: the tail that the application last loaded shows so many, the port has room for them, and the trace for an event each.

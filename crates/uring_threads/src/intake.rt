@@ -1,7 +1,7 @@
 //! Calls that the dispatcher takes in from its port, and the close mark.
 ghost use Rattle.std.specs.Prelude.{◌≡◌, ◌+◌, ◌*◌, ◌≤◌, List, length, IfOk, OnErr, vec_capacity};
 ghost use Rattle.uring_ports.specs.Ports.{Put, Pulls};
-ghost use Rattle.uring_machine.specs.declared.step.Step.{Step};
+ghost use Rattle.uring_core.specs.declared.step.Step.{Step};
 ghost use Rattle.uring_threads.specs.EventRows.{Records, RecordsIntake, IsAgain, IsPulled};
 ghost use Rattle.uring_threads.specs.Kept.{now};
 ghost use Rattle.uring_threads.specs.Taking.{TakesIn, intake_after};
@@ -12,7 +12,7 @@ ghost use Rattle.uring_threads.specs.declared.intake.Intake.TheVariants.{Ready};
 use crate::calls::{Begun, begin_call, take_call};
 use crate::kept::Kept;
 use std::alloc::AllocError;
-use uring_machine::Step;
+use uring_core::Step;
 use uring_ports::{Item, KernelPort, Pulled};
 
 /// How the dispatcher stands with what it pulls.

@@ -2,22 +2,20 @@
 ghost use Rattle.std.specs.Prelude.{◌≡◌, ◌≤◌, ◌<◌, ℕ, ◌⊎◌, [], ◌∷◌, length, None, Some, IfSome, IfOk, OnErr};
 ghost use Rattle.uring_entry.specs.Requests.{next_of};
 ghost use Rattle.uring_files.specs.Operations.{IsForFiles};
-ghost use Rattle.uring_machine.specs.declared.step.Step.TheVariants as step;
-ghost use Rattle.uring_threads.specs.Dispatched.{HaveCarried, ShowRoom, SomeIsFull, AreSameLanes};
+ghost use Rattle.uring_core.specs.declared.step.Step.TheVariants as step;
+ghost use Rattle.uring_threads.specs.Dispatched.{HaveCarried};
+ghost use Rattle.uring_workers.specs.WorkLanes.{ShowRoom, SomeIsFull, AreSameLanes};
 ghost use Rattle.uring_threads.specs.Delivered.{OnlyPosts};
 ghost use Rattle.uring_threads.specs.Issued.{IssuedAs};
 ghost use Rattle.uring_threads.specs.EventRows.{Records, RecordsIssues};
 ghost use Rattle.uring_threads.specs.Kept.{now};
 ghost use Rattle.uring_threads.specs.Tallies.{Appends, issues_counted};
 
-use crate::job::Job;
 use crate::kept::Kept;
-use crate::place::place_of;
-use crate::sends::{all_show_room, send};
-use crate::work_lanes::WorkLanes;
 use std::alloc::AllocError;
+use uring_core::{Answer, Step};
 use uring_entry::Op;
-use uring_machine::{Answer, Step};
+use uring_workers::{Job, WorkLanes, all_show_room, place_of, send};
 
 /// Issues the request of this number: returns its operation if it runs, and nothing if it ended at once. Conditions: it is the next that can be issued, and the trace has room for an event.
 pub fn issue_next(kept: &mut Kept, number: u64) -> Option<Op>

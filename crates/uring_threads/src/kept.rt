@@ -5,15 +5,15 @@ ghost use Rattle.uring_entry.specs.Requests.{operation_running, next_of};
 ghost use Rattle.uring_entry.specs.Setup.{IsWithinLimits};
 ghost use Rattle.uring_entry.specs.Submission.{dropped};
 ghost use Rattle.uring_files.specs.Operations.{IsForFiles};
-ghost use Rattle.uring_machine.specs.Core.{IsCounts, IsFinished, IsNoFinish};
-ghost use Rattle.uring_machine.specs.Histories.{IsLawfulApart, history_of};
-ghost use Rattle.uring_machine.specs.StepAnswers.{CalledForApart};
-ghost use Rattle.uring_machine.specs.declared.step.Step.TheVariants as step;
+ghost use Rattle.uring_core.specs.Core.{IsCounts, IsFinished, IsNoFinish};
+ghost use Rattle.uring_core.specs.Histories.{IsLawfulApart, history_of};
+ghost use Rattle.uring_core.specs.StepAnswers.{CalledForApart};
+ghost use Rattle.uring_core.specs.declared.step.Step.TheVariants as step;
 
 use crate::take_result::take_result;
 use std::alloc::{AllocError, Global};
 use std::marker::Model;
-use uring_machine::{Answer, Core, Counts, Cqe, Op, Outcome, Setup, Step};
+use uring_core::{Answer, Core, Counts, Cqe, Op, Outcome, Setup, Step};
 
 /// A core with the trace of all its steps and their answers, the oldest first. The core always fits this trace: no step is left out, and none made up. Its calls don't stop behind an entry with a fault.
 #[derive(Drop)]
@@ -29,8 +29,8 @@ impl Model for Kept {
 
     ghost use Rattle.std.specs.Prelude.{◌≡◌, false, vec_capacity};
     ghost use Rattle.uring_entry.specs.Setup.{IsWithinLimits};
-    ghost use Rattle.uring_machine.specs.Core.{FitsApart};
-    ghost use Rattle.uring_machine.specs.Histories.{history_of};
+    ghost use Rattle.uring_core.specs.Core.{FitsApart};
+    ghost use Rattle.uring_core.specs.Histories.{history_of};
 
     ghost view = { λ k. record { trace = k.trace.items; room = vec_capacity k.trace; setup = k.core.setup } };
 

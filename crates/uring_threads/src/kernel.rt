@@ -4,11 +4,11 @@ ghost use Rattle.uring_entry.specs.Completions.{unreaped};
 ghost use Rattle.uring_entry.specs.Requests.{next_of};
 ghost use Rattle.uring_entry.specs.Setup.{IsWithinLimits};
 ghost use Rattle.uring_entry.specs.Submission.{dropped};
-ghost use Rattle.uring_machine.specs.Histories.{IsLawfulApart, history_of};
+ghost use Rattle.uring_core.specs.Histories.{IsLawfulApart, history_of};
 ghost use Rattle.uring_ports.specs.Dropped.{with_word, WereStored};
 ghost use Rattle.uring_ports.specs.Items.{AreItems};
 ghost use Rattle.uring_ports.specs.Ports.{nothing_put, sizes_of, items_of_calls, LeavesItems, LeavesCompletions};
-ghost use Rattle.uring_threads.specs.Dispatched.{AreSameLanes, HaveCarriedNone, HoldJobs, HoldResults, SomeIsFull, numbers_of_lanes};
+ghost use Rattle.uring_workers.specs.WorkLanes.{AreSameLanes, HaveCarriedNone, HoldJobs, HoldResults, SomeIsFull, numbers_of_lanes};
 ghost use Rattle.uring_threads.specs.EventRows.{RecordsTurn};
 ghost use Rattle.uring_threads.specs.Kept.{now};
 ghost use Rattle.uring_threads.specs.Tallies.{Tally, Appends, TakesFewResults, starts_request};
@@ -19,11 +19,11 @@ use crate::intake::Intake;
 use crate::kept::Kept;
 use crate::report::room_to_settle;
 use crate::turns::{Turn, make_turn};
-use crate::work_lanes::{LANE_LENGTH, WorkLanes};
 use std::alloc::{AllocError, Global};
 use std::marker::Model;
 use uring_entry::Cqe;
 use uring_ports::{AppEnd, Item, KernelPort, Rests};
+use uring_workers::{LANE_LENGTH, WorkLanes};
 
 /// The dispatcher's end over a port: it takes in what the application submits, sends jobs to workers and takes in their results, delivers completions, and records each step of this as its trace. It may run in a thread of its own.
 #[derive(Drop)]

@@ -1,7 +1,7 @@
 //! What follows for workers that have files of their own, and for settling: laws of the definitions alone.
 ghost use Rattle.uring_entry.specs.Setup.{Setup};
 ghost use Rattle.uring_threads.specs.Settled.{ResultsRun, NoneWaits, Settles};
-ghost use Rattle.uring_threads.specs.Work.{DealtByFile, WorkersJoin, FilesByWorker};
+ghost use Rattle.uring_threads.specs.Dealt.{DealtByFile, WorkersJoin, FilesByWorker};
 
 pub use crate::take_result::take_result;
 

@@ -1,17 +1,16 @@
 //! All the ends of a set-up: over lanes, over shared words, or over two ports of one's own.
 ghost use Rattle.std.specs.Prelude.{◌≡◌, ℕ, List, ◌↔◌, ◌<◌, ◌≤◌, [], length, true, false, Some, None, IfOk, IsErrOf, OnOk, vec_capacity};
 ghost use Rattle.uring_ports.specs.Ports.{nothing_put, sizes_of};
-ghost use Rattle.uring_threads.specs.Opening.{AreBadWorkers, AreEnds, AreOpened};
+ghost use Rattle.uring_threads.specs.Opening.{AreBadWorkers, AreEnds};
+ghost use Rattle.uring_workers.specs.Opened.{AreOpened};
 
-use crate::gate::Gate;
 use crate::kept::Kept;
 use crate::kernel::Kernel;
-use crate::work_lanes::{WorkLanes, open_all};
-use crate::worker::Worker;
 use std::alloc::{AllocError, Global};
 use uring_entry::Setup;
 use uring_ports::{AppEnd, AppLanes, AppPort, Item, KernelLanes, KernelPort, lane_ports};
 use uring_words::{AppWords, KernelWords, word_ports};
+use uring_workers::{Gate, WorkLanes, Worker, open_all};
 
 /// Why there are no ends.
 #[derive(Clone, Copy, Debug, PartialEq, Eq)]

@@ -8,7 +8,7 @@ ghost use Rattle.uring_threads.specs.Rows.{with_item_put, with_items_put};
 ghost use Rattle.uring_threads.specs.Tallies.{Appends, items_counted};
 
 use crate::kept::Kept;
-use uring_machine::Step;
+use uring_core::Step;
 use uring_ports::Item;
 
 /// Puts an item into the ring: fills its slot and stages the slot, or stages its bad word. Conditions: no position waits, the ring has place for one more, and the trace has room for two events.

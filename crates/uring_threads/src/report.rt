@@ -3,26 +3,24 @@ ghost use Rattle.std.specs.Prelude.{◌≡◌, ◌+◌, ◌*◌, ◌<◌, ◌≤
 ghost use Rattle.uring_entry.specs.Completions.{unreaped};
 ghost use Rattle.uring_entry.specs.Setup.{IsWithinLimits};
 ghost use Rattle.uring_files.specs.Operations.{state_of, byte_of};
-ghost use Rattle.uring_machine.specs.CalledFor.{IsLawful, files_of};
-ghost use Rattle.uring_machine.specs.Core.{IsCounts};
-ghost use Rattle.uring_machine.specs.Histories.{history_of};
+ghost use Rattle.uring_core.specs.CalledFor.{IsLawful, files_of};
+ghost use Rattle.uring_core.specs.Core.{IsCounts};
+ghost use Rattle.uring_core.specs.Histories.{history_of};
 ghost use Rattle.uring_threads.specs.Dispatched.{HaveCarried};
 ghost use Rattle.uring_threads.specs.Kept.{now, IsUnmoved};
 ghost use Rattle.uring_threads.specs.Report.{left_by, FinishesAll, LeavesRunning, ReapsPosted};
-ghost use Rattle.uring_threads.specs.Opening.{AreLanesOf};
+ghost use Rattle.uring_workers.specs.Opened.{AreLanesOf};
 
-use crate::gate::Gate;
 use crate::kept::Kept;
 use crate::settle_work::settle_workers;
-use crate::work_lanes::WorkLanes;
-use crate::worker::Worker;
 use crate::worker_files;
 use std::alloc::{AllocError, Global};
 use std::marker::Model;
+use uring_core::{Answer, Counts, Cqe, Setup, Step};
 use uring_files::FileState;
 use uring_laws::reaped_begin_posted;
-use uring_machine::{Answer, Counts, Cqe, Setup, Step};
 use uring_ports::{Item, Rests};
+use uring_workers::{Gate, WorkLanes, Worker};
 
 /// What all ends of a set-up leave: the trace of all that happened, what of it is still on its way, and the files.
 #[derive(Drop)]

@@ -1,16 +1,15 @@
 //! Settling all ends of a set-up: the one place where application, dispatcher and workers meet.
 ghost use Rattle.std.specs.Prelude.{◌≡◌, IfOk, IfErr, OnOk};
-ghost use Rattle.uring_machine.specs.CalledFor.{IsLawful};
-ghost use Rattle.uring_machine.specs.Histories.{history_of};
+ghost use Rattle.uring_core.specs.CalledFor.{IsLawful};
+ghost use Rattle.uring_core.specs.Histories.{history_of};
 ghost use Rattle.uring_ports.specs.Dropped.{WereStored};
 ghost use Rattle.uring_threads.specs.Report.{AreTogether, IsSameKernel, FinishesAll, LeavesRunning, PublishesItems, BeginsCalls, HasOneClose, ClosesOnlyAllTaken, DeliversReaped, ReapsPosted};
 
-use crate::gate::Gate;
 use crate::kernel::Kernel;
 use crate::report::Report;
-use crate::worker::Worker;
 use std::alloc::Global;
 use uring_ports::{AppEnd, KernelPort};
+use uring_workers::{Gate, Worker};
 
 /// All ends, as they come back if the system is out of memory.
 #[derive(Drop)]

@@ -3,19 +3,17 @@ ghost use Rattle.std.specs.Prelude.{◌≡◌, ℕ, List, ◌+◌, ◌*◌, ◌<
 ghost use Rattle.rtrb.specs.Ring.{received, consumer_capacity};
 ghost use Rattle.uring_threads.specs.Collected.{TakesAll};
 ghost use Rattle.uring_threads.specs.Dispatched.{HasCarried, HaveCarried};
-ghost use Rattle.uring_threads.specs.Pairings.{pairing_of};
+ghost use Rattle.uring_workers.specs.Pairings.{pairing_of};
 ghost use Rattle.uring_threads.specs.SettledWorker.{AreSettled, HaveLooked, HaveSeenAll, IsSettledAt};
-ghost use Rattle.uring_threads.specs.Opening.{AreLanesOf};
+ghost use Rattle.uring_workers.specs.Opened.{AreLanesOf};
 ghost use Rattle.uring_threads.specs.Report.{all_waiting};
-ghost use Rattle.uring_threads.specs.Work.{results_of};
-ghost use Rattle.uring_threads.specs.Worker.{IsRight, Looks};
-ghost use Rattle.uring_threads.specs.declared.job.JobResult.{JobResult};
+ghost use Rattle.uring_workers.specs.Work.{results_of};
+ghost use Rattle.uring_workers.specs.Worker.{IsRight, Looks};
+ghost use Rattle.uring_workers.specs.declared.job.JobResult.{JobResult};
 
 use crate::collect::take_waiting;
-use crate::gate::Gate;
 use crate::kept::Kept;
-use crate::work_lanes::WorkLanes;
-use crate::worker::Worker;
+use uring_workers::{Gate, WorkLanes, Worker};
 
 /// Takes in all results that wait at the workers, worker 0's first. Conditions: these are the dispatcher's ends of the lanes of these workers, which have carried what the trace has, there is a worker, and there is room in the trace for 64 events for each.
 pub fn settle_workers<G: Gate>(kept: &mut Kept, lanes: &mut [WorkLanes], workers: &mut [Worker<G>])

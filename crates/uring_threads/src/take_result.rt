@@ -1,12 +1,12 @@
 //! The dispatcher's step on a result that came from a worker.
 ghost use Rattle.std.specs.Prelude.{◌≡◌, ◌++◌, ◌∷◌, [], ◌<◌, ◌≤◌, length, IfOk, IsOk, OnErr, vec_capacity};
-ghost use Rattle.uring_machine.specs.Core.{FitsApart, HasNoLessMemory, IsFinished};
-ghost use Rattle.uring_machine.specs.Histories.{History, world};
-ghost use Rattle.uring_machine.specs.declared.answer.Answer.TheVariants as answer;
-ghost use Rattle.uring_machine.specs.declared.step.Step.TheVariants as step;
+ghost use Rattle.uring_core.specs.Core.{FitsApart, HasNoLessMemory, IsFinished};
+ghost use Rattle.uring_core.specs.Histories.{History, world};
+ghost use Rattle.uring_core.specs.declared.answer.Answer.TheVariants as answer;
+ghost use Rattle.uring_core.specs.declared.step.Step.TheVariants as step;
 
 use std::alloc::AllocError;
-use uring_machine::{Answer, Core, Outcome, Step};
+use uring_core::{Answer, Core, Outcome, Step};
 
 /// Ends the request of this number with this outcome, and records that behind the trace: answers as `Core::finish`.
 ///

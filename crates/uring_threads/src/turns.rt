@@ -3,7 +3,7 @@ ghost use Rattle.std.specs.Prelude.{◌≡◌, ◌<◌, ◌≤◌, ◌⊎◌, le
 ghost use Rattle.uring_entry.specs.Requests.{next_of};
 ghost use Rattle.uring_entry.specs.Submission.{dropped};
 ghost use Rattle.uring_ports.specs.Dropped.{with_word};
-ghost use Rattle.uring_threads.specs.Dispatched.{AreSameLanes, SomeIsFull};
+ghost use Rattle.uring_workers.specs.WorkLanes.{AreSameLanes, SomeIsFull};
 ghost use Rattle.uring_threads.specs.EventRows.{RecordsTurn};
 ghost use Rattle.uring_threads.specs.Kept.{now};
 ghost use Rattle.uring_threads.specs.Tallies.{Tally, Appends, TakesFewResults};
@@ -14,9 +14,9 @@ use crate::deliveries::deliver;
 use crate::intake::{Intake, take_in};
 use crate::issues::issue_all;
 use crate::kept::Kept;
-use crate::work_lanes::WorkLanes;
 use std::alloc::AllocError;
 use uring_ports::{Item, KernelPort};
+use uring_workers::WorkLanes;
 
 /// What the dispatcher did in a turn.
 #[derive(Clone, Copy, Debug, PartialEq, Eq)]

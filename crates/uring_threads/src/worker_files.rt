@@ -2,10 +2,8 @@
 ghost use Rattle.std.specs.Prelude.{◌≤◌, length};
 ghost use Rattle.uring_threads.specs.SettledWorker.{HaveFiles, TellsByte, TellsState};
 
-use crate::gate::Gate;
-use crate::place::place_of_file;
-use crate::worker::Worker;
 use uring_files::FileState;
+use uring_workers::{Gate, Worker, place_of_file};
 
 /// How the file of a descriptor stands: `None` if there is none. Condition: there are at most 8 workers, each with so many files.
 pub fn state<G: Gate>(workers: &[Worker<G>], files: u32, fd: i32) -> Option<FileState>

@@ -5,7 +5,7 @@ use Rattle.std.proofs.lemmas.List.{length-map}
 use Rattle.uring_ports.specs.AppEnd.{AppEnd}
 use Rattle.uring_threads.specs.Kernel.{Kernel}
 use Rattle.uring_threads.specs.Report.{AreTogether}
-use Rattle.uring_threads.specs.Worker.{Worker}
+use Rattle.uring_workers.specs.Worker.{Worker}
 use Rattle.uring_threads.proofs.SameEnds.{same_told, told_same}
 use Rattle.uring_threads_tests.specs.Workers.{files_of, lanes_of}
 

@@ -1,6 +1,6 @@
 -- Glue. What of workers stays whatever they do.
 use Rattle.std.specs.Prelude.{ℕ, List, length, map}
-use Rattle.uring_threads.specs.Worker.{Worker}
+use Rattle.uring_workers.specs.Worker.{Worker}
 
 -- the numbers of each worker's lanes
 abbrev pub lanes_of : List Worker → List (List (List ℕ))

@@ -4,11 +4,11 @@ use Rattle.std.specs.Prelude.{IfOk}
 use Rattle.std.specs.List.{list_any}
 use Rattle.std.proofs.lemmas.List.{append-nil}
 use Rattle.uring_entry.specs.Setup.{Setup}
-use Rattle.uring_machine.specs.CalledFor.{IsLawful}
-use Rattle.uring_machine.specs.Histories.{History, history_of, world}
+use Rattle.uring_core.specs.CalledFor.{IsLawful}
+use Rattle.uring_core.specs.Histories.{History, history_of, world}
 use Rattle.uring_machine.specs.Machine.{Machine, Fits}
-use Rattle.uring_machine.specs.declared.answer.Answer.{Answer}
-use Rattle.uring_machine.specs.declared.step.Step.{Step}
+use Rattle.uring_core.specs.declared.answer.Answer.{Answer}
+use Rattle.uring_core.specs.declared.step.Step.{Step}
 use Rattle.uring_entry.specs.declared.why.Why.{Why}
 use Rattle.uring_dispatch.specs.declared.answers.Found.{Found}
 use Rattle.uring_trace.specs.Reasons.{kept_reason, reason_text}

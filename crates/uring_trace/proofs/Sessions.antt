@@ -4,12 +4,12 @@ use Rattle.std.specs.Prelude.{OnOk, is_ok}
 use Rattle.std.specs.Option.{option_to_list}
 use Rattle.std.proofs.lemmas.List.{append-nil}
 use Rattle.uring_entry.specs.Setup.{Setup}
-use Rattle.uring_machine.specs.CalledFor.{IsLawful}
-use Rattle.uring_machine.specs.Histories.{Event, History, history_of}
-use Rattle.uring_machine.proofs.Following.{history_of-snoc}
+use Rattle.uring_core.specs.CalledFor.{IsLawful}
+use Rattle.uring_core.specs.Histories.{Event, History, history_of}
+use Rattle.uring_core.proofs.Following.{history_of-snoc}
 use Rattle.uring_machine.specs.Machine.{Machine, Fits}
-use Rattle.uring_machine.specs.declared.answer.Answer.{Answer}
-use Rattle.uring_machine.specs.declared.step.Step.{Step}
+use Rattle.uring_core.specs.declared.answer.Answer.{Answer}
+use Rattle.uring_core.specs.declared.step.Step.{Step}
 use Rattle.uring_trace.specs.Spelling.{IsStep}
 use Rattle.uring_trace.specs.Text.{text_of}
 use Rattle.uring_text.specs.Lines.{joined, ended}

@@ -3,8 +3,8 @@ use Rattle.std.specs.Prelude.{◌≡◌, ℕ, Bool, true, false, List, [], ◌�
 use Rattle.std.specs.List.{AllByRecursion}
 use Rattle.std.specs.Option.{option_to_list}
 use Rattle.uring_entry.specs.Setup.{Setup}
-use Rattle.uring_machine.specs.Histories.{Event, history_of}
-use Rattle.uring_machine.specs.CalledFor.{IsLawful}
+use Rattle.uring_core.specs.Histories.{Event, history_of}
+use Rattle.uring_core.specs.CalledFor.{IsLawful}
 use Rattle.uring_trace.specs.Spelling.{IsStep, IsBad}
 use Rattle.uring_trace.specs.Text.{text_of}
 use Rattle.uring_text.specs.Lines.{joined}

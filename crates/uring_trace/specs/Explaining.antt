@@ -6,10 +6,10 @@ use Rattle.uring_trace.specs.declared.explainer.Explainer.{Explainer}
 use Rattle.uring_text.specs.declared.trace_fault.TraceFault.{TraceFault}
 use Rattle.uring_text.specs.declared.trace_fault.TraceFault.TheVariants as fault
 use Rattle.uring_entry.specs.Setup.{Setup}
-use Rattle.uring_machine.specs.Histories.{History, world, history_of}
+use Rattle.uring_core.specs.Histories.{History, world, history_of}
 use Rattle.uring_machine.specs.Machine.{Machine, Fits}
-use Rattle.uring_machine.specs.declared.step.Step.{Step}
-use Rattle.uring_machine.specs.declared.answer.Answer.{Answer}
+use Rattle.uring_core.specs.declared.step.Step.{Step}
+use Rattle.uring_core.specs.declared.answer.Answer.{Answer}
 use Rattle.uring_trace.specs.Text.{text_of}
 use Rattle.uring_trace.specs.Reasons.{reason_of, reason_text}
 use Rattle.uring_text.specs.Lines.{ended, Splits}

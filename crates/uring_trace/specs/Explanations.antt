@@ -5,9 +5,9 @@ use Rattle.std.specs.List.{AllByRecursion, list_any}
 use Rattle.std.specs.Option.{option_to_list}
 use Rattle.std.specs.Io.KnownBytes.{Consumes, Appends, IsAtEnd}
 use Rattle.uring_entry.specs.Setup.{Setup}
-use Rattle.uring_machine.specs.World.{World}
-use Rattle.uring_machine.specs.Histories.{Event, world, history_of}
-use Rattle.uring_machine.specs.CalledFor.{IsLawful}
+use Rattle.uring_core.specs.World.{World}
+use Rattle.uring_core.specs.Histories.{Event, world, history_of}
+use Rattle.uring_core.specs.CalledFor.{IsLawful}
 use Rattle.uring_text.specs.declared.trace_fault.TraceFault.{TraceFault}
 use Rattle.uring_text.specs.declared.trace_fault.TraceFault.TheVariants as fault
 use Rattle.uring_trace.specs.Text.{text_of}

@@ -13,11 +13,11 @@ use Rattle.uring_entry.specs.declared.why.Since.TheVariants.{SameGroup, ItDrains
 use Rattle.uring_dispatch.specs.Cancels.{found_by}
 use Rattle.uring_dispatch.specs.declared.answers.Found.{Found}
 use Rattle.uring_dispatch.specs.declared.answers.Found.TheVariants.{Nobody, Running, Chosen}
-use Rattle.uring_machine.specs.World.{World}
-use Rattle.uring_machine.specs.declared.step.Step.{Step}
-use Rattle.uring_machine.specs.declared.step.Step.TheVariants as step
-use Rattle.uring_machine.specs.declared.answer.Answer.{Answer}
-use Rattle.uring_machine.specs.declared.answer.Answer.TheVariants as answer
+use Rattle.uring_core.specs.World.{World}
+use Rattle.uring_core.specs.declared.step.Step.{Step}
+use Rattle.uring_core.specs.declared.step.Step.TheVariants as step
+use Rattle.uring_core.specs.declared.answer.Answer.{Answer}
+use Rattle.uring_core.specs.declared.answer.Answer.TheVariants as answer
 use Rattle.uring_trace.specs.declared.reason_text.Reason.{Reason}
 use Rattle.uring_trace.specs.declared.reason_text.Reason.TheVariants.{Stands, Finds}
 

@@ -2,7 +2,7 @@
 use Rattle.std.specs.Prelude.{◌≡◌, ℕ, Bool, List, ◌∷◌, ◌++◌, Option, Some, None, Result, Ok, Err}
 use Rattle.uring_trace.specs.declared.session.Session.{Session}
 use Rattle.uring_text.specs.declared.trace_fault.TraceFault.{TraceFault}
-use Rattle.uring_machine.specs.Histories.{Event, History, history_of}
+use Rattle.uring_core.specs.Histories.{Event, History, history_of}
 use Rattle.uring_machine.specs.Machine.{Machine, Fits}
 use Rattle.uring_text.specs.Lines.{Splits}
 use Rattle.uring_trace.specs.Exchanges.{Exchange, Manner, Answers, IsReadAs, answer_text, lines_of, events_of}

@@ -7,9 +7,9 @@ use Rattle.uring_entry.specs.Completions.{Completions}
 use Rattle.uring_entry.specs.Requests.{outstanding_in, running_in}
 use Rattle.uring_files.specs.Operations.{state_of}
 use Rattle.uring_files.specs.declared.file.FileState.{FileState}
-use Rattle.uring_machine.specs.World.{World}
-use Rattle.uring_machine.specs.CalledFor.{files_of}
-use Rattle.uring_machine.specs.declared.cores.Counts.{Counts}
+use Rattle.uring_core.specs.World.{World}
+use Rattle.uring_core.specs.CalledFor.{files_of}
+use Rattle.uring_core.specs.declared.cores.Counts.{Counts}
 use Rattle.uring_text.specs.Completions.{completion_text}
 use Rattle.uring_trace.specs.declared.questions.Question.{Question}
 use Rattle.uring_trace.specs.declared.questions.Question.TheVariants as question

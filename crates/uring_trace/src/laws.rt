@@ -1,7 +1,7 @@
 //! What holds of the lines of a trace: a law of the definitions alone.
 
 ghost use Rattle.std.specs.Prelude.{◌≡◌, ℕ, List};
-ghost use Rattle.uring_machine.specs.declared.step.Step.{Step};
+ghost use Rattle.uring_core.specs.declared.step.Step.{Step};
 ghost use Rattle.uring_trace.specs.Spelling.{IsStep};
 
 /// A line is one step at most.

@@ -2,7 +2,7 @@
 
 ghost use Rattle.std.specs.Prelude.{◌≡◌, ◌++◌, OnOk, string_bytes, codes, decimal};
 ghost use Rattle.uring_entry.specs.Texts.{fault_text};
-ghost use Rattle.uring_machine.specs.Histories.{History, world};
+ghost use Rattle.uring_core.specs.Histories.{History, world};
 ghost use Rattle.uring_machine.specs.Machine.{Fits};
 ghost use Rattle.uring_trace.specs.Reasons.{asked, sought, end_reason, finding, standing, kept_reason, reason_text, why_text, found_text, doom_text, since_text};
 

@@ -6,12 +6,12 @@ use Rattle.uring_entry.specs.Preparation.{is_cancel}
 use Rattle.uring_entry.specs.Requests.{Requests, entry_of, has_ended, is_outstanding, is_running, is_last, is_doomed, is_ready, doomed_result, cancel_result, no_bytes, with_ended}
 use Rattle.uring_entry.proofs.RequestLemmas.{is_joined-yes, is_doomed-behind, has_ended-other, is_running-ended_other, has_failed-same, never_success}
 use Rattle.uring_entry.proofs.EventLemmas.{is_joined-ended, is_behind_failure-from}
-use Rattle.uring_machine.specs.World.{World}
-use Rattle.uring_machine.specs.Histories.{History, world}
-use Rattle.uring_machine.specs.declared.step.Step.TheVariants as step
-use Rattle.uring_machine.specs.StepAnswers.{issue_answer}
-use Rattle.uring_machine.specs.declared.answer.Answer.{Answer}
-use Rattle.uring_machine.specs.declared.answer.Answer.TheVariants as answer
+use Rattle.uring_core.specs.World.{World}
+use Rattle.uring_core.specs.Histories.{History, world}
+use Rattle.uring_core.specs.declared.step.Step.TheVariants as step
+use Rattle.uring_core.specs.StepAnswers.{issue_answer}
+use Rattle.uring_core.specs.declared.answer.Answer.{Answer}
+use Rattle.uring_core.specs.declared.answer.Answer.TheVariants as answer
 use Rattle.uring_uses.specs.Simulations.{IsNextInChain}
 
 -- who failed with a negative result dooms the next behind its soft link

@@ -9,15 +9,15 @@ use Rattle.uring_entry.specs.Requests.{Requests, is_running}
 use Rattle.uring_entry.specs.declared.errno.TheConstants.{ENOMEM}
 use Rattle.uring_entry.specs.declared.operation.Outcome.{Outcome}
 use Rattle.uring_files.specs.Contents.{FileContents}
-use Rattle.uring_machine.specs.World.{World}
-use Rattle.uring_machine.specs.StepAnswers.{OrAgain, begin_answer}
-use Rattle.uring_machine.specs.Histories.{Event, History, world, history_of}
-use Rattle.uring_machine.specs.CalledFor.{CalledFor, EndsOn, IsLawful, files_of}
-use Rattle.uring_machine.specs.declared.step.Step.{Step}
-use Rattle.uring_machine.specs.declared.step.Step.TheVariants as step
-use Rattle.uring_machine.specs.declared.answer.Answer.{Answer}
-use Rattle.uring_machine.specs.declared.answer.Answer.TheVariants as answer
-use Rattle.uring_machine.proofs.Following.{history_of-cons}
+use Rattle.uring_core.specs.World.{World}
+use Rattle.uring_core.specs.StepAnswers.{OrAgain, begin_answer}
+use Rattle.uring_core.specs.Histories.{Event, History, world, history_of}
+use Rattle.uring_core.specs.CalledFor.{CalledFor, EndsOn, IsLawful, files_of}
+use Rattle.uring_core.specs.declared.step.Step.{Step}
+use Rattle.uring_core.specs.declared.step.Step.TheVariants as step
+use Rattle.uring_core.specs.declared.answer.Answer.{Answer}
+use Rattle.uring_core.specs.declared.answer.Answer.TheVariants as answer
+use Rattle.uring_core.proofs.Following.{history_of-cons}
 use Rattle.uring_uses.specs.Replays.{is_out_of_memory, AreReplays}
 
 -- one answer, or memory was refused for one of the two

@@ -6,17 +6,17 @@ use Rattle.uring_entry.specs.Preparation.{operation_of}
 use Rattle.uring_entry.specs.Requests.{Requests, entry_of, has_ended, is_outstanding, is_running, is_issuable, is_doomed, is_ready, no_bytes, next_of, least_of, with_started, with_ended, operation_running, outstanding_in}
 use Rattle.uring_entry.proofs.BelowLemmas.{least_below-tells, least_below-out}
 use Rattle.uring_entry.proofs.RequestLemmas.{least_of-goes_on, is_running-started_same, is_running-started_other, is_running-ended_same, is_running-ended_other}
-use Rattle.uring_machine.specs.World.{World}
-use Rattle.uring_machine.specs.StepAnswers.{IsEnded, FinishesApart, issue_answer, next_answer_of, IsIssued}
-use Rattle.uring_machine.specs.Histories.{History, world}
-use Rattle.uring_machine.specs.Core.{Core, FitsApart}
+use Rattle.uring_core.specs.World.{World}
+use Rattle.uring_core.specs.StepAnswers.{IsEnded, FinishesApart, issue_answer, next_answer_of, IsIssued}
+use Rattle.uring_core.specs.Histories.{History, world}
+use Rattle.uring_core.specs.Core.{Core, FitsApart}
 use Rattle.uring_machine.specs.Settling.{is_issue_or_finish}
-use Rattle.uring_machine.specs.declared.step.Step.TheVariants as step
-use Rattle.uring_machine.specs.declared.answer.Answer.{Answer}
-use Rattle.uring_machine.specs.declared.answer.Answer.TheVariants as answer
-use Rattle.uring_machine.proofs.Outstanding.{ended_less, none_outstanding, count_below-zero}
-use Rattle.uring_machine.proofs.Settling.{next_tells}
-use Rattle.uring_machine.proofs.Issuable.{issue_goes, issued_ends}
+use Rattle.uring_core.specs.declared.step.Step.TheVariants as step
+use Rattle.uring_core.specs.declared.answer.Answer.{Answer}
+use Rattle.uring_core.specs.declared.answer.Answer.TheVariants as answer
+use Rattle.uring_core.proofs.Outstanding.{ended_less, none_outstanding, count_below-zero}
+use Rattle.uring_core.proofs.Issuable.{next_tells}
+use Rattle.uring_core.proofs.Issuable.{issue_goes, issued_ends}
 use Rattle.uring_uses.specs.Simulations.{NoneRuns, HasRun, IsIdle}
 
 -- The next request.

@@ -3,9 +3,9 @@ use Rattle.std.proofs.Common.{◌≡◌, ℕ, ◌<◌, ℤ, Bool, true, false, n
 use Rattle.uring_entry.specs.Requests.{Requests, entry_of, has_ended, is_outstanding, is_running, is_doomed, is_ready, waits_for, doomed_result, cancel_result, no_bytes}
 use Rattle.uring_entry.specs.Preparation.{is_cancel}
 use Rattle.uring_entry.proofs.RequestLemmas.{is_ready-inside}
-use Rattle.uring_machine.specs.World.{World}
-use Rattle.uring_machine.specs.StepAnswers.{issue_answer}
-use Rattle.uring_machine.specs.declared.answer.Answer.TheVariants as answer
+use Rattle.uring_core.specs.World.{World}
+use Rattle.uring_core.specs.StepAnswers.{issue_answer}
+use Rattle.uring_core.specs.declared.answer.Answer.TheVariants as answer
 
 run_ready : (outstanding running doomed ready cancel : Bool) (as_doomed as_cancel : ℤ)
     → answer.Run

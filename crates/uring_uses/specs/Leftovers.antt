@@ -2,7 +2,7 @@
 use Rattle.std.specs.Prelude.{◌≡◌, ℕ, ◌<◌, List, ◌++◌, length}
 use Rattle.uring_entry.specs.Layout.{Cqe}
 use Rattle.uring_entry.specs.Completions.{unreaped}
-use Rattle.uring_machine.specs.Histories.{Event, History, world, history_of}
+use Rattle.uring_core.specs.Histories.{Event, History, world, history_of}
 use Rattle.uring_machine.specs.Machine.{Machine, Fits}
 use Rattle.uring_laws.specs.Laws.{times_ended}
 

@@ -2,9 +2,9 @@
 use Rattle.std.specs.Prelude.{◌≡◌, ℕ, ◌+◌, true, false, ◌++◌}
 use Rattle.std.specs.List.{list_all}
 use Rattle.uring_entry.specs.Requests.{Requests, entry_of, is_soft, is_last, is_running, is_outstanding, outstanding_in}
-use Rattle.uring_machine.specs.World.{World}
-use Rattle.uring_machine.specs.Histories.{History, world}
-use Rattle.uring_machine.specs.Core.{Core, FitsApart}
+use Rattle.uring_core.specs.World.{World}
+use Rattle.uring_core.specs.Histories.{History, world}
+use Rattle.uring_core.specs.Core.{Core, FitsApart}
 use Rattle.uring_machine.specs.Settling.{is_issue_or_finish}
 
 -- no request runs

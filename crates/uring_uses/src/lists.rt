@@ -1,7 +1,7 @@
 ghost use Rattle.std.specs.List.{zip};
 ghost use Rattle.std.specs.Prelude.{◌≡◌, length, IfOk};
-ghost use Rattle.uring_machine.specs.CalledFor.{IsLawful};
-ghost use Rattle.uring_machine.specs.Histories.{history_of};
+ghost use Rattle.uring_core.specs.CalledFor.{IsLawful};
+ghost use Rattle.uring_core.specs.Histories.{history_of};
 ghost use Rattle.uring_uses.specs.Replays.{AreReplays};
 
 use std::alloc::{AllocError, Global};

@@ -1,9 +1,9 @@
 ghost use Rattle.std.specs.Prelude.{◌≡◌, ◌∷◌, ℕ, ◌<◌, true, IsTrue};
 ghost use Rattle.uring_entry.specs.Requests.{waits_for, has_ended};
-ghost use Rattle.uring_machine.specs.Histories.{History, world};
+ghost use Rattle.uring_core.specs.Histories.{History, world};
 ghost use Rattle.uring_machine.specs.Machine.{Fits};
-ghost use Rattle.uring_machine.specs.declared.answer.Answer.{Answer};
-ghost use Rattle.uring_machine.specs.declared.step.Step.TheVariants as step;
+ghost use Rattle.uring_core.specs.declared.answer.Answer.{Answer};
+ghost use Rattle.uring_core.specs.declared.step.Step.TheVariants as step;
 
 use uring_machine::{Answer, Machine, Step};
 

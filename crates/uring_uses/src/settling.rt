@@ -1,6 +1,6 @@
 ghost use Rattle.std.specs.Prelude.{◌≡◌, IfOk};
 ghost use Rattle.uring_entry.specs.Setup.{IsWithinLimits};
-ghost use Rattle.uring_machine.specs.Histories.{History};
+ghost use Rattle.uring_core.specs.Histories.{History};
 ghost use Rattle.uring_machine.specs.Machine.{Fits};
 ghost use Rattle.uring_uses.specs.Leftovers.{IsLeft};
 

@@ -1,8 +1,8 @@
 ghost use Rattle.std.specs.Prelude.{◌≡◌, ◌<◌, ◌≤◌, ◌+◌, ◌^◌};
 ghost use Rattle.uring_entry.specs.Requests.{outstanding_in, doomed_result, no_bytes};
-ghost use Rattle.uring_machine.specs.Core.{FitsApart};
-ghost use Rattle.uring_machine.specs.Histories.{History, world};
-ghost use Rattle.uring_machine.specs.declared.answer.Answer.TheVariants as answer;
+ghost use Rattle.uring_core.specs.Core.{FitsApart};
+ghost use Rattle.uring_core.specs.Histories.{History, world};
+ghost use Rattle.uring_core.specs.declared.answer.Answer.TheVariants as answer;
 ghost use Rattle.uring_uses.specs.Simulations.{NoneRuns, HasRun, IsIdle, IsNextInChain};
 
 use crate::disk::{Disk, EIO};

@@ -1,4 +1,4 @@
-use Rattle.uring_machine.specs.Histories.{world}
+use Rattle.uring_core.specs.Histories.{world}
 use Rattle.uring_laws.proofs.RequestLaws.{least_goes_on}
 use Rattle.uring_laws.proofs.least_can_go_on.Goals as goal
 

@@ -1,4 +1,4 @@
-use Rattle.uring_machine.proofs.Outstanding.{none_outstanding, all_ended}
+use Rattle.uring_core.proofs.Outstanding.{none_outstanding, all_ended}
 use Rattle.uring_laws.proofs.none_is_outstanding.Goals as goal
 
 pub returns : goal.returns

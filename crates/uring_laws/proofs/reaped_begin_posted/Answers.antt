@@ -1,4 +1,4 @@
-use Rattle.uring_machine.proofs.Sound.{sound_of}
+use Rattle.uring_core.proofs.Sound.{sound_of}
 use Rattle.uring_laws.proofs.RingLaws.{begin_posted}
 use Rattle.uring_laws.proofs.reaped_begin_posted.Goals as goal
 

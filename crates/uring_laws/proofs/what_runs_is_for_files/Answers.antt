@@ -1,5 +1,5 @@
 use Rattle.std.proofs.lemmas.Bool.{and_parts}
-use Rattle.uring_machine.proofs.Running.{no_cancel, running_asks}
+use Rattle.uring_core.proofs.Running.{no_cancel, running_asks}
 use Rattle.uring_laws.proofs.what_runs_is_for_files.Goals as goal
 
 pub returns : goal.returns

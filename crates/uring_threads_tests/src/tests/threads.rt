@@ -1,6 +1,6 @@
 //! All ends in threads of their own: the application's, the dispatcher's, and one for each worker.
 ghost use Rattle.std.specs.Prelude.{◌≡◌, ℕ, ◌<◌, length, slice_index_or};
-ghost use Rattle.uring_threads.specs.Dispatched.{numbers_of_lanes};
+ghost use Rattle.uring_workers.specs.WorkLanes.{numbers_of_lanes};
 ghost use Rattle.uring_threads.specs.Report.{AreTogether};
 ghost use Rattle.uring_threads_tests.specs.Workers.{lanes_of, files_of};
 

@@ -1,5 +1,5 @@
 use Rattle.std.proofs.Common.{◌∙◌, arith}
-use Rattle.uring_machine.proofs.Following.{follow_next}
+use Rattle.uring_core.proofs.Following.{follow_next}
 use Rattle.uring_machine.proofs.runs.run.Goals as goal
 
 pub loop-step-preserved : goal.loop-step-preserved

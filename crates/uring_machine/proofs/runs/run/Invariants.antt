@@ -1,6 +1,6 @@
 use Rattle.std.proofs.Common.{◌≡◌, ◌≤◌, ◌++◌, length, take, vec_len, vec_capacity}
 use Rattle.std.specs.List.{zip}
-use Rattle.uring_machine.specs.Histories.{History, history_of}
+use Rattle.uring_core.specs.Histories.{History, history_of}
 use Rattle.uring_machine.specs.Machine.{Fits}
 use Rattle.uring_machine.proofs.runs.run.Given as goal
 

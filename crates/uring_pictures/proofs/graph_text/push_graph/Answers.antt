@@ -1,4 +1,4 @@
-use Rattle.uring_machine.specs.Histories.{world}
+use Rattle.uring_core.specs.Histories.{world}
 use Rattle.uring_pictures.proofs.Lines.{lines_more}
 use Rattle.uring_pictures.proofs.graph_text.push_graph.Goals as goal
 

@@ -1,6 +1,6 @@
 use Rattle.std.proofs.Common.{◌≡◌, ◌++◌}
 use Rattle.std.specs.Prelude.{string_bytes, codes}
-use Rattle.uring_machine.specs.Histories.{History, world}
+use Rattle.uring_core.specs.Histories.{History, world}
 use Rattle.uring_machine.specs.Machine.{Fits}
 use Rattle.uring_pictures.specs.Graphs.{lines_below}
 use Rattle.uring_pictures.proofs.graph_text.push_graph.Given as goal

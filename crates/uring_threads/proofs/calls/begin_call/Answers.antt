@@ -1,7 +1,7 @@
 use Rattle.std.proofs.Common.{refl, ap, ◌∙◌}
 use Rattle.uring_laws.specs.Standing.{in_call}
-use Rattle.uring_machine.specs.World.{beginning}
-use Rattle.uring_machine.specs.declared.step.Step.TheVariants as step
+use Rattle.uring_core.specs.World.{beginning}
+use Rattle.uring_core.specs.declared.step.Step.TheVariants as step
 use Rattle.uring_threads.specs.Kept.{now}
 use Rattle.uring_threads.specs.Tallies.{call_counted}
 use Rattle.uring_threads.proofs.CallSteps.{begun_cases, begun_spent, opened_now, closed_now, call_counts}

@@ -1,9 +1,9 @@
 use Rattle.std.proofs.Common.{◌+◌, sym, refl, ap, ◌∙◌, arith}
 use Rattle.uring_laws.specs.Standing.{in_call}
-use Rattle.uring_machine.specs.World.{World}
+use Rattle.uring_core.specs.World.{World}
 use Rattle.uring_threads.specs.Tallies.{none_counted}
 use Rattle.uring_threads.proofs.CallSteps.{took_now}
-use Rattle.uring_machine.specs.declared.step.Step.TheVariants as step
+use Rattle.uring_core.specs.declared.step.Step.TheVariants as step
 use Rattle.uring_threads.proofs.Recording.{records_more}
 use Rattle.uring_threads.proofs.TraceSteps.{grown_length, appends_one, appends_then}
 use Rattle.uring_threads.proofs.calls.take_all.Goals as goal

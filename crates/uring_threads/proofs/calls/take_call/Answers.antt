@@ -1,5 +1,5 @@
 use Rattle.std.proofs.Common.{length, sym, ap, ◌∙◌}
-use Rattle.uring_machine.specs.StepAnswers.{is_spent}
+use Rattle.uring_core.specs.StepAnswers.{is_spent}
 use Rattle.uring_threads.proofs.ItemSteps.{published_now}
 use Rattle.uring_threads.proofs.Recording.{put_recorded}
 use Rattle.uring_threads.proofs.calls.take_call.Goals as goal

@@ -1,6 +1,7 @@
 use Rattle.std.proofs.Common.{◌≡◌, ◌≤◌, ◌*◌, length}
 use Rattle.uring_threads.specs.Delivered.{OnlyPosts}
-use Rattle.uring_threads.specs.Dispatched.{HaveCarried, AreSameLanes}
+use Rattle.uring_threads.specs.Dispatched.{HaveCarried}
+use Rattle.uring_workers.specs.WorkLanes.{AreSameLanes}
 use Rattle.uring_threads.specs.EventRows.{RecordsFinishes}
 use Rattle.uring_threads.specs.Kept.{now}
 use Rattle.uring_threads.specs.Tallies.{Appends, finishes_counted}

@@ -1,7 +1,7 @@
 use Rattle.std.proofs.Common.{◌∙◌, [], inl, inr, length, ap, refl, sum, sym, subst, arith}
 use Rattle.uring_laws.specs.Standing.{Stands}
-use Rattle.uring_machine.specs.World.{World}
-use Rattle.uring_machine.specs.declared.step.Step.TheVariants as step
+use Rattle.uring_core.specs.World.{World}
+use Rattle.uring_core.specs.declared.step.Step.TheVariants as step
 use Rattle.uring_ports.specs.Ports.{Pulls}
 use Rattle.uring_threads.specs.Kept.{now}
 use Rattle.uring_threads.specs.Turns.{ClosesOnce, Tied, waiting_in}

@@ -1,5 +1,6 @@
 use Rattle.std.proofs.Common.{◌≡◌, ◌≤◌, ◌^◌, length}
-use Rattle.uring_threads.specs.Dispatched.{HaveCarried, AreSameLanes}
+use Rattle.uring_threads.specs.Dispatched.{HaveCarried}
+use Rattle.uring_workers.specs.WorkLanes.{AreSameLanes}
 use Rattle.uring_threads.specs.Delivered.{OnlyPosts}
 use Rattle.uring_threads.specs.EventRows.{RecordsIssues}
 use Rattle.uring_threads.specs.Kept.{now}

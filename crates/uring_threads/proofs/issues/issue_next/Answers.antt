@@ -1,5 +1,5 @@
 use Rattle.std.proofs.Common.{subst, sym, ◌∙◌}
-use Rattle.uring_machine.specs.declared.step.Step.TheVariants as step
+use Rattle.uring_core.specs.declared.step.Step.TheVariants as step
 use Rattle.uring_threads.specs.Kept.{Grows}
 use Rattle.uring_threads.proofs.IssueSteps.{issue_cases, started_runs}
 use Rattle.uring_threads.proofs.issues.issue_next.Goals as goal

@@ -1,6 +1,6 @@
 use Rattle.std.proofs.Common.{rules, arith, ◌∙◌}
 use Rattle.std.proofs.lemmas.Grind.{common_steps}
-use Rattle.uring_threads.specs.Opening.{AreOpened}
+use Rattle.uring_workers.specs.Opened.{AreOpened}
 use Rattle.uring_threads.proofs.SameEnds.{opened_together}
 use Rattle.uring_threads.proofs.opening.join_ends.Goals as goal
 

@@ -1,7 +1,7 @@
 use Rattle.std.proofs.Common.{◌<◌, length, subst, sym, refl, ap, ◌∙◌, arith}
 use Rattle.uring_entry.specs.Setup.{Setup}
 use Rattle.uring_laws.specs.Standing.{Stands}
-use Rattle.uring_machine.specs.World.{World}
+use Rattle.uring_core.specs.World.{World}
 use Rattle.uring_ports.specs.Items.{published_as}
 use Rattle.uring_threads.specs.Kept.{now}
 use Rattle.uring_threads.specs.Rows.{with_item_put}

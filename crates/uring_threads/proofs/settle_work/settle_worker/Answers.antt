@@ -1,6 +1,6 @@
 use Rattle.std.proofs.Common.{◌≡◌, ◌++◌, sym, ap, ◌∙◌}
 use Rattle.rtrb.specs.Ring.{known_items}
-use Rattle.uring_threads.specs.Work.{jobs_of, results_of}
+use Rattle.uring_workers.specs.Work.{jobs_of, results_of}
 use Rattle.uring_threads.proofs.SettledWork.{settled_at}
 use Rattle.uring_threads.proofs.settle_work.settle_worker.Goals as goal
 

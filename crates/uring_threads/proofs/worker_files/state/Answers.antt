@@ -1,10 +1,10 @@
 use Rattle.std.proofs.Common.{◌≡◌, get_or, length, sym, subst, ap, ◌∙◌, w32}
-use Rattle.uring_threads.specs.Worker.{Worker, IsRight}
+use Rattle.uring_workers.specs.Worker.{Worker, IsRight}
 use Rattle.std.proofs.lemmas.Int.{to_z-of_z}
 use Rattle.uring_files.specs.Operations.{state_of}
-use Rattle.uring_machine.specs.CalledFor.{files_of}
+use Rattle.uring_core.specs.CalledFor.{files_of}
 use Rattle.uring_threads.specs.Kept.{now}
-use Rattle.uring_threads.specs.Work.{place_of_file}
+use Rattle.uring_workers.specs.Work.{place_of_file}
 use Rattle.uring_threads.proofs.WorkerFiles.{file_at, state_same}
 use Rattle.uring_threads.proofs.worker_files.state.Goals as goal
 

@@ -2,8 +2,8 @@ use Rattle.std.proofs.Common.{[], ◌++◌, subst, ◌∙◌}
 use Rattle.std.proofs.lemmas.List.{append-nil}
 use Rattle.std.proofs.lemmas.Result.{IfOk-weaker}
 use Rattle.std.specs.List.{zip}
-use Rattle.uring_machine.specs.CalledFor.{IsLawful}
-use Rattle.uring_machine.specs.Histories.{history_of}
+use Rattle.uring_core.specs.CalledFor.{IsLawful}
+use Rattle.uring_core.specs.Histories.{history_of}
 use Rattle.uring_uses.proofs.lists.answers_of.Goals as goal
 
 pub returns-clause-lawful : goal.returns-clause-lawful

@@ -1,4 +1,4 @@
-use Rattle.uring_machine.specs.Histories.{world}
+use Rattle.uring_core.specs.Histories.{world}
 use Rattle.uring_uses.proofs.Waiting.{run_waits_for_none}
 use Rattle.uring_uses.proofs.one_step.starts.Goals as goal
 

@@ -1,6 +1,6 @@
 use Rattle.std.proofs.Common.{◌≡◌, take}
 use Rattle.uring_entry.specs.Completions.{unreaped}
-use Rattle.uring_machine.specs.Histories.{History, world}
+use Rattle.uring_core.specs.Histories.{History, world}
 use Rattle.uring_machine.specs.Machine.{Fits}
 use Rattle.uring_uses.proofs.settling.settled_rest.Given as goal
 

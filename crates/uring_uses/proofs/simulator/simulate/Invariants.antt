@@ -1,6 +1,6 @@
 use Rattle.std.proofs.Common.{◌≡◌}
-use Rattle.uring_machine.specs.Core.{FitsApart}
-use Rattle.uring_machine.specs.Histories.{History, world}
+use Rattle.uring_core.specs.Core.{FitsApart}
+use Rattle.uring_core.specs.Histories.{History, world}
 use Rattle.uring_uses.specs.Simulations.{NoneRuns, HasRun}
 use Rattle.uring_uses.proofs.simulator.simulate.Given as goal
 

@@ -1,5 +1,5 @@
 use Rattle.std.proofs.Common.{◌≡◌}
-use Rattle.uring_machine.specs.Histories.{History}
+use Rattle.uring_core.specs.Histories.{History}
 use Rattle.uring_machine.specs.Machine.{Fits}
 use Rattle.uring_machine.specs.Settling.{HasSettled}
 use Rattle.uring_machine.proofs.machine.Machine.settle_idle.Given as goal

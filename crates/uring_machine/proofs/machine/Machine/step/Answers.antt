@@ -1,5 +1,6 @@
 use Rattle.std.proofs.Common.{◌∷◌}
-use Rattle.uring_machine.proofs.Fitting.{step_fits, no_finish, called_for}
+use Rattle.uring_machine.proofs.Fitting.{step_fits, called_for}
+use Rattle.uring_core.proofs.Following.{no_finish}
 use Rattle.uring_machine.proofs.machine.Machine.step.Goals as goal
 
 pub invariant_of-self : goal.invariant_of-self

@@ -1,9 +1,9 @@
 use Rattle.std.proofs.Common.{◌∙◌, ap, sym, subst, arith}
 use Rattle.uring_entry.specs.Setup.{Setup, IsWithinLimits}
-use Rattle.uring_machine.specs.Core.{FitsApart}
-use Rattle.uring_machine.specs.Histories.{history_of, world}
-use Rattle.uring_machine.specs.StepAnswers.{CalledForApart}
-use Rattle.uring_machine.proofs.Following.{history_of-snoc}
+use Rattle.uring_core.specs.Core.{FitsApart}
+use Rattle.uring_core.specs.Histories.{history_of, world}
+use Rattle.uring_core.specs.StepAnswers.{CalledForApart}
+use Rattle.uring_core.proofs.Following.{history_of-snoc}
 use Rattle.uring_threads.proofs.kept.Kept.step_reserved.Goals as goal
 
 pub invariant_of-self : goal.invariant_of-self

@@ -5,7 +5,7 @@ use Rattle.uring_ports.specs.Dropped.{with_word}
 use Rattle.uring_ports.specs.Ports.{Sizes}
 use Rattle.uring_threads.specs.Kept.{now}
 use Rattle.uring_threads.specs.Tallies.{Tally, Appends}
-use Rattle.uring_threads.specs.Dispatched.{HoldJobs, HoldResults, numbers_of_lanes}
+use Rattle.uring_workers.specs.WorkLanes.{HoldJobs, HoldResults, numbers_of_lanes}
 use Rattle.uring_entry.specs.Setup.{Setup}
 use Rattle.uring_threads.specs.Kernel.{Kernel}
 use Rattle.uring_threads.specs.Turns.{AreTies, Counts}

@@ -1,7 +1,7 @@
 use Rattle.std.proofs.Common.{sym, subst, ap, ◌∙◌, w32}
 use Rattle.std.proofs.lemmas.Int.{to_z-of_z}
 use Rattle.uring_files.specs.Operations.{byte_of}
-use Rattle.uring_machine.specs.CalledFor.{files_of}
+use Rattle.uring_core.specs.CalledFor.{files_of}
 use Rattle.uring_threads.specs.Kept.{now}
 use Rattle.uring_threads.specs.Report.{Report, left_by}
 use Rattle.uring_threads.specs.SettledWorker.{AreSettled}

@@ -1,5 +1,5 @@
 use Rattle.std.proofs.Common.{◌≡◌}
-use Rattle.uring_threads.specs.Dispatched.{numbers_of_lanes}
+use Rattle.uring_workers.specs.WorkLanes.{numbers_of_lanes}
 use Rattle.uring_threads_tests.proofs.tests.threads.dispatch.Given as goal
 
 abbrev pub invariant-loop : goal.invariant-loop

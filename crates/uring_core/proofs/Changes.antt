@@ -1,0 +1,152 @@
+-- The events that change something, each with what is known of it because its answer was called for.
+-- `change_of` makes one of each event that was called for: a proof by cases over events has eighteen cases by it, and `refuses` is the one of all that change nothing.
+-- From the definitions of the answers alone.
+-- Stable: other crates may import `Change` with its cases and `change_of`.
+use Rattle.std.proofs.Common.{◌≡◌, ℕ, ◌+◌, ℤ, Bool, true, false, not, nat_lt, eqb, List, length, Option, Some, None, is_some, if◌then◌else◌, slice_get, refl, sym, subst, inl, inr, rules}
+use Rattle.uring_entry.specs.Setup.{Setup}
+use Rattle.uring_entry.specs.Layout.{Sqe, Cqe}
+use Rattle.uring_entry.specs.Preparation.{is_cancel}
+use Rattle.uring_entry.specs.Submission.{Call, Place, taken, is_busy, is_full, call_length, entries_of, places_from}
+use Rattle.uring_entry.specs.Requests.{entry_of, is_outstanding, is_running, is_doomed, is_ready, doomed_result, cancel_result, no_bytes}
+use Rattle.uring_entry.specs.Completions.{next_to_reap}
+use Rattle.uring_core.specs.World.{World, happens}
+use Rattle.uring_core.specs.StepAnswers.{CalledForApart, OrAgain, FinishesApart, entry_answer, place_answer, take_answer_in, end_answer_in, reap_answer_of, next_answer_of, is_spent}
+use Rattle.uring_core.specs.Histories.{Event}
+use Rattle.uring_core.specs.Events.{started_by, end_told_by, reaped_by, staged_by, filled_by, entry_taken_by, takes_position, opened_by, opens_call, accepted_by, closes_call, closes_ring, is_store_tail, is_load_head, is_flush, is_load_cq_tail, is_store_cq_head, takes_in}
+use Rattle.uring_core.specs.declared.step.Step.{Step}
+use Rattle.uring_core.specs.declared.step.Step.TheVariants as step
+use Rattle.uring_core.specs.declared.answer.Answer.{Answer}
+use Rattle.uring_core.specs.declared.answer.Answer.TheVariants as answer
+
+-- an event that tells nothing
+pub record IsSilent (e : Event) : Type 0 where
+  pub starts : started_by e ≡ None
+  pub ends : end_told_by e ≡ None
+  pub reaps : reaped_by e ≡ None
+  pub stages : staged_by e ≡ None
+  pub fills : (slot : ℕ) → filled_by slot e ≡ None
+  pub takes_entry : entry_taken_by e ≡ None
+  pub takes : takes_position e ≡ false
+  pub opens : opened_by e ≡ None
+  pub closes : closes_call e ≡ false
+  pub takes_into : takes_in e ≡ false
+  pub stores_tail : is_store_tail e ≡ false
+  pub loads_head : is_load_head e ≡ false
+  pub flushes : is_flush e ≡ false
+  pub loads_cq_tail : is_load_cq_tail e ≡ false
+  pub stores_cq_head : is_store_cq_head e ≡ false
+  pub opens_none : opens_call e ≡ false
+  pub accepts : accepted_by e ≡ None
+  pub shuts_none : closes_ring e ≡ false
+
+-- An event whose answer was called for, by what it changes.
+pub data Change (g : Setup) (w : World) : Step → Answer → Type 0 where
+  refuses : (s : Step) (a : Answer) → ((v : World) → happens g v s a ≡ v) → IsSilent (s, a) → Change g w s a
+  fills : (slot : ℕ) (entry : Sqe) → is_busy w.submission slot ≡ false → Change g w (step.Fill slot entry) answer.Filled
+  stages : (word : ℕ) → is_full g.sq w.submission ≡ false → Change g w (step.Index word) answer.Staged
+  stores : (tail : ℕ) → Change g w step.StoreTail (answer.Tail tail)
+  loads : (head : ℕ) → Change g w step.LoadHead (answer.Head head)
+  begins : (count : ℕ) → w.is_closed ≡ false → w.submission.call ≡ None → is_spent w (call_length w.submission count) ≡ false → Change g w (step.Begin count) (answer.Call (call_length w.submission count))
+  takes : (entry : Sqe) (call : Call) (place : Place) → w.submission.call ≡ Some call → eqb call.taken call.count ≡ false → slice_get w.submission.published (taken w.submission + call.taken) ≡ Some place → place.entry ≡ Some entry → Change g w step.Take (answer.Entry entry)
+  drops : (call : Call) (place : Place) → w.submission.call ≡ Some call → eqb call.taken call.count ≡ false → slice_get w.submission.published (taken w.submission + call.taken) ≡ Some place → place.entry ≡ None → Change g w step.Take answer.Dropped
+  closes : (accepted missed head : ℕ) (call : Call) → w.submission.call ≡ Some call → nat_lt call.taken call.count ≡ false → accepted ≡ length (entries_of (places_from w.submission call.count)) → Change g w step.End (answer.Taken accepted missed head)
+  runs : (n : ℕ) → is_outstanding w.requests n ≡ true → is_running w.requests n ≡ false → is_doomed w.requests n ≡ false → is_ready w.requests n ≡ true → is_cancel (entry_of w.requests n) ≡ false → Change g w (step.Issue n) answer.Run
+  dooms : (n : ℕ) → is_outstanding w.requests n ≡ true → is_running w.requests n ≡ false → is_doomed w.requests n ≡ true → Change g w (step.Issue n) (answer.Ended (doomed_result w.requests n) no_bytes)
+  cancels : (n : ℕ) → is_outstanding w.requests n ≡ true → is_running w.requests n ≡ false → is_doomed w.requests n ≡ false → is_ready w.requests n ≡ true → is_cancel (entry_of w.requests n) ≡ true → Change g w (step.Issue n) (answer.Ended (cancel_result w.requests n) no_bytes)
+  finishes : (n : ℕ) (res : ℤ) (bytes : List ℕ) → is_running w.requests n ≡ true → Change g w (step.Finish n) (answer.Ended res bytes)
+  flushes : (moved : ℕ) → Change g w step.Flush (answer.Moved moved)
+  sees_tail : (tail : ℕ) → Change g w step.LoadCqTail (answer.Tail tail)
+  reaps : (completion : Cqe) → next_to_reap w.completions ≡ Some completion → Change g w step.Reap (answer.Reaped completion)
+  stores_head : (head : ℕ) → Change g w step.StoreCqHead (answer.Head head)
+  shuts : w.submission.call ≡ None → Change g w step.Close answer.Shut
+
+pub not_some : {A : Type 0} (o : Option A) → is_some o ≡ false → o ≡ None
+not_some None e = refl
+not_some (Some x) e = cc
+
+-- A refusal tells nothing, as it computes.
+module _ (g : Setup) (w : World) where
+  fill_of : (slot : ℕ) (entry : Sqe) (beyond busy : Bool) → is_busy w.submission slot ≡ busy → Change g w (step.Fill slot entry) (if beyond then answer.NoSlot else (if busy then answer.Busy else answer.Filled))
+  fill_of slot entry true busy e = refuses _ _ (λ v. refl) (search rules)
+  fill_of slot entry false true e = refuses _ _ (λ v. refl) (search rules)
+  fill_of slot entry false false e = fills slot entry e
+
+  index_of : (word : ℕ) (full : Bool) → is_full g.sq w.submission ≡ full → Change g w (step.Index word) (if full then answer.Full else answer.Staged)
+  index_of word true e = refuses _ _ (λ v. refl) (search rules)
+  index_of word false e = stages word e
+
+  again : (count : ℕ) → Change g w (step.Begin count) answer.Again
+  again count = refuses _ _ (λ v. refl) (search rules)
+
+  begin_of : (count : ℕ) (a : Answer) (is_closed in_call spent : Bool) → w.is_closed ≡ is_closed → is_some w.submission.call ≡ in_call → is_spent w (call_length w.submission count) ≡ spent
+      → OrAgain (if is_closed then answer.Closed else (if in_call then answer.InCall else (if spent then answer.Spent else answer.Call (call_length w.submission count)))) a → Change g w (step.Begin count) a
+  begin_of count a false false false e f k (inl h) = subst (Change g w (step.Begin count)) (sym h) (begins count e (not_some w.submission.call f) k)
+  begin_of count a false false false e f k (inr h) = subst (Change g w (step.Begin count)) (sym h.0) (again count)
+  begin_of count a _ _ _ e f k h = subst (Change g w (step.Begin count)) (sym h) (refuses _ _ (λ v. refl) (search rules))
+
+  place_of : (call : Call) (place : Option Place) → w.submission.call ≡ Some call → eqb call.taken call.count ≡ false → slice_get w.submission.published (taken w.submission + call.taken) ≡ place → Change g w step.Take (place_answer place)
+  place_of call None e f h = refuses _ _ (λ v. refl) (search rules)
+  place_of call (Some place) e f h = entry_of_place place.entry refl where
+    entry_of_place : (entry : Option Sqe) → place.entry ≡ entry → Change g w step.Take (entry_answer entry)
+    entry_of_place None k = drops call place e f h k
+    entry_of_place (Some entry) k = takes entry call place e f h k
+
+  take_in_call : (call : Call) (full : Bool) → w.submission.call ≡ Some call → eqb call.taken call.count ≡ full
+      → Change g w step.Take (if full then answer.NoMore else place_answer (slice_get w.submission.published (taken w.submission + call.taken)))
+  take_in_call call true e f = refuses _ _ (λ v. refl) (search rules)
+  take_in_call call false e f = place_of call _ e f refl
+
+  take_of : (call : Option Call) → w.submission.call ≡ call → Change g w step.Take (take_answer_in w call)
+  take_of None e = refuses _ _ (λ v. refl) (search rules)
+  take_of (Some call) e = take_in_call call _ e refl
+
+  end_in_call : (call : Call) (few : Bool) (accepted missed head : ℕ) → w.submission.call ≡ Some call → nat_lt call.taken call.count ≡ few → accepted ≡ length (entries_of (places_from w.submission call.count))
+      → Change g w step.End (if few then answer.NotAll else answer.Taken accepted missed head)
+  end_in_call call true accepted missed head e f counted = refuses _ _ (λ v. refl) (search rules)
+  end_in_call call false accepted missed head e f counted = closes accepted missed head call e f counted
+
+  end_of : (call : Option Call) → w.submission.call ≡ call → Change g w step.End (end_answer_in g w call)
+  end_of None e = refuses _ _ (λ v. refl) (search rules)
+  end_of (Some call) e = end_in_call call _ _ _ _ e refl refl
+
+  issue_of : (n : ℕ) (outstanding running doomed ready cancel : Bool) → is_outstanding w.requests n ≡ outstanding → is_running w.requests n ≡ running → is_doomed w.requests n ≡ doomed → is_ready w.requests n ≡ ready → is_cancel (entry_of w.requests n) ≡ cancel
+      → Change g w (step.Issue n)
+      (if not outstanding then answer.Unknown else (if running then answer.Running else (if doomed then answer.Ended (doomed_result w.requests n) no_bytes else (if not ready then answer.NotReady else (if cancel then answer.Ended (cancel_result w.requests n) no_bytes else answer.Run)))))
+  issue_of n true false true ready cancel e f h i j = dooms n e f h
+  issue_of n true false false true true e f h i j = cancels n e f h i j
+  issue_of n true false false true false e f h i j = runs n e f h i j
+  issue_of n _ _ _ _ _ e f h i j = refuses _ _ (λ v. refl) (search rules)
+
+  finish_of : (n : ℕ) (running : Bool) (a : Answer) → is_running w.requests n ≡ running → FinishesApart running a → Change g w (step.Finish n) a
+  finish_of n false a e h = subst (Change g w (step.Finish n)) (sym h) (refuses _ _ (λ v. refl) (search rules))
+  finish_of n true (answer.Ended res bytes) e h = finishes n res bytes e
+  finish_of n true _ e h = absurd h
+
+  reap_of : (completion : Option Cqe) → next_to_reap w.completions ≡ completion → Change g w step.Reap (reap_answer_of completion)
+  reap_of None e = refuses _ _ (λ v. refl) (search rules)
+  reap_of (Some completion) e = reaps completion e
+
+  close_of : (in_call : Bool) → is_some w.submission.call ≡ in_call → Change g w step.Close (if in_call then answer.InCall else answer.Shut)
+  close_of true e = refuses _ _ (λ v. refl) (search rules)
+  close_of false e = shuts (not_some w.submission.call e)
+
+  next_of_answer : (n : Option ℕ) → Change g w step.Next (next_answer_of n)
+  next_of_answer None = refuses _ _ (λ v. refl) (search rules)
+  next_of_answer (Some n) = refuses _ _ (λ v. refl) (search rules)
+
+  pub change_of : (s : Step) (a : Answer) → CalledForApart g w s a → Change g w s a
+  change_of (step.Fill slot entry) a e = subst (Change g w (step.Fill slot entry)) (sym e) (fill_of slot entry _ _ refl)
+  change_of (step.Index word) a e = subst (Change g w (step.Index word)) (sym e) (index_of word _ refl)
+  change_of step.StoreTail a e = subst (Change g w step.StoreTail) (sym e) (stores _)
+  change_of step.LoadHead a e = subst (Change g w step.LoadHead) (sym e) (loads _)
+  change_of (step.Begin count) a e = begin_of count a _ _ _ refl refl refl e
+  change_of step.Take a e = subst (Change g w step.Take) (sym e) (take_of _ refl)
+  change_of step.End a e = subst (Change g w step.End) (sym e) (end_of _ refl)
+  change_of (step.Issue n) a e = subst (Change g w (step.Issue n)) (sym e) (issue_of n _ _ _ _ _ refl refl refl refl refl)
+  change_of (step.Finish n) a e = finish_of n _ a refl e
+  change_of step.Flush a e = subst (Change g w step.Flush) (sym e) (flushes _)
+  change_of step.LoadCqTail a e = subst (Change g w step.LoadCqTail) (sym e) (sees_tail _)
+  change_of step.Reap a e = subst (Change g w step.Reap) (sym e) (reap_of _ refl)
+  change_of step.StoreCqHead a e = subst (Change g w step.StoreCqHead) (sym e) (stores_head _)
+  change_of step.Close a e = subst (Change g w step.Close) (sym e) (close_of _ refl)
+  change_of step.Next a e = subst (Change g w step.Next) (sym e) (next_of_answer _)

@@ -1,0 +1,74 @@
+-- What an event makes of the completion ring, each with what is known of it because its answer was called for.
+-- `stays` is the frame of all that leave the ring as it was: whatever became of the rest, they tell nothing of it.
+use Rattle.std.proofs.Common.{◌≡◌, ℕ, ℤ, Bool, false, List, [], ◌∷◌, ◌++◌, Some, None, refl, sym, subst, append-nil, rules}
+use Rattle.uring_entry.specs.Setup.{Setup}
+use Rattle.uring_entry.specs.Layout.{Sqe, Cqe}
+use Rattle.uring_entry.specs.Submission.{Submission, entries_of, places_from}
+use Rattle.uring_entry.specs.Requests.{Requests, entry_of}
+use Rattle.uring_entry.specs.Completions.{next_to_reap, with_end, with_flushed, with_tail_loaded, with_reaped, with_head_stored}
+use Rattle.uring_core.specs.World.{World, happens, taking_of, taking_entry_of, ending_of}
+use Rattle.uring_core.specs.Histories.{Event, History, world, IsLawfulApart}
+use Rattle.uring_core.specs.Events.{end_told_by, reaped_by, is_flush, is_load_cq_tail, is_store_cq_head}
+use Rattle.uring_core.specs.declared.step.Step.{Step}
+use Rattle.uring_core.specs.declared.step.Step.TheVariants as step
+use Rattle.uring_core.specs.declared.answer.Answer.{Answer}
+use Rattle.uring_core.specs.declared.answer.Answer.TheVariants as answer
+use Rattle.uring_core.proofs.Changes.{Change, refuses as event_refuses, takes as event_takes, drops as event_drops, closes as event_closes, runs as event_runs, dooms as event_dooms, cancels as event_cancels, finishes as event_finishes, flushes as event_flushes, sees_tail as event_sees_tail, reaps as event_reaps, stores_head as event_stores_head, change_of}
+
+-- an event that tells nothing of the completion ring's head and tail
+pub record IsOffCompletions (e : Event) : Type 0 where
+  pub reaps : reaped_by e ≡ None
+  pub flushes : is_flush e ≡ false
+  pub loads_cq_tail : is_load_cq_tail e ≡ false
+  pub stores_cq_head : is_store_cq_head e ≡ false
+
+-- an event that ends no request: the ends stay, and entries may be accepted behind those accepted before
+pub record LeavesEnds (r later : Requests) : Type 0 where
+  pub more : List Sqe
+  pub accepted : later.accepted ≡ r.accepted ++ more
+  pub ended : later.ended ≡ r.ended
+
+pub data CompletionMove (g : Setup) (w : World) : Step → Answer → World → Type 0 where
+  stays : (s : Step) (a : Answer) (l : Submission) (r : Requests) (is_closed : Bool) → IsOffCompletions (s, a) → end_told_by (s, a) ≡ None
+      → LeavesEnds w.requests r
+      → CompletionMove g w s a (record { submission = l; requests = r; completions = w.completions; is_closed = is_closed })
+  ends : (s : Step) (a : Answer) (n : ℕ) (res : ℤ) (bytes : List ℕ) (r : Requests) → IsOffCompletions (s, a)
+      → end_told_by (s, a) ≡ Some (record { number = n; res = res; bytes = bytes })
+      → r.accepted ≡ w.requests.accepted → r.ended ≡ w.requests.ended ++ record { number = n; res = res; bytes = bytes } ∷ []
+      → CompletionMove g w s a (record w { requests = r; completions = with_end g.cq w.completions (entry_of w.requests n) res bytes })
+  flushes : (moved : ℕ) → CompletionMove g w step.Flush (answer.Moved moved) (record w { completions = with_flushed g.cq w.completions })
+  sees_tail : (tail : ℕ) → CompletionMove g w step.LoadCqTail (answer.Tail tail) (record w { completions = with_tail_loaded w.completions })
+  reaps : (completion : Cqe) → next_to_reap w.completions ≡ Some completion
+      → CompletionMove g w step.Reap (answer.Reaped completion) (record w { completions = with_reaped w.completions completion })
+  stores_head : (head : ℕ) → CompletionMove g w step.StoreCqHead (answer.Head head) (record w { completions = with_head_stored w.completions })
+
+same_ends : (r : Requests) → LeavesEnds r r
+same_ends r = record { more = []; accepted = sym (append-nil r.accepted); ended = refl }
+
+completion_by : (g : Setup) (w : World) (s : Step) (a : Answer) → Change g w s a
+    → CompletionMove g w s a (happens g w s a)
+completion_by g w s a (event_refuses _ _ same i) =
+    subst (CompletionMove g w s a) (sym (same w)) (stays s a w.submission w.requests w.is_closed (assumption i) i.ends (same_ends w.requests))
+completion_by g w s a (event_takes entry call place opened left at valid) =
+    subst (λ o. CompletionMove g w step.Take (answer.Entry entry) (taking_entry_of g w entry o)) (sym opened) (stays _ _ _ _ _ (search rules) refl (same_ends w.requests))
+completion_by g w s a (event_drops call place opened left at invalid) =
+    subst (λ o. CompletionMove g w step.Take answer.Dropped (taking_of w o)) (sym opened) (stays _ _ _ _ _ (search rules) refl (same_ends w.requests))
+completion_by g w s a (event_closes accepted missed head call opened all counted) =
+    subst (λ o. CompletionMove g w step.End (answer.Taken accepted missed head) (ending_of w o)) (sym opened) (stays _ _ _ _ _ (search rules) refl (record { more = entries_of (places_from w.submission call.count); accepted = refl; ended = refl }))
+completion_by g w s a (event_runs n outstanding idle spared ready no_cancel) = stays _ _ _ _ _ (search rules) refl (record { more = []; accepted = sym (append-nil w.requests.accepted); ended = refl })
+completion_by g w s a (event_dooms n outstanding idle doomed) =
+    ends _ _ n _ _ _ (search rules) refl refl refl
+completion_by g w s a (event_cancels n outstanding idle spared ready cancel) =
+    ends _ _ n _ _ _ (search rules) refl refl refl
+completion_by g w s a (event_finishes n res bytes running) =
+    ends _ _ n res bytes _ (search rules) refl refl refl
+completion_by g w s a (event_flushes moved) = flushes moved
+completion_by g w s a (event_sees_tail tail) = sees_tail tail
+completion_by g w s a (event_reaps completion next) = reaps completion next
+completion_by g w s a (event_stores_head head) = stores_head head
+completion_by g w s a _ = stays _ _ _ _ _ (search rules) refl (same_ends w.requests)
+
+pub completion_move : (g : Setup) (s : Step) (a : Answer) (h : History)
+    → IsLawfulApart g ((s, a) ∷ h) → CompletionMove g (world g h) s a (world g ((s, a) ∷ h))
+completion_move g s a h lawful =
+    completion_by g (world g h) s a (change_of g (world g h) s a lawful.0)

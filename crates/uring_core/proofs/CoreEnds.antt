@@ -1,0 +1,306 @@
+-- What a core shows as a submission call closes, as a request ends, and as it is made.
+use Rattle.std.proofs.Common.{◌≡◌, ℕ, ◌+◌, ◌-◌, ◌^◌, ◌≤◌, ℤ, Bool, true, false, not, cond, eqb, nat_lt, if◌then◌else◌, List, [], ◌∷◌, length, Option, Some, None, refl, sym, ap, subst, ◌∙◌, arith, inl, inr, IfSome}
+use Rattle.std.proofs.lemmas.Bool.{cases_Bool, eqb-true, eqb-false, lt-ltb, le-ltb}
+use Rattle.std.proofs.lemmas.List.{length-append}
+use Rattle.std.proofs.lemmas.Option.{cond_some}
+use Rattle.std.proofs.lemmas.List.Sums.{sum_by_push}
+use Rattle.uring_entry.specs.Setup.{Setup}
+use Rattle.uring_entry.specs.IndexWords.{word_of}
+use Rattle.uring_entry.specs.Layout.{Sqe, user_data_of}
+use Rattle.uring_entry.specs.Success.{posts_completion}
+use Rattle.uring_entry.specs.Submission.{Submission, Call, no_submission, taken, pending, entries_of, places_from, dropped, with_closed}
+use Rattle.uring_entry.specs.Requests.{Requests, no_request, entry_of, is_outstanding, is_running, is_doomed, is_ready, doomed_result, cancel_result, no_bytes, with_call, with_ended, with_issued_end, with_started, entry_outstanding}
+use Rattle.uring_entry.specs.Preparation.{is_cancel, operation_of}
+use Rattle.uring_entry.specs.Completions.{Completions, no_completion, with_end, with_posted}
+use Rattle.uring_entry.specs.declared.operation.Outcome.{Outcome}
+use Rattle.uring_entry.specs.declared.operation.Op.{Op}
+use Rattle.uring_rings.specs.Sq.{Sq, ShowsSubmission}
+use Rattle.uring_rings.specs.SqAnswers as ring
+use Rattle.uring_rings.specs.Cq.{Cq, ShowsCompletions}
+use Rattle.uring_rings.specs.declared.answers.EndAnswer.TheVariants as ended_as
+use Rattle.uring_rings.specs.declared.answers.Taken.{Taken}
+use Rattle.uring_dispatch.specs.Dispatch.{Dispatch, ShowsRequests, HasStarted, HasEnded, HasFinished}
+use Rattle.uring_dispatch.specs.IssueAndFinish.{issued, posts_of, posted_by}
+use Rattle.uring_dispatch.specs.declared.answers.Issued.{Issued}
+use Rattle.uring_dispatch.specs.declared.answers.Issued.TheVariants as issue
+use Rattle.uring_dispatch.specs.declared.answers.Posts.{Posts}
+use Rattle.uring_dispatch.specs.declared.answers.Posts.TheVariants as posts
+use Rattle.uring_core.specs.World.{World, ending_of}
+use Rattle.uring_core.specs.StepAnswers.{end_answer_in, issue_answer, FinishesApart}
+use Rattle.uring_core.specs.Histories.{History, world}
+use Rattle.uring_core.specs.Core.{Core, ShowsWorld, FitsApart, IsFinished, held_by, positions_of}
+use Rattle.uring_core.specs.declared.step.Step.TheVariants as step
+use Rattle.uring_core.specs.declared.answer.Answer.{Answer}
+use Rattle.uring_core.specs.declared.answer.Answer.TheVariants as answer
+use Rattle.uring_core.proofs.CoreTakes.{held_within}
+use Rattle.uring_core.proofs.CoreSteps.{told_if}
+
+-- End.
+
+-- what is known of the dispatcher once it accepted the entries of a call
+pub record Accepts (p : Core) (d : Dispatch) : Type 0 where
+  pub shows : (r : Requests) → ShowsRequests p.dispatch r → ShowsRequests d (with_call r p.held)
+  pub accepted : d.accepted ≡ p.dispatch.accepted + length p.held
+  pub outstanding : d.outstanding ≡ p.dispatch.outstanding + length p.held
+  pub between : d.is_between_calls ≡ true
+
+-- what the end of a call shows and answers, by the call that is open
+pub record Ends (p : Core) (w : World) (q : Sq) (d : Dispatch) (a : Answer) (c : Option Call) : Type 0 where
+  pub shows : ShowsWorld (record p { sq = q; dispatch = d; held = [] }) (ending_of w c)
+  pub answered : a ≡ end_answer_in p.setup w c
+
+-- what is told of a call that took all its positions
+abbrev taken_by : Setup → Submission → Call → Taken
+taken_by g l call =
+    record { accepted = length (entries_of (places_from l call.count)); dropped = dropped (with_closed l call); head = word_of g.start (taken (with_closed l call)) }
+
+-- a call that closes took all its positions, and this is told of it
+taken_as : (all : Bool) (t told : Taken)
+    → ended_as.Taken t ≡ cond all (ended_as.Taken told) ended_as.NotAll → (all ≡ true) × (t ≡ told)
+taken_as true t told e = (refl, cc)
+taken_as false t told e = absurd cc
+
+closed_shows : (p : Core) (w : World) (q : Sq) (d : Dispatch) (call : Call) → ShowsWorld p w
+    → w.submission.call ≡ Some call → call.taken ≡ call.count → Accepts p d
+    → length p.held ≤ call.count → ShowsSubmission p.setup q (with_closed w.submission call)
+    → ShowsWorld (record p { sq = q; dispatch = d; held = [] }) (ending_of w (Some call))
+closed_shows p w q d call s is all accepts few shown =
+    let a = accepts.accepted in
+    let o = accepts.outstanding in
+    let room : p.dispatch.outstanding + call.count ≤ p.cq.room = subst (λ c. p.dispatch.outstanding + positions_of c ≤ p.cq.room) is s.room_to_post in
+    let numbers : p.dispatch.accepted + call.count ≤ 2 ^ 63 - 1 = subst (λ c. p.dispatch.accepted + positions_of c ≤ 2 ^ 63 - 1) is s.numbers in
+    let posts = s.posts in
+    let held : p.held ≡ entries_of (places_from w.submission call.count) = s.held ∙ ap (held_by w.submission) is ∙ ap (λ n. entries_of (places_from w.submission n)) all in
+    let requests = subst (λ xs. ShowsRequests d (with_call w.requests xs)) held (accepts.shows w.requests s.requests) in
+    let none_held : ◌≡◌ {A = List Sqe} [] [] = refl in
+    grind (arith, requests, none_held)
+
+closed_answer : (g : Setup) (w : World) (call : Call) (t : Taken)
+    → ended_as.Taken t ≡ ring.end_of g w.submission (Some call)
+    → answer.Taken t.accepted t.dropped t.head ≡ end_answer_in g w (Some call)
+closed_answer g w call t e =
+    let is = taken_as (eqb call.taken call.count) t (taken_by g w.submission call) e in
+    let all = eqb-true call.taken call.count is.0 in
+    let not_less : nat_lt call.taken call.count ≡ false = le-ltb call.taken call.count (omega arith) in
+    rw (is.1, not_less) (ap (λ n. answer.Taken (length (entries_of (places_from w.submission call.count))) (dropped (with_closed w.submission call)) (word_of g.start n)) (sum_by_push (λ x. x) w.submission.calls call.count))
+
+end_taken : (p : Core) (w : World) (q : Sq) (d : Dispatch) (t : Taken) (c : Option Call)
+    → ShowsWorld p w → w.submission.call ≡ c → Accepts p d
+    → length p.held ≤ positions_of w.submission.call
+    → ended_as.Taken t ≡ ring.end_of p.setup w.submission c
+    → ShowsSubmission p.setup q (ring.closed_on w.submission c)
+    → Ends p w q d (answer.Taken t.accepted t.dropped t.head) c
+end_taken p w q d t None s is accepts few e shown =
+    absurd (let f : ended_as.Taken t ≡ ended_as.NoCall = e in cc)
+end_taken p w q d t (Some call) s is accepts few e shown = record {
+  shows = closed_shows p w q d call s is (eqb-true call.taken call.count (taken_as (eqb call.taken call.count) t (taken_by p.setup w.submission call) e).0) accepts (subst (λ c. length p.held ≤ positions_of c) is few) shown;
+  answered = closed_answer p.setup w call t e;
+}
+
+pub end_goes : (p : Core) (q : Sq) (d : Dispatch) (t : Taken)
+    → ((g : Setup) (l : Submission) → ShowsSubmission g p.sq l → ended_as.Taken t ≡ ring.end_answer g l)
+    → ((g : Setup) (l : Submission) → ShowsSubmission g p.sq l → ShowsSubmission g q (ring.after_end l (ended_as.Taken t)))
+    → Accepts p d
+    → (h : History) → FitsApart p h
+    → FitsApart (record p { sq = q; dispatch = d; held = [] }) ((step.End, answer.Taken t.accepted t.dropped t.head) ∷ h)
+end_goes p q d t answered shown accepts h f =
+    let w = world p.setup h in
+    let s = f.shows in
+    let held = held_within w.submission p.setup.sq w.submission.call s.submission.call_fits in
+    let same : length p.held ≡ length (held_by w.submission w.submission.call) = ap length s.held in
+    let e = end_taken p w q d t w.submission.call s refl accepts (omega arith) (answered p.setup w.submission s.submission) (shown p.setup w.submission s.submission) in
+    record { shows = e.shows; lawful = (e.answered, f.lawful) }
+
+end_not_all : (g : Setup) (w : World) (c : Option Call)
+    → IfSome c (λ call. (call.taken ≤ call.count) × (call.count ≤ pending w.submission))
+    → ended_as.NotAll ≡ ring.end_of g w.submission c → answer.NotAll ≡ end_answer_in g w c
+end_not_all g w None fits e = absurd (let f : ended_as.NotAll ≡ ended_as.NoCall = e in cc)
+end_not_all g w (Some call) fits e =
+    elim (cases_Bool (eqb call.taken call.count)) [
+      | inl all ↦ absurd (let f : ended_as.NotAll ≡ ended_as.Taken _ = e ∙ ap (λ b. cond b (ended_as.Taken (taken_by g w.submission call)) ended_as.NotAll) all in cc)
+      | inr more ↦
+          let ne = eqb-false call.taken call.count more in
+          let less : nat_lt call.taken call.count ≡ true = lt-ltb call.taken call.count (omega arith) in
+          rw less refl
+    ]
+
+pub end_not_all_goes : (p : Core) (q : Sq)
+    → ((g : Setup) (l : Submission) → ShowsSubmission g p.sq l → ended_as.NotAll ≡ ring.end_answer g l)
+    → q ≡ p.sq
+    → (h : History) → FitsApart p h
+    → FitsApart (record p { sq = q }) ((step.End, answer.NotAll) ∷ h)
+end_not_all_goes p q answered same h f =
+    subst (λ s. FitsApart (record p { sq = s }) ((step.End, answer.NotAll) ∷ h)) (sym same) (record {
+      shows = f.shows;
+      lawful = (end_not_all p.setup (world p.setup h) (world p.setup h).submission.call f.shows.submission.call_fits (answered p.setup _ f.shows.submission), f.lawful);
+    })
+
+-- The end of a request.
+
+-- an end posts one completion at most
+few_posted : (size : ℕ) (l : Completions) (entry : Sqe) (res : ℤ) (bytes : List ℕ)
+    → length (with_end size l entry res bytes).posted ≤ length l.posted + 1
+few_posted size l entry res bytes =
+    elim (cases_Bool (posts_completion entry res)) [
+      | inl told ↦ rw told (omega (arith, length-append l.posted (record { user_data = user_data_of entry; res = res; payload = bytes } ∷ [])))
+      | inr skipped ↦ rw skipped (omega arith)
+    ]
+
+-- The parts after an end: one request less is outstanding, and one promised post less is left at most.
+ended_shows : (p : Core) (w : World) (d : Dispatch) (q : Cq) (r : Requests) (entry : Sqe) (res : ℤ) (bytes : List ℕ)
+    → ShowsWorld p w
+    → ShowsRequests d r → d.accepted ≡ p.dispatch.accepted
+    → d.outstanding + 1 ≡ p.dispatch.outstanding → p.dispatch.room ≤ d.room
+    → d.is_between_calls ≡ p.dispatch.is_between_calls
+    → ShowsCompletions p.setup q (with_end p.setup.cq w.completions entry res bytes)
+    → p.cq.room ≤ q.room + 1 → (p.cq.room ≤ p.cq.spare → q.room ≤ q.spare)
+    → ShowsWorld (record p { dispatch = d; cq = q }) (record w { requests = r; completions = with_end p.setup.cq w.completions entry res bytes })
+ended_shows p w d q r entry res bytes s shows accepted outstanding room between shown left promised =
+    let few = few_posted p.setup.cq w.completions entry res bytes in
+    let in_between = between ∙ s.between in
+    let to_post : d.outstanding + positions_of w.submission.call ≤ q.room = omega (arith, s.room_to_post) in
+    let to_accept : positions_of w.submission.call ≤ d.room = omega (arith, s.room_to_accept) in
+    let numbers : d.accepted + positions_of w.submission.call ≤ 2 ^ 63 - 1 = omega (arith, s.numbers) in
+    let posts : length (with_end p.setup.cq w.completions entry res bytes).posted + d.outstanding ≤ d.accepted = omega (arith, s.posts) in
+    let stays_promised = promised s.promised in
+    assumption (s, shown, shows, in_between, to_post, to_accept, numbers, posts, stays_promised)
+
+-- an outstanding request's entry is there
+entry_there : (r : Requests) (n : ℕ) (entry : Sqe) → Some entry ≡ entry_outstanding r n
+    → entry ≡ entry_of r n
+entry_there r n entry e = sym (cond_some (is_outstanding r n) (entry_of r n) entry (sym e)).1
+
+-- Issue.
+
+-- what the dispatcher answers to an issue, as the answer to the step
+abbrev pub issue_told : Issued → Answer
+issue_told (issue.Run op) = answer.Run
+issue_told (issue.Ended res) = answer.Ended res no_bytes
+issue_told issue.NotReady = answer.NotReady
+issue_told issue.Running = answer.Running
+issue_told issue.Unknown = answer.Unknown
+
+-- a chain of tests goes through
+told_chain : (a b c d e : Bool) (x y z u v t : Issued)
+    → issue_told (cond a x (cond b y (cond c z (cond d u (cond e v t)))))
+    ≡ cond a (issue_told x) (cond b (issue_told y) (cond c (issue_told z) (cond d (issue_told u) (cond e (issue_told v) (issue_told t)))))
+told_chain a b c d e x y z u v t =
+    told_if issue_told a _ _ ∙ ap (cond a (issue_told x)) (told_if issue_told b _ _ ∙ ap (cond b (issue_told y)) (told_if issue_told c _ _ ∙ ap (cond c (issue_told z)) (told_if issue_told d _ _ ∙ ap (cond d (issue_told u)) (told_if issue_told e _ _))))
+
+issue_same : (w : World) (n : ℕ) → issue_told (issued w.requests n) ≡ issue_answer w n
+issue_same w n = told_chain (not (is_outstanding w.requests n)) (is_running w.requests n) (is_doomed w.requests n) (not (is_ready w.requests n)) (is_cancel (entry_of w.requests n)) issue.Unknown issue.Running (issue.Ended (doomed_result w.requests n)) issue.NotReady (issue.Ended (cancel_result w.requests n)) (issue.Run (operation_of (entry_of w.requests n)))
+
+pub run_goes : (p : Core) (d : Dispatch) (n : ℕ) (op : Op)
+    → ((r : Requests) → ShowsRequests p.dispatch r → issue.Run op ≡ issued r n)
+    → ((r : Requests) → ShowsRequests p.dispatch r → ShowsRequests d (with_started r n))
+    → HasStarted p.dispatch d
+    → (h : History) → FitsApart p h
+    → FitsApart (record p { dispatch = d }) ((step.Issue n, answer.Run) ∷ h)
+run_goes p d n op answered shows counts h f =
+    let w = world p.setup h in
+    let s = f.shows in
+    let started = shows w.requests s.requests in
+    let between = counts.between ∙ s.between in
+    record {
+      shows = grind (arith, s, counts, started, between);
+      lawful = (ap issue_told (answered w.requests s.requests) ∙ issue_same w n, f.lawful);
+    }
+
+pub issue_ended_goes : (p : Core) (d : Dispatch) (q : Cq) (n : ℕ) (res : ℤ) (entry : Sqe)
+    → ((r : Requests) → ShowsRequests p.dispatch r → issue.Ended res ≡ issued r n)
+    → ((r : Requests) → ShowsRequests p.dispatch r → Some entry ≡ entry_outstanding r n)
+    → ((r : Requests) → ShowsRequests p.dispatch r → ShowsRequests d (with_issued_end r n res))
+    → HasEnded p.dispatch d
+    → ((g : Setup) (l : Completions) → ShowsCompletions g p.cq l → ShowsCompletions g q (with_end g.cq l entry res no_bytes))
+    → p.cq.room ≤ q.room + 1 → (p.cq.room ≤ p.cq.spare → q.room ≤ q.spare)
+    → (h : History) → FitsApart p h
+    → FitsApart (record p { dispatch = d; cq = q }) ((step.Issue n, answer.Ended res no_bytes) ∷ h)
+issue_ended_goes p d q n res entry answered there shows counts shown left promised h f =
+    let w = world p.setup h in
+    let s = f.shows in
+    let same = entry_there w.requests n entry (there w.requests s.requests) in
+    record {
+      shows = ended_shows p w d q (with_issued_end w.requests n res) (entry_of w.requests n) res no_bytes s (shows w.requests s.requests) counts.accepted counts.outstanding counts.room counts.between
+          (subst (λ e. ShowsCompletions p.setup q (with_end p.setup.cq w.completions e res no_bytes)) same (shown p.setup w.completions s.completions)) left promised;
+      lawful = (ap issue_told (answered w.requests s.requests) ∙ issue_same w n, f.lawful);
+    }
+
+-- Finish.
+
+-- what ended was running, and posts what its entry and result say
+ended_running : (r : Requests) (n : ℕ) (res : ℤ) (posted : Posts) → Some posted ≡ posted_by r n res
+    → (is_running r n ≡ true) × (posted ≡ posts_of (entry_of r n) res)
+ended_running r n res posted e = let p = cond_some (is_running r n) (posts_of (entry_of r n) res) posted (sym e) in (p.0, sym p.1)
+
+pub finish_goes : (p : Core) (d : Dispatch) (q : Cq) (n : ℕ) (res : ℤ) (bytes : List ℕ) (posted : Posts)
+    → ((r : Requests) → ShowsRequests p.dispatch r → Some posted ≡ posted_by r n res)
+    → ((r : Requests) (bytes : List ℕ) → ShowsRequests p.dispatch r → ShowsRequests d (with_ended r n res bytes))
+    → HasFinished p.dispatch d
+    → ((g : Setup) (l : Completions) (entry : Sqe) → posted ≡ posts_of entry res → ShowsCompletions g p.cq l → ShowsCompletions g q (with_end g.cq l entry res bytes))
+    → p.cq.room ≤ q.room + 1 → (p.cq.room ≤ p.cq.spare → q.room ≤ q.spare)
+    → (h : History) → FitsApart p h
+    → FitsApart (record p { dispatch = d; cq = q }) ((step.Finish n, answer.Ended res bytes) ∷ h)
+finish_goes p d q n res bytes posted answered shows counts shown left promised h f =
+    let w = world p.setup h in
+    let s = f.shows in
+    let ended = ended_running w.requests n res posted (answered w.requests s.requests) in
+    record {
+      shows = ended_shows p w d q (with_ended w.requests n res bytes) (entry_of w.requests n) res bytes s (shows w.requests bytes s.requests) counts.accepted counts.outstanding counts.room counts.between
+          (shown p.setup w.completions (entry_of w.requests n) ended.1 s.completions) left promised;
+      lawful = (subst (λ b. FinishesApart b (answer.Ended res bytes)) (sym ended.0) tt, f.lawful);
+    }
+
+-- what was posted is the end
+pub posted_end : (g : Setup) (q : Cq) (l : Completions) (entry : Sqe) (res : ℤ) (bytes : List ℕ) (user_data : ℕ)
+    → posts.Completion user_data ≡ posts_of entry res
+    → ShowsCompletions g q (with_posted g.cq l (record { user_data = user_data; res = res; payload = bytes }))
+    → ShowsCompletions g q (with_end g.cq l entry res bytes)
+posted_end g q l entry res bytes user_data e s = go (posts_completion entry res) e
+  where
+    go : (b : Bool) → posts.Completion user_data ≡ cond b (posts.Completion (user_data_of entry)) posts.Nothing → ShowsCompletions g q (cond b (with_posted g.cq l (record { user_data = user_data_of entry; res = res; payload = bytes })) l)
+    go true x =
+        let same : user_data ≡ user_data_of entry = let f : posts.Completion user_data ≡ posts.Completion (user_data_of entry) = x in cc in
+        subst (λ d. ShowsCompletions g q (with_posted g.cq l (record { user_data = d; res = res; payload = bytes }))) same s
+    go false x = absurd (let f : posts.Completion user_data ≡ posts.Nothing = x in cc)
+
+pub skipped_end : (g : Setup) (q : Cq) (l : Completions) (entry : Sqe) (res : ℤ) (bytes : List ℕ)
+    → posts.Nothing ≡ posts_of entry res → ShowsCompletions g q l
+    → ShowsCompletions g q (with_end g.cq l entry res bytes)
+skipped_end g q l entry res bytes e s = go (posts_completion entry res) e
+  where
+    go : (b : Bool) → posts.Nothing ≡ cond b (posts.Completion (user_data_of entry)) posts.Nothing → ShowsCompletions g q (cond b (with_posted g.cq l (record { user_data = user_data_of entry; res = res; payload = bytes })) l)
+    go true x = absurd (let f : posts.Nothing ≡ posts.Completion (user_data_of entry) = x in cc)
+    go false x = s
+
+-- the entries accepted are those held
+pub accepts_held : (p : Core) (d : Dispatch) (entries : List Sqe) → entries ≡ p.held
+    → ((r : Requests) → ShowsRequests p.dispatch r → ShowsRequests d (with_call r entries))
+    → d.accepted ≡ p.dispatch.accepted + length entries
+    → d.outstanding ≡ p.dispatch.outstanding + length entries → d.is_between_calls ≡ true
+    → Accepts p d
+accepts_held p d entries same shows accepted outstanding between = record {
+  shows = λ r s. subst (λ xs. ShowsRequests d (with_call r xs)) same (shows r s);
+  accepted = accepted ∙ ap (λ xs. p.dispatch.accepted + length xs) same;
+  outstanding = outstanding ∙ ap (λ xs. p.dispatch.outstanding + length xs) same;
+  between = between;
+}
+
+-- New.
+
+pub new_fits : (p : Core) → ShowsSubmission p.setup p.sq no_submission
+    → ShowsCompletions p.setup p.cq no_completion → p.cq.room ≡ 0
+    → ShowsRequests p.dispatch no_request → p.dispatch.is_between_calls ≡ true
+    → p.held ≡ [] → p.is_closed ≡ false → FitsApart p []
+new_fits p submission completions none_promised requests between held open_ring =
+    let a : p.dispatch.accepted ≡ 0 = requests.accepted in
+    let o : p.dispatch.outstanding ≡ 0 = requests.outstanding in
+    record {
+      shows = grind arith;
+      lawful = tt;
+    }
+
+-- what posts as it ends was running
+pub ended_as_posted : (w : World) (n : ℕ) (outcome : Outcome) (posts : Posts) (a : Answer)
+    → Some posts ≡ posted_by w.requests n outcome.res → a ≡ answer.Ended outcome.res outcome.bytes
+    → IsFinished w n outcome a
+ended_as_posted w n outcome posts a posted is = is ∙ ap (λ b. if b then answer.Ended outcome.res outcome.bytes else answer.NotRunning) (sym (ended_running w.requests n outcome.res posts posted).0)

@@ -1,0 +1,58 @@
+-- What a core shows after a step on one ring alone, from what that ring shows. Each such step goes on from here in its function's answers.
+use Rattle.std.proofs.Common.{◌≡◌, ◌+◌, ◌-◌, ◌^◌, ◌≤◌, Bool, true, false, cond, ◌∷◌, length, refl, sym, subst, ◌∙◌}
+use Rattle.uring_entry.specs.Setup.{Setup, IsWithinLimits}
+use Rattle.uring_entry.specs.Submission.{Submission}
+use Rattle.uring_entry.specs.Completions.{Completions}
+use Rattle.uring_rings.specs.Sq.{Sq, ShowsSubmission}
+use Rattle.uring_rings.specs.Cq.{Cq, ShowsCompletions, KeepsMemory}
+use Rattle.uring_core.specs.World.{World}
+use Rattle.uring_core.specs.Histories.{Event, History}
+use Rattle.uring_core.specs.Core.{Core, ShowsWorld, FitsApart, IsCore, held_by, positions_of}
+
+-- a core that fits one event more is a core
+pub core_after : (p q : Core) (e : Event) → q.setup ≡ p.setup
+    → ((h : History) → FitsApart p h → FitsApart q (e ∷ h)) → IsCore p → IsCore q
+core_after p q e same goes core =
+    (subst IsWithinLimits (sym same) core.0, e ∷ core.1, goes core.1 core.2)
+
+-- A change of the submission ring alone, which leaves the open call and what it took as they were.
+pub on_submission : (p : Core) (w : World) (q : Sq) (l : Submission) → ShowsWorld p w
+    → ShowsSubmission p.setup q l → l.call ≡ w.submission.call
+    → held_by l l.call ≡ held_by w.submission w.submission.call
+    → ShowsWorld (record p { sq = q }) (record w { submission = l })
+on_submission p w q l s shows call held =
+    let same_held = s.held ∙ sym held in
+    let to_post = subst (λ c. p.dispatch.outstanding + positions_of c ≤ p.cq.room) (sym call) s.room_to_post in
+    let to_accept = subst (λ c. positions_of c ≤ p.dispatch.room) (sym call) s.room_to_accept in
+    let numbers = subst (λ c. p.dispatch.accepted + positions_of c ≤ 2 ^ 63 - 1) (sym call) s.numbers in
+    assumption (s, shows, same_held, to_post, to_accept, numbers)
+
+-- A change of the completion ring alone, which posts nothing.
+pub on_completions : (p : Core) (w : World) (q : Cq) (l : Completions) → ShowsWorld p w
+    → ShowsCompletions p.setup q l → q.room ≡ p.cq.room → KeepsMemory p.cq q
+    → l.posted ≡ w.completions.posted
+    → ShowsWorld (record p { cq = q }) (record w { completions = l })
+on_completions p w q l s shows room memory posted =
+    let to_post = subst (λ r. p.dispatch.outstanding + positions_of w.submission.call ≤ r) (sym room) s.room_to_post in
+    let posts = subst (λ cs. length cs + p.dispatch.outstanding ≤ p.dispatch.accepted) (sym posted) s.posts in
+    assumption (s, shows, to_post, memory, posts)
+
+-- A step on the submission ring alone, from what the ring answers and what it shows then.
+abbrev pub SubmissionStep : Core → Sq → Event → (Setup → Submission → Type 0)
+    → (Setup → Submission → Submission) → Type 0
+SubmissionStep p q e Answered after =
+    ((g : Setup) (l : Submission) → ShowsSubmission g p.sq l → Answered g l) → ((g : Setup) (l : Submission) → ShowsSubmission g p.sq l → ShowsSubmission g q (after g l))
+    → (h : History) → FitsApart p h → FitsApart (record p { sq = q }) (e ∷ h)
+
+-- A step on the completion ring alone, likewise.
+abbrev pub CompletionStep : Core → Cq → Event → (Setup → Completions → Type 0)
+    → (Setup → Completions → Completions) → Type 0
+CompletionStep p q e Answered after =
+    ((g : Setup) (l : Completions) → ShowsCompletions g p.cq l → Answered g l) → ((g : Setup) (l : Completions) → ShowsCompletions g p.cq l → ShowsCompletions g q (after g l))
+    → q.room ≡ p.cq.room → KeepsMemory p.cq q → (h : History) → FitsApart p h
+    → FitsApart (record p { cq = q }) (e ∷ h)
+
+-- what is told of a choice is a choice of what is told
+pub told_if : {A B : Type 0} (f : A → B) (b : Bool) (x y : A) → f (cond b x y) ≡ cond b (f x) (f y)
+told_if f true x y = refl
+told_if f false x y = refl

@@ -1,0 +1,229 @@
+-- What a core shows as a submission call takes a position, and that there is room for what it took.
+use Rattle.std.specs.Option.{option_and_then}
+use Rattle.std.proofs.Common.{◌≡◌, ℕ, zero, suc, ◌+◌, ◌-◌, ◌^◌, ◌<◌, ◌≤◌, Bool, false, cond, eqb, List, [], ◌∷◌, ◌++◌, length, take, drop, Option, Some, None, slice_get, refl, sym, ap, subst, ◌∙◌, arith, IfSome, true}
+use Rattle.std.proofs.lemmas.Bool.{eqb-false}
+use Rattle.std.proofs.lemmas.List.Elements.{filter_map-append}
+use Rattle.std.proofs.lemmas.Grind.{common_steps}
+use Rattle.std.proofs.lemmas.List.{append-nil}
+use Rattle.uring_entry.specs.Setup.{Setup}
+use Rattle.uring_entry.specs.Layout.{Sqe}
+use Rattle.uring_entry.specs.Submission.{Submission, Call, Place, taken, pending, staged, entries_of, with_taken, stops_at, with_stopped}
+use Rattle.uring_rings.specs.Sq.{Sq, ShowsSubmission}
+use Rattle.uring_rings.specs.SqAnswers as ring
+use Rattle.uring_rings.specs.declared.answers.TakeAnswer.{TakeAnswer}
+use Rattle.uring_rings.specs.declared.answers.TakeAnswer.TheVariants as took_as
+use Rattle.uring_rings.proofs.Places.{places_more, entries_and_dropped}
+use Rattle.uring_core.specs.World.{World, taking_of, taking_entry_of}
+use Rattle.uring_core.specs.StepAnswers.{take_answer_in}
+use Rattle.uring_core.specs.Histories.{History, world}
+use Rattle.uring_core.specs.Core.{Core, ShowsWorld, FitsApart, held_by, positions_of}
+use Rattle.uring_core.proofs.SoundRings.{stopped_between}
+use Rattle.uring_core.specs.declared.step.Step.TheVariants as step
+use Rattle.uring_core.specs.declared.answer.Answer.{Answer}
+use Rattle.uring_core.specs.declared.answer.Answer.TheVariants as answer
+
+-- Take.
+
+-- an entry that was given is that of a place
+place_given : (o : Option Place) (entry : Sqe)
+    → took_as.Entry entry ≡ ring.given (option_and_then (λ place. place.entry) o)
+    → (place : Place) × (o ≡ Some place) × (place.entry ≡ Some entry)
+place_given None entry e = absurd (let f : took_as.Entry entry ≡ took_as.Dropped = e in cc)
+place_given (Some place) entry e = (place, refl, entry_given place.entry entry e)
+  where
+    entry_given : (o : Option Sqe) (entry : Sqe) → took_as.Entry entry ≡ ring.given o → o ≡ Some entry
+    entry_given None entry e = absurd (let f : took_as.Entry entry ≡ took_as.Dropped = e in cc)
+    entry_given (Some other) entry e = let f : took_as.Entry entry ≡ took_as.Entry other = e in cc
+
+-- a word that was dropped is that of a place without entry
+place_dropped : (o : Option Place) (place : Place) → o ≡ Some place
+    → took_as.Dropped ≡ ring.given (option_and_then (λ p. p.entry) o) → place.entry ≡ None
+place_dropped None place is e = cc
+place_dropped (Some other) place is e =
+    let same : other ≡ place = cc in
+    ap (λ p. p.entry) (sym same) ∙ no_entry other.entry e
+  where
+    no_entry : (o : Option Sqe) → took_as.Dropped ≡ ring.given o → o ≡ None
+    no_entry None e = refl
+    no_entry (Some entry) e = absurd (let f : took_as.Dropped ≡ took_as.Entry entry = e in cc)
+
+-- the entry of the next place joins what the call took
+held_more : (l : Submission) (call : Call) (place : Place)
+    → slice_get l.published (taken l + call.taken) ≡ Some place
+    → entries_of (take (call.taken + 1) (drop (taken l) l.published))
+    ≡ entries_of (take call.taken (drop (taken l) l.published)) ++ entries_of (place ∷ [])
+held_more l call place is =
+    ap entries_of (places_more l.published (taken l) call.taken place is) ∙ filter_map-append (λ p. p.entry) (take call.taken (drop (taken l) l.published)) (place ∷ [])
+
+one_entry : (place : Place) (entry : Sqe) → place.entry ≡ Some entry
+    → entries_of (place ∷ []) ≡ entry ∷ []
+one_entry place entry e = simp e
+
+no_entries : (place : Place) → place.entry ≡ None → entries_of (place ∷ []) ≡ []
+no_entries place e = simp e
+
+-- the answer to a take within the call
+given_as : (all : Bool) (r given : TakeAnswer) → r ≡ cond all took_as.NoMore given
+    → (r ≡ took_as.NoMore → ⊥) → (all ≡ false) × (r ≡ given)
+given_as true r given e other = absurd (other e)
+given_as false r given e other = (refl, e)
+
+-- the core answers as the ring does
+answered_entry : (w : World) (call : Call) (place : Place) (entry : Sqe)
+    → eqb call.taken call.count ≡ false
+    → slice_get w.submission.published (taken w.submission + call.taken) ≡ Some place
+    → place.entry ≡ Some entry
+    → answer.Entry entry ≡ take_answer_in w (Some call)
+answered_entry w call place entry more is has = rw (more, is, has) refl
+
+answered_dropped : (w : World) (call : Call) (place : Place) → eqb call.taken call.count ≡ false
+    → slice_get w.submission.published (taken w.submission + call.taken) ≡ Some place
+    → place.entry ≡ None
+    → answer.Dropped ≡ take_answer_in w (Some call)
+answered_dropped w call place more is has = rw (more, is, has) refl
+
+some_call : (c : Option Call) (call : Call) (P : Call → Type 0) → c ≡ Some call → IfSome c P
+    → P call
+some_call None call P is holds = cc
+some_call (Some other) call P is holds = let same : other ≡ call = cc in subst P same holds
+
+-- the parts after a take, whatever was taken, and whether or not the call stops behind it
+taken_shows : (p : Core) (w : World) (q : Sq) (call : Call) (held : List Sqe) (stops : Bool)
+    → ShowsWorld p w → w.submission.call ≡ Some call → eqb call.taken call.count ≡ false
+    → ShowsSubmission p.setup q (with_stopped stops (with_taken w.submission call))
+    → held ≡ entries_of (take (call.taken + 1) (drop (taken w.submission) w.submission.published))
+    → ShowsWorld (record p { sq = q; held = held }) (record w { submission = with_stopped stops (with_taken w.submission call) })
+taken_shows p w q call held stops s is more shown holds =
+    let fits = some_call w.submission.call call _ is s.submission.call_fits in
+    let further : call.taken + 1 ≤ call.count = omega (arith, fits.0, eqb-false call.taken call.count more) in
+    let fewer = (stopped_between stops (record call { taken = call.taken + 1 }) further).1 in
+    let to_post : p.dispatch.outstanding + call.count ≤ p.cq.room = subst (λ c. p.dispatch.outstanding + positions_of c ≤ p.cq.room) is s.room_to_post in
+    let to_accept : call.count ≤ p.dispatch.room = subst (λ c. positions_of c ≤ p.dispatch.room) is s.room_to_accept in
+    let numbers : p.dispatch.accepted + call.count ≤ 2 ^ 63 - 1 = subst (λ c. p.dispatch.accepted + positions_of c ≤ 2 ^ 63 - 1) is s.numbers in
+    record {
+      submission = shown;
+      completions = s.completions;
+      requests = s.requests;
+      held = holds;
+      closed = s.closed;
+      between = s.between;
+      room_to_post = omega (arith, fewer, to_post);
+      room_to_accept = omega (arith, fewer, to_accept);
+      promised = s.promised;
+      numbers = omega (arith, fewer, numbers);
+      posts = s.posts;
+    }
+
+-- what a take shows and answers, by the call that is open, where the call stops behind it or not
+pub record Takes (p : Core) (w v : World) (q : Sq) (held : List Sqe) (a : Answer) (c : Option Call) : Type 0 where
+  pub shows : ShowsWorld (record p { sq = q; held = held }) v
+  pub answered : a ≡ take_answer_in w c
+
+take_entry : (p : Core) (w : World) (q : Sq) (entry : Sqe) (c : Option Call) → ShowsWorld p w
+    → w.submission.call ≡ c → took_as.Entry entry ≡ ring.take_in w.submission c
+    → ShowsSubmission p.setup q (with_stopped (stops_at p.setup entry) (ring.taken_on w.submission c))
+    → Takes p w (taking_entry_of p.setup w entry c) q (p.held ++ entry ∷ []) (answer.Entry entry) c
+take_entry p w q entry None s is e shown =
+    absurd (let f : took_as.Entry entry ≡ took_as.NoCall = e in cc)
+take_entry p w q entry (Some call) s is e shown =
+    let within = given_as (eqb call.taken call.count) (took_as.Entry entry) _ e (λ f. cc) in
+    let more = within.0 in
+    let place = place_given _ entry within.1 in
+    let so_far : p.held ≡ entries_of (take call.taken (drop (taken w.submission) w.submission.published)) = s.held ∙ ap (held_by w.submission) is in
+    record {
+      shows = taken_shows p w q call (p.held ++ entry ∷ []) (stops_at p.setup entry) s is more shown
+          (sym (held_more w.submission call place.0 place.1 ∙ ap (λ xs. xs ++ entries_of (place.0 ∷ [])) (sym so_far) ∙ ap (λ xs. p.held ++ xs) (one_entry place.0 entry place.2)));
+      answered = answered_entry w call place.0 entry more place.1 place.2;
+    }
+
+-- a position of the call is published
+place_of_call : (l : Submission) (call : Call)
+    → (call.taken ≤ call.count) × (call.count ≤ pending l) → eqb call.taken call.count ≡ false
+    → taken l ≤ length l.published
+    → (place : Place) × (slice_get l.published (taken l + call.taken) ≡ Some place)
+place_of_call l call fits more within = found (taken l + call.taken) l.published (let ne = eqb-false call.taken call.count more in omega arith)
+  where
+    found : (k : ℕ) (xs : List Place) → k < length xs → (place : Place) × (slice_get xs k ≡ Some place)
+    found k [] below = absurd (omega arith)
+    found zero (x ∷ xs) below = (x, refl)
+    found (suc k) (x ∷ xs) below = found k xs (omega arith)
+
+take_dropped : (p : Core) (w : World) (q : Sq) (c : Option Call) → ShowsWorld p w
+    → w.submission.call ≡ c → took_as.Dropped ≡ ring.take_in w.submission c
+    → ShowsSubmission p.setup q (ring.taken_on w.submission c)
+    → Takes p w (taking_of w c) q p.held answer.Dropped c
+take_dropped p w q None s is e shown = absurd (let f : took_as.Dropped ≡ took_as.NoCall = e in cc)
+take_dropped p w q (Some call) s is e shown =
+    let within = given_as (eqb call.taken call.count) took_as.Dropped _ e (λ f. cc) in
+    let more = within.0 in
+    let place = place_of_call w.submission call (some_call w.submission.call call _ is s.submission.call_fits) more s.submission.taken_first in
+    let none = place_dropped _ place.0 place.1 within.1 in
+    let so_far : p.held ≡ entries_of (take call.taken (drop (taken w.submission) w.submission.published)) = s.held ∙ ap (held_by w.submission) is in
+    record {
+      shows = taken_shows p w q call p.held false s is more shown
+          (sym (held_more w.submission call place.0 place.1 ∙ ap (λ xs. entries_of (take call.taken (drop (taken w.submission) w.submission.published)) ++ xs) (no_entries place.0 none) ∙ append-nil _ ∙ sym so_far));
+      answered = answered_dropped w call place.0 more place.1 none;
+    }
+
+-- the ring after a take, and then with its call stopped behind the entry, if it stops there
+pub take_entry_goes : (p : Core) (q stops : Sq) (entry : Sqe)
+    → ((g : Setup) (l : Submission) → ShowsSubmission g p.sq l → took_as.Entry entry ≡ ring.take_answer l)
+    → ((g : Setup) (l : Submission) → ShowsSubmission g p.sq l → ShowsSubmission g q (ring.after_take l (took_as.Entry entry)))
+    → ((g : Setup) (l : Submission) → ShowsSubmission g q l → ShowsSubmission g stops (with_stopped (stops_at p.setup entry) l))
+    → (h : History) → FitsApart p h
+    → FitsApart (record p { sq = stops; held = p.held ++ entry ∷ [] }) ((step.Take, answer.Entry entry) ∷ h)
+take_entry_goes p q stops entry answered shown stopped h f =
+    let w = world p.setup h in
+    let t = take_entry p w stops entry w.submission.call f.shows refl (answered p.setup w.submission f.shows.submission) (stopped p.setup _ (shown p.setup w.submission f.shows.submission)) in
+    record { shows = t.shows; lawful = (t.answered, f.lawful) }
+
+pub take_dropped_goes : (p : Core) (q : Sq)
+    → ((g : Setup) (l : Submission) → ShowsSubmission g p.sq l → took_as.Dropped ≡ ring.take_answer l)
+    → ((g : Setup) (l : Submission) → ShowsSubmission g p.sq l → ShowsSubmission g q (ring.after_take l took_as.Dropped))
+    → (h : History) → FitsApart p h
+    → FitsApart (record p { sq = q }) ((step.Take, answer.Dropped) ∷ h)
+take_dropped_goes p q answered shown h f =
+    let w = world p.setup h in
+    let t = take_dropped p w q w.submission.call f.shows refl (answered p.setup w.submission f.shows.submission) (shown p.setup w.submission f.shows.submission) in
+    record { shows = t.shows; lawful = (t.answered, f.lawful) }
+
+-- what a call took fits its positions
+pub few_entries : (places : List Place) (n : ℕ) → length (entries_of (take n places)) ≤ n
+few_entries places n =
+    let e = entries_and_dropped (take n places) in
+    let k : length (take n places) ≤ n = grind (arith, common_steps) in
+    omega arith
+
+pub held_within : (l : Submission) (size : ℕ) (c : Option Call)
+    → IfSome c (λ call. (call.taken ≤ call.count) × (call.count ≤ pending l))
+    → length (held_by l c) ≤ positions_of c
+held_within l size None fits = omega arith
+held_within l size (Some call) fits =
+    let k = few_entries (drop (taken l) l.published) call.taken in omega arith
+
+-- the dispatcher has room for what the open call took
+pub held_accepted : (p : Core) (h : History) → FitsApart p h → length p.held ≤ p.dispatch.room
+held_accepted p h f =
+    let s = f.shows in
+    let l = (world p.setup h).submission in
+    let held = held_within l p.setup.sq l.call s.submission.call_fits in
+    let room = s.room_to_accept in
+    let same : length p.held ≡ length (held_by l l.call) = ap length s.held in
+    omega arith
+
+-- with a position left, fewer entries are held than the ring has
+pub held_has_room : (p : Core) (h : History) (entry : Sqe) → FitsApart p h
+    → ((g : Setup) (l : Submission) → ShowsSubmission g p.sq l → took_as.Entry entry ≡ ring.take_answer l)
+    → length p.held < p.setup.sq
+held_has_room p h entry f answered =
+    let w = world p.setup h in
+    let s = f.shows.submission in
+    subst (λ n. n < p.setup.sq) (sym (ap length f.shows.held)) (few w.submission p.setup.sq entry w.submission.call (answered p.setup w.submission s) s.call_fits s.seen_first s.taken_first s.few)
+  where
+    few : (l : Submission) (size : ℕ) (entry : Sqe) (c : Option Call) → took_as.Entry entry ≡ ring.take_in l c → IfSome c (λ call. (call.taken ≤ call.count) × (call.count ≤ pending l))
+        → l.seen_head ≤ taken l → taken l ≤ length l.published → staged l ≤ l.seen_head + size → length (held_by l c) < size
+    few l size entry None e fits seen within room = absurd (let f : took_as.Entry entry ≡ took_as.NoCall = e in cc)
+    few l size entry (Some call) e fits seen within room =
+        let ne = eqb-false call.taken call.count (given_as (eqb call.taken call.count) (took_as.Entry entry) _ e (λ f. cc)).0 in
+        let k = few_entries (drop (taken l) l.published) call.taken in
+        omega arith

@@ -1,0 +1,96 @@
+-- What an event makes of the files of a history: a Finish that ends its request does what its operation does (`files_ended`), and no other step changes a file (`files_kept`).
+-- From `Moves`: doomed requests end with a fault and cancels are on no file, so their ends change none.
+-- Stable: other crates may import `files_ended` and `files_kept`.
+use Rattle.std.proofs.Common.{◌≡◌, ℕ, ℤ, negsuc, ◌==◌, List, [], ◌∷◌, ◌++◌, Bool, true, if◌then◌else◌, refl, ◌∙◌, ap}
+use Rattle.std.specs.List.{list_any}
+use Rattle.std.proofs.lemmas.Bool.{or_left, or_right, eqb-true, eq-eqb, cond_both}
+use Rattle.uring_entry.specs.Setup.{Setup}
+use Rattle.uring_entry.specs.Layout.{Sqe, opcode_of, addr_of}
+use Rattle.uring_entry.specs.Preparation.{is_faulty, is_cancel, is_cancel_all, operation_of}
+use Rattle.uring_entry.specs.Requests.{Requests, Ending, entry_of, doomed_result, cancel_result, no_bytes, with_call, with_started, with_ended, with_issued_end}
+use Rattle.uring_entry.specs.declared.opcode.TheConstants.{NOP, FSYNC, ASYNC_CANCEL}
+use Rattle.uring_entry.specs.declared.operation.Op.{Op}
+use Rattle.uring_entry.specs.declared.operation.Op.TheVariants.{Nop, Cancel}
+use Rattle.uring_files.specs.Contents.{FileContents}
+use Rattle.uring_files.specs.Operations.{after}
+use Rattle.uring_core.specs.CalledFor.{files_after, files_of}
+use Rattle.uring_core.specs.Core.{IsNoFinish}
+use Rattle.uring_core.specs.Histories.{History, world, IsLawfulApart}
+use Rattle.uring_core.specs.declared.step.Step.{Step}
+use Rattle.uring_core.specs.declared.answer.Answer.{Answer}
+use Rattle.uring_core.proofs.Moves.{Move, stays, accepts, starts, ends_doomed, ends_cancel, ends_run, move_of}
+use Rattle.uring_core.proofs.Running.{entry_stays}
+use Rattle.uring_core.proofs.Sound.{sound_of}
+use Rattle.uring_core.proofs.SoundRequests.{IsSoundRequests}
+
+-- the files depend on no entries but those of what ended
+files_same : (r q : Requests) (files : List FileContents) (ends : List Ending)
+    → ((n : ℕ) → list_any (λ e. e.number == n) ends ≡ true → entry_of q n ≡ entry_of r n)
+    → files_after q files ends ≡ files_after r files ends
+files_same r q files [] same = refl
+files_same r q files (e ∷ later) same =
+    ap (λ x. files_after q (after files (operation_of x) e.res) later) (same e.number (or_left _ _ (eq-eqb e.number e.number refl)))
+    ∙ files_same r q (after files (operation_of (entry_of r e.number)) e.res) later (λ n there. same n (or_right (e.number == n) _ there))
+
+-- the last end comes last
+files_more : (r : Requests) (files : List FileContents) (ends : List Ending) (e : Ending)
+    → files_after r files (ends ++ e ∷ [])
+    ≡ after (files_after r files ends) (operation_of (entry_of r e.number)) e.res
+files_more r files [] e = refl
+files_more r files (first ∷ later) e =
+    files_more r (after files (operation_of (entry_of r first.number)) first.res) later e
+
+-- Ends that change no file.
+
+pub failed : (files : List FileContents) (op : Op) (below : ℕ)
+    → after files op (negsuc below) ≡ files
+failed files Nop below = refl
+failed files _ below = refl
+
+doomed_changes_none : (files : List FileContents) (r : Requests) (n : ℕ)
+    → after files (operation_of (entry_of r n)) (doomed_result r n) ≡ files
+doomed_changes_none files r n =
+    cond_both (is_faulty (entry_of r n)) (negsuc 21) (negsuc 124) (λ res. after files (operation_of (entry_of r n)) res ≡ files) (λ _. failed files (operation_of (entry_of r n)) 21) (λ _. failed files (operation_of (entry_of r n)) 124)
+
+asks_cancel : (code target : ℕ) (all : Bool) (sync other : Op) → code ≡ ASYNC_CANCEL
+    → (if code == NOP then Nop else (if code == FSYNC then sync else (if code == ASYNC_CANCEL then Cancel target all else other)))
+    ≡ Cancel target all
+asks_cancel code target all sync other e = rw e refl
+
+cancel_changes_none : (files : List FileContents) (e : Sqe) (res : ℤ) → is_cancel e ≡ true
+    → after files (operation_of e) res ≡ files
+cancel_changes_none files e res cancel = ap (λ op. after files op res) (asks_cancel (opcode_of e) (addr_of e) (is_cancel_all e) _ _ (eqb-true _ _ cancel))
+
+-- what an end makes of the files
+pub files_ended : (r : Requests) (n : ℕ) (res : ℤ) (bytes : List ℕ) (files : List FileContents)
+    → files_after (with_ended r n res bytes) files (with_ended r n res bytes).ended
+    ≡ after (files_after r files r.ended) (operation_of (entry_of r n)) res
+files_ended r n res bytes files =
+    files_same r (with_ended r n res bytes) files (with_ended r n res bytes).ended (λ m there. refl)
+    ∙ files_more r files r.ended (record { number = n; res = res; bytes = bytes })
+
+issued_end : (r : Requests) (n : ℕ) (res : ℤ) (files : List FileContents)
+    → files_after (with_issued_end r n res) files (with_issued_end r n res).ended
+    ≡ after (files_after r files r.ended) (operation_of (entry_of r n)) res
+issued_end r n res files =
+    files_same r (with_issued_end r n res) files (with_issued_end r n res).ended (λ m there. refl)
+    ∙ files_more r files r.ended (record { number = n; res = res; bytes = no_bytes })
+
+move_keeps : (r q : Requests) (s : Step) (a : Answer) (files : List FileContents) → Move r s a q
+    → IsNoFinish s → IsSoundRequests r → files_after q files q.ended ≡ files_after r files r.ended
+move_keeps r q s a files (stays _ _ no_start no_end) other i = refl
+move_keeps r q s a files (accepts accepted missed head entries) other i = files_same r (with_call r entries) files r.ended (λ n there. entry_stays r entries n (i.ended_accepted n there))
+move_keeps r q s a files (starts n outstanding idle spared ready no_cancel) other i =
+    files_same r (with_started r n) files r.ended (λ m there. refl)
+move_keeps r q s a files (ends_doomed n outstanding) other i =
+    issued_end r n (doomed_result r n) files ∙ doomed_changes_none (files_after r files r.ended) r n
+move_keeps r q s a files (ends_cancel n outstanding spared ready cancel) other i = issued_end r n (cancel_result r n) files ∙ cancel_changes_none (files_after r files r.ended) (entry_of r n) (cancel_result r n) cancel
+move_keeps r q s a files (ends_run n res bytes running) other i = absurd other
+
+-- a step but a finish leaves the files as they are
+pub files_kept : (g : Setup) (s : Step) (a : Answer) (before : History)
+    → IsLawfulApart g ((s, a) ∷ before) → IsNoFinish s
+    → files_of g (world g ((s, a) ∷ before)) ≡ files_of g (world g before)
+files_kept g s a before lawful other =
+    move_keeps (world g before).requests _ s a _ (move_of g s a before lawful) other
+    (sound_of g before lawful.1).requests

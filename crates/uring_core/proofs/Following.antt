@@ -1,0 +1,51 @@
+-- Histories from events written oldest first: what `history_of` makes of a list with one event more, and of two lists.
+-- From std's lemmas on `reverse`. `follow_next` is one round of `run` of `uring_machine`.
+-- Stable: other crates may import `history_of-snoc`, `history_of-cons` and `history_of-append`.
+use Rattle.std.proofs.Common.{◌≡◌, ℕ, ◌+◌, ◌<◌, List, [], ◌∷◌, ◌++◌, length, take, get_or, refl, sym, ap, ◌∙◌, arith, append_assoc}
+use Rattle.std.specs.List.{zip}
+use Rattle.std.proofs.lemmas.List.{take_more, length-take-le, reverse-append}
+use Rattle.uring_core.specs.Histories.{Event, History, history_of}
+use Rattle.uring_core.specs.declared.step.Step.{Step}
+use Rattle.uring_core.specs.declared.step.Step.TheVariants as step
+use Rattle.uring_core.specs.Core.{IsNoFinish}
+use Rattle.uring_core.specs.declared.answer.Answer.{Answer}
+
+-- what happened last stands first
+pub history_of-snoc : (events : List Event) (e : Event)
+    → history_of (events ++ e ∷ []) ≡ e ∷ history_of events
+history_of-snoc events e = reverse-append events (e ∷ [])
+
+-- what happened first stands right behind what was before
+pub history_of-cons : (e : Event) (events : List Event) (before : History)
+    → history_of (e ∷ events) ++ before ≡ history_of events ++ e ∷ before
+history_of-cons e events before = ap (λ h. h ++ before) (reverse-append (e ∷ []) events) ∙ append_assoc (history_of events) (e ∷ []) before
+
+-- what happened later stands before what happened earlier
+pub history_of-append : (earlier later : List Event) (before : History)
+    → history_of (earlier ++ later) ++ before ≡ history_of later ++ (history_of earlier ++ before)
+history_of-append earlier later before = ap (λ h. h ++ before) (reverse-append earlier later) ∙ append_assoc (history_of later) (history_of earlier) before
+
+-- the last step stands beside the last answer
+zip-snoc : (steps : List Step) (answers : List Answer) (s : Step) (a : Answer)
+    → length steps ≡ length answers
+    → zip (steps ++ s ∷ []) (answers ++ a ∷ []) ≡ zip steps answers ++ (s, a) ∷ []
+zip-snoc [] [] s a e = refl
+zip-snoc [] (first ∷ answers) s a e = absurd (omega (arith, e))
+zip-snoc (first ∷ steps) [] s a e = absurd (omega (arith, e))
+zip-snoc (first ∷ steps) (answer ∷ answers) s a e =
+    ap (λ events. (first, answer) ∷ events) (zip-snoc steps answers s a (omega (arith, e)))
+
+-- one step more
+pub follow_next : (h : History) (steps : List Step) (i : ℕ) (answers pushed : List Answer) (s : Step) (a : Answer)
+    → i < length steps → s ≡ get_or steps i s → length answers ≡ i → pushed ≡ answers ++ a ∷ []
+    → history_of (zip (take (i + 1) steps) pushed) ++ h
+    ≡ (s, a) ∷ (history_of (zip (take i steps) answers) ++ h)
+follow_next h steps i answers pushed s a lt at many more =
+    rw (take_more steps i s lt, ← at, more)
+    (ap (λ events. history_of events ++ h) (zip-snoc (take i steps) answers s a (length-take-le i steps (omega arith) ∙ sym many))
+    ∙ ap (λ k. k ++ h) (history_of-snoc (zip (take i steps) answers) (s, a)))
+
+-- what isn't a Finish is no finish
+pub no_finish : (s : Step) → ((n : ℕ) → s ≡ step.Finish n → ⊥) → IsNoFinish s
+no_finish (step.Finish n) other = other n refl
+no_finish _ other = tt

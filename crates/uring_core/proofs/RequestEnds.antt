@@ -1,0 +1,264 @@
+-- What holds of the requests stays as one ends.
+use Rattle.std.proofs.Common.{◌≡◌, ◌≢◌, ℕ, ◌==◌, ◌<◌, ℤ, pos, neg_ℤ, List, [], ◌∷◌, ◌++◌, length, Bool, true, false, not, ◌&&◌, eqb, Option, Some, None, cond, refl, sym, subst, ap, ◌∙◌, ◌⊎◌, inl, inr, negsuc}
+use Rattle.std.specs.List.{list_any}
+use Rattle.std.specs.Option.{option_to_list}
+use Rattle.std.specs.Ordering.{int_eq}
+use Rattle.std.proofs.lemmas.Bool.{cases_eq, cases_Bool, and_parts, and_from, and_left, and_right, or_cases, or_from, both_ways, eqb-true, eqb-false, ne_eqb, lt-ltb, not-true, not_from_true, false_from_ne_true, cond_both}
+use Rattle.std.proofs.lemmas.Bool.Decides.{Decides-int_eq}
+use Rattle.std.proofs.lemmas.List.Folds.{list_any-append}
+use Rattle.std.specs.Prelude.{int_le}
+use Rattle.uring_entry.specs.Success.{is_success}
+use Rattle.uring_entry.specs.Preparation.{is_faulty, is_cancel, is_cancel_all}
+use Rattle.uring_entry.specs.declared.errno.TheConstants.{EINVAL, EALREADY, ECANCELED}
+use Rattle.uring_entry.specs.Requests.{Requests, entry_of, has_started, has_ended, has_failed, is_running, is_outstanding, is_joined, some_member, is_in_faulty_group, is_cancelled, is_doomed, is_ready, is_candidate, target_of, targets_of, choices_of, count_result, result_for, cancel_result, doomed_result, no_bytes, chosen_by, with_ended, with_issued_end}
+use Rattle.uring_entry.proofs.RequestLemmas.{is_doomed-faulty, is_doomed-behind, is_doomed-cancelled, one_success, never_success, target-in, list_any-push, all_success}
+use Rattle.uring_core.proofs.ListCounts.{any_looser, any_kept, any_new, count_once_more}
+use Rattle.uring_entry.proofs.EventLemmas.{is_doomed-tells, is_behind_failure-tells, is_behind_failure-from, target_of-tells}
+use Rattle.uring_core.proofs.SoundRequests.{IsFree, is_otherwise, EndsDoomed, IsSoundRequests, outstanding_tells, idle_tells, ready_first}
+use Rattle.uring_core.specs.Events.{Chose}
+
+-- A request ends, and these are the ones that cancels chose so far.
+abbrev pub ended_as : Requests → ℕ → ℤ → List ℕ → List ℕ → Requests
+ended_as r n res bytes cancelled = record r { cancelled = cancelled; ended = r.ended ++ record { number = n; res = res; bytes = bytes } ∷ [] }
+
+-- a cancel chose m, which is another request than n, and has neither started nor ended
+pub record IsChosen (r : Requests) (n m : ℕ) : Type 0 where
+  pub other : m ≢ n
+  pub unstarted : has_started r m ≡ false
+  pub unended : has_ended r m ≡ false
+  pub accepted : m < length r.accepted
+
+-- those that cancels chose, with what the end of n adds
+pub record IsChoice (r : Requests) (n : ℕ) (cancelled : List ℕ) : Type 0 where
+  pub kept : (m : ℕ) → is_cancelled r m ≡ true → list_any (λ k. k == m) cancelled ≡ true
+  pub added : (m : ℕ) → list_any (λ k. k == m) cancelled ≡ true
+      → (is_cancelled r m ≡ true) ⊎ IsChosen r n m
+
+module _ (r : Requests) (n : ℕ) (res : ℤ) (bytes : List ℕ) (cancelled : List ℕ) (choice : IsChoice r n cancelled) where
+  pub end_join : (k m : ℕ) → is_joined (ended_as r n res bytes cancelled) k m ≡ is_joined r k m
+  unfolding is_joined
+  end_join k m = refl
+
+  end_fault : (m : ℕ) → is_in_faulty_group (ended_as r n res bytes cancelled) m ≡ is_in_faulty_group r m
+  unfolding some_member is_joined
+  end_fault m = refl
+
+  end_kept : (m : ℕ) → has_ended r m ≡ true → has_ended (ended_as r n res bytes cancelled) m ≡ true
+  end_kept m e = any_kept (λ x. x.number == m) r.ended _ e
+
+  fail_other : (k : ℕ) → k ≢ n → has_failed (ended_as r n res bytes cancelled) k ≡ true → has_failed r k ≡ true
+  fail_other k differ e =
+      elim (any_new (λ x. (x.number == k) && not (is_success (entry_of r k) x.res)) r.ended (record { number = n; res = res; bytes = bytes }) e) [
+        | inl old ↦ old
+        | inr new ↦ absurd (differ (sym (eqb-true _ _ (and_parts _ _ new).0)))
+      ]
+
+  fail_kept : (k : ℕ) → has_failed r k ≡ true → has_failed (ended_as r n res bytes cancelled) k ≡ true
+  fail_kept k e = any_kept (λ x. (x.number == k) && not (is_success (entry_of r k) x.res)) r.ended _ e
+
+  -- who is doomed stays doomed
+  pub end_doom : (m : ℕ) → is_doomed r m ≡ true
+      → is_doomed (ended_as r n res bytes cancelled) m ≡ true
+  end_doom m doomed =
+      elim (is_doomed-tells r m doomed) [
+        | inl faulty ↦ is_doomed-faulty (ended_as r n res bytes cancelled) m (end_fault m ∙ faulty)
+        | inr (inl behind) ↦
+            let t = is_behind_failure-tells r m behind in
+            let f = t.1 in
+            is_doomed-behind (ended_as r n res bytes cancelled) m (is_behind_failure-from (ended_as r n res bytes cancelled) m t.0 (record { before = f.before; joined = end_join t.0 m ∙ f.joined; soft = f.soft; failed = fail_kept t.0 f.failed }))
+        | inr (inr gone) ↦ is_doomed-cancelled (ended_as r n res bytes cancelled) m (choice.kept m gone)
+      ]
+
+  -- who is doomed newly is a later member of n's group, or chosen
+  end_doomed : (m : ℕ) → is_doomed (ended_as r n res bytes cancelled) m ≡ true → (is_doomed r m ≡ true) ⊎ (((n < m) × (is_joined r n m ≡ true)) ⊎ IsChosen r n m)
+  end_doomed m doomed =
+      elim (is_doomed-tells (ended_as r n res bytes cancelled) m doomed) [
+        | inl faulty ↦ inl (is_doomed-faulty r m (sym (end_fault m) ∙ faulty))
+        | inr (inl behind) ↦
+            let t = is_behind_failure-tells (ended_as r n res bytes cancelled) m behind in
+            let k = t.0 in
+            let f = t.1 in
+            let joined : is_joined r k m ≡ true = sym (end_join k m) ∙ f.joined in
+            elim (cases_eq k n) [
+              | inl same ↦ inr (inl (subst (λ j. (j < m) × (is_joined r j m ≡ true)) same (f.before, joined)))
+              | inr differ ↦ inl (is_doomed-behind r m (is_behind_failure-from r m k (record { before = f.before; joined = joined; soft = f.soft; failed = fail_other k differ f.failed })))
+            ]
+        | inr (inr gone) ↦
+            elim (choice.added m gone) [
+              | inl old ↦ inl (is_doomed-cancelled r m old)
+              | inr new ↦ inr (inr new)
+            ]
+      ]
+
+  -- who is free stays free, unless chosen
+  free_kept : (m : ℕ) → has_ended r n ≡ false → (IsChosen r n m → ⊥) → IsFree r m → IsFree (ended_as r n res bytes cancelled) m
+  free_kept m unended unchosen f =
+      record {
+        spared =
+            elim (cases_Bool (is_doomed (ended_as r n res bytes cancelled) m)) [
+              | inl doomed ↦
+                  absurd
+                  (elim (end_doomed m doomed) [
+                    | inl old ↦ both_ways _ f.spared old
+                    | inr (inl later) ↦ both_ways _ unended (f.first n later.0 later.1)
+                    | inr (inr chosen) ↦ unchosen chosen
+                  ])
+              | inr spared ↦ spared
+            ];
+        first = λ k lt e. end_kept k (f.first k lt (sym (end_join k m) ∙ e));
+      }
+
+  -- the ends of another stay its ends
+  ends_doomed_kept : (m : ℕ) → m ≢ n → EndsDoomed r m → EndsDoomed (ended_as r n res bytes cancelled) m
+  ends_doomed_kept m differ d =
+      list_any-push (is_otherwise r m) r.ended (record { number = n; res = res; bytes = bytes })
+      ∙ or_from _ _ d (and_left (eqb n m) _ (ne_eqb n m (λ same. differ (sym same))))
+
+  -- the first end of a doomed request
+  ends_doomed_first : has_ended r n ≡ false → res ≡ doomed_result r n → EndsDoomed (ended_as r n res bytes cancelled) n
+  ends_doomed_first unended is =
+      list_any-push (is_otherwise r n) r.ended (record { number = n; res = res; bytes = bytes })
+      ∙ or_from _ _ (false_from_ne_true _ (λ some. both_ways _ unended (any_looser (λ e. e.number == n) (λ e. not (int_eq e.res (doomed_result r n))) r.ended some)))
+      (and_right (eqb n n) _ (not_from_true _ ((Decides-int_eq res (doomed_result r n)).1 is)))
+
+  -- how the end of n came: n was doomed, with that result, or free
+  pub end_sound : is_outstanding r n ≡ true → (res ≡ doomed_result r n) ⊎ IsFree r n
+      → IsSoundRequests r → IsSoundRequests (ended_as r n res bytes cancelled)
+  end_sound outstanding how s =
+      let o = outstanding_tells r n outstanding in
+      record {
+        started_accepted = s.started_accepted;
+        ended_accepted = λ m e. elim (any_new (λ x. x.number == m) r.ended (record { number = n; res = res; bytes = bytes }) e) [ inl old ↦ s.ended_accepted m old | inr new ↦ subst (λ k. k < length r.accepted) (eqb-true _ _ new) o.0 ];
+        starts_once = s.starts_once;
+        ends_once = λ m. count_once_more (λ x. x.number == m) r.ended (record { number = n; res = res; bytes = bytes }) (s.ends_once m) (λ same. subst (λ k. has_ended r k ≡ false) (eqb-true _ _ same) o.1);
+        cut_at_end = s.cut_at_end;
+        started_free = λ m e. free_kept m o.1 (λ chosen. both_ways _ chosen.unstarted e) (s.started_free m e);
+        ended_how = λ m e. elim (any_new (λ x. x.number == m) r.ended (record { number = n; res = res; bytes = bytes }) e) [
+          | inl old ↦
+              elim (s.ended_how m old) [
+                | inl doomed ↦ inl (ends_doomed_kept m (λ same. both_ways _ o.1 (subst (λ k. has_ended r k ≡ true) same old)) doomed)
+                | inr free ↦ inr (free_kept m o.1 (λ chosen. both_ways _ chosen.unended old) free)
+              ]
+          | inr new ↦
+              subst (λ k. EndsDoomed (ended_as r n res bytes cancelled) k ⊎ IsFree (ended_as r n res bytes cancelled) k) (eqb-true _ _ new)
+              (elim how [
+                | inl is ↦ inl (ends_doomed_first o.1 is)
+                | inr free ↦ inr (free_kept n o.1 (λ chosen. chosen.other refl) free)
+              ])
+        ];
+      }
+
+-- nothing is chosen where a running request ends
+pub no_choice : (r : Requests) (n : ℕ) → IsChoice r n r.cancelled
+no_choice r n = record { kept = λ m e. e; added = λ m e. inl e }
+
+pub finish_sound : (r : Requests) (n : ℕ) (res : ℤ) (bytes : List ℕ) → is_running r n ≡ true
+    → IsSoundRequests r → IsSoundRequests (with_ended r n res bytes)
+finish_sound r n res bytes running s =
+    let p = and_parts _ _ running in
+    let within = s.started_accepted n p.0 in
+    end_sound r n res bytes r.cancelled (no_choice r n) (and_from _ _ (lt-ltb _ _ within) p.1) (inr (s.started_free n p.0)) s
+
+-- What a cancel chooses.
+
+pub any_both : {X : Type 0} (p : X → Bool) (xs ys : List X) → list_any p (xs ++ ys) ≡ true
+    → (list_any p xs ≡ true) ⊎ (list_any p ys ≡ true)
+any_both p xs ys e = or_cases _ _ (sym (list_any-append p xs ys) ∙ e)
+
+only_one : (target : Option ℕ) (m : ℕ) → list_any (λ k. k == m) (option_to_list target) ≡ true
+    → target ≡ Some m
+only_one None m e = absurd (let f : false ≡ true = e in cc)
+only_one (Some t) m e = elim (or_cases (t == m) false e) [ inl here ↦ ap Some (eqb-true t m here) | inr none ↦ absurd (let f : false ≡ true = none in cc) ]
+
+a_number : (res : ℤ) → int_le (pos 0) res ≡ true → (count : ℕ) × (res ≡ pos count)
+a_number (pos count) e = (count, refl)
+a_number (negsuc below) e = absurd (let f : false ≡ true = e in cc)
+
+-- whom a cancel chose that succeeded with this result
+chose_so : (r : Requests) (n : ℕ) (res : ℤ) (m : ℕ) → is_cancel (entry_of r n) ≡ true
+    → is_success (entry_of r n) res ≡ true → list_any (λ k. k == m) (choices_of r n) ≡ true
+    → Chose r n res m
+chose_so r n res m cancel success there = by_all (is_cancel_all (entry_of r n)) refl there where
+  by_all : (all : Bool) → is_cancel_all (entry_of r n) ≡ all → list_any (λ k. k == m) (cond all (targets_of r n) (option_to_list (target_of r n))) ≡ true → Chose r n res m
+  by_all true is among =
+      let number = a_number res (sym (all_success (entry_of r n) res is) ∙ success) in
+      inr (record { all = is; count = number.0; result = number.1; target = target-in r n m among })
+  by_all false is among =
+      inl
+      (record {
+        cancel = cancel;
+        one = is;
+        result = (Decides-int_eq res (pos 0)).0 (sym (one_success (entry_of r n) res cancel is) ∙ success);
+        target = only_one (target_of r n) m among;
+      })
+
+-- who is chosen with a result
+pub chose : (r : Requests) (n : ℕ) (res : ℤ) (m : ℕ)
+    → list_any (λ k. k == m) (chosen_by r n res) ≡ true
+    → (is_success (entry_of r n) res ≡ true) × Chose r n res m
+chose r n res m e = by_test (is_cancel (entry_of r n) && is_success (entry_of r n) res) refl e where
+  by_test : (chooses : Bool) → (is_cancel (entry_of r n) && is_success (entry_of r n) res) ≡ chooses → list_any (λ k. k == m) (cond chooses (choices_of r n) []) ≡ true → (is_success (entry_of r n) res ≡ true) × Chose r n res m
+  by_test false is none = absurd (let f : false ≡ true = none in cc)
+  by_test true is there = let p = and_parts _ _ is in (p.1, chose_so r n res m p.0 p.1 there)
+
+-- no doomed request succeeds
+pub doomed_fails : (r : Requests) (n : ℕ) → is_success (entry_of r n) (doomed_result r n) ≡ false
+doomed_fails r n = cond_both (is_faulty (entry_of r n)) (neg_ℤ EINVAL) (neg_ℤ ECANCELED) (λ res. is_success (entry_of r n) res ≡ false) (λ _. never_success (entry_of r n) 21) (λ _. never_success (entry_of r n) 124)
+
+-- a cancel that ends with 0 found its target at rest
+result_tells : (r : Requests) (m : ℕ) → int_eq (result_for r (Some m)) (pos 0) ≡ true
+    → is_running r m ≡ false
+result_tells r m e = by_running (is_running r m) e where
+  by_running : (running : Bool) → int_eq (cond running (neg_ℤ EALREADY) (pos 0)) (pos 0) ≡ true → running ≡ false
+  by_running true f = absurd (let g : false ≡ true = f in cc)
+  by_running false f = refl
+
+module _ (r : Requests) (n : ℕ) where
+  -- what a cancel may choose is chosen, if it isn't running
+  chosen_at : (m : ℕ) → is_candidate r n m ≡ true → is_running r m ≡ false → IsChosen r n m
+  chosen_at m candidate idle =
+      let p = and_parts _ _ candidate in
+      let q = and_parts _ _ p.0 in
+      let u = and_parts _ _ q.0 in
+      let o = outstanding_tells r m u.0 in
+      record {
+        other = eqb-false _ _ (not-true _ u.1);
+        unstarted = idle_tells r m idle o.1;
+        unended = o.1;
+        accepted = o.0;
+      }
+
+  -- whom a cancel chose
+  is_chosen : (m : ℕ) → Chose r n (cancel_result r n) m → IsChosen r n m
+  is_chosen m (inl c) =
+      let result : result_for r (Some m) ≡ cancel_result r n = ap (result_for r) (sym c.target) ∙ sym (ap (λ b. cond b (count_result (length (targets_of r n))) (result_for r (target_of r n))) c.one) in
+      chosen_at m (target_of-tells r n m c.target).holds (result_tells r m ((Decides-int_eq (result_for r (Some m)) (pos 0)).1 (result ∙ c.result)))
+  is_chosen m (inr c) = let p = and_parts _ _ c.target in chosen_at m p.0 (not-true _ p.1)
+
+  -- who is chosen by the end of n with this result
+  pub choice_of : (res : ℤ) → (res ≡ doomed_result r n) ⊎ (res ≡ cancel_result r n)
+      → IsChoice r n (r.cancelled ++ chosen_by r n res)
+  choice_of res how =
+      record {
+        kept = λ m e. any_kept (λ k. k == m) r.cancelled (chosen_by r n res) e;
+        added = λ m e. elim (any_both (λ k. k == m) r.cancelled (chosen_by r n res) e) [
+          | inl old ↦ inl old
+          | inr new ↦
+              let c = chose r n res m new in
+              elim how [
+                | inl doomed ↦ absurd (both_ways _ (doomed_fails r n) (subst (λ x. is_success (entry_of r n) x ≡ true) doomed c.0))
+                | inr cancels ↦ inr (is_chosen m (subst (λ x. Chose r n x m) cancels c.1))
+              ]
+        ];
+      }
+
+pub doom_sound : (r : Requests) (n : ℕ) → is_outstanding r n ≡ true → IsSoundRequests r
+    → IsSoundRequests (with_issued_end r n (doomed_result r n))
+doom_sound r n outstanding s =
+    end_sound r n (doomed_result r n) no_bytes (r.cancelled ++ chosen_by r n (doomed_result r n)) (choice_of r n (doomed_result r n) (inl refl)) outstanding (inl refl) s
+
+pub cancel_sound : (r : Requests) (n : ℕ) → is_outstanding r n ≡ true → is_doomed r n ≡ false
+    → is_ready r n ≡ true → IsSoundRequests r
+    → IsSoundRequests (with_issued_end r n (cancel_result r n))
+cancel_sound r n outstanding spared ready s =
+    end_sound r n (cancel_result r n) no_bytes (r.cancelled ++ chosen_by r n (cancel_result r n)) (choice_of r n (cancel_result r n) (inr refl)) outstanding (inr (record { spared = spared; first = ready_first r n ready })) s

@@ -1,0 +1,99 @@
+-- What holds of the requests of every lawful history, and stays as one starts.
+use Rattle.std.proofs.Common.{◌≡◌, ℕ, ◌==◌, ◌<◌, ◌≤◌, length, Bool, true, false, not, ◌&&◌, count_by, refl, sym, subst, ◌∙◌, arith, ◌⊎◌, inl, inr}
+use Rattle.std.specs.List.{list_any}
+use Rattle.std.specs.Ordering.{int_eq}
+use Rattle.std.proofs.lemmas.Bool.{and_parts, and_cases, both_ways, eqb-true, ltb-true, not-true, not-false, or_left}
+use Rattle.uring_entry.specs.Requests.{Requests, Ending, no_request, has_started, has_ended, is_running, is_outstanding, is_joined, is_doomed, is_ready, doomed_result, with_started, waits_for}
+use Rattle.uring_entry.proofs.EventLemmas.{is_doomed-started, is_joined-started}
+use Rattle.uring_entry.proofs.RequestLemmas.{is_ready-inside}
+use Rattle.uring_core.proofs.ListCounts.{any_new, count_once_more}
+
+-- The invariant.
+
+-- not doomed, and all the earlier members of its group have ended
+pub record IsFree (r : Requests) (n : ℕ) : Type 0 where
+  pub spared : is_doomed r n ≡ false
+  pub first : (k : ℕ) → k < n → is_joined r k n ≡ true → has_ended r k ≡ true
+
+-- whether an end is one of n with another result than a doomed request has
+abbrev pub is_otherwise : Requests → ℕ → Ending → Bool
+is_otherwise r n e = (e.number == n) && not (int_eq e.res (doomed_result r n))
+
+-- each of its ends has the result of the doomed
+abbrev pub EndsDoomed : Requests → ℕ → Type 0
+EndsDoomed r n = list_any (is_otherwise r n) r.ended ≡ false
+
+pub record IsSoundRequests (r : Requests) : Type 0 where
+  pub started_accepted : (n : ℕ) → has_started r n ≡ true → n < length r.accepted
+  pub ended_accepted : (n : ℕ) → has_ended r n ≡ true → n < length r.accepted
+  pub starts_once : (n : ℕ) → count_by (λ m. m == n) r.started ≤ 1
+  pub ends_once : (n : ℕ) → count_by (λ e. e.number == n) r.ended ≤ 1
+  pub cut_at_end : (length r.accepted ≡ 0)
+      ⊎ (list_any (λ cut. cut == length r.accepted) r.cuts ≡ true)
+  pub started_free : (n : ℕ) → has_started r n ≡ true → IsFree r n
+  pub ended_how : (n : ℕ) → has_ended r n ≡ true → EndsDoomed r n ⊎ IsFree r n
+
+pub first_requests : IsSoundRequests no_request
+first_requests =
+    record {
+      started_accepted = λ n e. absurd (let f : false ≡ true = e in cc);
+      ended_accepted = λ n e. absurd (let f : false ≡ true = e in cc);
+      starts_once = λ n. omega arith;
+      ends_once = λ n. omega arith;
+      cut_at_end = inl refl;
+      started_free = λ n e. absurd (let f : false ≡ true = e in cc);
+      ended_how = λ n e. absurd (let f : false ≡ true = e in cc);
+    }
+
+-- A request starts.
+
+-- a start changes neither groups nor who is doomed
+start_free : (r : Requests) (n m : ℕ) → IsFree r m → IsFree (with_started r n) m
+start_free r n m f = record {
+  spared = is_doomed-started r n m ∙ f.spared;
+  first = λ k lt e. f.first k lt (sym (is_joined-started r n k m) ∙ e);
+}
+
+-- what is outstanding is accepted, and hasn't ended
+pub outstanding_tells : (r : Requests) (n : ℕ) → is_outstanding r n ≡ true
+    → (n < length r.accepted) × (has_ended r n ≡ false)
+outstanding_tells r n e = let p = and_parts _ _ e in (ltb-true _ _ p.0, not-true _ p.1)
+
+-- what hasn't ended and isn't running hasn't started
+pub idle_tells : (r : Requests) (n : ℕ) → is_running r n ≡ false → has_ended r n ≡ false
+    → has_started r n ≡ false
+idle_tells r n idle open_end =
+    elim (and_cases (has_started r n) _ idle) [
+      | inl fresh ↦ fresh
+      | inr over ↦ absurd (both_ways _ open_end (not-false _ over))
+    ]
+
+-- what is ready waits for nothing that hasn't ended
+pub waited : (r : Requests) (n m : ℕ) → is_ready r n ≡ true → m < n → waits_for r n m ≡ true
+    → has_ended r m ≡ true
+waited r n m ready lt waits =
+    elim (and_cases (not (has_ended r m)) _ (is_ready-inside r n m ready lt)) [
+      | inl over ↦ not-false _ over
+      | inr apart ↦ absurd (both_ways _ apart waits)
+    ]
+
+-- a request that is ready is behind no member of its group
+pub ready_first : (r : Requests) (n : ℕ) → is_ready r n ≡ true → (k : ℕ) → k < n
+    → is_joined r k n ≡ true → has_ended r k ≡ true
+ready_first r n ready k lt joined = waited r n k ready lt (or_left _ _ (or_left _ _ joined))
+
+pub start_sound : (r : Requests) (n : ℕ) → is_outstanding r n ≡ true → is_running r n ≡ false
+    → is_doomed r n ≡ false → is_ready r n ≡ true → IsSoundRequests r
+    → IsSoundRequests (with_started r n)
+start_sound r n outstanding idle spared ready s =
+    let o = outstanding_tells r n outstanding in
+    let fresh = idle_tells r n idle o.1 in
+    record {
+      started_accepted = λ m e. elim (any_new (λ k. k == m) r.started n e) [ inl old ↦ s.started_accepted m old | inr new ↦ subst (λ k. k < length r.accepted) (eqb-true _ _ new) o.0 ];
+      ended_accepted = s.ended_accepted;
+      starts_once = λ m. count_once_more (λ k. k == m) r.started n (s.starts_once m) (λ same. subst (λ k. has_started r k ≡ false) (eqb-true _ _ same) fresh);
+      ends_once = s.ends_once;
+      cut_at_end = s.cut_at_end;
+      started_free = λ m e. start_free r n m (elim (any_new (λ k. k == m) r.started n e) [ inl old ↦ s.started_free m old | inr new ↦ subst (IsFree r) (eqb-true _ _ new) (record { spared = spared; first = ready_first r n ready }) ]);
+      ended_how = λ m e. elim (s.ended_how m e) [ inl doomed ↦ inl doomed | inr free ↦ inr (start_free r n m free) ];
+    }

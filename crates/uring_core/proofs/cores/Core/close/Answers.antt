@@ -1,0 +1,22 @@
+use Rattle.std.proofs.Common.{◌≡◌, true, false, cond, is_some, ◌∷◌, refl, sym, ap, ◌∙◌}
+use Rattle.uring_entry.specs.Setup.{Setup}
+use Rattle.uring_entry.specs.Submission.{Submission}
+use Rattle.uring_rings.specs.Sq.{ShowsSubmission}
+use Rattle.uring_core.specs.Histories.{History}
+use Rattle.uring_core.specs.Core.{Core, FitsApart}
+use Rattle.uring_core.specs.declared.step.Step.TheVariants as step
+use Rattle.uring_core.specs.declared.answer.Answer.TheVariants as answer
+use Rattle.uring_core.proofs.CoreSteps.{core_after}
+use Rattle.uring_core.proofs.cores.Core.close.Goals as goal
+
+close_goes : (p : Core)
+    → ((g : Setup) (l : Submission) → ShowsSubmission g p.sq l → false ≡ is_some l.call)
+    → (h : History) → FitsApart p h
+    → FitsApart (record p { is_closed = true }) ((step.Close, answer.Shut) ∷ h)
+close_goes p no_call h f = record {
+  shows = let closed : true ≡ true = refl in assumption (f.shows, closed);
+  lawful = (ap (λ b. cond b answer.InCall answer.Shut) (no_call p.setup _ f.shows.submission), f.lawful);
+}
+
+pub invariant_of-self : goal.invariant_of-self
+invariant_of-self c = (c.self.invariant.0, core_after _ _ _ refl (close_goes _ (λ g l s. sym c.if-in_call.false ∙ c.in_call.ensures g l s)) c.self.invariant.1)

@@ -1,0 +1,25 @@
+use Rattle.std.proofs.Common.{refl, sym, ◌∙◌, rules}
+use Rattle.std.specs.Int.{w32}
+use Rattle.std.proofs.lemmas.Int.{to_z-of_z}
+use Rattle.uring_core.proofs.CoreSteps.{core_after}
+use Rattle.uring_core.proofs.CoreEnds.{run_goes, issue_ended_goes}
+use Rattle.uring_core.proofs.cores.Core.issue.Goals as goal
+
+pub invariant_of-self : goal.invariant_of-self
+invariant_of-self c = (c.self.invariant.0, core_after _ _ _ refl (run_goes _ c.issue.new.self c.args.number c.in-Run.field-0 c.in-Run.ensures.answer c.in-Run.ensures.shows c.in-Run.ensures.counts) c.self.invariant.1)
+
+pub invariant_of-self-in-Ended : goal.invariant_of-self-in-Ended
+invariant_of-self-in-Ended c =
+    let same = to_z-of_z w32 c.in-Ended.res (search rules) in
+    let success = rw same at c.succeeded.ensures in
+    let ended = issue_ended_goes _ c.issue.new.self c.post_end.new.cq c.args.number c.in-Ended.res c.in-Some.entry c.in-Ended.ensures.answer (λ r s. sym c.in-Some.is ∙ c.entry-entry.ensures r s)
+    c.in-Ended.ensures.shows c.in-Ended.ensures.counts (λ g l. simp same at (c.post_end.ensures.shows g l c.in-Some.entry (rw same (c.of-posts.ensures c.in-Ended.res success)))) c.post_end.ensures.room c.post_end.ensures.promised in
+    (c.self.invariant.0, core_after _ _ _ refl ended c.self.invariant.1)
+
+pub returns-in-Some-clause-fits : goal.returns-in-Some-clause-fits
+returns-in-Some-clause-fits c =
+    let same = to_z-of_z w32 c.in-Ended.res (search rules) in
+    let success = rw same at c.succeeded.ensures in
+    let ended = issue_ended_goes _ c.issue.new.self c.post_end.new.cq c.args.number c.in-Ended.res c.in-Some.entry c.in-Ended.ensures.answer (λ r s. sym c.in-Some.is ∙ c.entry-entry.ensures r s)
+    c.in-Ended.ensures.shows c.in-Ended.ensures.counts (λ g l. simp same at (c.post_end.ensures.shows g l c.in-Some.entry (rw same (c.of-posts.ensures c.in-Ended.res success)))) c.post_end.ensures.room c.post_end.ensures.promised in
+    rw (simp same at c.ended.ensures, ← c.self.view_is) ended

@@ -1,0 +1,116 @@
+-- What all the steps so far have made: the three records of lists, and whether the ring is closed.
+use Rattle.std.specs.Prelude.{ℕ, Bool, true, false, Option, Some, None, length}
+use Rattle.uring_entry.specs.Setup.{Setup}
+use Rattle.uring_entry.specs.Layout.{Sqe}
+use Rattle.uring_entry.specs.Submission.{Submission, Call, no_submission, entries_from, with_filled, with_staged, with_published, with_head_loaded, with_begun, with_taken, stops_at, with_stopped, with_closed}
+use Rattle.uring_entry.specs.Requests.{Requests, no_request, entry_of, with_call, with_started, with_ended, with_issued_end, no_bytes}
+use Rattle.uring_entry.specs.Completions.{Completions, no_completion, with_end, with_flushed, with_tail_loaded, with_reaped, with_head_stored}
+use Rattle.uring_core.specs.declared.step.Step.{Step}
+use Rattle.uring_core.specs.declared.step.Step.TheVariants as step
+use Rattle.uring_core.specs.declared.answer.Answer.{Answer}
+use Rattle.uring_core.specs.declared.answer.Answer.TheVariants as answer
+
+pub record World : Type 0 where
+  pub submission : Submission
+  pub requests : Requests
+  pub completions : Completions
+  pub is_closed : Bool
+
+-- nothing has happened
+abbrev pub at_first : World
+at_first = record {
+  submission = no_submission;
+  requests = no_request;
+  completions = no_completion;
+  is_closed = false;
+}
+
+-- A step that was refused, or only answers, makes nothing. What each other makes, by its answer:
+
+abbrev pub filling : World → ℕ → Sqe → Answer → World
+filling w slot entry answer.Filled = record w { submission = with_filled w.submission slot entry }
+filling w slot entry _ = w
+
+abbrev pub staging : World → ℕ → Answer → World
+staging w word answer.Staged = record w { submission = with_staged w.submission word }
+staging w word _ = w
+
+abbrev pub beginning : World → ℕ → Answer → World
+beginning w count (answer.Call length) = record w { submission = with_begun w.submission count }
+beginning w count _ = w
+
+-- the open call takes a position, if a call is open
+abbrev pub taking_of : World → Option Call → World
+taking_of w None = w
+taking_of w (Some call) = record w { submission = with_taken w.submission call }
+
+-- the open call takes this entry, and stops behind it if it stops there
+abbrev pub taking_entry_of : Setup → World → Sqe → Option Call → World
+taking_entry_of g w entry None = w
+taking_entry_of g w entry (Some call) =
+    record w { submission = with_stopped (stops_at g entry) (with_taken w.submission call) }
+
+-- a position was taken: an entry, or a word that names no slot, behind which no call stops
+abbrev pub taking : Setup → World → Answer → World
+taking g w (answer.Entry entry) = taking_entry_of g w entry w.submission.call
+taking g w answer.Dropped = taking_of w w.submission.call
+taking g w _ = w
+
+-- the open call closes, and the entries that it took are accepted
+abbrev pub ending_of : World → Option Call → World
+ending_of w None = w
+ending_of w (Some call) =
+    record w {
+      submission = with_closed w.submission call;
+      requests = with_call w.requests (entries_from w.submission call.count);
+    }
+
+abbrev pub ending : World → Answer → World
+ending w (answer.Taken accepted dropped head) = ending_of w w.submission.call
+ending w _ = w
+
+-- a request runs, or ends as it is issued
+abbrev pub issuing : Setup → World → ℕ → Answer → World
+issuing g w n answer.Run = record w { requests = with_started w.requests n }
+issuing g w n (answer.Ended res bytes) =
+    record w {
+      requests = with_issued_end w.requests n res;
+      completions = with_end g.cq w.completions (entry_of w.requests n) res no_bytes;
+    }
+issuing g w n _ = w
+
+-- a running request ends
+abbrev pub finishing : Setup → World → ℕ → Answer → World
+finishing g w n (answer.Ended res bytes) =
+    record w {
+      requests = with_ended w.requests n res bytes;
+      completions = with_end g.cq w.completions (entry_of w.requests n) res bytes;
+    }
+finishing g w n _ = w
+
+abbrev pub reaping : World → Answer → World
+reaping w (answer.Reaped completion) =
+    record w { completions = with_reaped w.completions completion }
+reaping w _ = w
+
+abbrev pub closing : World → Answer → World
+closing w answer.Shut = record w { is_closed = true }
+closing w _ = w
+
+-- What a step and its answer make of what there was.
+abbrev pub happens : Setup → World → Step → Answer → World
+happens g w (step.Fill slot entry) a = filling w slot entry a
+happens g w (step.Index word) a = staging w word a
+happens g w step.StoreTail a = record w { submission = with_published g.sq w.submission }
+happens g w step.LoadHead a = record w { submission = with_head_loaded w.submission }
+happens g w (step.Begin count) a = beginning w count a
+happens g w step.Take a = taking g w a
+happens g w step.End a = ending w a
+happens g w (step.Issue n) a = issuing g w n a
+happens g w (step.Finish n) a = finishing g w n a
+happens g w step.Flush a = record w { completions = with_flushed g.cq w.completions }
+happens g w step.LoadCqTail a = record w { completions = with_tail_loaded w.completions }
+happens g w step.Reap a = reaping w a
+happens g w step.StoreCqHead a = record w { completions = with_head_stored w.completions }
+happens g w step.Close a = closing w a
+happens g w step.Next a = w

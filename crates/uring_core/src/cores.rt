@@ -1,0 +1,366 @@
+ghost use Rattle.std.specs.Prelude.{◌≡◌, ◌+◌, ◌<◌, ◌≤◌, ◌∷◌, [], true, length, IfOk};
+ghost use Rattle.uring_entry.specs.Setup.{Setup};
+ghost use Rattle.uring_entry.specs.Submission.{Submission, stops_at, with_stopped};
+ghost use Rattle.uring_entry.specs.Completions.{Completions, with_end};
+ghost use Rattle.uring_entry.specs.Requests.{Requests, with_call};
+ghost use Rattle.uring_rings.specs.Cq.{ShowsCompletions};
+ghost use Rattle.uring_rings.specs.Sq.{ShowsSubmission};
+ghost use Rattle.uring_dispatch.specs.Dispatch.{ShowsRequests};
+ghost use Rattle.uring_dispatch.specs.IssueAndFinish.{posts_of};
+ghost use Rattle.uring_core.specs.Histories.{History, world};
+ghost use Rattle.uring_core.specs.declared.step.Step.TheVariants as step;
+ghost use Rattle.uring_core.specs.declared.answer.Answer.TheVariants as answer;
+
+mod readings;
+
+use crate::answer::Answer;
+use crate::conversions::{next_answer, reaped};
+use crate::step::Step;
+use std::alloc::{AllocError, Global};
+use std::marker::Model;
+use uring_dispatch::{Dispatch, Issued, Posts, ReserveError};
+use uring_entry::{Cqe, Outcome, Setup, Sqe, prepare, succeeded};
+use uring_rings::{Cq, EndAnswer, Sq, TakeAnswer};
+
+/// A pair of rings and its requests, moved one step at a time, without files: how a running request ends comes from outside.
+#[derive(Drop)]
+pub struct Core {
+    setup: Setup,
+    sq: Sq,
+    cq: Cq,
+    dispatch: Dispatch,
+    // The entries that the open call took, in order. There is room for those of a whole ring.
+    held: Vec<Sqe>,
+    // Whether a Close was answered Shut.
+    is_closed: bool,
+}
+
+impl Model for Core {
+    ghost use Rattle.uring_core.specs.Core.{Core};
+
+    ghost Value = { Core };
+
+    ghost use Rattle.std.specs.Prelude.{◌≤◌, vec_capacity};
+    ghost use Rattle.uring_core.specs.Core.{IsCore};
+
+    ghost view = { λ c. record { setup = c.setup; sq = c.sq; cq = c.cq; dispatch = c.dispatch; held = c.held.items; is_closed = c.is_closed } };
+
+    ghost invariant = { λ c. (c.setup.sq ≤ vec_capacity c.held)
+        × IsCore
+        (record { setup = c.setup; sq = c.sq; cq = c.cq; dispatch = c.dispatch; held = c.held.items; is_closed = c.is_closed }) };
+}
+
+impl Core {
+    ghost use Rattle.uring_core.specs.Core.{FitsApart, IsNoFinish, IsFinished, IsShortOfMemory, HasNoLessMemory};
+
+    /// A core of this set-up on which nothing has happened. `AllocError`: memory was refused.
+    pub fn new(alloc: Global, setup: &Setup) -> Result<Core, AllocError>
+        ensures setup { IfOk result (λ core. core.setup ≡ setup.now) }
+        ensures fits { IfOk result (λ core. FitsApart core []) }
+    {
+        let held = Vec::with_capacity(alloc, setup.sq() as usize)?;
+        Ok(Core {
+            setup: *setup,
+            sq: Sq::new(alloc, setup)?,
+            cq: Cq::new(alloc, setup)?,
+            dispatch: Dispatch::new(alloc),
+            held,
+            is_closed: false,
+        })
+    }
+
+    /// Makes one step, and returns its answer. Condition: it is no `Finish`, which is a call of its own. Only `Begin` asks for memory, and only if its call may need more than is there; if that is refused the answer is `Again`, and nothing is consumed.
+    pub fn step(&mut self, step: Step) -> Answer
+        requires { IsNoFinish step }
+        ensures setup { self.new.setup ≡ self.old.setup }
+        ensures fits { (h : History) → FitsApart self.old h
+            → FitsApart self.new ((step, result) ∷ h) }
+
+        // Memory that was once had is never refused again.
+        ensures again { (h : History) → FitsApart self.old h → result ≡ answer.Again
+            → IsShortOfMemory self.old (world self.old.setup h) step }
+        ensures memory { HasNoLessMemory self.old self.new }
+    {
+        match step {
+            Step::Fill { slot, entry } => self.fill(slot, entry),
+            Step::Index { word } => self.index(word),
+            Step::StoreTail => self.store_tail(),
+            Step::LoadHead => self.load_head(),
+            Step::Begin { count } => self.begin(count),
+            Step::Take => self.take(),
+            Step::End => self.end(),
+            Step::Issue { number } => self.issue(number),
+            Step::Finish { .. } => unreachable!(),
+            Step::Flush => self.flush(),
+            Step::LoadCqTail => self.load_cq_tail(),
+            Step::Reap => self.reap(),
+            Step::StoreCqHead => self.store_cq_head(),
+            Step::Close => self.close(),
+            Step::Next => self.ask_next(),
+        }
+    }
+
+    /// Ends the running request of this number with an outcome from outside, any one, and posts its completion, unless it succeeded and is to be skipped; `NotRunning` if it isn't running, and then nothing changes.
+    pub fn finish(&mut self, number: u64, outcome: Outcome) -> Answer
+        ensures setup { self.new.setup ≡ self.old.setup }
+        ensures fits { (h : History) → FitsApart self.old h
+            → FitsApart self.new ((step.Finish number, result) ∷ h) }
+        ensures memory { HasNoLessMemory self.old self.new }
+        ensures outcome { (h : History) → FitsApart self.old h
+            → IsFinished (world self.old.setup h) number outcome result }
+    {
+        let Outcome { res, bytes } = outcome;
+        match self.dispatch.end_running(number, res) {
+            Some(posts) => {
+                post_end(&mut self.cq, posts, res, bytes);
+                Answer::ended(res, bytes)
+            }
+            None => Answer::NotRunning,
+        }
+    }
+
+    /// The application writes an entry to a slot.
+    fn fill(&mut self, slot: u32, entry: Sqe) -> Answer
+        ensures setup { self.new.setup ≡ self.old.setup }
+        ensures fits { (h : History) → FitsApart self.old h
+            → FitsApart self.new ((step.Fill slot entry, result) ∷ h) }
+        ensures memory { HasNoLessMemory self.old self.new }
+    {
+        Answer::from(self.sq.fill(slot, entry))
+    }
+
+    /// The application stages a word.
+    fn index(&mut self, word: u32) -> Answer
+        ensures setup { self.new.setup ≡ self.old.setup }
+        ensures fits { (h : History) → FitsApart self.old h
+            → FitsApart self.new ((step.Index word, result) ∷ h) }
+        ensures memory { HasNoLessMemory self.old self.new }
+    {
+        Answer::from(self.sq.index(word))
+    }
+
+    /// The application publishes what is staged.
+    fn store_tail(&mut self) -> Answer
+        ensures setup { self.new.setup ≡ self.old.setup }
+        ensures fits { (h : History) → FitsApart self.old h
+            → FitsApart self.new ((step.StoreTail, result) ∷ h) }
+        ensures memory { HasNoLessMemory self.old self.new }
+    {
+        Answer::Tail(self.sq.store_tail())
+    }
+
+    /// The application loads the submission ring's head.
+    fn load_head(&mut self) -> Answer
+        ensures setup { self.new.setup ≡ self.old.setup }
+        ensures fits { (h : History) → FitsApart self.old h
+            → FitsApart self.new ((step.LoadHead, result) ∷ h) }
+        ensures memory { HasNoLessMemory self.old self.new }
+    {
+        Answer::Head(self.sq.load_head())
+    }
+
+    /// The dispatcher opens a call, once there is room for all its requests and for the ends of these and of all outstanding ones.
+    fn begin(&mut self, count: u32) -> Answer
+        ensures setup { self.new.setup ≡ self.old.setup }
+        ensures fits { (h : History) → FitsApart self.old h
+            → FitsApart self.new ((step.Begin count, result) ∷ h) }
+        ensures memory { HasNoLessMemory self.old self.new }
+        ensures again { (h : History) → FitsApart self.old h → result ≡ answer.Again
+            → IsShortOfMemory self.old (world self.old.setup h) (step.Begin count) }
+    {
+        let wanted = self.would_begin(count);
+        let Answer::Call(length) = wanted else {
+            return wanted;
+        };
+        let length = u64::from(length);
+        let ends = self.dispatch.outstanding() + length;
+        match self.dispatch.reserve(length) {
+            Ok(()) => {}
+            Err(ReserveError::Spent) => unreachable!(),
+            Err(ReserveError::NoMemory) => return Answer::Again,
+        }
+        if self.cq.reserve(ends).is_err() {
+            return Answer::Again;
+        }
+        Answer::from(self.sq.begin(count))
+    }
+
+    /// The dispatcher copies the call's next position. A call that stops behind its entry takes no more.
+    fn take(&mut self) -> Answer
+        ensures setup { self.new.setup ≡ self.old.setup }
+        ensures fits { (h : History) → FitsApart self.old h
+            → FitsApart self.new ((step.Take, result) ∷ h) }
+        ensures memory { HasNoLessMemory self.old self.new }
+    {
+        let answer = self.sq.take();
+        if let TakeAnswer::Entry(entry) = answer {
+            self.held.push_reserved(entry);
+            stop_behind(&mut self.sq, self.setup, &entry);
+        }
+        Answer::from(answer)
+    }
+
+    /// The dispatcher closes the call, and accepts its entries.
+    fn end(&mut self) -> Answer
+        ensures setup { self.new.setup ≡ self.old.setup }
+        ensures fits { (h : History) → FitsApart self.old h
+            → FitsApart self.new ((step.End, result) ∷ h) }
+        ensures memory { HasNoLessMemory self.old self.new }
+    {
+        let answer = self.sq.end();
+        if let EndAnswer::Taken(_) = answer {
+            accept_call(&mut self.dispatch, &self.held);
+            self.held.clear();
+        }
+        Answer::from(answer)
+    }
+
+    /// The dispatcher issues a request.
+    fn issue(&mut self, number: u64) -> Answer
+        ensures setup { self.new.setup ≡ self.old.setup }
+        ensures fits { (h : History) → FitsApart self.old h
+            → FitsApart self.new ((step.Issue number, result) ∷ h) }
+        ensures memory { HasNoLessMemory self.old self.new }
+    {
+        let entry = self.dispatch.entry(number);
+        match self.dispatch.issue(number) {
+            Issued::Run(_) => Answer::Run,
+            Issued::Ended(res) => {
+                let Some(entry) = entry else { unreachable!() };
+                let bytes = [0; 64];
+                let posts = Posts::of(&entry, succeeded(&entry, res));
+                post_end(&mut self.cq, posts, res, bytes);
+                Answer::ended(res, bytes)
+            }
+            Issued::NotReady => Answer::NotReady,
+            Issued::Running => Answer::Running,
+            Issued::Unknown => Answer::Unknown,
+        }
+    }
+
+    /// The dispatcher loads the completion ring's head, and moves what fits out of the overflow list.
+    fn flush(&mut self) -> Answer
+        ensures setup { self.new.setup ≡ self.old.setup }
+        ensures fits { (h : History) → FitsApart self.old h
+            → FitsApart self.new ((step.Flush, result) ∷ h) }
+        ensures memory { HasNoLessMemory self.old self.new }
+    {
+        Answer::Moved(self.cq.flush())
+    }
+
+    /// The application loads the completion ring's tail.
+    fn load_cq_tail(&mut self) -> Answer
+        ensures setup { self.new.setup ≡ self.old.setup }
+        ensures fits { (h : History) → FitsApart self.old h
+            → FitsApart self.new ((step.LoadCqTail, result) ∷ h) }
+        ensures memory { HasNoLessMemory self.old self.new }
+    {
+        Answer::Tail(self.cq.load_tail())
+    }
+
+    /// The application copies the next completion.
+    fn reap(&mut self) -> Answer
+        ensures setup { self.new.setup ≡ self.old.setup }
+        ensures fits { (h : History) → FitsApart self.old h
+            → FitsApart self.new ((step.Reap, result) ∷ h) }
+        ensures memory { HasNoLessMemory self.old self.new }
+    {
+        reaped(self.cq.reap())
+    }
+
+    /// The application stores the completion ring's head.
+    fn store_cq_head(&mut self) -> Answer
+        ensures setup { self.new.setup ≡ self.old.setup }
+        ensures fits { (h : History) → FitsApart self.old h
+            → FitsApart self.new ((step.StoreCqHead, result) ∷ h) }
+        ensures memory { HasNoLessMemory self.old self.new }
+    {
+        Answer::Head(self.cq.store_head())
+    }
+
+    /// The dispatcher closes the ring.
+    fn close(&mut self) -> Answer
+        ensures setup { self.new.setup ≡ self.old.setup }
+        ensures fits { (h : History) → FitsApart self.old h
+            → FitsApart self.new ((step.Close, result) ∷ h) }
+        ensures memory { HasNoLessMemory self.old self.new }
+    {
+        if self.sq.in_call() {
+            return Answer::InCall;
+        }
+        self.is_closed = true;
+        Answer::Shut
+    }
+
+    /// The dispatcher asks for the least request that can be issued.
+    fn ask_next(&mut self) -> Answer
+        ensures setup { self.new.setup ≡ self.old.setup }
+        ensures fits { (h : History) → FitsApart self.old h
+            → FitsApart self.new ((step.Next, result) ∷ h) }
+        ensures memory { HasNoLessMemory self.old self.new }
+    {
+        next_answer(self.next())
+    }
+}
+
+/// How far a core has come. Each number is at most 2^63 - 1.
+#[derive(Clone, Copy, Debug, PartialEq, Eq)]
+pub struct Counts {
+    /// The requests accepted.
+    pub accepted: u64,
+
+    /// Those of them that haven't ended.
+    pub outstanding: u64,
+
+    /// Those of them that run.
+    pub running: u64,
+
+    /// The completions posted.
+    pub posted: u64,
+
+    /// The completions reaped, at most those posted.
+    pub reaped: u64,
+}
+
+/// Stops the open call, if a call of this set-up stops behind this entry.
+fn stop_behind(sq: &mut Sq, setup: Setup, entry: &Sqe)
+    ensures { (g : Setup) (l : Submission) → ShowsSubmission g sq.old l
+        → ShowsSubmission g sq.new (with_stopped (stops_at setup entry.now) l) }
+{
+    if setup.stops() && prepare(entry).is_err() {
+        sq.stop();
+    }
+}
+
+/// Accepts the entries of a call, in order, and ends it.
+fn accept_call(dispatch: &mut Dispatch, entries: &[Sqe])
+    requires { length entries.now ≤ dispatch.old.room }
+    ensures shows { (r : Requests) → ShowsRequests dispatch.old r
+        → ShowsRequests dispatch.new (with_call r entries.now) }
+    ensures accepted { dispatch.new.accepted ≡ dispatch.old.accepted + length entries.now }
+    ensures outstanding { dispatch.new.outstanding ≡ dispatch.old.outstanding + length entries.now }
+    ensures memory { dispatch.old.accepted + dispatch.old.room
+        ≤ dispatch.new.accepted + dispatch.new.room }
+    ensures between { dispatch.new.is_between_calls ≡ true }
+{
+    for entry in entries {
+        dispatch.accept(*entry);
+    }
+    dispatch.end_call();
+}
+
+/// Posts what the end of a request is to post.
+fn post_end(cq: &mut Cq, posts: Posts, res: i32, bytes: [u8; 64])
+    requires { 0 < cq.old.room }
+    ensures shows { (g : Setup) (l : Completions) (entry : Sqe) → posts ≡ posts_of entry res
+        → ShowsCompletions g cq.old l
+        → ShowsCompletions g cq.new (with_end g.cq l entry res bytes) }
+    ensures room { cq.old.room ≤ cq.new.room + 1 }
+    ensures promised { cq.old.room ≤ cq.old.spare → cq.new.room ≤ cq.new.spare }
+    ensures kept { length cq.old.overflow + cq.old.spare ≤ length cq.new.overflow + cq.new.spare }
+{
+    match posts {
+        Posts::Completion(user_data) => cq.post(Cqe::new(user_data, res, bytes)),
+        Posts::Nothing => {}
+    }
+}

@@ -1,0 +1,155 @@
+//! A core follows answers that were recorded elsewhere.
+
+ghost use Rattle.std.specs.Prelude.{◌≡◌, ◌<◌, ◌∷◌, OnOk, IfErr, IsErrOf};
+ghost use Rattle.uring_core.specs.Core.{FitsApart, IsNoFinish, IsShortOfMemory, HasNoLessMemory};
+ghost use Rattle.uring_core.specs.Histories.{History, world};
+ghost use Rattle.uring_core.specs.Recorded.{IsOneAnswer, IsRefused, resumed};
+ghost use Rattle.uring_core.specs.StepAnswers.{CalledForApart, begin_answer};
+ghost use Rattle.uring_core.specs.declared.answer.Answer.TheVariants as answer;
+ghost use Rattle.uring_core.specs.declared.step.Step.TheVariants as step;
+
+use crate::answer::{Answer, same_answer};
+use crate::cores::Core;
+use crate::step::Step;
+use crate::wanted::{Refusal, Wanted};
+use uring_entry::Outcome;
+
+impl Core {
+    /// Follows a step with the answer that was recorded for it elsewhere, any answer.
+    ///
+    /// If it is called for, apart from what operations give, the step is made with it: a request may end as was recorded, and a `Begin` that was answered `Again` makes nothing. Else it is `Wrong`, and tells the answers that are called for; if that is one alone, the core goes on as though it had been given, and else as though the step hadn't been made. `NoMemory` comes only to `Begin`, if a call is recorded and memory for it is refused; then the step isn't made.
+    pub fn follow(&mut self, step: Step, given: Answer) -> Result<(), Refusal>
+        ensures setup { self.new.setup ≡ self.old.setup }
+        ensures ok { OnOk result
+            ((h : History) → FitsApart self.old h → FitsApart self.new ((step, given) ∷ h)) }
+        ensures refused { IfErr result
+            (λ refusal. (h : History) → FitsApart self.old h
+            → IsRefused (CalledForApart self.old.setup (world self.old.setup h) step) given refusal) }
+        ensures resumed { IfErr result
+            (λ refusal. (h : History) → FitsApart self.old h
+            → FitsApart self.new (resumed step refusal h)) }
+        ensures no_memory { IsErrOf result Refusal.NoMemory → (h : History) → FitsApart self.old h
+            → IsShortOfMemory self.old (world self.old.setup h) step }
+        ensures memory { HasNoLessMemory self.old self.new }
+    {
+        match step {
+            Step::Begin { count } => self.follow_begin(count, given),
+            Step::Finish { number } => self.follow_finish(number, given),
+            _ => self.follow_sure(step, given),
+        }
+    }
+
+    /// Follows a step to which one answer alone is called for: the step is made, whatever was recorded.
+    fn follow_sure(&mut self, step: Step, given: Answer) -> Result<(), Refusal>
+        requires no_finish { IsNoFinish step }
+        requires one { (h : History) → FitsApart self.old h
+            → IsOneAnswer (CalledForApart self.old.setup (world self.old.setup h) step) }
+        ensures setup { self.new.setup ≡ self.old.setup }
+        ensures ok { OnOk result
+            ((h : History) → FitsApart self.old h → FitsApart self.new ((step, given) ∷ h)) }
+        ensures refused { IfErr result
+            (λ refusal. (h : History) → FitsApart self.old h
+            → IsRefused (CalledForApart self.old.setup (world self.old.setup h) step) given refusal) }
+        ensures resumed { IfErr result
+            (λ refusal. (h : History) → FitsApart self.old h
+            → FitsApart self.new (resumed step refusal h)) }
+        ensures no_memory { IsErrOf result Refusal.NoMemory → ⊥ }
+        ensures memory { HasNoLessMemory self.old self.new }
+    {
+        let wanted = self.step(step);
+        compared(wanted, given)
+    }
+
+    /// Follows a Begin.
+    fn follow_begin(&mut self, count: u32, given: Answer) -> Result<(), Refusal>
+        ensures setup { self.new.setup ≡ self.old.setup }
+        ensures ok { OnOk result
+            ((h : History) → FitsApart self.old h
+            → FitsApart self.new ((step.Begin count, given) ∷ h)) }
+        ensures refused { IfErr result
+            (λ refusal. (h : History) → FitsApart self.old h
+            → IsRefused (CalledForApart self.old.setup (world self.old.setup h) (step.Begin count)) given refusal) }
+        ensures resumed { IfErr result
+            (λ refusal. (h : History) → FitsApart self.old h
+            → FitsApart self.new (resumed (step.Begin count) refusal h)) }
+        ensures no_memory { IsErrOf result Refusal.NoMemory → (h : History) → FitsApart self.old h
+            → IsShortOfMemory self.old (world self.old.setup h) (step.Begin count) }
+        ensures memory { HasNoLessMemory self.old self.new }
+    {
+        match self.would_begin(count) {
+            Answer::Call(length) if length > 0 => self.follow_call(count, length, given),
+            _ => self.follow_sure(Step::Begin { count }, given),
+        }
+    }
+
+    /// Follows a Begin that opens a call of this many positions, unless memory is refused.
+    fn follow_call(&mut self, count: u32, length: u32, given: Answer) -> Result<(), Refusal>
+        requires some { 0 < length }
+        requires opens { (h : History) → FitsApart self.old h
+            → begin_answer (world self.old.setup h) count ≡ answer.Call length }
+        ensures setup { self.new.setup ≡ self.old.setup }
+        ensures ok { OnOk result
+            ((h : History) → FitsApart self.old h
+            → FitsApart self.new ((step.Begin count, given) ∷ h)) }
+        ensures refused { IfErr result
+            (λ refusal. (h : History) → FitsApart self.old h
+            → IsRefused (CalledForApart self.old.setup (world self.old.setup h) (step.Begin count)) given refusal) }
+        ensures resumed { IfErr result
+            (λ refusal. (h : History) → FitsApart self.old h
+            → FitsApart self.new (resumed (step.Begin count) refusal h)) }
+        ensures no_memory { IsErrOf result Refusal.NoMemory → (h : History) → FitsApart self.old h
+            → IsShortOfMemory self.old (world self.old.setup h) (step.Begin count) }
+        ensures memory { HasNoLessMemory self.old self.new }
+    {
+        if same_answer(&given, &Answer::Again) {
+            return Ok(());
+        }
+        if !same_answer(&given, &Answer::Call(length)) {
+            return Err(Refusal::Wrong(Wanted::CallOrAgain(length)));
+        }
+        match self.step(Step::Begin { count }) {
+            Answer::Again => Err(Refusal::NoMemory),
+            _ => Ok(()),
+        }
+    }
+
+    /// Follows a Finish: a running request ends as was recorded.
+    fn follow_finish(&mut self, number: u64, given: Answer) -> Result<(), Refusal>
+        ensures setup { self.new.setup ≡ self.old.setup }
+        ensures ok { OnOk result
+            ((h : History) → FitsApart self.old h
+            → FitsApart self.new ((step.Finish number, given) ∷ h)) }
+        ensures refused { IfErr result
+            (λ refusal. (h : History) → FitsApart self.old h
+            → IsRefused (CalledForApart self.old.setup (world self.old.setup h) (step.Finish number)) given refusal) }
+        ensures resumed { IfErr result
+            (λ refusal. (h : History) → FitsApart self.old h
+            → FitsApart self.new (resumed (step.Finish number) refusal h)) }
+        ensures no_memory { IsErrOf result Refusal.NoMemory → ⊥ }
+        ensures memory { HasNoLessMemory self.old self.new }
+    {
+        if self.running_op(number).is_none() {
+            return compared(Answer::NotRunning, given);
+        }
+        match given {
+            Answer::Ended { res, bytes } => {
+                self.finish(number, Outcome { res, bytes });
+                Ok(())
+            }
+            _ => Err(Refusal::Wrong(Wanted::AnyEnd)),
+        }
+    }
+}
+
+/// Whether the given answer is the one wanted: if it isn't, it is `Wrong`, with the wanted one.
+pub fn compared(wanted: Answer, given: Answer) -> Result<(), Refusal>
+    ensures ok { OnOk result (given ≡ wanted) }
+    ensures err { IfErr result
+        (λ refusal. (refusal ≡ Refusal.Wrong (Wanted.Only wanted)) × (given ≡ wanted → ⊥)) }
+{
+    if same_answer(&given, &wanted) {
+        Ok(())
+    } else {
+        Err(Refusal::Wrong(Wanted::Only(wanted)))
+    }
+}

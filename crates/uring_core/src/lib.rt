@@ -1,0 +1,17 @@
+//! The core: rings and dispatcher without files. The steps of application and dispatcher in any order, each with its answer; what operations give comes from outside.
+#![tactic(auto)]
+
+mod answer;
+mod conversions;
+mod cores;
+mod follow;
+mod step;
+mod wanted;
+
+pub use answer::{Answer, same_answer};
+pub use cores::{Core, Counts};
+pub use follow::compared;
+pub use step::Step;
+pub use uring_dispatch::Found;
+pub use uring_entry::{BadSetup, Cqe, Doom, Fault, Op, Outcome, Setup, Since, Sqe, SqeFlags, Why};
+pub use wanted::{Refusal, Wanted};

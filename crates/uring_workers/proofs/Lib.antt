@@ -1,0 +1,2 @@
+pub mod Working
+mod FreshWorkers

@@ -1,0 +1,5 @@
+pub mod Pairings
+pub mod Work
+pub mod Worker
+pub mod WorkLanes
+pub mod Opened

@@ -1,0 +1,161 @@
+//! A worker: it carries out jobs on files that it alone has.
+ghost use Rattle.std.specs.Prelude.{◌≡◌, [], ◌∷◌, ◌++◌, length};
+ghost use Rattle.rtrb.specs.Ring.{sent, known_free, received, known_items};
+ghost use Rattle.uring_files.specs.Operations.{state_of, byte_of, IsForFiles};
+ghost use Rattle.uring_workers.specs.Pairings.{producer_numbers, consumer_numbers, pairing_of};
+ghost use Rattle.uring_workers.specs.Work.{jobs_of, results_of};
+ghost use Rattle.uring_workers.specs.Worker.{IsRight, Looks, Turns};
+ghost use Rattle.uring_files.specs.Contents.{empty_files};
+
+use crate::gate::Gate;
+use crate::job::{Job, JobResult};
+use crate::work_lanes::WorkLanes;
+use rtrb::{Consumer, Producer, Protocol};
+use std::alloc::Global;
+use std::marker::Model;
+use uring_files::{FileState, Files};
+
+/// The jobs of a worker are operations that can be carried out on files.
+#[derive(Clone, Copy)]
+pub struct ForFiles;
+
+impl Protocol<Job> for ForFiles {
+    ghost use Rattle.uring_files.specs.Operations.{IsForFiles};
+
+    ghost allows = { λ before job. IsForFiles job.op };
+}
+
+/// What a worker did in a turn.
+#[derive(Clone, Copy, Debug, PartialEq, Eq)]
+pub enum Worked {
+    /// It carried out the job of the request of this number, and sent the result.
+    Done(u64),
+
+    /// It saw no job.
+    Idle,
+
+    /// It saw no room for a result, and took no job.
+    Held,
+}
+
+/// The end of one worker. It may run in a thread of its own.
+///
+/// It takes its jobs in the order in which they were sent, passes its gate before each, carries it out on its own files and sends the result, before it takes the next. No other worker changes these files.
+#[derive(Drop)]
+pub struct Worker<G: Gate> {
+    place: u32,
+    gate: G,
+    files: Files,
+    jobs: Consumer<Job, Global, ForFiles>,
+    results: Producer<JobResult>,
+}
+
+impl<G: Gate> Model for Worker<G> {
+    ghost use Rattle.uring_workers.specs.Worker.{Worker};
+
+    ghost Value = { Worker };
+
+    ghost use Rattle.std.specs.Prelude.{[], ◌∷◌};
+    ghost use Rattle.rtrb.specs.Ring.{sent, known_free, received, known_items};
+    ghost use Rattle.uring_workers.specs.Pairings.{producer_numbers, consumer_numbers};
+    ghost use Rattle.uring_workers.specs.Worker.{done_of, IsWorking};
+
+    ghost view = { λ w. record { place = w.place; pairing = consumer_numbers w.jobs ∷ producer_numbers w.results ∷ []; done = done_of (received w.jobs) (sent w.results); files = w.files; seen = known_items w.jobs; room = known_free w.results } };
+
+    ghost invariant = { λ w. IsWorking (received w.jobs) (sent w.results) w.files };
+}
+
+impl<G: Gate> Worker<G> {
+    /// A worker with so many files, over the ends of its lanes, through which nothing went yet.
+    pub(crate) fn new(
+        place: u32,
+        gate: G,
+        files: Files,
+        jobs: Consumer<Job, Global, ForFiles>,
+        results: Producer<JobResult>,
+    ) -> Worker<G>
+        requires files { files ≡ empty_files (length files) }
+        requires jobs { received jobs ≡ [] }
+        requires results { sent results ≡ [] }
+        ensures place { result.place ≡ place }
+        ensures pairing { result.pairing ≡ consumer_numbers jobs ∷ producer_numbers results ∷ [] }
+        ensures done { result.done ≡ [] }
+        ensures files { result.files ≡ files }
+    {
+        Worker {
+            place,
+            gate,
+            files,
+            jobs,
+            results,
+        }
+    }
+
+    /// Takes one job, if it sees one and sees room for its result: passes the gate, carries the job out and sends the result. Only a write that lengthens its file takes memory.
+    pub fn turn(&mut self) -> Worked
+        ensures turns { Turns self.old self.new result }
+        // Of the same lanes it stays, with as many files.
+        ensures pairing { self.new.pairing ≡ self.old.pairing }
+        ensures files { length self.new.files ≡ length self.old.files }
+        ensures place { self.new.place ≡ self.old.place }
+    {
+        if self.results.is_full() {
+            return Worked::Held;
+        }
+        let Ok(job) = self.jobs.pop() else {
+            return Worked::Idle;
+        };
+        self.gate.pass(job.number);
+        let outcome = self.files.apply(&job.op);
+        self.results.push_reserved(JobResult {
+            number: job.number,
+            outcome,
+        });
+        Worked::Done(job.number)
+    }
+
+    /// Sees all jobs that were sent to this worker and that it hasn't taken, and shows the dispatcher's end all results that were sent. Condition: these are the dispatcher's ends of this worker's lanes.
+    pub fn see_all(&mut self, lanes: &mut WorkLanes)
+        requires { self.old.pairing ≡ pairing_of lanes.old.jobs lanes.old.results }
+        ensures worker { Looks self.old self.new }
+        ensures jobs { jobs_of self.new.done ++ self.new.seen ≡ sent lanes.new.jobs }
+        ensures results { received lanes.new.results ++ known_items lanes.new.results
+            ≡ results_of self.new.done }
+        ensures dispatcher { (sent lanes.new.jobs ≡ sent lanes.old.jobs)
+            × (received lanes.new.results ≡ received lanes.old.results) }
+        ensures pairing { pairing_of lanes.new.jobs lanes.new.results
+            ≡ pairing_of lanes.old.jobs lanes.old.results }
+    {
+        self.jobs.slots_beside(&mut lanes.jobs);
+        lanes.results.slots_beside(&mut self.results);
+    }
+
+    /// How this worker's file of a descriptor stands: `None` if there is none.
+    pub fn state(&self, fd: i32) -> Option<FileState>
+        ensures { result ≡ state_of self.now.files fd }
+    {
+        self.files.state(fd)
+    }
+
+    /// The byte at offset `at` of this worker's file of a descriptor: `None` if there is no such file, or the offset isn't below its length.
+    pub fn byte(&self, fd: i32, at: u64) -> Option<u8>
+        ensures { result ≡ byte_of self.now.files fd at }
+    {
+        self.files.byte(fd, at)
+    }
+
+    /// A law, and no code: each operation that this worker carried out ended as its own files call for, which were empty at first, and its files are those that they left.
+    pub fn is_right(&self)
+        ensures { IsRight self.now }
+    {
+        // A body knows the invariant once it reads a field.
+        let _files = &self.files;
+    }
+
+    /// Which of the workers this is, from 0.
+    pub fn place(&self) -> u32
+        ensures { result ≡ self.now.place }
+    {
+        self.place
+    }
+}
