@@ -1,7 +1,6 @@
 //! What a fault of the program says, and its exit status.
 
 use crate::fault::Fault;
-use clap::error::ErrorKind;
 use std::alloc::{AllocError, Global};
 use std::io::Write;
 use uring_options::OptionsFault;
@@ -31,12 +30,8 @@ pub fn tell<W: Write>(alloc: Global, writer: &mut W, fault: &Fault) -> u8 {
 /// The exit status of a fault.
 fn status_of(fault: &Fault) -> u8 {
     match fault {
-        Fault::Trace(_) | Fault::Play(_) => FAILED,
-        Fault::Options(OptionsFault::Small) => REFUSED,
-        Fault::Options(OptionsFault::Words(error)) => match error.kind() {
-            ErrorKind::OutOfMemory => FAILED,
-            _ => REFUSED,
-        },
+        Fault::Options(fault) if !fault.is_memory() => REFUSED,
+        _ => FAILED,
     }
 }
 
@@ -45,12 +40,15 @@ fn text_of(alloc: Global, fault: &Fault) -> Result<String, AllocError> {
     match fault {
         Fault::Trace(fault) => format!(in alloc; "uring: {fault}\n"),
         Fault::Play(fault) => format!(in alloc; "uring: {fault}\n"),
-        Fault::Options(OptionsFault::Small) => format!(in alloc;
-            "uring: completion ring too small\n"
-        ),
-        Fault::Options(OptionsFault::Words(error)) => match error.kind() {
-            ErrorKind::OutOfMemory => String::from_str(alloc, OUT_OF_MEMORY),
-            _ => format!(in alloc; "{error}"),
-        },
+        Fault::Options(fault) => text_of_options(alloc, fault),
+    }
+}
+
+/// What a fault of the command line says.
+fn text_of_options(alloc: Global, fault: &OptionsFault) -> Result<String, AllocError> {
+    match fault {
+        OptionsFault::Small => format!(in alloc; "uring: {fault}\n"),
+        OptionsFault::Words(_) if fault.is_memory() => String::from_str(alloc, OUT_OF_MEMORY),
+        OptionsFault::Words(_) => format!(in alloc; "{fault}"),
     }
 }

@@ -1,5 +1,8 @@
 //! What a command line leads to.
+ghost use Rattle.std.specs.Prelude.{◌↔◌, IsTrue};
+ghost use Rattle.uring_options.specs.CommandLine.{IsMemory};
 
+use clap::error::ErrorKind;
 use std::alloc::{AllocError, AllocFailed};
 use thiserror::Error;
 use uring_entry::Setup;
@@ -49,6 +52,18 @@ pub enum OptionsFault {
     /// The words are no command line of the program, ask for help, or memory was refused while they were read.
     #[error(transparent)]
     Words(clap::Error),
+}
+
+impl OptionsFault {
+    /// Whether memory was refused.
+    pub fn is_memory(&self) -> bool
+        ensures { IsTrue result ↔ IsMemory self.now }
+    {
+        match self {
+            OptionsFault::Small => false,
+            OptionsFault::Words(error) => matches!(error.kind(), ErrorKind::OutOfMemory),
+        }
+    }
 }
 
 impl From<clap::Error> for OptionsFault {
