@@ -2,7 +2,7 @@
 use Rattle.std.specs.Prelude.{ℕ, Bool, true, false, ◌||◌, ◌==◌, length, Option, Some, None, ℤ, pos, ◌≡◌, ◌⊎◌, is_some, if◌then◌else◌}
 use Rattle.uring_entry.specs.Layout.{Sqe, Cqe}
 use Rattle.uring_entry.specs.Setup.{Setup}
-use Rattle.uring_entry.specs.Submission.{Call, stops_at}
+use Rattle.uring_entry.specs.Submission.{stops_at}
 use Rattle.uring_entry.specs.Preparation.{is_cancel, is_cancel_all}
 use Rattle.uring_entry.specs.Requests.{Requests, Ending, entry_of, target_of, is_target}
 use Rattle.uring_core.specs.Histories.{Event}
