@@ -3,7 +3,8 @@
  * The application submits a chain (write, write, fsync) and two loose writes, all of blocks of 4,096 bytes. The simulator
  * is the dispatcher: it issues and finishes requests in an order that a seed chooses, among the orders that the core
  * allows. In some runs the chain's second write fails; some end with a crash, which loses any part of what no fsync made
- * safe. What the application was told is then compared with what is on the disk.
+ * safe. An fsync makes safe what had ended when it was issued: a write that ends while it runs isn't covered. What the
+ * application was told is then compared with what is on the disk.
  *
  *   cc simulator.c $(pkg-config --cflags --libs wulgach) && ./a.out
  */
@@ -15,9 +16,10 @@
 
 enum { BLOCK = 4096, BLOCKS = 4, REQUESTS = 5, RUNS = 3000, ORDERS = 120 };
 
-/* What a read sees, and what is left for sure after a crash. */
+/* What a read sees, what the fsync that runs covers, and what is left for sure after a crash. */
 struct disk {
     uint8_t now[BLOCKS][BLOCK];
+    uint8_t covered[BLOCKS][BLOCK];
     uint8_t safe[BLOCKS][BLOCK];
 };
 
@@ -86,12 +88,22 @@ static void submit(struct wulgach_core *core)
 static int32_t carry_out(struct disk *disk, const struct wulgach_operation *op)
 {
     if (op->code == WULGACH_OP_FSYNC) {
-        memcpy(disk->safe, disk->now, sizeof disk->safe);
+        memcpy(disk->safe, disk->covered, sizeof disk->safe);
         return 0;
     }
     for (uint32_t i = 0; i < op->len; i++)
         memset(disk->now[op->off + i], op->bytes[i], BLOCK);
     return (int32_t)op->len;
+}
+
+/* Issues a request. Returns whether that ended it. */
+static bool issue(struct wulgach_core *core, struct disk *disk, uint64_t number)
+{
+    struct wulgach_operation op;
+    struct wulgach_answer answer = make(core, &(struct wulgach_step){.kind = WULGACH_ISSUE, .number = number});
+    if (answer.kind == WULGACH_RUN && wulgach_core_running_op(core, number, &op) == 0 && op.code == WULGACH_OP_FSYNC)
+        memcpy(disk->covered, disk->now, sizeof disk->covered);
+    return answer.kind == WULGACH_ENDED;
 }
 
 /* The dispatcher's side: lets a request go on that the seed chooses. Returns whether one ended. */
@@ -100,7 +112,7 @@ static bool go_on(struct wulgach_core *core, struct disk *disk, bool has_fault)
     uint64_t number = below(REQUESTS);
     struct wulgach_operation op;
     if (wulgach_core_running_op(core, number, &op) != 0)
-        return make(core, &(struct wulgach_step){.kind = WULGACH_ISSUE, .number = number}).kind == WULGACH_ENDED;
+        return issue(core, disk, number);
     int32_t res = has_fault && number == 1 ? -5 : carry_out(disk, &op);
     struct wulgach_bytes none = {{0}};
     struct wulgach_answer answer;

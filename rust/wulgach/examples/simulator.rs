@@ -1,6 +1,6 @@
 //! A simulator to start from: a core of wulgach over storage of its own.
 //!
-//! The application submits a chain (write, write, fsync) and two loose writes, all of blocks of 4,096 bytes. The simulator is the dispatcher: it issues and finishes requests in an order that a seed chooses, among the orders that the core allows. In some runs the chain's second write fails; some end with a crash, which loses any part of what no fsync made safe. What the application was told is then compared with what is on the disk.
+//! The application submits a chain (write, write, fsync) and two loose writes, all of blocks of 4,096 bytes. The simulator is the dispatcher: it issues and finishes requests in an order that a seed chooses, among the orders that the core allows. In some runs the chain's second write fails; some end with a crash, which loses any part of what no fsync made safe. An fsync makes safe what had ended when it was issued: a write that ends while it runs isn't covered. What the application was told is then compared with what is on the disk.
 //!
 //! The same program in C is `c/examples/simulator.c`, and prints the same.
 
@@ -13,9 +13,10 @@ const BLOCKS: usize = 4;
 const REQUESTS: usize = 5;
 const RUNS: u64 = 3000;
 
-/// What a read sees, and what is left for sure after a crash.
+/// What a read sees, what the fsync that runs covers, and what is left for sure after a crash.
 struct Disk {
     now: Vec<[u8; BLOCK]>,
+    covered: Vec<[u8; BLOCK]>,
     safe: Vec<[u8; BLOCK]>,
 }
 
@@ -23,6 +24,7 @@ impl Disk {
     fn new() -> Disk {
         Disk {
             now: vec![[0; BLOCK]; BLOCKS],
+            covered: vec![[0; BLOCK]; BLOCKS],
             safe: vec![[0; BLOCK]; BLOCKS],
         }
     }
@@ -39,7 +41,7 @@ impl Disk {
                 *len as i32
             }
             _ => {
-                self.safe.clone_from(&self.now);
+                self.safe.clone_from(&self.covered);
                 0
             }
         }
@@ -110,14 +112,20 @@ fn submit(core: &mut Core) -> Result<(), Error> {
     Ok(())
 }
 
+/// Issues a request. Returns whether that ended it.
+fn issue(core: &mut Core, disk: &mut Disk, number: u64) -> Result<bool, Error> {
+    let answer = core.step(Step::Issue { number })?;
+    if let Some(Operation::Fsync { .. }) = core.running_op(number) {
+        disk.covered.clone_from(&disk.now);
+    }
+    Ok(matches!(answer, Answer::Ended { .. }))
+}
+
 /// The dispatcher's side: lets a request go on that the seed chooses. Returns whether one ended.
 fn go_on(core: &mut Core, disk: &mut Disk, rng: &mut Rng, has_fault: bool) -> Result<bool, Error> {
     let number = rng.below(REQUESTS as u32).into();
     let Some(op) = core.running_op(number) else {
-        return Ok(matches!(
-            core.step(Step::Issue { number })?,
-            Answer::Ended { .. }
-        ));
+        return issue(core, disk, number);
     };
     let res = if has_fault && number == 1 {
         -5
