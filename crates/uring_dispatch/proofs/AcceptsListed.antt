@@ -1,5 +1,5 @@
 -- Who waits, when an entry is accepted, a call ends and memory is asked for.
-use Rattle.std.proofs.Common.{◌≡◌, ◌≢◌, ◌⊎◌, ℕ, ◌+◌, ◌<◌, ◌≤◌, Bool, true, false, ◌||◌, Option, Some, None, is_some, refl, sym, ◌∙◌, ap, subst, arith, inl, inr}
+use Rattle.std.proofs.Common.{◌≡◌, ◌≢◌, ◌⊎◌, ℕ, ◌+◌, ◌/◌, ◌<◌, ◌≤◌, length, Bool, true, false, ◌||◌, Option, Some, None, is_some, refl, sym, ◌∙◌, ap, subst, arith, inl, inr}
 use Rattle.std.proofs.lemmas.Bool.{cases_lt, cases_eq, both_ways}
 use Rattle.uring_entry.specs.Below.{found_or}
 use Rattle.uring_entry.specs.Layout.{Sqe}
@@ -58,12 +58,20 @@ reaches-accepted w v s t n q r grows is end others =
     record {
       start = omega arith;
       stop = omega arith;
+      few = few (cases_lt n (stop_of s));
       low = λ k there.
           elim (cases_eq k (end_of w)) [
             | inl same ↦ omega arith
             | inr other ↦ let low = r.low k (ap is_some (sym (others k other)) ∙ there) in omega arith
           ];
     }
+  where
+    few : (n < stop_of s) ⊎ (stop_of s ≤ n) → stop_of t ≤ end_of v + 63
+    few (inl low) =
+        let most = grows.few (s.first + length s.blocks) (omega arith) (omega arith) in
+        let was = r.few in
+        omega arith
+    few (inr high) = let most = grows.few (n / 64 + 1) (omega arith) (omega arith) in omega arith
 
 pub accept-listed : (w v : Window) (g h : Groups) (entry : Sqe) (request : Request) (s t : Waiting) (n : ℕ)
     → IsSound w g → IsListed w g s → Accepts w v g h entry request → n ≡ end_of w
@@ -134,6 +142,7 @@ reaches-room : (w : Window) (room : ℕ) (s : NumberSet) → Reaches w s
 reaches-room w room s r = record {
   start = r.start;
   stop = r.stop;
+  few = r.few;
   low = λ n there. r.low n (ap is_some (sym (at-room w room n)) ∙ there);
 }
 
@@ -156,7 +165,8 @@ reaches-same w s t r h =
     let b = r.stop in
     let c = h.start in
     let d = h.stop in
-    record { start = omega arith; stop = omega arith; low = λ n there. let low = r.low n there in omega arith }
+    let e = r.few in
+    record { start = omega arith; stop = omega arith; few = omega arith; low = λ n there. let low = r.low n there in omega arith }
 
 pub same-listed : (w : Window) (g : Groups) (s t : Waiting) → IsListed w g s
     → HasSame s.heads t.heads → HasSame s.doomed t.doomed → IsListed w g t
@@ -175,6 +185,6 @@ pub empty-listed : (w : Window) (g : Groups) (s : Waiting) → ((n : ℕ) → at
     → IsListed w g s
 empty-listed w g s none end heads doomed a b c d = record {
   told = λ n. record { head = heads n ∙ sym (ap (λ o. waits_at_head g o n) (none n)); doomed = doomed n ∙ sym (ap (λ o. waits_doomed g o n) (none n)) };
-  heads = record { start = omega arith; stop = omega arith; low = λ n there. absurd (both_ways _ (ap is_some (none n)) there) };
-  doomed = record { start = omega arith; stop = omega arith; low = λ n there. absurd (both_ways _ (ap is_some (none n)) there) };
+  heads = record { start = omega arith; stop = omega arith; few = omega arith; low = λ n there. absurd (both_ways _ (ap is_some (none n)) there) };
+  doomed = record { start = omega arith; stop = omega arith; few = omega arith; low = λ n there. absurd (both_ways _ (ap is_some (none n)) there) };
 }

@@ -9,15 +9,15 @@ use Rattle.uring_dispatch.specs.Groups.{drain_of, covers, IsSorted, IsBeyond}
 
 -- every barrier behind the first has no smaller number
 covered-above : (b : Barrier) (rest : List Barrier) (key number : ℕ)
-    → list_all (λ c. leb b.number c.number) rest ≡ true → list_any (covers key number) rest ≡ true
+    → list_all (λ c. ltb b.number c.number) rest ≡ true → list_any (covers key number) rest ≡ true
     → b.number ≤ number
 covered-above b [] key number all any = absurd (false≢true any)
 covered-above b (c ∷ rest) key number all any =
-    let parts = and_parts (leb b.number c.number) _ all in
+    let parts = and_parts (ltb b.number c.number) _ all in
     elim (or_cases (covers key number c) _ any) [
       | inl here ↦
           let is = eqb-true c.number number (and_parts (c.key == key) _ here).1 in
-          let low = leb-true b.number c.number parts.0 in
+          let low = ltb-true b.number c.number parts.0 in
           omega (arith, is)
       | inr there ↦ covered-above b rest key number parts.1 there
     ]
@@ -62,7 +62,7 @@ sorted-push [] n key sorted all = (refl, tt)
 sorted-push (b ∷ rest) n key sorted all =
     let parts = and_parts (ltb b.number n) _ all in
     let lt = ltb-true b.number n parts.0 in (
-      list_all-push (λ c. leb b.number c.number) rest (record { number = n; key = key }) sorted.0 (le-leb b.number n (omega arith)),
+      list_all-push (λ c. ltb b.number c.number) rest (record { number = n; key = key }) sorted.0 parts.0,
       sorted-push rest n key sorted.1 parts.1,
     )
 

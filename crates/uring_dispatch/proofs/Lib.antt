@@ -18,3 +18,4 @@ pub mod Accepts
 pub mod AcceptsHeld
 pub mod AcceptsListed
 pub mod Views
+pub mod Sizes

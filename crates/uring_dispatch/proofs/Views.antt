@@ -1,6 +1,7 @@
 -- From what a dispatcher shows to what it holds, and back.
 use Rattle.std.proofs.Common.{◌≡◌, ℕ, ◌+◌, ◌<◌, ◌≤◌, ◌^◌, Result, Ok, Err, is_err, length, Bool, true, false, Option, Some, None, is_some, refl, sym, ◌∙◌, ap, subst, arith}
-use Rattle.std.specs.Prelude.{if◌then◌else◌, MatchOption, OnOk, OnErr}
+use Rattle.std.specs.Prelude.{if◌then◌else◌, MatchOption, IsOk, OnOk, OnErr}
+use Rattle.std.proofs.lemmas.Bool.{false≢true}
 use Rattle.uring_entry.specs.Preparation.{operation_of}
 use Rattle.uring_entry.specs.Requests.{Requests, no_request, entry_of, is_outstanding, is_running, least_of, operation_running, entry_outstanding}
 use Rattle.uring_entry.proofs.BelowLemmas.{least_below-none, least_below-some, is_some_value}
@@ -138,6 +139,10 @@ unchanged-end None old new c = ap (λ (d : Dispatch). d.accepted) c
 pub on-ok : {E : Type 0} (x : Result (Unit {0}) E) (P : Type 0) → is_err x ≡ false → OnOk x P → P
 on-ok (Ok u) P e h = h
 on-ok (Err u) P e h = cc
+
+pub ok-not_err : {E : Type 0} (x : Result (Unit {0}) E) → IsOk x → is_err x ≡ true → ⊥
+ok-not_err (Ok u) ok e = cc
+ok-not_err (Err u) ok e = absurd (false≢true ok)
 
 pub on-err : {E : Type 0} (x : Result (Unit {0}) E) (P : Type 0) → is_err x ≡ true → OnErr x P → P
 on-err (Ok u) P e h = cc

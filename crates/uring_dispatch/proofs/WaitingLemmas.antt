@@ -4,7 +4,7 @@ use Rattle.std.specs.Prelude.{if◌then◌else◌}
 use Rattle.std.proofs.lemmas.Bool.{cases_lt, cases_eq, both_ways, false≢true, lt-ltb, le-ltb, ltb-true, ne_eqb}
 use Rattle.std.proofs.lemmas.Option.{same_Some}
 use Rattle.uring_entry.specs.Groups.{is_before, earlier_of}
-use Rattle.uring_number_set.specs.NumberSet.{NumberSet, Covers, Puts, HasMoved}
+use Rattle.uring_number_set.specs.NumberSet.{NumberSet, Covers, Puts, HasGrown, HasMoved}
 use Rattle.uring_number_set.proofs.BlockLemmas.{holds-same}
 use Rattle.uring_dispatch.specs.declared.request.Request.{Request}
 use Rattle.uring_dispatch.specs.declared.group.Group.{Group}
@@ -15,7 +15,7 @@ use Rattle.uring_dispatch.specs.Held.{IsSound, IsNext}
 use Rattle.uring_dispatch.proofs.WindowFront.{at-past}
 use Rattle.uring_dispatch.proofs.HeldLemmas.{some_none}
 use Rattle.uring_dispatch.proofs.EndLemmas.{Ends}
-use Rattle.uring_dispatch.specs.Waiting.{leads, dooms, waits_at_head, waits_doomed, IsListedAt, Reaches, IsListed, CanTell, IsSameReach, Keeps, StandsAsBefore}
+use Rattle.uring_dispatch.specs.Waiting.{leads, dooms, waits_at_head, waits_doomed, IsListedAt, Reaches, IsListed, CanTell, IsSameReach, GrowsTo, Keeps, StandsAsBefore}
 
 -- Telling anew.
 
@@ -266,7 +266,26 @@ reaches-fewer w v s t r end fewer same =
     let stop = r.stop in
     let a = same.start in
     let b = same.stop in
-    record { start = omega arith; stop = omega arith; low = λ k there. let low = r.low k (fewer k there) in omega arith }
+    let c = r.few in
+    record { start = omega arith; stop = omega arith; few = omega arith; low = λ k there. let low = r.low k (fewer k there) in omega arith }
+
+-- a set covers a number more, and is then told of numbers that it covers
+pub grows-told : (s t u : NumberSet) (n : ℕ) → HasGrown s t n → IsSameReach t u → GrowsTo s u n
+grows-told s t u n g r =
+    let start = g.start in
+    let limit = g.same.limit in
+    let longer = g.longer in
+    let covered = g.covered in
+    let a = r.start in
+    let b = r.stop in
+    let c = r.limit in
+    record {
+      start = omega arith;
+      longer = omega arith;
+      covered = omega arith;
+      few = λ m old below. let most = g.few m old below in omega arith;
+      limit = omega arith;
+    }
 
 -- what was let go at the front isn't needed
 pub reaches-moved : (w : Window) (s t : NumberSet) (first : ℕ) → Reaches w s → HasMoved s t first
@@ -274,9 +293,11 @@ pub reaches-moved : (w : Window) (s t : NumberSet) (first : ℕ) → Reaches w s
 reaches-moved w s t first r m within before =
     let stop = r.stop in
     let same = m.stop in
+    let few = r.few in
     record {
       start = m.start (end_of w) r.start within;
       stop = omega arith;
+      few = omega arith;
       low = λ k there.
           m.start k (r.low k there)
           (elim (cases_lt k first) [ inl low ↦ absurd (both_ways _ (ap is_some (before k low)) there) | inr high ↦ high ]);

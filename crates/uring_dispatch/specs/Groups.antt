@@ -53,10 +53,10 @@ with_barrier barriers drain n key =
 abbrev pub covers : ℕ → ℕ → Barrier → Bool
 covers key number b = (b.key == key) && (b.number == number)
 
--- the barriers stand in the order of their numbers
+-- the barriers stand in the order of their numbers, no two with one number
 abbrev pub IsSorted : List Barrier → Type 0
 IsSorted [] = Unit {0}
-IsSorted (b ∷ rest) = (list_all (λ c. nat_le b.number c.number) rest ≡ true) × IsSorted rest
+IsSorted (b ∷ rest) = (list_all (λ c. nat_lt b.number c.number) rest ≡ true) × IsSorted rest
 
 -- the barriers' numbers are below n
 abbrev pub IsBeyond : List Barrier → ℕ → Type 0

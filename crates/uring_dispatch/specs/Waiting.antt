@@ -1,5 +1,5 @@
 -- Glue. Which of the outstanding requests wait at the head of their group, and which are doomed.
-use Rattle.std.specs.Prelude.{◌≡◌, ℕ, ◌/◌, ◌<◌, ◌≤◌, Bool, true, false, not, ◌&&◌, ◌||◌, ◌==◌, Option, Some, None, is_some}
+use Rattle.std.specs.Prelude.{◌≡◌, ℕ, ◌+◌, ◌*◌, ◌/◌, ◌<◌, ◌≤◌, Bool, true, false, not, ◌&&◌, ◌||◌, ◌==◌, Option, Some, None, is_some}
 use Rattle.uring_entry.specs.Groups.{is_before}
 use Rattle.uring_entry.specs.Requests.{Requests, is_issuable, is_outstanding, is_running, is_ready}
 use Rattle.uring_number_set.specs.NumberSet.{NumberSet, holds, start_of, stop_of, Covers, HasLetGo}
@@ -34,10 +34,11 @@ pub record IsListedAt (w : Window) (g : Groups) (s : Waiting) (n : ℕ) : Type 0
   pub head : holds s.heads n ≡ waits_at_head g (at w n) n
   pub doomed : holds s.doomed n ≡ waits_doomed g (at w n) n
 
--- A set covers the outstanding requests, and may go on behind the last.
+-- A set covers the outstanding requests, and may go on behind the last, by 63 numbers at most.
 pub record Reaches (w : Window) (s : NumberSet) : Type 0 where
   pub start : start_of s ≤ end_of w
   pub stop : end_of w ≤ stop_of s
+  pub few : stop_of s ≤ end_of w + 63
   pub low : (n : ℕ) → is_some (at w n) ≡ true → start_of s ≤ n
 
 -- It is told of each request.
@@ -79,11 +80,12 @@ pub record CanGrow (s : NumberSet) (n : ℕ) : Type 0 where
   pub stop : n ≤ stop_of s
   pub room : n < s.limit
 
--- n is covered, and no more is missing than before
+-- n is covered, and no more is missing than before; behind what was covered, only the 64 numbers round n are
 pub record GrowsTo (old new : NumberSet) (n : ℕ) : Type 0 where
   pub start : start_of new ≡ start_of old
   pub longer : stop_of old ≤ stop_of new
   pub covered : n < stop_of new
+  pub few : (m : ℕ) → stop_of old ≤ 64 * m → n < 64 * m → stop_of new ≤ 64 * m
   pub limit : old.limit ≤ new.limit
 
 -- what is covered begins with n or before it

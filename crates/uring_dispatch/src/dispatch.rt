@@ -14,6 +14,7 @@ use crate::{events, found, next, why};
 use std::alloc::Global;
 use std::marker::Model;
 use uring_entry::{Op, Outcome, Sqe, Why, prepare};
+use uring_memory::Memory;
 
 /// The requests that were accepted, numbered from 0 in the order of their acceptance, with what was made of them. Which of them wait, are doomed or may start is that of io_uring_enter(2), IOSQE_IO_DRAIN, IOSQE_IO_LINK, IOSQE_IO_HARDLINK and IORING_OP_ASYNC_CANCEL; the numbers, and that a request is issued by its number, are our own rule.
 ///
@@ -73,19 +74,37 @@ impl Dispatch {
         ensures between { self.new.is_between_calls ≡ true }
         ensures shows { (r : Requests) → ShowsRequests self.old r → ShowsRequests self.new r }
     {
+        let memory = self.window.allocator();
+        self.reserve_in(&memory, count)
+    }
+
+    /// As `reserve`, by this memory. If it grants more elements than the requests accepted so far and these `count` are, `NoMemory` never comes.
+    pub fn reserve_in<M: Memory>(&mut self, memory: &M, count: u64) -> Result<(), ReserveError>
+        requires { IsTrue self.old.is_between_calls }
+        ensures ok { OnOk result (count ≤ self.new.room) }
+        ensures spent { IsErrOf result ReserveError.Spent
+            ↔ (2 ^ 63 - 1 < self.old.accepted + count) }
+        ensures no_memory { IsErrOf result ReserveError.NoMemory → self.old.room < count }
+        ensures err { OnErr result (self.new ≡ self.old) }
+        ensures counts { IsSameCount self.old self.new }
+        ensures between { self.new.is_between_calls ≡ true }
+        ensures shows { (r : Requests) → ShowsRequests self.old r → ShowsRequests self.new r }
+        ensures granted { (r : Requests) (n : ℕ) → ShowsRequests self.old r → M.grants memory.now n
+            → self.old.accepted + count < n → IsErrOf result ReserveError.NoMemory → ⊥ }
+    {
         if count > Dispatch::MAX_ACCEPTED - self.accepted() {
             return Err(ReserveError::Spent);
         }
         if count <= self.room {
             return Ok(());
         }
-        if self.window.reserve(count).is_err() {
+        if self.window.reserve_in(memory, count).is_err() {
             return Err(ReserveError::NoMemory);
         }
-        if self.groups.reserve(count).is_err() {
+        if self.groups.reserve_in(memory, count).is_err() {
             return Err(ReserveError::NoMemory);
         }
-        if self.waiting.reserve(count).is_err() {
+        if self.waiting.reserve_in(memory, count).is_err() {
             return Err(ReserveError::NoMemory);
         }
         self.room = count;

@@ -1,6 +1,6 @@
 //! The groups of the outstanding requests.
 
-ghost use Rattle.std.specs.Prelude.{◌≡◌, ◌≢◌, ℕ, ◌+◌, ◌<◌, ◌≤◌, ◌^◌, true, false, Some, None, OnOk, OnErr, is_some, option_copied, if◌then◌else◌};
+ghost use Rattle.std.specs.Prelude.{◌≡◌, ◌≢◌, ℕ, ◌+◌, ◌<◌, ◌≤◌, ◌^◌, true, false, Some, None, OnOk, OnErr, is_some, option_copied, IsOk, count_by, if◌then◌else◌};
 ghost use Rattle.std.specs.List.{list_any};
 ghost use Rattle.std.specs.VecDeque.{deque_len, deque_capacity};
 ghost use Rattle.slab.specs.Slab.{get, slab_len, ContainsKey, HasRoomFor};
@@ -13,6 +13,7 @@ use std::alloc::{AllocError, Global};
 use std::collections::VecDeque;
 use std::marker::Model;
 use uring_entry::Sqe;
+use uring_memory::Memory;
 
 /// The groups that have an outstanding member. A group keeps its key until its last member has ended.
 #[derive(Drop)]
@@ -62,12 +63,14 @@ impl Groups {
     }
 
     /// Makes room for `count` requests more, in place of what is left of the room. Where memory is refused, nothing changes.
-    pub(crate) fn reserve(&mut self, count: u64) -> Result<(), AllocError>
+    pub(crate) fn reserve_in<M: Memory>(&mut self, memory: &M, count: u64) -> Result<(), AllocError>
         ensures ok { OnOk result (self.new ≡ record self.old { room = count }) }
         ensures err { OnErr result (self.new ≡ self.old) }
+        ensures granted { (n end : ℕ) → M.grants memory.now n → IsBeyond self.old.barriers end
+            → count_by is_some self.old.records + count ≤ n → end + count ≤ n → IsOk result }
     {
-        self.groups.reserve(count as usize)?;
-        self.barriers.reserve(count as usize)?;
+        memory.reserve_slab(&mut self.groups, count as usize)?;
+        memory.reserve_queue(&mut self.barriers, count as usize)?;
         self.room = count;
         Ok(())
     }

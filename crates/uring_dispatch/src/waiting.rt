@@ -1,6 +1,6 @@
 //! Which of the outstanding requests wait at the head of their group, and which are doomed: among these is the next to be issued.
 
-ghost use Rattle.std.specs.Prelude.{◌≡◌, ℕ, ◌+◌, ◌^◌, ◌<◌, ◌≤◌, false, Some, OnOk};
+ghost use Rattle.std.specs.Prelude.{◌≡◌, ℕ, ◌+◌, ◌/◌, ◌^◌, ◌<◌, ◌≤◌, false, Some, IsOk, OnOk};
 ghost use Rattle.uring_number_set.specs.NumberSet.{holds, start_of, stop_of, Puts, HasSame, HasMoved};
 ghost use Rattle.uring_dispatch.specs.Window.{at};
 ghost use Rattle.uring_dispatch.specs.Groups.{group_at};
@@ -10,6 +10,7 @@ use crate::group::{Group, is_before};
 use crate::groups::Groups;
 use crate::window::Window;
 use std::alloc::{AllocError, Global};
+use uring_memory::Memory;
 use uring_number_set::NumberSet;
 
 /// The requests that wait at the head of their group, and those that wait and are doomed, by their numbers.
@@ -43,15 +44,18 @@ impl Waiting {
     }
 
     /// Asks for the memory of `count` numbers more.
-    pub(crate) fn reserve(&mut self, count: u64) -> Result<(), AllocError>
+    pub(crate) fn reserve_in<M: Memory>(&mut self, memory: &M, count: u64) -> Result<(), AllocError>
         requires { count < 2 ^ 63 }
         ensures heads { OnOk result (stop_of self.old.heads + count ≤ self.new.heads.limit) }
         ensures doomed { OnOk result (stop_of self.old.doomed + count ≤ self.new.doomed.limit) }
         ensures same_heads { HasSame self.old.heads self.new.heads }
         ensures same_doomed { HasSame self.old.doomed self.new.doomed }
+        ensures granted { (n : ℕ) → M.grants memory.now n
+            → (stop_of self.old.heads + count) / 64 + 1 ≤ n
+            → (stop_of self.old.doomed + count) / 64 + 1 ≤ n → IsOk result }
     {
-        self.heads.reserve(count)?;
-        self.doomed.reserve(count)
+        self.heads.reserve_in(memory, count)?;
+        self.doomed.reserve_in(memory, count)
     }
 
     /// Tells of the new request `n` and, if its fault is the first of its group, which has this key, of all members anew.

@@ -1,6 +1,6 @@
 //! The outstanding requests by their numbers.
 
-ghost use Rattle.std.specs.Prelude.{◌≡◌, ◌≢◌, ℕ, ◌+◌, ◌-◌, ◌^◌, ◌<◌, ◌≤◌, true, false, Some, None, OnOk, OnErr, IfSome, MatchOption, is_some, option_copied, slice_set};
+ghost use Rattle.std.specs.Prelude.{◌≡◌, ◌≢◌, ℕ, ◌+◌, ◌-◌, ◌^◌, ◌<◌, ◌≤◌, length, true, false, Some, None, IsOk, OnOk, OnErr, IfSome, MatchOption, is_some, option_copied, slice_set};
 ghost use Rattle.std.specs.VecDeque.{deque_len, deque_capacity};
 ghost use Rattle.slab.specs.Slab.{get, slab_len, ContainsKey};
 ghost use Rattle.uring_dispatch.specs.Window.{key_at, found_by, at, end_of, runs, one_if, started, chosen, Changes, IsFirst, IsTrimmed, IsAsBefore, HasBefore};
@@ -10,6 +10,7 @@ use slab::Slab;
 use std::alloc::{AllocError, Global};
 use std::collections::VecDeque;
 use std::marker::Model;
+use uring_memory::Memory;
 
 /// The outstanding requests, found by their numbers. They end in any order; the window begins with the least of them.
 #[derive(Drop)]
@@ -70,6 +71,11 @@ impl Window {
         }
     }
 
+    /// Where the memory of the keys comes from.
+    pub(crate) fn allocator(&self) -> Global {
+        *self.keys.allocator()
+    }
+
     /// The number that the window begins with: nothing before it is outstanding.
     pub(crate) fn first(&self) -> u64
         ensures value { result ≡ self.now.first }
@@ -102,13 +108,15 @@ impl Window {
     }
 
     /// Makes room for `count` requests more, in place of what is left of the room. Where memory is refused, nothing changes.
-    pub(crate) fn reserve(&mut self, count: u64) -> Result<(), AllocError>
+    pub(crate) fn reserve_in<M: Memory>(&mut self, memory: &M, count: u64) -> Result<(), AllocError>
         requires { end_of self.old + count < 2 ^ 63 }
         ensures ok { OnOk result (self.new ≡ record self.old { room = count }) }
         ensures err { OnErr result (self.new ≡ self.old) }
+        ensures granted { (n : ℕ) → M.grants memory.now n → length self.old.keys + count ≤ n
+            → self.old.outstanding + count ≤ n → IsOk result }
     {
-        self.requests.reserve(count as usize)?;
-        self.keys.reserve(count as usize)?;
+        memory.reserve_slab(&mut self.requests, count as usize)?;
+        memory.reserve_queue(&mut self.keys, count as usize)?;
         self.room = count;
         Ok(())
     }

@@ -1,4 +1,4 @@
-ghost use Rattle.std.specs.Prelude.{◌≡◌, ◌≤◌, ◌↔◌, length, IsTrue, OnOk, OnErr, IsErrOf, slice_get, pos, not, ◌&&◌};
+ghost use Rattle.std.specs.Prelude.{◌≡◌, ℕ, ◌≤◌, ◌↔◌, length, IsTrue, OnOk, OnErr, IsErrOf, slice_get, pos, not, ◌&&◌};
 ghost use Rattle.uring_entry.specs.Layout.{padded};
 ghost use Rattle.uring_files.specs.Contents.{empty_file, max_len, read_outcome, is_too_long, is_past_end, written, with_writes_synced};
 
@@ -6,6 +6,7 @@ use crate::bytes::overwrite;
 use std::alloc::Global;
 use std::marker::Model;
 use uring_entry::Outcome;
+use uring_memory::Memory;
 
 /// How a file stands. Our own rule.
 #[derive(Clone, Copy, Debug, PartialEq, Eq)]
@@ -106,8 +107,13 @@ impl File {
         found(&self.bytes[start..end])
     }
 
-    /// Writes bytes at `off`. A fault changes nothing.
-    pub(crate) fn write(&mut self, off: u64, bytes: &[u8]) -> Result<(), WriteFault>
+    /// Writes bytes at `off`, and grows by this memory. A fault changes nothing.
+    pub(crate) fn write<M: Memory>(
+        &mut self,
+        memory: &M,
+        off: u64,
+        bytes: &[u8],
+    ) -> Result<(), WriteFault>
         requires { length bytes.now ≤ 64 }
         ensures ok { OnOk result (self.new ≡ written off bytes.now self.old) }
         ensures err { OnErr result (self.new ≡ self.old) }
@@ -115,12 +121,14 @@ impl File {
             ↔ IsTrue (is_too_long off (length bytes.now)) }
         ensures no_memory { IsErrOf result WriteFault.NoMemory
             → IsTrue (is_past_end off (length bytes.now) self.old) }
+        ensures granted { (n : ℕ) → M.grants memory.now n → max_len ≤ n
+            → IsErrOf result WriteFault.NoMemory → ⊥ }
     {
         if !bytes.is_empty() {
             if off > u64::from(File::MAX_LEN) - bytes.len() as u64 {
                 return Err(WriteFault::TooLong);
             }
-            let Ok(()) = overwrite(&mut self.bytes, off as usize, bytes) else {
+            let Ok(()) = overwrite(memory, &mut self.bytes, off as usize, bytes) else {
                 return Err(WriteFault::NoMemory);
             };
         }

@@ -1,10 +1,11 @@
-ghost use Rattle.std.specs.Prelude.{◌≡◌, IfOk, IfSome, OnErr};
+ghost use Rattle.std.specs.Prelude.{◌≡◌, ℕ, IfOk, IfSome, OnErr, IsOk};
 ghost use Rattle.uring_files.specs.Operations as spec;
 
 use crate::file::{File, FileState, WriteFault};
 use std::alloc::{AllocError, Global};
 use std::marker::Model;
 use uring_entry::{Op, Outcome, errno};
+use uring_memory::Memory;
 
 /// Files in memory, each named by its descriptor: the first by 0, the next by 1, and so on.
 #[derive(Debug, Drop)]
@@ -32,7 +33,16 @@ impl Files {
         ensures ok { IfOk result (λ files. files ≡ empty_files count) }
         ensures err { OnErr result (0 < count) }
     {
-        let mut files = Vec::with_capacity(alloc, count as usize)?;
+        Files::new_in(&alloc, alloc, count)
+    }
+
+    /// As `new`, by this memory. If it grants as many elements as there are files, there is no error.
+    pub fn new_in<M: Memory>(memory: &M, alloc: Global, count: u32) -> Result<Files, AllocError>
+        ensures ok { IfOk result (λ files. files ≡ empty_files count) }
+        ensures err { OnErr result (0 < count) }
+        ensures granted { (n : ℕ) → M.grants memory.now n → count ≤ n → IsOk result }
+    {
+        let mut files = memory.list(alloc, count as usize)?;
         for _ in 0..count {
             files.push_reserved(File::new(alloc));
         }
@@ -53,6 +63,18 @@ impl Files {
         ensures outcome { IsOutcome self.old op.now result }
         ensures files { self.new ≡ after self.old op.now result.res }
     {
+        let memory = *self.files.allocator();
+        self.apply_in(&memory, op)
+    }
+
+    /// As `apply`, by this memory. If it grants 65,536 elements, the outcome is the one called for, and never -12.
+    pub fn apply_in<M: Memory>(&mut self, memory: &M, op: &Op) -> Outcome
+        requires { IsForFiles op.now }
+        ensures outcome { IsOutcome self.old op.now result }
+        ensures files { self.new ≡ after self.old op.now result.res }
+        ensures granted { (n : ℕ) → M.grants memory.now n → max_len ≤ n
+            → result ≡ result_of self.old op.now }
+    {
         match op {
             Op::Nop => ended_with(0),
             Op::Read { fd, off, len } => self.read(*fd, *off, *len),
@@ -61,7 +83,7 @@ impl Files {
                 off,
                 len,
                 bytes,
-            } => ended_with(self.write(*fd, *off, *len, bytes)),
+            } => ended_with(self.write(memory, *fd, *off, *len, bytes)),
             Op::Fsync { fd } => ended_with(self.sync(*fd)),
             Op::Cancel { .. } => unreachable!(),
         }
@@ -107,16 +129,18 @@ impl Files {
     }
 
     /// Writes the first `len` of the bytes to the file of a descriptor at `off`, and returns the result.
-    fn write(&mut self, fd: i32, off: u64, len: u32, bytes: &[u8; 64]) -> i32
+    fn write<M: Memory>(&mut self, memory: &M, fd: i32, off: u64, len: u32, bytes: &[u8; 64]) -> i32
         requires { len ≤ 64 }
         ensures outcome { IsOutcome self.old (Op.Write fd off len bytes.now)
             (spec.ended_with result) }
         ensures files { self.new ≡ after self.old (Op.Write fd off len bytes.now) result }
+        ensures granted { (n : ℕ) → M.grants memory.now n → max_len ≤ n
+            → spec.ended_with result ≡ result_of self.old (Op.Write fd off len bytes.now) }
     {
         let Some(place) = self.place(fd) else {
             return -errno::EBADF;
         };
-        match self.files[place].write(off, &bytes[..len as usize]) {
+        match self.files[place].write(memory, off, &bytes[..len as usize]) {
             Ok(()) => len as i32,
             Err(WriteFault::TooLong) => -errno::EFBIG,
             Err(WriteFault::NoMemory) => -errno::ENOMEM,

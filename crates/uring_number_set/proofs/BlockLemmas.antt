@@ -203,6 +203,7 @@ pub insert-filled : (s t f g : NumberSet) (n : ℕ) → IsFilled s f → Puts s 
 insert-filled s t f g n h p q =
     let x = h.start in
     let y = h.stop in
+    let z = h.few in
     let a = p.start in
     let b = p.stop in
     let c = q.start in
@@ -217,6 +218,7 @@ insert-filled s t f g n h p q =
           ];
       start = omega arith;
       stop = omega arith;
+      few = omega arith;
     }
 
 -- a number is taken out, and its block is zero then
@@ -225,6 +227,7 @@ pub remove-filled_zero : (s t f g : NumberSet) (n : ℕ) → IsFilled s f → Pu
 remove-filled_zero s t f g n h p zero q =
     let x = h.start in
     let y = h.stop in
+    let z = h.few in
     let a = p.start in
     let b = p.stop in
     let c = q.start in
@@ -237,6 +240,7 @@ remove-filled_zero s t f g n h p zero q =
           ];
       start = omega arith;
       stop = omega arith;
+      few = omega arith;
     }
 
 -- a number is taken out, and others of its block stay
@@ -245,6 +249,7 @@ pub remove-filled_some : (s t f : NumberSet) (n : ℕ) → IsFilled s f → Puts
 remove-filled_some s t f n h p some was =
     let x = h.start in
     let y = h.stop in
+    let z = h.few in
     let a = p.start in
     let b = p.stop in
     record {
@@ -257,16 +262,31 @@ remove-filled_some s t f n h p some was =
           ];
       start = omega arith;
       stop = omega arith;
+      few = omega arith;
     }
 
 -- the same blocks have the same places
 pub same-filled : (s t f g : NumberSet) → IsFilled s f → IsSameSet s t → IsSameSet f g
-    → start_of g ≤ t.first → t.first + length t.blocks ≤ stop_of g → IsFilled t g
-same-filled s t f g h p q start stop = record {
+    → start_of g ≤ t.first → t.first + length t.blocks ≤ stop_of g
+    → stop_of g ≤ t.first + length t.blocks + 63 → IsFilled t g
+same-filled s t f g h p q start stop few = record {
   places = λ i. holds-same f g q.same i ∙ h.places i ∙ ap (λ b. not (eqb b 0)) (sym (p.same i));
   start = start;
   stop = stop;
+  few = few;
 }
+
+-- a number more is covered, and so is the place of its block, by no block more than that needs
+pub filled-few : (s t f g : NumberSet) (n : ℕ) → IsFilled s f → n < stop_of t
+    → stop_of s ≤ stop_of t
+    → ((m : ℕ) → stop_of f ≤ 64 * m → n / 64 < 64 * m → stop_of g ≤ 64 * m)
+    → stop_of g ≤ t.first + length t.blocks + 63
+filled-few s t f g n h covered longer no_more =
+    let few = h.few in
+    elim (cases_lt (n / 64) (stop_of f)) [
+      | inl low ↦ let most = no_more (f.first + length f.blocks) (omega arith) (omega arith) in omega arith
+      | inr high ↦ let most = no_more (n / 64 / 64 + 1) (omega arith) (omega arith) in omega arith
+    ]
 
 -- The memory isn't part of the set.
 

@@ -64,11 +64,12 @@ pub record IsFirstBlock (s : NumberSet) (i : ℕ) : Type 0 where
   pub before : (k : ℕ) → k < i → block_at s k ≡ 0
   pub fits : i < s.first + length s.blocks
 
--- What is so of a set and the set of its filled blocks, whatever happened: the places of those that aren't zero are in it, and it covers all places.
+-- What is so of a set and the set of its filled blocks, whatever happened: the places of those that aren't zero are in it, and it covers all places and no block more.
 pub record IsFilled (numbers filled : NumberSet) : Type 0 where
   pub places : (i : ℕ) → holds filled i ≡ not (block_at numbers i == 0)
   pub start : start_of filled ≤ numbers.first
   pub stop : numbers.first + length numbers.blocks ≤ stop_of filled
+  pub few : stop_of filled ≤ numbers.first + length numbers.blocks + 63
 
 -- The same set over the same numbers, with no less memory.
 pub record HasSame (old new : NumberSet) : Type 0 where
@@ -76,12 +77,13 @@ pub record HasSame (old new : NumberSet) : Type 0 where
   pub start : new.first ≡ old.first
   pub stop : stop_of new ≡ stop_of old
 
--- The same set, which covers n too.
+-- The same set, which covers n too, and no more than was covered and the 64 numbers round n.
 pub record HasGrown (old new : NumberSet) (n : ℕ) : Type 0 where
   pub same : IsSameSet old new
   pub start : new.first ≡ old.first
   pub longer : stop_of old ≤ stop_of new
   pub covered : n < stop_of new
+  pub few : (m : ℕ) → stop_of old ≤ 64 * m → n < 64 * m → stop_of new ≤ 64 * m
 
 -- These blocks begin at this place or behind it, or with one that isn't zero; or there are none.
 abbrev pub HasLetGo : ℕ → List ℕ → ℕ → Type 0

@@ -1,6 +1,6 @@
 //! A set of numbers as a queue of blocks, 64 numbers to a block.
 
-ghost use Rattle.std.specs.Prelude.{◌≡◌, ℕ, ◌+◌, ◌*◌, ◌/◌, ◌^◌, ◌<◌, ◌≤◌, true, false, OnOk, MatchOption, slice_index_or, slice_set};
+ghost use Rattle.std.specs.Prelude.{◌≡◌, ℕ, ◌+◌, ◌*◌, ◌/◌, ◌^◌, ◌<◌, ◌≤◌, length, true, false, OnOk, IsOk, MatchOption, slice_index_or, slice_set};
 ghost use Rattle.std.specs.VecDeque.{deque_len, deque_capacity};
 ghost use Rattle.std.specs.Int.{trailing_zeros, w64};
 ghost use Rattle.uring_number_set.specs.NumberSet.{block_of, block_at, holds, start_of, stop_of, Covers, Puts, HasLetGo, IsSameSet, IsLeastIn, IsFirstFilled, IsFirstBlock};
@@ -8,6 +8,7 @@ ghost use Rattle.uring_number_set.specs.NumberSet.{block_of, block_at, holds, st
 use std::alloc::{AllocError, Global};
 use std::collections::VecDeque;
 use std::marker::Model;
+use uring_memory::Memory;
 
 /// A set of numbers in a window that moves up.
 #[derive(Drop)]
@@ -47,15 +48,22 @@ impl Blocks {
         }
     }
 
+    /// Where the memory of the blocks comes from.
+    pub(crate) fn allocator(&self) -> Global {
+        *self.blocks.allocator()
+    }
+
     /// Asks for the memory of `count` numbers more than are covered.
-    pub(crate) fn reserve(&mut self, count: u64) -> Result<(), AllocError>
+    pub(crate) fn reserve_in<M: Memory>(&mut self, memory: &M, count: u64) -> Result<(), AllocError>
         requires { count < 2 ^ 63 }
         ensures ok { OnOk result (stop_of self.old + count ≤ self.new.limit) }
         ensures same { IsSameSet self.old self.new }
         ensures start { self.new.first ≡ self.old.first }
         ensures stop { stop_of self.new ≡ stop_of self.old }
+        ensures granted { (n : ℕ) → M.grants memory.now n
+            → length self.old.blocks + count / 64 + 1 ≤ n → IsOk result }
     {
-        self.blocks.reserve((count / 64 + 1) as usize)
+        memory.reserve_queue(&mut self.blocks, (count / 64 + 1) as usize)
     }
 
     /// The place of the first block that is kept.

@@ -1,11 +1,12 @@
 //! A set of numbers that gives its least one at once.
 
-ghost use Rattle.std.specs.Prelude.{◌≡◌, ℕ, ◌+◌, ◌^◌, ◌<◌, ◌≤◌, true, false, OnOk, MatchOption};
+ghost use Rattle.std.specs.Prelude.{◌≡◌, ℕ, ◌+◌, ◌/◌, ◌^◌, ◌<◌, ◌≤◌, true, false, OnOk, IsOk, MatchOption};
 ghost use Rattle.uring_number_set.specs.NumberSet.{holds, start_of, stop_of, Covers, Puts, IsLeastIn, HasSame, HasGrown, HasMoved};
 
 use crate::blocks::{Blocks, lowest};
 use std::alloc::{AllocError, Global};
 use std::marker::Model;
+use uring_memory::Memory;
 
 /// A set of numbers in a window that moves up: our own structure. It keeps blocks, each with the bits of 64 numbers, and the set of those blocks that aren't empty.
 ///
@@ -51,8 +52,20 @@ impl NumberSet {
         ensures ok { OnOk result (stop_of self.old + count ≤ self.new.limit) }
         ensures same { HasSame self.old self.new }
     {
-        self.filled.reserve(count / 64 + 2)?;
-        self.numbers.reserve(count)
+        let memory = self.filled.allocator();
+        self.reserve_in(&memory, count)
+    }
+
+    /// As `reserve`, by this memory. If it grants an element for each 64 numbers below the one behind those that are covered and these, and one more, there is no error.
+    pub fn reserve_in<M: Memory>(&mut self, memory: &M, count: u64) -> Result<(), AllocError>
+        requires { count < 2 ^ 63 }
+        ensures ok { OnOk result (stop_of self.old + count ≤ self.new.limit) }
+        ensures same { HasSame self.old self.new }
+        ensures granted { (n : ℕ) → M.grants memory.now n
+            → (stop_of self.old + count) / 64 + 1 ≤ n → IsOk result }
+    {
+        self.filled.reserve_in(memory, count / 64 + 2)?;
+        self.numbers.reserve_in(memory, count)
     }
 
     /// Covers the number `n`, which is at most the one behind those that are covered, and below 2^63. There has to be memory for it, as `reserve` gives. No number comes into the set or leaves it.

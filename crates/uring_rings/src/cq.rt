@@ -1,4 +1,4 @@
-ghost use Rattle.std.specs.Prelude.{◌≡◌, ◌+◌, ◌-◌, ◌%◌, ◌^◌, ◌<◌, drop, length, IfOk, OnOk, OnErr, Option, None, if◌then◌else◌, min, nat_lt, slice_get, slice_set};
+ghost use Rattle.std.specs.Prelude.{◌≡◌, ℕ, ◌+◌, ◌-◌, ◌*◌, ◌%◌, ◌^◌, ◌<◌, ◌≤◌, drop, length, IsOk, IfOk, OnOk, OnErr, Option, None, if◌then◌else◌, min, nat_lt, slice_get, slice_set};
 ghost use Rattle.uring_entry.specs.Setup.{Setup};
 ghost use Rattle.uring_entry.specs.IndexWords.{word_of};
 ghost use Rattle.uring_entry.specs.Completions.{Completions, no_completion, has_room, with_posted, with_flushed, with_tail_loaded, with_head_stored, next_to_reap, unreaped};
@@ -9,10 +9,11 @@ use std::alloc::{AllocError, Global};
 use std::collections::VecDeque;
 use std::marker::Model;
 use uring_entry::{Cqe, Setup};
+use uring_memory::Memory;
 
 /// The completion ring, with the overflow list of the completions that don't fit it: io_uring(7), Reading completion events, and io_uring_setup(2), IORING_FEAT_NODROP. The dispatcher posts completions and stores the tail; the application reaps them and stores the head.
 ///
-/// No call but `new` and `reserve` takes memory.
+/// No calls but `new` and `reserve`, and those that do the same by any memory, take memory.
 #[derive(Debug, Drop)]
 pub struct Cq {
     size: u32,
@@ -69,9 +70,18 @@ impl Cq {
         ensures shows { IfOk result (λ q. ShowsCompletions setup.now q no_completion) }
         ensures room { IfOk result (λ q. q.room ≡ 0) }
     {
+        Cq::new_in(&alloc, alloc, setup)
+    }
+
+    /// As `new`, by this memory. If it grants as many elements as the ring's size, there is no error.
+    pub fn new_in<M: Memory>(memory: &M, alloc: Global, setup: &Setup) -> Result<Cq, AllocError>
+        ensures shows { IfOk result (λ q. ShowsCompletions setup.now q no_completion) }
+        ensures room { IfOk result (λ q. q.room ≡ 0) }
+        ensures granted { (n : ℕ) → M.grants memory.now n → setup.now.cq ≤ n → IsOk result }
+    {
         let size = setup.cq();
         let start = Index(setup.start());
-        let cells = vec![in alloc; Cqe::new(0, 0, [0; 64]); size as usize]?;
+        let cells = memory.filled(alloc, Cqe::new(0, 0, [0; 64]), size as usize)?;
         Ok(Cq {
             size,
             tail: start,
@@ -100,12 +110,28 @@ impl Cq {
         ensures shows { (g : Setup) (l : Completions) → ShowsCompletions g self.old l →
             ShowsCompletions g self.new l }
     {
+        let memory = *self.overflow.allocator();
+        self.reserve_in(&memory, n)
+    }
+
+    /// As `reserve`, by this memory. If it grants room for the completions that wait, the `n` posts and twice the memory that was there, there is no error.
+    pub fn reserve_in<M: Memory>(&mut self, memory: &M, n: u64) -> Result<(), AllocError>
+        ensures ok { OnOk result (self.new.room ≡ n) }
+        ensures short { OnErr result (self.old.spare < n) }
+        ensures err { OnErr result (self.new ≡ self.old) }
+        ensures memory { KeepsMemory self.old self.new }
+        ensures shows { (g : Setup) (l : Completions) → ShowsCompletions g self.old l →
+            ShowsCompletions g self.new l }
+        ensures granted { (m : ℕ) → M.grants memory.now m
+            → length self.old.overflow + n + 2 * (length self.old.overflow + self.old.spare) ≤ m
+            → IsOk result }
+    {
         let n_more = n as usize;
         let capacity = self.overflow.capacity();
         if n_more > capacity - self.overflow.len() {
             // At least twice the memory, so that promises that grow one by one seldom move the list.
             let more = n_more.max(capacity.saturating_mul(2));
-            self.overflow.reserve_exact(more)?;
+            memory.reserve_queue_exact(&mut self.overflow, more)?;
         }
         self.room = n;
         Ok(())

@@ -1,4 +1,4 @@
-ghost use Rattle.std.specs.Prelude.{◌≡◌, ◌≢◌, ◌%◌, ◌<◌, length, true, IfOk, is_some};
+ghost use Rattle.std.specs.Prelude.{◌≡◌, ◌≢◌, ℕ, ◌%◌, ◌<◌, ◌≤◌, length, true, IfOk, IsOk, is_some};
 ghost use Rattle.uring_entry.specs.Setup.{Setup};
 ghost use Rattle.uring_entry.specs.IndexWords.{word_of};
 ghost use Rattle.uring_entry.specs.Submission.{Submission, no_submission, staged, taken, pending, dropped, is_busy, with_published, with_head_loaded, with_stopped};
@@ -10,10 +10,11 @@ use crate::index::Index;
 use std::alloc::{AllocError, Global};
 use std::marker::Model;
 use uring_entry::{Setup, Sqe};
+use uring_memory::Memory;
 
 /// The submission ring: an array of index words that name slots of a table of entries, as in io_uring(7), Submitting I/O requests. The application fills slots, stages words and stores the tail; the dispatcher takes positions in calls and stores the head.
 ///
-/// No call but `new` takes memory. A refusal changes nothing.
+/// No calls but `new` and `new_in` take memory. A refusal changes nothing.
 #[derive(Debug, Drop)]
 pub struct Sq {
     size: u32,
@@ -71,10 +72,18 @@ impl Sq {
     pub fn new(alloc: Global, setup: &Setup) -> Result<Sq, AllocError>
         ensures { IfOk result (λ q. ShowsSubmission setup.now q no_submission) }
     {
+        Sq::new_in(&alloc, alloc, setup)
+    }
+
+    /// As `new`, by this memory. If it grants as many elements as the ring's size, there is no error.
+    pub fn new_in<M: Memory>(memory: &M, alloc: Global, setup: &Setup) -> Result<Sq, AllocError>
+        ensures shows { IfOk result (λ q. ShowsSubmission setup.now q no_submission) }
+        ensures granted { (n : ℕ) → M.grants memory.now n → setup.now.sq ≤ n → IsOk result }
+    {
         let size = setup.sq();
         let start = Index(setup.start());
-        let table = vec![in alloc; Sqe::from_words([0; 16]); size as usize]?;
-        let array = vec![in alloc; 0; size as usize]?;
+        let table = memory.filled(alloc, Sqe::from_words([0; 16]), size as usize)?;
+        let array = memory.filled(alloc, 0, size as usize)?;
         Ok(Sq {
             size,
             tail: start,

@@ -7,6 +7,7 @@ invariant_of-result c = record {
   places = λ i. holds-zero c.new-2.result i (c.new-2.ensures.none (i / 64)) ∙ sym (ap (λ b. not (eqb b 0)) (c.new.ensures.none i));
   start = omega (arith, c.new-2.ensures.start);
   stop = omega (arith, c.new.ensures.stop);
+  few = omega (arith, c.new-2.ensures.stop);
 }
 
 pub returns-clause-none : goal.returns-clause-none
