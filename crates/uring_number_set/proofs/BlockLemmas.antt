@@ -8,7 +8,7 @@ use Rattle.std.proofs.lemmas.List.{get_or_past, get_or-set_same, get_or-set_othe
 use Rattle.std.proofs.lemmas.Nat.Bits.{bit_at-zero, bit_at_set_same, bit_at_set_other, bit_at_clear_same, bit_at_clear_other, bit_at-trailing_zeros}
 use Rattle.std.proofs.Math.ListN.{get_or-append}
 use Rattle.std.proofs.Math.Seq.{get_or-append_seam}
-use Rattle.uring_number_set.specs.NumberSet.{NumberSet, block_of, block_at, holds, Covers, start_of, stop_of, Puts, IsSameSet, IsLeastIn, IsFilled}
+use Rattle.uring_number_set.specs.NumberSet.{NumberSet, block_of, block_at, holds, Covers, start_of, stop_of, Puts, IsSameSet, IsLeastIn, IsFilled, HasLetGo}
 
 pub block_of-low : (first : ℕ) (blocks : List ℕ) (i : ℕ) → i < first → block_of first blocks i ≡ 0
 unfolding block_of
@@ -219,6 +219,7 @@ insert-filled s t f g n h p q =
       start = omega arith;
       stop = omega arith;
       few = omega arith;
+      let_go = omega (arith, h.let_go);
     }
 
 -- a number is taken out, and its block is zero then
@@ -241,6 +242,7 @@ remove-filled_zero s t f g n h p zero q =
       start = omega arith;
       stop = omega arith;
       few = omega arith;
+      let_go = omega (arith, h.let_go);
     }
 
 -- a number is taken out, and others of its block stay
@@ -263,17 +265,19 @@ remove-filled_some s t f n h p some was =
       start = omega arith;
       stop = omega arith;
       few = omega arith;
+      let_go = omega (arith, h.let_go);
     }
 
 -- the same blocks have the same places
 pub same-filled : (s t f g : NumberSet) → IsFilled s f → IsSameSet s t → IsSameSet f g
     → start_of g ≤ t.first → t.first + length t.blocks ≤ stop_of g
-    → stop_of g ≤ t.first + length t.blocks + 63 → IsFilled t g
-same-filled s t f g h p q start stop few = record {
+    → stop_of g ≤ t.first + length t.blocks + 63 → t.first / 64 ≤ g.first → IsFilled t g
+same-filled s t f g h p q start stop few let_go = record {
   places = λ i. holds-same f g q.same i ∙ h.places i ∙ ap (λ b. not (eqb b 0)) (sym (p.same i));
   start = start;
   stop = stop;
   few = few;
+  let_go = let_go;
 }
 
 -- a number more is covered, and so is the place of its block, by no block more than that needs
@@ -307,3 +311,23 @@ zero-puts s n zero =
 
 pub same-set : (s : NumberSet) → IsSameSet s s
 same-set s = record { same = λ i. refl; limit = omega arith }
+
+-- What is let go of the filled blocks: none of their places is before the first place of the set, since what isn't kept there is zero.
+pub let_go : (s t f g : NumberSet) → IsFilled s f → IsSameSet s t → IsSameSet f g
+    → t.first + length t.blocks ≤ stop_of g → HasLetGo g.first g.blocks (t.first / 64)
+    → t.first / 64 ≤ g.first
+let_go s t f g h p q stop (inl far) = far
+let_go s t f g h p q stop (inr (inl none)) = omega (arith, stop, none)
+let_go s t f g h p q stop (inr (inr some)) =
+    elim (cases_lt g.first (t.first / 64)) [
+      | inl low ↦
+          let first : g.first - g.first ≡ 0 = omega arith in
+          let here : block_at g g.first ≡ get_or g.blocks 0 0 = block_of-high g.first g.blocks g.first (omega arith) ∙ ap (λ k. get_or g.blocks k 0) first in
+          let least = lowest-least g g.first (get_or g.blocks 0 0) (sym here) some.0 some.1 (λ k lt. block_of-low g.first g.blocks k lt) in
+          let bit = (bit_at-trailing_zeros w64 (get_or g.blocks 0 0) some.0 some.1).0 in
+          let n : ℕ = 64 * g.first + trailing_zeros w64 (get_or g.blocks 0 0) in
+          let before : n < t.first = omega arith in
+          let zero : block_at s n ≡ 0 = sym (p.same n) ∙ block_of-low t.first t.blocks n before in
+          absurd (both_ways _ (holds-same f g q.same n ∙ h.places n ∙ ap not (eq-eqb (block_at s n) 0 zero)) least.here)
+      | inr high ↦ high
+    ]

@@ -1,5 +1,5 @@
 -- Glue. Sets of numbers, of a window that moves up: our own structure.
-use Rattle.std.specs.Prelude.{◌≡◌, ◌≢◌, ℕ, ◌+◌, ◌-◌, ◌*◌, ◌/◌, ◌%◌, ◌<◌, ◌≤◌, Bool, true, false, not, nat_lt, ◌==◌, List, length, slice_index_or, if◌then◌else◌, ◌⊎◌}
+use Rattle.std.specs.Prelude.{◌≡◌, ◌≢◌, ℕ, ◌+◌, ◌-◌, ◌*◌, ◌/◌, ◌%◌, ◌^◌, ◌<◌, ◌≤◌, Bool, true, false, not, nat_lt, ◌==◌, List, length, slice_index_or, if◌then◌else◌, ◌⊎◌}
 use Rattle.std.specs.Int.{bit_at}
 
 -- A set of numbers, 64 of them to a block: the place of the first block that is kept, the blocks from there on, and the number below which there is memory for them.
@@ -64,12 +64,13 @@ pub record IsFirstBlock (s : NumberSet) (i : ℕ) : Type 0 where
   pub before : (k : ℕ) → k < i → block_at s k ≡ 0
   pub fits : i < s.first + length s.blocks
 
--- What is so of a set and the set of its filled blocks, whatever happened: the places of those that aren't zero are in it, and it covers all places and no block more.
+-- What is so of a set and the set of its filled blocks, whatever happened: the places of those that aren't zero are in it, and it covers all places. It keeps no more than that takes: it covers the rest of 64 places at most after the last, and what it had for places before the first has been let go.
 pub record IsFilled (numbers filled : NumberSet) : Type 0 where
   pub places : (i : ℕ) → holds filled i ≡ not (block_at numbers i == 0)
   pub start : start_of filled ≤ numbers.first
   pub stop : numbers.first + length numbers.blocks ≤ stop_of filled
   pub few : stop_of filled ≤ numbers.first + length numbers.blocks + 63
+  pub let_go : numbers.first / 64 ≤ filled.first
 
 -- The same set over the same numbers, with no less memory.
 pub record HasSame (old new : NumberSet) : Type 0 where
@@ -85,10 +86,14 @@ pub record HasGrown (old new : NumberSet) (n : ℕ) : Type 0 where
   pub covered : n < stop_of new
   pub few : (m : ℕ) → stop_of old ≤ 64 * m → n < 64 * m → stop_of new ≤ 64 * m
 
--- These blocks begin at this place or behind it, or with one that isn't zero; or there are none.
+-- a number is in this block of 64
+abbrev pub IsFilledBlock : ℕ → Type 0
+IsFilledBlock block = (0 < block) × (block < 2 ^ 64)
+
+-- These blocks begin at this place or behind it, or with one in which a number is; or there are none.
 abbrev pub HasLetGo : ℕ → List ℕ → ℕ → Type 0
 HasLetGo first blocks place =
-    (place ≤ first) ⊎ ((length blocks ≡ 0) ⊎ (slice_index_or blocks 0 0 ≢ 0))
+    (place ≤ first) ⊎ ((length blocks ≡ 0) ⊎ IsFilledBlock (slice_index_or blocks 0 0))
 
 -- The same set, which may cover fewer numbers, but no fewer of those from n on. What is kept before n begins with a block that isn't zero.
 pub record HasMoved (old new : NumberSet) (n : ℕ) : Type 0 where

@@ -202,9 +202,13 @@ fn drop_zeros(first: &mut u64, blocks: &mut VecDeque<u64>, place: u64)
     ensures capacity { deque_capacity blocks.new ≡ deque_capacity blocks.old }
 {
     while *first < place {
-        let Some(0) = blocks.front() else {
+        let Some(front) = blocks.front() else {
             return;
         };
+        let block = *front;
+        if block != 0 {
+            return;
+        }
         blocks.pop_front();
         *first += 1;
     }

@@ -7,8 +7,8 @@ use Rattle.uring_number_set.proofs.blocks.drop_zeros.Goals as goal
 
 pub loop-first-preserved : goal.loop-first-preserved
 loop-first-preserved c =
-    let some : 0 < deque_len c.loop-first.blocks = c.in-Some-eq0.ensures.variant.0 refl in
-    let is = popped _ _ _ c.in-Some-eq0.field-0.now _ c.pop_front.ensures.items (λ d. c.pop_front.ensures.value d some) c.in-Some-eq0.ensures.lookup c.in-Some-eq0.field-0-test in
+    let some : 0 < deque_len c.loop-first.blocks = c.in-Some.ensures.variant.0 refl in
+    let is = popped _ _ _ c.in-Some.front.now _ c.pop_front.ensures.items (λ d. c.pop_front.ensures.value d some) c.in-Some.ensures.lookup c.if-block-ne0.false in
     let one : length (option_to_list c.pop_front.result) ≡ 1 = ap (λ o. length (option_to_list o)) (c.pop_front.ensures.value 0 some) in
     record {
       start = λ m from to. omega arith;

@@ -10,6 +10,7 @@ invariant_of-self c =
     same-filled _ _ _ _ c.self.invariant c.extend.ensures.same c.extend-2.ensures.same (omega arith)
     (let no_more = c.extend.ensures.no_more (stop_of c.extend-2.new.self) (omega arith) (omega arith) in omega arith)
     (filled-few c.self.inside.numbers c.extend.new.self c.self.inside.filled c.extend-2.new.self c.args.n c.self.invariant c.extend.ensures.covered c.extend.ensures.longer c.extend-2.ensures.no_more)
+    (omega (arith, c.self.invariant.let_go))
 
 pub returns : goal.returns
 returns c =

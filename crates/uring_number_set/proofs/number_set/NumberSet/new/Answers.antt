@@ -8,6 +8,7 @@ invariant_of-result c = record {
   start = omega (arith, c.new-2.ensures.start);
   stop = omega (arith, c.new.ensures.stop);
   few = omega (arith, c.new-2.ensures.stop);
+  let_go = omega (arith, c.new.ensures.start);
 }
 
 pub returns-clause-none : goal.returns-clause-none

@@ -10,6 +10,7 @@ invariant_of-self g c =
     let d = c.reserve_in.ensures.start in
     let e = c.reserve_in.ensures.stop in
     same-filled _ _ _ _ c.self.invariant (same-set c.self.inside.numbers) c.reserve_in.ensures.same (omega arith) (omega arith) (omega arith)
+    (omega (arith, c.self.invariant.let_go))
 
 pub invariant_of-self-2 : goal.invariant_of-self-2
 invariant_of-self-2 g c =
@@ -21,3 +22,4 @@ invariant_of-self-2 g c =
     let f = c.reserve_in-2.ensures.start in
     let g = c.reserve_in-2.ensures.stop in
     same-filled _ _ _ _ c.self.invariant c.reserve_in-2.ensures.same c.reserve_in.ensures.same (omega arith) (omega arith) (omega arith)
+    (omega (arith, c.self.invariant.let_go))
