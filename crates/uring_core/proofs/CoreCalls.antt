@@ -1,6 +1,6 @@
 -- Submission calls, from the layers' contracts to the core's: what a core shows as one opens.
 use Rattle.std.proofs.Common.{◌≡◌, ℕ, ◌+◌, ◌-◌, ◌^◌, ◌<◌, ◌≤◌, Bool, true, false, cond, ◌∷◌, length, None, is_some, refl, sym, ap, subst, ◌∙◌, arith, inl, inr}
-use Rattle.std.specs.Prelude.{Result, Ok, Err, is_err, OnOk}
+use Rattle.std.specs.Prelude.{Result, Ok, Err, is_err, IsOk, OnOk}
 use Rattle.std.proofs.lemmas.Bool.{ltb-false}
 use Rattle.uring_entry.specs.Setup.{Setup}
 use Rattle.uring_entry.specs.Submission.{Submission, call_length, with_begun}
@@ -42,6 +42,11 @@ opening w count n e = by_tests w.is_closed (is_some w.submission.call) (is_spent
   by_tests false true spent i s f = absurd cc
   by_tests false false true i s f = absurd cc
   by_tests false false false i s f = record { no_call = i; positions = cc; unspent = sym s }
+
+-- such a call has the positions that the history leaves it
+pub opens_with : (p : Core) (count n : ℕ) → Opens p count n → (h : History) → FitsApart p h
+    → n ≡ call_length (world p.setup h).submission count
+opens_with p count n opens h f = (opening (world p.setup h) count n (opens h f)).positions
 
 -- the numbers of such a call aren't spent
 pub opens_within : (p : Core) (count n : ℕ) → Opens p count n → (h : History) → FitsApart p h
@@ -119,3 +124,8 @@ call_goes p s' q d count n r opens same fits between shows kept room memory answ
 pub on_success : {A E : Type 0} (r : Result A E) (P : Type 0) → is_err r ≡ false → OnOk r P → P
 on_success (Ok x) P e holds = holds
 on_success (Err x) P e holds = cc
+
+-- a success is no failure
+pub not_refused : {A E : Type 0} (r : Result A E) → IsOk r → is_err r ≡ true → ⊥
+not_refused (Ok x) ok e = cc
+not_refused (Err x) ok e = cc

@@ -1,5 +1,5 @@
 -- What rings and dispatcher hold, and the history that this fits.
-use Rattle.std.specs.Prelude.{◌≡◌, ℕ, ◌+◌, ◌-◌, ◌^◌, ◌<◌, ◌≤◌, ◌⊎◌, Bool, true, List, [], length, Option, Some, None, if◌then◌else◌}
+use Rattle.std.specs.Prelude.{◌≡◌, ℕ, ◌+◌, ◌-◌, ◌*◌, ◌^◌, ◌<◌, ◌≤◌, max, ◌⊎◌, Bool, true, List, [], length, Option, Some, None, if◌then◌else◌}
 use Rattle.uring_entry.specs.Setup.{Setup, IsWithinLimits}
 use Rattle.uring_entry.specs.Layout.{Sqe}
 use Rattle.uring_entry.specs.Submission.{Submission, Call, call_length, entries_from}
@@ -70,6 +70,17 @@ IsShortFor p length = (p.dispatch.room < length) ⊎ (p.cq.spare < p.dispatch.ou
 abbrev pub IsShortOfMemory : Core → World → Step → Type 0
 IsShortOfMemory p w (step.Begin count) = IsShortFor p (call_length w.submission count)
 IsShortOfMemory p w _ = ⊥
+
+-- How many elements suffice for each list of a core if a call of so many positions opens: one for each request accepted so far and of the call, and one more; and of the overflow list, one for each completion that waits, for the end of each outstanding request and of the call's, and for twice what it has memory for.
+abbrev pub elements_for_call : Core → ℕ → ℕ
+elements_for_call p positions =
+    max (p.dispatch.accepted + positions + 1)
+    (length p.cq.overflow + p.dispatch.outstanding + positions + 2 * (length p.cq.overflow + p.cq.spare))
+
+-- how many elements suffice for each list in this step, of which only a Begin asks for memory. Our own rule
+abbrev pub elements_for : Core → World → Step → ℕ
+elements_for p w (step.Begin count) = elements_for_call p (call_length w.submission count)
+elements_for p w _ = 0
 
 -- No memory was given back: as many requests have memory, accepted or not, and as many completions in the overflow list, waiting or not. Our own rule
 pub record HasNoLessMemory (old new : Core) : Type 0 where

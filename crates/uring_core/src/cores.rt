@@ -1,4 +1,4 @@
-ghost use Rattle.std.specs.Prelude.{◌≡◌, ◌+◌, ◌<◌, ◌≤◌, ◌∷◌, [], true, length, IfOk};
+ghost use Rattle.std.specs.Prelude.{◌≡◌, ℕ, ◌+◌, ◌<◌, ◌≤◌, ◌∷◌, [], true, length, IsOk, IfOk};
 ghost use Rattle.uring_entry.specs.Setup.{Setup};
 ghost use Rattle.uring_entry.specs.Submission.{Submission, stops_at, with_stopped};
 ghost use Rattle.uring_entry.specs.Completions.{Completions, with_end};
@@ -20,6 +20,7 @@ use std::alloc::{AllocError, Global};
 use std::marker::Model;
 use uring_dispatch::{Dispatch, Issued, Posts, ReserveError};
 use uring_entry::{Cqe, Outcome, Setup, Sqe, prepare, succeeded};
+use uring_memory::Memory;
 use uring_rings::{Cq, EndAnswer, Sq, TakeAnswer};
 
 /// A pair of rings and its requests, moved one step at a time, without files: how a running request ends comes from outside.
@@ -51,22 +52,37 @@ impl Model for Core {
 }
 
 impl Core {
-    ghost use Rattle.uring_core.specs.Core.{FitsApart, IsNoFinish, IsFinished, IsShortOfMemory, HasNoLessMemory};
+    ghost use Rattle.uring_core.specs.Core.{FitsApart, IsNoFinish, IsFinished, IsShortOfMemory, HasNoLessMemory, elements_for};
 
     /// A core of this set-up on which nothing has happened. `AllocError`: memory was refused.
     pub fn new(alloc: Global, setup: &Setup) -> Result<Core, AllocError>
         ensures setup { IfOk result (λ core. core.setup ≡ setup.now) }
         ensures fits { IfOk result (λ core. FitsApart core []) }
     {
-        let held = Vec::with_capacity(alloc, setup.sq() as usize)?;
+        Core::new_in(&alloc, alloc, setup)
+    }
+
+    /// As `new`, by this memory. If it grants as many elements as either ring's size, there is no error.
+    pub fn new_in<M: Memory>(memory: &M, alloc: Global, setup: &Setup) -> Result<Core, AllocError>
+        ensures setup { IfOk result (λ core. core.setup ≡ setup.now) }
+        ensures fits { IfOk result (λ core. FitsApart core []) }
+        ensures granted { (n : ℕ) → M.grants memory.now n → setup.now.sq ≤ n → setup.now.cq ≤ n
+            → IsOk result }
+    {
+        let held = memory.list(alloc, setup.sq() as usize)?;
         Ok(Core {
             setup: *setup,
-            sq: Sq::new(alloc, setup)?,
-            cq: Cq::new(alloc, setup)?,
+            sq: Sq::new_in(memory, alloc, setup)?,
+            cq: Cq::new_in(memory, alloc, setup)?,
             dispatch: Dispatch::new(alloc),
             held,
             is_closed: false,
         })
+    }
+
+    /// The allocator that a core's memory comes from.
+    pub fn allocator(&self) -> Global {
+        *self.held.allocator()
     }
 
     /// Makes one step, and returns its answer. Condition: it is no `Finish`, which is a call of its own. Only `Begin` asks for memory, and only if its call may need more than is there; if that is refused the answer is `Again`, and nothing is consumed.
@@ -81,12 +97,28 @@ impl Core {
             → IsShortOfMemory self.old (world self.old.setup h) step }
         ensures memory { HasNoLessMemory self.old self.new }
     {
+        let memory = self.allocator();
+        self.step_in(&memory, step)
+    }
+
+    /// As `step`, by this memory. If it grants as many elements as the step may need in one list, the answer is never `Again`.
+    pub fn step_in<M: Memory>(&mut self, memory: &M, step: Step) -> Answer
+        requires { IsNoFinish step }
+        ensures setup { self.new.setup ≡ self.old.setup }
+        ensures fits { (h : History) → FitsApart self.old h
+            → FitsApart self.new ((step, result) ∷ h) }
+        ensures again { (h : History) → FitsApart self.old h → result ≡ answer.Again
+            → IsShortOfMemory self.old (world self.old.setup h) step }
+        ensures memory { HasNoLessMemory self.old self.new }
+        ensures granted { (h : History) (n : ℕ) → FitsApart self.old h → M.grants memory.now n
+            → elements_for self.old (world self.old.setup h) step ≤ n → result ≡ answer.Again → ⊥ }
+    {
         match step {
             Step::Fill { slot, entry } => self.fill(slot, entry),
             Step::Index { word } => self.index(word),
             Step::StoreTail => self.store_tail(),
             Step::LoadHead => self.load_head(),
-            Step::Begin { count } => self.begin(count),
+            Step::Begin { count } => self.begin(memory, count),
             Step::Take => self.take(),
             Step::End => self.end(),
             Step::Issue { number } => self.issue(number),
@@ -160,13 +192,16 @@ impl Core {
     }
 
     /// The dispatcher opens a call, once there is room for all its requests and for the ends of these and of all outstanding ones.
-    fn begin(&mut self, count: u32) -> Answer
+    fn begin<M: Memory>(&mut self, memory: &M, count: u32) -> Answer
         ensures setup { self.new.setup ≡ self.old.setup }
         ensures fits { (h : History) → FitsApart self.old h
             → FitsApart self.new ((step.Begin count, result) ∷ h) }
         ensures memory { HasNoLessMemory self.old self.new }
         ensures again { (h : History) → FitsApart self.old h → result ≡ answer.Again
             → IsShortOfMemory self.old (world self.old.setup h) (step.Begin count) }
+        ensures granted { (h : History) (n : ℕ) → FitsApart self.old h → M.grants memory.now n
+            → elements_for self.old (world self.old.setup h) (step.Begin count) ≤ n
+            → result ≡ answer.Again → ⊥ }
     {
         let wanted = self.would_begin(count);
         let Answer::Call(length) = wanted else {
@@ -174,12 +209,12 @@ impl Core {
         };
         let length = u64::from(length);
         let ends = self.dispatch.outstanding() + length;
-        match self.dispatch.reserve(length) {
+        match self.dispatch.reserve_in(memory, length) {
             Ok(()) => {}
             Err(ReserveError::Spent) => unreachable!(),
             Err(ReserveError::NoMemory) => return Answer::Again,
         }
-        if self.cq.reserve(ends).is_err() {
+        if self.cq.reserve_in(memory, ends).is_err() {
             return Answer::Again;
         }
         Answer::from(self.sq.begin(count))

@@ -1,9 +1,0 @@
-use Rattle.std.proofs.Common.{refl, [], arith}
-use Rattle.uring_core.proofs.CoreEnds.{new_fits}
-use Rattle.uring_core.proofs.cores.Core.new.Goals as goal
-
-pub invariant_of-result : goal.invariant_of-result
-invariant_of-result c =
-    let size = c.sq.ensures.value in
-    let capacity = c.in_ok-held.ensures.capacity in
-    (omega arith, (c.sq.ensures.limits, [], new_fits _ c.in_ok-new.ensures c.in_ok-new-2.ensures.shows c.in_ok-new-2.ensures.room c.new-3.ensures.shows c.new-3.ensures.between c.in_ok-held.ensures.items refl))
