@@ -115,6 +115,7 @@ pub extern "C" fn wulgach_core_counts(
 ) -> i32
     ensures empty { (result ≡ neg_ℤ EBADF) ↔ (core_in place.old ≡ None) }
     ensures kept { core_in place.new ≡ core_in place.old }
+    ensures refused { core_in place.old ≡ None → counts.new ≡ counts.old }
     ensures counts { IfSome (core_in place.old)
         (λ core. (result ≡ pos 0)
         × ((h : History) → FitsApart core h → IsCounts (world core.setup h) (counts_told counts.new))) }
@@ -136,6 +137,7 @@ pub extern "C" fn wulgach_core_rest(
 ) -> i32
     ensures empty { (result ≡ neg_ℤ EBADF) ↔ (core_in place.old ≡ None) }
     ensures kept { core_in place.new ≡ core_in place.old }
+    ensures refused { core_in place.old ≡ None → completion.new ≡ completion.old }
     ensures completion { IfSome (core_in place.old)
         (λ core. (h : History) → FitsApart core h
         → MatchOption (slice_get (unreaped (world core.setup h).completions) index) ((result ≡ neg_ℤ ENOENT) × (completion.new ≡ completion.old)) (λ c. (result ≡ pos 0) × (completion.new ≡ words_of_completion c))) }
@@ -155,6 +157,7 @@ pub extern "C" fn wulgach_core_rest(
 pub extern "C" fn wulgach_core_least(alloc: Global, place: &mut CorePlace, number: &mut u64) -> i32
     ensures empty { (result ≡ neg_ℤ EBADF) ↔ (core_in place.old ≡ None) }
     ensures kept { core_in place.new ≡ core_in place.old }
+    ensures refused { core_in place.old ≡ None → number.new ≡ number.old }
     ensures least { IfSome (core_in place.old)
         (λ core. (h : History) → FitsApart core h
         → MatchOption (least_of (world core.setup h).requests) ((result ≡ neg_ℤ ENOENT) × (number.new ≡ number.old)) (λ least. (result ≡ pos 0) × (number.new ≡ least))) }
@@ -179,6 +182,7 @@ pub extern "C" fn wulgach_core_running_op(
 ) -> i32
     ensures empty { (result ≡ neg_ℤ EBADF) ↔ (core_in place.old ≡ None) }
     ensures kept { core_in place.new ≡ core_in place.old }
+    ensures refused { core_in place.old ≡ None → operation.new ≡ operation.old }
     ensures operation { IfSome (core_in place.old)
         (λ core. (h : History) → FitsApart core h
         → MatchOption (operation_running (world core.setup h).requests number) ((result ≡ neg_ℤ ENOENT) × (operation.new ≡ operation.old)) (λ op. (result ≡ pos 0) × (operation.new ≡ words_of_operation op))) }

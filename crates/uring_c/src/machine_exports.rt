@@ -93,6 +93,7 @@ pub extern "C" fn wulgach_machine_counts(
 ) -> i32
     ensures empty { (result ≡ neg_ℤ EBADF) ↔ (machine_in place.old ≡ None) }
     ensures kept { machine_in place.new ≡ machine_in place.old }
+    ensures refused { machine_in place.old ≡ None → counts.new ≡ counts.old }
     ensures counts { IfSome (machine_in place.old)
         (λ machine. (result ≡ pos 0)
         × ((h : History) → Fits machine h → IsCounts (world machine.core.setup h) (counts_told counts.new))) }
@@ -114,6 +115,7 @@ pub extern "C" fn wulgach_machine_rest(
 ) -> i32
     ensures empty { (result ≡ neg_ℤ EBADF) ↔ (machine_in place.old ≡ None) }
     ensures kept { machine_in place.new ≡ machine_in place.old }
+    ensures refused { machine_in place.old ≡ None → completion.new ≡ completion.old }
     ensures completion { IfSome (machine_in place.old)
         (λ machine. (h : History) → Fits machine h
         → MatchOption (slice_get (unreaped (world machine.core.setup h).completions) index) ((result ≡ neg_ℤ ENOENT) × (completion.new ≡ completion.old)) (λ c. (result ≡ pos 0) × (completion.new ≡ words_of_completion c))) }
@@ -137,6 +139,7 @@ pub extern "C" fn wulgach_machine_least(
 ) -> i32
     ensures empty { (result ≡ neg_ℤ EBADF) ↔ (machine_in place.old ≡ None) }
     ensures kept { machine_in place.new ≡ machine_in place.old }
+    ensures refused { machine_in place.old ≡ None → number.new ≡ number.old }
     ensures least { IfSome (machine_in place.old)
         (λ machine. (h : History) → Fits machine h
         → MatchOption (least_of (world machine.core.setup h).requests) ((result ≡ neg_ℤ ENOENT) × (number.new ≡ number.old)) (λ least. (result ≡ pos 0) × (number.new ≡ least))) }
@@ -161,6 +164,7 @@ pub extern "C" fn wulgach_machine_running_op(
 ) -> i32
     ensures empty { (result ≡ neg_ℤ EBADF) ↔ (machine_in place.old ≡ None) }
     ensures kept { machine_in place.new ≡ machine_in place.old }
+    ensures refused { machine_in place.old ≡ None → operation.new ≡ operation.old }
     ensures operation { IfSome (machine_in place.old)
         (λ machine. (h : History) → Fits machine h
         → MatchOption (operation_running (world machine.core.setup h).requests number) ((result ≡ neg_ℤ ENOENT) × (operation.new ≡ operation.old)) (λ op. (result ≡ pos 0) × (operation.new ≡ words_of_operation op))) }
@@ -185,6 +189,7 @@ pub extern "C" fn wulgach_machine_state(
 ) -> i32
     ensures empty { (result ≡ neg_ℤ EBADF) ↔ (machine_in place.old ≡ None) }
     ensures kept { machine_in place.new ≡ machine_in place.old }
+    ensures refused { machine_in place.old ≡ None → state.new ≡ state.old }
     ensures state { IfSome (machine_in place.old)
         (λ machine. (h : History) → Fits machine h
         → MatchOption (state_of (files_of machine.core.setup (world machine.core.setup h)) fd) ((result ≡ neg_ℤ ENOENT) × (state.new ≡ state.old)) (λ s. (result ≡ pos 0) × (state.new ≡ words_of_state s))) }
@@ -210,6 +215,7 @@ pub extern "C" fn wulgach_machine_byte(
 ) -> i32
     ensures empty { (result ≡ neg_ℤ EBADF) ↔ (machine_in place.old ≡ None) }
     ensures kept { machine_in place.new ≡ machine_in place.old }
+    ensures refused { machine_in place.old ≡ None → byte.new ≡ byte.old }
     ensures byte { IfSome (machine_in place.old)
         (λ machine. (h : History) → Fits machine h
         → MatchOption (byte_of (files_of machine.core.setup (world machine.core.setup h)) fd at) ((result ≡ neg_ℤ ENOENT) × (byte.new ≡ byte.old)) (λ b. (result ≡ pos 0) × (byte.new ≡ b))) }
