@@ -9,7 +9,7 @@ use Rattle.uring_trace.specs.declared.explainer.Explainer.{Explainer}
 use Rattle.uring_text.specs.Writing.{WritesText}
 use Rattle.uring_trace.specs.Explanations.{events_in}
 use Rattle.uring_pictures.specs.Graphs.{graph_of}
-use Rattle.uring_pictures.specs.Drawings.{Draws, last_graph}
+use Rattle.uring_pictures.specs.Drawings.{Reads, Draws, last_graph}
 use Rattle.uring_pictures.specs.Readings.{ReadsAll}
 use Rattle.uring_pictures.proofs.Streams.{Done, Known}
 
@@ -41,3 +41,18 @@ pub written_graph : (result : Done) (m : Machine) (text none : List ℕ) (w w' :
 written_graph (Ok done) m text none w w' start tells x = λ h fits.
     subst (λ (l : List ℕ). Appends w w' l) (x.2 ∙ tells h fits ∙ ap (λ (l : List ℕ). l ++ graph_of (world m.core.setup h).requests) start) x.1
 written_graph (Err f) m text none w w' start tells x = tt
+
+-- what was read, without a picture
+pub reads : (setup : Setup) (bad : Bool) (s : Explainer) (a a' x x' : Known)
+    → ReadsAll setup bad s a a' x x' → Reads setup bad a a' x x'
+reads setup bad s a a' x x' r =
+    let whole = r.ended.0 in
+    record {
+      bytes = r.bytes;
+      told = r.told;
+      notes = r.notes;
+      lines = (whole.0, whole.1, whole.2, whole.3, whole.4, whole.5, r.is_bad ∙ whole.6);
+      consumed = r.consumed;
+      at_end = r.at_end;
+      noted = r.noted;
+    }

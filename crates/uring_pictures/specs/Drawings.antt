@@ -14,7 +14,17 @@ Picture = Setup → List Saying → List ℕ
 abbrev pub last_graph : Picture
 last_graph g xs = graph_of (world g (history_of (events_in xs))).requests
 
--- What was drawn of all that was read: the reader had something left before and is at its end, each line is a step with an answer that is called for, a question, a remark or a bad line, which is noted; and the text is the picture of them.
+-- All was read: the reader had something left before and is at its end, and each line is a step with an answer that is called for, a question, a remark or a bad line, which is noted.
+pub record Reads (setup : Setup) (bad : Bool) (left_before left_after notes_before notes_after : Option (List ℕ)) : Type 0 where
+  pub bytes : List ℕ
+  pub told : List ℕ
+  pub notes : List ℕ
+  pub lines : ExplainsWhole setup bad bytes told notes
+  pub consumed : Consumes left_before left_after bytes
+  pub at_end : IsAtEnd left_after
+  pub noted : Appends notes_before notes_after notes
+
+-- The same, and the text is the picture of these lines.
 pub record Draws (picture : Picture) (setup : Setup) (bad : Bool) (left_before left_after held_before held_after notes_before notes_after : Option (List ℕ)) : Type 0 where
   pub bytes : List ℕ
   pub told : List ℕ

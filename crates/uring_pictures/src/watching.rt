@@ -1,5 +1,11 @@
 //! The run of a trace of which a timeline is drawn.
 
+ghost use Rattle.std.specs.Prelude.{ℕ, List, [], ◌∷◌, ◌++◌, IfOk, OnOk, string_bytes};
+ghost use Rattle.uring_entry.specs.Setup.{Setup};
+ghost use Rattle.uring_trace.specs.Explaining.{HasTold, HasEnded};
+ghost use Rattle.uring_pictures.specs.Drawings.{Reads};
+ghost use Rattle.uring_pictures.specs.Readings.{ReadsAll, TakesIn, EndsIn, EndsLine};
+
 use crate::rows::Timeline;
 use std::alloc::Global;
 use std::io::{Read, Write};
@@ -23,7 +29,10 @@ pub fn timeline<R: Read, W: Write, E: Write>(
     writer: &mut W,
     errors: &mut E,
     setup: &Setup,
-) -> Result<bool, TraceFault> {
+) -> Result<bool, TraceFault>
+    ensures { IfOk result
+        (λ bad. Reads setup.now bad (R.remaining reader.old) (R.remaining reader.new) (E.contents errors.old) (E.contents errors.new)) }
+{
     let mut explainer = Explainer::new(alloc, setup)?;
     let drawn = draw_all(alloc, &mut explainer, reader, writer, errors);
     drop(explainer);
@@ -37,7 +46,11 @@ fn draw_all<R: Read, W: Write, E: Write>(
     reader: &mut R,
     writer: &mut W,
     errors: &mut E,
-) -> Result<bool, TraceFault> {
+) -> Result<bool, TraceFault>
+    ensures { IfOk result
+        (λ bad. (setup : Setup) → HasTold setup explainer.old [] [] []
+        → Reads setup bad (R.remaining reader.old) (R.remaining reader.new) (E.contents errors.old) (E.contents errors.new)) }
+{
     let mut timeline = Timeline::new(alloc);
     watch_and_write(alloc, explainer, &mut timeline, reader, writer, errors)
 }
@@ -50,10 +63,14 @@ fn watch_and_write<R: Read, W: Write, E: Write>(
     reader: &mut R,
     writer: &mut W,
     errors: &mut E,
-) -> Result<bool, TraceFault> {
-    watch_all(alloc, explainer, timeline, reader, errors)?;
+) -> Result<bool, TraceFault>
+    ensures { IfOk result
+        (λ bad. (setup : Setup) → HasTold setup explainer.old [] [] []
+        → Reads setup bad (R.remaining reader.old) (R.remaining reader.new) (E.contents errors.old) (E.contents errors.new)) }
+{
+    let bad = watch_all(alloc, explainer, timeline, reader, errors)?;
     write_timeline(alloc, timeline, writer)?;
-    Ok(explainer.has_bad())
+    Ok(bad)
 }
 
 /// Writes the timeline.
@@ -67,20 +84,24 @@ fn write_timeline<W: Write>(
     write_all(writer, text.as_bytes(), &mut Calls::new())
 }
 
-/// Takes in all lines, and writes what is noted of them.
+/// Takes in all lines, and writes what is noted of them. Returns whether a line was bad.
 fn watch_all<R: Read, E: Write>(
     alloc: Global,
     explainer: &mut Explainer,
     timeline: &mut Timeline,
     reader: &mut R,
     errors: &mut E,
-) -> Result<(), TraceFault> {
+) -> Result<bool, TraceFault>
+    ensures { IfOk result
+        (λ bad. (setup : Setup) → HasTold setup explainer.old [] [] []
+        → ReadsAll setup bad explainer.new (R.remaining reader.old) (R.remaining reader.new) (E.contents errors.old) (E.contents errors.new)) }
+{
     let mut reads = Calls::new();
     let mut writes = Calls::new();
     let mut chunk = [0; CHUNK];
     while !reads.are_over() {
         match read_once(reader, &mut chunk, &mut reads) {
-            Ok(0) => return watch_last(alloc, explainer, timeline, errors, &mut writes),
+            Ok(0) => return watch_end(alloc, explainer, timeline, errors, &mut writes),
             Ok(count) => watch(
                 alloc,
                 explainer,
@@ -103,7 +124,10 @@ fn watch<E: Write>(
     bytes: &[u8],
     errors: &mut E,
     writes: &mut Calls,
-) -> Result<(), TraceFault> {
+) -> Result<(), TraceFault>
+    ensures { OnOk result
+        (TakesIn explainer.old explainer.new bytes.now (E.contents errors.old) (E.contents errors.new)) }
+{
     let mut text = String::new(alloc);
     let mut notes = String::new(alloc);
     watch_bytes(explainer, timeline, bytes, &mut text, &mut notes)?;
@@ -117,14 +141,51 @@ fn watch_bytes(
     bytes: &[u8],
     text: &mut String,
     notes: &mut String,
-) -> Result<(), TraceFault> {
+) -> Result<(), TraceFault>
+    ensures { OnOk result
+        ((setup : Setup) (before told noted : List ℕ)
+        → HasTold setup explainer.old before (told ++ string_bytes text.old) (noted ++ string_bytes notes.old)
+        → HasTold setup explainer.new (before ++ bytes.now) (told ++ string_bytes text.new) (noted ++ string_bytes notes.new)) }
+{
     for byte in bytes {
-        explainer.feed(&[*byte], text, notes)?;
-        if *byte == b'\n' {
-            timeline.end_line(explainer.machine())?;
-        }
+        watch_byte(explainer, timeline, *byte, text, notes)?;
     }
     Ok(())
+}
+
+/// Takes in one byte, and looks at the machine if it completes a line.
+fn watch_byte(
+    explainer: &mut Explainer,
+    timeline: &mut Timeline,
+    byte: u8,
+    text: &mut String,
+    notes: &mut String,
+) -> Result<(), TraceFault>
+    ensures { OnOk result
+        ((setup : Setup) (before told noted : List ℕ)
+        → HasTold setup explainer.old before (told ++ string_bytes text.old) (noted ++ string_bytes notes.old)
+        → HasTold setup explainer.new (before ++ byte ∷ []) (told ++ string_bytes text.new) (noted ++ string_bytes notes.new)) }
+{
+    explainer.feed(&[byte], text, notes)?;
+    if byte == b'\n' {
+        timeline.end_line(explainer.machine())?;
+    }
+    Ok(())
+}
+
+/// Ends the input, and writes what is noted of its last line. Returns whether a line was bad.
+fn watch_end<E: Write>(
+    alloc: Global,
+    explainer: &mut Explainer,
+    timeline: &mut Timeline,
+    errors: &mut E,
+    writes: &mut Calls,
+) -> Result<bool, TraceFault>
+    ensures { IfOk result
+        (λ bad. EndsIn bad explainer.old explainer.new (E.contents errors.old) (E.contents errors.new)) }
+{
+    watch_last(alloc, explainer, timeline, errors, writes)?;
+    Ok(explainer.has_bad())
 }
 
 /// Ends the input, and writes what is noted of its last line.
@@ -134,7 +195,10 @@ fn watch_last<E: Write>(
     timeline: &mut Timeline,
     errors: &mut E,
     writes: &mut Calls,
-) -> Result<(), TraceFault> {
+) -> Result<(), TraceFault>
+    ensures { OnOk result
+        (EndsLine explainer.old explainer.new (E.contents errors.old) (E.contents errors.new)) }
+{
     let mut text = String::new(alloc);
     let mut notes = String::new(alloc);
     end_last(explainer, timeline, &mut text, &mut notes)?;
@@ -147,7 +211,12 @@ fn end_last(
     timeline: &mut Timeline,
     text: &mut String,
     notes: &mut String,
-) -> Result<(), TraceFault> {
+) -> Result<(), TraceFault>
+    ensures { OnOk result
+        ((setup : Setup) (before told noted : List ℕ)
+        → HasTold setup explainer.old before (told ++ string_bytes text.old) (noted ++ string_bytes notes.old)
+        → HasEnded setup explainer.new before (told ++ string_bytes text.new) (noted ++ string_bytes notes.new)) }
+{
     explainer.finish(text, notes)?;
     Ok(timeline.end_line(explainer.machine())?)
 }
