@@ -190,12 +190,13 @@ class Trace:
     def make(self, count):
         moves = [self.fill, self.index, self.tail, self.begin, self.take, self.end, self.submit, self.work, self.settle, self.reap, self.odd]
         weights = [3, 3, 2, 2, 2, 2, 6, 8, 3, 6, 2]
-        closing = self.rng.random() < 0.2
+        # How often the ring is still to be closed: near the end, and once more behind that.
+        closing = 2 if self.rng.random() < 0.2 else 0
         while len(self.lines) < count:
             self.rng.choices(moves, weights)[0]()
             if self.rng.random() < 0.2:
                 self.lines.append(self.rng.choice(["head", "next", f"issue {self.number()}", f"finish {self.number()}"]))
-            if closing and len(self.lines) > 0.8 * count:
+            if closing and len(self.lines) > (1 - 0.1 * closing) * count:
                 self.lines.append("close")
-                closing = False
+                closing -= 1
         return self.lines
