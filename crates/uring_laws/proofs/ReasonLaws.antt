@@ -1,6 +1,6 @@
 -- What why says, from what each case of it says: proofs of the laws on reasons.
-use Rattle.std.proofs.Common.{◌≡◌, ℕ, ◌<◌, length, Bool, true, false, not, ◌&&◌, ◌||◌, Option, Some, None, is_some, refl, sym, ◌∙◌, ap, subst, arith, inl, inr}
-use Rattle.std.specs.Prelude.{if◌then◌else◌, ◌⊎◌}
+use Rattle.std.proofs.Common.{◌≡◌, ℕ, ◌<◌, ◌≤◌, length, Bool, true, false, not, ◌&&◌, ◌||◌, Option, Some, None, is_some, refl, sym, ◌∙◌, ap, subst, arith, inl, inr}
+use Rattle.std.specs.Prelude.{if◌then◌else◌, ◌⊎◌, ◌↔◌}
 use Rattle.std.proofs.lemmas.Bool.{cases_lt, cases_Bool, and_from, and_left, and_right, and_parts, or_left, or_right, or_parts, or_from, both_ways, lt-ltb, le-ltb, not-true, ltb-true, false_from_ne_true}
 use Rattle.uring_entry.specs.Below.{least_below}
 use Rattle.uring_entry.specs.Requests.{Requests, some_member, entry_of, has_ended, is_outstanding, is_running, is_issuable, is_doomed, is_ready, is_in_faulty_group, is_behind_failure, is_cancelled, is_joined, is_draining, waits_for, holds_back, doomed_result, cancel_result, no_bytes}
@@ -46,6 +46,52 @@ none-ready r n ready =
 ready-some : (r : Requests) (n m : ℕ) → holder_of r n ≡ Some m → is_ready r n ≡ false
 ready-some r n m e =
     false_from_ne_true _ (λ ready. let f : None ≡ Some m = sym (none-ready r n ready) ∙ e in cc)
+
+-- Who was never accepted, has ended or runs.
+
+unaccepted-is : (r : Requests) (n : ℕ) (why : Why) → IsTold r n why → length r.accepted ≤ n
+    → why ≡ NeverAccepted
+unaccepted-is r n NeverAccepted t le = refl
+unaccepted-is r n HasEnded t le = absurd (omega (arith, t.0))
+unaccepted-is r n Runs t le = absurd (omega (arith, t.0))
+unaccepted-is r n (IsDoomed doom) t le = absurd (omega (arith, t.0.given))
+unaccepted-is r n (Waits m since) t le = absurd (omega (arith, t.0.given))
+unaccepted-is r n MayStart t le = absurd (omega (arith, t.0.given))
+
+ended-is : (r : Requests) (n : ℕ) (why : Why) → IsTold r n why → n < length r.accepted
+    → has_ended r n ≡ true → why ≡ HasEnded
+ended-is r n NeverAccepted t given ended = absurd (omega (arith, t))
+ended-is r n HasEnded t given ended = refl
+ended-is r n Runs t given ended = absurd (both_ways _ t.1 ended)
+ended-is r n (IsDoomed doom) t given ended = absurd (both_ways _ t.0.unended ended)
+ended-is r n (Waits m since) t given ended = absurd (both_ways _ t.0.unended ended)
+ended-is r n MayStart t given ended = absurd (both_ways _ t.0.unended ended)
+
+runs-is : (r : Requests) (n : ℕ) (why : Why) → IsTold r n why → n < length r.accepted
+    → has_ended r n ≡ false → is_running r n ≡ true → why ≡ Runs
+runs-is r n NeverAccepted t given unended runs = absurd (omega (arith, t))
+runs-is r n HasEnded t given unended runs = absurd (both_ways _ unended t.1)
+runs-is r n Runs t given unended runs = refl
+runs-is r n (IsDoomed doom) t given unended runs = absurd (both_ways _ t.0.unstarted runs)
+runs-is r n (Waits m since) t given unended runs = absurd (both_ways _ t.0.unstarted runs)
+runs-is r n MayStart t given unended runs = absurd (both_ways _ t.0.unstarted runs)
+
+pub unaccepted-said : (r : Requests) (n : ℕ)
+    → (why_of r n ≡ NeverAccepted) ↔ (length r.accepted ≤ n)
+unaccepted-said r n =
+    ((λ e. told-as r n NeverAccepted e), (λ le. unaccepted-is r n (why_of r n) (told r n) le))
+
+pub ended-said : (r : Requests) (n : ℕ)
+    → (why_of r n ≡ HasEnded) ↔ ((n < length r.accepted) × (has_ended r n ≡ true))
+ended-said r n =
+    ((λ e. told-as r n HasEnded e), (λ h. ended-is r n (why_of r n) (told r n) h.0 h.1))
+
+pub runs-said : (r : Requests) (n : ℕ)
+    → (why_of r n ≡ Runs) ↔ ((is_outstanding r n ≡ true) × (is_running r n ≡ true))
+runs-said r n = (
+  (λ e. let t = told-as r n Runs e in (and_from _ _ (lt-ltb n (length r.accepted) t.0) (ap not t.1), t.2)),
+  (λ h. let parts = and_parts _ _ h.0 in runs-is r n (why_of r n) (told r n) (ltb-true n (length r.accepted) parts.0) (not-true _ parts.1) h.1),
+)
 
 -- What can be issued.
 

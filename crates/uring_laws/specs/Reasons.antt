@@ -1,6 +1,6 @@
 -- What it says of a request why it stands as it does: laws of any requests.
-use Rattle.std.specs.Prelude.{◌≡◌, ◌↔◌, ℕ, ◌<◌, ℤ, pos, neg_ℤ, Bool, true, false, if◌then◌else◌, length, Some, ◌⊎◌}
-use Rattle.uring_entry.specs.Requests.{Requests, entry_of, is_outstanding, is_running, is_candidate, cancel_result, doomed_result, no_bytes, is_issuable, is_doomed, is_ready, is_in_faulty_group, is_behind_failure, is_cancelled, is_joined, is_draining, holds_back}
+use Rattle.std.specs.Prelude.{◌≡◌, ◌↔◌, ℕ, ◌<◌, ◌≤◌, ℤ, pos, neg_ℤ, Bool, true, false, if◌then◌else◌, length, Some, ◌⊎◌}
+use Rattle.uring_entry.specs.Requests.{Requests, entry_of, has_ended, is_outstanding, is_running, is_candidate, cancel_result, doomed_result, no_bytes, is_issuable, is_doomed, is_ready, is_in_faulty_group, is_behind_failure, is_cancelled, is_joined, is_draining, holds_back}
 use Rattle.uring_entry.specs.Preparation.{fault_of, is_faulty, is_cancel, is_cancel_all}
 use Rattle.uring_entry.specs.declared.errno.TheConstants.{ENOENT, EALREADY}
 use Rattle.uring_entry.specs.Why.{is_faulty_member, is_failure_before, why_of}
@@ -17,6 +17,12 @@ use Rattle.uring_entry.specs.declared.why.Doom.{Doom}
 use Rattle.uring_entry.specs.declared.why.Doom.TheVariants.{OwnFault, FaultOf, FailureOf, Cancel}
 use Rattle.uring_entry.specs.declared.why.Since.{Since}
 use Rattle.uring_entry.specs.declared.why.Since.TheVariants.{SameGroup, ItDrains, OwnDrains}
+
+-- It is told to be never accepted exactly if no request of its number was, to have ended exactly if it was accepted and has ended, and to run exactly if it is outstanding and was started.
+abbrev pub EndIsSaid : Type 0
+EndIsSaid = (r : Requests) (n : ℕ) → ((why_of r n ≡ NeverAccepted) ↔ (length r.accepted ≤ n))
+    × ((why_of r n ≡ HasEnded) ↔ ((n < length r.accepted) × (has_ended r n ≡ true)))
+    × ((why_of r n ≡ Runs) ↔ ((is_outstanding r n ≡ true) × (is_running r n ≡ true)))
 
 -- whether a request of which this is told can be issued
 abbrev pub can_be_issued : Why → Bool
@@ -123,13 +129,14 @@ ends_with found.Nobody = neg_ℤ ENOENT
 ends_with (found.Running m) = neg_ℤ EALREADY
 ends_with (found.Chosen m) = pos 0
 
--- n is an outstanding cancel of one request, and finds this.
+-- n is an outstanding cancel of one request, without a fault, and finds this.
 pub record Finds (r : Requests) (n : ℕ) (f : Found) : Type 0 where
   pub outstanding : is_outstanding r n ≡ true
+  pub right : is_faulty (entry_of r n) ≡ false
   pub cancels : is_cancel (entry_of r n) ≡ true
   pub one : is_cancel_all (entry_of r n) ≡ false
   pub found : IsFound r n f
   pub result : cancel_result r n ≡ ends_with f
 
 abbrev pub FoundIsSaid : Type 0
-FoundIsSaid = (r : Requests) (n : ℕ) (f : Found) → found_by r n ≡ Some f → Finds r n f
+FoundIsSaid = (r : Requests) (n : ℕ) (f : Found) → (found_by r n ≡ Some f) ↔ Finds r n f

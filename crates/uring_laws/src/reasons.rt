@@ -1,5 +1,10 @@
 //! Why a request stands as it does, and what it says: laws of any requests.
-ghost use Rattle.uring_laws.specs.Reasons.{IssuableIsSaid, MayStartIsSaid, WaitsIsSaid, DoomIsSaid, TwoSteps, AnswerAgrees, FoundIsSaid};
+ghost use Rattle.uring_laws.specs.Reasons.{EndIsSaid, IssuableIsSaid, MayStartIsSaid, WaitsIsSaid, DoomIsSaid, TwoSteps, AnswerAgrees, FoundIsSaid};
+
+/// A request is told never to have been accepted exactly if none of its number was, to have ended exactly if it was accepted and has ended, and to run exactly if it is outstanding and was started.
+pub fn end_is_said()
+    ensures { EndIsSaid }
+{}
 
 /// A request can be issued exactly if it is told to be doomed, or that it may start.
 pub fn issuable_is_said()
@@ -31,7 +36,7 @@ pub fn answer_agrees()
     ensures { AnswerAgrees }
 {}
 
-/// What is told that a request would find is what a cancel of one request finds: the least request that it may choose, whether that one runs, or that there is none; and its result, if it is carried out, is the one that goes with it.
+/// It is told that a request would find something exactly if it is an outstanding cancel of one request, without a fault, and finds that: the least request that it may choose, whether that one runs, or that there is none; and its result, if it is carried out, is the one that goes with it.
 pub fn found_is_said()
     ensures { FoundIsSaid }
 {}
