@@ -1,0 +1,3 @@
+pub mod Narrower
+pub mod ReadBack
+pub mod Units
