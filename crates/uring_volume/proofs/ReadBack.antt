@@ -8,17 +8,17 @@ use Rattle.uring_volume.specs.Images.{IsIn, IsInOrder, is_under, is_on, end_of, 
 use Rattle.uring_volume.specs.Laws.{SafeIsReadBack}
 
 -- a byte, with one write over it
-abbrev over : ℕ → Write → ℕ → ℕ
+abbrev pub over : ℕ → Write → ℕ → ℕ
 over byte w k = cond (is_under w k) (slice_index w.bytes (k - w.off)) byte
 
-none_over : (byte k : ℕ) (later : List Write)
+pub none_over : (byte k : ℕ) (later : List Write)
     → ((m : Write) → IsIn m later → is_under m k ≡ false) → byte_over byte later k ≡ byte
 none_over byte k [] none = refl
 none_over byte k (m ∷ later) none =
     none_over (over byte m k) k later (λ x among. none x (inr among))
     ∙ cond-false (is_under m k) (slice_index m.bytes (k - m.off)) byte (none m (inl refl))
 
-last_over : (h : History) (w : Write) (k byte : ℕ) (order : List Write) → IsIn w order
+pub last_over : (h : History) (w : Write) (k byte : ℕ) (order : List Write) → IsIn w order
     → IsInOrder h order → is_under w k ≡ true
     → ((m : Write) → IsIn m order → (m ≡ w → ⊥) → is_under m k ≡ true → is_before h m.number w.number ≡ true)
     → byte_over byte order k ≡ slice_index w.bytes (k - w.off)
@@ -46,7 +46,7 @@ under_from w k within = and_from _ _ (le-leb w.off (w.off + k) (omega arith)) (l
 
 -- Lengths.
 
-len_grows : (len : ℕ) (order : List Write) → len ≤ length_over len order
+pub len_grows : (len : ℕ) (order : List Write) → len ≤ length_over len order
 len_grows len [] = omega arith
 len_grows len (w ∷ later) = omega (arith, len_grows (max len (end_of w)) later)
 

@@ -1,5 +1,5 @@
 -- What follows from the definition of an image.
-use Rattle.std.specs.Prelude.{◌≡◌, ◌≢◌, ◌↔◌, ℕ, ◌+◌, ◌*◌, ◌<◌, true, false, List, ◌∷◌, ◌++◌, length, slice_index}
+use Rattle.std.specs.Prelude.{◌≡◌, ◌≢◌, ◌↔◌, ◌⊎◌, ℕ, ◌+◌, ◌*◌, ◌<◌, true, false, List, ◌∷◌, ◌++◌, length, slice_index}
 use Rattle.uring_volume.specs.Events.{Write, Event, History, writes, is_before, is_covered, is_safe}
 use Rattle.uring_volume.specs.Events.Event.{SyncEnded, SyncFailed}
 use Rattle.uring_volume.specs.Images.{IsIn, is_under, IsImage}
@@ -41,3 +41,16 @@ FailedIsNeverSafe = (later earlier : History) (s n : ℕ) → is_covered earlier
 abbrev pub SmallerUnitsAllowIt : Type 0
 SmallerUnitsAllowIt = (u c : ℕ) (first : List ℕ) (h : History) (now : List ℕ)
     → 0 < u → 0 < c → IsImage (u * c) first h now → IsImage u first h now
+
+-- A file at rest: each write is safe, and of two that write the same byte one had ended when the other was issued.
+pub record IsAtRest (h : History) : Type 0 where
+  pub safe : (w : Write) → IsIn w (writes h) → is_safe h w.number ≡ true
+  pub ordered : (m w : Write) (k : ℕ) → IsIn m (writes h) → IsIn w (writes h) → m ≢ w
+      → is_under m k ≡ true → is_under w k ≡ true
+      → (is_before h m.number w.number ≡ true) ⊎ (is_before h w.number m.number ≡ true)
+
+-- a file at rest has no two images
+abbrev pub RestHasOneImage : Type 0
+RestHasOneImage = (u : ℕ) (first : List ℕ) (h : History) (now other : List ℕ)
+    → 0 < u → IsAtRest h → IsImage u first h now → IsImage u first h other
+    → now ≡ other

@@ -2,7 +2,7 @@
 
 ghost use Rattle.std.specs.Prelude.{ℕ};
 ghost use Rattle.uring_volume.specs.Events.Event.{WriteEnded, SyncIssued, SyncFailed};
-ghost use Rattle.uring_volume.specs.Laws.{SafeIsReadBack, SyncAddsNone, ChangesNone, FailedIsNeverSafe, SmallerUnitsAllowIt};
+ghost use Rattle.uring_volume.specs.Laws.{SafeIsReadBack, SyncAddsNone, ChangesNone, FailedIsNeverSafe, SmallerUnitsAllowIt, RestHasOneImage};
 
 /// A safe write is read back after each crash, if each other write that overlaps it had ended when it was issued.
 pub fn safe_is_read_back()
@@ -29,4 +29,9 @@ pub fn failed_is_never_safe()
 /// An image of larger units is one of each smaller size that divides theirs.
 pub fn smaller_units_allow_it()
     ensures { SmallerUnitsAllowIt }
+{}
+
+/// If each write is safe, and of two that overlap one had ended when the other was issued, a crash leaves one image.
+pub fn rest_has_one_image()
+    ensures { RestHasOneImage }
 {}
