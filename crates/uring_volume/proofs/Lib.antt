@@ -1,0 +1,4 @@
+pub mod Narrower
+pub mod ReadBack
+pub mod Units
+pub mod Rest

@@ -1,0 +1,142 @@
+-- Which history allows no image that another doesn't: the laws of syncs and of the events that change none.
+use Rattle.std.proofs.Common.{◌≡◌, ◌==◌, ℕ, Bool, true, not, ◌&&◌, ◌||◌, List, [], ◌∷◌, ◌++◌, refl, sym, subst, ap, ◌∙◌, inl, inr}
+use Rattle.std.proofs.lemmas.Bool.{or_cases, or_left, or_right, or_from, and_right, not_from_true}
+use Rattle.uring_volume.specs.Events.{Write, History, writes, has_ended, is_before, is_covered, is_given_up, is_safe}
+use Rattle.uring_volume.specs.Events.Event.{WriteIssued, WriteEnded, SyncIssued, SyncEnded, SyncFailed}
+use Rattle.uring_volume.specs.Images.{IsIn, IsInOrder, MayBeLeft, IsImage}
+use Rattle.uring_volume.specs.Laws.{SyncAddsNone, ChangesNone, FailedIsNeverSafe}
+
+-- The history g has the writes of h, in the same order, and each write that is safe in g is safe in h.
+pub record IsNoTighter (g h : History) : Type 0 where
+  pub writes : writes g ≡ writes h
+  pub before : (m n : ℕ) → is_before g m n ≡ is_before h m n
+  pub safe : (n : ℕ) → is_safe g n ≡ true → is_safe h n ≡ true
+
+order_in : (g h : History) (order : List Write) → IsNoTighter g h → IsInOrder h order
+    → IsInOrder g order
+order_in g h [] t o = tt
+order_in g h (w ∷ later) t o = (λ m among. t.before m.number w.number ∙ o.0 m among, o.1, order_in g h later t o.2)
+
+left_in : (g h : History) (touches : Write → Bool) (order : List Write) → IsNoTighter g h
+    → MayBeLeft h touches order → MayBeLeft g touches order
+left_in g h touches order t l = record {
+  issued = λ w among. (subst (λ ws. IsIn w ws) (sym t.writes) (l.issued w among).0, (l.issued w among).1);
+  safe = λ w among on safe. l.safe w (subst (λ ws. IsIn w ws) t.writes among) on (t.safe w.number safe);
+  with_those_before = λ m w among on kept before. l.with_those_before m w (subst (λ ws. IsIn m ws) t.writes among) on kept (sym (t.before m.number w.number) ∙ before);
+  in_order = order_in g h order t l.in_order;
+}
+
+pub image_in : (g h : History) (u : ℕ) (first now : List ℕ) → IsNoTighter g h
+    → IsImage u first h now → IsImage u first g now
+image_in g h u first now t image = record {
+  units = λ i. record {
+    order = (image.units i).order;
+    left = left_in g h _ (image.units i).order t (image.units i).left;
+    bytes = (image.units i).bytes;
+  };
+  len = record {
+    order = image.len.order;
+    left = left_in g h _ image.len.order t image.len.left;
+    len = image.len.len;
+  };
+}
+
+-- What a sync's end leaves as it was.
+
+writes_same : (later earlier : History) (s : ℕ)
+    → writes (later ++ SyncEnded s ∷ earlier) ≡ writes (later ++ earlier)
+writes_same [] earlier s = refl
+writes_same (WriteIssued w ∷ later) earlier s = ap (λ ws. w ∷ ws) (writes_same later earlier s)
+writes_same (e ∷ later) earlier s = writes_same later earlier s
+
+ended_same : (later earlier : History) (s n : ℕ)
+    → has_ended (later ++ SyncEnded s ∷ earlier) n ≡ has_ended (later ++ earlier) n
+ended_same [] earlier s n = refl
+ended_same (WriteEnded m ∷ later) earlier s n =
+    ap (λ b. m == n || b) (ended_same later earlier s n)
+ended_same (e ∷ later) earlier s n = ended_same later earlier s n
+
+before_same : (later earlier : History) (s m n : ℕ)
+    → is_before (later ++ SyncEnded s ∷ earlier) m n ≡ is_before (later ++ earlier) m n
+before_same [] earlier s m n = refl
+before_same (WriteIssued w ∷ later) earlier s m n =
+    ap (λ b. w.number == n && b || is_before (later ++ SyncEnded s ∷ earlier) m n) (ended_same later earlier s m)
+    ∙ ap (λ b. w.number == n && has_ended (later ++ earlier) m || b) (before_same later earlier s m n)
+before_same (e ∷ later) earlier s m n = before_same later earlier s m n
+
+covered_same : (later earlier : History) (s t n : ℕ)
+    → is_covered (later ++ SyncEnded s ∷ earlier) t n ≡ is_covered (later ++ earlier) t n
+covered_same [] earlier s t n = refl
+covered_same (SyncIssued r ∷ later) earlier s t n =
+    ap (λ b. r == t && b || is_covered (later ++ SyncEnded s ∷ earlier) t n) (ended_same later earlier s n)
+    ∙ ap (λ b. r == t && has_ended (later ++ earlier) n || b) (covered_same later earlier s t n)
+covered_same (e ∷ later) earlier s t n = covered_same later earlier s t n
+
+given_up_same : (later earlier : History) (s n : ℕ)
+    → is_given_up (later ++ SyncEnded s ∷ earlier) n ≡ is_given_up (later ++ earlier) n
+given_up_same [] earlier s n = refl
+given_up_same (SyncFailed t ∷ later) earlier s n =
+    ap (λ b. b || is_given_up (later ++ SyncEnded s ∷ earlier) n) (covered_same later earlier s t n)
+    ∙ ap (λ b. is_covered (later ++ earlier) t n || b) (given_up_same later earlier s n)
+given_up_same (e ∷ later) earlier s n = given_up_same later earlier s n
+
+-- whether a sync that ends at this moment makes write n safe
+abbrev makes_safe : History → ℕ → ℕ → Bool
+makes_safe h s n = is_covered h s n && not (is_given_up h n)
+
+makes_same : (later earlier : History) (s t n : ℕ)
+    → makes_safe (later ++ SyncEnded s ∷ earlier) t n ≡ makes_safe (later ++ earlier) t n
+makes_same later earlier s t n =
+    ap (λ b. b && not (is_given_up (later ++ SyncEnded s ∷ earlier) n)) (covered_same later earlier s t n)
+    ∙ ap (λ b. is_covered (later ++ earlier) t n && not b) (given_up_same later earlier s n)
+
+safe_stays : (later earlier : History) (s n : ℕ) → is_safe (later ++ earlier) n ≡ true
+    → is_safe (later ++ SyncEnded s ∷ earlier) n ≡ true
+safe_stays [] earlier s n e = or_right (makes_safe earlier s n) (is_safe earlier n) e
+safe_stays (SyncEnded t ∷ later) earlier s n e =
+    elim (or_cases (makes_safe (later ++ earlier) t n) (is_safe (later ++ earlier) n) e) [
+      | inl now ↦
+          or_left (makes_safe (later ++ SyncEnded s ∷ earlier) t n) (is_safe (later ++ SyncEnded s ∷ earlier) n) (makes_same later earlier s t n ∙ now)
+      | inr was ↦
+          or_right (makes_safe (later ++ SyncEnded s ∷ earlier) t n) (is_safe (later ++ SyncEnded s ∷ earlier) n) (safe_stays later earlier s n was)
+    ]
+safe_stays (e ∷ later) earlier s n h = safe_stays later earlier s n h
+
+pub sync_adds_none : SyncAddsNone
+sync_adds_none u first later earlier s now image =
+    image_in (later ++ earlier) (later ++ SyncEnded s ∷ earlier) u first now (record {
+      writes = sym (writes_same later earlier s);
+      before = λ m n. sym (before_same later earlier s m n);
+      safe = λ n. safe_stays later earlier s n;
+    }) image
+
+-- The events that change no image.
+
+pub end_changes_none : (n : ℕ) → ChangesNone (WriteEnded n)
+end_changes_none n u first h now =
+    (image_in h (WriteEnded n ∷ h) u first now (record { writes = refl; before = λ m k. refl; safe = λ k e. e }), image_in (WriteEnded n ∷ h) h u first now (record { writes = refl; before = λ m k. refl; safe = λ k e. e }))
+
+pub issue_changes_none : (s : ℕ) → ChangesNone (SyncIssued s)
+issue_changes_none s u first h now =
+    (image_in h (SyncIssued s ∷ h) u first now (record { writes = refl; before = λ m k. refl; safe = λ k e. e }), image_in (SyncIssued s ∷ h) h u first now (record { writes = refl; before = λ m k. refl; safe = λ k e. e }))
+
+pub failure_changes_none : (s : ℕ) → ChangesNone (SyncFailed s)
+failure_changes_none s u first h now =
+    (image_in h (SyncFailed s ∷ h) u first now (record { writes = refl; before = λ m k. refl; safe = λ k e. e }), image_in (SyncFailed s ∷ h) h u first now (record { writes = refl; before = λ m k. refl; safe = λ k e. e }))
+
+-- A sync that fails.
+
+given_up_stays : (later earlier : History) (s n : ℕ) → is_covered earlier s n ≡ true
+    → is_given_up (later ++ SyncFailed s ∷ earlier) n ≡ true
+given_up_stays [] earlier s n c = or_left (is_covered earlier s n) (is_given_up earlier n) c
+given_up_stays (SyncFailed t ∷ later) earlier s n c =
+    or_right (is_covered (later ++ SyncFailed s ∷ earlier) t n) (is_given_up (later ++ SyncFailed s ∷ earlier) n) (given_up_stays later earlier s n c)
+given_up_stays (e ∷ later) earlier s n c = given_up_stays later earlier s n c
+
+pub never_safe : FailedIsNeverSafe
+never_safe [] earlier s n c f = f
+never_safe (SyncEnded t ∷ later) earlier s n c f =
+    or_from (makes_safe (later ++ SyncFailed s ∷ earlier) t n) (is_safe (later ++ SyncFailed s ∷ earlier) n)
+    (and_right (is_covered (later ++ SyncFailed s ∷ earlier) t n) (not (is_given_up (later ++ SyncFailed s ∷ earlier) n)) (not_from_true (is_given_up (later ++ SyncFailed s ∷ earlier) n) (given_up_stays later earlier s n c)))
+    (never_safe later earlier s n c f)
+never_safe (e ∷ later) earlier s n c f = never_safe later earlier s n c f

@@ -1,0 +1,107 @@
+-- A file at rest has one image: of the writes of a byte one comes after all others, whatever the list.
+use Rattle.std.proofs.Common.{◌≡◌, ◌<◌, ◌≤◌, ◌/◌, ℕ, max, Bool, true, false, List, [], ◌∷◌, ◌⊎◌, length, refl, sym, subst, ◌∙◌, inl, inr, arith}
+use Rattle.std.specs.Prelude.{slice_index}
+use Rattle.std.proofs.lemmas.Bool.{cases_Bool, both_ways}
+use Rattle.std.proofs.lemmas.List.{ext_get_or}
+use Rattle.uring_volume.specs.Events.{Write, History, is_before}
+use Rattle.uring_volume.specs.Images.{IsIn, IsInOrder, is_under, is_on, end_of, byte_over, length_over, MayBeLeft, UnitIsLeft}
+use Rattle.uring_volume.specs.Laws.{IsAtRest, RestHasOneImage}
+use Rattle.uring_volume.proofs.ReadBack.{none_over, last_over, len_grows, end_within}
+
+-- The last of these writes that writes the byte at offset k: of those that do, none comes after it.
+record IsLast (h : History) (k : ℕ) (order : List Write) (w : Write) : Type 0 where
+  among : IsIn w order
+  under : is_under w k ≡ true
+  last : (m : Write) → IsIn m order → is_under m k ≡ true
+      → (m ≡ w) ⊎ (is_before h w.number m.number ≡ false)
+
+-- none of these writes writes the byte, or one of them is the last that does
+abbrev HasLast : History → ℕ → List Write → Type 0
+HasLast h k order =
+    ((m : Write) → IsIn m order → is_under m k ≡ false) ⊎ ((w : Write) × IsLast h k order w)
+
+last_with : (h : History) (k : ℕ) (x : Write) (later : List Write) → IsInOrder h (x ∷ later)
+    → HasLast h k later → HasLast h k (x ∷ later)
+last_with h k x later o (inr more) = inr (
+  more.0,
+  record {
+    among = inr more.1.among;
+    under = more.1.under;
+    last = λ m among is. elim among [
+      | inl same ↦ inr (subst (λ y. is_before h more.0.number y.number ≡ false) (sym same) (o.0 more.0 more.1.among))
+      | inr further ↦ more.1.last m further is
+    ];
+  },
+)
+last_with h k x later o (inl none) = elim (cases_Bool (is_under x k)) [
+  | inl is ↦ inr (
+    x,
+    record {
+      among = inl refl;
+      under = is;
+      last = λ m among under. elim among [
+        | inl same ↦ inl same
+        | inr further ↦ absurd (both_ways (is_under m k) (none m further) under)
+      ];
+    },
+  )
+  | inr out ↦ inl (λ m among. elim among [
+    | inl same ↦ subst (λ y. is_under y k ≡ false) (sym same) out
+    | inr further ↦ none m further
+  ])
+]
+
+find_last : (h : History) (k : ℕ) (order : List Write) → IsInOrder h order → HasLast h k order
+find_last h k [] o = inl (λ m among. absurd among)
+find_last h k (x ∷ later) o = last_with h k x later o (find_last h k later o.2)
+
+-- Two lists that may be left of the same place, at rest.
+
+-- what is in one is in the other
+moves : (h : History) (touches : Write → Bool) (a b : List Write) → IsAtRest h
+    → MayBeLeft h touches a → MayBeLeft h touches b → (w : Write) → IsIn w a → IsIn w b
+moves h touches a b rest la lb w among =
+    let i = la.issued w among in
+    lb.safe w i.0 i.1 (rest.safe w i.0)
+
+same_byte : (h : History) (touches : Write → Bool) (a b : List Write) (byte k : ℕ) → IsAtRest h
+    → MayBeLeft h touches a → MayBeLeft h touches b → HasLast h k a
+    → byte_over byte a k ≡ byte_over byte b k
+same_byte h touches a b byte k rest la lb (inl none) =
+    none_over byte k a none ∙ sym (none_over byte k b (λ m among. none m (moves h touches b a rest lb la m among)))
+same_byte h touches a b byte k rest la lb (inr found) =
+    let w = found.0 in
+    let before = λ (m : Write) (among : IsIn m a) (differs : m ≡ found.0 → ⊥) (under : is_under m k ≡ true).
+    elim (rest.ordered m found.0 k (la.issued m among).0 (la.issued found.0 found.1.among).0 differs under found.1.under) as (λ _. is_before h m.number found.0.number ≡ true) [
+      | inl is ↦ is
+      | inr after ↦ elim (found.1.last m among under) as (λ _. is_before h m.number found.0.number ≡ true) [
+        | inl same ↦ absurd (differs same)
+        | inr out ↦ absurd (both_ways (is_before h found.0.number m.number) out after)
+      ]
+    ] in
+    last_over h found.0 k byte a found.1.among la.in_order found.1.under before
+    ∙ sym (last_over h found.0 k byte b (moves h touches a b rest la lb found.0 found.1.among) lb.in_order found.1.under (λ m among. before m (moves h touches b a rest lb la m among)))
+
+length_below : (len bound : ℕ) (order : List Write) → len ≤ bound
+    → ((w : Write) → IsIn w order → end_of w ≤ bound) → length_over len order ≤ bound
+length_below len bound [] low ends = low
+length_below len bound (w ∷ later) low ends =
+    length_below (max len (end_of w)) bound later (omega (arith, ends w (inl refl))) (λ x among. ends x (inr among))
+
+no_longer : (h : History) (touches : Write → Bool) (a b : List Write) (len : ℕ) → IsAtRest h
+    → MayBeLeft h touches a → MayBeLeft h touches b → length_over len a ≤ length_over len b
+no_longer h touches a b len rest la lb =
+    length_below len (length_over len b) a (len_grows len b) (λ w among. end_within len w b (moves h touches a b rest la lb w among))
+
+pub one_image : RestHasOneImage
+one_image u first h now other positive rest image second =
+    let longer = no_longer h (λ w. true) image.len.order second.len.order (length first) rest image.len.left second.len.left in
+    let shorter = no_longer h (λ w. true) second.len.order image.len.order (length first) rest second.len.left image.len.left in
+    let same : length now ≡ length other = omega (arith, image.len.len, second.len.len) in
+    ext_get_or 0 now other same (λ k within.
+    let here : UnitIsLeft u first h now (k / u) = image.units (k / u) in
+    let there : UnitIsLeft u first h other (k / u) = second.units (k / u) in
+    let inside : k < length other = omega arith in
+    here.bytes k refl within
+    ∙ same_byte h (is_on u (k / u)) here.order there.order (slice_index first k) k rest here.left there.left (find_last h k here.order here.left.in_order)
+    ∙ sym (there.bytes k refl inside))

@@ -1,0 +1,88 @@
+-- An image of larger units is one of smaller ones: of what is left of a large unit, what lies on the small one is left of that.
+use Rattle.std.proofs.Common.{◌≡◌, ◌<◌, ◌≤◌, ◌+◌, ◌-◌, ◌*◌, ◌/◌, ℕ, min, max, Bool, true, false, cond, List, [], ◌∷◌, length, refl, sym, subst, ap, ◌∙◌, inl, inr, arith}
+use Rattle.std.specs.Prelude.{slice_index}
+use Rattle.std.specs.List.{filter}
+use Rattle.std.proofs.lemmas.Bool.{cases_Bool, both_ways, false_from_ne_true, cond-true, cond-false, cond_both, lt-ltb, ltb-true}
+use Rattle.std.proofs.Math.Nat.{mul-div-le, lt-div-mul-add, div-div-eq-div-mul, mul-le-mul_left}
+use Rattle.uring_volume.specs.Events.{Write, History}
+use Rattle.uring_volume.specs.Images.{IsIn, IsInOrder, is_under, is_on, byte_over, UnitIsLeft}
+use Rattle.uring_volume.specs.Laws.{SmallerUnitsAllowIt}
+use Rattle.uring_volume.proofs.ReadBack.{on_from}
+
+in_filter : (p : Write → Bool) (x : Write) (xs : List Write) → IsIn x xs → p x ≡ true
+    → IsIn x (filter p xs)
+in_filter p x [] among is = absurd among
+in_filter p x (y ∷ ys) (inl same) is =
+    subst (λ zs. IsIn x zs) (sym (cond-true (p y) (y ∷ filter p ys) (filter p ys) (subst (λ z. p z ≡ true) same is))) (inl same)
+in_filter p x (y ∷ ys) (inr more) is =
+    cond_both (p y) (y ∷ filter p ys) (filter p ys) (λ zs. IsIn x zs) (λ _. inr (in_filter p x ys more is)) (λ _. in_filter p x ys more is)
+
+of_filter : (p : Write → Bool) (x : Write) (xs : List Write) → IsIn x (filter p xs)
+    → IsIn x xs × (p x ≡ true)
+of_filter p x [] among = absurd among
+of_filter p x (y ∷ ys) among =
+    elim (cases_Bool (p y)) [
+      | inl is ↦
+          let inside : IsIn x (y ∷ filter p ys) = subst (λ zs. IsIn x zs) (cond-true (p y) (y ∷ filter p ys) (filter p ys) is) among in
+          elim inside [
+            | inl same ↦ (inl same, subst (λ z. p z ≡ true) (sym same) is)
+            | inr more ↦ (inr (of_filter p x ys more).0, (of_filter p x ys more).1)
+          ]
+      | inr out ↦
+          let more : IsIn x (filter p ys) = subst (λ zs. IsIn x zs) (cond-false (p y) (y ∷ filter p ys) (filter p ys) out) among in
+          (inr (of_filter p x ys more).0, (of_filter p x ys more).1)
+    ]
+
+filter_in_order : (h : History) (p : Write → Bool) (xs : List Write) → IsInOrder h xs
+    → IsInOrder h (filter p xs)
+filter_in_order h p [] o = tt
+filter_in_order h p (y ∷ ys) o =
+    cond_both (p y) (y ∷ filter p ys) (filter p ys) (λ zs. IsInOrder h zs)
+    (λ _. (λ m among. o.0 m (of_filter p m ys among).0, λ among. o.1 (of_filter p y ys among).0, filter_in_order h p ys o.2))
+    (λ _. filter_in_order h p ys o.2)
+
+filter_over : (p : Write → Bool) (k byte : ℕ) (xs : List Write)
+    → ((w : Write) → p w ≡ false → is_under w k ≡ false)
+    → byte_over byte (filter p xs) k ≡ byte_over byte xs k
+filter_over p k byte [] off = refl
+filter_over p k byte (y ∷ ys) off =
+    elim (cases_Bool (p y)) [
+      | inl is ↦
+          ap (λ zs. byte_over byte zs k) (cond-true (p y) (y ∷ filter p ys) (filter p ys) is)
+          ∙ filter_over p k (cond (is_under y k) (slice_index y.bytes (k - y.off)) byte) ys off
+      | inr out ↦
+          ap (λ zs. byte_over byte zs k) (cond-false (p y) (y ∷ filter p ys) (filter p ys) out)
+          ∙ filter_over p k byte ys off
+          ∙ ap (λ b. byte_over b ys k) (sym (cond-false (is_under y k) (slice_index y.bytes (k - y.off)) byte (off y out)))
+    ]
+
+on_wider : (u c i : ℕ) (w : Write) → 0 < c → is_on u i w ≡ true → is_on (u * c) (i / c) w ≡ true
+on_wider u c i w positive on =
+    let meets = ltb-true (max (u * i) w.off) (min (u * i + u) (w.off + length w.bytes)) on in
+    let low : c * (i / c) ≤ i = mul-div-le i c in
+    let high : i < i / c * c + c = lt-div-mul-add positive in
+    let more : i + 1 ≤ i / c * c + c = omega arith in
+    let lower : u * (c * (i / c)) ≤ u * i = mul-le-mul_left u low in
+    let higher : u * (i + 1) ≤ u * (i / c * c + c) = mul-le-mul_left u more in
+    lt-ltb (max (u * c * (i / c)) w.off) (min (u * c * (i / c) + u * c) (w.off + length w.bytes)) (omega arith)
+
+unit_from : (u c : ℕ) (first : List ℕ) (h : History) (now : List ℕ) (i : ℕ) → 0 < u → 0 < c
+    → UnitIsLeft (u * c) first h now (i / c) → UnitIsLeft u first h now i
+unit_from u c first h now i positive some large = record {
+  order = filter (is_on u i) large.order;
+  left = record {
+    issued = λ w among. ((large.left.issued w (of_filter (is_on u i) w large.order among).0).0, (of_filter (is_on u i) w large.order among).1);
+    safe = λ w among on safe. in_filter (is_on u i) w large.order (large.left.safe w among (on_wider u c i w some on) safe) on;
+    with_those_before = λ m w among on kept before. in_filter (is_on u i) m large.order (large.left.with_those_before m w among (on_wider u c i m some on) (of_filter (is_on u i) w large.order kept).0 before) on;
+    in_order = filter_in_order h (is_on u i) large.order large.left.in_order;
+  };
+  bytes = λ k at within.
+      large.bytes k (sym (div-div-eq-div-mul k u c) ∙ ap (λ j. j / c) at) within
+      ∙ sym (filter_over (is_on u i) k (slice_index first k) large.order (λ w off. false_from_ne_true (is_under w k) (λ under. both_ways (is_on u i w) off (subst (λ j. is_on u j w ≡ true) at (on_from u w k positive under)))));
+}
+
+pub smaller_units : SmallerUnitsAllowIt
+smaller_units u c first h now positive some image = record {
+  units = λ i. unit_from u c first h now i positive some (image.units (i / c));
+  len = image.len;
+}

@@ -1,0 +1,37 @@
+//! What holds of each image: laws of the definitions alone, each a function with no code, whose clauses say the law.
+
+ghost use Rattle.std.specs.Prelude.{ℕ};
+ghost use Rattle.uring_volume.specs.Events.Event.{WriteEnded, SyncIssued, SyncFailed};
+ghost use Rattle.uring_volume.specs.Laws.{SafeIsReadBack, SyncAddsNone, ChangesNone, FailedIsNeverSafe, SmallerUnitsAllowIt, RestHasOneImage};
+
+/// A safe write is read back after each crash, if each other write that overlaps it had ended when it was issued.
+pub fn safe_is_read_back()
+    ensures { SafeIsReadBack }
+{}
+
+/// The end of a sync with success takes images away and adds none, whatever happens later.
+pub fn sync_adds_none()
+    ensures { SyncAddsNone }
+{}
+
+/// Until the next write is issued or sync ends with success, nothing changes what a crash may leave: no end of a write, no issue of a sync and no failure of one.
+pub fn others_change_none()
+    ensures write_ends { (n : ℕ) → ChangesNone (WriteEnded n) }
+    ensures sync_begins { (s : ℕ) → ChangesNone (SyncIssued s) }
+    ensures sync_fails { (s : ℕ) → ChangesNone (SyncFailed s) }
+{}
+
+/// What a failed sync covers never becomes safe by a later one.
+pub fn failed_is_never_safe()
+    ensures { FailedIsNeverSafe }
+{}
+
+/// An image of larger units is one of each smaller size that divides theirs.
+pub fn smaller_units_allow_it()
+    ensures { SmallerUnitsAllowIt }
+{}
+
+/// If each write is safe, and of two that overlap one had ended when the other was issued, a crash leaves one image.
+pub fn rest_has_one_image()
+    ensures { RestHasOneImage }
+{}
