@@ -56,10 +56,19 @@ static void read_item(struct item *item, const char **at)
         (*at)++;
 }
 
+/* 0 to 1,000,000,000, in digits alone; 0 is no fault. */
+static uint32_t read_rate(const char *text)
+{
+    size_t length = strspn(text, "0123456789");
+    unsigned long number = strtoul(text, NULL, 10);
+    demand(length > 0 && !text[length] && number <= 1000000000, "WULGACH_FAULT_RATE: a number is wanted, at most 1000000000");
+    return (uint32_t)number;
+}
+
 static void read_environment(void)
 {
     const char *at = getenv("WULGACH_FAULTS"), *number = getenv("WULGACH_FAULT_RATE");
-    rate = number ? (uint32_t)strtoul(number, NULL, 10) : 0;
+    rate = number ? read_rate(number) : 0;
     if (!at || !*at)
         return;
     items = need_room(strlen(at), sizeof *items);
