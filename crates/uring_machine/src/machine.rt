@@ -95,7 +95,7 @@ impl Machine {
         self.step_in(&memory, step)
     }
 
-    /// As `step`, by this memory. If it grants as many elements as the step may need in one list, no answer tells of refused memory: none is `Again`, and a write that lengthens its file never ends with -12.
+    /// As `step`, by this memory. If it grants as many elements as the step may need in one list, no answer says that memory was refused: none is `Again`, and a write that lengthens its file never ends with -12.
     pub fn step_in<M: Memory>(&mut self, memory: &M, step: Step) -> Answer
         ensures setup { self.new.core.setup ≡ self.old.core.setup }
         ensures fits { (h : History) → Fits self.old h → Fits self.new ((step, result) ∷ h) }
