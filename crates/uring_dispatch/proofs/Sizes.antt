@@ -1,5 +1,5 @@
 -- How many groups, barriers and outstanding requests are kept: no more than requests were accepted.
-use Rattle.std.proofs.Common.{◌≡◌, ◌≢◌, ℕ, suc, zero, ◌+◌, ◌<◌, ◌≤◌, cond, List, [], ◌∷◌, length, if◌then◌else◌, Bool, true, false, eqb, ltb, Option, Some, None, is_some, refl, sym, ◌∙◌, ap, arith, inl, inr, get_or}
+use Rattle.std.proofs.Common.{◌≡◌, ◌≢◌, ℕ, suc, zero, ◌+◌, ◌<◌, ◌≤◌, cond, List, [], ◌∷◌, length, if◌then◌else◌, Bool, true, false, eqb, ltb, Option, Some, None, is_some, refl, sym, ◌∙◌, arith, inl, inr, get_or}
 use Rattle.std.specs.List.{count_by, list_any, list_all, IsDistinct, AllByRecursion}
 use Rattle.std.proofs.lemmas.Bool.{and_parts, or_cases, eqb-true, ne_eqb, ltb-true, false≢true}
 use Rattle.std.proofs.lemmas.List.Recursion.{is_count_by}

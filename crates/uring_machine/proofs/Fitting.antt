@@ -1,18 +1,18 @@
 -- That a machine fits a history with one more event.
-use Rattle.std.proofs.Common.{◌≡◌, ℕ, List, ◌∷◌, Bool, true, false, Some, None, if◌then◌else◌, refl, sym, subst, ◌∙◌, ap}
+use Rattle.std.proofs.Common.{◌≡◌, ℕ, ◌≤◌, List, ◌∷◌, Bool, true, false, Some, None, if◌then◌else◌, refl, sym, subst, ◌∙◌, ap}
 use Rattle.uring_entry.specs.Setup.{Setup}
 use Rattle.uring_entry.specs.Preparation.{operation_of}
-use Rattle.uring_entry.specs.Requests.{Requests, entry_of, operation_running}
+use Rattle.uring_entry.specs.Requests.{Requests, entry_of, is_running, operation_running}
 use Rattle.uring_entry.specs.declared.operation.Op.{Op}
 use Rattle.uring_entry.specs.declared.operation.Outcome.{Outcome}
-use Rattle.uring_files.specs.Contents.{FileContents}
-use Rattle.uring_files.specs.Operations.{after, IsOutcome}
+use Rattle.uring_files.specs.Contents.{FileContents, max_len}
+use Rattle.uring_files.specs.Operations.{after, IsOutcome, result_of}
 use Rattle.uring_core.specs.World.{World}
 use Rattle.uring_core.specs.StepAnswers.{CalledForApart}
 use Rattle.uring_core.specs.CalledFor.{CalledFor, IsLawful, EndsOn, files_of}
-use Rattle.uring_core.specs.Core.{Core, FitsApart, IsNoFinish, IsFinished}
+use Rattle.uring_core.specs.Core.{Core, FitsApart, IsNoFinish, IsFinished, elements_for}
 use Rattle.uring_core.specs.Histories.{History, world}
-use Rattle.uring_machine.specs.Machine.{Fits}
+use Rattle.uring_machine.specs.Machine.{Fits, IsUnrefused, elements_for_step, finish_answer}
 use Rattle.uring_core.specs.declared.step.Step.{Step}
 use Rattle.uring_core.specs.declared.step.Step.TheVariants as step
 use Rattle.uring_core.specs.declared.answer.Answer.{Answer}
@@ -64,11 +64,51 @@ finish_fits core later files n op outcome left a h same fits is allowed leaves n
       lawful = subst (λ k. IsLawful k ((step.Finish n, a) ∷ h)) (sym same) (subst (λ b. CalledFor g (world g h) (step.Finish n) b) (sym ends) called, fits.lawful);
     }
 
+-- it ended as its operation calls for, and so with the answer that is called for if memory is there
+pub finish_called : (core : Core) (files : List FileContents) (n : ℕ) (op : Op) (outcome : Outcome) (a : Answer) (h : History)
+    → Fits (record { core = core; files = files }) h
+    → Some op ≡ operation_running (world core.setup h).requests n → outcome ≡ result_of files op
+    → IsFinished (world core.setup h) n outcome a
+    → a ≡ finish_answer (files_of core.setup (world core.setup h)) (world core.setup h).requests n
+finish_called core files n op outcome a h fits is right finished =
+    let r : Requests = (world core.setup h).requests in
+    let runs = runs_with r n op is in
+    let ended : Bool → Outcome → Answer = λ b o. if b then answer.Ended o.res o.bytes else answer.NotRunning in
+    finished
+    ∙ ap (ended (is_running r n)) (right ∙ ap (λ fs. result_of fs op) fits.files ∙ ap (result_of (files_of core.setup (world core.setup h))) runs.1)
+
 -- what has no operation to carry out isn't running
 pub not_running : {X : Type 0} (op : X) (running : Bool)
     → None ≡ (if running then Some op else None) → running ≡ false
 not_running op true e = absurd cc
 not_running op false e = refl
+
+-- what doesn't run is answered so
+pub finish_idle : (core : Core) (files : List FileContents) (n : ℕ) (h : History)
+    → None ≡ operation_running (world core.setup h).requests n
+    → answer.NotRunning ≡ finish_answer (files_of core.setup (world core.setup h)) (world core.setup h).requests n
+finish_idle core files n h none =
+    let w : World = world core.setup h in
+    let o : Outcome = result_of (files_of core.setup w) (operation_of (entry_of w.requests n)) in
+    let idle : is_running w.requests n ≡ false = not_running (operation_of (entry_of w.requests n)) (is_running w.requests n) none in
+    ap (λ b. if b then answer.Ended o.res o.bytes else answer.NotRunning) (sym idle)
+
+-- a step that is no Finish and isn't answered Again refuses no memory
+pub unrefused_apart : (g : Setup) (w : World) (s : Step) (a : Answer) → IsNoFinish s
+    → (a ≡ answer.Again → ⊥) → IsUnrefused g w s a
+unrefused_apart g w (step.Finish n) a other ok = absurd other
+unrefused_apart g w _ a other ok = ok
+
+pub unrefused_finish : (g : Setup) (w : World) (p : Core) (s : Step) (k : ℕ) (a : Answer) (n : ℕ)
+    → s ≡ step.Finish k → (max_len ≤ n → a ≡ finish_answer (files_of g w) w.requests k)
+    → elements_for_step p w s ≤ n → IsUnrefused g w s a
+unrefused_finish g w p s k a n is right few =
+    subst (λ t. elements_for_step p w t ≤ n → IsUnrefused g w t a) (sym is) right few
+
+pub elements_apart : (p : Core) (w : World) (s : Step) (n : ℕ) → IsNoFinish s
+    → elements_for_step p w s ≤ n → elements_for p w s ≤ n
+elements_apart p w (step.Finish k) n other few = absurd other
+elements_apart p w _ n other few = few
 
 -- an event of a fitted history was called for
 pub called_for : (g : Setup) (core : Core) (files : List FileContents) (s : Step) (a : Answer) (h : History)

@@ -1,16 +1,16 @@
-ghost use Rattle.std.specs.Prelude.{◌≡◌, ◌≤◌, ◌∷◌, [], true, drop, length, List, Some, IfOk, IfErr, IfSome, IsErrOf, OnOk, slice_get};
+ghost use Rattle.std.specs.Prelude.{◌≡◌, ℕ, ◌≤◌, ◌∷◌, [], true, drop, length, List, Some, IsOk, IfOk, IfErr, IfSome, IsErrOf, OnOk, slice_get};
 ghost use Rattle.uring_entry.specs.Setup.{IsWithinLimits};
 ghost use Rattle.uring_entry.specs.Completions.{unreaped};
 ghost use Rattle.uring_entry.specs.Requests.{operation_running, next_of, least_of};
 ghost use Rattle.uring_entry.specs.Why.{why_of};
 ghost use Rattle.uring_dispatch.specs.Cancels.{found_by};
-ghost use Rattle.uring_files.specs.Contents.{FileContents};
+ghost use Rattle.uring_files.specs.Contents.{FileContents, max_len};
 ghost use Rattle.uring_files.specs.Operations.{IsForFiles, ended_with, is_lengthening, result_of, state_of, byte_of};
 ghost use Rattle.uring_core.specs.CalledFor.{CalledFor, files_of};
 ghost use Rattle.uring_core.specs.Core.{IsCounts, IsShortOfMemory, HasNoLessMemory};
 ghost use Rattle.uring_core.specs.Histories.{History, world};
 ghost use Rattle.uring_core.specs.Recorded.{IsRefused, resumed};
-ghost use Rattle.uring_machine.specs.Machine.{MayLackMemory};
+ghost use Rattle.uring_machine.specs.Machine.{MayLackMemory, IsUnrefused, elements_for_step, finish_answer};
 ghost use Rattle.uring_core.specs.StepAnswers.{begin_answer};
 ghost use Rattle.uring_machine.specs.Settling.{HasSettled, IsSettled};
 ghost use Rattle.uring_core.specs.declared.step.Step.TheVariants as step;
@@ -24,6 +24,7 @@ use uring_core::{
 };
 use uring_entry::errno;
 use uring_files::{FileState, Files};
+use uring_memory::Memory;
 
 /// A pair of rings, its requests and files in memory, moved one step at a time.
 ///
@@ -55,9 +56,23 @@ impl Machine {
         ensures setup { IfOk result (λ machine. machine.core.setup ≡ setup.now) }
         ensures fits { IfOk result (λ machine. Fits machine []) }
     {
-        let files = Files::new(alloc, setup.files())?;
+        Machine::new_in(&alloc, alloc, setup)
+    }
+
+    /// As `new`, by this memory. If it grants as many elements as either ring's size, and as there are files, there is no error.
+    pub fn new_in<M: Memory>(
+        memory: &M,
+        alloc: Global,
+        setup: &Setup,
+    ) -> Result<Machine, AllocError>
+        ensures setup { IfOk result (λ machine. machine.core.setup ≡ setup.now) }
+        ensures fits { IfOk result (λ machine. Fits machine []) }
+        ensures granted { (n : ℕ) → M.grants memory.now n → setup.now.sq ≤ n → setup.now.cq ≤ n
+            → setup.now.files ≤ n → IsOk result }
+    {
+        let files = Files::new_in(memory, alloc, setup.files())?;
         Ok(Machine {
-            core: Core::new(alloc, setup)?,
+            core: Core::new_in(memory, alloc, setup)?,
             files,
         })
     }
@@ -76,9 +91,26 @@ impl Machine {
             → IsShortOfMemory self.old.core (world self.old.core.setup h) step }
         ensures memory { HasNoLessMemory self.old.core self.new.core }
     {
+        let memory = self.core.allocator();
+        self.step_in(&memory, step)
+    }
+
+    /// As `step`, by this memory. If it grants as many elements as the step may need in one list, no answer says that memory was refused: none is `Again`, and a write that lengthens its file never ends with -12.
+    pub fn step_in<M: Memory>(&mut self, memory: &M, step: Step) -> Answer
+        ensures setup { self.new.core.setup ≡ self.old.core.setup }
+        ensures fits { (h : History) → Fits self.old h → Fits self.new ((step, result) ∷ h) }
+        ensures called { (h : History) → Fits self.old h
+            → CalledFor self.old.core.setup (world self.old.core.setup h) step result }
+        ensures again { (h : History) → Fits self.old h → result ≡ answer.Again
+            → IsShortOfMemory self.old.core (world self.old.core.setup h) step }
+        ensures memory { HasNoLessMemory self.old.core self.new.core }
+        ensures granted { (h : History) (n : ℕ) → Fits self.old h → M.grants memory.now n
+            → elements_for_step self.old.core (world self.old.core.setup h) step ≤ n
+            → IsUnrefused self.old.core.setup (world self.old.core.setup h) step result }
+    {
         match step {
-            Step::Finish { number } => self.finish(number),
-            _ => self.core.step(step),
+            Step::Finish { number } => self.finish_in(memory, number),
+            _ => self.core.step_in(memory, step),
         }
     }
 
@@ -260,9 +292,23 @@ impl Machine {
             → Fits self.new ((step.Finish number, result) ∷ h) }
         ensures memory { HasNoLessMemory self.old.core self.new.core }
     {
+        let memory = self.core.allocator();
+        self.finish_in(&memory, number)
+    }
+
+    /// As `finish`, by this memory.
+    fn finish_in<M: Memory>(&mut self, memory: &M, number: u64) -> Answer
+        ensures setup { self.new.core.setup ≡ self.old.core.setup }
+        ensures fits { (h : History) → Fits self.old h
+            → Fits self.new ((step.Finish number, result) ∷ h) }
+        ensures memory { HasNoLessMemory self.old.core self.new.core }
+        ensures granted { (h : History) (n : ℕ) → Fits self.old h → M.grants memory.now n → max_len ≤ n
+            → result
+            ≡ finish_answer (files_of self.old.core.setup (world self.old.core.setup h)) (world self.old.core.setup h).requests number }
+    {
         match self.core.running_op(number) {
             Some(op) => {
-                let outcome = self.files.apply(&op);
+                let outcome = self.files.apply_in(memory, &op);
                 self.core.finish(number, outcome)
             }
             None => Answer::NotRunning,

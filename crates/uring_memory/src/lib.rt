@@ -9,7 +9,7 @@ use slab::Slab;
 use std::alloc::{AllocError, Global};
 use std::collections::VecDeque;
 
-/// What lists ask for memory, with a promise: which sizes it certainly grants. Our own rule.
+/// What lists ask for memory, and which sizes it certainly grants. Our own rule.
 ///
 /// `grants memory n` says that whoever asks this memory for one list of at most `n` elements gets it, those included that the list has already. Elements are counted, of whatever type, and no bytes. Who grows by such a memory says how many elements suffice, so that a refusal comes from the memory alone.
 pub trait Memory {
@@ -65,7 +65,7 @@ pub trait Memory {
             → IsOk result };
 }
 
-/// The program's own allocator. Nothing says when it refuses, so it promises nothing.
+/// The program's own allocator. Nothing says when it refuses, so it grants nothing for certain.
 impl Memory for Global {
     ghost grants = { λ memory n. ⊥ };
 

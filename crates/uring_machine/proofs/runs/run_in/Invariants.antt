@@ -2,11 +2,11 @@ use Rattle.std.proofs.Common.{◌≡◌, ◌≤◌, ◌++◌, length, take, vec_
 use Rattle.std.specs.List.{zip}
 use Rattle.uring_core.specs.Histories.{History, history_of}
 use Rattle.uring_machine.specs.Machine.{Fits}
-use Rattle.uring_machine.proofs.runs.run.Given as goal
+use Rattle.uring_machine.proofs.runs.run_in.Given as goal
 
 -- an answer a step, room for the rest, and the history so far
 abbrev pub invariant-loop-step : goal.invariant-loop-step
-invariant-loop-step l = record {
+invariant-loop-step g l = record {
   answers : vec_len l.answers ≡ l.step-index;
   room : length l.steps ≤ vec_capacity l.answers;
   setup : l.machine.core.setup ≡ l.initial.machine.core.setup;
