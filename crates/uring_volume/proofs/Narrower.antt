@@ -1,8 +1,9 @@
 -- Which history allows no image that another doesn't: the laws of syncs and of the events that change none.
 use Rattle.std.proofs.Common.{◌≡◌, ◌==◌, ℕ, Bool, true, not, ◌&&◌, ◌||◌, List, [], ◌∷◌, ◌++◌, refl, sym, subst, ap, ◌∙◌, inl, inr}
 use Rattle.std.proofs.lemmas.Bool.{or_cases, or_left, or_right, or_from, and_right, not_from_true}
-use Rattle.uring_volume.specs.Events.{Write, History, writes, has_ended, is_before, is_covered, is_given_up, is_safe}
-use Rattle.uring_volume.specs.Events.Event.{WriteIssued, WriteEnded, SyncIssued, SyncEnded, SyncFailed}
+use Rattle.uring_volume.specs.Writes.{Write}
+use Rattle.uring_volume.specs.Events.{History, writes, has_ended, is_before, is_covered, is_given_up, is_safe}
+use Rattle.uring_volume.specs.declared.event.Event.TheVariants.{WriteIssued, WriteEnded, SyncIssued, SyncEnded, SyncFailed}
 use Rattle.uring_volume.specs.Images.{IsIn, IsInOrder, MayBeLeft, IsImage}
 use Rattle.uring_volume.specs.Laws.{SyncAddsNone, ChangesNone, FailedIsNeverSafe}
 

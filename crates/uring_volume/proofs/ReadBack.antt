@@ -3,7 +3,8 @@ use Rattle.std.proofs.Common.{◌≡◌, ◌==◌, ◌<◌, ◌≤◌, ◌+◌, 
 use Rattle.std.specs.Prelude.{slice_index}
 use Rattle.std.proofs.lemmas.Bool.{and_from, and_parts, both_ways, false_from_ne_true, cond-true, cond-false, le-leb, lt-ltb, leb-true, ltb-true, ne_eqb}
 use Rattle.std.proofs.Math.Nat.{mul-div-le, lt-div-mul-add}
-use Rattle.uring_volume.specs.Events.{Write, History, is_before}
+use Rattle.uring_volume.specs.Writes.{Write}
+use Rattle.uring_volume.specs.Events.{History, is_before}
 use Rattle.uring_volume.specs.Images.{IsIn, IsInOrder, is_under, is_on, end_of, byte_over, length_over, UnitIsLeft}
 use Rattle.uring_volume.specs.Laws.{SafeIsReadBack}
 

@@ -3,7 +3,8 @@ use Rattle.std.proofs.Common.{◌≡◌, ◌<◌, ◌≤◌, ◌/◌, ℕ, max, 
 use Rattle.std.specs.Prelude.{slice_index}
 use Rattle.std.proofs.lemmas.Bool.{cases_Bool, both_ways}
 use Rattle.std.proofs.lemmas.List.{ext_get_or}
-use Rattle.uring_volume.specs.Events.{Write, History, is_before}
+use Rattle.uring_volume.specs.Writes.{Write}
+use Rattle.uring_volume.specs.Events.{History, is_before}
 use Rattle.uring_volume.specs.Images.{IsIn, IsInOrder, is_under, is_on, end_of, byte_over, length_over, MayBeLeft, UnitIsLeft}
 use Rattle.uring_volume.specs.Laws.{IsAtRest, RestHasOneImage}
 use Rattle.uring_volume.proofs.ReadBack.{none_over, last_over, len_grows, end_within}

@@ -4,12 +4,13 @@ use Rattle.std.specs.Prelude.{slice_index}
 use Rattle.std.specs.List.{filter}
 use Rattle.std.proofs.lemmas.Bool.{cases_Bool, both_ways, false_from_ne_true, cond-true, cond-false, cond_both, lt-ltb, ltb-true}
 use Rattle.std.proofs.Math.Nat.{mul-div-le, lt-div-mul-add, div-div-eq-div-mul, mul-le-mul_left}
-use Rattle.uring_volume.specs.Events.{Write, History}
+use Rattle.uring_volume.specs.Writes.{Write}
+use Rattle.uring_volume.specs.Events.{History}
 use Rattle.uring_volume.specs.Images.{IsIn, IsInOrder, is_under, is_on, byte_over, UnitIsLeft}
 use Rattle.uring_volume.specs.Laws.{SmallerUnitsAllowIt}
 use Rattle.uring_volume.proofs.ReadBack.{on_from}
 
-in_filter : (p : Write → Bool) (x : Write) (xs : List Write) → IsIn x xs → p x ≡ true
+pub in_filter : (p : Write → Bool) (x : Write) (xs : List Write) → IsIn x xs → p x ≡ true
     → IsIn x (filter p xs)
 in_filter p x [] among is = absurd among
 in_filter p x (y ∷ ys) (inl same) is =
@@ -17,7 +18,7 @@ in_filter p x (y ∷ ys) (inl same) is =
 in_filter p x (y ∷ ys) (inr more) is =
     cond_both (p y) (y ∷ filter p ys) (filter p ys) (λ zs. IsIn x zs) (λ _. inr (in_filter p x ys more is)) (λ _. in_filter p x ys more is)
 
-of_filter : (p : Write → Bool) (x : Write) (xs : List Write) → IsIn x (filter p xs)
+pub of_filter : (p : Write → Bool) (x : Write) (xs : List Write) → IsIn x (filter p xs)
     → IsIn x xs × (p x ≡ true)
 of_filter p x [] among = absurd among
 of_filter p x (y ∷ ys) among =
@@ -33,7 +34,7 @@ of_filter p x (y ∷ ys) among =
           (inr (of_filter p x ys more).0, (of_filter p x ys more).1)
     ]
 
-filter_in_order : (h : History) (p : Write → Bool) (xs : List Write) → IsInOrder h xs
+pub filter_in_order : (h : History) (p : Write → Bool) (xs : List Write) → IsInOrder h xs
     → IsInOrder h (filter p xs)
 filter_in_order h p [] o = tt
 filter_in_order h p (y ∷ ys) o =

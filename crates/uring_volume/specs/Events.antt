@@ -1,24 +1,8 @@
 -- What happened to one file: its writes and its syncs, as they were issued and as they ended. Which writes are safe.
 use Rattle.std.specs.Prelude.{ℕ, Bool, false, not, ◌&&◌, ◌||◌, ◌==◌, List, [], ◌∷◌}
-
--- A write of a file.
-pub record Write : Type 0 where
-  -- by which its end names it: no two writes of a file have the same number
-  pub number : ℕ
-  -- the offset of its first byte
-  pub off : ℕ
-  -- the bytes that it writes
-  pub bytes : List ℕ
-
--- An event: a write or a sync is issued, or it ends. A sync is named by a number, as a write is.
-pub data Event : Type 0 where
-  WriteIssued : Write → Event
-  WriteEnded : ℕ → Event
-  SyncIssued : ℕ → Event
-  -- with success
-  SyncEnded : ℕ → Event
-  -- with an error
-  SyncFailed : ℕ → Event
+use Rattle.uring_volume.specs.Writes.{Write}
+use Rattle.uring_volume.specs.declared.event.Event.{Event}
+use Rattle.uring_volume.specs.declared.event.Event.TheVariants.{WriteIssued, WriteEnded, SyncIssued, SyncEnded, SyncFailed}
 
 -- the events of a file, the newest first
 abbrev pub History : Type 0

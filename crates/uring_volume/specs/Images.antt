@@ -1,6 +1,7 @@
 -- What a crash may leave of a file: an image of it. A unit is a number of bytes that begins at a multiple of its size; each unit of the file is left as some of the writes make it, whatever becomes of the other units.
 use Rattle.std.specs.Prelude.{◌≡◌, ℕ, ◌+◌, ◌-◌, ◌*◌, ◌/◌, ◌<◌, Bool, true, false, ◌&&◌, ◌==◌, nat_le, nat_lt, min, max, List, [], ◌∷◌, length, slice_index, if◌then◌else◌, ◌⊎◌}
-use Rattle.uring_volume.specs.Events.{Write, History, writes, is_before, is_safe}
+use Rattle.uring_volume.specs.Writes.{Write}
+use Rattle.uring_volume.specs.Events.{History, writes, is_before, is_safe}
 
 -- x is one of these
 abbrev pub IsIn : {X : Type 0} → X → List X → Type 0

@@ -1,8 +1,11 @@
 -- What follows from the definition of an image.
 use Rattle.std.specs.Prelude.{◌≡◌, ◌≢◌, ◌↔◌, ◌⊎◌, ℕ, ◌+◌, ◌*◌, ◌<◌, true, false, List, ◌∷◌, ◌++◌, length, slice_index}
-use Rattle.uring_volume.specs.Events.{Write, Event, History, writes, is_before, is_covered, is_safe}
-use Rattle.uring_volume.specs.Events.Event.{SyncEnded, SyncFailed}
+use Rattle.uring_volume.specs.Writes.{Write}
+use Rattle.uring_volume.specs.declared.event.Event.{Event}
+use Rattle.uring_volume.specs.Events.{History, writes, is_before, is_covered, is_safe}
+use Rattle.uring_volume.specs.declared.event.Event.TheVariants.{SyncEnded, SyncFailed}
 use Rattle.uring_volume.specs.Images.{IsIn, is_under, IsImage}
+use Rattle.uring_volume.specs.Choices.{IsLawful, IsChosen}
 
 -- A write that is to be found after each crash: it is safe, and each other write of a byte of it had ended when it was issued.
 pub record IsKept (h : History) (w : Write) : Type 0 where
@@ -54,3 +57,15 @@ abbrev pub RestHasOneImage : Type 0
 RestHasOneImage = (u : ℕ) (first : List ℕ) (h : History) (now other : List ℕ)
     → 0 < u → IsAtRest h → IsImage u first h now → IsImage u first h other
     → now ≡ other
+
+-- whatever the choices are, an image is left
+abbrev pub ChosenIsImage : Type 0
+ChosenIsImage = (u : ℕ) (first : List ℕ) (h : History) (choices : ℕ → List ℕ) (whole now : List ℕ)
+    → 0 < u → IsLawful h → IsChosen u first h choices whole now
+    → IsImage u first h now
+
+-- each image is left by some choices
+abbrev pub ImageIsChosen : Type 0
+ImageIsChosen = (u : ℕ) (first : List ℕ) (h : History) (now : List ℕ)
+    → 0 < u → IsLawful h → IsImage u first h now
+    → (choices : ℕ → List ℕ) × (whole : List ℕ) × IsChosen u first h choices whole now

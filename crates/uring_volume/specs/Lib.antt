@@ -1,3 +1,5 @@
+pub mod Writes
 pub mod Events
 pub mod Images
+pub mod Choices
 pub mod Laws

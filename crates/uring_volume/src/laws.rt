@@ -1,8 +1,8 @@
 //! What holds of each image: laws of the definitions alone, each a function with no code, whose clauses say the law.
 
 ghost use Rattle.std.specs.Prelude.{ℕ};
-ghost use Rattle.uring_volume.specs.Events.Event.{WriteEnded, SyncIssued, SyncFailed};
-ghost use Rattle.uring_volume.specs.Laws.{SafeIsReadBack, SyncAddsNone, ChangesNone, FailedIsNeverSafe, SmallerUnitsAllowIt, RestHasOneImage};
+ghost use Rattle.uring_volume.specs.declared.event.Event.TheVariants.{WriteEnded, SyncIssued, SyncFailed};
+ghost use Rattle.uring_volume.specs.Laws.{SafeIsReadBack, SyncAddsNone, ChangesNone, FailedIsNeverSafe, SmallerUnitsAllowIt, RestHasOneImage, ChosenIsImage, ImageIsChosen};
 
 /// A safe write is read back after each crash, if each other write that overlaps it had ended when it was issued.
 pub fn safe_is_read_back()
@@ -34,4 +34,10 @@ pub fn smaller_units_allow_it()
 /// If each write is safe, and of two that overlap one had ended when the other was issued, a crash leaves one image.
 pub fn rest_has_one_image()
     ensures { RestHasOneImage }
+{}
+
+/// Whatever numbers choose what is left, they leave an image; and each image is left by some numbers.
+pub fn choices_leave_the_images()
+    ensures sound { ChosenIsImage }
+    ensures complete { ImageIsChosen }
 {}

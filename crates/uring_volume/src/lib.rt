@@ -1,4 +1,9 @@
-//! What a power failure leaves of a file: which images may be found, by the writes and syncs that were made. The definitions, and the laws that follow from them. It stands on std alone.
+//! What a power failure leaves of a file: which images may be found, by the writes and syncs that were made, and which writes are safe. It stands on std alone.
 #![tactic(auto)]
 
+mod event;
 pub mod laws;
+mod standing;
+
+pub use event::{Event, Piece};
+pub use standing::{is_before, is_covered, is_safe};

@@ -1,0 +1,7 @@
+-- A list of events, the newest first, grows by one at its head.
+use Rattle.std.proofs.Common.{◌≡◌, ◌<◌, ◌+◌, ℕ, List, [], ◌∷◌, ◌++◌, length, get_or, take, reverse, ap, ◌∙◌}
+use Rattle.std.proofs.lemmas.List.{take_more, reverse-append}
+
+pub newest : {X : Type 0} (xs : List X) (i : ℕ) (d : X) → i < length xs
+    → reverse (take (i + 1) xs) ≡ get_or xs i d ∷ reverse (take i xs)
+newest xs i d within = ap reverse (take_more xs i d within) ∙ reverse-append (take i xs) (get_or xs i d ∷ [])

@@ -1,0 +1,9 @@
+use Rattle.std.proofs.Common.{◌≡◌, take, reverse}
+use Rattle.uring_volume.specs.Events.{has_ended, is_covered}
+use Rattle.uring_volume.proofs.standing.is_covered.Given as goal
+
+abbrev pub invariant-loop-event : goal.invariant-loop-event
+invariant-loop-event l = record {
+  ended : l.ended ≡ has_ended (reverse (take l.event-index l.events)) l.n;
+  covered : l.covered ≡ is_covered (reverse (take l.event-index l.events)) l.s l.n;
+}

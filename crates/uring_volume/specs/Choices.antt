@@ -1,0 +1,57 @@
+-- How a choice of numbers leaves an image: for each unit, and for the length, it names the writes that are left, one after the other.
+use Rattle.std.specs.Prelude.{◌≡◌, ℕ, ◌+◌, ◌<◌, ◌/◌, Bool, true, false, not, ◌==◌, List, [], ◌∷◌, ◌++◌, length, slice_index, if◌then◌else◌}
+use Rattle.std.specs.List.{list_any, filter}
+use Rattle.uring_volume.specs.Writes.{Write}
+use Rattle.uring_volume.specs.declared.event.Event.{Event}
+use Rattle.uring_volume.specs.declared.event.Event.TheVariants.{WriteIssued}
+use Rattle.uring_volume.specs.Events.{History, writes, has_ended, is_before, is_safe}
+use Rattle.uring_volume.specs.Images.{IsIn, is_on, byte_over, length_over}
+
+-- No write is issued under a number that another had, or that has ended.
+abbrev pub IsLawful : History → Type 0
+IsLawful [] = Unit {0}
+IsLawful (WriteIssued w ∷ earlier) =
+    ((v : Write) → IsIn v (writes earlier) → v.number ≡ w.number → ⊥)
+    × (has_ended earlier w.number ≡ false)
+    × IsLawful earlier
+IsLawful (_ ∷ earlier) = IsLawful earlier
+
+-- the writes that were issued, the oldest first
+abbrev pub issued : History → List Write
+issued [] = []
+issued (WriteIssued w ∷ earlier) = issued earlier ++ w ∷ []
+issued (_ ∷ earlier) = issued earlier
+
+-- whether one of these writes is before write n
+abbrev pub waits_for_one : History → List Write → ℕ → Bool
+waits_for_one h rest n = list_any (λ m. is_before h m.number n) rest
+
+-- whether one of these writes is safe
+abbrev pub has_safe : History → List Write → Bool
+has_safe h rest = list_any (λ w. is_safe h w.number) rest
+
+-- these writes up to the last safe one
+abbrev pub up_to_safe : History → List Write → List Write
+up_to_safe h [] = []
+up_to_safe h (w ∷ later) = if has_safe h (w ∷ later) then w ∷ up_to_safe h later else []
+
+-- of these writes the one of number n, and the others
+abbrev pub named : ℕ → List Write → List Write
+named n rest = filter (λ w. w.number == n) rest
+
+abbrev pub without : ℕ → List Write → List Write
+without n rest = filter (λ w. not (w.number == n)) rest
+
+-- The writes that a choice leaves of these: that of each number in turn, if it is there and waits for none of those that are there; a number that names no such write is passed over. Then follow, of those that are still there, the ones up to the last safe one.
+abbrev pub chosen : History → List Write → List ℕ → List Write
+chosen h rest [] = up_to_safe h rest
+chosen h rest (n ∷ more) =
+    if waits_for_one h rest n then chosen h rest more
+    else named n rest ++ chosen h (without n rest) more
+
+-- The image that choices leave: one for each unit, and one for the length.
+pub record IsChosen (u : ℕ) (first : List ℕ) (h : History) (choices : ℕ → List ℕ) (whole : List ℕ) (now : List ℕ) : Type 0 where
+  pub len : length now ≡ length_over (length first) (chosen h (issued h) whole)
+  pub bytes : (k : ℕ) → k < length now
+      → slice_index now k
+      ≡ byte_over (slice_index first k) (chosen h (filter (is_on u (k / u)) (issued h)) (choices (k / u))) k

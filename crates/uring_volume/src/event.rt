@@ -1,0 +1,60 @@
+//! What happens to a file: writes and syncs, as they are issued and as they end.
+
+ghost use Rattle.std.specs.Prelude.{◌≡◌, ◌+◌, ◌<◌, ◌^◌, length};
+
+use std::marker::Model;
+
+/// A write as it was issued. It has a number of its own, by which its end names it, and ends below 2^63.
+#[derive(Debug, Drop)]
+pub struct Piece {
+    number: u64,
+    off: u64,
+    bytes: Vec<u8>,
+}
+
+impl Model for Piece {
+    ghost use Rattle.std.specs.Prelude.{◌+◌, ◌<◌, ◌^◌, length};
+    ghost use Rattle.uring_volume.specs.Writes.{Write};
+
+    ghost Value = { Write };
+
+    ghost view = { λ p. record { number = p.number; off = p.off; bytes = p.bytes.items } };
+
+    ghost invariant = { λ p. p.off + length p.bytes.items < 2 ^ 63 };
+}
+
+/// An event of a file. Writes and syncs are named by numbers.
+#[derive(Debug, Drop)]
+pub enum Event {
+    /// A write was issued.
+    WriteIssued(Piece),
+
+    /// The write of this number ended.
+    WriteEnded(u64),
+
+    /// The sync of this number was issued.
+    SyncIssued(u64),
+
+    /// The sync of this number ended with success.
+    SyncEnded(u64),
+
+    /// The sync of this number ended with an error.
+    SyncFailed(u64),
+}
+
+impl Piece {
+    /// A write of these bytes at an offset.
+    pub fn new(number: u64, off: u64, bytes: Vec<u8>) -> Piece
+        requires { off + length bytes.items < 2 ^ 63 }
+        ensures { result ≡ record { number = number; off = off; bytes = bytes.items } }
+    {
+        Piece { number, off, bytes }
+    }
+
+    /// The number by which its end names it.
+    pub fn number(&self) -> u64
+        ensures { result ≡ self.now.number }
+    {
+        self.number
+    }
+}
