@@ -105,7 +105,8 @@ impl<P: KernelPort> Kernel<P> {
         ensures err { OnErr result ((t : Tally) × Appends self.old.kept self.new.kept t) }
 
         // Its events are rows of steps, one behind the other, also if memory was refused.
-        ensures rows { RecordsTurn self.old.kept self.new.kept }
+        ensures rows { RecordsTurn self.old.kept self.new.kept self.old.intake self.old.pulled
+            self.new.pulled result }
 
         // Of each worker at most 64 results are taken in, also if memory was refused.
         ensures few_results { TakesFewResults (length self.old.lanes) self.old.kept self.new.kept }

@@ -67,7 +67,8 @@ pub fn make_turn<P: KernelPort>(
     ensures err { OnErr result ((t : Tally) × Appends kept.old kept.new t) }
 
     // Its events are rows of steps, one behind the other, also if memory was refused.
-    ensures rows { RecordsTurn kept.old kept.new }
+    ensures rows { RecordsTurn kept.old kept.new intake.old (P.pulled port.old)
+        (P.pulled port.new) result }
 
     // Of each worker at most 64 results are taken in, also if memory was refused.
     ensures few_results { TakesFewResults (length lanes.old) kept.old kept.new }
