@@ -4,6 +4,7 @@ use Rattle.uring_entry.specs.Setup.{Setup}
 use Rattle.uring_entry.specs.Submission.{dropped}
 use Rattle.uring_ports.specs.Dropped.{with_word}
 use Rattle.uring_ports.specs.Ports.{Sizes}
+use Rattle.uring_threads.specs.Delivered.{DeliversMost}
 use Rattle.uring_threads.specs.EventRows.{AreOfTurn, RecordsTurn}
 use Rattle.uring_threads.specs.Kept.{now}
 use Rattle.uring_threads.specs.Tallies.{TakesFewResults, finishes_counted, issues_counted, reaps_counted}
@@ -72,6 +73,31 @@ returns-clause-counts g c =
     c.in_ok-popped.ensures.taken c.in_ok-finished.ensures.tally c.in_ok-finished.ensures.idle c.in_ok-issued.ensures.tally c.in_ok-issued.ensures.idle c.in_ok-delivered.ensures.tally c.in_ok-delivered.ensures.idle
     in
     IfOk-weaker c.tell_dropped.result _ _ (λ made same. subst (λ t. Counts c.args.kept.now c.deliver.new.kept t) (sym same) counted) c.tell_dropped.ensures.turn
+
+pub returns-in_err-popped-clause-most : goal.returns-in_err-popped-clause-most
+returns-in_err-popped-clause-most g c =
+    IfOk-from_err c.from_residual.result _ c.from_residual.ensures.0
+
+pub returns-in_err-finished-clause-most : goal.returns-in_err-finished-clause-most
+returns-in_err-finished-clause-most g c =
+    IfOk-from_err c.from_residual-in_err-finished.result _ c.from_residual-in_err-finished.ensures.0
+
+pub returns-in_err-issued-clause-most : goal.returns-in_err-issued-clause-most
+returns-in_err-issued-clause-most g c =
+    IfOk-from_err c.from_residual-in_err-issued.result _ c.from_residual-in_err-issued.ensures.0
+
+pub returns-in_err-delivered-clause-most : goal.returns-in_err-delivered-clause-most
+returns-in_err-delivered-clause-most g c =
+    IfOk-from_err c.from_residual-in_err-delivered.result _ c.from_residual-in_err-delivered.ensures.0
+
+pub returns-clause-most : goal.returns-clause-most
+returns-clause-most g c =
+    let setup = c.in_ok-issued.ensures.tally.setup ∙ c.in_ok-finished.ensures.tally.setup ∙ c.in_ok-popped.ensures.taken.appends.setup in
+    let delivered = c.in_ok-delivered.delivered in
+    let most : DeliversMost (now c.deliver.new.kept).completions (g.P.KernelPort.free c.tell_dropped.new.port) c.args.kept.now.setup.cq delivered =
+    subst (λ (s : Setup). DeliversMost (now c.deliver.new.kept).completions (g.P.KernelPort.free c.tell_dropped.new.port) s.cq delivered) setup
+    (subst (λ f. DeliversMost (now c.deliver.new.kept).completions f c.issue_all.new.kept.setup.cq delivered) (sym c.tell_dropped.ensures.free) c.in_ok-delivered.ensures.most) in
+    IfOk-weaker c.tell_dropped.result _ _ (λ made same. subst (λ (t : Turn). DeliversMost (now c.deliver.new.kept).completions (g.P.KernelPort.free c.tell_dropped.new.port) c.args.kept.now.setup.cq t.delivered) (sym same) most) c.tell_dropped.ensures.turn
 
 pub returns-clause-err : goal.returns-clause-err
 returns-clause-err g c =
