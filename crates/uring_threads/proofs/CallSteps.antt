@@ -63,5 +63,5 @@ pub call_counts : (a o t e b : Kept) (count : ℕ) (x y z : Answer) → Grows a 
     → Appends o t none_counted → Grows t e (step.End, y) → Grows e b (step.LoadHead, z)
     → Appends a b call_counted
 call_counts a o t e b count x y z begin take end load =
-    let last : Appends t b none_counted = appends_then t e b none_counted none_counted none_counted (appends_one t e (step.End, y) none_counted end refl) (appends_one e b (step.LoadHead, z) none_counted load refl) refl in
-    appends_then a o b call_counted none_counted call_counted (appends_one a o (step.Begin count, x) call_counted begin refl) (appends_then o t b none_counted none_counted none_counted take last refl) refl
+    let last : Appends t b none_counted = appends_then t e b none_counted none_counted none_counted (appends_one t e (step.End, y) none_counted end refl refl) (appends_one e b (step.LoadHead, z) none_counted load refl refl) refl in
+    appends_then a o b call_counted none_counted call_counted (appends_one a o (step.Begin count, x) call_counted begin refl refl) (appends_then o t b none_counted none_counted none_counted take last refl) refl

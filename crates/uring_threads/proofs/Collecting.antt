@@ -169,7 +169,7 @@ pub collects_one : (a b c : Kept) (workers place : ℕ) (before after seen : Lis
 collects_one a b c workers place before after seen true u others (r, _, can, grows) =
     collects_then a b c workers place 0 1 1 refl (collects_none a b workers place u)
     (record {
-      tally = appends_one b c (finish_of r) (finishes_counted 1) grows refl;
+      tally = appends_one b c (finish_of r) (finishes_counted 1) grows refl refl;
       row = (r.number ∷ [], records_one b c (step.Finish r.number) (answer.Ended r.outcome.res r.outcome.bytes) grows);
       posts = posts_end b c r grows;
       idle = λ none. absurd (omega (arith, none));

@@ -31,6 +31,6 @@ module _ (a room flushed loaded reaped b : Kept) (x y z : Answer) (all : List Cq
 
   pub row_counts : (n : ℕ) → Appends loaded reaped (reaps_counted n) → Appends a b (reaps_counted n)
   row_counts n p =
-      let last : Appends loaded b (reaps_counted n) = appends_then loaded reaped b (reaps_counted n) none_counted (reaps_counted n) p (appends_one reaped b (step.StoreCqHead, z) none_counted store refl) (reaps_are (n + 0) n (omega arith)) in
-      let later : Appends flushed b (reaps_counted n) = appends_then flushed loaded b none_counted (reaps_counted n) (reaps_counted n) (appends_one flushed loaded (step.LoadCqTail, y) none_counted load refl) last (reaps_are (0 + n) n (omega arith)) in
-      appends_behind a room b (reaps_counted n) u (appends_then room flushed b none_counted (reaps_counted n) (reaps_counted n) (appends_one room flushed (step.Flush, x) none_counted flush refl) later (reaps_are (0 + n) n (omega arith)))
+      let last : Appends loaded b (reaps_counted n) = appends_then loaded reaped b (reaps_counted n) none_counted (reaps_counted n) p (appends_one reaped b (step.StoreCqHead, z) none_counted store refl refl) (reaps_are (n + 0) n (omega arith)) in
+      let later : Appends flushed b (reaps_counted n) = appends_then flushed loaded b none_counted (reaps_counted n) (reaps_counted n) (appends_one flushed loaded (step.LoadCqTail, y) none_counted load refl refl) last (reaps_are (0 + n) n (omega arith)) in
+      appends_behind a room b (reaps_counted n) u (appends_then room flushed b none_counted (reaps_counted n) (reaps_counted n) (appends_one room flushed (step.Flush, x) none_counted flush refl refl) later (reaps_are (0 + n) n (omega arith)))

@@ -35,7 +35,7 @@ module _ (a k r : Kept) (first old new : List WorkLanes) (u : IsUnmoved k r) (ma
   looked_posts posts = subst (OnlyPosts (now a)) (sym (unmoved_now k r u)) posts
 
   pub looked_tally : (t : Tally) → Appends a k t → Appends a r t
-  looked_tally t p = record { events = p.events; trace = u.trace ∙ p.trace; tally = p.tally; room = omega (arith, p.room, u.room); setup = u.setup ∙ p.setup }
+  looked_tally t p = record { events = p.events; trace = u.trace ∙ p.trace; tally = p.tally; served = p.served; room = omega (arith, p.room, u.room); setup = u.setup ∙ p.setup }
 
 -- One request more was issued.
 

@@ -1,14 +1,24 @@
 -- What each event adds to the steps of the trace, and how rows of steps add up.
-use Rattle.std.proofs.Common.{◌≡◌, ℕ, ◌+◌, ◌<◌, List, [], ◌∷◌, ◌++◌, map, take, length, inl, get_or, replicate, zero, suc, refl, sym, ap, ◌∙◌, arith, append_assoc, append-nil}
-use Rattle.std.proofs.lemmas.List.{map-append, replicate_more, take_more, length-take-le}
+use Rattle.std.proofs.Common.{◌≡◌, ℕ, ◌+◌, ◌<◌, Bool, true, false, not, cond, List, [], ◌∷◌, ◌++◌, map, take, length, count_by, inl, get_or, replicate, zero, suc, refl, sym, subst, ap, ◌∙◌, arith, append_assoc, append-nil}
+use Rattle.std.specs.Prelude.{Result, IfOk}
+use Rattle.std.proofs.lemmas.List.{append_cancel_left, map-append, replicate_more, take_more, length-take-le}
+use Rattle.std.proofs.lemmas.List.Sums.{sum_by-append}
+use Rattle.uring_core.specs.Histories.{Event}
 use Rattle.uring_core.specs.declared.step.Step.{Step}
 use Rattle.uring_core.specs.declared.step.Step.TheVariants as step
 use Rattle.uring_core.specs.declared.answer.Answer.{Answer}
 use Rattle.uring_ports.specs.declared.item.Item.{Item}
-use Rattle.uring_threads.specs.EventRows.{step_of, steps_of, Records, item_row, items_row, begin_row, call_row, delivery_row, IsAgain, IsPulled, RecordsIntake, RecordsFinishes, RecordsIssues, RecordsTurn}
+use Rattle.uring_ports.specs.declared.pulled.Pulled.{Pulled}
+use Rattle.uring_ports.specs.declared.pulled.Pulled.TheVariants as pulled
+use Rattle.uring_ports.specs.Ports.{Put, Pulls}
+use Rattle.uring_threads.specs.EventRows.{step_of, steps_of, Records, item_row, items_row, begin_row, call_row, delivery_row, AreOfTurn, IsAgain, IsPulled, IsTaken, RecordsIntake, RecordsFinishes, RecordsIssues, RecordsTurn}
 use Rattle.uring_threads.specs.Kept.{Kept, Grows, IsUnmoved}
 use Rattle.uring_threads.specs.declared.calls.Begun.{Begun}
+use Rattle.uring_threads.specs.Tallies.{Tally, Appends, finishes_counted, issues_counted, is_refused, issues_request, takes_result}
 use Rattle.uring_threads.specs.declared.calls.Begun.TheVariants as begun
+use Rattle.uring_threads.specs.declared.intake.Intake.{Intake}
+use Rattle.uring_threads.specs.declared.intake.Intake.TheVariants as intake
+use Rattle.uring_threads.specs.declared.turns.Turn.{Turn}
 
 -- one event
 pub records_one : (a b : Kept) (s : Step) (x : Answer) → Grows a b (s, x) → Records a b (s ∷ [])
@@ -95,38 +105,106 @@ pub issues_more : (a b c d : Kept) (n : ℕ) → RecordsIssues a b → IsUnmoved
     → RecordsIssues a d
 issues_more a b c d n p u q = issues_then a b d p (n ∷ [], records_then b c d [] (step.Issue n ∷ []) (records_none b c u) q)
 
+-- nothing was begun again, and nothing was pulled
+pub none_again : (i : Intake) → IsAgain i []
+none_again intake.Ready = refl
+none_again (intake.Waiting count) = inl refl
+none_again (intake.Spent count) = refl
+none_again intake.Closed = refl
+
+pub none_pulled : (size : ℕ) (put : Put) → IsPulled size put put []
+none_pulled size put = (pulled.Nothing, [], (refl, refl), refl)
+
+-- what was pulled was taken
+pub pulled_as : (from size : ℕ) (before after : Put) (what : Pulled) (items taken : List Item) (steps : List Step)
+    → from ≡ size → taken ≡ items → Pulls from before what items after → IsTaken what taken steps
+    → IsPulled size before after steps
+pulled_as from size before after what items taken steps sizes same p t =
+    (what, items, subst (λ n. Pulls n before what items after) sizes p, subst (λ xs. IsTaken what xs steps) same t)
+
 -- what waited, and what was pulled behind it
-pub intake_recorded : (a b c : Kept) (xs ys : List Step) → IsAgain xs → IsPulled ys → Records a b xs
-    → Records b c ys
-    → RecordsIntake a c
-intake_recorded a b c xs ys again pulled p q =
+pub intake_recorded : (a b c : Kept) (i : Intake) (before after : Put) (xs ys : List Step)
+    → IsAgain i xs → IsPulled a.setup.sq before after ys → Records a b xs → Records b c ys
+    → RecordsIntake a c i before after
+intake_recorded a b c i before after xs ys again pulled p q =
     record { again = xs; pulled = ys; is_again = again; is_pulled = pulled; row = records_then a b c xs ys p q }
 
 -- what waited, and nothing behind it
-pub again_recorded : (a b : Kept) → (steps : List Step) × IsAgain steps × Records a b steps
-    → RecordsIntake a b
-again_recorded a b r =
-    record { again = r.0; pulled = []; is_again = r.1; is_pulled = inl refl; row = r.2 ∙ ap (λ zs. steps_of a ++ zs) (sym (append-nil r.0)) }
+pub again_recorded : (a b : Kept) (i : Intake) (put : Put)
+    → (steps : List Step) × IsAgain i steps × Records a b steps → RecordsIntake a b i put put
+again_recorded a b i put r =
+    record { again = r.0; pulled = []; is_again = r.1; is_pulled = none_pulled a.setup.sq put; row = r.2 ∙ ap (λ zs. steps_of a ++ zs) (sym (append-nil r.0)) }
 
 -- no event at all
 pub records_nothing : (a : Kept) → Records a a []
 records_nothing a = sym (append-nil (steps_of a))
 
 -- a whole turn
-pub turn_recorded : (a b c d e : Kept) (n : ℕ) → RecordsIntake a b → RecordsFinishes b c
-    → RecordsIssues c d
-    → Records d e (delivery_row n)
-    → RecordsTurn a e
-turn_recorded a b c d e n i f s q =
+pub turn_recorded : {E : Type 0} (a b c d e : Kept) (i : Intake) (before after : Put) (n : ℕ) (answer : Result Turn E)
+    → RecordsIntake a b i before after → (f : RecordsFinishes b c) → (s : RecordsIssues c d)
+    → Records d e (delivery_row n) → IfOk answer (λ turn. AreOfTurn turn f.0 s.0 n)
+    → RecordsTurn a e i before after answer
+turn_recorded a b c d e i before after n answer r f s q told =
     record {
-      again = i.again;
-      pulled = i.pulled;
+      again = r.again;
+      pulled = r.pulled;
       finished = f.0;
       issued = s.0;
       delivered = n;
-      is_again = i.is_again;
-      is_pulled = i.is_pulled;
-      row = records_then a d e (i.again ++ i.pulled ++ map step.Finish f.0 ++ map step.Issue s.0) (delivery_row n)
-          (records_then a c d (i.again ++ i.pulled ++ map step.Finish f.0) (map step.Issue s.0)
-          (records_then a b c (i.again ++ i.pulled) (map step.Finish f.0) i.row f.1) s.1) q;
+      is_again = r.is_again;
+      is_pulled = r.is_pulled;
+      row = records_then a d e (r.again ++ r.pulled ++ map step.Finish f.0 ++ map step.Issue s.0) (delivery_row n)
+          (records_then a c d (r.again ++ r.pulled ++ map step.Finish f.0) (map step.Issue s.0)
+          (records_then a b c (r.again ++ r.pulled) (map step.Finish f.0) r.row f.1) s.1) q;
+      told = told;
     }
+
+-- How many.
+
+finish_steps : (events : List Event) (numbers : List ℕ)
+    → map step_of events ≡ map step.Finish numbers
+    → length numbers ≡ count_by takes_result events
+finish_steps [] [] e = refl
+finish_steps [] (n ∷ ns) e = absurd (cc)
+finish_steps (x ∷ es) [] e = absurd (cc)
+finish_steps ((s, a) ∷ es) (n ∷ ns) e =
+    let first : s ≡ step.Finish n = cc in
+    let rest : map step_of es ≡ map step.Finish ns = cc in
+    let one : count_by takes_result ((step.Finish n, a) ∷ es) ≡ 1 + count_by takes_result es = sum_by-append (λ e. cond (takes_result e) 1 0) ((step.Finish n, a) ∷ []) es in
+    subst (λ s. suc (length ns) ≡ count_by takes_result ((s, a) ∷ es)) (sym first) (omega (arith, one, finish_steps es ns rest))
+
+-- an Issue that wasn't refused
+issued_or : (b : Bool) → ◌≡◌ {A = ℕ} (cond (not b) 1 0) 0 → b ≡ true
+issued_or true e = refl
+issued_or false e = absurd (omega (arith, e))
+
+issue_steps : (events : List Event) (numbers : List ℕ)
+    → map step_of events ≡ map step.Issue numbers → count_by is_refused events ≡ 0
+    → length numbers ≡ count_by issues_request events
+issue_steps [] [] e served = refl
+issue_steps [] (n ∷ ns) e served = absurd (cc)
+issue_steps (x ∷ es) [] e served = absurd (cc)
+issue_steps ((s, a) ∷ es) (n ∷ ns) e served =
+    let first : s ≡ step.Issue n = cc in
+    let rest : map step_of es ≡ map step.Issue ns = cc in
+    let fine : count_by is_refused ((step.Issue n, a) ∷ es) ≡ 0 = subst (λ s. count_by is_refused ((s, a) ∷ es) ≡ 0) first served in
+    let parts : count_by is_refused ((step.Issue n, a) ∷ es) ≡ 0 + cond (not (issues_request (step.Issue n, a))) 1 0 + count_by is_refused es = sum_by-append (λ e. cond (is_refused e) 1 0) ((step.Issue n, a) ∷ []) es in
+    let one : issues_request (step.Issue n, a) ≡ true = issued_or (issues_request (step.Issue n, a)) (omega (arith, fine, parts)) in
+    let many : count_by issues_request ((step.Issue n, a) ∷ es) ≡ 1 + count_by issues_request es = sum_by-append (λ e. cond (issues_request e) 1 0) ((step.Issue n, a) ∷ []) es ∙ ap (λ (b : Bool). 0 + cond b 1 0 + count_by issues_request es) one in
+    subst (λ s. suc (length ns) ≡ count_by issues_request ((s, a) ∷ es)) (sym first) (omega (arith, many, issue_steps es ns rest (omega (arith, fine, parts))))
+
+-- the steps of the events that were appended
+appended_steps : (a b : Kept) (t : Tally) (steps : List Step) (p : Appends a b t) → Records a b steps
+    → map step_of p.events ≡ steps
+appended_steps a b t steps p r = append_cancel_left (steps_of a) (map step_of p.events) steps (sym (ap (map step_of) p.trace ∙ map-append step_of a.trace p.events) ∙ r)
+
+-- as many Finishes and Issues as were counted
+pub finishes_many : (a b : Kept) (n : ℕ) (f : RecordsFinishes a b) → Appends a b (finishes_counted n)
+    → length f.0 ≡ n
+finishes_many a b n f p =
+    finish_steps p.events f.0 (appended_steps a b (finishes_counted n) (map step.Finish f.0) p f.1) ∙ ap (λ (t : Tally). t.finishes) p.tally
+
+pub issues_many : (a b : Kept) (n : ℕ) (s : RecordsIssues a b) → Appends a b (issues_counted n)
+    → length s.0 ≡ n
+issues_many a b n s p =
+    issue_steps p.events s.0 (appended_steps a b (issues_counted n) (map step.Issue s.0) p s.1) p.served ∙ ap (λ (t : Tally). t.issues) p.tally

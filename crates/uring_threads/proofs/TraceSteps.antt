@@ -1,5 +1,5 @@
 -- What a step makes of the trace's world, and how tallies add up.
-use Rattle.std.proofs.Common.{◌≡◌, ◌+◌, List, [], ◌∷◌, ◌++◌, length, cond, refl, sym, ap, ap₂, ◌∙◌, arith, append_assoc, append-nil}
+use Rattle.std.proofs.Common.{◌≡◌, ◌+◌, List, [], ◌∷◌, ◌++◌, length, count_by, cond, refl, sym, ap, ap₂, ◌∙◌, arith, append_assoc, append-nil}
 use Rattle.std.proofs.lemmas.List.{length_push}
 use Rattle.std.proofs.lemmas.List.Sums.{sum_by-append}
 use Rattle.uring_entry.specs.Setup.{Setup}
@@ -9,7 +9,7 @@ use Rattle.uring_core.proofs.Following.{history_of-snoc}
 use Rattle.uring_core.specs.declared.step.Step.{Step}
 use Rattle.uring_core.specs.declared.answer.Answer.{Answer}
 use Rattle.uring_threads.specs.Kept.{Kept, now, Grows, IsUnmoved}
-use Rattle.uring_threads.specs.Tallies.{Tally, tally_of, both, none_counted, Appends, stages_item, issues_request, takes_result, reaps_completion, begins_call, closes_ring}
+use Rattle.uring_threads.specs.Tallies.{Tally, tally_of, both, none_counted, Appends, stages_item, issues_request, takes_result, reaps_completion, begins_call, closes_ring, is_refused}
 
 -- the world after one event more
 pub grown : (a b : Kept) (s : Step) (x : Answer) → Grows a b (s, x)
@@ -40,11 +40,13 @@ tally-append es fs =
 
 -- one event
 pub appends_one : (a b : Kept) (e : Event) (t : Tally) → Grows a b e → tally_of (e ∷ []) ≡ t
+    → count_by is_refused (e ∷ []) ≡ 0
     → Appends a b t
-appends_one a b e t g counted = record {
+appends_one a b e t g counted served = record {
   events = e ∷ [];
   trace = g.trace;
   tally = counted;
+  served = served;
   room = g.room;
   setup = g.setup;
 }
@@ -55,6 +57,7 @@ appends_none a b u = record {
   events = [];
   trace = u.trace ∙ sym (append-nil a.trace);
   tally = refl;
+  served = refl;
   room = u.room;
   setup = u.setup;
 }
@@ -67,6 +70,7 @@ appends_then a b c t u v p q sums =
       events = p.events ++ q.events;
       trace = q.trace ∙ ap (λ es. es ++ q.events) p.trace ∙ append_assoc a.trace p.events q.events;
       tally = tally-append p.events q.events ∙ ap₂ both p.tally q.tally ∙ sums;
+      served = sum_by-append (λ e. cond (is_refused e) 1 0) p.events q.events ∙ ap₂ (λ m n. m + n) p.served q.served;
       room = omega (arith, p.room, q.room);
       setup = q.setup ∙ p.setup;
     }
@@ -74,4 +78,4 @@ appends_then a b c t u v p q sums =
 -- behind where nothing happened
 pub appends_behind : (a b c : Kept) (t : Tally) → IsUnmoved a b → Appends b c t → Appends a c t
 appends_behind a b c t u q =
-    record { events = q.events; trace = q.trace ∙ ap (λ es. es ++ q.events) u.trace; tally = q.tally; room = omega (arith, u.room, q.room); setup = q.setup ∙ u.setup }
+    record { events = q.events; trace = q.trace ∙ ap (λ es. es ++ q.events) u.trace; tally = q.tally; served = q.served; room = omega (arith, u.room, q.room); setup = q.setup ∙ u.setup }

@@ -237,7 +237,7 @@ tied_shut a b x before after i ready g called tied pulled =
 
 -- what that appended
 pub takes_shut : (a b : Kept) (x : Answer) → Grows a b (step.Close, x) → TakesIn a b 0
-takes_shut a b x g = takes_close a b (appends_one a b (step.Close, x) close_counted g refl)
+takes_shut a b x g = takes_close a b (appends_one a b (step.Close, x) close_counted g refl refl)
 
 -- what a pull took in behind a retry
 pub ok_then : {E : Type 0} (r : Result ℕ E) (a b c : Kept) → TakesIn a b 0

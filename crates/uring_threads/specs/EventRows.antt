@@ -1,13 +1,19 @@
 -- The rows of steps that the dispatcher records: our own rule.
-use Rattle.std.specs.Prelude.{◌≡◌, ◌⊎◌, ℕ, zero, suc, ◌+◌, List, [], ◌∷◌, ◌++◌, length, map, replicate}
+use Rattle.std.specs.Prelude.{◌≡◌, ◌⊎◌, ℕ, zero, suc, ◌+◌, List, [], ◌∷◌, ◌++◌, length, map, replicate, Result, IfOk}
 use Rattle.uring_core.specs.Histories.{Event}
 use Rattle.uring_core.specs.declared.step.Step.{Step}
 use Rattle.uring_core.specs.declared.step.Step.TheVariants as step
 use Rattle.uring_ports.specs.declared.item.Item.{Item}
 use Rattle.uring_ports.specs.declared.item.Item.TheVariants as item
+use Rattle.uring_ports.specs.declared.pulled.Pulled.{Pulled}
+use Rattle.uring_ports.specs.declared.pulled.Pulled.TheVariants as pulled
+use Rattle.uring_ports.specs.Ports.{Put, Pulls}
 use Rattle.uring_threads.specs.Kept.{Kept}
 use Rattle.uring_threads.specs.declared.calls.Begun.{Begun}
 use Rattle.uring_threads.specs.declared.calls.Begun.TheVariants as begun
+use Rattle.uring_threads.specs.declared.intake.Intake.{Intake}
+use Rattle.uring_threads.specs.declared.intake.Intake.TheVariants as intake
+use Rattle.uring_threads.specs.declared.turns.Turn.{Turn}
 
 -- the step of an event
 abbrev pub step_of : Event → Step
@@ -48,21 +54,30 @@ delivery_row zero = []
 delivery_row (suc more) =
     step.Flush ∷ step.LoadCqTail ∷ replicate (suc more) step.Reap ++ step.StoreCqHead ∷ []
 
--- A call that waits is begun once more, or nothing is.
-abbrev pub IsAgain : List Step → Type 0
-IsAgain steps = (steps ≡ []) ⊎ ((count : ℕ) × (begun : Begun) × (steps ≡ begin_row count begun))
+-- The call that waits, if one does, is begun once more, or nothing is.
+abbrev pub IsAgain : Intake → List Step → Type 0
+IsAgain (intake.Waiting count) steps =
+    (steps ≡ []) ⊎ ((begun : Begun) × (steps ≡ begin_row count begun))
+IsAgain _ steps = steps ≡ []
 
--- A call that was pulled is put and begun, or the ring is closed, or nothing was pulled.
-abbrev pub IsPulled : List Step → Type 0
-IsPulled steps = (steps ≡ []) ⊎ (steps ≡ step.Close ∷ [])
-    ⊎ ((items : List Item) × (begun : Begun) × (steps ≡ call_row items begun))
+-- What was pulled is taken: a call is put and begun, or the ring is closed, or nothing is done.
+abbrev pub IsTaken : Pulled → List Item → List Step → Type 0
+IsTaken pulled.Call items steps = (begun : Begun) × (steps ≡ call_row items begun)
+IsTaken pulled.Close items steps = steps ≡ step.Close ∷ []
+IsTaken pulled.Nothing items steps = steps ≡ []
 
--- The rows of a turn's first part: a call that waits, and what was pulled behind it.
-pub record RecordsIntake (old new : Kept) : Type 0 where
+-- One call was pulled of a ring of this size, or the close mark, or nothing, and that is taken.
+abbrev pub IsPulled : ℕ → Put → Put → List Step → Type 0
+IsPulled size before after steps =
+    (what : Pulled) × (items : List Item) × Pulls size before what items after
+    × IsTaken what items steps
+
+-- The rows of a turn's first part: the call that waits, and what was pulled behind it.
+pub record RecordsIntake (old new : Kept) (i : Intake) (before after : Put) : Type 0 where
   pub again : List Step
   pub pulled : List Step
-  pub is_again : IsAgain again
-  pub is_pulled : IsPulled pulled
+  pub is_again : IsAgain i again
+  pub is_pulled : IsPulled old.setup.sq before after pulled
   pub row : Records old new (again ++ pulled)
 
 -- Results are taken in, each by a Finish, and nothing else is recorded.
@@ -73,15 +88,22 @@ RecordsFinishes old new = (numbers : List ℕ) × Records old new (map step.Fini
 abbrev pub RecordsIssues : Kept → Kept → Type 0
 RecordsIssues old new = (numbers : List ℕ) × Records old new (map step.Issue numbers)
 
--- The rows of a turn: a call that waits, what was pulled, results that are taken in, requests that are issued, and completions that are delivered. Each may be missing, and nothing else is recorded.
-pub record RecordsTurn (old new : Kept) : Type 0 where
+-- So many results, issues and completions are those of a turn.
+pub record AreOfTurn (turn : Turn) (finished issued : List ℕ) (delivered : ℕ) : Type 0 where
+  pub finishes : length finished ≡ turn.finished
+  pub issues : length issued ≡ turn.issued
+  pub reaps : delivered ≡ turn.delivered
+
+-- The rows of a turn with this answer: the call that waited, if one did, what was pulled, results that are taken in, requests that are issued, and completions that are delivered, as many as the answer says, if it is Ok. Each may be missing, and nothing else is recorded.
+pub record RecordsTurn {E : Type 0} (old new : Kept) (i : Intake) (before after : Put) (answer : Result Turn E) : Type 0 where
   pub again : List Step
   pub pulled : List Step
   pub finished : List ℕ
   pub issued : List ℕ
   pub delivered : ℕ
-  pub is_again : IsAgain again
-  pub is_pulled : IsPulled pulled
+  pub is_again : IsAgain i again
+  pub is_pulled : IsPulled old.setup.sq before after pulled
   pub row : Records old new
       (again ++ pulled ++ map step.Finish finished ++ map step.Issue issued
       ++ delivery_row delivered)
+  pub told : IfOk answer (λ turn. AreOfTurn turn finished issued delivered)

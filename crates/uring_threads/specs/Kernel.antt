@@ -10,7 +10,7 @@ use Rattle.uring_threads.specs.Turns.{AreTies}
 use Rattle.uring_threads.specs.declared.intake.Intake.{Intake}
 use Rattle.uring_workers.specs.declared.work_lanes.WorkLanes.{WorkLanes}
 
--- The trace; how the intake stands; the lanes of the workers; and of the port its pairing and sizes, all that it pulled, all that it delivered, and every dropped word that it stored, without a list if no such word lies between the ends.
+-- The trace; how the intake stands; the lanes of the workers; and of the port its pairing and sizes, all that it pulled, all that it delivered, how many completions more there is certainly room for, and every dropped word that it stored, without a list if no such word lies between the ends.
 pub record Kernel : Type 0 where
   pub kept : Kept
   pub intake : Intake
@@ -19,6 +19,7 @@ pub record Kernel : Type 0 where
   pub sizes : Sizes
   pub pulled : Put
   pub reaped : List Cqe
+  pub free : ℕ
   pub dropped : Option (List ℕ)
 
 -- The port has the sizes of the rings, there are 1 to 8 workers, each with a lane for 64 jobs and one for at most 64 results, and the trace has all that went through the dispatcher's hands.

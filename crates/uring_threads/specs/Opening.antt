@@ -23,6 +23,7 @@ kernel_at_first g pairing k = record {
   sizes = sizes_of g;
   pulled = nothing_put;
   reaped = [];
+  free = k.free;
   dropped = k.dropped;
 }
 

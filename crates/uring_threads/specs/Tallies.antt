@@ -1,7 +1,8 @@
 -- What is counted of the events that the dispatcher appends to its trace.
-use Rattle.std.specs.Prelude.{◌≡◌, ℕ, ◌+◌, ◌≤◌, Bool, true, false, List, ◌++◌, length, count_by}
+use Rattle.std.specs.Prelude.{◌≡◌, ℕ, ◌+◌, ◌≤◌, Bool, true, false, not, List, ◌++◌, length, count_by}
 use Rattle.uring_core.specs.Histories.{Event, history_of}
 use Rattle.uring_core.specs.declared.step.Step.TheVariants as step
+use Rattle.uring_core.specs.declared.answer.Answer.{Answer}
 use Rattle.uring_core.specs.declared.answer.Answer.TheVariants as answer
 use Rattle.uring_threads.specs.Kept.{Kept}
 use Rattle.uring_threads.specs.Dealt.{done_by_worker}
@@ -41,6 +42,18 @@ begins_call _ = false
 abbrev pub closes_ring : Event → Bool
 closes_ring (step.Close, a) = true
 closes_ring _ = false
+
+-- an end, with any result
+abbrev pub is_end : Answer → Bool
+is_end (answer.Ended res bytes) = true
+is_end _ = false
+
+-- a step was refused: a Finish that ends no request, an Issue that neither starts nor ends one, or a Reap that takes no completion
+abbrev pub is_refused : Event → Bool
+is_refused (step.Finish n, a) = not (is_end a)
+is_refused (step.Issue n, a) = not (issues_request (step.Issue n, a))
+is_refused (step.Reap, a) = not (reaps_completion (step.Reap, a))
+is_refused _ = false
 
 -- How many events there are of each of these kinds.
 pub record Tally : Type 0 where
@@ -113,11 +126,12 @@ whole_call_counted n = record {
   closes = 0;
 }
 
--- The trace goes on with events of this tally, behind all others.
+-- The trace goes on with events of this tally, behind all others. No result that it takes in, no issue and no reap of them was refused.
 pub record Appends (old new : Kept) (t : Tally) : Type 0 where
   pub events : List Event
   pub trace : new.trace ≡ old.trace ++ events
   pub tally : tally_of events ≡ t
+  pub served : count_by is_refused events ≡ 0
   pub room : old.room ≤ new.room
   pub setup : new.setup ≡ old.setup
 

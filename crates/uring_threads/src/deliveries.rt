@@ -1,7 +1,7 @@
 //! Completions that the dispatcher delivers: the application reaps them as they are handed to its port.
 ghost use Rattle.std.specs.Prelude.{◌≡◌, ◌+◌, ◌≤◌, length, replicate, IfOk, OnErr};
 ghost use Rattle.uring_core.specs.declared.step.Step.TheVariants as step;
-ghost use Rattle.uring_threads.specs.Delivered.{KeepsAllBut, on_completions, with_reaped_all};
+ghost use Rattle.uring_threads.specs.Delivered.{DeliversMost, KeepsAllBut, on_completions, with_reaped_all};
 ghost use Rattle.uring_threads.specs.Turns.{IsDelivered};
 ghost use Rattle.uring_threads.specs.EventRows.{Records, delivery_row};
 ghost use Rattle.uring_threads.specs.Kept.{now, IsUnmoved};
@@ -24,6 +24,7 @@ fn reap_all<P: KernelPort>(kept: &mut Kept, port: &mut P, count: u64)
         ≡ on_completions (now kept.old)
         (with_reaped_all (now kept.old).completions (P.delivered port.new)) }
     ensures delivered { length (P.delivered port.new) ≡ length (P.delivered port.old) + count }
+    ensures free { P.free port.new + count ≡ P.free port.old }
     ensures tally { Appends kept.old kept.new (reaps_counted count) }
     ensures row { Records kept.old kept.new (replicate count step.Reap) }
     ensures length { length kept.new.trace ≤ length kept.old.trace + count }
@@ -58,6 +59,10 @@ pub fn deliver<P: KernelPort>(kept: &mut Kept, port: &mut P) -> Result<u64, Allo
     ensures all { IfOk result
         (λ n. length (now kept.old).completions.posted ≤ kept.old.setup.cq
         → length (P.delivered port.new) ≡ length (now kept.old).completions.posted) }
+
+    // And else as many as the port shows room for, or as the ring holds.
+    ensures most { IfOk result
+        (λ n. DeliversMost (now kept.new).completions (P.free port.new) kept.old.setup.cq n) }
     ensures err { OnErr result (IsUnmoved kept.old kept.new) }
 
     // Nothing else of the port changes.

@@ -2,7 +2,7 @@
 ghost use Rattle.std.specs.Prelude.{◌≡◌, ◌+◌, ◌*◌, ◌≤◌, List, length, IfOk, OnErr, vec_capacity};
 ghost use Rattle.uring_ports.specs.Ports.{Put, Pulls};
 ghost use Rattle.uring_core.specs.declared.step.Step.{Step};
-ghost use Rattle.uring_threads.specs.EventRows.{Records, RecordsIntake, IsAgain, IsPulled};
+ghost use Rattle.uring_threads.specs.EventRows.{Records, RecordsIntake, IsAgain, IsPulled, IsTaken};
 ghost use Rattle.uring_threads.specs.Kept.{now};
 ghost use Rattle.uring_threads.specs.Taking.{TakesIn, intake_after};
 ghost use Rattle.uring_threads.specs.Turns.{ClosesOnce, Tied};
@@ -58,7 +58,8 @@ fn retry(kept: &mut Kept, intake: &mut Intake) -> Result<(), AllocError>
         → Tied kept.old.setup.sq (now kept.new) put intake.new }
     ensures completions { (now kept.new).completions ≡ (now kept.old).completions }
     ensures taken { TakesIn kept.old kept.new 0 }
-    ensures row { (steps : List Step) × IsAgain steps × Records kept.old kept.new steps }
+    ensures row { (steps : List Step) × IsAgain intake.old steps
+        × Records kept.old kept.new steps }
     ensures once { ClosesOnce kept.old intake.old → ClosesOnce kept.new intake.new }
 {
     if let Intake::Waiting(count) = *intake {
@@ -80,7 +81,8 @@ fn take_pulled(kept: &mut Kept, items: &[Item], intake: &mut Intake, pulled: Pul
         → Tied kept.old.setup.sq (now kept.new) after intake.new }
     ensures completions { (now kept.new).completions ≡ (now kept.old).completions }
     ensures taken { TakesIn kept.old kept.new result }
-    ensures row { (steps : List Step) × IsPulled steps × Records kept.old kept.new steps }
+    ensures row { (steps : List Step) × IsTaken pulled items.now steps
+        × Records kept.old kept.new steps }
     ensures once { ClosesOnce kept.old intake.old → ClosesOnce kept.new intake.new }
 {
     kept.is_lawful();
@@ -114,7 +116,9 @@ fn pull_call<P: KernelPort>(
     ensures completions { (now kept.new).completions ≡ (now kept.old).completions }
     ensures taken { IfOk result (λ n. TakesIn kept.old kept.new n) }
     ensures err { OnErr result (TakesIn kept.old kept.new 0) }
-    ensures row { (steps : List Step) × IsPulled steps × Records kept.old kept.new steps }
+    ensures row { (steps : List Step)
+        × IsPulled kept.old.setup.sq (P.pulled port.old) (P.pulled port.new) steps
+        × Records kept.old kept.new steps }
     ensures once { ClosesOnce kept.old intake.old → ClosesOnce kept.new intake.new }
     ensures items { vec_capacity items.old ≤ vec_capacity items.new }
     ensures pairing { P.pairing port.new ≡ P.pairing port.old }
@@ -144,7 +148,8 @@ pub fn take_in<P: KernelPort>(
     ensures completions { (now kept.new).completions ≡ (now kept.old).completions }
     ensures taken { IfOk result (λ n. TakesIn kept.old kept.new n) }
     ensures err { OnErr result (TakesIn kept.old kept.new 0) }
-    ensures row { RecordsIntake kept.old kept.new }
+    ensures row { RecordsIntake kept.old kept.new intake.old (P.pulled port.old)
+        (P.pulled port.new) }
     ensures once { ClosesOnce kept.old intake.old → ClosesOnce kept.new intake.new }
     ensures items { vec_capacity items.old ≤ vec_capacity items.new }
 

@@ -9,6 +9,7 @@ ghost use Rattle.uring_ports.specs.Dropped.{with_word, WereStored};
 ghost use Rattle.uring_ports.specs.Items.{AreItems};
 ghost use Rattle.uring_ports.specs.Ports.{nothing_put, sizes_of, items_of_calls, LeavesItems, LeavesCompletions};
 ghost use Rattle.uring_workers.specs.WorkLanes.{AreSameLanes, HaveCarriedNone, HoldJobs, HoldResults, SomeIsFull, numbers_of_lanes};
+ghost use Rattle.uring_threads.specs.Delivered.{DeliversMost};
 ghost use Rattle.uring_threads.specs.EventRows.{RecordsTurn};
 ghost use Rattle.uring_threads.specs.Kept.{now};
 ghost use Rattle.uring_threads.specs.Tallies.{Tally, Appends, TakesFewResults, starts_request};
@@ -45,11 +46,11 @@ impl<P: KernelPort> Model for Kernel<P> {
     ghost use Rattle.std.specs.Prelude.{◌≤◌, vec_capacity};
     ghost use Rattle.uring_threads.specs.Kernel.{IsKernel};
 
-    ghost view = { λ k. record { kept = k.kept; intake = k.intake; lanes = k.lanes.items; pairing = P.pairing k.port; sizes = P.sizes k.port; pulled = P.pulled k.port; reaped = P.delivered k.port; dropped = P.dropped k.port } };
+    ghost view = { λ k. record { kept = k.kept; intake = k.intake; lanes = k.lanes.items; pairing = P.pairing k.port; sizes = P.sizes k.port; pulled = P.pulled k.port; reaped = P.delivered k.port; free = P.free k.port; dropped = P.dropped k.port } };
 
     ghost invariant = { λ k. (k.kept.setup.sq ≤ vec_capacity k.items)
         × IsKernel
-        (record { kept = k.kept; intake = k.intake; lanes = k.lanes.items; pairing = P.pairing k.port; sizes = P.sizes k.port; pulled = P.pulled k.port; reaped = P.delivered k.port; dropped = P.dropped k.port }) };
+        (record { kept = k.kept; intake = k.intake; lanes = k.lanes.items; pairing = P.pairing k.port; sizes = P.sizes k.port; pulled = P.pulled k.port; reaped = P.delivered k.port; free = P.free k.port; dropped = P.dropped k.port }) };
 }
 
 impl<P: KernelPort> Kernel<P> {
@@ -69,7 +70,7 @@ impl<P: KernelPort> Kernel<P> {
         requires short { HoldResults lanes.items }
         requires carried { HaveCarriedNone lanes.items }
         ensures { result
-            ≡ record { kept = kept; intake = Ready; lanes = lanes.items; pairing = P.pairing port; sizes = sizes_of kept.setup; pulled = nothing_put; reaped = []; dropped = P.dropped port } }
+            ≡ record { kept = kept; intake = Ready; lanes = lanes.items; pairing = P.pairing port; sizes = sizes_of kept.setup; pulled = nothing_put; reaped = []; free = P.free port; dropped = P.dropped port } }
     {
         Kernel {
             kept,
@@ -102,10 +103,16 @@ impl<P: KernelPort> Kernel<P> {
         ensures all { IfOk result
             (λ turn. length (now self.new.kept).completions.posted ≤ self.old.kept.setup.cq
             → length self.new.reaped ≡ length (now self.new.kept).completions.posted) }
+
+        // And else as many as the port showed room for, or as the ring holds.
+        ensures most { IfOk result
+            (λ turn. DeliversMost (now self.new.kept).completions self.new.free
+            self.old.kept.setup.cq turn.delivered) }
         ensures err { OnErr result ((t : Tally) × Appends self.old.kept self.new.kept t) }
 
         // Its events are rows of steps, one behind the other, also if memory was refused.
-        ensures rows { RecordsTurn self.old.kept self.new.kept }
+        ensures rows { RecordsTurn self.old.kept self.new.kept self.old.intake self.old.pulled
+            self.new.pulled result }
 
         // Of each worker at most 64 results are taken in, also if memory was refused.
         ensures few_results { TakesFewResults (length self.old.lanes) self.old.kept self.new.kept }

@@ -4,6 +4,7 @@ ghost use Rattle.uring_entry.specs.Requests.{next_of};
 ghost use Rattle.uring_entry.specs.Submission.{dropped};
 ghost use Rattle.uring_ports.specs.Dropped.{with_word};
 ghost use Rattle.uring_workers.specs.WorkLanes.{AreSameLanes, SomeIsFull};
+ghost use Rattle.uring_threads.specs.Delivered.{DeliversMost};
 ghost use Rattle.uring_threads.specs.EventRows.{RecordsTurn};
 ghost use Rattle.uring_threads.specs.Kept.{now};
 ghost use Rattle.uring_threads.specs.Tallies.{Tally, Appends, TakesFewResults};
@@ -64,10 +65,16 @@ pub fn make_turn<P: KernelPort>(
     ensures all { IfOk result
         (λ turn. length (now kept.new).completions.posted ≤ kept.old.setup.cq
         → length (P.delivered port.new) ≡ length (now kept.new).completions.posted) }
+
+    // And else as many as the port showed room for, or as the ring holds.
+    ensures most { IfOk result
+        (λ turn. DeliversMost (now kept.new).completions (P.free port.new)
+        kept.old.setup.cq turn.delivered) }
     ensures err { OnErr result ((t : Tally) × Appends kept.old kept.new t) }
 
     // Its events are rows of steps, one behind the other, also if memory was refused.
-    ensures rows { RecordsTurn kept.old kept.new }
+    ensures rows { RecordsTurn kept.old kept.new intake.old (P.pulled port.old)
+        (P.pulled port.new) result }
 
     // Of each worker at most 64 results are taken in, also if memory was refused.
     ensures few_results { TakesFewResults (length lanes.old) kept.old kept.new }
@@ -114,6 +121,7 @@ fn tell_dropped<P: KernelPort>(
     ensures sizes { P.sizes port.new ≡ P.sizes port.old }
     ensures pulled { P.pulled port.new ≡ P.pulled port.old }
     ensures delivered { P.delivered port.new ≡ P.delivered port.old }
+    ensures free { P.free port.new ≡ P.free port.old }
 {
     if intake.awaits_memory() {
         return Err(AllocError);

@@ -1,4 +1,5 @@
 -- What each step of a seat of the completion ring's table asks.
+use Rattle.std.specs.Prelude.{◌==◌, if◌then◌else◌}
 use Rattle.std.proofs.Common.{◌≡◌, ℕ, ◌+◌, ◌^◌, ◌<◌, true, List, ◌∷◌, ◌++◌, length, get_or, set, refl, sym, ◌∙◌, ap, subst, arith, length-append}
 use Rattle.std.proofs.lemmas.List.{set-get_or}
 use Rattle.atomic_table.specs.Table.{step, Allows}
@@ -7,11 +8,11 @@ use Rattle.uring_entry.specs.IndexWords.{word_of}
 use Rattle.uring_ports.specs.Dropped.{WereHad}
 use Rattle.uring_words.specs.Completion.Layout.{cell_index, tail_index, head_index, dropped_index, IsCell}
 use Rattle.uring_words.specs.Completion.Rule.{last_of, tail_seen, Agree, BothAgree}
-use Rattle.uring_words.specs.Completion.Steps.{Holder, word_stored, tail_stored, dropped_stored, head_loaded, tail_loaded, got_of, head_stored, dropped_loaded, StoresWord, StoresTail, StoresDropped, LoadsHead, LoadsTail, LoadsWord, StoresHead, LoadsDropped}
+use Rattle.uring_words.specs.Completion.Steps.{Holder, word_stored, tail_stored, dropped_stored, head_loaded, tail_loaded, word_loaded, got_of, head_stored, dropped_loaded, StoresWord, StoresTail, StoresDropped, LoadsHead, LoadsTail, LoadsWord, StoresHead, LoadsDropped}
 use Rattle.uring_words.specs.Places.{place_of}
 use Rattle.uring_words.specs.declared.completion.view.AppSide.{AppSide}
 use Rattle.uring_words.specs.declared.completion.view.KernelSide.{KernelSide}
-use Rattle.uring_words.proofs.CompletionSteps.{keeps-word_stored, keeps-tail_stored, keeps-dropped_stored, keeps-head_loaded, keeps-tail_loaded, keeps-dropped_loaded, known_stands, keeps-head_stored}
+use Rattle.uring_words.proofs.CompletionSteps.{keeps-word_stored, keeps-tail_stored, keeps-dropped_stored, keeps-head_loaded, keeps-tail_loaded, keeps-word_loaded, keeps-dropped_loaded, known_stands, keeps-head_stored}
 use Rattle.uring_words.proofs.Seats.{app_step, kernel_step}
 
 -- a word of the next cell is stored
@@ -88,9 +89,9 @@ pub loads_word : (slots id i : ℕ) (me : Holder) → me.0.is_app ≡ true
     → Allows BothAgree slots id me i (λ n. n) (LoadsWord (step slots i 0 0 none) me)
 loads_word slots id i me is_app =
     app_step slots id i (λ n. n) me (LoadsWord (step slots i 0 0 none) me) is_app (λ words d h both.
-    let P : List ℕ → Type 0 = λ ws. Agree ws me.0.app d in (
-      me.0.app,
-      subst P (sym (set-get_or words i 0)) h,
+    let P : List ℕ → Type 0 = λ ws. Agree ws (word_loaded me.0.app i) d in (
+      word_loaded me.0.app i,
+      subst P (sym (set-get_or words i 0)) (keeps-word_loaded words me.0.app d i h),
       (
         refl,
         λ c cs k known within is.
@@ -101,14 +102,16 @@ loads_word slots id i me is_app =
 
 -- the head is stored
 pub stores_head : (slots id i : ℕ) (me : Holder) (word : ℕ) (c : List ℕ) (cs : List (List ℕ))
-    → me.0.is_app ≡ true → me.0.app.known ≡ c ∷ cs
+    → me.0.is_app ≡ true → me.0.app.loaded ≡ 10 → me.0.app.known ≡ c ∷ cs
     → word ≡ word_of me.0.app.start (length me.0.app.got + 1)
     → i ≡ head_index me.0.app.size
     → Allows BothAgree slots id me i (λ _. word) (λ _. StoresHead (step slots i word 0 none) me word)
-stores_head slots id i me word c cs is_app known is_word is =
+stores_head slots id i me word c cs is_app ten known is_word is =
     app_step slots id i (λ _. word) me (λ _. StoresHead (step slots i word 0 none) me word) is_app (λ words d h both.
     let P : List (List ℕ) → Type 0 = λ ks. Agree (set words i word) (got_of me.0.app ks) d in
-    (head_stored me.0.app, subst P (sym known) (rw is (keeps-head_stored words me.0.app d word c cs h known is_word)), refl))
+    let Q : AppSide → Type 0 = λ e. Agree (set words i word) e d in
+    let all : head_stored me.0.app ≡ got_of me.0.app me.0.app.known = ap (λ n. if n == 10 then got_of me.0.app me.0.app.known else me.0.app) ten in
+    (head_stored me.0.app, subst Q (sym all) (subst P (sym known) (rw is (keeps-head_stored words me.0.app d word c cs h known is_word))), refl))
 
 -- the dropped word is loaded
 pub loads_dropped : (slots id i : ℕ) (me : Holder) → me.0.is_app ≡ true

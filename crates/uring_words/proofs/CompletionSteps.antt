@@ -1,11 +1,12 @@
 -- The steps of the completion ring's table keep the agreement.
-use Rattle.std.proofs.Common.{◌≡◌, ◌≢◌, ℕ, ◌+◌, ◌^◌, ◌<◌, ◌≤◌, List, [], ◌∷◌, ◌++◌, length, get_or, set, refl, sym, ◌∙◌, ap, subst, arith, append_assoc, append-nil, length-append, length-set, get_or-set_other, get_or-set_same}
+use Rattle.std.specs.Prelude.{◌==◌, if◌then◌else◌}
+use Rattle.std.proofs.Common.{◌≡◌, ◌≢◌, ℕ, ◌+◌, ◌^◌, ◌<◌, ◌≤◌, true, false, List, [], ◌∷◌, ◌++◌, length, get_or, set, refl, sym, ◌∙◌, ap, subst, arith, append_assoc, append-nil, length-append, length-set, get_or-set_other, get_or-set_same}
 use Rattle.std.proofs.Math.Seq.{get_or-append_seam}
 use Rattle.uring_entry.specs.IndexWords.{word_of}
 use Rattle.uring_ports.specs.Dropped.{WereHad}
 use Rattle.uring_words.specs.Completion.Layout.{cell_index, tail_index, head_index, dropped_index, IsCell, StandsAt}
 use Rattle.uring_words.specs.Completion.Rule.{last_of, AreSized, Agree}
-use Rattle.uring_words.specs.Completion.Steps.{word_stored, tail_stored, dropped_stored, head_loaded, tail_loaded, dropped_loaded}
+use Rattle.uring_words.specs.Completion.Steps.{word_stored, tail_stored, dropped_stored, head_loaded, tail_loaded, word_loaded, dropped_loaded}
 use Rattle.uring_words.specs.Places.{place_of}
 use Rattle.uring_words.specs.declared.completion.view.AppSide.{AppSide}
 use Rattle.uring_words.specs.declared.completion.view.KernelSide.{KernelSide}
@@ -200,6 +201,15 @@ pub keeps-tail_loaded : (words : List ℕ) (a : AppSide) (d : KernelSide) → (h
 keeps-tail_loaded words a d h =
     known_changes words a (tail_loaded a h.rest) d [] h refl refl refl (h.begins ∙ append_assoc a.got a.known h.rest ∙ sym (append-nil (a.got ++ (a.known ++ h.rest)))) h.loaded
 
+-- a word of a cell is loaded
+pub keeps-word_loaded : (words : List ℕ) (a : AppSide) (d : KernelSide) (i : ℕ) → Agree words a d
+    → Agree words (word_loaded a i) d
+keeps-word_loaded words a d i h =
+    elim (i == cell_index (place_of a.start a.size (length a.got)) a.loaded) as (λ b. Agree words (if b then record a { loaded = a.loaded + 1 } else a) d) [
+      | true ↦ known_changes words a (record a { loaded = a.loaded + 1 }) d h.rest h refl refl refl h.begins h.loaded
+      | false ↦ h
+    ]
+
 -- the dropped word is loaded
 pub keeps-dropped_loaded : (words : List ℕ) (a : AppSide) (d : KernelSide) → (h : Agree words a d)
     → Agree words (dropped_loaded a (last_of 0 d.dropped)) d
@@ -229,11 +239,11 @@ known_stands words a d c cs h is =
 -- the head is stored behind the first of the known completions, which is then got
 pub keeps-head_stored : (words : List ℕ) (a : AppSide) (d : KernelSide) (w : ℕ) (c : List ℕ) (cs : List (List ℕ))
     → Agree words a d → a.known ≡ c ∷ cs → w ≡ word_of a.start (length a.got + 1)
-    → Agree (set words (head_index a.size) w) (record a { got = a.got ++ c ∷ []; known = cs }) d
+    → Agree (set words (head_index a.size) w) (record a { got = a.got ++ c ∷ []; known = cs; loaded = 0 }) d
 keeps-head_stored words a d w c cs h is is_word =
     let size : ℕ = d.size in
     let index : ℕ = head_index size in
-    let b : AppSide = record a { got = a.got ++ c ∷ []; known = cs } in
+    let b : AppSide = record a { got = a.got ++ c ∷ []; known = cs; loaded = 0 } in
     let some : 0 < size = some_size size h.sized.power in
     let long = h.sized.many in
     let few = h.few in

@@ -102,20 +102,20 @@ fn push_times(text: &mut String, part: &str, times: u64) -> Result<(), AllocErro
     Ok(())
 }
 
-/// Calls that fill both rings many times over: 500 calls of four, each with one that skips its success.
+/// Calls that fill both rings many times over: 125 calls of four, each with one that skips its success.
 fn many_calls(alloc: Global) -> Result<String, AllocError> {
     let mut text = String::new(alloc);
     let call = "nop 1 -\nnop 2 S\nread 3 - 1 0 1\nfsync 4 - 1\n\n";
-    push_times(&mut text, call, 500)?;
+    push_times(&mut text, call, 125)?;
     Ok(text)
 }
 
 /// Appends what they write.
 fn push_completions(text: &mut String) -> Result<(), AllocError> {
-    push_times(text, "cqe 1 0 -\n", 500)?;
-    push_times(text, "cqe 3 0 -\n", 500)?;
-    push_times(text, "cqe 4 0 -\n", 500)?;
-    text.push_str("taken 2000 dropped 0\n")
+    push_times(text, "cqe 1 0 -\n", 125)?;
+    push_times(text, "cqe 3 0 -\n", 125)?;
+    push_times(text, "cqe 4 0 -\n", 125)?;
+    text.push_str("taken 500 dropped 0\n")
 }
 
 /// What they write.

@@ -11,8 +11,11 @@ use std::thread::Threads;
 use uring_threads::{KernelLanes, KernelPort, Open};
 use uring_words::KernelWords;
 
-/// How many seeds are tried.
+/// How many seeds are tried on one thread.
 const SEEDS: u64 = 200;
+
+/// How many seeds are tried in threads, six for each number of workers.
+const SEEDS_IN_THREADS: u64 = 48;
 
 /// How many calls each of them submits.
 const CALLS: usize = 24;
@@ -72,7 +75,7 @@ fn first_wrong_in_threads<K: Ports + Send + 'static, R: Threads + Wait + Sync>(
 where
     K::App: Send + 'static,
 {
-    for seed in 1..SEEDS + 1 {
+    for seed in 1..SEEDS_IN_THREADS + 1 {
         if !is_right_in_threads::<K, R>(rt, alloc, seed)? {
             return Ok(Some(seed));
         }

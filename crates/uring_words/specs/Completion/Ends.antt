@@ -37,6 +37,7 @@ pub record AppRests (me : Holder) (size tail head : ℕ) : Type 0 where
   pub carries_none : me.1 ≡ []
   pub tail_word : tail ≡ word_of me.0.app.start (tail_seen me.0.app)
   pub few : length me.0.app.known ≤ size
+  pub loaded : me.0.app.loaded ≡ 0
   pub head_word : head ≡ word_of me.0.app.start (length me.0.app.got)
 
 -- The first of the known completions was got, and is this one.
@@ -45,5 +46,5 @@ pub record GetsOne (before after : Holder) (completion : Cqe) : Type 0 where
   pub others : List (List ℕ)
   pub known : before.0.app.known ≡ words ∷ others
   pub is : after
-      ≡ with_app before (record before.0.app { got = before.0.app.got ++ words ∷ []; known = others })
+      ≡ with_app before (record before.0.app { got = before.0.app.got ++ words ∷ []; known = others; loaded = 0 })
   pub gives : completion_of words ≡ completion

@@ -1,5 +1,5 @@
 -- What each step on the completion ring's table changes of what its seat knows, and what it tells. Of a step at the seat `before`, `found` is the word loaded or stored.
-use Rattle.std.specs.Prelude.{◌≡◌, ℕ, ◌+◌, ◌^◌, ◌<◌, ◌≤◌, true, List, [], ◌∷◌, ◌++◌, length, slice_index}
+use Rattle.std.specs.Prelude.{◌≡◌, ℕ, ◌+◌, ◌^◌, ◌<◌, ◌≤◌, ◌==◌, true, List, [], ◌∷◌, ◌++◌, length, slice_index, if◌then◌else◌}
 use Rattle.atomic_table.specs.Table.{Me, Step}
 use Rattle.uring_entry.specs.IndexWords.{word_of}
 use Rattle.uring_ports.specs.Dropped.{WereHad}
@@ -54,13 +54,18 @@ LoadsHead st before found after =
 abbrev pub tail_loaded : AppSide → List (List ℕ) → AppSide
 tail_loaded a more = record a { known = a.known ++ more }
 
--- the head is stored: the first of the known completions is got, and its cell may be written again
+-- a word is loaded: the next one of the first of the known completions, or another, which doesn't count
+abbrev pub word_loaded : AppSide → ℕ → AppSide
+word_loaded a word =
+    if word == cell_index (place_of a.start a.size (length a.got)) a.loaded then record a { loaded = a.loaded + 1 } else a
+
+-- the head is stored once all ten words of the first of the known completions are loaded: it is got, and its cell may be written again
 abbrev pub got_of : AppSide → List (List ℕ) → AppSide
 got_of a [] = a
-got_of a (c ∷ cs) = record a { got = a.got ++ c ∷ []; known = cs }
+got_of a (c ∷ cs) = record a { got = a.got ++ c ∷ []; known = cs; loaded = 0 }
 
 abbrev pub head_stored : AppSide → AppSide
-head_stored a = got_of a a.known
+head_stored a = if a.loaded == 10 then got_of a a.known else a
 
 -- the dropped word is loaded
 abbrev pub dropped_loaded : AppSide → ℕ → AppSide
@@ -78,10 +83,10 @@ abbrev pub LoadsTail : Step (Unit {0}) → Holder → ℕ → Holder → Type 0
 LoadsTail st before found after = (more : List (List ℕ))
     × (after ≡ with_app before (tail_loaded before.0.app more)) × TailTold before.0 found more
 
--- the first of the known completions has ten words, and the word found is the one that stands at that index of its cell
+-- the word counts if it is the next; the first of the known completions has ten words, and the word found is the one that stands at that index of its cell
 abbrev pub LoadsWord : Step (Unit {0}) → Holder → ℕ → Holder → Type 0
 LoadsWord st before found after =
-    (after ≡ before)
+    (after ≡ with_app before (word_loaded before.0.app st.word))
     × ((c : List ℕ) (cs : List (List ℕ)) (k : ℕ) → before.0.app.known ≡ c ∷ cs → k < 10 → st.word ≡ cell_index (place_of before.0.app.start before.0.app.size (length before.0.app.got)) k → (found ≡ slice_index c k) × (length c ≡ 10))
 
 abbrev pub StoresHead : Step (Unit {0}) → Holder → ℕ → Holder → Type 0
@@ -94,5 +99,5 @@ LoadsDropped st before found after =
 -- what is left of the seat that is taken in
 abbrev pub spent : View AppSide KernelSide
 spent = spent_with
-    (record { start = 0; size = 0; got = []; known = []; dropped = [] })
+    (record { start = 0; size = 0; got = []; known = []; loaded = 0; dropped = [] })
     (record { start = 0; size = 0; put = []; cell = []; head_seen = 0; dropped = [] })

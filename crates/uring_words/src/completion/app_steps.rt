@@ -32,11 +32,12 @@ pub fn load_cell(words: &Words, seat: &mut Seat, size: u32, place: u32) -> [u64;
     requires table { (seat.old.table_id ≡ words.now.table_id)
         × (words.now.table_id.words ≡ word_count size) }
     requires app { (seat.old.me.0.is_app ≡ true) × (seat.old.me.0.app.size ≡ size)
-        × (0 < length seat.old.me.0.app.known) }
+        × (seat.old.me.0.app.loaded ≡ 0) × (0 < length seat.old.me.0.app.known) }
     requires size { (0 < size) × (size ≤ 8192) }
     requires place { place ≡ place_of seat.old.me.0.app.start size (length seat.old.me.0.app.got) }
     ensures table { seat.new.table_id ≡ seat.old.table_id }
-    ensures same { seat.new.me ≡ seat.old.me }
+    ensures loaded { seat.new.me
+        ≡ with_app seat.old.me (record seat.old.me.0.app { loaded = 10 }) }
     ensures cell { (c : List ℕ) (cs : List (List ℕ)) → seat.old.me.0.app.known ≡ c ∷ cs
         → result ≡ c }
 {
@@ -52,7 +53,7 @@ pub fn store_head(words: &Words, seat: &mut Seat, size: u32, head: u32)
     requires table { (seat.old.table_id ≡ words.now.table_id)
         × (words.now.table_id.words ≡ word_count size) }
     requires app { (seat.old.me.0.is_app ≡ true) × (seat.old.me.0.app.size ≡ size)
-        × (0 < length seat.old.me.0.app.known) }
+        × (seat.old.me.0.app.loaded ≡ 10) × (0 < length seat.old.me.0.app.known) }
     requires head { head ≡ word_of seat.old.me.0.app.start (length seat.old.me.0.app.got + 1) }
     ensures table { seat.new.table_id ≡ seat.old.table_id }
     ensures got { seat.new.me ≡ with_app seat.old.me (head_stored seat.old.me.0.app) }

@@ -13,6 +13,9 @@ pub struct AppSide {
     /// Those behind them that it knows to be put, oldest first.
     pub known: LinkedList<LinkedList<u64>>,
 
+    /// How many words of the first of these it has loaded, from the first word on.
+    pub loaded: u64,
+
     /// The dropped words that it loaded, oldest first.
     pub dropped: LinkedList<u64>,
 }

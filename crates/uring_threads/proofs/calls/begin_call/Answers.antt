@@ -17,13 +17,13 @@ pub returns-in-Again-clause-world : goal.returns-in-Again-clause-world
 returns-in-Again-clause-world c = grown c.args.kept.now c.step_reserved.new.self (step.Begin c.args.count) c.step_reserved.result c.step_reserved.ensures.grows ∙ ap (beginning (now c.args.kept.now) c.args.count) c.in-Again.is
 
 pub returns-in-Again-clause-tally : goal.returns-in-Again-clause-tally
-returns-in-Again-clause-tally c = appends_one c.args.kept.now c.step_reserved.new.self (step.Begin c.args.count, c.step_reserved.result) call_counted c.step_reserved.ensures.grows refl
+returns-in-Again-clause-tally c = appends_one c.args.kept.now c.step_reserved.new.self (step.Begin c.args.count, c.step_reserved.result) call_counted c.step_reserved.ensures.grows refl refl
 
 pub returns-in-Spent-clause-world : goal.returns-in-Spent-clause-world
 returns-in-Spent-clause-world c = grown c.args.kept.now c.step_reserved.new.self (step.Begin c.args.count) c.step_reserved.result c.step_reserved.ensures.grows ∙ ap (beginning (now c.args.kept.now) c.args.count) c.in-Spent.is
 
 pub returns-in-Spent-clause-tally : goal.returns-in-Spent-clause-tally
-returns-in-Spent-clause-tally c = appends_one c.args.kept.now c.step_reserved.new.self (step.Begin c.args.count, c.step_reserved.result) call_counted c.step_reserved.ensures.grows refl
+returns-in-Spent-clause-tally c = appends_one c.args.kept.now c.step_reserved.new.self (step.Begin c.args.count, c.step_reserved.result) call_counted c.step_reserved.ensures.grows refl refl
 
 pub take_all-requires-clause-in_call : goal.take_all-requires-clause-in_call
 take_all-requires-clause-in_call c =

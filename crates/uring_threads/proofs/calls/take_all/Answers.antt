@@ -17,6 +17,6 @@ loop-preserved c =
     record {
       events = omega (arith, i.events, grown_length _ _ _ c.step_reserved.ensures.grows);
       world = took_now c.loop.kept c.step_reserved.new.self w c.args.count c.loop.counter c.step_reserved.result (ap (λ g. g.stops) i.tally.setup ∙ c.is_lawful.ensures.goes_on) c.requires.in_call.1 (omega arith) (i.world ∙ same) c.step_reserved.ensures.grows c.step_reserved.ensures.called ∙ sym (ap (λ (v : World). in_call v c.args.count (c.loop.counter + 1)) at);
-      tally = appends_then _ _ _ _ _ _ i.tally (appends_one _ _ _ none_counted c.step_reserved.ensures.grows refl) refl;
+      tally = appends_then _ _ _ _ _ _ i.tally (appends_one _ _ _ none_counted c.step_reserved.ensures.grows refl refl) refl;
       row = records_more c.args.kept.now c.loop.kept c.step_reserved.new.self step.Take c.loop.counter c.step_reserved.result i.row c.step_reserved.ensures.grows;
     }

@@ -1,8 +1,8 @@
-use Rattle.std.proofs.Common.{[], inl, refl, subst}
+use Rattle.std.proofs.Common.{[], subst}
 use Rattle.uring_entry.specs.Setup.{Setup}
 use Rattle.uring_threads.specs.Kept.{now}
 use Rattle.uring_threads.specs.Turns.{Tied}
-use Rattle.uring_threads.proofs.Recording.{records_none, records_then}
+use Rattle.uring_threads.proofs.Recording.{none_pulled, pulled_as, records_none, records_then}
 use Rattle.uring_threads.proofs.Closing.{once_unmoved}
 use Rattle.uring_threads.proofs.Tying.{completions_behind, pulled_at, takes_behind, takes_nothing, tied_still}
 use Rattle.uring_threads.proofs.intake.pull_call.Goals as goal
@@ -39,12 +39,12 @@ returns-clause-taken g c = takes_behind c.args.kept.now c.reserve.new.self c.tak
 
 pub returns-in_err-reserve-clause-row : goal.returns-in_err-reserve-clause-row
 returns-in_err-reserve-clause-row g c =
-    ([], inl refl, records_none c.args.kept.now c.reserve.new.self c.reserve.ensures.unmoved)
+    ([], none_pulled c.args.kept.now.setup.sq (g.P.KernelPort.pulled c.args.port.now), records_none c.args.kept.now c.reserve.new.self c.reserve.ensures.unmoved)
 
 pub returns-clause-row : goal.returns-clause-row
 returns-clause-row g c =
     let r = c.take_pulled.ensures.row in
-    (r.0, r.1, records_then c.args.kept.now c.reserve.new.self c.take_pulled.new.kept [] r.0 (records_none c.args.kept.now c.reserve.new.self c.reserve.ensures.unmoved) r.2)
+    (r.0, pulled_as _ c.args.kept.now.setup.sq (g.P.KernelPort.pulled c.args.port.now) (g.P.KernelPort.pulled c.pull-pulled.new.self) c.pull-pulled.result c.pull-pulled.new.items.items c.deref.result.now r.0 c.requires.sizes c.deref.ensures.value c.pull-pulled.ensures.pulled r.1, records_then c.args.kept.now c.reserve.new.self c.take_pulled.new.kept [] r.0 (records_none c.args.kept.now c.reserve.new.self c.reserve.ensures.unmoved) r.2)
 
 pub returns-clause-once : goal.returns-clause-once
 returns-clause-once g c = λ once. c.take_pulled.ensures.once (once_unmoved c.args.kept.now c.reserve.new.self c.args.intake.now c.reserve.ensures.unmoved once)

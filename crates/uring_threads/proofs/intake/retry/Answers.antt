@@ -1,8 +1,8 @@
 use Rattle.std.proofs.Common.{[], inl, inr, refl, sym, subst, arith}
-use Rattle.uring_threads.specs.EventRows.{begin_row}
+use Rattle.uring_threads.specs.EventRows.{IsAgain, begin_row}
 use Rattle.uring_threads.specs.Kept.{now, IsUnmoved}
 use Rattle.uring_threads.specs.Turns.{ClosesOnce, Tied}
-use Rattle.uring_threads.proofs.Recording.{records_none, records_then}
+use Rattle.uring_threads.proofs.Recording.{none_again, records_none, records_then}
 use Rattle.uring_threads.proofs.Closing.{once_begun, once_unmoved}
 use Rattle.uring_threads.proofs.TraceSteps.{appends_behind}
 use Rattle.uring_threads.proofs.Tying.{again_completions, call_waits, completions_behind, takes_nothing, takes_again, tied_again, tied_still}
@@ -47,14 +47,14 @@ returns-in_ok-reserve-clause-once c = λ once.
 
 pub returns-in_err-reserve-clause-row : goal.returns-in_err-reserve-clause-row
 returns-in_err-reserve-clause-row c =
-    ([], inl refl, records_none c.args.kept.now c.reserve.new.self c.reserve.ensures.unmoved)
+    ([], subst (λ i. IsAgain i []) (sym c.in-Waiting.is) (inl refl), records_none c.args.kept.now c.reserve.new.self c.reserve.ensures.unmoved)
 
 pub returns-in_ok-reserve-clause-row : goal.returns-in_ok-reserve-clause-row
 returns-in_ok-reserve-clause-row c =
     let row = begin_row c.in-Waiting.count c.begin_call.result in
-    (row, inr (c.in-Waiting.count, c.begin_call.result, refl), records_then c.args.kept.now c.reserve.new.self c.begin_call.new.kept [] row (records_none c.args.kept.now c.reserve.new.self c.reserve.ensures.unmoved) c.begin_call.ensures.row)
+    (row, subst (λ i. IsAgain i row) (sym c.in-Waiting.is) (inr (c.begin_call.result, refl)), records_then c.args.kept.now c.reserve.new.self c.begin_call.new.kept [] row (records_none c.args.kept.now c.reserve.new.self c.reserve.ensures.unmoved) c.begin_call.ensures.row)
 
 pub returns-in_default : goal.returns-in_default
 returns-in_default c =
     let still : IsUnmoved c.args.kept.now c.args.kept.now = record { trace = refl; room = omega arith; setup = refl } in
-    record { tied = λ put t. t; completions = refl; taken = takes_nothing c.args.kept.now c.args.kept.now still; row = ([], inl refl, records_none c.args.kept.now c.args.kept.now still); once = λ same. same }
+    record { tied = λ put t. t; completions = refl; taken = takes_nothing c.args.kept.now c.args.kept.now still; row = ([], none_again c.args.intake.now, records_none c.args.kept.now c.args.kept.now still); once = λ same. same }

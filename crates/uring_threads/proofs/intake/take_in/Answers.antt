@@ -1,5 +1,6 @@
 use Rattle.std.proofs.Common.{◌∙◌, sym, subst}
 use Rattle.uring_entry.specs.Setup.{Setup}
+use Rattle.uring_threads.specs.EventRows.{IsPulled}
 use Rattle.uring_threads.specs.Kept.{now}
 use Rattle.uring_threads.specs.Turns.{Tied}
 use Rattle.uring_threads.proofs.Recording.{again_recorded, intake_recorded}
@@ -33,16 +34,17 @@ pub returns-in-Ready-clause-err : goal.returns-in-Ready-clause-err
 returns-in-Ready-clause-err g c = err_then c.pull_call.result c.args.kept.now c.retry.new.kept c.pull_call.new.kept c.retry.ensures.taken c.pull_call.ensures.err
 
 pub returns-in_err-retry-clause-row : goal.returns-in_err-retry-clause-row
-returns-in_err-retry-clause-row g c = again_recorded c.args.kept.now c.retry.new.kept c.retry.ensures.row
+returns-in_err-retry-clause-row g c = again_recorded c.args.kept.now c.retry.new.kept c.args.intake.now (g.P.KernelPort.pulled c.args.port.now) c.retry.ensures.row
 
 pub returns-in-Ready-clause-row : goal.returns-in-Ready-clause-row
 returns-in-Ready-clause-row g c =
     let r = c.retry.ensures.row in
     let q = c.pull_call.ensures.row in
-    intake_recorded c.args.kept.now c.retry.new.kept c.pull_call.new.kept r.0 q.0 r.1 q.1 r.2 q.2
+    intake_recorded c.args.kept.now c.retry.new.kept c.pull_call.new.kept c.args.intake.now (g.P.KernelPort.pulled c.args.port.now) (g.P.KernelPort.pulled c.pull_call.new.port) r.0 q.0 r.1
+    (subst (λ (s : Setup). IsPulled s.sq (g.P.KernelPort.pulled c.args.port.now) (g.P.KernelPort.pulled c.pull_call.new.port) q.0) c.retry.ensures.taken.appends.setup q.1) r.2 q.2
 
 pub returns-in_default-clause-row : goal.returns-in_default-clause-row
-returns-in_default-clause-row g c = again_recorded c.args.kept.now c.retry.new.kept c.retry.ensures.row
+returns-in_default-clause-row g c = again_recorded c.args.kept.now c.retry.new.kept c.args.intake.now (g.P.KernelPort.pulled c.args.port.now) c.retry.ensures.row
 
 pub returns-in-Ready-clause-once : goal.returns-in-Ready-clause-once
 returns-in-Ready-clause-once g c = λ once. c.pull_call.ensures.once (c.retry.ensures.once once)

@@ -1,8 +1,9 @@
-use Rattle.std.proofs.Common.{◌∙◌, [], inl, inr, length, ap, refl, sum, sym, subst, arith}
+use Rattle.std.proofs.Common.{◌∙◌, [], ◌∷◌, length, ap, refl, sum, sym, subst, arith}
 use Rattle.uring_laws.specs.Standing.{Stands}
 use Rattle.uring_core.specs.World.{World}
 use Rattle.uring_core.specs.declared.step.Step.TheVariants as step
 use Rattle.uring_ports.specs.Ports.{Pulls}
+use Rattle.uring_threads.specs.EventRows.{IsTaken, call_row}
 use Rattle.uring_threads.specs.Kept.{now}
 use Rattle.uring_threads.specs.Turns.{ClosesOnce, Tied, waiting_in}
 use Rattle.uring_threads.proofs.Recording.{records_none, records_one}
@@ -66,15 +67,16 @@ returns-in-Nothing-clause-taken c = takes_nothing c.args.kept.now c.args.kept.no
 
 pub returns-in-Call-clause-row : goal.returns-in-Call-clause-row
 returns-in-Call-clause-row c =
-    (_, inr (inr (c.args.items.now, c.take_call-begun.result, refl)), c.take_call-begun.ensures.row)
+    let row = call_row c.args.items.now c.take_call-begun.result in
+    (row, subst (λ p. IsTaken p c.args.items.now row) (sym c.in-Call.is) (c.take_call-begun.result, refl), c.take_call-begun.ensures.row)
 
 pub returns-in-Close-clause-row : goal.returns-in-Close-clause-row
 returns-in-Close-clause-row c =
-    (_, inr (inl refl), records_one c.args.kept.now c.step_reserved.new.self step.Close c.step_reserved.result c.step_reserved.ensures.grows)
+    (step.Close ∷ [], subst (λ p. IsTaken p c.args.items.now (step.Close ∷ [])) (sym c.in-Close.is) refl, records_one c.args.kept.now c.step_reserved.new.self step.Close c.step_reserved.result c.step_reserved.ensures.grows)
 
 pub returns-in-Nothing-clause-row : goal.returns-in-Nothing-clause-row
 returns-in-Nothing-clause-row c =
-    ([], inl refl, records_none c.args.kept.now c.args.kept.now (record { trace = refl; room = omega arith; setup = refl }))
+    ([], subst (λ p. IsTaken p c.args.items.now []) (sym c.in-Nothing.is) refl, records_none c.args.kept.now c.args.kept.now (record { trace = refl; room = omega arith; setup = refl }))
 
 pub returns-in-Nothing-clause-once : goal.returns-in-Nothing-clause-once
 returns-in-Nothing-clause-once c = λ once. once

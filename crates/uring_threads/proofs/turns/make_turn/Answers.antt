@@ -4,13 +4,16 @@ use Rattle.uring_entry.specs.Setup.{Setup}
 use Rattle.uring_entry.specs.Submission.{dropped}
 use Rattle.uring_ports.specs.Dropped.{with_word}
 use Rattle.uring_ports.specs.Ports.{Sizes}
+use Rattle.uring_threads.specs.Delivered.{DeliversMost}
+use Rattle.uring_threads.specs.EventRows.{AreOfTurn, RecordsTurn}
 use Rattle.uring_threads.specs.Kept.{now}
 use Rattle.uring_threads.specs.Tallies.{TakesFewResults, finishes_counted, issues_counted, reaps_counted}
 use Rattle.std.proofs.lemmas.Result.{IfOk-weaker, IfOk-from_err}
 use Rattle.uring_threads.specs.Turns.{AreTies, Counts}
+use Rattle.uring_threads.specs.declared.turns.Turn.{Turn}
 use Rattle.uring_threads.proofs.Collecting.{on_err}
 use Rattle.uring_threads.proofs.FewResults.{few_of_none, few_behind, few_before}
-use Rattle.uring_threads.proofs.Recording.{records_none, records_nothing, turn_recorded}
+use Rattle.uring_threads.proofs.Recording.{finishes_many, issues_many, records_none, records_nothing, turn_recorded}
 use Rattle.uring_threads.proofs.TraceSteps.{appends_none}
 use Rattle.uring_threads.proofs.Turning.{ties_taken, ties_posted, ties_worked, ties_unmoved, ties_delivered, counts_all, some_then, lanes_then}
 use Rattle.uring_threads.proofs.turns.make_turn.Goals as goal
@@ -70,6 +73,31 @@ returns-clause-counts g c =
     c.in_ok-popped.ensures.taken c.in_ok-finished.ensures.tally c.in_ok-finished.ensures.idle c.in_ok-issued.ensures.tally c.in_ok-issued.ensures.idle c.in_ok-delivered.ensures.tally c.in_ok-delivered.ensures.idle
     in
     IfOk-weaker c.tell_dropped.result _ _ (λ made same. subst (λ t. Counts c.args.kept.now c.deliver.new.kept t) (sym same) counted) c.tell_dropped.ensures.turn
+
+pub returns-in_err-popped-clause-most : goal.returns-in_err-popped-clause-most
+returns-in_err-popped-clause-most g c =
+    IfOk-from_err c.from_residual.result _ c.from_residual.ensures.0
+
+pub returns-in_err-finished-clause-most : goal.returns-in_err-finished-clause-most
+returns-in_err-finished-clause-most g c =
+    IfOk-from_err c.from_residual-in_err-finished.result _ c.from_residual-in_err-finished.ensures.0
+
+pub returns-in_err-issued-clause-most : goal.returns-in_err-issued-clause-most
+returns-in_err-issued-clause-most g c =
+    IfOk-from_err c.from_residual-in_err-issued.result _ c.from_residual-in_err-issued.ensures.0
+
+pub returns-in_err-delivered-clause-most : goal.returns-in_err-delivered-clause-most
+returns-in_err-delivered-clause-most g c =
+    IfOk-from_err c.from_residual-in_err-delivered.result _ c.from_residual-in_err-delivered.ensures.0
+
+pub returns-clause-most : goal.returns-clause-most
+returns-clause-most g c =
+    let setup = c.in_ok-issued.ensures.tally.setup ∙ c.in_ok-finished.ensures.tally.setup ∙ c.in_ok-popped.ensures.taken.appends.setup in
+    let delivered = c.in_ok-delivered.delivered in
+    let most : DeliversMost (now c.deliver.new.kept).completions (g.P.KernelPort.free c.tell_dropped.new.port) c.args.kept.now.setup.cq delivered =
+    subst (λ (s : Setup). DeliversMost (now c.deliver.new.kept).completions (g.P.KernelPort.free c.tell_dropped.new.port) s.cq delivered) setup
+    (subst (λ f. DeliversMost (now c.deliver.new.kept).completions f c.issue_all.new.kept.setup.cq delivered) (sym c.tell_dropped.ensures.free) c.in_ok-delivered.ensures.most) in
+    IfOk-weaker c.tell_dropped.result _ _ (λ made same. subst (λ (t : Turn). DeliversMost (now c.deliver.new.kept).completions (g.P.KernelPort.free c.tell_dropped.new.port) c.args.kept.now.setup.cq t.delivered) (sym same) most) c.tell_dropped.ensures.turn
 
 pub returns-clause-err : goal.returns-clause-err
 returns-clause-err g c =
@@ -284,22 +312,36 @@ deliver-requires-clause-delivered g c =
 pub returns-in_err-popped-clause-rows : goal.returns-in_err-popped-clause-rows
 returns-in_err-popped-clause-rows g c =
     let still = records_nothing c.take_in.new.kept in
-    turn_recorded c.args.kept.now c.take_in.new.kept c.take_in.new.kept c.take_in.new.kept c.take_in.new.kept zero c.take_in.ensures.row ([], still) ([], still) still
+    turn_recorded c.args.kept.now c.take_in.new.kept c.take_in.new.kept c.take_in.new.kept c.take_in.new.kept c.args.intake.now (g.P.KernelPort.pulled c.args.port.now) (g.P.KernelPort.pulled c.take_in.new.port) zero c.from_residual.result c.take_in.ensures.row ([], still) ([], still) still
+    (IfOk-from_err c.from_residual.result _ c.from_residual.ensures.0)
 
 pub returns-in_err-finished-clause-rows : goal.returns-in_err-finished-clause-rows
 returns-in_err-finished-clause-rows g c =
     let still = records_nothing c.collect_all.new.kept in
-    turn_recorded c.args.kept.now c.take_in.new.kept c.collect_all.new.kept c.collect_all.new.kept c.collect_all.new.kept zero c.take_in.ensures.row c.collect_all.ensures.row ([], still) still
+    turn_recorded c.args.kept.now c.take_in.new.kept c.collect_all.new.kept c.collect_all.new.kept c.collect_all.new.kept c.args.intake.now (g.P.KernelPort.pulled c.args.port.now) (g.P.KernelPort.pulled c.take_in.new.port) zero c.from_residual-in_err-finished.result c.take_in.ensures.row c.collect_all.ensures.row ([], still) still
+    (IfOk-from_err c.from_residual-in_err-finished.result _ c.from_residual-in_err-finished.ensures.0)
 
 pub returns-in_err-issued-clause-rows : goal.returns-in_err-issued-clause-rows
 returns-in_err-issued-clause-rows g c =
-    turn_recorded c.args.kept.now c.take_in.new.kept c.collect_all.new.kept c.issue_all.new.kept c.issue_all.new.kept zero c.take_in.ensures.row c.collect_all.ensures.row c.issue_all.ensures.row (records_nothing c.issue_all.new.kept)
+    turn_recorded c.args.kept.now c.take_in.new.kept c.collect_all.new.kept c.issue_all.new.kept c.issue_all.new.kept c.args.intake.now (g.P.KernelPort.pulled c.args.port.now) (g.P.KernelPort.pulled c.take_in.new.port) zero c.from_residual-in_err-issued.result c.take_in.ensures.row c.collect_all.ensures.row c.issue_all.ensures.row (records_nothing c.issue_all.new.kept)
+    (IfOk-from_err c.from_residual-in_err-issued.result _ c.from_residual-in_err-issued.ensures.0)
 
 pub returns-in_err-delivered-clause-rows : goal.returns-in_err-delivered-clause-rows
 returns-in_err-delivered-clause-rows g c =
-    turn_recorded c.args.kept.now c.take_in.new.kept c.collect_all.new.kept c.issue_all.new.kept c.deliver.new.kept zero c.take_in.ensures.row c.collect_all.ensures.row c.issue_all.ensures.row
-    (records_none c.issue_all.new.kept c.deliver.new.kept c.in_err-delivered.ensures.err)
+    subst (λ p. RecordsTurn c.args.kept.now c.deliver.new.kept c.args.intake.now (g.P.KernelPort.pulled c.args.port.now) p c.from_residual-in_err-delivered.result) (sym c.deliver.ensures.pulled)
+    (turn_recorded c.args.kept.now c.take_in.new.kept c.collect_all.new.kept c.issue_all.new.kept c.deliver.new.kept c.args.intake.now (g.P.KernelPort.pulled c.args.port.now) (g.P.KernelPort.pulled c.take_in.new.port) zero c.from_residual-in_err-delivered.result c.take_in.ensures.row c.collect_all.ensures.row c.issue_all.ensures.row
+    (records_none c.issue_all.new.kept c.deliver.new.kept c.in_err-delivered.ensures.err) (IfOk-from_err c.from_residual-in_err-delivered.result _ c.from_residual-in_err-delivered.ensures.0))
 
 pub returns-clause-rows : goal.returns-clause-rows
 returns-clause-rows g c =
-    turn_recorded c.args.kept.now c.take_in.new.kept c.collect_all.new.kept c.issue_all.new.kept c.deliver.new.kept c.in_ok-delivered.delivered c.take_in.ensures.row c.collect_all.ensures.row c.issue_all.ensures.row c.in_ok-delivered.ensures.row
+    let f = c.collect_all.ensures.row in
+    let s = c.issue_all.ensures.row in
+    let turn : Turn = record { popped = c.in_ok-popped.popped; issued = c.in_ok-issued.issued; finished = c.in_ok-finished.finished; delivered = c.in_ok-delivered.delivered } in
+    let told : AreOfTurn turn f.0 s.0 c.in_ok-delivered.delivered = record {
+      finishes = finishes_many c.take_in.new.kept c.collect_all.new.kept _ f c.in_ok-finished.ensures.tally;
+      issues = issues_many c.collect_all.new.kept c.issue_all.new.kept _ s c.in_ok-issued.ensures.tally;
+      reaps = refl;
+    } in
+    subst (λ p. RecordsTurn c.args.kept.now c.deliver.new.kept c.args.intake.now (g.P.KernelPort.pulled c.args.port.now) p c.tell_dropped.result) (sym (c.tell_dropped.ensures.pulled ∙ c.deliver.ensures.pulled))
+    (turn_recorded c.args.kept.now c.take_in.new.kept c.collect_all.new.kept c.issue_all.new.kept c.deliver.new.kept c.args.intake.now (g.P.KernelPort.pulled c.args.port.now) (g.P.KernelPort.pulled c.take_in.new.port) c.in_ok-delivered.delivered c.tell_dropped.result c.take_in.ensures.row f s c.in_ok-delivered.ensures.row
+    (IfOk-weaker c.tell_dropped.result _ _ (λ made same. subst (λ t. AreOfTurn t f.0 s.0 c.in_ok-delivered.delivered) (sym same) told) c.tell_dropped.ensures.turn))

@@ -10,8 +10,8 @@ use uring_entry::{Cqe, Setup};
 use uring_threads::{AppEnd, AppPort, Item, KernelPort, Pulled};
 use uring_words::{AppWords, KernelWords, word_ports};
 
-/// How many calls go through. Ten times as many, which are 1,000,000 items, take 2 to 10 seconds and are run by hand.
-const CALLS: u64 = 40_000;
+/// How many calls go through. Forty times as many, which are 1,000,000 items, take 2 to 10 seconds and are run by hand.
+const CALLS: u64 = 10_000;
 
 /// How many items they have.
 const ITEMS: u64 = CALLS / 4 * 10;

@@ -14,7 +14,7 @@ use uring_threads::{AppPort, KernelPort, Open, Worked};
 use uring_words::{AppWords, KernelWords, word_ports};
 
 /// How many completions go through.
-const COMPLETIONS: u64 = 100_000;
+const COMPLETIONS: u64 = 25_000;
 
 /// The completion with this number in each of its words.
 fn completion(number: u64) -> Cqe {

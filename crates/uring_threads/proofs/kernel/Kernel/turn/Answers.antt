@@ -3,6 +3,8 @@ use Rattle.std.specs.Prelude.{IfOk, OnOk, OnErr}
 use Rattle.uring_entry.specs.Submission.{dropped}
 use Rattle.uring_ports.specs.Dropped.{with_word}
 use Rattle.uring_ports.specs.Ports.{Sizes}
+use Rattle.uring_threads.specs.Delivered.{DeliversMost}
+use Rattle.uring_threads.specs.EventRows.{RecordsTurn}
 use Rattle.uring_threads.specs.Kept.{now}
 use Rattle.uring_threads.specs.Tallies.{Tally, Appends}
 use Rattle.uring_workers.specs.WorkLanes.{HoldJobs, HoldResults, numbers_of_lanes}
@@ -104,3 +106,11 @@ make_turn-requires-clause-some g c =
 pub make_turn-requires-clause-few : goal.make_turn-requires-clause-few
 make_turn-requires-clause-few g c =
     subst (λ ls. length ls ≤ 8) (sym c.deref_mut.ensures.value) c.self.invariant.1.few
+
+pub returns-clause-rows : goal.returns-clause-rows
+returns-clause-rows g c =
+    subst (λ (k : Kernel). RecordsTurn k.kept c.make_turn.new.kept k.intake k.pulled (g.P.KernelPort.pulled c.make_turn.new.port) c.make_turn.result) c.self.view_is c.make_turn.ensures.rows
+
+pub returns-clause-most : goal.returns-clause-most
+returns-clause-most g c =
+    subst (λ (k : Kernel). IfOk c.make_turn.result (λ turn. DeliversMost (now c.make_turn.new.kept).completions (g.P.KernelPort.free c.make_turn.new.port) k.kept.setup.cq turn.delivered)) c.self.view_is c.make_turn.ensures.most

@@ -23,6 +23,7 @@ returns-clause-rests c =
       carries_none = r.carries_none;
       tail_word = told.tail ∙ ap (word_of a.start) (omega arith);
       few = omega (arith, told.few, r.sized);
+      loaded = r.loaded;
       head_word = r.head_word;
     })
 

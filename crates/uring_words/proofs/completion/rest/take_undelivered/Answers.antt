@@ -13,7 +13,7 @@ join_seat-requires c = (c.requires.table.0, c.requires.app_table, c.requires.res
 pub load_tail-tail-requires-clause-rests : goal.load_tail-tail-requires-clause-rests
 load_tail-tail-requires-clause-rests c =
     let r = c.requires.rests in
-    rw c.join_seat.ensures.2 (record { seat = refl; sized = r.sized; power = r.power; limit = r.limit; carries_none = c.requires.carries_none; tail_word = r.tail_word; few = r.few; head_word = r.head_word })
+    rw c.join_seat.ensures.2 (record { seat = refl; sized = r.sized; power = r.power; limit = r.limit; carries_none = c.requires.carries_none; tail_word = r.tail_word; few = r.few; loaded = r.loaded; head_word = r.head_word })
 
 pub returns-clause-completions : goal.returns-clause-completions
 returns-clause-completions c =
