@@ -67,8 +67,8 @@ void show(struct ring *ring)
     uint32_t flags = 0;
     if (completions->shown < completions->count)
         flags |= IORING_SQ_CQ_OVERFLOW;
-    /* Makes a peek that finds nothing call, and so lets requests go on. */
-    if (ring->requests.count > 0)
+    /* Makes a peek that finds nothing call: so requests go on, and a descriptor that polls is readable no more. */
+    if (ring->requests.count > 0 || ring->is_readable)
         flags |= IORING_SQ_TASKRUN;
     store_word(&memory->sq->flags, flags);
 }

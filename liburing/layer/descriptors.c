@@ -5,6 +5,7 @@
 #define _GNU_SOURCE
 #include "descriptors.h"
 #include "policy.h"
+#include "readiness.h"
 #include "sleep.h"
 
 #include <dirent.h>
@@ -43,10 +44,12 @@ static bool is_own(const struct ring *ring)
     return ring->process == getpid();
 }
 
-/* Whether a descriptor is open on this ring. */
+/* Whether a descriptor is open on this ring. Memory is known by its inode. */
 static bool is_reached_by(const struct ring *ring, int fd)
 {
     struct stat status;
+    if (ring->ready_fd >= 0)
+        return is_polled_by(ring, fd);
     return fstat(fd, &status) == 0 && status.st_dev == ring->device && status.st_ino == ring->inode;
 }
 
@@ -116,11 +119,8 @@ void add_ring(struct ring *ring)
 
 static struct ring *search_rings(int fd)
 {
-    struct stat status;
-    if (fstat(fd, &status) < 0)
-        return NULL;
     struct ring *ring = rings;
-    while (ring && !(is_own(ring) && status.st_dev == ring->device && status.st_ino == ring->inode))
+    while (ring && !(is_own(ring) && is_reached_by(ring, fd)))
         ring = ring->next;
     return ring;
 }

@@ -7,6 +7,7 @@
 #include "descriptors.h"
 #include "policy.h"
 #include "progress.h"
+#include "readiness.h"
 #include "ring.h"
 #include "submit.h"
 #include "times.h"
@@ -104,6 +105,8 @@ static int go_on_until(struct ring *ring, const struct waiting *waiting)
         enum progress progress = go_on(ring, is_enough);
         if (progress == MAY_RETURN || (progress == STUCK && is_enough))
             return 0;
+        if (progress == STUCK)
+            show_readiness(ring);
         int result = progress == STUCK ? wait_for_any(ring, deadline, &waiting->signals) : 0;
         if (result == -EDEADLK)
             say_stuck(ring, enough);
@@ -128,6 +131,7 @@ static int enter_ring(struct ring *ring, uint32_t to_submit, uint32_t flags, con
         go_on_for_peek(ring);
     else
         result = go_on_until(ring, waiting);
+    show_readiness(ring);
     show(ring);
     return submitted != 0 ? submitted : result;
 }
@@ -141,6 +145,7 @@ int enter(int fd, uint32_t to_submit, uint32_t min_complete, uint32_t flags, con
     struct ring *ring = lock_ring(fd);
     if (!ring)
         return fcntl(fd, F_GETFD) < 0 ? -EBADF : -EOPNOTSUPP;
+    ring->called_fd = fd;
     struct waiting waiting = {.min_complete = min_complete};
     sigset_t all;
     sigfillset(&all);

@@ -217,6 +217,11 @@ enum progress go_on(struct ring *ring, bool may_return)
     return WENT_ON;
 }
 
+bool can_go_on(struct ring *ring)
+{
+    return first_in_order(ring) != NULL;
+}
+
 void finish_timeout(struct ring *ring, struct request *timeout)
 {
     finish_running(ring, timeout);

@@ -16,6 +16,9 @@ enum progress go_on(struct ring *ring, bool may_return);
 /* Whether a request is a timeout. It ends when time says so, and goes on by no choice. */
 bool is_timeout(const struct request *request);
 
+/* Whether a request can go on without waiting. */
+bool can_go_on(struct ring *ring);
+
 /* Ends a running timeout. */
 void finish_timeout(struct ring *ring, struct request *timeout);
 

@@ -10,6 +10,7 @@
 #include "wulgach.h"
 
 #include <linux/io_uring.h>
+#include <poll.h>
 #include <pthread.h>
 #include <stdbool.h>
 #include <stdio.h>
@@ -21,6 +22,11 @@ struct ring {
     ino_t inode;
     pid_t process;                      /* who made it: a forked child has the memory, and not the core */
     int fd;                             /* the first descriptor: it may be closed, or another file's by now */
+    int called_fd;                      /* the one of the last call */
+    int ready_fd;                       /* an eventfd, if the descriptor polls; or negative: the descriptor is memory */
+    bool is_readable;                   /* the eventfd is set */
+    struct pollfd *watched;             /* the streams that the descriptor polls for */
+    size_t watched_count;
     uint32_t index;                     /* its number among the process's rings, from 0 */
     uint32_t flags;                     /* IORING_SETUP_.. */
     uint32_t calls;                     /* how many calls are on it, under the lock of all rings: it lives as long */

@@ -6,12 +6,14 @@
 #include "enter.h"
 #include "injection.h"
 #include "policy.h"
+#include "readiness.h"
 #include "ring.h"
 #include "trace.h"
 
 #include <errno.h>
 #include <stdlib.h>
 #include <string.h>
+#include <sys/mman.h>
 #include <sys/stat.h>
 #include <unistd.h>
 
@@ -44,6 +46,7 @@ void free_ring(struct ring *ring)
     free_requests(&ring->staged);
     free_completions(&ring->completions);
     free_memory(&ring->memory);
+    free_polled(ring);
     free(ring->ways);
     close_trace(ring);
     pthread_mutex_destroy(&ring->lock);
@@ -66,18 +69,21 @@ static int read_sizes(struct wulgach_setup *setup, uint32_t entries, const struc
 }
 
 /* Makes the core and the memory, and returns the descriptor. */
-static int fill_ring(struct ring *ring, struct wulgach_setup *setup, struct io_uring_params *params)
+static int fill_ring(struct ring *ring, struct wulgach_setup *setup, struct io_uring_params *params, bool is_polled)
 {
     int result = wulgach_core_new(&ring->core, setup);
     if (result < 0)
         return result;
     setup->sq = round_up(setup->sq);
     setup->cq = setup->has_cq ? round_up(setup->cq) : 2 * setup->sq;
-    int fd = make_memory(&ring->memory, setup->sq, setup->cq, params);
+    int fd = is_polled ? make_polled(ring) : make_file();
+    if (fd < 0)
+        return fd;
     struct stat status;
-    if (fd < 0 || fstat(fd, &status) < 0) {
-        wulgach_core_free(&ring->core);
-        return fd < 0 ? fd : -errno;
+    result = fstat(fd, &status) < 0 ? -errno : make_memory(&ring->memory, is_polled ? -1 : fd, setup->sq, setup->cq, params);
+    if (result < 0) {
+        close(fd);
+        return result;
     }
     ring->device = status.st_dev;
     ring->inode = status.st_ino;
@@ -85,7 +91,7 @@ static int fill_ring(struct ring *ring, struct wulgach_setup *setup, struct io_u
 }
 
 /* Makes a ring as the parameters say, and fills them in. Its descriptor is in it. */
-static int make_ring(struct ring **made, uint32_t entries, struct io_uring_params *params)
+static int make_ring(struct ring **made, uint32_t entries, struct io_uring_params *params, bool is_polled)
 {
     struct wulgach_setup sizes;
     int result = read_sizes(&sizes, entries, params);
@@ -94,13 +100,14 @@ static int make_ring(struct ring **made, uint32_t entries, struct io_uring_param
     struct ring *ring = calloc(1, sizeof *ring);
     if (!ring)
         return -ENOMEM;
-    ring->fd = fill_ring(ring, &sizes, params);
+    pthread_mutex_init(&ring->lock, NULL);
+    ring->ready_fd = -1;
+    ring->fd = fill_ring(ring, &sizes, params, is_polled);
     if (ring->fd < 0) {
         result = ring->fd;
-        free(ring);
+        free_ring(ring);
         return result;
     }
-    pthread_mutex_init(&ring->lock, NULL);
     ring->process = getpid();
     ring->flags = params->flags;
     params->features = FEATURES;
@@ -108,7 +115,7 @@ static int make_ring(struct ring **made, uint32_t entries, struct io_uring_param
     return 0;
 }
 
-int setup(uint32_t entries, struct io_uring_params *params)
+int setup(uint32_t entries, struct io_uring_params *params, bool is_polled)
 {
     struct io_uring_params own;
     struct ring *ring;
@@ -116,7 +123,7 @@ int setup(uint32_t entries, struct io_uring_params *params)
     read_injection();
     if (copy_in(&own, (uintptr_t)params, sizeof own) < 0)
         return -EFAULT;
-    int result = make_ring(&ring, entries, &own);
+    int result = make_ring(&ring, entries, &own, is_polled);
     if (result < 0)
         return result;
     int fd = ring->fd;
@@ -127,4 +134,14 @@ int setup(uint32_t entries, struct io_uring_params *params)
     }
     add_ring(ring);
     return fd;
+}
+
+void *map_file(void *at, size_t size, int protection, int flags, int fd, int64_t offset)
+{
+    struct ring *ring = lock_ring(fd);
+    bool is_polled = ring && ring->ready_fd >= 0;
+    void *mapped = is_polled ? map_again(&ring->memory, size, (uint64_t)offset) : mmap(at, size, protection, flags, fd, (off_t)offset);
+    if (ring)
+        unlock_ring(ring);
+    return mapped;
 }

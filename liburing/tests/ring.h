@@ -15,6 +15,8 @@
 #include <unistd.h>
 
 long wulgach_syscall(long call, ...);
+long wulgach_polled_syscall(long call, ...);
+void *wulgach_mmap(void *at, size_t size, int protection, int flags, int fd, off_t offset);
 
 /* A ring as a program maps it. */
 struct ring {
@@ -46,7 +48,9 @@ static inline void check_at(bool is_so, const char *what, int line)
 
 static inline long set_up(unsigned entries, struct io_uring_params *params)
 {
-    long result = wulgach_syscall(SYS_io_uring_setup, entries, params);
+    /* A descriptor that polls, or one that mmap maps. */
+    bool is_polled = getenv("WULGACH_TEST_POLLED");
+    long result = is_polled ? wulgach_polled_syscall(SYS_io_uring_setup, entries, params) : wulgach_syscall(SYS_io_uring_setup, entries, params);
     return result < 0 ? -errno : result;
 }
 
@@ -84,7 +88,7 @@ static inline unsigned *cq_word(const struct ring *ring, unsigned offset)
 
 static inline void *map(const struct ring *ring, size_t size, unsigned long long offset)
 {
-    void *at = mmap(NULL, size, PROT_READ | PROT_WRITE, MAP_SHARED | MAP_POPULATE, ring->fd, (off_t)offset);
+    void *at = wulgach_mmap(NULL, size, PROT_READ | PROT_WRITE, MAP_SHARED | MAP_POPULATE, ring->fd, (off_t)offset);
     check(at != MAP_FAILED);
     return at;
 }
