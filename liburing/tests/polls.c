@@ -135,12 +135,12 @@ static void test_threads(void)
     close_ring(&ring);
 }
 
-/* Set-up makes no file, so a limit of 1 MB on files does not matter; where it makes one, it ends with -EFBIG. */
+/* Set-up makes no file, so a limit on the size of files doesn't matter; where it makes one, it ends with -EFBIG. */
 static void test_file_limit(void)
 {
     pid_t child = fork();
     if (child == 0) {
-    
+        static const struct rlimit least = {1 << 20, 1 << 20};
         struct ring ring;
         check(setrlimit(RLIMIT_FSIZE, &least) == 0);
         make_ring(&ring, 4096, 0, 0);
