@@ -1,5 +1,5 @@
 /* Put before a source of liburing, which is compiled unchanged: leaves out the system calls that are written inline for
- * the processor, and takes liburing's generic ones, whose syscall() is the layer's.
+ * the processor, and takes liburing's generic ones, whose syscall() and mmap() are the layer's.
  */
 #define _GNU_SOURCE
 #define LIBURING_INTERNAL
@@ -7,7 +7,11 @@
 #define LIBURING_ARCH_AARCH64_SYSCALL_H
 #include "lib.h"
 #include "syscall.h"
-long wulgach_syscall(long call, ...);
-#define syscall wulgach_syscall
+#include <sys/mman.h>
+long wulgach_polled_syscall(long call, ...);
+void *wulgach_mmap(void *at, size_t size, int protection, int flags, int fd, off_t offset);
+#define syscall wulgach_polled_syscall
+#define mmap wulgach_mmap
 #include "arch/generic/syscall.h"
 #undef syscall
+#undef mmap

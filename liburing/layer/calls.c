@@ -1,5 +1,6 @@
-/* What liburing calls in the place of the C library's syscall(): the layer answers the three calls of io_uring, and
- * hands on all others.
+/* What a program calls in the place of the C library's syscall() and mmap(): the layer answers the three calls of
+ * io_uring, and hands on all others. liburing's sources call wulgach_polled_syscall and wulgach_mmap. A program that maps
+ * its rings by mmap itself calls wulgach_syscall: its descriptors are memory, and don't poll.
  */
 #define _GNU_SOURCE
 #include "enter.h"
@@ -9,7 +10,10 @@
 #include <sys/syscall.h>
 #include <unistd.h>
 
-__attribute__((visibility("default"))) long wulgach_syscall(long call, ...);
+#define SEEN __attribute__((visibility("default")))
+SEEN long wulgach_syscall(long call, ...);
+SEEN long wulgach_polled_syscall(long call, ...);
+SEEN void *wulgach_mmap(void *at, size_t size, int protection, int flags, int fd, off_t offset);
 
 /* The way in which syscall() returns. */
 static long returned(long result)
@@ -20,10 +24,10 @@ static long returned(long result)
     return -1;
 }
 
-static long call_setup(va_list arguments)
+static long call_setup(va_list arguments, bool is_polled)
 {
     uint32_t entries = va_arg(arguments, uint32_t);
-    return setup(entries, va_arg(arguments, struct io_uring_params *));
+    return setup(entries, va_arg(arguments, struct io_uring_params *), is_polled);
 }
 
 static long call_enter(va_list arguments)
@@ -52,24 +56,39 @@ static long hand_on(long call, va_list arguments)
     return syscall(call, words[0], words[1], words[2], words[3], words[4], words[5]);
 }
 
+static long call_any(long call, va_list arguments, bool is_polled)
+{
+    switch (call) {
+    case SYS_io_uring_setup:
+        return returned(call_setup(arguments, is_polled));
+    case SYS_io_uring_enter:
+        return returned(call_enter(arguments));
+    case SYS_io_uring_register:
+        return returned(call_register(arguments));
+    default:
+        return hand_on(call, arguments);
+    }
+}
+
 long wulgach_syscall(long call, ...)
 {
     va_list arguments;
     va_start(arguments, call);
-    long result;
-    switch (call) {
-    case SYS_io_uring_setup:
-        result = returned(call_setup(arguments));
-        break;
-    case SYS_io_uring_enter:
-        result = returned(call_enter(arguments));
-        break;
-    case SYS_io_uring_register:
-        result = returned(call_register(arguments));
-        break;
-    default:
-        result = hand_on(call, arguments);
-    }
+    long result = call_any(call, arguments, false);
     va_end(arguments);
     return result;
+}
+
+long wulgach_polled_syscall(long call, ...)
+{
+    va_list arguments;
+    va_start(arguments, call);
+    long result = call_any(call, arguments, true);
+    va_end(arguments);
+    return result;
+}
+
+void *wulgach_mmap(void *at, size_t size, int protection, int flags, int fd, off_t offset)
+{
+    return map_file(at, size, protection, flags, fd, offset);
 }

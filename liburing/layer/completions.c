@@ -67,8 +67,8 @@ void show(struct ring *ring)
     uint32_t flags = 0;
     if (completions->shown < completions->count)
         flags |= IORING_SQ_CQ_OVERFLOW;
-    /* Makes a peek that finds nothing call, and so lets requests go on. */
-    if (ring->requests.count > 0)
+    /* Makes a peek that finds nothing call: so requests go on, and a descriptor that polls is readable no more. */
+    if (ring->requests.count > 0 || ring->is_readable)
         flags |= IORING_SQ_TASKRUN;
     store_word(&memory->sq->flags, flags);
 }
@@ -77,7 +77,6 @@ void show(struct ring *ring)
 static void reap(struct ring *ring, uint32_t count)
 {
     struct completions *completions = &ring->completions;
-    demand(count <= completions->shown, "the application stored a completion head past the tail");
     for (uint32_t i = 0; i < count; i++) {
         const struct posted *posted = posted_at(completions, 0);
         struct wulgach_answer answer = reap_one(ring);
@@ -87,13 +86,16 @@ static void reap(struct ring *ring, uint32_t count)
         completions->shown--;
     }
     completions->head += count;
+    ring->has_changed = true;
     demand(store_cq_head(ring) == completions->head, "the core's completion head isn't the application's");
 }
 
-void hear(struct ring *ring, bool is_flushing)
+bool hear(struct ring *ring, bool is_flushing)
 {
     struct completions *completions = &ring->completions;
     uint32_t count = load_word(&ring->memory.cq->head) - completions->head;
+    if (count > completions->shown)
+        return false;
     if (count > 0)
         reap(ring, count);
     bool has_overflowed = completions->shown < completions->count, has_room = completions->shown < ring->memory.cq_entries;
@@ -101,6 +103,7 @@ void hear(struct ring *ring, bool is_flushing)
         flush(ring);
         show(ring);
     }
+    return true;
 }
 
 uint32_t count_ready(const struct ring *ring)

@@ -34,8 +34,9 @@ void note_end(struct ring *ring, uint64_t user_data, int32_t res, int32_t told);
 void show(struct ring *ring);
 
 /* Tells the core what the application has reaped. With `is_flushing`, or if none has overflowed, the dispatcher loads
- * the head, so that completions that overflowed come into the ring. */
-void hear(struct ring *ring, bool is_flushing);
+ * the head, so that completions that overflowed come into the ring. False, and nothing is reaped, if the application
+ * has stored a head past the tail. */
+bool hear(struct ring *ring, bool is_flushing);
 
 /* How many completions the application can reap. */
 uint32_t count_ready(const struct ring *ring);

@@ -3,17 +3,22 @@
  */
 #define _GNU_SOURCE
 #include "enter.h"
+#include "copying.h"
+#include "descriptors.h"
 #include "policy.h"
 #include "progress.h"
+#include "readiness.h"
 #include "ring.h"
 #include "submit.h"
+#include "times.h"
 #include "trace.h"
+#include "waiting.h"
 
 #include <errno.h>
+#include <fcntl.h>
 #include <linux/io_uring.h>
 #include <signal.h>
 #include <stdio.h>
-#include <string.h>
 
 /* What the application waits for. */
 struct waiting {
@@ -25,18 +30,20 @@ struct waiting {
 /* Reads the last two arguments of the call, beside the mask that the thread has. */
 static int read_waiting(struct waiting *waiting, uint32_t flags, const void *argument, size_t size)
 {
-    const void *signals = argument;
+    uint64_t signals = (uintptr_t)argument;
     size_t signals_size = size;
     waiting->limit = -1;
     if (flags & IORING_ENTER_EXT_ARG) {
-        const struct io_uring_getevents_arg *extended = argument;
-        if (!extended || size != sizeof *extended)
+        struct io_uring_getevents_arg extended;
+        struct __kernel_timespec time;
+        if (size != sizeof extended)
             return -EINVAL;
-        signals = (const void *)(uintptr_t)extended->sigmask;
-        signals_size = extended->sigmask_sz;
-        const struct __kernel_timespec *time = (const void *)(uintptr_t)extended->ts;
-        if (time)
-            waiting->limit = time->tv_sec * 1000000000 + time->tv_nsec;
+        if (copy_in(&extended, signals, size) < 0 || (extended.ts && copy_in(&time, extended.ts, sizeof time) < 0))
+            return -EFAULT;
+        signals = extended.sigmask;
+        signals_size = extended.sigmask_sz;
+        if (extended.ts)
+            waiting->limit = nanoseconds_of(&time);
     }
     if (!signals)
         return 0;
@@ -44,8 +51,7 @@ static int read_waiting(struct waiting *waiting, uint32_t flags, const void *arg
     if (signals_size != _NSIG / 8)
         return -EINVAL;
     sigemptyset(&waiting->signals);
-    memcpy(&waiting->signals, signals, signals_size);
-    return 0;
+    return copy_in(&waiting->signals, signals, signals_size);
 }
 
 /* Goes on behind a submission that nobody waits for. */
@@ -76,9 +82,19 @@ static void say_stuck(const struct ring *ring, uint32_t min_complete)
     fprintf(stderr, "wulgach: ring %u waits for %u completions, %u are there, and nothing can go on\n", (unsigned)ring->index, (unsigned)min_complete, (unsigned)count_ready(ring));
 }
 
+/* The application stored a completion head past the tail: its calls end so until it stores another. */
+static int refuse_head(struct ring *ring)
+{
+    if (!ring->has_complained)
+        fprintf(stderr, "wulgach: ring %u has a completion head past its tail\n", (unsigned)ring->index);
+    ring->has_complained = true;
+    return -EBADFD;
+}
+
 /* Goes on until enough completions are shown. */
 static int go_on_until(struct ring *ring, const struct waiting *waiting)
 {
+    int64_t deadline = waiting->limit < 0 ? -1 : add_times(ring->now, waiting->limit);
     uint32_t enough = waiting->min_complete;
     if (enough > ring->memory.cq_entries)
         enough = ring->memory.cq_entries;
@@ -89,19 +105,23 @@ static int go_on_until(struct ring *ring, const struct waiting *waiting)
         enum progress progress = go_on(ring, is_enough);
         if (progress == MAY_RETURN || (progress == STUCK && is_enough))
             return 0;
-        int result = progress == STUCK ? wait_for_any(ring, waiting->limit, &waiting->signals) : 0;
+        if (progress == STUCK)
+            show_readiness(ring);
+        int result = progress == STUCK ? wait_for_any(ring, deadline, &waiting->signals) : 0;
         if (result == -EDEADLK)
             say_stuck(ring, enough);
         if (result < 0)
             return result;
-        hear(ring, true);
+        if (!hear(ring, true))
+            return refuse_head(ring);
     }
 }
 
 static int enter_ring(struct ring *ring, uint32_t to_submit, uint32_t flags, const struct waiting *waiting)
 {
     bool is_getting = flags & IORING_ENTER_GETEVENTS;
-    hear(ring, is_getting);
+    if (!hear(ring, is_getting))
+        return refuse_head(ring);
     int submitted = submit(ring, to_submit);
     int result = 0;
     /* The kernel doesn't wait if it couldn't submit all. */
@@ -111,6 +131,7 @@ static int enter_ring(struct ring *ring, uint32_t to_submit, uint32_t flags, con
         go_on_for_peek(ring);
     else
         result = go_on_until(ring, waiting);
+    show_readiness(ring);
     show(ring);
     return submitted != 0 ? submitted : result;
 }
@@ -123,7 +144,8 @@ int enter(int fd, uint32_t to_submit, uint32_t min_complete, uint32_t flags, con
         return -EINVAL;
     struct ring *ring = lock_ring(fd);
     if (!ring)
-        return -EOPNOTSUPP;
+        return fcntl(fd, F_GETFD) < 0 ? -EBADF : -EOPNOTSUPP;
+    ring->called_fd = fd;
     struct waiting waiting = {.min_complete = min_complete};
     sigset_t all;
     sigfillset(&all);

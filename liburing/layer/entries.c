@@ -1,6 +1,7 @@
 /* What an entry becomes: which are served, what the core is told of them, and what is copied when they are submitted. */
 #define _GNU_SOURCE
 #include "operations.h"
+#include "copying.h"
 
 #include <errno.h>
 #include <linux/openat2.h>
@@ -77,21 +78,20 @@ enum mapping mapping_of(const struct io_uring_sqe *entry)
     return entry->opcode == IORING_OP_ASYNC_CANCEL ? CANCEL : TOKEN;
 }
 
-static void *copy_of(uint64_t from, size_t size)
+/* Copies what stands at an address into memory of its own. */
+static int copy_of(void **to, uint64_t from, size_t size)
 {
-    void *to = malloc(size);
-    if (to)
-        memcpy(to, (const void *)(uintptr_t)from, size);
-    return to;
+    *to = malloc(size);
+    return *to ? copy_in(*to, from, size) : -ENOMEM;
 }
 
 static int copy_vectors(struct request *request)
 {
     if (!request->entry.len)
         return 0;
-    request->vectors = copy_of(request->entry.addr, request->entry.len * sizeof *request->vectors);
-    if (!request->vectors)
-        return -ENOMEM;
+    int result = copy_of((void **)&request->vectors, request->entry.addr, request->entry.len * sizeof *request->vectors);
+    if (result < 0)
+        return result;
     for (uint32_t i = 0; i < request->entry.len; i++)
         request->length += request->vectors[i].iov_len;
     return 0;
@@ -108,15 +108,6 @@ static int make_vector(struct request *request)
     return 0;
 }
 
-/* A path that is no address stays one: the system call then says so. */
-static int copy_path(char **to, uint64_t from)
-{
-    if (!from)
-        return 0;
-    *to = strdup((const char *)(uintptr_t)from);
-    return *to ? 0 : -ENOMEM;
-}
-
 static int copy_paths(struct request *request)
 {
     int result = copy_path(&request->path, request->entry.addr);
@@ -127,14 +118,18 @@ static int copy_how(struct request *request)
 {
     if (request->entry.len != sizeof *request->how)
         return 0;
-    request->how = copy_of(request->entry.addr2, sizeof *request->how);
-    return request->how ? 0 : -ENOMEM;
+    return copy_of((void **)&request->how, request->entry.addr2, sizeof *request->how);
 }
 
-int copy_behind(struct request *request)
+/* Time is virtual: one that is negative is a fault, as it is in the kernel. */
+static int copy_time(struct request *request)
 {
-    if (request->mapping != TOKEN)
-        return 0;
+    int result = copy_of((void **)&request->time, request->entry.addr, sizeof *request->time);
+    return result < 0 ? result : request->time->tv_sec < 0 || request->time->tv_nsec < 0 ? -EINVAL : 0;
+}
+
+static int copy_of_token(struct request *request)
+{
     switch (request->entry.opcode) {
     case IORING_OP_READV:
     case IORING_OP_WRITEV:
@@ -142,8 +137,10 @@ int copy_behind(struct request *request)
     case IORING_OP_READ:
     case IORING_OP_WRITE:
         return make_vector(request);
-    case IORING_OP_OPENAT:
     case IORING_OP_STATX:
+        /* With AT_EMPTY_PATH it may have none. */
+        return request->entry.addr ? copy_path(&request->path, request->entry.addr) : 0;
+    case IORING_OP_OPENAT:
     case IORING_OP_UNLINKAT:
     case IORING_OP_MKDIRAT:
         return copy_path(&request->path, request->entry.addr);
@@ -156,9 +153,21 @@ int copy_behind(struct request *request)
     case IORING_OP_LINKAT:
         return copy_paths(request);
     case IORING_OP_TIMEOUT:
-        request->time = copy_of(request->entry.addr, sizeof *request->time);
-        return request->time ? 0 : -ENOMEM;
+        return copy_time(request);
     default:
         return 0;
     }
+}
+
+int copy_behind(struct request *request)
+{
+    if (request->mapping == CANCEL)
+        return 0;
+    int result = request->mapping == REFUSED ? -EINVAL : copy_of_token(request);
+    if (result == -ENOMEM)
+        return result;
+    if (result < 0)
+        request->mapping = REFUSED;
+    request->fault = result;
+    return 0;
 }

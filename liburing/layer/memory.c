@@ -1,11 +1,15 @@
-/* Makes ring memory. The memfd is sparse: the submission ring's words and array at IORING_OFF_SQ_RING, the completion
- * ring's words and completions at IORING_OFF_CQ_RING, and the entry table at IORING_OFF_SQES. Each is mapped by itself:
- * without the feature SINGLE_MMAP a program does so, and one that never asks for it does so too.
+/* Makes ring memory: the submission ring's words and array at IORING_OFF_SQ_RING, the completion ring's words and
+ * completions at IORING_OFF_CQ_RING, and the entry table at IORING_OFF_SQES. Each is mapped by itself: without the feature
+ * SINGLE_MMAP a program does so, and one that never asks for it does so too. It is a memfd, which is sparse and as long as
+ * the last offset demands, or memory without a file.
  */
 #define _GNU_SOURCE
 #include "memory.h"
 
 #include <errno.h>
+#include <pthread.h>
+#include <signal.h>
+#include <stdbool.h>
 #include <stddef.h>
 #include <string.h>
 #include <sys/mman.h>
@@ -16,8 +20,23 @@ enum { BEHIND_WORDS = 64 };
 
 static void *map(int fd, size_t size, uint64_t offset)
 {
-    void *at = mmap(NULL, size, PROT_READ | PROT_WRITE, MAP_SHARED, fd, (off_t)offset);
+    void *at = fd < 0 ? mmap(NULL, size, PROT_READ | PROT_WRITE, MAP_SHARED | MAP_ANONYMOUS, -1, 0) : mmap(NULL, size, PROT_READ | PROT_WRITE, MAP_SHARED, fd, (off_t)offset);
     return at == MAP_FAILED ? NULL : at;
+}
+
+/* Lengthens a memfd. If the process may have no file as long, that is an error, and not a signal. */
+static int lengthen(int fd, uint64_t length)
+{
+    sigset_t signals, own;
+    static const struct timespec no_time = {0, 0};
+    sigemptyset(&signals);
+    sigaddset(&signals, SIGXFSZ);
+    pthread_sigmask(SIG_BLOCK, &signals, &own);
+    int result = ftruncate(fd, (off_t)length) < 0 ? -errno : 0;
+    while (result == -EFBIG && sigtimedwait(&signals, NULL, &no_time) > 0)
+        ;
+    pthread_sigmask(SIG_SETMASK, &own, NULL);
+    return result;
 }
 
 static int map_all(struct memory *memory, int fd)
@@ -26,9 +45,7 @@ static int map_all(struct memory *memory, int fd)
     memory->cq = map(fd, memory->cq_size, IORING_OFF_CQ_RING);
     memory->entries = map(fd, memory->entries_size, IORING_OFF_SQES);
     if (!memory->sq || !memory->cq || !memory->entries) {
-        int error = errno;
-        free_memory(memory);
-        return -error;
+        return -errno;
     }
     memory->array = (uint32_t *)((char *)memory->sq + BEHIND_WORDS);
     memory->completions = (struct io_uring_cqe *)((char *)memory->cq + BEHIND_WORDS);
@@ -59,27 +76,43 @@ static void tell_offsets(struct io_uring_params *params, const struct memory *me
     };
 }
 
-int make_memory(struct memory *memory, uint32_t sq_entries, uint32_t cq_entries, struct io_uring_params *params)
+int make_memory(struct memory *memory, int fd, uint32_t sq_entries, uint32_t cq_entries, struct io_uring_params *params)
 {
     memory->sq_entries = sq_entries;
     memory->cq_entries = cq_entries;
     memory->sq_size = BEHIND_WORDS + sq_entries * sizeof(uint32_t);
     memory->cq_size = BEHIND_WORDS + cq_entries * sizeof(struct io_uring_cqe);
     memory->entries_size = sq_entries * sizeof(struct io_uring_sqe);
-    int fd = memfd_create("wulgach ring", MFD_CLOEXEC);
-    if (fd < 0)
-        return -errno;
-    int result = ftruncate(fd, (off_t)(IORING_OFF_SQES + memory->entries_size)) < 0 ? -errno : map_all(memory, fd);
-    if (result < 0) {
-        close(fd);
+    int result = fd < 0 ? 0 : lengthen(fd, IORING_OFF_SQES + memory->entries_size);
+    if (result == 0)
+        result = map_all(memory, fd);
+    if (result < 0)
         return result;
-    }
     memory->sq->mask = sq_entries - 1;
     memory->sq->entries = sq_entries;
     memory->cq->mask = cq_entries - 1;
     memory->cq->entries = cq_entries;
     tell_offsets(params, memory);
-    return fd;
+    return 0;
+}
+
+int make_file(void)
+{
+    int fd = memfd_create("wulgach ring", MFD_CLOEXEC);
+    return fd < 0 ? -errno : fd;
+}
+
+/* A shared mapping of no size that is moved is mapped once more, and stays. */
+void *map_again(const struct memory *memory, size_t size, uint64_t offset)
+{
+    void *at = offset == IORING_OFF_SQ_RING ? (void *)memory->sq : offset == IORING_OFF_CQ_RING ? (void *)memory->cq : memory->entries;
+    size_t most = offset == IORING_OFF_SQ_RING ? memory->sq_size : offset == IORING_OFF_CQ_RING ? memory->cq_size : memory->entries_size;
+    size_t page = (size_t)sysconf(_SC_PAGESIZE);
+    bool is_part = offset == IORING_OFF_SQ_RING || offset == IORING_OFF_CQ_RING || offset == IORING_OFF_SQES;
+    if (is_part && size > 0 && size <= (most + page - 1) / page * page)
+        return mremap(at, 0, size, MREMAP_MAYMOVE);
+    errno = EINVAL;
+    return MAP_FAILED;
 }
 
 static void unmap(void *at, size_t size)

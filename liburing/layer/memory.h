@@ -1,5 +1,5 @@
-/* Ring memory: a memfd that the application maps as it maps a ring of the kernel. It mirrors the core's rings: the
- * same sizes, the same heads and tails.
+/* Ring memory: the application maps it as it maps a ring of the kernel. It mirrors the core's rings: the same sizes, the
+ * same heads and tails.
  */
 #ifndef MEMORY_H
 #define MEMORY_H
@@ -27,9 +27,16 @@ struct memory {
     size_t sq_size, cq_size, entries_size;  /* of the three mappings, in bytes */
 };
 
-/* Makes the memory of rings of these sizes, both powers of two, and tells the parameters where everything stands.
- * Returns its descriptor, or the negative of an error number. */
-int make_memory(struct memory *memory, uint32_t sq_entries, uint32_t cq_entries, struct io_uring_params *params);
+/* A memfd. Returns it, or the negative of an error number. */
+int make_file(void);
+
+/* Makes the memory of rings of these sizes, both powers of two, in a memfd, or without a file if `fd` is negative, and
+ * tells the parameters where everything stands. Returns 0 or the negative of an error number. */
+int make_memory(struct memory *memory, int fd, uint32_t sq_entries, uint32_t cq_entries, struct io_uring_params *params);
+
+/* Maps a part of the memory once more, as mmap would at this offset. */
+void *map_again(const struct memory *memory, size_t size, uint64_t offset);
+
 void free_memory(struct memory *memory);
 
 /* The words are shared with the application: one side stores behind what it wrote, the other loads before it reads. */

@@ -1,7 +1,7 @@
 /* Carries operations out, each by one system call, when its request is finished. */
 #define _GNU_SOURCE
 #include "operations.h"
-#include "ring.h"
+#include "descriptors.h"
 
 #include <errno.h>
 #include <fcntl.h>
@@ -41,12 +41,19 @@ static int32_t result_of(long result)
     return result < 0 ? -errno : (int32_t)result;
 }
 
+/* Whether a transfer's descriptor has offsets: a transfer of no vectors says so, and does nothing else. */
+static bool has_offsets(const struct request *request)
+{
+    int fd = request->entry.fd;
+    return (is_read(request) ? preadv(fd, NULL, 0, 0) : pwritev(fd, NULL, 0, 0)) >= 0 || errno != ESPIPE;
+}
+
 bool is_stream(const struct request *request)
 {
     struct stat status;
     if (!is_transfer(request) || fstat(request->entry.fd, &status) < 0)
         return false;
-    return S_ISFIFO(status.st_mode) || S_ISSOCK(status.st_mode) || S_ISCHR(status.st_mode);
+    return S_ISCHR(status.st_mode) || !has_offsets(request);
 }
 
 struct pollfd poll_of(const struct request *request)
@@ -78,18 +85,19 @@ static int32_t transfer(const struct request *request, off_t offset, int flags)
     return result_of(is_read(request) ? preadv2(fd, request->vectors, count, offset, flags) : pwritev2(fd, request->vectors, count, offset, flags));
 }
 
-/* A stream has no offset. Asked not to wait, it gives what it has. */
+/* Asked not to wait, a stream gives what it has. One that can't be asked so is polled before. */
 static int32_t transfer_on_stream(const struct request *request)
 {
+    off_t offset = has_offsets(request) ? (off_t)request->entry.off : -1;
     int flags = request->entry.rw_flags, own = fcntl(request->entry.fd, F_GETFL);
     if (flags & RWF_NOWAIT || (own >= 0 && own & O_NONBLOCK))
-        return transfer(request, -1, flags);
-    int32_t res = transfer(request, -1, flags | RWF_NOWAIT);
+        return transfer(request, offset, flags);
+    int32_t res = transfer(request, offset, flags | RWF_NOWAIT);
     if (res == -EAGAIN)
         return WOULD_WAIT;
     if (res != -EOPNOTSUPP)
         return res;
-    return is_ready(request) ? transfer(request, -1, flags) : WOULD_WAIT;
+    return is_ready(request) ? transfer(request, offset, flags) : WOULD_WAIT;
 }
 
 static int32_t open_path(const struct request *request)

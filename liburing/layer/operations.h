@@ -17,10 +17,10 @@ bool is_served_code(uint8_t code);
 /* What the core is to be told of an entry. */
 enum mapping mapping_of(const struct io_uring_sqe *entry);
 
-/* Copies what the entry points to. Returns 0 or the negative of an error number. */
+/* Copies what the entry points to. An entry that points to what can't be read is refused. Returns 0 or -ENOMEM. */
 int copy_behind(struct request *request);
 
-/* Whether it is a transfer on a pipe, a socket or a terminal. */
+/* Whether it is a transfer that may have to wait: on what has no offset, as a pipe or an eventfd, or on a device. */
 bool is_stream(const struct request *request);
 
 /* Whether a transfer on a stream wouldn't have to wait now. */

@@ -193,3 +193,13 @@ void refuse_choice(uint64_t at)
     }
     put_listed(at, 0);
 }
+
+void lock_choices(void)
+{
+    pthread_mutex_lock(&chosen_by.lock);
+}
+
+void unlock_choices(void)
+{
+    pthread_mutex_unlock(&chosen_by.lock);
+}

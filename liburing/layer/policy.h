@@ -34,4 +34,8 @@ void refuse_choice(uint64_t at);
 /* Records a choice that was made: which of how many ways, and in words. */
 void record_choice(uint64_t at, uint32_t count, uint32_t chosen, const char *what);
 
+/* Keep others from choosing and recording, over a fork. */
+void lock_choices(void);
+void unlock_choices(void);
+
 #endif

@@ -9,20 +9,18 @@
 #include "operations.h"
 #include "policy.h"
 #include "steps.h"
+#include "times.h"
 #include "trace.h"
 
 #include <errno.h>
 #include <inttypes.h>
-#include <poll.h>
 #include <stdlib.h>
-#include <sys/stat.h>
-#include <time.h>
 
 /* What a core is told of a success and of a failure. Which failure it was stays in the layer: a chain doesn't ask. The
  * failure's number is what `uring trace` gives for an fsync of a descriptor that no file has. */
 enum { TOLD_SUCCESS = 0, TOLD_FAILURE = -EBADF };
 
-static bool is_timeout(const struct request *request)
+bool is_timeout(const struct request *request)
 {
     return request->entry.opcode == IORING_OP_TIMEOUT;
 }
@@ -37,14 +35,27 @@ static bool can_finish(const struct request *request)
     return !is_timeout(request) && (!request->is_stream || is_ready(request));
 }
 
+/* Forgets refusals, since a request has ended. What a link puts behind an outstanding request stays refused, unless the
+ * end was a failure: only that can let it end without the one before it. So a long chain is asked for once each. */
+static void forget_refusals(struct ring *ring, bool is_success)
+{
+    struct request **rows = ring->requests.rows;
+    for (size_t i = 0; i < ring->requests.count; i++) {
+        bool is_behind = rows[i]->is_linked && i > 0 && rows[i - 1]->number + 1 == rows[i]->number;
+        if (!is_behind || !is_success)
+            rows[i]->is_refused = false;
+    }
+}
+
 /* A request has ended: its completion is queued, and who was refused may be ready now. */
 static void end_of(struct ring *ring, struct request *request, int32_t res, int32_t told)
 {
     trace_result(ring, request, res);
+    bool is_cancel = request->mapping == CANCEL;
     note_end(ring, request->entry.user_data, res, told);
+    ring->has_changed = true;
     end_request(&ring->requests, request);
-    for (size_t i = 0; i < ring->requests.count; i++)
-        ring->requests.rows[i]->is_refused = false;
+    forget_refusals(ring, told == TOLD_SUCCESS && !is_cancel);
     show(ring);
 }
 
@@ -58,11 +69,6 @@ static void cancel_running(struct ring *ring, uint64_t target)
             return;
         }
     }
-}
-
-static int64_t nanoseconds_of(const struct __kernel_timespec *time)
-{
-    return time->tv_sec * 1000000000 + time->tv_nsec;
 }
 
 enum outcome { IS_REFUSED, IS_RUNNING, HAS_ENDED };
@@ -90,7 +96,7 @@ static void start(struct ring *ring, struct request *request)
 {
     request->state = RUNS;
     if (is_timeout(request))
-        request->expiry = ring->now + (uint64_t)nanoseconds_of(request->time);
+        request->expiry = add_times(ring->now, nanoseconds_of(request->time));
 }
 
 /* Issues a request that waits: it starts, or ends without being carried out, or the core refuses it. */
@@ -104,7 +110,7 @@ static enum outcome issue_waiting(struct ring *ring, struct request *request)
     case WULGACH_ENDED:
         if (request->mapping == CANCEL && answer.res == -EALREADY)
             cancel_running(ring, request->entry.addr);
-        end_of(ring, request, answer.res, answer.res);
+        end_of(ring, request, request->mapping == REFUSED && answer.res == -EINVAL ? request->fault : answer.res, answer.res);
         return HAS_ENDED;
     default:
         demand(answer.kind == WULGACH_RUN, "the core doesn't issue a request");
@@ -211,112 +217,12 @@ enum progress go_on(struct ring *ring, bool may_return)
     return WENT_ON;
 }
 
-/* The running timeout that ends first, or NULL. */
-static struct request *next_timeout(const struct ring *ring)
+bool can_go_on(struct ring *ring)
 {
-    struct request *next = NULL;
-    for (size_t i = 0; i < ring->requests.count; i++) {
-        struct request *request = ring->requests.rows[i];
-        if (request->state == RUNS && is_timeout(request) && (!next || request->expiry < next->expiry))
-            next = request;
-    }
-    return next;
+    return first_in_order(ring) != NULL;
 }
 
-static void fire(struct ring *ring, struct request *timeout)
+void finish_timeout(struct ring *ring, struct request *timeout)
 {
-    if (timeout->expiry > ring->now)
-        ring->now = timeout->expiry;
     finish_running(ring, timeout);
-}
-
-/* Whether a transfer on a stream waits. */
-static bool is_streaming(const struct ring *ring)
-{
-    for (size_t i = 0; i < ring->requests.count; i++)
-        if (ring->requests.rows[i]->state == RUNS && ring->requests.rows[i]->is_stream)
-            return true;
-    return false;
-}
-
-static nfds_t list_streams(const struct ring *ring, struct pollfd *streams)
-{
-    nfds_t count = 0;
-    for (size_t i = 0; i < ring->requests.count; i++) {
-        struct request *request = ring->requests.rows[i];
-        if (request->state == RUNS && request->is_stream) {
-            request->is_refused = false;
-            streams[count++] = poll_of(request);
-        }
-    }
-    return count;
-}
-
-/* Sleeps until a stream is ready, without the ring's lock. 1: one is; 0: the time is over, or no stream is waited for. */
-static int sleep_on_streams(struct ring *ring, int64_t limit, const sigset_t *signals)
-{
-    struct pollfd *streams = calloc(ring->requests.count + 1, sizeof *streams);
-    if (!streams)
-        return -ENOMEM;
-    nfds_t count = list_streams(ring, streams);
-    int result = 0;
-    if (count > 0) {
-        struct timespec time = {limit / 1000000000, limit % 1000000000};
-        pthread_mutex_unlock(&ring->lock);
-        result = ppoll(streams, count, limit < 0 ? NULL : &time, signals);
-        if (result < 0)
-            result = -errno;
-        pthread_mutex_lock(&ring->lock);
-    }
-    free(streams);
-    return result > 0 ? 1 : result;
-}
-
-/* Whether another thread of the process could still submit something. */
-static bool has_threads(void)
-{
-    struct stat status;
-    return stat("/proc/self/task", &status) == 0 && status.st_nlink > 3;
-}
-
-/* Sleeps until another thread has called on this ring, for `limit` nanoseconds at most, or for ever if it is negative.
- * A process with no other thread doesn't sleep. */
-static int sleep_for_others(struct ring *ring, int64_t limit)
-{
-    if (!has_threads())
-        return limit < 0 ? -EDEADLK : -ETIME;
-    if (limit < 0)
-        return -pthread_cond_wait(&ring->called, &ring->lock);
-    struct timespec until;
-    clock_gettime(CLOCK_REALTIME, &until);
-    until.tv_sec += (until.tv_nsec + limit) / 1000000000;
-    until.tv_nsec = (until.tv_nsec + limit) % 1000000000;
-    return pthread_cond_timedwait(&ring->called, &ring->lock, &until) == ETIMEDOUT ? -ETIME : 0;
-}
-
-int wait_for_any(struct ring *ring, int64_t limit, const sigset_t *signals)
-{
-    struct request *timeout = next_timeout(ring);
-    if (!timeout && !is_streaming(ring))
-        return sleep_for_others(ring, limit);
-    int64_t until = timeout && timeout->expiry > ring->now ? (int64_t)(timeout->expiry - ring->now) : timeout ? 0 : -1;
-    bool is_limited = limit >= 0 && (until < 0 || limit < until);
-    int result = sleep_on_streams(ring, is_limited ? limit : until, signals);
-    if (result != 0)
-        return result > 0 ? 0 : result;
-    if (is_limited) {
-        ring->now += (uint64_t)limit;
-        return -ETIME;
-    }
-    timeout = next_timeout(ring);
-    if (timeout)
-        fire(ring, timeout);
-    return 0;
-}
-
-void pass_time(struct ring *ring)
-{
-    struct request *timeout = next_timeout(ring);
-    if (timeout && !is_streaming(ring))
-        fire(ring, timeout);
 }

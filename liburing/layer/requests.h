@@ -18,9 +18,11 @@ struct request {
     enum mapping mapping;           /* what the core was told of it */
     enum state state;
     bool is_refused;                /* not ready when it was last asked for, and nothing has ended since */
-    bool is_stream;                 /* a transfer on a pipe, a socket or a terminal: it may have to wait */
+    int32_t fault;                  /* of a refused entry: what it ends with */
+    bool is_linked;                 /* a link puts it behind the one before it */
+    bool is_stream;                 /* a transfer that may have to wait: on what has no offset, or a device */
     bool is_cancelled;              /* a cancel found it running */
-    uint64_t expiry;                /* a timeout's, in virtual time */
+    int64_t expiry;                /* a timeout's, in virtual time */
     /* What the entry points to, copied when it is submitted: the application may reuse it at once. */
     struct iovec *vectors;
     uint64_t length;                /* the bytes of a transfer's vectors */

@@ -10,6 +10,7 @@
 #include "wulgach.h"
 
 #include <linux/io_uring.h>
+#include <poll.h>
 #include <pthread.h>
 #include <stdbool.h>
 #include <stdio.h>
@@ -21,10 +22,17 @@ struct ring {
     ino_t inode;
     pid_t process;                      /* who made it: a forked child has the memory, and not the core */
     int fd;                             /* the first descriptor: it may be closed, or another file's by now */
+    int called_fd;                      /* the one of the last call */
+    int ready_fd;                       /* an eventfd, if the descriptor polls; or negative: the descriptor is memory */
+    bool is_readable;                   /* the eventfd is set */
+    struct pollfd *watched;             /* the streams that the descriptor polls for */
+    size_t watched_count;
     uint32_t index;                     /* its number among the process's rings, from 0 */
     uint32_t flags;                     /* IORING_SETUP_.. */
+    uint32_t calls;                     /* how many calls are on it, under the lock of all rings: it lives as long */
     pthread_mutex_t lock;               /* held during each call, but not while it sleeps */
-    pthread_cond_t called;              /* a call has come to its end: for a thread that waits for another's */
+    struct sleeper *sleepers;           /* the threads that sleep in a call on it */
+    bool has_changed;                   /* something has gone on since they were last woken */
     struct memory memory;
     struct wulgach_core core;
     struct requests requests;           /* accepted and not ended */
@@ -33,19 +41,14 @@ struct ring {
     size_t ways_room;
     uint64_t accepted;                  /* how many requests were accepted so far */
     struct completions completions;     /* posted and not reaped */
-    uint64_t now;                       /* virtual time in nanoseconds: moved on by timeouts only */
+    int64_t now;                        /* virtual time in nanoseconds */
+    int64_t slept_until;                /* the real time up to which what was slept is in it */
+    bool has_complained;                /* that the application stored a wrong head was said */
     bool has_trace;                     /* whether it is known where steps and answers go: */
     int trace_file;                     /* there, where trace isn't NULL */
     FILE *trace;                        /* the line that is being written, in memory; or NULL */
     char *line;                         /* its letters, once it is flushed, */
     size_t line_length;                 /* and their number */
 };
-
-/* The ring of a descriptor, with its lock held; NULL if it is none of this process's. */
-struct ring *lock_ring(int fd);
-void unlock_ring(struct ring *ring);
-
-/* Whether a descriptor is a ring's. */
-bool is_ring(int fd);
 
 #endif

@@ -1,18 +1,19 @@
-/* Making rings, and finding the ring of a descriptor. The layer isn't told when a descriptor is closed: it keeps each
- * ring until a set-up finds that nobody can reach it any more. What is left when the process ends isn't freed: threads
- * may use it to the last.
+/* Making rings.
  */
 #define _GNU_SOURCE
+#include "copying.h"
+#include "descriptors.h"
 #include "enter.h"
 #include "injection.h"
 #include "policy.h"
+#include "readiness.h"
 #include "ring.h"
 #include "trace.h"
 
-#include <dirent.h>
 #include <errno.h>
 #include <stdlib.h>
 #include <string.h>
+#include <sys/mman.h>
 #include <sys/stat.h>
 #include <unistd.h>
 
@@ -30,10 +31,6 @@ enum {
                IORING_FEAT_LINKED_FILE
 };
 
-static struct ring *rings;
-static uint32_t ring_count;
-static pthread_mutex_t rings_lock = PTHREAD_MUTEX_INITIALIZER;
-
 static uint32_t round_up(uint32_t size)
 {
     uint32_t power = 1;
@@ -42,25 +39,18 @@ static uint32_t round_up(uint32_t size)
     return power;
 }
 
-static void free_ring(struct ring *ring)
+void free_ring(struct ring *ring)
 {
     wulgach_core_free(&ring->core);
     free_requests(&ring->requests);
     free_requests(&ring->staged);
     free_completions(&ring->completions);
     free_memory(&ring->memory);
+    free_polled(ring);
     free(ring->ways);
     close_trace(ring);
-    pthread_cond_destroy(&ring->called);
     pthread_mutex_destroy(&ring->lock);
     free(ring);
-}
-
-/* Whether a descriptor is open on this ring's memory. */
-static bool is_reached_by(const struct ring *ring, int fd)
-{
-    struct stat status;
-    return fstat(fd, &status) == 0 && status.st_dev == ring->device && status.st_ino == ring->inode;
 }
 
 /* The sizes that are asked for, as the core is to be asked for them. */
@@ -79,72 +69,30 @@ static int read_sizes(struct wulgach_setup *setup, uint32_t entries, const struc
 }
 
 /* Makes the core and the memory, and returns the descriptor. */
-static int fill_ring(struct ring *ring, struct wulgach_setup *setup, struct io_uring_params *params)
+static int fill_ring(struct ring *ring, struct wulgach_setup *setup, struct io_uring_params *params, bool is_polled)
 {
     int result = wulgach_core_new(&ring->core, setup);
     if (result < 0)
         return result;
     setup->sq = round_up(setup->sq);
     setup->cq = setup->has_cq ? round_up(setup->cq) : 2 * setup->sq;
-    int fd = make_memory(&ring->memory, setup->sq, setup->cq, params);
+    int fd = is_polled ? make_polled(ring) : make_file();
+    if (fd < 0)
+        return fd;
     struct stat status;
-    if (fd < 0 || fstat(fd, &status) < 0) {
-        wulgach_core_free(&ring->core);
-        return fd < 0 ? fd : -errno;
+    result = fstat(fd, &status) < 0 ? -errno : make_memory(&ring->memory, is_polled ? -1 : fd, setup->sq, setup->cq, params);
+    if (result < 0) {
+        close(fd);
+        return result;
     }
     ring->device = status.st_dev;
     ring->inode = status.st_ino;
     return fd;
 }
 
-/* Whether the ring's memfd is open in this process, under its first descriptor or another. */
-static bool is_open(const struct ring *ring)
+/* Makes a ring as the parameters say, and fills them in. Its descriptor is in it. */
+static int make_ring(struct ring **made, uint32_t entries, struct io_uring_params *params, bool is_polled)
 {
-    if (is_reached_by(ring, ring->fd))
-        return true;
-    DIR *folder = opendir("/proc/self/fd");
-    if (!folder)
-        return true;
-    bool is_found = false;
-    for (struct dirent *entry; !is_found && (entry = readdir(folder));)
-        is_found = is_reached_by(ring, atoi(entry->d_name));
-    closedir(folder);
-    return is_found;
-}
-
-/* Frees the rings that nobody can reach any more. The lock of the list is held. A ring in use is left. */
-static void free_closed_rings(void)
-{
-    for (struct ring **at = &rings; *at;) {
-        struct ring *ring = *at;
-        bool is_free = ring->process == getpid() && !is_open(ring) && pthread_mutex_trylock(&ring->lock) == 0;
-        if (is_free) {
-            pthread_mutex_unlock(&ring->lock);
-            *at = ring->next;
-            free_ring(ring);
-        } else {
-            at = &ring->next;
-        }
-    }
-}
-
-/* Puts a ring that is made into the list. */
-static void add_ring(struct ring *ring)
-{
-    pthread_mutex_lock(&rings_lock);
-    free_closed_rings();
-    ring->index = ring_count++;
-    ring->next = rings;
-    rings = ring;
-    pthread_mutex_unlock(&rings_lock);
-}
-
-int setup(uint32_t entries, struct io_uring_params *params)
-{
-    read_policy();
-    read_injection();
-    if (!params)
-        return -EFAULT;
     struct wulgach_setup sizes;
     int result = read_sizes(&sizes, entries, params);
     if (result < 0)
@@ -152,51 +100,48 @@ int setup(uint32_t entries, struct io_uring_params *params)
     struct ring *ring = calloc(1, sizeof *ring);
     if (!ring)
         return -ENOMEM;
-    ring->fd = fill_ring(ring, &sizes, params);
+    pthread_mutex_init(&ring->lock, NULL);
+    ring->ready_fd = -1;
+    ring->fd = fill_ring(ring, &sizes, params, is_polled);
     if (ring->fd < 0) {
         result = ring->fd;
-        free(ring);
+        free_ring(ring);
         return result;
     }
-    pthread_mutex_init(&ring->lock, NULL);
-    pthread_cond_init(&ring->called, NULL);
     ring->process = getpid();
     ring->flags = params->flags;
     params->features = FEATURES;
+    *made = ring;
+    return 0;
+}
+
+int setup(uint32_t entries, struct io_uring_params *params, bool is_polled)
+{
+    struct io_uring_params own;
+    struct ring *ring;
+    read_policy();
+    read_injection();
+    if (copy_in(&own, (uintptr_t)params, sizeof own) < 0)
+        return -EFAULT;
+    int result = make_ring(&ring, entries, &own, is_polled);
+    if (result < 0)
+        return result;
     int fd = ring->fd;
+    if (copy_out((uintptr_t)params, &own, sizeof own) < 0) {
+        close(fd);
+        free_ring(ring);
+        return -EFAULT;
+    }
     add_ring(ring);
     return fd;
 }
 
-/* The ring of a descriptor, with the list's lock held. */
-static struct ring *find_ring(int fd)
+void *map_file(void *at, size_t size, int protection, int flags, int fd, int64_t offset)
 {
-    struct ring *ring = rings;
-    while (ring && (ring->process != getpid() || !is_reached_by(ring, fd)))
-        ring = ring->next;
-    return ring;
-}
-
-struct ring *lock_ring(int fd)
-{
-    pthread_mutex_lock(&rings_lock);
-    struct ring *ring = find_ring(fd);
-    pthread_mutex_unlock(&rings_lock);
+    struct ring *ring = lock_ring(fd);
+    bool is_polled = ring && ring->ready_fd >= 0;
+    void *mapped = is_polled ? map_again(&ring->memory, size, (uint64_t)offset) : mmap(at, size, protection, flags, fd, (off_t)offset);
     if (ring)
-        pthread_mutex_lock(&ring->lock);
-    return ring;
-}
-
-void unlock_ring(struct ring *ring)
-{
-    pthread_cond_broadcast(&ring->called);
-    pthread_mutex_unlock(&ring->lock);
-}
-
-bool is_ring(int fd)
-{
-    pthread_mutex_lock(&rings_lock);
-    bool is_found = find_ring(fd) != NULL;
-    pthread_mutex_unlock(&rings_lock);
-    return is_found;
+        unlock_ring(ring);
+    return mapped;
 }

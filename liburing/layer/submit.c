@@ -64,13 +64,14 @@ static bool stage_up_to(struct ring *ring, uint32_t count)
 }
 
 /* Takes one position, and gives its request a number. */
-static void accept_one(struct ring *ring, struct request *request)
+static void accept_one(struct ring *ring, struct request *request, const struct request *before)
 {
     bool is_entry = take_position(ring);
     demand(is_entry == (request != NULL), "the core drops another word");
     if (!request)
         return;
     request->number = ring->accepted++;
+    request->is_linked = before && before->entry.flags & (IOSQE_IO_LINK | IOSQE_IO_HARDLINK);
     request->is_stream = request->mapping == TOKEN && is_stream(request);
     add_request(&ring->requests, request);
 }
@@ -83,8 +84,9 @@ static int take_staged(struct ring *ring)
     if (!begin_call(ring, count))
         return -EAGAIN;
     for (uint32_t i = 0; i < count; i++)
-        accept_one(ring, ring->staged.rows[i]);
+        accept_one(ring, ring->staged.rows[i], i > 0 ? ring->staged.rows[i - 1] : NULL);
     drop_requests(&ring->staged, count);
+    ring->has_changed = true;
     struct wulgach_answer answer = end_call(ring);
     demand(answer.word == ring->accepted - accepted, "the core accepts another number of requests");
     store_word(&ring->memory.sq->dropped, answer.dropped);

@@ -1,190 +1,20 @@
 /* Tests of the layer by direct calls of setup, enter and register: they need no sources of liburing. All hold under
  * every policy, which the environment says. Memory is refused by the wrapped malloc, calloc and realloc of this program.
  *
- *   direct [injection]       with the word: only the test of faults, for which WULGACH_FAULTS is 0=ENOSPC,2=SHORT,5=EIO
+ *   direct [injection]       with the word: only the test of faults, for which WULGACH_FAULTS is
+ *                            0=ENOSPC,2=SHORT,5=EIO,6=SHORT
  */
 #define _GNU_SOURCE
-#include <errno.h>
-#include <fcntl.h>
-#include <linux/io_uring.h>
+#include "ring.h"
+
 #include <pthread.h>
-#include <stdbool.h>
-#include <stdint.h>
-#include <stdio.h>
-#include <stdlib.h>
-#include <string.h>
-#include <sys/mman.h>
-#include <sys/syscall.h>
 #include <sys/uio.h>
 #include <sys/wait.h>
-#include <unistd.h>
 
-long wulgach_syscall(long call, ...);
-
-/* A ring as a program maps it. */
-struct ring {
-    int fd;
-    struct io_uring_params params;
-    char *sq, *cq;
-    struct io_uring_sqe *entries;
-    size_t sq_size, cq_size;
-};
-
-struct completion {
-    uint64_t user_data;
-    int32_t res;
-};
-
-static const char *test = "";
-
-static void check_at(bool is_so, const char *what, int line)
+/* Whether nothing is outstanding, and nothing has overflowed. A descriptor that polls is readable until the next call. */
+static bool is_at_rest(const struct ring *ring)
 {
-    if (is_so)
-        return;
-    printf("direct: %s: line %d: %s\n", test, line, what);
-    exit(1);
-}
-
-#define check(is_so) check_at(is_so, #is_so, __LINE__)
-
-/* ---- calls ---- */
-
-static long set_up(unsigned entries, struct io_uring_params *params)
-{
-    long result = wulgach_syscall(SYS_io_uring_setup, entries, params);
-    return result < 0 ? -errno : result;
-}
-
-static long enter(const struct ring *ring, unsigned to_submit, unsigned min_complete, unsigned flags)
-{
-    long result = wulgach_syscall(SYS_io_uring_enter, ring->fd, to_submit, min_complete, flags, NULL, (size_t)0);
-    return result < 0 ? -errno : result;
-}
-
-static long enter_for(const struct ring *ring, unsigned min_complete, long long nanoseconds)
-{
-    struct __kernel_timespec time = {nanoseconds / 1000000000, nanoseconds % 1000000000};
-    struct io_uring_getevents_arg argument = {.ts = (uintptr_t)&time};
-    long result = wulgach_syscall(SYS_io_uring_enter, ring->fd, 0u, min_complete, IORING_ENTER_GETEVENTS | IORING_ENTER_EXT_ARG, &argument, sizeof argument);
-    return result < 0 ? -errno : result;
-}
-
-static long register_at(int fd, unsigned code, void *argument, unsigned count)
-{
-    long result = wulgach_syscall(SYS_io_uring_register, fd, code, argument, count);
-    return result < 0 ? -errno : result;
-}
-
-/* ---- ring memory ---- */
-
-static unsigned *sq_word(const struct ring *ring, unsigned offset)
-{
-    return (unsigned *)(void *)(ring->sq + offset);
-}
-
-static unsigned *cq_word(const struct ring *ring, unsigned offset)
-{
-    return (unsigned *)(void *)(ring->cq + offset);
-}
-
-static void *map(const struct ring *ring, size_t size, unsigned long long offset)
-{
-    void *at = mmap(NULL, size, PROT_READ | PROT_WRITE, MAP_SHARED | MAP_POPULATE, ring->fd, (off_t)offset);
-    check(at != MAP_FAILED);
-    return at;
-}
-
-static void make_ring(struct ring *ring, unsigned entries, unsigned completions, unsigned flags)
-{
-    memset(ring, 0, sizeof *ring);
-    ring->params.flags = flags | (completions ? IORING_SETUP_CQSIZE : 0);
-    ring->params.cq_entries = completions;
-    ring->fd = (int)set_up(entries, &ring->params);
-    check(ring->fd >= 0);
-    ring->sq_size = ring->params.sq_off.array + ring->params.sq_entries * sizeof(unsigned);
-    ring->cq_size = ring->params.cq_off.cqes + ring->params.cq_entries * sizeof(struct io_uring_cqe);
-    check(!(ring->params.features & IORING_FEAT_SINGLE_MMAP));
-    ring->sq = map(ring, ring->sq_size, IORING_OFF_SQ_RING);
-    ring->cq = map(ring, ring->cq_size, IORING_OFF_CQ_RING);
-    ring->entries = map(ring, ring->params.sq_entries * sizeof *ring->entries, IORING_OFF_SQES);
-}
-
-static void close_ring(struct ring *ring)
-{
-    munmap(ring->sq, ring->sq_size);
-    munmap(ring->cq, ring->cq_size);
-    munmap(ring->entries, ring->params.sq_entries * sizeof *ring->entries);
-    close(ring->fd);
-}
-
-/* Publishes an index word, and returns the entry of its slot. */
-static struct io_uring_sqe *publish(struct ring *ring, unsigned word)
-{
-    unsigned *tail = sq_word(ring, ring->params.sq_off.tail), mask = ring->params.sq_entries - 1;
-    sq_word(ring, ring->params.sq_off.array)[*tail & mask] = word;
-    __atomic_store_n(tail, *tail + 1, __ATOMIC_RELEASE);
-    return &ring->entries[word & mask];
-}
-
-static struct io_uring_sqe *put(struct ring *ring, uint8_t code, uint64_t user_data, uint8_t flags)
-{
-    unsigned tail = *sq_word(ring, ring->params.sq_off.tail);
-    struct io_uring_sqe *entry = publish(ring, tail & (ring->params.sq_entries - 1));
-    memset(entry, 0, sizeof *entry);
-    entry->opcode = code;
-    entry->flags = flags;
-    entry->user_data = user_data;
-    return entry;
-}
-
-static struct io_uring_sqe *put_transfer(struct ring *ring, uint8_t code, uint64_t user_data, uint8_t flags, int fd, void *bytes, unsigned length, uint64_t offset)
-{
-    struct io_uring_sqe *entry = put(ring, code, user_data, flags);
-    entry->fd = fd;
-    entry->addr = (uintptr_t)bytes;
-    entry->len = length;
-    entry->off = offset;
-    return entry;
-}
-
-static unsigned flags_of(const struct ring *ring)
-{
-    return *sq_word(ring, ring->params.sq_off.flags);
-}
-
-static unsigned count_ready(const struct ring *ring)
-{
-    return __atomic_load_n(cq_word(ring, ring->params.cq_off.tail), __ATOMIC_ACQUIRE) - *cq_word(ring, ring->params.cq_off.head);
-}
-
-static struct completion reap(struct ring *ring)
-{
-    check(count_ready(ring) > 0);
-    unsigned *head = cq_word(ring, ring->params.cq_off.head);
-    const struct io_uring_cqe *cells = (const void *)(ring->cq + ring->params.cq_off.cqes);
-    const struct io_uring_cqe *cell = &cells[*head & (ring->params.cq_entries - 1)];
-    struct completion found = {cell->user_data, cell->res};
-    check(cell->flags == 0);
-    __atomic_store_n(head, *head + 1, __ATOMIC_RELEASE);
-    return found;
-}
-
-/* Waits for this many completions, and puts the result of user data n into place n. */
-static void reap_all(struct ring *ring, unsigned count, int32_t *results)
-{
-    check(enter(ring, 0, count, IORING_ENTER_GETEVENTS) == 0);
-    check(count_ready(ring) == count);
-    for (unsigned i = 0; i < count; i++) {
-        struct completion found = reap(ring);
-        results[found.user_data] = found.res;
-    }
-}
-
-static int make_file(void)
-{
-    int fd = memfd_create("file", MFD_CLOEXEC);
-    check(fd >= 0);
-    return fd;
+    return flags_of(ring) == 0 || (getenv("WULGACH_TEST_POLLED") && flags_of(ring) == IORING_SQ_TASKRUN);
 }
 
 /* ---- tests ---- */
@@ -233,7 +63,9 @@ static void test_calls(void)
     free(probe);
     check(wulgach_syscall(SYS_getpid) == getpid());
     close_ring(&ring);
-    check(enter(&ring, 0, 0, 0) == -EOPNOTSUPP);
+    check(enter(&ring, 0, 0, 0) == -EBADF);
+    ring.fd = -1;
+    check(enter(&ring, 0, 0, 0) == -EBADF);
 }
 
 /* A chain whose second member fails, a drain and a loose request. */
@@ -258,7 +90,7 @@ static void test_chain(void)
     }
     check(order[0] == 0 && order[1] == 1 && order[2] == 2 && order[3] == 3 && order[4] == 4);
     check(results[0] == 0 && results[1] == -EBADF && results[2] == -ECANCELED && results[3] == 0 && results[4] == 0);
-    check(flags_of(&ring) == 0);
+    check(is_at_rest(&ring));
     close_ring(&ring);
 }
 
@@ -297,6 +129,24 @@ static void test_faulty(void)
     reap_all(&ring, 3, results);
     check(results[0] == -ECANCELED && results[1] == -EINVAL && results[2] == 0);
     close_ring(&ring);
+}
+
+/* A faulty entry that is linked to the next doesn't end the call, whichever link it is. */
+static void test_faulty_link(void)
+{
+    static const uint8_t links[] = {IOSQE_IO_LINK, IOSQE_IO_HARDLINK};
+    for (int i = 0; i < 2; i++) {
+        struct ring ring;
+        int32_t results[3];
+        make_ring(&ring, 4, 0, 0);
+        put(&ring, IORING_OP_NOP, 0, 0);
+        put(&ring, IORING_OP_SENDMSG, 1, links[i]);
+        put(&ring, IORING_OP_NOP, 2, 0);
+        check(enter(&ring, 3, 0, 0) == 3);
+        reap_all(&ring, 3, results);
+        check(results[0] == 0 && results[1] == -EINVAL && results[2] == -ECANCELED);
+        close_ring(&ring);
+    }
 }
 
 /* A word that names no slot is dropped, and ends the call. */
@@ -339,7 +189,68 @@ static void test_overflow(void)
         }
     }
     check(enter(&ring, 0, 0, IORING_ENTER_GETEVENTS) == 0);
-    check(flags_of(&ring) == 0);
+    check(is_at_rest(&ring));
+    close_ring(&ring);
+}
+
+static bool is_in_order(void)
+{
+    const char *policy = getenv("WULGACH_POLICY");
+    return !policy || strcmp(policy, "order") == 0;
+}
+
+/* In order, eight no-ops complete at once, four of them past the ring's end. A wait for more than the ring holds ends
+ * when it is full. */
+static void test_overflow_flag(void)
+{
+    struct ring ring;
+    make_ring(&ring, 4, 4, 0);
+    for (unsigned i = 0; i < 8; i++) {
+        put(&ring, IORING_OP_NOP, i, 0);
+        check(enter(&ring, 1, 0, 0) == 1);
+    }
+    check(!is_in_order() || flags_of(&ring) & IORING_SQ_CQ_OVERFLOW);
+    check(enter(&ring, 0, 100, IORING_ENTER_GETEVENTS) == 0);
+    check(count_ready(&ring) == 4);
+    close_ring(&ring);
+}
+
+/* An operation that changes the completion ring's head itself: the end of the next request finds the room. */
+static void test_head_before_end(void)
+{
+    struct ring ring;
+    unsigned head = 4;
+    int file = make_file();
+    check(write(file, &head, sizeof head) == sizeof head);
+    make_ring(&ring, 4, 4, 0);
+    for (unsigned i = 0; i < 4; i++)
+        put(&ring, IORING_OP_NOP, i, 0);
+    check(enter(&ring, 4, 4, IORING_ENTER_GETEVENTS) == 4);
+    put_transfer(&ring, IORING_OP_READ, 4, IOSQE_IO_LINK | IOSQE_CQE_SKIP_SUCCESS, file, cq_word(&ring, ring.params.cq_off.head), sizeof head, 0);
+    put(&ring, IORING_OP_NOP, 5, 0);
+    check(enter(&ring, 2, 0, 0) == 2);
+    check(!is_in_order() || (!(flags_of(&ring) & IORING_SQ_CQ_OVERFLOW) && count_ready(&ring) == 1));
+    check(enter(&ring, 0, 1, IORING_ENTER_GETEVENTS) == 0);
+    check(count_ready(&ring) > 0);
+    close(file);
+    close_ring(&ring);
+}
+
+/* Completions that wait to be reaped are moved where they are queued: by one, over themselves. */
+static void test_some_reaped(void)
+{
+    struct ring ring;
+    uint64_t reaped = 0;
+    make_ring(&ring, 4, 64, 0);
+    for (unsigned i = 0; i < 60; i++) {
+        put(&ring, IORING_OP_NOP, i, 0);
+        check(enter(&ring, 1, i - i / 2 + 1, IORING_ENTER_GETEVENTS) == 1);
+        if (i % 2)
+            check(reap(&ring).user_data == reaped++);
+    }
+    while (count_ready(&ring) > 0)
+        check(reap(&ring).user_data == reaped++);
+    check(reaped == 60);
     close_ring(&ring);
 }
 
@@ -401,17 +312,68 @@ static void test_waiting(void)
     close_ring(&ring);
 }
 
+/* Each end lets what was refused before be asked for again: beside an older request that waits, two chains go on. */
+static void test_refusals(void)
+{
+    struct ring ring;
+    char byte;
+    int ends[2];
+    check(pipe(ends) == 0);
+    for (int round = 0; round < 20; round++) {
+        int32_t results[5];
+        make_ring(&ring, 8, 0, 0);
+        put_transfer(&ring, IORING_OP_READ, 4, 0, ends[0], &byte, 1, 0);
+        for (unsigned i = 0; i < 4; i++)
+            put(&ring, IORING_OP_NOP, i, i % 2 ? 0 : IOSQE_IO_LINK);
+        check(enter(&ring, 5, 0, 0) == 5);
+        reap_all(&ring, 4, results);
+        check(results[0] == 0 && results[1] == 0 && results[2] == 0 && results[3] == 0);
+        close_ring(&ring);
+    }
+    close(ends[0]);
+    close(ends[1]);
+}
+
+static void put_timeout(struct ring *ring, uint64_t user_data, const struct __kernel_timespec *time)
+{
+    struct io_uring_sqe *entry = put(ring, IORING_OP_TIMEOUT, user_data, 0);
+    entry->addr = (uintptr_t)time;
+    entry->len = 1;
+}
+
+/* Virtual time passes in a wait that ends without anything, and of equal timeouts the first ends first. A limit counts
+ * beside a mask of signals. */
+static void test_virtual_time(void)
+{
+    struct ring ring;
+    struct __kernel_timespec hour = {3600, 0};
+    make_ring(&ring, 4, 0, 0);
+    put_timeout(&ring, 0, &hour);
+    check(enter(&ring, 1, 0, 0) == 1);
+    check(enter_for(&ring, 1, 2400 * 1000000000ll) == -ETIME);
+    check(enter_for(&ring, 1, 2400 * 1000000000ll) == 0);
+    check(reap(&ring).res == -ETIME);
+    put_timeout(&ring, 1, &hour);
+    put_timeout(&ring, 2, &hour);
+    put_timeout(&ring, 3, &hour);
+    check(enter(&ring, 3, 0, 0) == 3);
+    check(enter_for(&ring, 3, 3599 * 1000000000ll) == -ETIME);
+    check(enter(&ring, 0, 3, IORING_ENTER_GETEVENTS) == 0);
+    for (unsigned i = 1; i <= 3; i++)
+        check(reap(&ring).user_data == i);
+    uint64_t signals = 0;
+    struct io_uring_getevents_arg argument = {.ts = (uintptr_t)&hour, .sigmask = (uintptr_t)&signals, .sigmask_sz = sizeof signals};
+    check(wulgach_syscall(SYS_io_uring_enter, ring.fd, 0u, 1u, IORING_ENTER_GETEVENTS | IORING_ENTER_EXT_ARG, &argument, sizeof argument) == -1 && errno == ETIME);
+    close_ring(&ring);
+}
+
 static void test_timeouts(void)
 {
     struct ring ring;
     struct __kernel_timespec hour = {3600, 0}, day = {86400, 0};
     make_ring(&ring, 4, 0, 0);
-    struct io_uring_sqe *entry = put(&ring, IORING_OP_TIMEOUT, 0, 0);
-    entry->addr = (uintptr_t)&day;
-    entry->len = 1;
-    entry = put(&ring, IORING_OP_TIMEOUT, 1, 0);
-    entry->addr = (uintptr_t)&hour;
-    entry->len = 1;
+    put_timeout(&ring, 0, &day);
+    put_timeout(&ring, 1, &hour);
     check(enter(&ring, 2, 0, 0) == 2);
     check(enter_for(&ring, 2, 7200 * 1000000000ll) == -ETIME);
     struct completion found = reap(&ring);
@@ -506,8 +468,9 @@ static void test_injection(void)
 {
     struct ring ring;
     int32_t results[8];
-    char bytes[8] = "12345678";
+    char bytes[8] = "12345678", text[8];
     int file = make_file();
+    struct iovec vectors[2] = {{(void *)(uintptr_t)"good ", 5}, {(void *)(uintptr_t)"morning", 7}};
     make_ring(&ring, 8, 0, 0);
     put_transfer(&ring, IORING_OP_WRITE, 0, IOSQE_IO_LINK, file, bytes, 8, 0);
     put(&ring, IORING_OP_FSYNC, 1, 0)->fd = file;
@@ -515,11 +478,21 @@ static void test_injection(void)
     put(&ring, IORING_OP_FSYNC, 3, 0)->fd = file;
     put_transfer(&ring, IORING_OP_WRITE, 4, 0, file, bytes, 8, 0);
     put(&ring, IORING_OP_FSYNC, 5, 0)->fd = file;
-    check(enter(&ring, 6, 0, 0) == 6);
-    reap_all(&ring, 6, results);
+    /* Half of all bytes, not of each vector's. */
+    put_transfer(&ring, IORING_OP_WRITEV, 6, 0, file, vectors, 2, 100);
+    check(enter(&ring, 7, 0, 0) == 7);
+    reap_all(&ring, 7, results);
+    check(results[6] == 6 && lseek(file, 0, SEEK_END) == 106 && pread(file, text, 6, 100) == 6 && memcmp(text, "good m", 6) == 0);
     check(results[0] == -ENOSPC && results[1] == -ECANCELED);
     check(results[2] == 4 && results[3] == -ECANCELED);
     check(results[4] == 8 && results[5] == -EIO);
+    close_ring(&ring);
+    /* Another ring has none. */
+    make_ring(&ring, 8, 0, 0);
+    put_transfer(&ring, IORING_OP_WRITE, 0, 0, file, bytes, 8, 0);
+    check(enter(&ring, 1, 0, 0) == 1);
+    reap_all(&ring, 1, results);
+    check(results[0] == 8);
     close(file);
     close_ring(&ring);
 }
@@ -591,7 +564,7 @@ int main(int argc, char **argv)
     static const struct {
         const char *name;
         void (*run)(void);
-    } tests[] = {{"setup", test_setup}, {"calls", test_calls}, {"chain", test_chain}, {"skipped success", test_skipped_success}, {"faulty", test_faulty}, {"dropped word", test_dropped_word}, {"overflow", test_overflow}, {"files", test_files}, {"waiting", test_waiting}, {"timeouts", test_timeouts}, {"two rings", test_two_rings}, {"threads", test_threads}, {"shared ring", test_shared_ring}, {"refused memory", test_refused_memory}};
+    } tests[] = {{"setup", test_setup}, {"calls", test_calls}, {"chain", test_chain}, {"skipped success", test_skipped_success}, {"faulty", test_faulty}, {"faulty link", test_faulty_link}, {"dropped word", test_dropped_word}, {"overflow", test_overflow}, {"overflow flag", test_overflow_flag}, {"head before end", test_head_before_end}, {"some reaped", test_some_reaped}, {"files", test_files}, {"waiting", test_waiting}, {"refusals", test_refusals}, {"timeouts", test_timeouts}, {"virtual time", test_virtual_time}, {"two rings", test_two_rings}, {"threads", test_threads}, {"shared ring", test_shared_ring}, {"refused memory", test_refused_memory}};
     (void)argv;
     if (argc > 1) {
         test = "injection";

@@ -1,0 +1,63 @@
+/* Copies by the system calls that read and write a process's memory, here its own: they end with an error where a load
+ * or a store would end the program. Where they aren't allowed, memory is copied as it comes.
+ */
+#define _GNU_SOURCE
+#include "copying.h"
+
+#include <errno.h>
+#include <limits.h>
+#include <stdbool.h>
+#include <stdlib.h>
+#include <string.h>
+#include <sys/uio.h>
+#include <unistd.h>
+
+/* No page is smaller: what stands between two multiples can be read as a whole or not at all. */
+enum { SMALLEST_PAGE = 4096 };
+
+/* 0 if all was copied, -EFAULT, or 1 if the call isn't allowed. */
+static int judge(ssize_t copied, size_t size)
+{
+    if (copied < 0 && (errno == ENOSYS || errno == EPERM))
+        return 1;
+    return copied == (ssize_t)size ? 0 : -EFAULT;
+}
+
+int copy_in(void *to, uint64_t from, size_t size)
+{
+    struct iovec here = {to, size}, there = {(void *)(uintptr_t)from, size};
+    int result = judge(process_vm_readv(getpid(), &here, 1, &there, 1, 0), size);
+    if (result <= 0)
+        return result;
+    memcpy(to, there.iov_base, size);
+    return 0;
+}
+
+int copy_out(uint64_t to, const void *from, size_t size)
+{
+    struct iovec here = {(void *)(uintptr_t)from, size}, there = {(void *)(uintptr_t)to, size};
+    int result = judge(process_vm_writev(getpid(), &here, 1, &there, 1, 0), size);
+    if (result <= 0)
+        return result;
+    memcpy(there.iov_base, from, size);
+    return 0;
+}
+
+int copy_path(char **to, uint64_t from)
+{
+    char path[PATH_MAX];
+    size_t length = 0;
+    while (length < sizeof path) {
+        size_t piece = SMALLEST_PAGE - (from + length) % SMALLEST_PAGE;
+        if (piece > sizeof path - length)
+            piece = sizeof path - length;
+        if (copy_in(path + length, from + length, piece) < 0)
+            return -EFAULT;
+        if (memchr(path + length, '\0', piece)) {
+            *to = strdup(path);
+            return *to ? 0 : -ENOMEM;
+        }
+        length += piece;
+    }
+    return -ENAMETOOLONG;
+}

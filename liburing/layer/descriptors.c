@@ -1,0 +1,169 @@
+/* Finding the ring of a descriptor. The layer isn't told when a descriptor is closed: it keeps each ring until a set-up
+ * finds that nobody can reach it any more and that no call is on it. What is left when the process ends isn't freed:
+ * threads may use it to the last.
+ */
+#define _GNU_SOURCE
+#include "descriptors.h"
+#include "policy.h"
+#include "readiness.h"
+#include "sleep.h"
+
+#include <dirent.h>
+#include <stdlib.h>
+#include <string.h>
+#include <sys/stat.h>
+#include <unistd.h>
+
+static struct ring *rings;          /* those of this process and of its parents, the newest first */
+static struct ring **by_number;     /* the ring that was last found under each descriptor, or NULL */
+static size_t by_number_room;
+static uint32_t ring_count;
+static pthread_mutex_t rings_lock = PTHREAD_MUTEX_INITIALIZER;
+
+/* A child has its parent's locks as they were at the fork: so none is held then by another thread. The lock of a ring
+ * may be, but a child doesn't take those. */
+static void lock_for_fork(void)
+{
+    pthread_mutex_lock(&rings_lock);
+    lock_choices();
+}
+
+static void unlock_behind_fork(void)
+{
+    unlock_choices();
+    pthread_mutex_unlock(&rings_lock);
+}
+
+__attribute__((constructor)) static void watch_forks(void)
+{
+    pthread_atfork(lock_for_fork, unlock_behind_fork, unlock_behind_fork);
+}
+
+static bool is_own(const struct ring *ring)
+{
+    return ring->process == getpid();
+}
+
+/* Whether a descriptor is open on this ring. Memory is known by its inode. */
+static bool is_reached_by(const struct ring *ring, int fd)
+{
+    struct stat status;
+    if (ring->ready_fd >= 0)
+        return is_polled_by(ring, fd);
+    return fstat(fd, &status) == 0 && status.st_dev == ring->device && status.st_ino == ring->inode;
+}
+
+/* Whether a ring is open in this process, under its first descriptor or another. */
+static bool is_open(const struct ring *ring)
+{
+    if (is_reached_by(ring, ring->fd))
+        return true;
+    DIR *folder = opendir("/proc/self/fd");
+    if (!folder)
+        return true;
+    bool is_found = false;
+    for (struct dirent *entry; !is_found && (entry = readdir(folder));)
+        is_found = is_reached_by(ring, atoi(entry->d_name));
+    closedir(folder);
+    return is_found;
+}
+
+static void forget(const struct ring *ring)
+{
+    for (size_t i = 0; i < by_number_room; i++)
+        if (by_number[i] == ring)
+            by_number[i] = NULL;
+}
+
+/* Frees the rings that nobody can reach any more and that no call is on. */
+static void free_closed_rings(void)
+{
+    for (struct ring **at = &rings; *at;) {
+        struct ring *ring = *at;
+        if (is_own(ring) && ring->calls == 0 && !is_open(ring)) {
+            *at = ring->next;
+            forget(ring);
+            free_ring(ring);
+        } else {
+            at = &ring->next;
+        }
+    }
+}
+
+/* Remembers the ring of a descriptor. If memory is refused, it is searched for again. */
+static void remember(int fd, struct ring *ring)
+{
+    size_t at = (size_t)fd;
+    if (at >= by_number_room) {
+        size_t room = 2 * at + 16;
+        struct ring **rows = realloc(by_number, room * sizeof *rows);
+        if (!rows)
+            return;
+        memset(rows + by_number_room, 0, (room - by_number_room) * sizeof *rows);
+        by_number = rows;
+        by_number_room = room;
+    }
+    by_number[at] = ring;
+}
+
+void add_ring(struct ring *ring)
+{
+    pthread_mutex_lock(&rings_lock);
+    free_closed_rings();
+    ring->index = ring_count++;
+    ring->next = rings;
+    rings = ring;
+    remember(ring->fd, ring);
+    pthread_mutex_unlock(&rings_lock);
+}
+
+static struct ring *search_rings(int fd)
+{
+    struct ring *ring = rings;
+    while (ring && !(is_own(ring) && is_reached_by(ring, fd)))
+        ring = ring->next;
+    return ring;
+}
+
+/* The ring of a descriptor, with the list's lock held. It is looked for by number first, and then among all. */
+static struct ring *find_ring(int fd)
+{
+    if (fd < 0)
+        return NULL;
+    struct ring *ring = (size_t)fd < by_number_room ? by_number[fd] : NULL;
+    if (ring && is_own(ring) && is_reached_by(ring, fd))
+        return ring;
+    ring = search_rings(fd);
+    if (ring)
+        remember(fd, ring);
+    return ring;
+}
+
+struct ring *lock_ring(int fd)
+{
+    pthread_mutex_lock(&rings_lock);
+    struct ring *ring = find_ring(fd);
+    if (ring)
+        ring->calls++;
+    pthread_mutex_unlock(&rings_lock);
+    if (ring)
+        pthread_mutex_lock(&ring->lock);
+    return ring;
+}
+
+void unlock_ring(struct ring *ring)
+{
+    wake_sleepers(ring);
+    pthread_mutex_unlock(&ring->lock);
+    pthread_mutex_lock(&rings_lock);
+    ring->calls--;
+    pthread_mutex_unlock(&rings_lock);
+}
+
+bool is_ring(int fd)
+{
+    pthread_mutex_lock(&rings_lock);
+    bool is_found = find_ring(fd) != NULL;
+    pthread_mutex_unlock(&rings_lock);
+    return is_found;
+}

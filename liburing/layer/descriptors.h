@@ -1,0 +1,21 @@
+/* The rings of this process, by their descriptors. */
+#ifndef DESCRIPTORS_H
+#define DESCRIPTORS_H
+
+#include "ring.h"
+
+/* Puts a ring that is made among the others, and frees those that nobody can reach any more. */
+void add_ring(struct ring *ring);
+
+/* The ring of a descriptor, with its lock held; NULL if it is none of this process's. It lives at least until it is
+ * unlocked, also if its descriptor is closed. */
+struct ring *lock_ring(int fd);
+void unlock_ring(struct ring *ring);
+
+/* Whether a descriptor is a ring's. */
+bool is_ring(int fd);
+
+/* Frees a ring. */
+void free_ring(struct ring *ring);
+
+#endif

@@ -1,0 +1,124 @@
+/* The descriptor is an epoll instance: poll and epoll take it, read and write refuse it, as they do a ring of the kernel.
+ * In it are an eventfd of the layer's, which is set while completions wait or something can go on, and the descriptors
+ * of the streams that running requests wait for. The eventfd also tells the instance from others.
+ *
+ * The layer isn't told when the application reaps: so the eventfd stays set until the next call, and meanwhile
+ * IORING_SQ_TASKRUN makes a peek that finds nothing call.
+ */
+#define _GNU_SOURCE
+#include "readiness.h"
+#include "operations.h"
+#include "progress.h"
+#include "waiting.h"
+
+#include <errno.h>
+#include <fcntl.h>
+#include <stdlib.h>
+#include <string.h>
+#include <sys/epoll.h>
+#include <sys/eventfd.h>
+#include <unistd.h>
+
+/* An eventfd under a high number: a program that closes a low one twice doesn't close this. */
+static int make_high_eventfd(void)
+{
+    int low = eventfd(0, EFD_CLOEXEC | EFD_NONBLOCK);
+    int high = low < 0 ? -1 : fcntl(low, F_DUPFD_CLOEXEC, 512);
+    if (high < 0)
+        return low;
+    close(low);
+    return high;
+}
+
+int make_polled(struct ring *ring)
+{
+    struct epoll_event event = {.events = EPOLLIN};
+    int fd = epoll_create1(EPOLL_CLOEXEC);
+    if (fd < 0)
+        return -errno;
+    ring->ready_fd = make_high_eventfd();
+    if (ring->ready_fd >= 0 && epoll_ctl(fd, EPOLL_CTL_ADD, ring->ready_fd, &event) == 0)
+        return fd;
+    int error = errno;
+    close(fd);
+    if (ring->ready_fd >= 0)
+        close(ring->ready_fd);
+    return -error;
+}
+
+void free_polled(struct ring *ring)
+{
+    if (ring->ready_fd >= 0)
+        close(ring->ready_fd);
+    free(ring->watched);
+}
+
+bool is_polled_by(const struct ring *ring, int fd)
+{
+    struct epoll_event event = {.events = EPOLLIN};
+    return epoll_ctl(fd, EPOLL_CTL_MOD, ring->ready_fd, &event) == 0;
+}
+
+/* Lists the descriptors of the running requests that wait for streams, each once. */
+static size_t list_watched(const struct ring *ring, struct pollfd *watched)
+{
+    size_t count = 0;
+    for (size_t i = 0; i < ring->requests.count; i++) {
+        const struct request *request = ring->requests.rows[i];
+        if (request->state != RUNS || !request->is_stream)
+            continue;
+        struct pollfd polled = poll_of(request);
+        size_t at = 0;
+        while (at < count && watched[at].fd != polled.fd)
+            at++;
+        if (at == count)
+            watched[count++] = polled;
+        else
+            watched[at].events |= polled.events;
+    }
+    return count;
+}
+
+static void watch(int fd, int change, const struct pollfd *polled)
+{
+    struct epoll_event event = {.events = polled->events & POLLOUT ? EPOLLOUT : 0};
+    if (polled->events & POLLIN)
+        event.events |= EPOLLIN;
+    epoll_ctl(fd, change, polled->fd, &event);
+}
+
+/* Puts the streams that are waited for in the place of those that were. If memory is refused, the next call tries. */
+static void watch_streams(struct ring *ring, int fd)
+{
+    if (ring->requests.count == 0 && ring->watched_count == 0)
+        return;
+    struct pollfd *watched = calloc(ring->requests.count + 1, sizeof *watched);
+    if (!watched)
+        return;
+    size_t count = list_watched(ring, watched);
+    if (count == ring->watched_count && (count == 0 || memcmp(watched, ring->watched, count * sizeof *watched) == 0)) {
+        free(watched);
+        return;
+    }
+    for (size_t i = 0; i < ring->watched_count; i++)
+        watch(fd, EPOLL_CTL_DEL, &ring->watched[i]);
+    for (size_t i = 0; i < count; i++)
+        watch(fd, EPOLL_CTL_ADD, &watched[i]);
+    free(ring->watched);
+    ring->watched = watched;
+    ring->watched_count = count;
+}
+
+void show_readiness(struct ring *ring)
+{
+    uint64_t one = 1;
+    if (ring->ready_fd < 0)
+        return;
+    watch_streams(ring, ring->called_fd);
+    bool is_readable = count_ready(ring) > 0 || can_go_on(ring) || can_pass_time(ring);
+    if (is_readable == ring->is_readable)
+        return;
+    ring->is_readable = is_readable;
+    ssize_t done = is_readable ? write(ring->ready_fd, &one, sizeof one) : read(ring->ready_fd, &one, sizeof one);
+    (void)done;
+}

@@ -1,0 +1,17 @@
+/* A ring's descriptor that polls: readable while completions wait or something can go on. */
+#ifndef READINESS_H
+#define READINESS_H
+
+#include "ring.h"
+
+/* Makes the descriptor of a ring, and returns it, or the negative of an error number. */
+int make_polled(struct ring *ring);
+void free_polled(struct ring *ring);
+
+/* Whether a descriptor is open on this ring, which has one that polls. */
+bool is_polled_by(const struct ring *ring, int fd);
+
+/* Makes the descriptor readable, or no more so. Nothing, if it is memory. */
+void show_readiness(struct ring *ring);
+
+#endif

@@ -1,0 +1,112 @@
+/* Sleeps by ppoll on the streams that running requests wait for and, if the process has other threads, on an eventfd
+ * that is this sleeper's. It is made for one sleep, so that a ring keeps no descriptor for it.
+ */
+#define _GNU_SOURCE
+#include "sleep.h"
+#include "operations.h"
+#include "times.h"
+
+#include <errno.h>
+#include <poll.h>
+#include <stdlib.h>
+#include <sys/eventfd.h>
+#include <sys/stat.h>
+#include <time.h>
+#include <unistd.h>
+
+/* How long a thread sleeps at most, in nanoseconds, if there is no descriptor by which another could wake it. */
+enum { NAP = 10000000 };
+
+bool has_threads(void)
+{
+    struct stat status;
+    return stat("/proc/self/task", &status) == 0 && status.st_nlink > 3;
+}
+
+static int64_t real_time(void)
+{
+    struct timespec now;
+    clock_gettime(CLOCK_MONOTONIC, &now);
+    return (int64_t)now.tv_sec * 1000000000 + now.tv_nsec;
+}
+
+/* Adds what has passed since `start` to virtual time. What another sleeper has added isn't added again. */
+static void add_slept(struct ring *ring, int64_t start)
+{
+    int64_t end = real_time();
+    if (start < ring->slept_until)
+        start = ring->slept_until;
+    if (end > start) {
+        ring->now = add_times(ring->now, end - start);
+        ring->slept_until = end;
+    }
+}
+
+static nfds_t list_streams(const struct ring *ring, struct pollfd *streams)
+{
+    nfds_t count = 0;
+    for (size_t i = 0; i < ring->requests.count; i++) {
+        struct request *request = ring->requests.rows[i];
+        if (request->state == RUNS && request->is_stream) {
+            request->is_refused = false;
+            streams[count++] = poll_of(request);
+        }
+    }
+    return count;
+}
+
+static void leave(struct ring *ring, const struct sleeper *sleeper)
+{
+    struct sleeper **at = &ring->sleepers;
+    while (*at != sleeper)
+        at = &(*at)->next;
+    *at = sleeper->next;
+    if (sleeper->wake >= 0)
+        close(sleeper->wake);
+}
+
+/* Polls without the ring's lock. */
+static int poll_unlocked(struct ring *ring, struct pollfd *polled, nfds_t count, int64_t limit, const sigset_t *signals)
+{
+    struct timespec time = {limit / 1000000000, limit % 1000000000};
+    pthread_mutex_unlock(&ring->lock);
+    int result = ppoll(polled, count, limit < 0 ? NULL : &time, signals);
+    if (result < 0)
+        result = -errno;
+    pthread_mutex_lock(&ring->lock);
+    return result;
+}
+
+int sleep_until(struct ring *ring, int64_t until, const sigset_t *signals)
+{
+    struct pollfd *polled = calloc(ring->requests.count + 1, sizeof *polled);
+    if (!polled)
+        return -ENOMEM;
+    bool has_others = has_threads();
+    wake_sleepers(ring);
+    struct sleeper self = {.wake = has_others ? eventfd(0, EFD_CLOEXEC | EFD_NONBLOCK) : -1, .next = ring->sleepers};
+    ring->sleepers = &self;
+    nfds_t count = list_streams(ring, polled);
+    polled[count++] = (struct pollfd){.fd = self.wake, .events = POLLIN};
+    int64_t limit = until < 0 ? -1 : until > ring->now ? until - ring->now : 0;
+    bool is_nap = has_others && self.wake < 0 && (limit < 0 || limit > NAP);
+    int64_t start = real_time();
+    int result = poll_unlocked(ring, polled, count, is_nap ? NAP : limit, signals);
+    leave(ring, &self);
+    free(polled);
+    add_slept(ring, start);
+    if (result == 0 && !is_nap && ring->now < until)
+        ring->now = until;
+    return result < 0 ? result : 0;
+}
+
+void wake_sleepers(struct ring *ring)
+{
+    static const uint64_t one = 1;
+    if (!ring->has_changed)
+        return;
+    ring->has_changed = false;
+    for (const struct sleeper *sleeper = ring->sleepers; sleeper; sleeper = sleeper->next)
+        if (sleeper->wake >= 0 && write(sleeper->wake, &one, sizeof one) < 0)
+            continue;
+}

@@ -1,0 +1,26 @@
+/* Sleeping in a call, without the ring's lock and with the application's signals. */
+#ifndef SLEEP_H
+#define SLEEP_H
+
+#include "ring.h"
+
+#include <signal.h>
+
+/* A thread that sleeps in a call on a ring. */
+struct sleeper {
+    int wake;               /* an eventfd that another's call writes to; or negative */
+    struct sleeper *next;
+};
+
+/* Whether the process has another thread, which could call on a ring. */
+bool has_threads(void);
+
+/* Sleeps until a stream is ready, another thread's call has changed something, or virtual time would be `until`
+ * (never, if that is negative). Adds the time that was slept to virtual time. Returns 0 or the negative of an error
+ * number. */
+int sleep_until(struct ring *ring, int64_t until, const sigset_t *signals);
+
+/* Wakes the threads that sleep on a ring, if anything has changed since they were last woken. */
+void wake_sleepers(struct ring *ring);
+
+#endif

@@ -1,0 +1,80 @@
+/* Virtual time: it is moved on by timeouts, by waits that end without anything, and by what was really slept. */
+#define _GNU_SOURCE
+#include "waiting.h"
+#include "progress.h"
+#include "sleep.h"
+
+#include <errno.h>
+
+/* The running timeout that ends first, or NULL. Of equal ones it is the one that was submitted first. */
+static struct request *next_timeout(const struct ring *ring)
+{
+    struct request *next = NULL;
+    for (size_t i = 0; i < ring->requests.count; i++) {
+        struct request *request = ring->requests.rows[i];
+        if (request->state == RUNS && is_timeout(request) && (!next || request->expiry < next->expiry))
+            next = request;
+    }
+    return next;
+}
+
+static void move_time(struct ring *ring, int64_t time)
+{
+    if (ring->now < time)
+        ring->now = time;
+}
+
+static void fire(struct ring *ring, struct request *timeout)
+{
+    move_time(ring, timeout->expiry);
+    finish_timeout(ring, timeout);
+}
+
+/* Whether a transfer on a stream waits. */
+static bool is_streaming(const struct ring *ring)
+{
+    for (size_t i = 0; i < ring->requests.count; i++)
+        if (ring->requests.rows[i]->state == RUNS && ring->requests.rows[i]->is_stream)
+            return true;
+    return false;
+}
+
+/* When there is something to do whatever others do; negative: never. */
+static int64_t next_time(const struct ring *ring, int64_t deadline)
+{
+    const struct request *timeout = next_timeout(ring);
+    if (!timeout)
+        return deadline;
+    return deadline >= 0 && deadline < timeout->expiry ? deadline : timeout->expiry;
+}
+
+int wait_for_any(struct ring *ring, int64_t deadline, const sigset_t *signals)
+{
+    int64_t until = next_time(ring, deadline);
+    if (is_streaming(ring) || (!next_timeout(ring) && has_threads())) {
+        int result = sleep_until(ring, until, signals);
+        if (result < 0)
+            return result;
+    } else if (until < 0) {
+        return -EDEADLK;
+    } else {
+        move_time(ring, until);
+    }
+    struct request *timeout = next_timeout(ring);
+    if (timeout && timeout->expiry <= ring->now)
+        fire(ring, timeout);
+    else if (deadline >= 0 && deadline <= ring->now)
+        return -ETIME;
+    return 0;
+}
+
+bool can_pass_time(const struct ring *ring)
+{
+    return next_timeout(ring) && !is_streaming(ring);
+}
+
+void pass_time(struct ring *ring)
+{
+    if (can_pass_time(ring))
+        fire(ring, next_timeout(ring));
+}

@@ -1,0 +1,21 @@
+/* Waiting for what the application can't go on without, and virtual time. */
+#ifndef WAITING_H
+#define WAITING_H
+
+#include "ring.h"
+
+#include <signal.h>
+
+/* Waits until something may go on: a stream is ready, a timeout has ended, or another thread's call has changed
+ * something. Time is virtual, but where a stream or a thread is waited for. `deadline` is in virtual time, or negative;
+ * `signals` the mask to sleep with. Returns 0; -ETIME at the deadline, -EINTR, or -EDEADLK if there is nothing to wait
+ * for. */
+int wait_for_any(struct ring *ring, int64_t deadline, const sigset_t *signals);
+
+/* Whether a timeout runs and no stream is waited for, so that time can pass at once. */
+bool can_pass_time(const struct ring *ring);
+
+/* Ends the timeout that ends first, unless a stream is waited for. */
+void pass_time(struct ring *ring);
+
+#endif

@@ -1,0 +1,168 @@
+/* Tests of a ring's descriptor that polls, by direct calls. All hold under every policy. A test that hangs ends by an
+ * alarm. They are run with WULGACH_TEST_POLLED, which has ring.h set such rings up.
+ */
+#define _GNU_SOURCE
+#include "ring.h"
+
+#include <poll.h>
+#include <pthread.h>
+#include <sys/epoll.h>
+#include <sys/resource.h>
+#include <sys/wait.h>
+
+static bool is_readable(const struct ring *ring, int patience)
+{
+    struct pollfd at = {.fd = ring->fd, .events = POLLIN};
+    int result = poll(&at, 1, patience);
+    check(result == 0 || (result == 1 && at.revents == POLLIN));
+    return result == 1;
+}
+
+static void submit_nop(struct ring *ring)
+{
+    put(ring, IORING_OP_NOP, 0, 0);
+    check(enter(ring, 1, 0, 0) == 1);
+}
+
+/* What an event loop does: reaps by peeks until a peek finds nothing. */
+static unsigned reap_by_peeks(struct ring *ring)
+{
+    unsigned reaped = 0;
+    for (;;) {
+        if (count_ready(ring) == 0 && flags_of(ring) & (IORING_SQ_TASKRUN | IORING_SQ_CQ_OVERFLOW))
+            check(enter(ring, 0, 0, IORING_ENTER_GETEVENTS) == 0);
+        if (count_ready(ring) == 0)
+            return reaped;
+        reap(ring);
+        reaped++;
+    }
+}
+
+static void test_refused(void)
+{
+    struct ring ring;
+    char bytes[8] = "";
+    make_ring(&ring, 4, 0, 0);
+    check(read(ring.fd, bytes, 8) == -1 && errno == EINVAL);
+    check(write(ring.fd, bytes, 8) == -1 && errno == EINVAL);
+    check(wulgach_mmap(NULL, 1 << 20, PROT_READ, MAP_SHARED, ring.fd, IORING_OFF_SQ_RING) == MAP_FAILED && errno == EINVAL);
+    check(wulgach_mmap(NULL, 64, PROT_READ, MAP_SHARED, ring.fd, 4096) == MAP_FAILED && errno == EINVAL);
+    int file = make_file();
+    check(write(file, "file", 4) == 4);
+    char *mapped = wulgach_mmap(NULL, 4, PROT_READ, MAP_SHARED, file, 0);
+    check(mapped != MAP_FAILED && memcmp(mapped, "file", 4) == 0);
+    munmap(mapped, 4);
+    close(file);
+    close_ring(&ring);
+}
+
+static void test_poll(void)
+{
+    struct ring ring;
+    make_ring(&ring, 4, 0, 0);
+    check(!is_readable(&ring, 0));
+    for (int i = 0; i < 20; i++) {
+        submit_nop(&ring);
+        submit_nop(&ring);
+        unsigned reaped = 0;
+        while (reaped < 2) {
+            check(is_readable(&ring, 0));
+            reaped += reap_by_peeks(&ring);
+        }
+        check(reaped == 2 && !is_readable(&ring, 0));
+    }
+    close_ring(&ring);
+}
+
+static void test_epoll(void)
+{
+    struct ring ring;
+    struct epoll_event event = {.events = EPOLLIN}, found;
+    make_ring(&ring, 4, 0, 0);
+    int loop = epoll_create1(EPOLL_CLOEXEC);
+    check(loop >= 0 && epoll_ctl(loop, EPOLL_CTL_ADD, ring.fd, &event) == 0);
+    check(epoll_wait(loop, &found, 1, 0) == 0);
+    submit_nop(&ring);
+    check(epoll_wait(loop, &found, 1, 0) == 1);
+    while (reap_by_peeks(&ring) == 0)
+        ;
+    check(epoll_wait(loop, &found, 1, 0) == 0);
+    close(loop);
+    close_ring(&ring);
+}
+
+/* A read that waits on a pipe makes the descriptor readable when the pipe is, and not before. */
+static void test_pipe(void)
+{
+    struct ring ring;
+    char byte;
+    int ends[2];
+    check(pipe(ends) == 0);
+    make_ring(&ring, 4, 0, 0);
+    for (int i = 0; i < 5; i++) {
+        put_transfer(&ring, IORING_OP_READ, 0, 0, ends[0], &byte, 1, 0);
+        check(enter(&ring, 1, 0, 0) == 1);
+        check(reap_by_peeks(&ring) == 0 && !is_readable(&ring, 20));
+        check(write(ends[1], "x", 1) == 1);
+        check(is_readable(&ring, 0));
+        while (reap_by_peeks(&ring) == 0)
+            check(is_readable(&ring, 0));
+        check(!is_readable(&ring, 0));
+    }
+    close(ends[0]);
+    close(ends[1]);
+    close_ring(&ring);
+}
+
+static void *submit_later(void *ring)
+{
+    usleep(20000);
+    submit_nop(ring);
+    return NULL;
+}
+
+/* A thread that polls is woken by another's submission. */
+static void test_threads(void)
+{
+    struct ring ring;
+    pthread_t thread;
+    make_ring(&ring, 4, 0, 0);
+    check(pthread_create(&thread, NULL, submit_later, &ring) == 0);
+    check(is_readable(&ring, -1));
+    check(pthread_join(thread, NULL) == 0);
+    while (reap_by_peeks(&ring) == 0)
+        ;
+    close_ring(&ring);
+}
+
+/* Set-up makes no file, so a limit on the size of files doesn't matter; where it makes one, it ends with -EFBIG. */
+static void test_file_limit(void)
+{
+    pid_t child = fork();
+    if (child == 0) {
+        static const struct rlimit least = {1 << 20, 1 << 20};
+        struct ring ring;
+        check(setrlimit(RLIMIT_FSIZE, &least) == 0);
+        make_ring(&ring, 4096, 0, 0);
+        submit_nop(&ring);
+        check(enter(&ring, 0, 1, IORING_ENTER_GETEVENTS) == 0);
+        struct io_uring_params params = {0};
+        _exit(wulgach_syscall(SYS_io_uring_setup, 4u, &params) == -1 && errno == EFBIG ? 0 : 1);
+    }
+    int status;
+    check(waitpid(child, &status, 0) == child && status == 0);
+}
+
+int main(void)
+{
+    static const struct {
+        const char *name;
+        void (*run)(void);
+    } tests[] = {{"refused", test_refused}, {"poll", test_poll}, {"epoll", test_epoll}, {"pipe", test_pipe}, {"threads", test_threads}, {"file limit", test_file_limit}};
+    alarm(30);
+    for (size_t i = 0; i < sizeof tests / sizeof *tests; i++) {
+        test = tests[i].name;
+        tests[i].run();
+    }
+    return 0;
+}
