@@ -68,7 +68,7 @@ static uint32_t read_rate(const char *text)
 static void read_environment(void)
 {
     const char *at = getenv("WULGACH_FAULTS"), *number = getenv("WULGACH_FAULT_RATE");
-    rate = number ? read_rate(number) : 0;
+    rate = number && *number ? read_rate(number) : 0;
     if (!at || !*at)
         return;
     items = need_room(strlen(at), sizeof *items);
