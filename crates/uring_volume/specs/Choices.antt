@@ -1,4 +1,4 @@
--- How a choice of numbers leaves an image: for each unit, and for the length, it names the writes that are left, one after the other.
+-- How a choice of numbers leaves an image: for each unit, and for the length, it names the writes that are left, one after the other. Our own structure.
 use Rattle.std.specs.Prelude.{◌≡◌, ℕ, ◌+◌, ◌<◌, ◌/◌, Bool, true, false, not, ◌==◌, List, [], ◌∷◌, ◌++◌, length, slice_index, if◌then◌else◌}
 use Rattle.std.specs.List.{list_any, filter}
 use Rattle.uring_volume.specs.Writes.{Write}

@@ -1,4 +1,4 @@
--- What happened to one file: its writes and its syncs, as they were issued and as they ended. Which writes are safe.
+-- What happened to one file: its writes and its syncs, as they were issued and as they ended, which is our own structure. Which writes are safe: io_uring_enter(2), IORING_OP_FSYNC, and fsync(2).
 use Rattle.std.specs.Prelude.{ℕ, Bool, false, not, ◌&&◌, ◌||◌, ◌==◌, List, [], ◌∷◌}
 use Rattle.uring_volume.specs.Writes.{Write}
 use Rattle.uring_volume.specs.declared.event.Event.{Event}

@@ -21,7 +21,7 @@ pub fn others_change_none()
     ensures sync_fails { (s : ℕ) → ChangesNone (SyncFailed s) }
 {}
 
-/// What a failed sync covers never becomes safe by a later one.
+/// What a failed sync covers, and wasn't safe by then, no later sync makes safe.
 pub fn failed_is_never_safe()
     ensures { FailedIsNeverSafe }
 {}

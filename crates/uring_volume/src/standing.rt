@@ -53,7 +53,7 @@ pub fn is_covered(events: &[Event], s: u64, n: u64) -> bool
     covered
 }
 
-/// Whether write `n` is safe, so that each crash from now on leaves it: a sync that covers it has ended with success, and none that covers it had failed by then (fsync(2)). The events are in order, the oldest first; for each end of a sync it looks at those before it once more.
+/// Whether write `n` is safe: a sync that covers it has ended with success, and none that covers it had failed by then (fsync(2)). The events are in order, the oldest first; for each end of a sync it looks at those before it once more.
 pub fn is_safe(events: &[Event], n: u64) -> bool
     ensures { result ≡ spec.is_safe (reverse events.now) n }
 {
