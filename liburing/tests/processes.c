@@ -51,7 +51,7 @@ static pthread_t start_sleeper(struct sleep *sleep)
 {
     pthread_t thread;
     check(pthread_create(&thread, NULL, sleep_in_call, sleep) == 0);
-    usleep(30000);
+    usleep(200000);
     return thread;
 }
 
