@@ -28,7 +28,7 @@ static void lock_for_fork(void)
     lock_choices();
 }
 
-static void unlock_behind_fork(void)
+static void unlock_after_fork(void)
 {
     unlock_choices();
     pthread_mutex_unlock(&rings_lock);
@@ -36,7 +36,7 @@ static void unlock_behind_fork(void)
 
 __attribute__((constructor)) static void watch_forks(void)
 {
-    pthread_atfork(lock_for_fork, unlock_behind_fork, unlock_behind_fork);
+    pthread_atfork(lock_for_fork, unlock_after_fork, unlock_after_fork);
 }
 
 static bool is_own(const struct ring *ring)

@@ -51,7 +51,7 @@ static pthread_t start_sleeper(struct sleep *sleep)
 {
     pthread_t thread;
     check(pthread_create(&thread, NULL, sleep_in_call, sleep) == 0);
-    usleep(30000);
+    usleep(200000);
     return thread;
 }
 
@@ -400,9 +400,30 @@ static int32_t end_of_timeout(struct ring *ring, int64_t seconds, int64_t nanose
     return wait_for_one(ring);
 }
 
+/* A time past the largest is no short one: an hour ends before. */
+static void check_largest(struct ring *ring, const struct __kernel_timespec *largest)
+{
+    struct __kernel_timespec hour = {3600, 0};
+    struct io_uring_getevents_arg argument = {.ts = (uintptr_t)largest};
+    unsigned flags = IORING_ENTER_GETEVENTS | IORING_ENTER_EXT_ARG;
+    for (uint64_t i = 0; i < 2; i++) {
+        struct io_uring_sqe *entry = put(ring, IORING_OP_TIMEOUT, i, 0);
+        entry->addr = i == 0 ? (uintptr_t)largest : (uintptr_t)&hour;
+        entry->len = 1;
+    }
+    check(enter(ring, 2, 0, 0) == 2);
+    check(wulgach_syscall(SYS_io_uring_enter, ring->fd, 0u, 1u, flags, &argument, sizeof argument) == 0);
+    check(reap(ring).user_data == 1 && count_ready(ring) == 0);
+    check(enter(ring, 0, 1, IORING_ENTER_GETEVENTS) == 0 && reap(ring).user_data == 0);
+}
+
 static void test_times(void)
 {
+    static const struct __kernel_timespec largest = {INT64_MAX, 999999999};
     struct ring ring;
+    make_ring(&ring, 4, 0, 0);
+    check_largest(&ring, &largest);
+    close_ring(&ring);
     make_ring(&ring, 4, 0, 0);
     check(end_of_timeout(&ring, INT64_MAX / 1000000000, INT64_MAX) == -ETIME);
     check(end_of_timeout(&ring, INT64_MAX, 999999999) == -ETIME);
