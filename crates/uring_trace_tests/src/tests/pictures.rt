@@ -17,18 +17,6 @@ const GRAPH: &str =
 const TIMELINE: &str =
     "  request  accepted   started     ended    posted    reaped\n        0         6         7         8         8        10\n        1        26        27         -         -         -\n        2        26         -         -         -         -\n        3        26         -         -         -         -\n        4        26         -         -         -         -\n";
 
-/// Two no-ops: the success of the first is skipped. The completion of the second isn't reaped, or by the last line, which lacks its end.
-const TWO: [&str; 2] = [
-    "fill 0 nop 1 S\nfill 1 nop 2 -\nindex 0\nindex 1\ntail\nbegin 2\ntake\ntake\nend\nissue 0\nfinish 0\nissue 1\nfinish 1\ncqtail\n",
-    "fill 0 nop 1 S\nfill 1 nop 2 -\nindex 0\nindex 1\ntail\nbegin 2\ntake\ntake\nend\nissue 0\nfinish 0\nissue 1\nfinish 1\ncqtail\nreap",
-];
-
-/// The call ends at line 9. Reaping is at line 15, the last.
-const TWO_ROWS: [&str; 2] = [
-    "  request  accepted   started     ended    posted    reaped\n        0         9        10        11         -         -\n        1         9        12        13        13         -\n",
-    "  request  accepted   started     ended    posted    reaped\n        0         9        10        11         -         -\n        1         9        12        13        13        15\n",
-];
-
 /// The last line is the 28th.
 const NOTES: &str = "uring: line 28: bad line\n";
 
@@ -62,19 +50,6 @@ fn is_timeline(alloc: Global) -> Result<bool, Fail> {
     Ok(is_so)
 }
 
-/// Whether the timeline of this input is this, with no notes.
-fn is_timeline_of(alloc: Global, lines: &str, wanted: &str) -> Result<bool, Fail> {
-    let setup = Setup::new(4, None, 1, 0)?;
-    let mut picture = Vec::new(alloc);
-    let mut notes: Vec<u8> = Vec::new(alloc);
-    let mut input = lines.as_bytes();
-    let result = timeline(alloc, &mut input, &mut picture, &mut notes, &setup);
-    let is_so = result == Ok(false) && picture.as_slice() == wanted.as_bytes() && notes.is_empty();
-    drop(picture);
-    drop(notes);
-    Ok(is_so)
-}
-
 #[test]
 fn outstanding_requests_are_drawn(rt: HostRuntime) -> Result<(), Fail> {
     assert!(rt; is_graph(rt.alloc())?);
@@ -84,12 +59,5 @@ fn outstanding_requests_are_drawn(rt: HostRuntime) -> Result<(), Fail> {
 #[test]
 fn lines_are_told(rt: HostRuntime) -> Result<(), Fail> {
     assert!(rt; is_timeline(rt.alloc())?);
-    Ok(())
-}
-
-#[test]
-fn skipped_and_waiting_are_told(rt: HostRuntime) -> Result<(), Fail> {
-    assert!(rt; is_timeline_of(rt.alloc(), TWO[0], TWO_ROWS[0])?);
-    assert!(rt; is_timeline_of(rt.alloc(), TWO[1], TWO_ROWS[1])?);
     Ok(())
 }
