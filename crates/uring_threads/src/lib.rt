@@ -33,4 +33,4 @@ pub use uring_ports::{
     SubmitRefusal, lane_ports, take_undelivered,
 };
 pub use uring_words::{AppWords, KernelWords, word_ports};
-pub use uring_workers::{FileState, Gate, Job, JobResult, Open, Worked, Worker};
+pub use uring_workers::{FileState, Files, Gate, Job, JobResult, Open, Worked, Worker};

@@ -5,6 +5,7 @@ mod dice;
 mod dropped;
 mod dropped_word;
 mod ends;
+mod gates;
 mod growth;
 mod held;
 mod moments;
@@ -18,6 +19,7 @@ mod rounds;
 mod settled;
 mod threads;
 mod told;
+mod waiting;
 mod words;
 
 use uring_entry::Sqe;

@@ -1,7 +1,7 @@
 //! A worker: it carries out jobs on files that it alone has.
-ghost use Rattle.std.specs.Prelude.{◌≡◌, [], ◌∷◌, ◌++◌, length};
+ghost use Rattle.std.specs.Prelude.{◌≡◌, true, [], ◌∷◌, ◌++◌, length};
 ghost use Rattle.rtrb.specs.Ring.{sent, known_free, received, known_items};
-ghost use Rattle.uring_files.specs.Operations.{state_of, byte_of, IsForFiles};
+ghost use Rattle.uring_files.specs.Operations.{state_of, byte_of, after, IsForFiles, IsOutcome};
 ghost use Rattle.uring_workers.specs.Pairings.{producer_numbers, consumer_numbers, pairing_of};
 ghost use Rattle.uring_workers.specs.Work.{jobs_of, results_of};
 ghost use Rattle.uring_workers.specs.Worker.{IsRight, Looks, Turns};
@@ -13,6 +13,7 @@ use crate::work_lanes::WorkLanes;
 use rtrb::{Consumer, Producer, Protocol};
 use std::alloc::Global;
 use std::marker::Model;
+use uring_entry::Outcome;
 use uring_files::{FileState, Files};
 
 /// The jobs of a worker are operations that can be carried out on files.
@@ -91,7 +92,7 @@ impl<G: Gate> Worker<G> {
         }
     }
 
-    /// Takes one job, if it sees one and sees room for its result: passes the gate, carries the job out and sends the result. Only a write that lengthens its file takes memory.
+    /// Takes one job, if it sees one and sees room for its result: passes the gate with the job's number, carries the job out and sends the result. Only a write that lengthens its file takes memory.
     pub fn turn(&mut self) -> Worked
         ensures turns { Turns self.old self.new result }
         // Of the same lanes it stays, with as many files.
@@ -105,8 +106,7 @@ impl<G: Gate> Worker<G> {
         let Ok(job) = self.jobs.pop() else {
             return Worked::Idle;
         };
-        self.gate.pass(job.number);
-        let outcome = self.files.apply(&job.op);
+        let outcome = carry_out(&self.gate, &mut self.files, &job);
         self.results.push_reserved(JobResult {
             number: job.number,
             outcome,
@@ -158,4 +158,16 @@ impl<G: Gate> Worker<G> {
     {
         self.place
     }
+}
+
+/// Passes the gate with the job's number, and then carries the job out on these files.
+fn carry_out<G: Gate>(gate: &G, files: &mut Files, job: &Job) -> Outcome
+    requires { IsForFiles job.now.op }
+    // The gate let it pass with the files as they were before.
+    ensures passed { G.passes gate.now job.now.number files.old ≡ true }
+    ensures outcome { IsOutcome files.old job.now.op result }
+    ensures files { files.new ≡ after files.old job.now.op result.res }
+{
+    gate.pass(job.number, files);
+    files.apply(&job.op)
 }

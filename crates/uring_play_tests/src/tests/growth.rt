@@ -50,6 +50,36 @@ enum Ending {
     Wrong,
 }
 
+/// More calls than a ring of two has places for, so that the application waits for room.
+const CALLS: &str = "nop 1 -\n\nnop 2 -\n\nnop 3 -\n\nnop 4 -\n\nnop 5 -\n\nnop 6 -\n";
+
+/// What is written of them.
+const CALLS_AMPLE: &str =
+    "cqe 1 0 -\ncqe 2 0 -\ncqe 3 0 -\ncqe 4 0 -\ncqe 5 0 -\ncqe 6 0 -\ntaken 6 dropped 0\n";
+
+/// What comes of a play of these calls over a ring of two: all of it is written, or it ends for want of memory.
+fn calls_played<R: Threads + Wait + Copy + Send + 'static>(
+    ports: Ports,
+    rt: R,
+    alloc: Global,
+) -> Ending {
+    let Ok(setup) = Setup::new(2, Some(2), 1, 0) else {
+        return Ending::Wrong;
+    };
+    let mut writer = FixedWriter {
+        bytes: [0; 128],
+        len: 0,
+    };
+    let mut reader = CALLS.as_bytes();
+    let end = play_over(ports, rt, alloc, &mut reader, &mut writer, &setup, 1);
+    let written = &writer.bytes[..min(writer.len, 128)];
+    match end {
+        Ok(()) if written == CALLS_AMPLE.as_bytes() => Ending::Ample,
+        Err(PlayFault::Memory) if written.is_empty() => Ending::Refused,
+        _ => Ending::Wrong,
+    }
+}
+
 /// What comes of a play over these ports.
 fn played<R: Threads + Wait + Copy + Send + 'static>(ports: Ports, rt: R, alloc: Global) -> Ending {
     let Ok(setup) = Setup::new(4, Some(4), 2, 0) else {
@@ -95,4 +125,18 @@ fn a_refused_growth_ends_a_shared_play_or_is_answered(rt: HostRuntime) -> Result
     let ending = played(Ports::Words, rt, rt.alloc());
     assert!(rt; ending != Ending::Wrong);
     tell(rt, ending)
+}
+
+#[test]
+fn a_refused_growth_ends_a_play_of_many_calls(rt: HostRuntime) -> Result<(), Fail> {
+    let lanes = calls_played(Ports::Lanes, rt, rt.alloc());
+    assert!(rt; lanes != Ending::Wrong);
+    tell(rt, lanes)
+}
+
+#[test]
+fn a_refused_growth_ends_a_shared_play_of_many_calls(rt: HostRuntime) -> Result<(), Fail> {
+    let words = calls_played(Ports::Words, rt, rt.alloc());
+    assert!(rt; words != Ending::Wrong);
+    tell(rt, words)
 }

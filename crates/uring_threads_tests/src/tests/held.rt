@@ -10,7 +10,7 @@ use std::test::Fail;
 use std::thread;
 use std::thread::Threads;
 use uring_entry::{Cqe, Setup, Sqe};
-use uring_threads::{Gate, Item, KernelLanes};
+use uring_threads::{Files, Gate, Item, KernelLanes};
 use uring_words::KernelWords;
 
 /// After so many looks the gate opens by itself, and the test fails.
@@ -25,7 +25,11 @@ struct HeldUntilTwo<'a> {
 }
 
 impl Gate for HeldUntilTwo<'_> {
-    fn pass(&self, _number: u64) {
+    ghost use Rattle.std.specs.Prelude.{true};
+
+    ghost passes = { λ _ _ _. true };
+
+    fn pass(&self, _number: u64, _files: &Files) {
         if !self.holds {
             return;
         }

@@ -9,8 +9,8 @@ invariant_of-self g c = rw c.is_full.ensures.looked.1 c.self.invariant
 
 pub invariant_of-self-2 : goal.invariant_of-self-2
 invariant_of-self-2 g c =
-    rw (c.in-Ok.ensures.ok.0, c.push_reserved.ensures.sent.0, c.is_full.ensures.looked.1, c.apply-outcome.ensures.files)
-    (goes_on (received c.self.inside.jobs) (sent c.self.inside.results) c.self.inside.files c.self.invariant c.in-Ok.job c.apply-outcome.result c.apply-outcome.ensures.outcome)
+    rw (c.in-Ok.ensures.ok.0, c.push_reserved.ensures.sent.0, c.is_full.ensures.looked.1, c.carry_out-outcome.ensures.files)
+    (goes_on (received c.self.inside.jobs) (sent c.self.inside.results) c.self.inside.files c.self.invariant c.in-Ok.job c.carry_out-outcome.result c.carry_out-outcome.ensures.outcome)
 
 pub returns-clause-turns : goal.returns-clause-turns
 returns-clause-turns g c =
@@ -18,16 +18,16 @@ returns-clause-turns g c =
     let popped = c.in-Ok.ensures in
     let full = c.is_full.ensures.looked in
     let pushed = c.push_reserved.ensures in (
-      done_as c.in-Ok.job c.apply-outcome.result,
+      done_as c.in-Ok.job c.carry_out-outcome.result,
       refl,
       record {
-        outcome = rw (← c.self.view_is) c.apply-outcome.ensures.outcome;
+        outcome = rw (← c.self.view_is) c.carry_out-outcome.ensures.outcome;
         done =
             rw (← c.self.view_is)
             (same_worker inside.place (same_ring c.pop.new.self.end inside.jobs.end popped.ring.0.0 popped.ring.0.1 popped.ring.0.2)
             (same_ring c.push_reserved.new.self.end inside.results.end (pushed.ring.0.0 ∙ full.0.0.0) (pushed.ring.0.1 ∙ full.0.0.1) (pushed.ring.0.2 ∙ full.0.0.2))
-            (rw (popped.ok.0, pushed.sent.0, full.1) (done_of-snoc (received inside.jobs) (sent inside.results) inside.files c.self.invariant c.in-Ok.job c.apply-outcome.result))
-            c.apply-outcome.ensures.files);
+            (rw (popped.ok.0, pushed.sent.0, full.1) (done_of-snoc (received inside.jobs) (sent inside.results) inside.files c.self.invariant c.in-Ok.job c.carry_out-outcome.result))
+            c.carry_out-outcome.ensures.files);
         first = rw (← c.self.view_is) popped.ok.1;
         room = rw (← c.self.view_is) (let before = full.2 in let after = pushed.sent.1 in omega arith);
       },

@@ -1,0 +1,73 @@
+//! A gate is shown the number of the job, and the worker's files as they are before it is carried out.
+
+use super::ends::{Ends, Ports};
+use std::alloc::Global;
+use std::sync::atomic::{AtomicU64, Ordering};
+use std::test::Fail;
+use uring_entry::{Setup, Sqe};
+use uring_threads::{Files, Gate, Item, KernelLanes, KernelPort, Worked};
+use uring_words::KernelWords;
+
+/// What a gate was last shown: 99 at first.
+#[derive(Drop)]
+struct Shown {
+    number: AtomicU64,
+    // The length of file 0.
+    len: AtomicU64,
+}
+
+/// A gate that notes what it is shown.
+#[derive(Drop)]
+struct Noting<'a>(&'a Shown);
+
+impl Gate for Noting<'_> {
+    ghost use Rattle.std.specs.Prelude.{true};
+
+    ghost passes = { λ _ _ _. true };
+
+    fn pass(&self, number: u64, files: &Files) {
+        self.0.number.store(number, Ordering::SeqCst);
+        if let Some(state) = files.state(0) {
+            self.0.len.store(u64::from(state.len), Ordering::SeqCst);
+        }
+    }
+}
+
+/// Whether the gate was last shown this number, and file 0 of this length.
+fn was_shown(shown: &Shown, number: u64, len: u64) -> bool {
+    shown.number.load(Ordering::SeqCst) == number && shown.len.load(Ordering::SeqCst) == len
+}
+
+/// Whether two writes of two bytes each, one behind the other, are carried out, the gate being shown the file as the first left it.
+fn goes_through<K: KernelPort>(ends: &mut Ends<K, Noting>, shown: &Shown) -> bool {
+    let first = Item::Entry(Sqe::write(1, 0, 0, 0, &[97, 98]));
+    let second = Item::Entry(Sqe::write(2, 0, 0, 2, &[99, 100]));
+    let submitted = ends.submit(&[first, second]) && ends.turn().is_some();
+    let before = was_shown(shown, 99, 99);
+    let one = ends.work(0) == Some(Worked::Done(0)) && was_shown(shown, 0, 0);
+    let two = ends.work(0) == Some(Worked::Done(1)) && was_shown(shown, 1, 2);
+    submitted && before && one && two
+}
+
+/// Whether it goes so at new ends of one worker.
+fn is_shown<K: Ports>(alloc: Global) -> Result<bool, Fail> {
+    let setup = Setup::new(4, Some(4), 1, 0)?;
+    let shown = Shown {
+        number: AtomicU64::new(99),
+        len: AtomicU64::new(99),
+    };
+    let gates = vec![in alloc; Noting(&shown)]?;
+    let mut ends = K::ends(alloc, &setup, gates)?;
+    let right = goes_through(&mut ends, &shown);
+    drop(ends);
+    Ok(right)
+}
+
+#[test]
+fn a_gate_is_shown_the_job_and_the_files(rt: HostRuntime) -> Result<(), Fail> {
+    let lanes = is_shown::<KernelLanes>(rt.alloc())?;
+    let words = is_shown::<KernelWords>(rt.alloc())?;
+    assert!(rt; lanes, "over lanes");
+    assert!(rt; words, "over words");
+    Ok(())
+}
