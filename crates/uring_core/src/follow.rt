@@ -1,7 +1,7 @@
 //! A core follows answers that were recorded elsewhere.
 
-ghost use Rattle.std.specs.Prelude.{◌≡◌, ◌<◌, ◌∷◌, OnOk, IfErr, IsErrOf};
-ghost use Rattle.uring_core.specs.Core.{FitsApart, IsNoFinish, IsShortOfMemory, HasNoLessMemory};
+ghost use Rattle.std.specs.Prelude.{◌≡◌, ℕ, ◌<◌, ◌≤◌, ◌∷◌, OnOk, IfErr, IsErrOf};
+ghost use Rattle.uring_core.specs.Core.{FitsApart, IsNoFinish, IsShortOfMemory, HasNoLessMemory, elements_for};
 ghost use Rattle.uring_core.specs.Histories.{History, world};
 ghost use Rattle.uring_core.specs.Recorded.{IsOneAnswer, IsRefused, resumed};
 ghost use Rattle.uring_core.specs.StepAnswers.{CalledForApart, begin_answer};
@@ -13,6 +13,7 @@ use crate::cores::Core;
 use crate::step::Step;
 use crate::wanted::{Refusal, Wanted};
 use uring_entry::Outcome;
+use uring_memory::Memory;
 
 impl Core {
     /// Follows a step with the answer that was recorded for it elsewhere, any answer.
@@ -32,8 +33,35 @@ impl Core {
             → IsShortOfMemory self.old (world self.old.setup h) step }
         ensures memory { HasNoLessMemory self.old self.new }
     {
+        let memory = self.allocator();
+        self.follow_in(&memory, step, given)
+    }
+
+    /// As `follow`, by this memory. If it grants as many elements as the step may need in one list, the refusal is never `NoMemory`.
+    pub fn follow_in<M: Memory>(
+        &mut self,
+        memory: &M,
+        step: Step,
+        given: Answer,
+    ) -> Result<(), Refusal>
+        ensures setup { self.new.setup ≡ self.old.setup }
+        ensures ok { OnOk result
+            ((h : History) → FitsApart self.old h → FitsApart self.new ((step, given) ∷ h)) }
+        ensures refused { IfErr result
+            (λ refusal. (h : History) → FitsApart self.old h
+            → IsRefused (CalledForApart self.old.setup (world self.old.setup h) step) given refusal) }
+        ensures resumed { IfErr result
+            (λ refusal. (h : History) → FitsApart self.old h
+            → FitsApart self.new (resumed step refusal h)) }
+        ensures no_memory { IsErrOf result Refusal.NoMemory → (h : History) → FitsApart self.old h
+            → IsShortOfMemory self.old (world self.old.setup h) step }
+        ensures memory { HasNoLessMemory self.old self.new }
+        ensures granted { (h : History) (n : ℕ) → FitsApart self.old h → M.grants memory.now n
+            → elements_for self.old (world self.old.setup h) step ≤ n
+            → IsErrOf result Refusal.NoMemory → ⊥ }
+    {
         match step {
-            Step::Begin { count } => self.follow_begin(count, given),
+            Step::Begin { count } => self.follow_begin(memory, count, given),
             Step::Finish { number } => self.follow_finish(number, given),
             _ => self.follow_sure(step, given),
         }
@@ -61,7 +89,12 @@ impl Core {
     }
 
     /// Follows a Begin.
-    fn follow_begin(&mut self, count: u32, given: Answer) -> Result<(), Refusal>
+    fn follow_begin<M: Memory>(
+        &mut self,
+        memory: &M,
+        count: u32,
+        given: Answer,
+    ) -> Result<(), Refusal>
         ensures setup { self.new.setup ≡ self.old.setup }
         ensures ok { OnOk result
             ((h : History) → FitsApart self.old h
@@ -75,15 +108,24 @@ impl Core {
         ensures no_memory { IsErrOf result Refusal.NoMemory → (h : History) → FitsApart self.old h
             → IsShortOfMemory self.old (world self.old.setup h) (step.Begin count) }
         ensures memory { HasNoLessMemory self.old self.new }
+        ensures granted { (h : History) (n : ℕ) → FitsApart self.old h → M.grants memory.now n
+            → elements_for self.old (world self.old.setup h) (step.Begin count) ≤ n
+            → IsErrOf result Refusal.NoMemory → ⊥ }
     {
         match self.would_begin(count) {
-            Answer::Call(length) if length > 0 => self.follow_call(count, length, given),
+            Answer::Call(length) if length > 0 => self.follow_call(memory, count, length, given),
             _ => self.follow_sure(Step::Begin { count }, given),
         }
     }
 
     /// Follows a Begin that opens a call of this many positions, unless memory is refused.
-    fn follow_call(&mut self, count: u32, length: u32, given: Answer) -> Result<(), Refusal>
+    fn follow_call<M: Memory>(
+        &mut self,
+        memory: &M,
+        count: u32,
+        length: u32,
+        given: Answer,
+    ) -> Result<(), Refusal>
         requires some { 0 < length }
         requires opens { (h : History) → FitsApart self.old h
             → begin_answer (world self.old.setup h) count ≡ answer.Call length }
@@ -100,6 +142,9 @@ impl Core {
         ensures no_memory { IsErrOf result Refusal.NoMemory → (h : History) → FitsApart self.old h
             → IsShortOfMemory self.old (world self.old.setup h) (step.Begin count) }
         ensures memory { HasNoLessMemory self.old self.new }
+        ensures granted { (h : History) (n : ℕ) → FitsApart self.old h → M.grants memory.now n
+            → elements_for self.old (world self.old.setup h) (step.Begin count) ≤ n
+            → IsErrOf result Refusal.NoMemory → ⊥ }
     {
         if same_answer(&given, &Answer::Again) {
             return Ok(());
@@ -107,7 +152,7 @@ impl Core {
         if !same_answer(&given, &Answer::Call(length)) {
             return Err(Refusal::Wrong(Wanted::CallOrAgain(length)));
         }
-        match self.step(Step::Begin { count }) {
+        match self.step_in(memory, Step::Begin { count }) {
             Answer::Again => Err(Refusal::NoMemory),
             _ => Ok(()),
         }

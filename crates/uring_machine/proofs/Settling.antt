@@ -11,8 +11,8 @@ use Rattle.uring_core.specs.StepAnswers.{IsEnded, FinishesApart, next_answer_of,
 use Rattle.uring_core.specs.Histories.{Event, History, world, history_of}
 use Rattle.uring_files.specs.Contents.{FileContents}
 use Rattle.uring_core.specs.Core.{Core, FitsApart}
-use Rattle.uring_machine.specs.Machine.{Machine, Fits}
-use Rattle.uring_machine.specs.Settling.{is_issue_or_finish, started_last, settling_step, AreSettling, HasSettled, IsSettled}
+use Rattle.uring_machine.specs.Machine.{Machine, Fits, IsUnrefused}
+use Rattle.uring_machine.specs.Settling.{is_issue_or_finish, started_last, settling_step, AreSettling, AreUnrefused, HasSettled, IsSettled, IsSettledIf}
 use Rattle.uring_core.specs.Events.{started_by}
 use Rattle.uring_core.specs.declared.step.Step.TheVariants as step
 use Rattle.uring_core.specs.declared.answer.Answer.{Answer}
@@ -91,6 +91,19 @@ settling-append g before started [] later e l = l
 settling-append g before started ((s, a) ∷ earlier) later e l =
     (e.0, settling-append g ((s, a) ∷ before) (started_by (s, a)) earlier later e.1 (subst (λ h. AreSettling g h (started_last (started_by (s, a)) earlier) later) (history_of-cons (s, a) earlier before) l))
 
+-- events that refuse no memory, behind others that refused none
+unrefused-append : (g : Setup) (before : History) (earlier later : List Event)
+    → AreUnrefused g before earlier → AreUnrefused g (history_of earlier ++ before) later
+    → AreUnrefused g before (earlier ++ later)
+unrefused-append g before [] later e l = l
+unrefused-append g before ((s, a) ∷ earlier) later e l =
+    (e.0, unrefused-append g ((s, a) ∷ before) earlier later e.1 (subst (λ h. AreUnrefused g h later) (history_of-cons (s, a) earlier before) l))
+
+-- an end isn't Again
+not_again : (a : Answer) → IsEnded a → a ≡ answer.Again → ⊥
+not_again (answer.Ended res bytes) ended is = absurd is
+not_again _ ended is = absurd ended
+
 -- how many are outstanding
 pub outstanding_of : (m : Machine) (h : History) → Fits m h
     → m.core.dispatch.outstanding ≡ outstanding_in (world m.core.setup h).requests
@@ -106,12 +119,14 @@ one_fewer old new h later same fits reached less =
     omega (arith, less, outstanding_of new later reached, outstanding_of old h fits, ap (λ g. outstanding_in (world g h).requests) same)
 
 -- the next request ran, and was finished
-pub settled_run : (old asked new : Machine) (n : ℕ) (a b c : Answer) (h : History)
+pub settled_run : (granted : Type 0) (old asked new : Machine) (n : ℕ) (a b c : Answer) (h : History)
     → asked.core.setup ≡ old.core.setup → new.core.setup ≡ asked.core.setup → a ≡ answer.Next n
     → b ≡ answer.Run
     → Fits old h → Fits asked ((step.Next, a) ∷ h)
-    → Fits new ((step.Finish n, c) ∷ (step.Issue n, b) ∷ h) → HasSettled old new h 2 1
-settled_run old asked new n a b c h same kept next ran fits asked_fits new_fits =
+    → Fits new ((step.Finish n, c) ∷ (step.Issue n, b) ∷ h)
+    → (granted → IsUnrefused new.core.setup (world new.core.setup ((step.Issue n, b) ∷ h)) (step.Finish n) c)
+    → HasSettled granted old new h 2 1
+settled_run granted old asked new n a b c h same kept next ran fits asked_fits new_fits unrefused =
     let g : Setup = new.core.setup in
     let r : Requests = (world g h).requests in
     let now : Fits new ((step.Finish n, c) ∷ (step.Issue n, answer.Run) ∷ h) = subst (λ d. Fits new ((step.Finish n, c) ∷ (step.Issue n, d) ∷ h)) ran new_fits in
@@ -126,6 +141,7 @@ settled_run old asked new n a b c h same kept next ran fits asked_fits new_fits 
         settling = (issued_next r n named, (rw ran refl, tt));
         fits = new_fits;
         many = refl;
+        unrefused = λ sure. ((λ again. absurd (sym ran ∙ again)), (unrefused sure, tt));
       };
       none_started = refl;
       few = omega arith;
@@ -135,16 +151,17 @@ settled_run old asked new n a b c h same kept next ran fits asked_fits new_fits 
     }
 
 -- the next request ended as it was issued
-pub settled_end : (old asked new : Machine) (n : ℕ) (a b : Answer) (h : History)
+pub settled_end : (granted : Type 0) (old asked new : Machine) (n : ℕ) (a b : Answer) (h : History)
     → asked.core.setup ≡ old.core.setup → new.core.setup ≡ asked.core.setup → a ≡ answer.Next n
     → (b ≡ answer.Run → ⊥)
     → Fits old h → Fits asked ((step.Next, a) ∷ h) → Fits new ((step.Issue n, b) ∷ h)
-    → HasSettled old new h 1 1
-settled_end old asked new n a b h same kept next other fits asked_fits new_fits =
+    → HasSettled granted old new h 1 1
+settled_end granted old asked new n a b h same kept next other fits asked_fits new_fits =
     let g : Setup = new.core.setup in
     let r : Requests = (world g h).requests in
     let named : answer.Next n ≡ next_answer_of (next_of r) = subst (λ k. answer.Next n ≡ next_answer_of (next_of (world k h).requests)) (sym kept) (sym next ∙ asked_fits.core.lawful.0) in
     let issuable = next_tells r n named in
+    let ended : IsEnded b = issued_ends b (subst IsIssued (sym new_fits.core.lawful.0) (issue_goes (world g h) n issuable)) other in
     record {
       settles = record {
         events = (step.Issue n, b) ∷ [];
@@ -152,21 +169,24 @@ settled_end old asked new n a b h same kept next other fits asked_fits new_fits 
         settling = (issued_next r n named, tt);
         fits = new_fits;
         many = refl;
+        unrefused = λ sure. (not_again b ended, tt);
       };
       none_started = not_started n b other;
       few = omega arith;
       fewer =
           one_fewer old new h ((step.Issue n, b) ∷ h) (kept ∙ same) fits new_fits
-          (issue_less g (world g h) n b (issuable_outstanding r n issuable) (issued_ends b (subst IsIssued (sym new_fits.core.lawful.0) (issue_goes (world g h) n issuable)) other));
+          (issue_less g (world g h) n b (issuable_outstanding r n issuable) ended);
     }
 
 -- the least outstanding request ran, and was finished
-pub settled_finish : (old asked new : Machine) (n : ℕ) (a b : Answer) (h : History)
+pub settled_finish : (granted : Type 0) (old asked new : Machine) (n : ℕ) (a b : Answer) (h : History)
     → asked.core.setup ≡ old.core.setup → new.core.setup ≡ asked.core.setup
     → ((k : ℕ) → a ≡ answer.Next k → ⊥)
     → Fits old h → Some n ≡ least_of (world old.core.setup h).requests
-    → Fits asked ((step.Next, a) ∷ h) → Fits new ((step.Finish n, b) ∷ h) → HasSettled old new h 1 1
-settled_finish old asked new n a b h same kept other fits least asked_fits new_fits =
+    → Fits asked ((step.Next, a) ∷ h) → Fits new ((step.Finish n, b) ∷ h)
+    → (granted → IsUnrefused new.core.setup (world new.core.setup h) (step.Finish n) b)
+    → HasSettled granted old new h 1 1
+settled_finish granted old asked new n a b h same kept other fits least asked_fits new_fits unrefused =
     let g : Setup = new.core.setup in
     let r : Requests = (world g h).requests in
     let is : least_of r ≡ Some n = subst (λ k. least_of (world k h).requests ≡ Some n) (sym (kept ∙ same)) (sym least) in
@@ -179,6 +199,7 @@ settled_finish old asked new n a b h same kept other fits least asked_fits new_f
         settling = (finished_least r n a told other is, tt);
         fits = new_fits;
         many = refl;
+        unrefused = λ sure. (unrefused sure, tt);
       };
       none_started = refl;
       few = omega arith;
@@ -196,11 +217,11 @@ some_least m h fits some none =
     omega (arith, some, zero_of, outstanding_of m h fits)
 
 -- what was settled so far, and what is settled then
-pub settled_more : (first old new : Machine) (h : History) (count more ended : ℕ)
-    → new.core.setup ≡ old.core.setup → HasSettled first old h count ended
-    → ((k : History) → Fits old k → HasSettled old new k more 1)
-    → HasSettled first new h (count + more) (ended + 1)
-settled_more first old new h count more ended same before next =
+pub settled_more : (granted : Type 0) (first old new : Machine) (h : History) (count more ended : ℕ)
+    → new.core.setup ≡ old.core.setup → HasSettled granted first old h count ended
+    → ((k : History) → Fits old k → HasSettled granted old new k more 1)
+    → HasSettled granted first new h (count + more) (ended + 1)
+settled_more granted first old new h count more ended same before next =
     let b = before.settles in
     let last = next (history_of b.events ++ h) b.fits in
     let l = last.settles in
@@ -212,6 +233,7 @@ settled_more first old new h count more ended same before next =
         settling = settling-append new.core.setup h None b.events l.events (subst (λ g. AreSettling g h None b.events) (sym same) b.settling) behind;
         fits = subst (λ k. Fits new k) (sym (history_of-append b.events l.events h)) l.fits;
         many = omega (arith, length-append b.events l.events, l.many, b.many);
+        unrefused = λ sure. unrefused-append new.core.setup h b.events l.events (subst (λ g. AreUnrefused g h b.events) (sym same) (b.unrefused sure)) (l.unrefused sure);
       };
       none_started = started-append None b.events l.events ∙ ap (λ started. started_last started l.events) before.none_started ∙ last.none_started;
       few = omega (arith, last.few, before.few);
@@ -219,21 +241,38 @@ settled_more first old new h count more ended same before next =
     }
 
 -- nothing was settled yet
-pub settled_none : (m : Machine) (h : History) → Fits m h → HasSettled m m h 0 0
-settled_none m h fits = record { settles = record { events = []; issues_and_finishes = refl; settling = tt; fits = fits; many = refl }; none_started = refl; few = omega arith; fewer = omega arith }
+pub settled_none : (granted : Type 0) (m : Machine) (h : History) → Fits m h → HasSettled granted m m h 0 0
+settled_none granted m h fits = record { settles = record { events = []; issues_and_finishes = refl; settling = tt; fits = fits; many = refl; unrefused = λ sure. tt }; none_started = refl; few = omega arith; fewer = omega arith }
 
 -- all that was outstanding was settled
-pub settled_all : (old new : Machine) (h : History) (count ended : ℕ)
+pub settled_all : (granted : Type 0) (old new : Machine) (h : History) (count ended : ℕ)
     → new.core.setup ≡ old.core.setup → Fits old h
-    → ended ≡ outstanding_in (world old.core.setup h).requests → HasSettled old new h count ended
-    → IsSettled new h count
-settled_all old new h count ended same fits all s =
+    → ended ≡ outstanding_in (world old.core.setup h).requests
+    → HasSettled granted old new h count ended → IsSettledIf granted new h count
+settled_all granted old new h count ended same fits all s =
     record {
       settles = s.settles;
       few = omega (arith, s.few, all, ap (λ g. outstanding_in (world g h).requests) same);
       none_outstanding =
           none_outstanding (world new.core.setup (history_of s.settles.events ++ h)).requests
           (omega (arith, s.fewer, all, outstanding_of old h fits, outstanding_of new (history_of s.settles.events ++ h) s.settles.fits));
+    }
+
+-- what is settled if memory is granted is settled
+pub settled_anyway : (granted : Type 0) (m : Machine) (h : History) (count : ℕ)
+    → IsSettledIf granted m h count → IsSettled m h count
+settled_anyway granted m h count s =
+    record {
+      settles = record {
+        events = s.settles.events;
+        issues_and_finishes = s.settles.issues_and_finishes;
+        settling = s.settles.settling;
+        fits = s.settles.fits;
+        many = s.settles.many;
+        unrefused = λ sure. absurd sure;
+      };
+      few = s.few;
+      none_outstanding = s.none_outstanding;
     }
 
 -- this number is how many are outstanding

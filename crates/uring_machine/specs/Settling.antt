@@ -5,7 +5,7 @@ use Rattle.uring_entry.specs.Setup.{Setup}
 use Rattle.uring_entry.specs.Requests.{is_outstanding, next_of, least_of, outstanding_in}
 use Rattle.uring_core.specs.Histories.{Event, History, world, history_of}
 use Rattle.uring_core.specs.Events.{started_by}
-use Rattle.uring_machine.specs.Machine.{Machine, Fits}
+use Rattle.uring_machine.specs.Machine.{Machine, Fits, IsUnrefused}
 use Rattle.uring_core.specs.declared.step.Step.{Step}
 use Rattle.uring_core.specs.declared.step.Step.TheVariants as step
 
@@ -35,25 +35,36 @@ AreSettling g before started ((s, a) ∷ later) =
     (settling_step started (next_of r) (least_of r) ≡ Some s)
     × AreSettling g ((s, a) ∷ before) (started_by (s, a)) later
 
--- So many events, the oldest first, each the Issue or the Finish that settles further: a machine that fits the history followed by them.
-pub record Settles (now : Machine) (before : History) (count : ℕ) : Type 0 where
+-- no answer of these events, the oldest first, says that memory was refused: the first of them after this history
+abbrev pub AreUnrefused : Setup → History → List Event → Type 0
+AreUnrefused g before [] = Unit {0}
+AreUnrefused g before ((s, a) ∷ later) =
+    IsUnrefused g (world g before) s a × AreUnrefused g ((s, a) ∷ before) later
+
+-- So many events, the oldest first, each the Issue or the Finish that settles further: a machine that fits the history followed by them. If memory is granted, none of them says that it was refused.
+pub record Settles (granted : Type 0) (now : Machine) (before : History) (count : ℕ) : Type 0 where
   pub events : List Event
   pub issues_and_finishes : list_all is_issue_or_finish events ≡ true
   pub settling : AreSettling now.core.setup before None events
   pub fits : Fits now (history_of events ++ before)
   pub many : length events ≡ count
+  pub unrefused : granted → AreUnrefused now.core.setup before events
 
 -- A machine that fitted this history fits it followed by so many events that settled further, which ended so many requests: at most two for each. No request was started last.
-pub record HasSettled (old new : Machine) (before : History) (count ended : ℕ) : Type 0 where
-  pub settles : Settles new before count
+pub record HasSettled (granted : Type 0) (old new : Machine) (before : History) (count ended : ℕ) : Type 0 where
+  pub settles : Settles granted new before count
   pub none_started : started_last None settles.events ≡ None
   pub few : count ≤ 2 * ended
   pub fewer : new.core.dispatch.outstanding + ended ≡ old.core.dispatch.outstanding
 
 -- A machine that fitted this history was made idle: it fits the history followed by so many events that settled further, and nothing is outstanding. The events are at most two for each request that was outstanding.
-pub record IsSettled (idle : Machine) (before : History) (count : ℕ) : Type 0 where
-  pub settles : Settles idle before count
+pub record IsSettledIf (granted : Type 0) (idle : Machine) (before : History) (count : ℕ) : Type 0 where
+  pub settles : Settles granted idle before count
   pub few : count ≤ 2 * outstanding_in (world idle.core.setup before).requests
   pub none_outstanding : (n : ℕ)
       → is_outstanding (world idle.core.setup (history_of settles.events ++ before)).requests n
       ≡ false
+
+-- as above, and nothing is known of memory
+abbrev pub IsSettled : Machine → History → ℕ → Type 0
+IsSettled = IsSettledIf ⊥

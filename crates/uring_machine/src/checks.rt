@@ -1,6 +1,6 @@
 //! Lists of steps whose answers were recorded elsewhere.
 
-ghost use Rattle.std.specs.Prelude.{◌≡◌, [], Ok, Some, IfOk, OnOk, MatchOption};
+ghost use Rattle.std.specs.Prelude.{◌≡◌, ℕ, [], Ok, Some, IsOk, IfOk, OnOk, MatchOption};
 ghost use Rattle.uring_core.specs.CalledFor.{IsLawful};
 ghost use Rattle.uring_core.specs.Core.{FitsApart};
 ghost use Rattle.uring_core.specs.Histories.{IsLawfulApart, history_of};
@@ -10,6 +10,7 @@ ghost use Rattle.uring_core.specs.Recorded.{IsFirstWrongAnswer, IsFirstWrongApar
 use crate::machine::Machine;
 use std::alloc::{AllocError, Global};
 use uring_core::{Answer, Core, Refusal, Setup, Step, Wanted};
+use uring_memory::Memory;
 
 /// Whether these steps, the oldest first, each with its answer, are what can happen on a new machine of this set-up: `None` if they are, else the place of the first answer that isn't called for, from 0, and those that are. `AllocError`: memory was refused, and nothing is said.
 pub fn check(
@@ -20,8 +21,22 @@ pub fn check(
     ensures { IfOk result
         (λ found. MatchOption found (IsLawful setup.now (history_of events.now)) (λ at. IsFirstWrongAnswer setup.now events.now at.0 at.1)) }
 {
-    let mut machine = Machine::new(alloc, setup)?;
-    let found = first_wrong(&mut machine, events);
+    check_in(&alloc, alloc, setup, events)
+}
+
+/// As `check`, by this memory. If it grants whatever is asked for, there is no error.
+pub fn check_in<M: Memory>(
+    memory: &M,
+    alloc: Global,
+    setup: &Setup,
+    events: &[(Step, Answer)],
+) -> Result<Option<(usize, Wanted)>, AllocError>
+    ensures found { IfOk result
+        (λ found. MatchOption found (IsLawful setup.now (history_of events.now)) (λ at. IsFirstWrongAnswer setup.now events.now at.0 at.1)) }
+    ensures granted { ((n : ℕ) → M.grants memory.now n) → IsOk result }
+{
+    let mut machine = Machine::new_in(memory, alloc, setup)?;
+    let found = first_wrong(memory, &mut machine, events);
     drop(machine);
     found
 }
@@ -35,24 +50,40 @@ pub fn check_apart(
     ensures { IfOk result
         (λ found. MatchOption found (IsLawfulApart setup.now (history_of events.now)) (λ at. IsFirstWrongApart setup.now events.now at.0 at.1)) }
 {
-    let mut core = Core::new(alloc, setup)?;
-    let found = first_wrong_apart(&mut core, events);
+    check_apart_in(&alloc, alloc, setup, events)
+}
+
+/// As `check_apart`, by this memory. If it grants whatever is asked for, there is no error.
+pub fn check_apart_in<M: Memory>(
+    memory: &M,
+    alloc: Global,
+    setup: &Setup,
+    events: &[(Step, Answer)],
+) -> Result<Option<(usize, Wanted)>, AllocError>
+    ensures found { IfOk result
+        (λ found. MatchOption found (IsLawfulApart setup.now (history_of events.now)) (λ at. IsFirstWrongApart setup.now events.now at.0 at.1)) }
+    ensures granted { ((n : ℕ) → M.grants memory.now n) → IsOk result }
+{
+    let mut core = Core::new_in(memory, alloc, setup)?;
+    let found = first_wrong_apart(memory, &mut core, events);
     drop(core);
     found
 }
 
 /// Follows these answers on a new machine up to the first wrong one.
-fn first_wrong(
+fn first_wrong<M: Memory>(
+    memory: &M,
     machine: &mut Machine,
     events: &[(Step, Answer)],
 ) -> Result<Option<(usize, Wanted)>, AllocError>
     requires { Fits machine.old [] }
-    ensures { IfOk result
+    ensures found { IfOk result
         (λ found. MatchOption found (IsLawful machine.old.core.setup (history_of events.now)) (λ at. IsFirstWrongAnswer machine.old.core.setup events.now at.0 at.1)) }
+    ensures granted { ((n : ℕ) → M.grants memory.now n) → IsOk result }
 {
     for (place, event) in events.iter().enumerate() {
         let (step, given) = *event;
-        if let Err(refusal) = machine.follow(step, given) {
+        if let Err(refusal) = machine.follow_in(memory, step, given) {
             return stopped(place, refusal);
         }
     }
@@ -60,17 +91,19 @@ fn first_wrong(
 }
 
 /// Follows these answers on a new core up to the first wrong one.
-fn first_wrong_apart(
+fn first_wrong_apart<M: Memory>(
+    memory: &M,
     core: &mut Core,
     events: &[(Step, Answer)],
 ) -> Result<Option<(usize, Wanted)>, AllocError>
     requires { FitsApart core.old [] }
-    ensures { IfOk result
+    ensures found { IfOk result
         (λ found. MatchOption found (IsLawfulApart core.old.setup (history_of events.now)) (λ at. IsFirstWrongApart core.old.setup events.now at.0 at.1)) }
+    ensures granted { ((n : ℕ) → M.grants memory.now n) → IsOk result }
 {
     for (place, event) in events.iter().enumerate() {
         let (step, given) = *event;
-        if let Err(refusal) = core.follow(step, given) {
+        if let Err(refusal) = core.follow_in(memory, step, given) {
             return stopped(place, refusal);
         }
     }

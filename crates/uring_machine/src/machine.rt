@@ -12,7 +12,7 @@ ghost use Rattle.uring_core.specs.Histories.{History, world};
 ghost use Rattle.uring_core.specs.Recorded.{IsRefused, resumed};
 ghost use Rattle.uring_machine.specs.Machine.{MayLackMemory, IsUnrefused, elements_for_step, finish_answer};
 ghost use Rattle.uring_core.specs.StepAnswers.{begin_answer};
-ghost use Rattle.uring_machine.specs.Settling.{HasSettled, IsSettled};
+ghost use Rattle.uring_machine.specs.Settling.{HasSettled, IsSettled, IsSettledIf};
 ghost use Rattle.uring_core.specs.declared.step.Step.TheVariants as step;
 ghost use Rattle.uring_core.specs.declared.answer.Answer.TheVariants as answer;
 
@@ -130,9 +130,35 @@ impl Machine {
             → MayLackMemory self.old (world self.old.core.setup h) step }
         ensures memory { HasNoLessMemory self.old.core self.new.core }
     {
+        let memory = self.core.allocator();
+        self.follow_in(&memory, step, given)
+    }
+
+    /// As `follow`, by this memory. If it grants as many elements as the step may need in one list, the refusal is never `NoMemory`.
+    pub fn follow_in<M: Memory>(
+        &mut self,
+        memory: &M,
+        step: Step,
+        given: Answer,
+    ) -> Result<(), Refusal>
+        ensures setup { self.new.core.setup ≡ self.old.core.setup }
+        ensures ok { OnOk result
+            ((h : History) → Fits self.old h → Fits self.new ((step, given) ∷ h)) }
+        ensures refused { IfErr result
+            (λ refusal. (h : History) → Fits self.old h
+            → IsRefused (CalledFor self.old.core.setup (world self.old.core.setup h) step) given refusal) }
+        ensures resumed { IfErr result
+            (λ refusal. (h : History) → Fits self.old h → Fits self.new (resumed step refusal h)) }
+        ensures no_memory { IsErrOf result Refusal.NoMemory → (h : History) → Fits self.old h
+            → MayLackMemory self.old (world self.old.core.setup h) step }
+        ensures memory { HasNoLessMemory self.old.core self.new.core }
+        ensures granted { (h : History) (n : ℕ) → Fits self.old h → M.grants memory.now n
+            → elements_for_step self.old.core (world self.old.core.setup h) step ≤ n
+            → IsErrOf result Refusal.NoMemory → ⊥ }
+    {
         match step {
-            Step::Finish { number } => self.follow_finish(number, given),
-            _ => self.core.follow(step, given),
+            Step::Finish { number } => self.follow_finish(memory, number, given),
+            _ => self.core.follow_in(memory, step, given),
         }
     }
 
@@ -251,21 +277,31 @@ impl Machine {
         ensures setup { self.new.core.setup ≡ self.old.core.setup }
         ensures settled { (h : History) → Fits self.old h → IsSettled self.new h result }
     {
+        let memory = self.core.allocator();
+        self.settle_idle_in(&memory)
+    }
+
+    /// As `settle_idle`, by this memory. If it grants as many elements as a file may have bytes, no write that lengthens its file ends with -12.
+    pub fn settle_idle_in<M: Memory>(&mut self, memory: &M) -> u64
+        ensures setup { self.new.core.setup ≡ self.old.core.setup }
+        ensures settled { (h : History) → Fits self.old h
+            → IsSettledIf ((n : ℕ) × M.grants memory.now n × (max_len ≤ n)) self.new h result }
+    {
         let outstanding = self.core.counts().outstanding;
         let mut steps = 0;
         for _ in 0..outstanding {
-            steps += self.settle_one();
+            steps += self.settle_one(memory);
         }
         steps
     }
 
     /// Ends one outstanding request: the next, or if none can be issued the least outstanding one, which then runs. Returns the number of steps.
-    fn settle_one(&mut self) -> u64
+    fn settle_one<M: Memory>(&mut self, memory: &M) -> u64
         requires { 1 ≤ self.old.core.dispatch.outstanding }
         ensures setup { self.new.core.setup ≡ self.old.core.setup }
         ensures steps { result ≤ 2 }
         ensures settled { (h : History) → Fits self.old h
-            → HasSettled self.old self.new h result 1 }
+            → HasSettled ((n : ℕ) × M.grants memory.now n × (max_len ≤ n)) self.old self.new h result 1 }
     {
         let Some(least) = self.core.least() else {
             unreachable!()
@@ -273,30 +309,19 @@ impl Machine {
         match self.step(Step::Next) {
             Answer::Next(number) => match self.step(Step::Issue { number }) {
                 Answer::Run => {
-                    self.finish(number);
+                    self.finish_in(memory, number);
                     2
                 }
                 _ => 1,
             },
             _ => {
-                self.finish(least);
+                self.finish_in(memory, least);
                 1
             }
         }
     }
 
-    /// Carries out the operation of a running request on the files, and ends the request with what that gave.
-    fn finish(&mut self, number: u64) -> Answer
-        ensures setup { self.new.core.setup ≡ self.old.core.setup }
-        ensures fits { (h : History) → Fits self.old h
-            → Fits self.new ((step.Finish number, result) ∷ h) }
-        ensures memory { HasNoLessMemory self.old.core self.new.core }
-    {
-        let memory = self.core.allocator();
-        self.finish_in(&memory, number)
-    }
-
-    /// As `finish`, by this memory.
+    /// Carries out the operation of a running request on the files, by this memory, and ends the request with what that gave.
     fn finish_in<M: Memory>(&mut self, memory: &M, number: u64) -> Answer
         ensures setup { self.new.core.setup ≡ self.old.core.setup }
         ensures fits { (h : History) → Fits self.old h
@@ -316,7 +341,12 @@ impl Machine {
     }
 
     /// Follows a Finish.
-    fn follow_finish(&mut self, number: u64, given: Answer) -> Result<(), Refusal>
+    fn follow_finish<M: Memory>(
+        &mut self,
+        memory: &M,
+        number: u64,
+        given: Answer,
+    ) -> Result<(), Refusal>
         ensures setup { self.new.core.setup ≡ self.old.core.setup }
         ensures ok { OnOk result
             ((h : History) → Fits self.old h → Fits self.new ((step.Finish number, given) ∷ h)) }
@@ -329,19 +359,27 @@ impl Machine {
         ensures no_memory { IsErrOf result Refusal.NoMemory → (h : History) → Fits self.old h
             → MayLackMemory self.old (world self.old.core.setup h) (step.Finish number) }
         ensures memory { HasNoLessMemory self.old.core self.new.core }
+        ensures granted { (h : History) (n : ℕ) → Fits self.old h → M.grants memory.now n → max_len ≤ n
+            → IsErrOf result Refusal.NoMemory → ⊥ }
     {
         let Some(op) = self.core.running_op(number) else {
             return compared(Answer::NotRunning, given);
         };
         if self.files.lengthens(&op) {
-            self.follow_growth(number, &op, given)
+            self.follow_growth(memory, number, &op, given)
         } else {
-            compared(self.finish(number), given)
+            compared(self.finish_in(memory, number), given)
         }
     }
 
     /// Follows the Finish of a write that makes its file longer.
-    fn follow_growth(&mut self, number: u64, op: &Op, given: Answer) -> Result<(), Refusal>
+    fn follow_growth<M: Memory>(
+        &mut self,
+        memory: &M,
+        number: u64,
+        op: &Op,
+        given: Answer,
+    ) -> Result<(), Refusal>
         requires asks { IsForFiles op.now }
         requires running { (h : History) → Fits self.old h
             → Some op.now ≡ operation_running (world self.old.core.setup h).requests number }
@@ -358,6 +396,8 @@ impl Machine {
         ensures no_memory { IsErrOf result Refusal.NoMemory → (h : History) → Fits self.old h
             → MayLackMemory self.old (world self.old.core.setup h) (step.Finish number) }
         ensures memory { HasNoLessMemory self.old.core self.new.core }
+        ensures granted { (h : History) (n : ℕ) → Fits self.old h → M.grants memory.now n → max_len ≤ n
+            → IsErrOf result Refusal.NoMemory → ⊥ }
     {
         let refused = Outcome {
             res: -errno::ENOMEM,
@@ -371,7 +411,7 @@ impl Machine {
         if !same_answer(&given, &Answer::ended(length, [0; 64])) {
             return Err(Refusal::Wrong(Wanted::EndOrNoMemory(length)));
         }
-        let outcome = self.files.apply(op);
+        let outcome = self.files.apply_in(memory, op);
         if outcome.res != length {
             return Err(Refusal::NoMemory);
         }

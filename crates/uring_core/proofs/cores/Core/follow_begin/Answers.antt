@@ -5,7 +5,7 @@ use Rattle.uring_core.proofs.cores.Core.follow_begin.Goals as goal
 use Rattle.uring_core.proofs.cores.Core.follow_begin.Goals.{in_default-via-in-Call+else-length-gt0, in_default-via-in_default}
 
 pub follow_sure-requires-clause-one : goal.follow_sure-requires-clause-one
-follow_sure-requires-clause-one c = λ h f.
+follow_sure-requires-clause-one g c = λ h f.
     one_begin c.args.self.now.setup (world c.args.self.now.setup h) c.args.count
     (λ n e some.
     elim c.in_default.branch [

@@ -4,16 +4,19 @@ use Rattle.uring_core.proofs.RecordedAnswers.{again_made_nothing, followed, wron
 use Rattle.uring_core.proofs.cores.Core.follow_call.Goals as goal
 
 pub returns-in-Again-clause-resumed : goal.returns-in-Again-clause-resumed
-returns-in-Again-clause-resumed c = λ h f. again_made_nothing c.step.new.self c.args.count c.step.result h c.in-Again.is (c.step.ensures.fits h f)
+returns-in-Again-clause-resumed g c = λ h f. again_made_nothing c.step_in.new.self c.args.count c.step_in.result h c.in-Again.is (c.step_in.ensures.fits h f)
 
 pub returns-then-same_answer-clause-no_memory : goal.returns-then-same_answer-clause-no_memory
-returns-then-same_answer-clause-no_memory c = λ e. absurd (followed _ _ _ refl e)
+returns-then-same_answer-clause-no_memory g c = λ e. absurd (followed _ _ _ refl e)
 
 pub returns-then-not-same_answer-clause-refused : goal.returns-then-not-same_answer-clause-refused
-returns-then-not-same_answer-clause-refused c = λ h f.
+returns-then-not-same_answer-clause-refused g c = λ h f.
     wrong_call _ c.args.length c.args.given (c.requires.opens h f) c.requires.some
     (λ e. both_ways c.same_answer-2.result c.if-not-same_answer.true (c.same_answer-2.ensures.1 e))
     (λ e. both_ways c.same_answer.result c.if-same_answer.false (c.same_answer.ensures.1 e))
 
 pub returns-then-not-same_answer-clause-resumed : goal.returns-then-not-same_answer-clause-resumed
-returns-then-not-same_answer-clause-resumed c = λ h f. f
+returns-then-not-same_answer-clause-resumed g c = λ h f. f
+
+pub returns-then-same_answer-clause-granted : goal.returns-then-same_answer-clause-granted
+returns-then-same_answer-clause-granted g c = λ h n fits granted enough e. followed _ _ _ refl e

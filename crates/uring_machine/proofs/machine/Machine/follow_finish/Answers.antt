@@ -18,7 +18,7 @@ returns-in_default-clause-refused c =
 
 pub returns-else-lengthens-clause-ok : goal.returns-else-lengthens-clause-ok
 returns-else-lengthens-clause-ok c =
-    on_ok_weaker c.compared-else-lengthens.result (λ same h fits. subst (λ a. Fits c.finish.new.self ((step.Finish c.args.number, a) ∷ h)) (sym same) (c.finish.ensures.fits h fits)) c.compared-else-lengthens.ensures.ok
+    on_ok_weaker c.compared-else-lengthens.result (λ same h fits. subst (λ a. Fits c.finish_in.new.self ((step.Finish c.args.number, a) ∷ h)) (sym same) (c.finish_in.ensures.fits h fits)) c.compared-else-lengthens.ensures.ok
 
 pub returns-else-lengthens-clause-refused : goal.returns-else-lengthens-clause-refused
 returns-else-lengthens-clause-refused c =
@@ -26,11 +26,11 @@ returns-else-lengthens-clause-refused c =
     rw (← c.self.view_is) (λ h fits. sym c.in-Some.is ∙ c.running_op.ensures.value h fits.core) in
     let short : is_lengthening c.args.self.now.files c.in-Some.op ≡ false = rw (← c.self.view_is) (sym c.lengthens.ensures ∙ c.if-lengthens.false) in
     IfErr-weaker c.compared-else-lengthens.result _ _ (λ refusal told h fits.
-    end_refused c.args.self.now h c.args.number c.in-Some.op c.finish.result c.args.given refusal (runs_so c.args.self.now h c.args.number c.in-Some.op fits (running h fits)) short
-    (called_for c.args.self.now.core.setup c.finish.new.self.core c.finish.new.self.files (step.Finish c.args.number) c.finish.result h c.finish.ensures.setup (c.finish.ensures.fits h fits))
+    end_refused c.args.self.now h c.args.number c.in-Some.op c.finish_in.result c.args.given refusal (runs_so c.args.self.now h c.args.number c.in-Some.op fits (running h fits)) short
+    (called_for c.args.self.now.core.setup c.finish_in.new.self.core c.finish_in.new.self.files (step.Finish c.args.number) c.finish_in.result h c.finish_in.ensures.setup (c.finish_in.ensures.fits h fits))
     told.0 told.1) c.compared-else-lengthens.ensures.err
 
 pub returns-else-lengthens-clause-resumed : goal.returns-else-lengthens-clause-resumed
 returns-else-lengthens-clause-resumed c =
-    IfErr-weaker c.compared-else-lengthens.result _ _ (λ refusal told h fits. subst (λ (r : Refusal). Fits c.finish.new.self (resumed (step.Finish c.args.number) r h)) (sym told.0) (c.finish.ensures.fits h fits))
+    IfErr-weaker c.compared-else-lengthens.result _ _ (λ refusal told h fits. subst (λ (r : Refusal). Fits c.finish_in.new.self (resumed (step.Finish c.args.number) r h)) (sym told.0) (c.finish_in.ensures.fits h fits))
     c.compared-else-lengthens.ensures.err

@@ -49,9 +49,9 @@ returns-then-outcome-length-clause-resumed c =
     let long = rw (← c.self.view_is) at c.requires.lengthens in
     rw (← c.self.view_is)
     (λ h fits.
-    kept_fits c.self.inside.core c.self.inside.core c.self.inside.files c.apply-outcome.new.self h refl
-    (c.apply-outcome.ensures.files ∙ ap (λ res. after c.self.inside.files c.args.op.now res)
-    (growth_failed c.self.inside.files c.args.op.now c.written_length-length.result c.apply-outcome.result (c.written_length-length.ensures _ long) c.apply-outcome.ensures.outcome (λ e. c.if-outcome-length.true (ap (of_z w32) e)))
+    kept_fits c.self.inside.core c.self.inside.core c.self.inside.files c.apply_in-outcome.new.self h refl
+    (c.apply_in-outcome.ensures.files ∙ ap (λ res. after c.self.inside.files c.args.op.now res)
+    (growth_failed c.self.inside.files c.args.op.now c.written_length-length.result c.apply_in-outcome.result (c.written_length-length.ensures _ long) c.apply_in-outcome.ensures.outcome (λ e. c.if-outcome-length.true (ap (of_z w32) e)))
     ∙ failed c.self.inside.files c.args.op.now 11) fits fits.core)
 
 pub returns-then-outcome-length-clause-no_memory : goal.returns-then-outcome-length-clause-no_memory
@@ -64,11 +64,11 @@ invariant_of-self-2 c =
     let fits = c.self.invariant.1 in
     let running = rw (← c.self.view_is) at c.requires.running in
     let long = rw (← c.self.view_is) at c.requires.lengthens in
-    let length : c.apply-outcome.result.res ≡ c.written_length-length.result = sym (to_z-of_z w32 c.apply-outcome.result.res (search rules)) ∙ ap (to_z w32) c.if-outcome-length.false ∙ to_z-of_z w32 c.written_length-length.result (search rules) in
-    let bytes = growth_bytes c.self.inside.files c.args.op.now c.written_length-length.result c.apply-outcome.result (c.written_length-length.ensures _ long) c.apply-outcome.ensures.outcome in (
+    let length : c.apply_in-outcome.result.res ≡ c.written_length-length.result = sym (to_z-of_z w32 c.apply_in-outcome.result.res (search rules)) ∙ ap (to_z w32) c.if-outcome-length.false ∙ to_z-of_z w32 c.written_length-length.result (search rules) in
+    let bytes = growth_bytes c.self.inside.files c.args.op.now c.written_length-length.result c.apply_in-outcome.result (c.written_length-length.ensures _ long) c.apply_in-outcome.ensures.outcome in (
       (step.Finish c.args.number, c.args.given) ∷ h,
-      followed_end c.self.inside.core c.finish-2.new.self c.self.inside.files c.args.number c.args.op.now c.apply-outcome.result c.apply-outcome.new.self c.finish-2.result c.args.given h c.finish-2.ensures.setup fits
-          (running h fits) c.apply-outcome.ensures.outcome c.apply-outcome.ensures.files (c.finish-2.ensures.fits h fits.core) (c.finish-2.ensures.outcome h fits.core)
+      followed_end c.self.inside.core c.finish-2.new.self c.self.inside.files c.args.number c.args.op.now c.apply_in-outcome.result c.apply_in-outcome.new.self c.finish-2.result c.args.given h c.finish-2.ensures.setup fits
+          (running h fits) c.apply_in-outcome.ensures.outcome c.apply_in-outcome.ensures.files (c.finish-2.ensures.fits h fits.core) (c.finish-2.ensures.outcome h fits.core)
           (c.same_answer-2.ensures.0 c.if-not-same_answer.false ∙ success ∙ sym (ended_alike _ _ _ _ length bytes)),
     )
 
@@ -77,10 +77,10 @@ returns-clause-ok c =
     let success = simp (to_z-of_z w32 c.written_length-length.result (search rules)) at c.ended-2.ensures in
     let running = rw (← c.self.view_is) at c.requires.running in
     let long = rw (← c.self.view_is) at c.requires.lengthens in
-    let length : c.apply-outcome.result.res ≡ c.written_length-length.result = sym (to_z-of_z w32 c.apply-outcome.result.res (search rules)) ∙ ap (to_z w32) c.if-outcome-length.false ∙ to_z-of_z w32 c.written_length-length.result (search rules) in
-    let bytes = growth_bytes c.self.inside.files c.args.op.now c.written_length-length.result c.apply-outcome.result (c.written_length-length.ensures _ long) c.apply-outcome.ensures.outcome in
+    let length : c.apply_in-outcome.result.res ≡ c.written_length-length.result = sym (to_z-of_z w32 c.apply_in-outcome.result.res (search rules)) ∙ ap (to_z w32) c.if-outcome-length.false ∙ to_z-of_z w32 c.written_length-length.result (search rules) in
+    let bytes = growth_bytes c.self.inside.files c.args.op.now c.written_length-length.result c.apply_in-outcome.result (c.written_length-length.ensures _ long) c.apply_in-outcome.ensures.outcome in
     rw (← c.self.view_is)
     (λ h fits.
-    followed_end c.self.inside.core c.finish-2.new.self c.self.inside.files c.args.number c.args.op.now c.apply-outcome.result c.apply-outcome.new.self c.finish-2.result c.args.given h c.finish-2.ensures.setup fits
-    (running h fits) c.apply-outcome.ensures.outcome c.apply-outcome.ensures.files (c.finish-2.ensures.fits h fits.core) (c.finish-2.ensures.outcome h fits.core)
+    followed_end c.self.inside.core c.finish-2.new.self c.self.inside.files c.args.number c.args.op.now c.apply_in-outcome.result c.apply_in-outcome.new.self c.finish-2.result c.args.given h c.finish-2.ensures.setup fits
+    (running h fits) c.apply_in-outcome.ensures.outcome c.apply_in-outcome.ensures.files (c.finish-2.ensures.fits h fits.core) (c.finish-2.ensures.outcome h fits.core)
     (c.same_answer-2.ensures.0 c.if-not-same_answer.false ∙ success ∙ sym (ended_alike _ _ _ _ length bytes)))

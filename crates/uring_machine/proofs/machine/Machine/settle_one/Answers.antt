@@ -16,13 +16,13 @@ pub returns-in-Run-clause-settled : goal.returns-in-Run-clause-settled
 returns-in-Run-clause-settled c = λ h fits.
     let asked = c.step.ensures.fits h fits in
     let issued = c.step-in-Next.ensures.fits h (next_fits c.step.new.self c.step.result h asked) in
-    settled_run c.args.self.now c.step.new.self c.finish.new.self c.in-Next.number c.step.result c.step-in-Next.result c.finish.result h c.step.ensures.setup (c.finish.ensures.setup ∙ c.step-in-Next.ensures.setup)
-    c.in-Next.is c.in-Run.is fits asked (c.finish.ensures.fits _ issued)
+    settled_run _ c.args.self.now c.step.new.self c.finish_in.new.self c.in-Next.number c.step.result c.step-in-Next.result c.finish_in.result h c.step.ensures.setup (c.finish_in.ensures.setup ∙ c.step-in-Next.ensures.setup)
+    c.in-Next.is c.in-Run.is fits asked (c.finish_in.ensures.fits _ issued)
 
 pub returns-in_default-step-2-clause-settled : goal.returns-in_default-step-2-clause-settled
 returns-in_default-step-2-clause-settled c = λ h fits.
     let asked = c.step.ensures.fits h fits in
-    settled_end c.args.self.now c.step.new.self c.step-in-Next.new.self c.in-Next.number c.step.result c.step-in-Next.result h c.step.ensures.setup c.step-in-Next.ensures.setup
+    settled_end _ c.args.self.now c.step.new.self c.step-in-Next.new.self c.in-Next.number c.step.result c.step-in-Next.result h c.step.ensures.setup c.step-in-Next.ensures.setup
     c.in-Next.is c.in_default-step-2.not-Run fits asked (c.step-in-Next.ensures.fits h (next_fits c.step.new.self c.step.result h asked))
 
 pub returns-in_default-step-clause-settled : goal.returns-in_default-step-clause-settled
@@ -30,5 +30,5 @@ returns-in_default-step-clause-settled c = λ h fits.
     let asked = c.step.ensures.fits h fits in
     let least : (k : History) → Fits c.args.self.now k → Some c.in-Some.least ≡ least_of (world c.args.self.now.core.setup k).requests =
     rw (← c.self.view_is) (λ k f. sym c.in-Some.is ∙ c.least.ensures k f.core) in
-    settled_finish c.args.self.now c.step.new.self c.finish-in_default-step.new.self c.in-Some.least c.step.result c.finish-in_default-step.result h c.step.ensures.setup c.finish-in_default-step.ensures.setup
-    c.in_default-step.not-Next fits (least h fits) asked (c.finish-in_default-step.ensures.fits h (next_fits c.step.new.self c.step.result h asked))
+    settled_finish _ c.args.self.now c.step.new.self c.finish_in-in_default-step.new.self c.in-Some.least c.step.result c.finish_in-in_default-step.result h c.step.ensures.setup c.finish_in-in_default-step.ensures.setup
+    c.in_default-step.not-Next fits (least h fits) asked (c.finish_in-in_default-step.ensures.fits h (next_fits c.step.new.self c.step.result h asked))

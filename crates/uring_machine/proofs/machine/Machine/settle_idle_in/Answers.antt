@@ -1,9 +1,9 @@
 use Rattle.std.proofs.Common.{refl, ◌∙◌, arith}
 use Rattle.uring_machine.proofs.Settling.{counted, outstanding_of, settled_none, settled_more, settled_all}
-use Rattle.uring_machine.proofs.machine.Machine.settle_idle.Goals as goal
+use Rattle.uring_machine.proofs.machine.Machine.settle_idle_in.Goals as goal
 
 pub loop-init : goal.loop-init
-loop-init c = record { setup = refl; settled = λ h fits. settled_none c.args.self.now h fits }
+loop-init c = record { setup = refl; settled = λ h fits. settled_none _ c.args.self.now h fits }
 
 pub settle_one-steps-requires : goal.settle_one-steps-requires
 settle_one-steps-requires c =
@@ -20,7 +20,7 @@ loop-preserved c =
     record {
       setup = c.settle_one-steps.ensures.setup ∙ c.loop.invariant.setup;
       settled = λ h fits.
-          settled_more c.args.self.now c.loop.self c.settle_one-steps.new.self h c.loop.steps c.settle_one-steps.result c.loop.counter c.settle_one-steps.ensures.setup (c.loop.invariant.settled h fits) c.settle_one-steps.ensures.settled;
+          settled_more _ c.args.self.now c.loop.self c.settle_one-steps.new.self h c.loop.steps c.settle_one-steps.result c.loop.counter c.settle_one-steps.ensures.setup (c.loop.invariant.settled h fits) c.settle_one-steps.ensures.settled;
     }
 
 pub returns-clause-setup : goal.returns-clause-setup
@@ -29,4 +29,4 @@ returns-clause-setup c = c.loop.invariant.setup
 pub returns-clause-settled : goal.returns-clause-settled
 returns-clause-settled c = λ h fits.
     let held = counted c.self.inside.core c.self.inside.files c.args.self.now c.counts-outstanding.result.outstanding c.self.view_is c.self.invariant (λ k f. (c.counts-outstanding.ensures k f).outstanding) in
-    settled_all c.args.self.now c.loop.self h c.loop.steps c.loop.counter c.loop.invariant.setup fits (omega (arith, held.same, outstanding_of c.args.self.now h fits)) (c.loop.invariant.settled h fits)
+    settled_all _ c.args.self.now c.loop.self h c.loop.steps c.loop.counter c.loop.invariant.setup fits (omega (arith, held.same, outstanding_of c.args.self.now h fits)) (c.loop.invariant.settled h fits)

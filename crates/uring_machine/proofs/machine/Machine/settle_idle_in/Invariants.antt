@@ -2,7 +2,7 @@ use Rattle.std.proofs.Common.{◌≡◌}
 use Rattle.uring_core.specs.Histories.{History}
 use Rattle.uring_machine.specs.Machine.{Fits}
 use Rattle.uring_machine.specs.Settling.{HasSettled}
-use Rattle.uring_machine.proofs.machine.Machine.settle_idle.Given as goal
+use Rattle.uring_machine.proofs.machine.Machine.settle_idle_in.Given as goal
 
 -- a request was settled each time
 abbrev pub invariant-loop : goal.invariant-loop
