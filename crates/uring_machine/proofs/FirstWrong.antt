@@ -1,6 +1,6 @@
 -- The first wrong answer of a list, and what is told of a list where an answer was refused.
-use Rattle.std.proofs.Common.{◌≡◌, ℕ, ◌<◌, List, length, take, get_or, Option, Some, refl, sym, subst}
-use Rattle.std.specs.Prelude.{Result, Ok, IfOk, OnOk, MatchOption}
+use Rattle.std.proofs.Common.{◌≡◌, ℕ, ◌<◌, ◌≤◌, List, length, take, get_or, Option, Some, refl, sym, subst, arith}
+use Rattle.std.specs.Prelude.{Result, Ok, IsOk, IfOk, OnOk, MatchOption}
 use Rattle.std.specs.declared.alloc.AllocError.{AllocError}
 use Rattle.std.proofs.lemmas.Result.{IfOk-weaker}
 use Rattle.std.proofs.lemmas.Option.{slice_get_read}
@@ -21,6 +21,16 @@ stops (Wrong w) place r P Q told none q =
     subst (λ k. IfOk k (λ found. MatchOption found P Q)) (sym (told w refl)) (q w refl)
 stops NoMemory place r P Q told none q =
     IfOk-weaker r (λ x. ⊥) (λ found. MatchOption found P Q) (λ x bad. absurd bad) (none refl)
+
+pub no_more : (n : ℕ) → n ≤ n
+no_more n = omega arith
+
+-- unless memory was refused, there is an answer
+pub goes_on : (refusal : Refusal) (place : ℕ) (r : Result (Option (ℕ × Wanted)) AllocError)
+    → ((w : Wanted) → refusal ≡ Wrong w → r ≡ Ok (Some (place, w))) → (refusal ≡ NoMemory → ⊥)
+    → IsOk r
+goes_on (Wrong w) place r told some = subst (λ k. IsOk k) (sym (told w refl)) refl
+goes_on NoMemory place r told some = absurd (some refl)
 
 pub first_wrong_at : (g k : Setup) (events : List Event) (place : ℕ) (e : Event) (refusal : Refusal) (w : Wanted)
     → k ≡ g → place < length events → e ≡ get_or events place e

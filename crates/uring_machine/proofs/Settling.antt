@@ -101,8 +101,11 @@ unrefused-append g before ((s, a) ∷ earlier) later e l =
 
 -- an end isn't Again
 not_again : (a : Answer) → IsEnded a → a ≡ answer.Again → ⊥
-not_again (answer.Ended res bytes) ended is = absurd is
+not_again (answer.Ended res bytes) ended is = cc
 not_again _ ended is = absurd ended
+
+run_not_again : (a : Answer) → a ≡ answer.Run → a ≡ answer.Again → ⊥
+run_not_again a run again = cc
 
 -- how many are outstanding
 pub outstanding_of : (m : Machine) (h : History) → Fits m h
@@ -141,7 +144,7 @@ settled_run granted old asked new n a b c h same kept next ran fits asked_fits n
         settling = (issued_next r n named, (rw ran refl, tt));
         fits = new_fits;
         many = refl;
-        unrefused = λ sure. ((λ again. absurd (sym ran ∙ again)), (unrefused sure, tt));
+        unrefused = λ sure. (run_not_again b ran, (unrefused sure, tt));
       };
       none_started = refl;
       few = omega arith;

@@ -1,10 +1,16 @@
-use Rattle.std.proofs.Common.{arith}
-use Rattle.uring_machine.proofs.FirstWrong.{stops, first_wrong_apart_at}
+use Rattle.std.proofs.Common.{ap, arith}
+use Rattle.std.specs.Prelude.{Err}
+use Rattle.uring_machine.proofs.FirstWrong.{stops, goes_on, no_more, first_wrong_apart_at}
 use Rattle.uring_machine.proofs.checks.first_wrong_apart.Goals as goal
 
-pub returns-in-Err : goal.returns-in-Err
-returns-in-Err c =
+pub returns-in-Err-clause-found : goal.returns-in-Err-clause-found
+returns-in-Err-clause-found g c =
     stops c.in-Err.refusal c.loop-place.place c.stopped.result _ _ c.stopped.ensures.wrong c.stopped.ensures.no_memory
     (λ w is.
     first_wrong_apart_at c.args.core.now.setup c.loop-place.core.setup c.args.events.now c.loop-place.place c.index-events-place.result c.in-Err.refusal w c.loop-place.invariant.setup (omega arith) c.index-events-place.is
     c.loop-place.invariant.fits.lawful (c.in-Err.ensures.refused _ c.loop-place.invariant.fits) is)
+
+pub returns-in-Err-clause-granted : goal.returns-in-Err-clause-granted
+returns-in-Err-clause-granted g c = λ sure.
+    goes_on c.in-Err.refusal c.loop-place.place c.stopped.result c.stopped.ensures.wrong
+    (λ none. c.in-Err.ensures.granted _ _ c.loop-place.invariant.fits (sure _) (no_more _) (ap (λ r. Err r) none))

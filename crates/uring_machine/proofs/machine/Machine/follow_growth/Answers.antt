@@ -9,7 +9,7 @@ use Rattle.uring_machine.proofs.machine.Machine.follow_growth.Goals as goal
 use Rattle.uring_core.proofs.FileHistory.{failed}
 
 pub invariant_of-self : goal.invariant_of-self
-invariant_of-self c =
+invariant_of-self g c =
     let h = c.self.invariant.0 in
     let fits = c.self.invariant.1 in
     let running = rw (← c.self.view_is) at c.requires.running in
@@ -20,7 +20,7 @@ invariant_of-self c =
     )
 
 pub returns-then-same_answer-clause-ok : goal.returns-then-same_answer-clause-ok
-returns-then-same_answer-clause-ok c =
+returns-then-same_answer-clause-ok g c =
     let running = rw (← c.self.view_is) at c.requires.running in
     let long = rw (← c.self.view_is) at c.requires.lengthens in
     rw (← c.self.view_is)
@@ -29,7 +29,7 @@ returns-then-same_answer-clause-ok c =
     (c.finish.ensures.fits h fits.core) (c.finish.ensures.outcome h fits.core) (c.same_answer.ensures.0 c.if-same_answer.true ∙ c.ended.ensures))
 
 pub returns-then-not-same_answer-clause-refused : goal.returns-then-not-same_answer-clause-refused
-returns-then-not-same_answer-clause-refused c =
+returns-then-not-same_answer-clause-refused g c =
     let success = simp (to_z-of_z w32 c.written_length-length.result (search rules)) at c.ended-2.ensures in
     rw (to_z-of_z w32 c.written_length-length.result (search rules)) (λ h fits.
     growth_wrong _ h c.args.number c.args.op.now c.written_length-length.result c.args.given (runs_so _ h c.args.number c.args.op.now fits (c.requires.running h fits)) c.requires.lengthens
@@ -38,14 +38,14 @@ returns-then-not-same_answer-clause-refused c =
     (λ e. both_ways c.same_answer-2.result c.if-not-same_answer.true (c.same_answer-2.ensures.1 (e ∙ sym success))))
 
 pub returns-then-outcome-length-clause-refused : goal.returns-then-outcome-length-clause-refused
-returns-then-outcome-length-clause-refused c =
+returns-then-outcome-length-clause-refused g c =
     let success = simp (to_z-of_z w32 c.written_length-length.result (search rules)) at c.ended-2.ensures in
     λ h fits.
     growth_called _ h c.args.number c.args.op.now c.written_length-length.result c.args.given (runs_so _ h c.args.number c.args.op.now fits (c.requires.running h fits)) c.requires.lengthens
     (c.written_length-length.ensures _ c.requires.lengthens) (c.same_answer-2.ensures.0 c.if-not-same_answer.false ∙ success)
 
 pub returns-then-outcome-length-clause-resumed : goal.returns-then-outcome-length-clause-resumed
-returns-then-outcome-length-clause-resumed c =
+returns-then-outcome-length-clause-resumed g c =
     let long = rw (← c.self.view_is) at c.requires.lengthens in
     rw (← c.self.view_is)
     (λ h fits.
@@ -55,10 +55,10 @@ returns-then-outcome-length-clause-resumed c =
     ∙ failed c.self.inside.files c.args.op.now 11) fits fits.core)
 
 pub returns-then-outcome-length-clause-no_memory : goal.returns-then-outcome-length-clause-no_memory
-returns-then-outcome-length-clause-no_memory c = λ e h fits. sym (runs_so _ h c.args.number c.args.op.now fits (c.requires.running h fits)).is_same ∙ c.requires.lengthens
+returns-then-outcome-length-clause-no_memory g c = λ e h fits. sym (runs_so _ h c.args.number c.args.op.now fits (c.requires.running h fits)).is_same ∙ c.requires.lengthens
 
 pub invariant_of-self-2 : goal.invariant_of-self-2
-invariant_of-self-2 c =
+invariant_of-self-2 g c =
     let success = simp (to_z-of_z w32 c.written_length-length.result (search rules)) at c.ended-2.ensures in
     let h = c.self.invariant.0 in
     let fits = c.self.invariant.1 in
@@ -73,7 +73,7 @@ invariant_of-self-2 c =
     )
 
 pub returns-clause-ok : goal.returns-clause-ok
-returns-clause-ok c =
+returns-clause-ok g c =
     let success = simp (to_z-of_z w32 c.written_length-length.result (search rules)) at c.ended-2.ensures in
     let running = rw (← c.self.view_is) at c.requires.running in
     let long = rw (← c.self.view_is) at c.requires.lengthens in
