@@ -1,3 +1,5 @@
+//! The answers to steps, and whether two are the same.
+
 ghost use Rattle.std.specs.Prelude.{◌≡◌, ◌↔◌, IsTrue};
 ghost use Rattle.uring_core.specs.declared.answer.Answer.TheVariants as answer;
 

@@ -1,3 +1,5 @@
+//! The core: rings and dispatcher, moved step by step.
+
 ghost use Rattle.std.specs.Prelude.{◌≡◌, ℕ, ◌+◌, ◌<◌, ◌≤◌, ◌∷◌, [], true, length, IsOk, IfOk};
 ghost use Rattle.uring_entry.specs.Setup.{Setup};
 ghost use Rattle.uring_entry.specs.Submission.{Submission, stops_at, with_stopped};

@@ -1,3 +1,5 @@
+//! The steps of application and dispatcher.
+
 use uring_entry::Sqe;
 
 /// One step of the application or of the dispatcher, the kernel's side of the rings. Any number may stand in a step: what is out of range is refused, or dropped. `Answer` tells each refusal.

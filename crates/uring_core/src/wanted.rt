@@ -1,3 +1,5 @@
+//! The answers that were called for where another was recorded.
+
 use crate::answer::Answer;
 
 /// The answers that were called for where another was recorded.

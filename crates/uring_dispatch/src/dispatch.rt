@@ -1,3 +1,5 @@
+//! The dispatcher: accepts requests, says which may start, issues them and ends them.
+
 ghost use Rattle.std.specs.Prelude.{◌≡◌, ℕ, List, ◌+◌, ◌-◌, ◌^◌, ◌<◌, ◌≤◌, ◌↔◌, IsTrue, true, false, OnOk, OnErr, IsErrOf};
 ghost use Rattle.uring_entry.specs.Requests.{Requests, no_request, with_accepted, with_cut, next_of, least_of, operation_running, entry_outstanding, outstanding_in, running_in};
 ghost use Rattle.uring_entry.specs.Why.{why_of};

@@ -1,3 +1,5 @@
+//! Why no room was made for requests.
+
 ghost use Rattle.std.specs.Prelude.{Some};
 ghost use Rattle.uring_dispatch.specs.Texts.{refusal_text};
 

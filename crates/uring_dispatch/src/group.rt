@@ -1,3 +1,5 @@
+//! A group of linked requests, as the dispatcher keeps it.
+
 ghost use Rattle.std.specs.Prelude.{◌≡◌};
 ghost use Rattle.uring_entry.specs.Groups.{is_before, earlier_of};
 ghost use Rattle.uring_entry.specs.Below.{found_or};

@@ -1,3 +1,5 @@
+//! A request, as the dispatcher keeps it until it has ended.
+
 use uring_entry::{Op, Sqe};
 
 /// A request that was accepted and hasn't ended.

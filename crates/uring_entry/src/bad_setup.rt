@@ -1,3 +1,5 @@
+//! Why a set-up is refused.
+
 ghost use Rattle.std.specs.Prelude.{Some};
 ghost use Rattle.uring_entry.specs.Texts.{refusal_text};
 

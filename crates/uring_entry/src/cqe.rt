@@ -1,3 +1,5 @@
+//! Completions: their fields, their words, and the layout of both.
+
 ghost use Rattle.std.specs.Prelude.{◌≡◌};
 
 use crate::payload::{bytes_of_words, words_of_bytes};

@@ -1,3 +1,5 @@
+//! What can be wrong with an entry.
+
 ghost use Rattle.std.specs.Prelude.{Some};
 ghost use Rattle.uring_entry.specs.Texts.{fault_text};
 

@@ -1,3 +1,5 @@
+//! The flags of an entry.
+
 ghost use Rattle.std.specs.Prelude.{⊤, [], ◌∷◌, codes};
 
 use bitflags::{Flag, Flags, bitflag_items};

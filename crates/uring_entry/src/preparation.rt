@@ -1,3 +1,5 @@
+//! What an entry asks for, or its first fault.
+
 ghost use Rattle.std.specs.Prelude.{◌≡◌, ◌==◌, ◌||◌, Some, None, IfOk, IfErr};
 ghost use Rattle.uring_entry.specs.Preparation.{fault_of, operation_of};
 ghost use Rattle.uring_entry.specs.Preparation as spec;

@@ -1,3 +1,5 @@
+//! The sizes of rings and files, and their limits.
+
 ghost use Rattle.std.specs.Prelude.{◌≡◌, ◌↔◌, ◌≤◌, ◌*◌, ℕ, true, IfOk, IsErrOf, IsNone, IfSome, unwrap_or};
 ghost use Rattle.std.specs.Int.{IsPowerOfTwo, IsNextPowerOfTwo};
 ghost use Rattle.uring_entry.specs.Setup.{IsBadCq};

@@ -1,3 +1,5 @@
+//! Whether an end is a success, and whether it posts a completion.
+
 ghost use Rattle.std.specs.Prelude.{◌≡◌, ℤ};
 ghost use Rattle.uring_entry.specs.Success.{is_success};
 ghost use Rattle.uring_entry.specs.Success as spec;

@@ -1,3 +1,5 @@
+//! Why a request stands as it does.
+
 use crate::fault::Fault;
 
 /// Why a request stands as it does: exactly one of these. Their order is that in which an issue is answered, our own rule.

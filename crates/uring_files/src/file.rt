@@ -1,3 +1,5 @@
+//! One file in memory: its bytes, and how it stands.
+
 ghost use Rattle.std.specs.Prelude.{◌≡◌, ℕ, ◌≤◌, ◌↔◌, length, IsTrue, OnOk, OnErr, IsErrOf, slice_get, pos, not, ◌&&◌};
 ghost use Rattle.uring_entry.specs.Layout.{padded};
 ghost use Rattle.uring_files.specs.Contents.{empty_file, max_len, read_outcome, is_too_long, is_past_end, written, with_writes_synced};

@@ -1,3 +1,5 @@
+//! Files in memory, on which operations are carried out.
+
 ghost use Rattle.std.specs.Prelude.{◌≡◌, ℕ, IfOk, IfSome, OnErr, IsOk};
 ghost use Rattle.uring_files.specs.Operations as spec;
 

@@ -1,3 +1,5 @@
+//! Tests of the public calls of entries, rings, files and dispatcher.
+
 mod dispatch;
 mod entry;
 mod files;

@@ -1,3 +1,5 @@
+//! The machine: a core and its files.
+
 ghost use Rattle.std.specs.Prelude.{◌≡◌, ℕ, ◌≤◌, ◌∷◌, [], true, drop, length, List, Some, IsOk, IfOk, IfErr, IfSome, IsErrOf, OnOk, slice_get};
 ghost use Rattle.uring_entry.specs.Setup.{IsWithinLimits};
 ghost use Rattle.uring_entry.specs.Completions.{unreaped};

@@ -1,3 +1,5 @@
+//! Lists of steps, made one after another.
+
 ghost use Rattle.std.specs.Prelude.{◌≡◌, ℕ, ◌++◌, ◌<◌, ◌≤◌, length, IsOk, IfOk, OnErr};
 ghost use Rattle.std.specs.List.{zip};
 ghost use Rattle.uring_core.specs.Histories.{History, history_of};

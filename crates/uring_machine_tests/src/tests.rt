@@ -1,3 +1,5 @@
+//! Tests of the public calls of core and machine.
+
 mod cores;
 mod growth;
 mod recorded;

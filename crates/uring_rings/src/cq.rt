@@ -1,3 +1,5 @@
+//! The completion ring and its overflow list.
+
 ghost use Rattle.std.specs.Prelude.{◌≡◌, ℕ, ◌+◌, ◌-◌, ◌*◌, ◌%◌, ◌^◌, ◌<◌, ◌≤◌, drop, length, IsOk, IfOk, OnOk, OnErr, Option, None, if◌then◌else◌, min, nat_lt, slice_get, slice_set};
 ghost use Rattle.uring_entry.specs.Setup.{Setup};
 ghost use Rattle.uring_entry.specs.IndexWords.{word_of};

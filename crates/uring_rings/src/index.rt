@@ -1,3 +1,5 @@
+//! Index words: heads and tails, which run freely.
+
 ghost use Rattle.std.specs.Prelude.{◌≡◌, ◌+◌, ◌%◌, ◌^◌};
 ghost use Rattle.std.specs.Int.RustNames.{bit_and};
 

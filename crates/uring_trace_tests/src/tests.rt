@@ -1,3 +1,5 @@
+//! Tests of traces, checks and pictures over their streams, and of growth.
+
 mod check;
 mod explained;
 mod growth;

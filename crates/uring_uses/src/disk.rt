@@ -1,3 +1,5 @@
+//! A simulator's disk, with a block that may be bad.
+
 ghost use Rattle.std.specs.Prelude.{◌≡◌, vec_len, false};
 ghost use Rattle.uring_uses.specs.Disks.{IsDiskOutcome, IsMoved};
 

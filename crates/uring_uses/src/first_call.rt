@@ -1,3 +1,5 @@
+//! The first example of the README.
+
 use anyhow::Result;
 use std::alloc::Global;
 use uring_machine::{Cqe, Machine, Setup, Sqe, Step};

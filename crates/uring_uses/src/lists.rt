@@ -1,3 +1,5 @@
+//! Lists of steps: made twice, they are answered the same.
+
 ghost use Rattle.std.specs.List.{zip};
 ghost use Rattle.std.specs.Prelude.{◌≡◌, length, IfOk};
 ghost use Rattle.uring_core.specs.CalledFor.{IsLawful};

@@ -1,3 +1,5 @@
+//! One step, and what its answer tells of the requests before it.
+
 ghost use Rattle.std.specs.Prelude.{◌≡◌, ◌∷◌, ℕ, ◌<◌, true, IsTrue};
 ghost use Rattle.uring_entry.specs.Requests.{waits_for, has_ended};
 ghost use Rattle.uring_core.specs.Histories.{History, world};

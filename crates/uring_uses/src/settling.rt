@@ -1,3 +1,5 @@
+//! A machine brought to rest, and what is then left to reap.
+
 ghost use Rattle.std.specs.Prelude.{◌≡◌, IfOk};
 ghost use Rattle.uring_entry.specs.Setup.{IsWithinLimits};
 ghost use Rattle.uring_core.specs.Histories.{History};

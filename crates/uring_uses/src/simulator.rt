@@ -1,3 +1,5 @@
+//! A simulator: requests of the core, carried out on a disk of its own.
+
 ghost use Rattle.std.specs.Prelude.{◌≡◌, ◌<◌, ◌≤◌, ◌+◌, ◌^◌};
 ghost use Rattle.uring_entry.specs.Requests.{outstanding_in, doomed_result, no_bytes};
 ghost use Rattle.uring_core.specs.Core.{FitsApart};

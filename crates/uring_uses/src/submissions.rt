@@ -1,3 +1,5 @@
+//! Whole submissions, as steps and on a core.
+
 use std::alloc::{AllocError, Global};
 use uring_machine::{Core, Sqe, Step};
 

@@ -1,3 +1,5 @@
+//! Tests of the completion ring: what is done to it, and what it then shows.
+
 use crate::tests::{check_done, first_false};
 use std::alloc::{AllocError, Global};
 use std::test::Fail;

@@ -1,3 +1,5 @@
+//! Tests of the submission ring: what is done to it, and what it then answers.
+
 use crate::tests::{check_done, first_false};
 use std::alloc::Global;
 use std::test::Fail;
