@@ -9,14 +9,17 @@ use Rattle.uring_ports.specs.declared.refusals.CloseRefusal.TheVariants as close
 use Rattle.uring_ports.specs.Dropped.{with_word}
 use Rattle.uring_ports.specs.Items.{AreItems}
 use Rattle.uring_ports.specs.Ports.{Sizes, Put, with_call, with_close, places_of}
+use Rattle.uring_ports.specs.Seen.{SeenRoom, SeenCompletions}
 
--- The application's end: the numbers of its pair of ports, the sizes of the rings, the items of each submit that returned Ok, call by call, with whether it is closed, every completion reaped, and every dropped word loaded, oldest first; without a list if no such word lies between the ends.
+-- The application's end: the numbers of its pair of ports, the sizes of the rings, the items of each submit that returned Ok, call by call, with whether it is closed, every completion reaped, and every dropped word loaded, oldest first; without a list if no such word lies between the ends. And what its port has seen: room, and completions that aren't reaped.
 pub record AppEnd : Type 0 where
   pub pairing : List ℕ
   pub sizes : Sizes
   pub submitted : Put
   pub received : List Cqe
   pub dropped : Option (List ℕ)
+  pub saw_room : SeenRoom
+  pub saw_completions : SeenCompletions
 
 -- these items as a call more
 abbrev pub submits : AppEnd → List Item → AppEnd
@@ -29,6 +32,14 @@ closes a = record a { submitted = with_close a.submitted }
 -- a completion more
 abbrev pub reaps : AppEnd → Cqe → AppEnd
 reaps a completion = record a { received = a.received ++ completion ∷ [] }
+
+-- the end with this room seen
+abbrev pub sees_room : AppEnd → SeenRoom → AppEnd
+sees_room a seen = record a { saw_room = seen }
+
+-- the end with these completions seen
+abbrev pub sees_completions : AppEnd → SeenCompletions → AppEnd
+sees_completions a seen = record a { saw_completions = seen }
 
 -- a dropped word more
 abbrev pub loads : AppEnd → ℕ → AppEnd

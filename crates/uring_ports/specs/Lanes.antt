@@ -4,19 +4,23 @@ use denote.RawPtr.{Ptr, block_ptr, null_ptr}
 use Rattle.rtrb.specs.declared.end.End.{End}
 use Rattle.uring_entry.specs.Layout.{Cqe}
 use Rattle.uring_ports.specs.Ports.{Sizes, Put}
+use Rattle.uring_ports.specs.Seen.{SeenRoom, SeenCompletions, SeenCalls}
 
--- the application's port: the numbers of its pair, the sizes, all that was put, and every completion that was got
+-- the application's port: the numbers of its pair, the sizes, all that was put, every completion that was got, and the room and the completions that it has seen
 pub record AppLanes : Type 0 where
   pub pairing : List ℕ
   pub sizes : Sizes
   pub put : Put
   pub got : List Cqe
+  pub saw_room : SeenRoom
+  pub saw_completions : SeenCompletions
 
--- the dispatcher's port: the numbers of its pair, the sizes, all that was pulled, every completion that was delivered, and how many more there is certainly room for
+-- the dispatcher's port: the numbers of its pair, the sizes, all that was pulled, the calls that it has seen, every completion that was delivered, and how many more there is certainly room for
 pub record KernelLanes : Type 0 where
   pub pairing : List ℕ
   pub sizes : Sizes
   pub pulled : Put
+  pub saw_calls : SeenCalls
   pub delivered : List Cqe
   pub free : ℕ
 

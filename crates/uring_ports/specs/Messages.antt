@@ -1,5 +1,5 @@
 -- Glue. The messages that calls and the close mark are sent as, and what messages were sent for.
-use Rattle.std.specs.Prelude.{◌≡◌, ℕ, zero, suc, ◌+◌, Bool, true, false, ◌||◌, if◌then◌else◌, List, [], ◌∷◌, ◌++◌, length}
+use Rattle.std.specs.Prelude.{◌≡◌, ℕ, zero, suc, ◌+◌, Bool, true, false, ◌||◌, nat_lt, if◌then◌else◌, List, [], ◌∷◌, ◌++◌, length}
 use Rattle.std.specs.List.{flat_map}
 use Rattle.uring_ports.specs.declared.item.Item.{Item}
 use Rattle.uring_ports.specs.declared.item.Item.TheVariants as item
@@ -76,3 +76,8 @@ Continues (suc left) m = m ≡ item_before left m.item
 -- this message may be sent behind these
 abbrev pub MayFollow : List Message → Message → Type 0
 MayFollow before m = (has_close_mark before ≡ false) × Continues (owed before) m
+
+-- whether messages that go on from whole calls begin with a whole call, or are the close mark
+abbrev pub begins_whole : List Message → Bool
+begins_whole [] = false
+begins_whole (m ∷ ms) = m.closes || nat_lt m.left (length (m ∷ ms))

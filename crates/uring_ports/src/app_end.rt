@@ -1,10 +1,12 @@
 //! The application's end: it submits calls, reaps completions and closes.
-ghost use Rattle.std.specs.Prelude.{◌≡◌, ◌<◌, ◌≤◌, ◌↔◌, true, false, None, is_some, IsTrue, length, OnOk, IfOk, IfErr, MatchOption};
+ghost use Rattle.std.specs.Prelude.{◌≡◌, ◌≢◌, ◌<◌, ◌≤◌, ◌↔◌, true, false, None, ◌∷◌, is_some, IsTrue, length, OnOk, IfOk, IfErr, MatchOption};
+ghost use mathlib.Core.List.{IsPrefix};
 ghost use Rattle.uring_entry.specs.Submission.{IsItem};
 ghost use Rattle.uring_ports.specs.Dropped.{WereStored};
 ghost use Rattle.uring_ports.specs.Items.{AreItems, published_as};
 ghost use Rattle.uring_ports.specs.Ports.{nothing_put, items_of_calls, LeavesItems, LeavesCompletions};
-ghost use Rattle.uring_ports.specs.AppEnd.{submits, closes, reaps, loads, IsSound, IsAmiss, RefusesCall, RefusesClose};
+ghost use Rattle.uring_ports.specs.AppEnd.{submits, closes, reaps, sees_room, sees_completions, loads, IsSound, IsAmiss, RefusesCall, RefusesClose};
+ghost use Rattle.uring_ports.specs.Seen.{FindsNoRoom, FindsNoCompletion};
 
 use crate::item::Item;
 use crate::ports::{AppPort, KernelPort};
@@ -33,7 +35,7 @@ impl<P: AppPort> Model for AppEnd<P> {
     ghost use Rattle.uring_ports.specs.Items.{AreItems};
     ghost use Rattle.uring_ports.specs.Ports.{items_of_calls};
 
-    ghost view = { λ e. record { pairing = P.pairing e.port; sizes = P.sizes e.port; submitted = P.put e.port; received = P.got e.port; dropped = P.dropped e.port } };
+    ghost view = { λ e. record { pairing = P.pairing e.port; sizes = P.sizes e.port; submitted = P.put e.port; received = P.got e.port; dropped = P.dropped e.port; saw_room = P.saw_room e.port; saw_completions = P.saw_completions e.port } };
 
     ghost invariant = { λ e. (e.size ≡ (P.sizes e.port).sq) × (e.closed ≡ (P.put e.port).closed)
         × AreItems e.size (items_of_calls (P.put e.port).calls) };
@@ -45,7 +47,7 @@ impl<P: AppPort> AppEnd<P> {
         requires fresh { P.put port ≡ nothing_put }
         requires size { size ≡ (P.sizes port).sq }
         ensures { result
-            ≡ record { pairing = P.pairing port; sizes = P.sizes port; submitted = nothing_put; received = P.got port; dropped = P.dropped port } }
+            ≡ record { pairing = P.pairing port; sizes = P.sizes port; submitted = nothing_put; received = P.got port; dropped = P.dropped port; saw_room = P.saw_room port; saw_completions = P.saw_completions port } }
     {
         AppEnd {
             port,
@@ -58,12 +60,20 @@ impl<P: AppPort> AppEnd<P> {
     ///
     /// It refuses with `Closed`, `Empty`, `TooLong`, `NotBad`, in this order, each exactly if what `SubmitRefusal` says of it stands; and else with `Full`, only if all items submitted and these are more than the ring's size. io_uring_enter(2), for a call; that a call has an item and fits the ring is our own rule.
     pub fn submit(&mut self, items: &[Item]) -> Result<(), SubmitRefusal>
-        // Ok: each item is submitted.
+        // Ok: each item is submitted. The room that is left was seen.
         ensures ok { OnOk result
-            (IsSound self.old items.now × (self.new ≡ submits self.old items.now)) }
-        // A refusal: nothing changes.
+            (IsSound self.old items.now
+            × (self.new ≡ sees_room (submits self.old items.now) self.new.saw_room)) }
+        // A refusal: nothing changes, but Full may have seen more room.
         ensures refused { IfErr result
-            (λ refusal. RefusesCall self.old items.now refusal × (self.new ≡ self.old)) }
+            (λ refusal. RefusesCall self.old items.now refusal
+            × (self.new ≡ sees_room self.old self.new.saw_room)) }
+        // Full has looked for room, and no other refusal has.
+        ensures looked { IfErr result
+            (λ refusal. refusal ≡ SubmitRefusal.Full
+            → FindsNoRoom (length items.now) self.old.saw_room self.new.saw_room) }
+        ensures same { IfErr result
+            (λ refusal. refusal ≢ SubmitRefusal.Full → self.new ≡ self.old) }
         // Of one pair it stays.
         ensures pairing { self.new.pairing ≡ self.old.pairing }
         ensures sizes { self.new.sizes ≡ self.old.sizes }
@@ -80,10 +90,17 @@ impl<P: AppPort> AppEnd<P> {
         Ok(())
     }
 
-    /// The oldest completion that was delivered and not reaped. `None` says only that this end saw none.
+    /// The oldest completion that was delivered and not reaped. `None` says only that this end looked and saw none.
     pub fn reap(&mut self) -> Option<Cqe>
-        ensures reaped { MatchOption result (self.new ≡ self.old)
-            (λ completion. self.new ≡ reaps self.old completion) }
+        ensures reaped { MatchOption result
+            (self.new ≡ sees_completions self.old self.new.saw_completions)
+            (λ completion. self.new
+            ≡ sees_completions (reaps self.old completion) self.new.saw_completions) }
+        // None has looked, and leaves none that was seen; else the first that was seen is reaped.
+        ensures looked { MatchOption result
+            (FindsNoCompletion self.old.saw_completions self.new.saw_completions)
+            (λ completion. IsPrefix self.old.saw_completions.waiting
+            (completion ∷ self.new.saw_completions.waiting)) }
         // Of one pair it stays.
         ensures pairing { self.new.pairing ≡ self.old.pairing }
         ensures sizes { self.new.sizes ≡ self.old.sizes }
@@ -107,10 +124,18 @@ impl<P: AppPort> AppEnd<P> {
     /// It refuses with `Closed` exactly after an Ok, and else with `Full`, only if as many items as the submission ring's size were submitted.
     pub fn close(&mut self) -> Result<(), CloseRefusal>
         ensures ok { OnOk result
-            ((self.old.submitted.closed ≡ false) × (self.new ≡ closes self.old)) }
-        // A refusal: nothing changes.
+            ((self.old.submitted.closed ≡ false)
+            × (self.new ≡ sees_room (closes self.old) self.new.saw_room)) }
+        // A refusal: nothing changes, but Full may have seen more room.
         ensures refused { IfErr result
-            (λ refusal. RefusesClose self.old refusal × (self.new ≡ self.old)) }
+            (λ refusal. RefusesClose self.old refusal
+            × (self.new ≡ sees_room self.old self.new.saw_room)) }
+        // Full has looked for room, and the other refusal hasn't.
+        ensures looked { IfErr result
+            (λ refusal. refusal ≡ CloseRefusal.Full
+            → FindsNoRoom 1 self.old.saw_room self.new.saw_room) }
+        ensures same { IfErr result
+            (λ refusal. refusal ≢ CloseRefusal.Full → self.new ≡ self.old) }
         // Of one pair it stays.
         ensures pairing { self.new.pairing ≡ self.old.pairing }
         ensures sizes { self.new.sizes ≡ self.old.sizes }

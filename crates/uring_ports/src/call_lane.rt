@@ -2,7 +2,7 @@
 ghost use Rattle.std.specs.Prelude.{◌≡◌, ◌+◌, ◌<◌, ◌≤◌, false, List, ◌++◌, length, vec_capacity, vec_len, MatchBool};
 ghost use Rattle.rtrb.specs.Ring.{sent, known_free, producer_capacity, received, known_items, consumer_capacity, SameProducer, SameConsumer, ProducerLooked};
 ghost use Rattle.uring_ports.specs.Ports.{Pulls, with_call, with_close, places_of};
-ghost use Rattle.uring_ports.specs.Messages.{items_before, has_close_mark, put_of, owed, AreWhole};
+ghost use Rattle.uring_ports.specs.Messages.{items_before, begins_whole, has_close_mark, put_of, owed, AreWhole};
 ghost use Rattle.uring_ports.specs.declared.message.Message.{Message};
 
 use crate::item::Item;
@@ -31,6 +31,7 @@ pub fn put_call(lane: &mut Producer<Message, Global, WholeCalls>, items: &[Item]
         (put_of (sent lane.new) ≡ with_call (put_of (sent lane.old)) items.now)
         ((put_of (sent lane.new) ≡ put_of (sent lane.old))
         × (producer_capacity lane.old < places_of (put_of (sent lane.old)) + length items.now)) }
+    ensures room { MatchBool result (Unit {0}) (known_free lane.new < length items.now) }
 {
     if !has_room_for(lane, items.len()) {
         return false;
@@ -66,6 +67,7 @@ pub fn put_close(lane: &mut Producer<Message, Global, WholeCalls>) -> bool
     ensures put { MatchBool result (put_of (sent lane.new) ≡ with_close (put_of (sent lane.old)))
         ((put_of (sent lane.new) ≡ put_of (sent lane.old))
         × (producer_capacity lane.old < places_of (put_of (sent lane.old)) + 1)) }
+    ensures room { MatchBool result (Unit {0}) (known_free lane.new < 1) }
 {
     if !has_room_for(lane, 1) {
         return false;
@@ -84,6 +86,9 @@ pub fn pull(lane: &mut Consumer<Message, Global, WholeCalls>, items: &mut Vec<It
     ensures room { vec_capacity items.new ≡ vec_capacity items.old }
     ensures pulled { Pulls (consumer_capacity lane.old)
         (put_of (received lane.old)) result items.new.items (put_of (received lane.new)) }
+    ensures none_seen { result ≡ Pulled.Nothing
+        → (begins_whole (known_items lane.old) ≡ false)
+        × (begins_whole (known_items lane.new) ≡ false) }
 {
     items.clear();
     let seen = lane.slots();

@@ -25,12 +25,12 @@ impl Model for AppLanes {
 
     ghost Value = { AppLanes };
 
-    ghost use Rattle.std.specs.Prelude.{◌++◌};
-    ghost use Rattle.rtrb.specs.Ring.{sent, producer_capacity, received, consumer_capacity};
+    ghost use Rattle.std.specs.Prelude.{◌++◌, None};
+    ghost use Rattle.rtrb.specs.Ring.{sent, known_free, producer_capacity, received, known_items, consumer_capacity};
     ghost use Rattle.uring_ports.specs.Messages.{put_of, AreWhole};
     ghost use Rattle.uring_ports.specs.Lanes.{numbers_of};
 
-    ghost view = { λ p. record { pairing = numbers_of p.calls.end ++ numbers_of p.completions.end; sizes = record { sq = producer_capacity p.calls; cq = consumer_capacity p.completions }; put = put_of (sent p.calls); got = received p.completions } };
+    ghost view = { λ p. record { pairing = numbers_of p.calls.end ++ numbers_of p.completions.end; sizes = record { sq = producer_capacity p.calls; cq = consumer_capacity p.completions }; put = put_of (sent p.calls); got = received p.completions; saw_room = record { places = known_free p.calls; looks = None }; saw_completions = record { waiting = known_items p.completions; looks = None } } };
 
     ghost invariant = { λ p. AreWhole (sent p.calls) };
 }
@@ -49,12 +49,12 @@ impl Model for KernelLanes {
 
     ghost Value = { KernelLanes };
 
-    ghost use Rattle.std.specs.Prelude.{◌≡◌, ◌++◌};
-    ghost use Rattle.rtrb.specs.Ring.{sent, known_free, producer_capacity, received, consumer_capacity};
-    ghost use Rattle.uring_ports.specs.Messages.{has_close_mark, put_of, AreWhole};
+    ghost use Rattle.std.specs.Prelude.{◌≡◌, ◌++◌, None};
+    ghost use Rattle.rtrb.specs.Ring.{sent, known_free, producer_capacity, received, known_items, consumer_capacity};
+    ghost use Rattle.uring_ports.specs.Messages.{begins_whole, has_close_mark, put_of, AreWhole};
     ghost use Rattle.uring_ports.specs.Lanes.{numbers_of};
 
-    ghost view = { λ p. record { pairing = numbers_of p.calls.end ++ numbers_of p.completions.end; sizes = record { sq = consumer_capacity p.calls; cq = producer_capacity p.completions }; pulled = put_of (received p.calls); delivered = sent p.completions; free = known_free p.completions } };
+    ghost view = { λ p. record { pairing = numbers_of p.calls.end ++ numbers_of p.completions.end; sizes = record { sq = consumer_capacity p.calls; cq = producer_capacity p.completions }; pulled = put_of (received p.calls); saw_calls = record { waits = begins_whole (known_items p.calls); looks = None }; delivered = sent p.completions; free = known_free p.completions } };
 
     ghost invariant = { λ p. AreWhole (received p.calls)
         × (p.closed ≡ has_close_mark (received p.calls)) };
@@ -96,6 +96,10 @@ impl AppPort for AppLanes {
 
     ghost got = { λ p. p.got };
 
+    ghost saw_room = { λ p. p.saw_room };
+
+    ghost saw_completions = { λ p. p.saw_completions };
+
     ghost dropped = { λ p. None };
 
     fn put(&mut self, items: &[Item]) -> bool {
@@ -126,7 +130,11 @@ impl KernelPort for KernelLanes {
 
     ghost delivered = { λ p. p.delivered };
 
+    ghost saw_calls = { λ p. p.saw_calls };
+
     ghost free = { λ p. p.free };
+
+    ghost room_looks = { λ p. None };
 
     ghost dropped = { λ p. None };
 

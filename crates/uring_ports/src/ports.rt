@@ -9,9 +9,11 @@ use uring_entry::Cqe;
 pub trait AppPort: Drop {
     ghost use Rattle.std.specs.Prelude.{◌≡◌, ℕ, ◌+◌, ◌<◌, true, false, List, [], ◌∷◌, ◌++◌, length, Option, None, is_some, MatchBool, MatchOption};
     ghost use Rattle.uring_entry.specs.Layout.{Cqe};
+    ghost use mathlib.Core.List.{IsPrefix};
     ghost use Rattle.uring_ports.specs.Dropped.{with_word};
     ghost use Rattle.uring_ports.specs.Items.{AreItems};
     ghost use Rattle.uring_ports.specs.Ports.{Sizes, Put, places_of, with_call, with_close};
+    ghost use Rattle.uring_ports.specs.Seen.{SeenRoom, SeenCompletions, FindsNoRoom, FindsNoCompletion};
 
     // Numbers that the two ports of one pair have in common, and no others.
     ghost pairing: { Self → List ℕ };
@@ -23,6 +25,12 @@ pub trait AppPort: Drop {
 
     // Every completion that was ever got, oldest first.
     ghost got: { Self → List Cqe };
+
+    // The room for submissions that this end has seen.
+    ghost saw_room: { Self → SeenRoom };
+
+    // The completions that this end has seen and not got.
+    ghost saw_completions: { Self → SeenCompletions };
 
     // Every dropped word that was ever loaded, oldest first. None: no such word lies between the ends.
     ghost dropped: { Self → Option (List ℕ) };
@@ -38,7 +46,11 @@ pub trait AppPort: Drop {
         ensures put { MatchBool result (put self.new ≡ with_call (put self.old) items.now)
             ((put self.new ≡ put self.old)
             × ((sizes self.old).sq < places_of (put self.old) + length items.now)) }
+        // A refusal has looked for room.
+        ensures looked { MatchBool result (Unit {0})
+            (FindsNoRoom (length items.now) (saw_room self.old) (saw_room self.new)) }
         // Nothing else changes.
+        ensures completions { saw_completions self.new ≡ saw_completions self.old }
         ensures pairing { pairing self.new ≡ pairing self.old }
         ensures sizes { sizes self.new ≡ sizes self.old }
         ensures got { got self.new ≡ got self.old }
@@ -51,17 +63,27 @@ pub trait AppPort: Drop {
         requires { (put self.old).closed ≡ false }
         ensures put { MatchBool result (put self.new ≡ with_close (put self.old))
             ((put self.new ≡ put self.old) × ((sizes self.old).sq < places_of (put self.old) + 1)) }
+        // A refusal has looked for room.
+        ensures looked { MatchBool result (Unit {0})
+            (FindsNoRoom 1 (saw_room self.old) (saw_room self.new)) }
         // Nothing else changes.
+        ensures completions { saw_completions self.new ≡ saw_completions self.old }
         ensures pairing { pairing self.new ≡ pairing self.old }
         ensures sizes { sizes self.new ≡ sizes self.old }
         ensures got { got self.new ≡ got self.old }
         ensures dropped { dropped self.new ≡ dropped self.old };
 
-    /// The oldest completion that was delivered and not got. `None` says only that this end saw none.
+    /// The oldest completion that was delivered and not got. `None` says only that this end looked and saw none.
     fn get(&mut self) -> Option<Cqe>
         ensures got { MatchOption result (got self.new ≡ got self.old)
             (λ completion. got self.new ≡ got self.old ++ completion ∷ []) }
+        // None has looked, and leaves none that was seen; else the first that was seen is got.
+        ensures looked { MatchOption result
+            (FindsNoCompletion (saw_completions self.old) (saw_completions self.new))
+            (λ completion. IsPrefix (saw_completions self.old).waiting
+            (completion ∷ (saw_completions self.new).waiting)) }
         // Nothing else changes.
+        ensures room { saw_room self.new ≡ saw_room self.old }
         ensures pairing { pairing self.new ≡ pairing self.old }
         ensures sizes { sizes self.new ≡ sizes self.old }
         ensures put { put self.new ≡ put self.old }
@@ -74,6 +96,8 @@ pub trait AppPort: Drop {
             (λ word. (is_some (dropped self.old) ≡ true)
             × (dropped self.new ≡ with_word (dropped self.old) word)) }
         // Nothing else changes.
+        ensures room { saw_room self.new ≡ saw_room self.old }
+        ensures completions { saw_completions self.new ≡ saw_completions self.old }
         ensures pairing { pairing self.new ≡ pairing self.old }
         ensures sizes { sizes self.new ≡ sizes self.old }
         ensures put { put self.new ≡ put self.old }
@@ -82,10 +106,11 @@ pub trait AppPort: Drop {
 
 /// The dispatcher's port: submissions come out, completions go in.
 pub trait KernelPort: Sized + Drop {
-    ghost use Rattle.std.specs.Prelude.{◌≡◌, ℕ, ◌+◌, ◌<◌, ◌≤◌, List, [], ◌∷◌, ◌++◌, length, vec_capacity, Option, IfOk, IfErr, OnOk};
+    ghost use Rattle.std.specs.Prelude.{◌≡◌, ℕ, ◌+◌, ◌<◌, ◌≤◌, false, List, [], ◌∷◌, ◌++◌, length, vec_capacity, Option, IfOk, IfErr, OnOk};
     ghost use Rattle.uring_entry.specs.Layout.{Cqe};
     ghost use Rattle.uring_ports.specs.Dropped.{with_word, WereStored};
     ghost use Rattle.uring_ports.specs.Ports.{Sizes, Put, Pulls, LeavesItems, LeavesCompletions};
+    ghost use Rattle.uring_ports.specs.Seen.{SeenCalls, HasLooked, FindsNoCall};
 
     /// The other port of a pair.
     type App: AppPort;
@@ -101,34 +126,46 @@ pub trait KernelPort: Sized + Drop {
     // Every completion that was ever delivered, oldest first.
     ghost delivered: { Self → List Cqe };
 
+    // The calls that this end has seen and not pulled.
+    ghost saw_calls: { Self → SeenCalls };
+
     // How many completions there is certainly room for.
     ghost free: { Self → ℕ };
+
+    // How often this end has looked for room for completions. None: looks aren't told.
+    ghost room_looks: { Self → Option ℕ };
 
     // Every dropped word that was ever stored, oldest first. None: no such word lies between the ends.
     ghost dropped: { Self → Option (List ℕ) };
 
     /// Takes one whole call, or the close mark, or nothing. The items of the call replace what `items` held.
     ///
-    /// `Nothing` says only that this end saw no whole call and no close mark.
+    /// `Nothing` says only that this end looked and saw no whole call and no close mark. Behind the close mark it needn't look.
     fn pull(&mut self, items: &mut Vec<Item>) -> Pulled
         requires { (sizes self.old).sq ≤ vec_capacity items.old }
         ensures pulled { Pulls (sizes self.old).sq (pulled self.old) result items.new.items
             (pulled self.new) }
+        // Nothing has looked, and leaves no call that was seen.
+        ensures looked { result ≡ Pulled.Nothing → (pulled self.old).closed ≡ false
+            → FindsNoCall (saw_calls self.old) (saw_calls self.new) }
         ensures room { vec_capacity items.new ≡ vec_capacity items.old }
         // Nothing else changes.
         ensures pairing { pairing self.new ≡ pairing self.old }
         ensures sizes { sizes self.new ≡ sizes self.old }
         ensures delivered { delivered self.new ≡ delivered self.old }
         ensures free { free self.new ≡ free self.old }
+        ensures room_looks { room_looks self.new ≡ room_looks self.old }
         ensures dropped { dropped self.new ≡ dropped self.old };
 
-    /// How many completions there is certainly room for. The application may make more at any time.
+    /// How many completions there is certainly room for, by a look at it. The application may make more at any time.
     ///
     /// It is at least the completion ring's size less all that were delivered.
     fn room(&mut self) -> usize
         ensures free { result ≡ free self.new }
         ensures least { (sizes self.old).cq ≤ result + length (delivered self.old) }
+        ensures looked { HasLooked (room_looks self.old) (room_looks self.new) }
         // Nothing else changes.
+        ensures calls { saw_calls self.new ≡ saw_calls self.old }
         ensures pairing { pairing self.new ≡ pairing self.old }
         ensures sizes { sizes self.new ≡ sizes self.old }
         ensures pulled { pulled self.new ≡ pulled self.old }
@@ -141,6 +178,8 @@ pub trait KernelPort: Sized + Drop {
         ensures delivered { delivered self.new ≡ delivered self.old ++ completion ∷ [] }
         ensures free { free self.old ≡ free self.new + 1 }
         // Nothing else changes.
+        ensures calls { saw_calls self.new ≡ saw_calls self.old }
+        ensures room_looks { room_looks self.new ≡ room_looks self.old }
         ensures pairing { pairing self.new ≡ pairing self.old }
         ensures sizes { sizes self.new ≡ sizes self.old }
         ensures pulled { pulled self.new ≡ pulled self.old }
@@ -150,6 +189,8 @@ pub trait KernelPort: Sized + Drop {
     fn store_dropped(&mut self, word: u32)
         ensures dropped { dropped self.new ≡ with_word (dropped self.old) word }
         // Nothing else changes.
+        ensures calls { saw_calls self.new ≡ saw_calls self.old }
+        ensures room_looks { room_looks self.new ≡ room_looks self.old }
         ensures pairing { pairing self.new ≡ pairing self.old }
         ensures sizes { sizes self.new ≡ sizes self.old }
         ensures pulled { pulled self.new ≡ pulled self.old }

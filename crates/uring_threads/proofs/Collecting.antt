@@ -1,6 +1,6 @@
 -- What is sent and taken in, as a result is taken in: the operation is the last of its worker's, and all else stays.
 use Rattle.std.proofs.Common.{◌≡◌, ℕ, ◌+◌, ◌<◌, arith, Bool, true, false, List, [], ◌∷◌, ◌++◌, length, if◌then◌else◌, refl, sym, subst, ap, ap₂, ◌∙◌, inl, inr}
-use Rattle.std.specs.Prelude.{slice_index_or, Result, Ok, Err, OnErr}
+use Rattle.std.specs.Prelude.{slice_index_or, Result, Ok, Err, OnErr, OnOk}
 use mathlib.Core.List.{IsPrefix}
 use Rattle.std.proofs.lemmas.Bool.{both_ways, cases_eq}
 use Rattle.std.proofs.lemmas.List.{map-append, length_push}
@@ -204,6 +204,10 @@ collects_no_more a b c workers place n seen true e few p q = absurd (let f : tru
 pub on_err : {X E P : Type 0} (result : Result X E) → P → OnErr result P
 on_err (Ok x) p = tt
 on_err (Err e) p = p
+
+pub on_ok : {X E P : Type 0} (result : Result X E) → P → OnOk result P
+on_ok (Ok x) p = p
+on_ok (Err e) p = tt
 
 -- All that wait.
 

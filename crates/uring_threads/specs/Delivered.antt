@@ -1,5 +1,5 @@
 -- Glue. What a delivery makes of the completion ring.
-use Rattle.std.specs.Prelude.{◌≡◌, ◌≤◌, ◌⊎◌, ℕ, List, length}
+use Rattle.std.specs.Prelude.{◌≡◌, List}
 use Rattle.uring_entry.specs.Layout.{Cqe}
 use Rattle.uring_entry.specs.Completions.{Completions}
 use Rattle.uring_core.specs.World.{World}
@@ -18,11 +18,6 @@ pub record KeepsAllBut (w v : World) : Type 0 where
   pub requests : v.requests ≡ w.requests
   pub is_closed : v.is_closed ≡ w.is_closed
   pub posted : v.completions.posted ≡ w.completions.posted
-
--- So many were delivered, at most as many as a ring of this size holds: all that waited, or fewer only if the port has no more room, or if the ring holds no more.
-pub record DeliversMost (l : Completions) (free size delivered : ℕ) : Type 0 where
-  pub few : delivered ≤ size
-  pub most : (length l.reaped ≡ length l.posted) ⊎ (free ≡ 0) ⊎ (delivered ≡ size)
 
 -- Requests were issued or ended, and nothing else happened: the submission ring stays, no request was accepted, and of the completions only more were posted.
 pub record OnlyPosts (w v : World) : Type 0 where

@@ -4,13 +4,14 @@ use Rattle.uring_entry.specs.Layout.{Cqe}
 use Rattle.uring_entry.specs.Requests.{outstanding_in}
 use Rattle.uring_core.specs.World.{World}
 use Rattle.uring_ports.specs.Ports.{Put, Sizes}
+use Rattle.uring_ports.specs.Seen.{SeenCalls}
 use Rattle.uring_workers.specs.WorkLanes.{HoldJobs, HoldResults}
 use Rattle.uring_threads.specs.Kept.{Kept}
 use Rattle.uring_threads.specs.Turns.{AreTies}
 use Rattle.uring_threads.specs.declared.intake.Intake.{Intake}
 use Rattle.uring_workers.specs.declared.work_lanes.WorkLanes.{WorkLanes}
 
--- The trace; how the intake stands; the lanes of the workers; and of the port its pairing and sizes, all that it pulled, all that it delivered, how many completions more there is certainly room for, and every dropped word that it stored, without a list if no such word lies between the ends.
+-- The trace; how the intake stands; the lanes of the workers; and of the port its pairing and sizes, all that it pulled, the calls that it has seen, all that it delivered, how many completions more there is certainly room for, how often it has looked for that room, and every dropped word that it stored, without a list if no such word lies between the ends.
 pub record Kernel : Type 0 where
   pub kept : Kept
   pub intake : Intake
@@ -18,8 +19,10 @@ pub record Kernel : Type 0 where
   pub pairing : List ℕ
   pub sizes : Sizes
   pub pulled : Put
+  pub saw_calls : SeenCalls
   pub reaped : List Cqe
   pub free : ℕ
+  pub room_looks : Option ℕ
   pub dropped : Option (List ℕ)
 
 -- The port has the sizes of the rings, there are 1 to 8 workers, each with a lane for 64 jobs and one for at most 64 results, and the trace has all that went through the dispatcher's hands.

@@ -22,8 +22,10 @@ kernel_at_first g pairing k = record {
   pairing = pairing;
   sizes = sizes_of g;
   pulled = nothing_put;
+  saw_calls = k.saw_calls;
   reaped = [];
   free = k.free;
+  room_looks = k.room_looks;
   dropped = k.dropped;
 }
 
@@ -36,6 +38,8 @@ pub record AreEnds (g : Setup) (gates : ℕ) (numbers : List ℕ) (app : AppEnd)
     submitted = nothing_put;
     received = [];
     dropped = app.dropped;
+    saw_room = app.saw_room;
+    saw_completions = app.saw_completions;
   }
   pub dispatcher : kernel ≡ kernel_at_first g numbers kernel
   pub opened : AreOpened g.files kernel.lanes workers

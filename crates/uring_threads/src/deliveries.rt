@@ -1,10 +1,12 @@
 //! Completions that the dispatcher delivers: the application reaps them as they are handed to its port.
 ghost use Rattle.std.specs.Prelude.{◌≡◌, ◌+◌, ◌≤◌, length, replicate, IfOk, OnErr};
 ghost use Rattle.uring_core.specs.declared.step.Step.TheVariants as step;
-ghost use Rattle.uring_threads.specs.Delivered.{DeliversMost, KeepsAllBut, on_completions, with_reaped_all};
+ghost use Rattle.uring_ports.specs.Seen.{HasLooked};
+ghost use Rattle.uring_threads.specs.Delivered.{KeepsAllBut, on_completions, with_reaped_all};
 ghost use Rattle.uring_threads.specs.Turns.{IsDelivered};
 ghost use Rattle.uring_threads.specs.EventRows.{Records, delivery_row};
 ghost use Rattle.uring_threads.specs.Kept.{now, IsUnmoved};
+ghost use Rattle.uring_threads.specs.Served.{DeliversMost};
 ghost use Rattle.uring_threads.specs.Tallies.{Appends, reaps_counted};
 
 use crate::kept::Kept;
@@ -31,6 +33,8 @@ fn reap_all<P: KernelPort>(kept: &mut Kept, port: &mut P, count: u64)
     ensures pairing { P.pairing port.new ≡ P.pairing port.old }
     ensures sizes { P.sizes port.new ≡ P.sizes port.old }
     ensures pulled { P.pulled port.new ≡ P.pulled port.old }
+    ensures calls { P.saw_calls port.new ≡ P.saw_calls port.old }
+    ensures room_looks { P.room_looks port.new ≡ P.room_looks port.old }
     ensures dropped { P.dropped port.new ≡ P.dropped port.old }
 {
     for _ in 0..count {
@@ -65,10 +69,14 @@ pub fn deliver<P: KernelPort>(kept: &mut Kept, port: &mut P) -> Result<u64, Allo
         (λ n. DeliversMost (now kept.new).completions (P.free port.new) kept.old.setup.cq n) }
     ensures err { OnErr result (IsUnmoved kept.old kept.new) }
 
+    // The port has looked for room, also if memory was refused.
+    ensures looked { HasLooked (P.room_looks port.old) (P.room_looks port.new) }
+
     // Nothing else of the port changes.
     ensures pairing { P.pairing port.new ≡ P.pairing port.old }
     ensures sizes { P.sizes port.new ≡ P.sizes port.old }
     ensures pulled { P.pulled port.new ≡ P.pulled port.old }
+    ensures calls { P.saw_calls port.new ≡ P.saw_calls port.old }
     ensures dropped { P.dropped port.new ≡ P.dropped port.old }
 {
     let size = u64::from(kept.setup().cq());

@@ -4,6 +4,7 @@ ghost use Rattle.uring_ports.specs.Ports.{Put, Pulls};
 ghost use Rattle.uring_core.specs.declared.step.Step.{Step};
 ghost use Rattle.uring_threads.specs.EventRows.{Records, RecordsIntake, IsAgain, IsPulled, IsTaken};
 ghost use Rattle.uring_threads.specs.Kept.{now};
+ghost use Rattle.uring_threads.specs.Served.{PullsMost};
 ghost use Rattle.uring_threads.specs.Taking.{TakesIn, intake_after};
 ghost use Rattle.uring_threads.specs.Turns.{ClosesOnce, Tied};
 ghost use Rattle.uring_threads.specs.Turns as turns;
@@ -84,6 +85,7 @@ fn take_pulled(kept: &mut Kept, items: &[Item], intake: &mut Intake, pulled: Pul
     ensures row { (steps : List Step) × IsTaken pulled items.now steps
         × Records kept.old kept.new steps }
     ensures once { ClosesOnce kept.old intake.old → ClosesOnce kept.new intake.new }
+    ensures none { result ≡ 0 → intake.new ≡ Ready → pulled ≡ Pulled.Nothing }
 {
     kept.is_lawful();
     match pulled {
@@ -120,10 +122,13 @@ fn pull_call<P: KernelPort>(
         × IsPulled kept.old.setup.sq (P.pulled port.old) (P.pulled port.new) steps
         × Records kept.old kept.new steps }
     ensures once { ClosesOnce kept.old intake.old → ClosesOnce kept.new intake.new }
+    ensures most { IfOk result
+        (λ n. PullsMost intake.new n (P.saw_calls port.old) (P.saw_calls port.new)) }
     ensures items { vec_capacity items.old ≤ vec_capacity items.new }
     ensures pairing { P.pairing port.new ≡ P.pairing port.old }
     ensures sizes { P.sizes port.new ≡ P.sizes port.old }
     ensures delivered { P.delivered port.new ≡ P.delivered port.old }
+    ensures room_looks { P.room_looks port.new ≡ P.room_looks port.old }
     ensures dropped { P.dropped port.new ≡ P.dropped port.old }
 {
     let size = kept.setup().sq();
@@ -151,12 +156,17 @@ pub fn take_in<P: KernelPort>(
     ensures row { RecordsIntake kept.old kept.new intake.old (P.pulled port.old)
         (P.pulled port.new) }
     ensures once { ClosesOnce kept.old intake.old → ClosesOnce kept.new intake.new }
+
+    // What waits is pulled: none only if the port has looked and shows none, or if nothing more is to be pulled.
+    ensures most { IfOk result
+        (λ n. PullsMost intake.new n (P.saw_calls port.old) (P.saw_calls port.new)) }
     ensures items { vec_capacity items.old ≤ vec_capacity items.new }
 
     // Nothing else of the port changes.
     ensures pairing { P.pairing port.new ≡ P.pairing port.old }
     ensures sizes { P.sizes port.new ≡ P.sizes port.old }
     ensures delivered { P.delivered port.new ≡ P.delivered port.old }
+    ensures room_looks { P.room_looks port.new ≡ P.room_looks port.old }
     ensures dropped { P.dropped port.new ≡ P.dropped port.old }
 {
     retry(kept, intake)?;

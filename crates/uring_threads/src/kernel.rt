@@ -8,10 +8,11 @@ ghost use Rattle.uring_core.specs.Histories.{IsLawfulApart, history_of};
 ghost use Rattle.uring_ports.specs.Dropped.{with_word, WereStored};
 ghost use Rattle.uring_ports.specs.Items.{AreItems};
 ghost use Rattle.uring_ports.specs.Ports.{nothing_put, sizes_of, items_of_calls, LeavesItems, LeavesCompletions};
+ghost use Rattle.uring_ports.specs.Seen.{HasLooked};
 ghost use Rattle.uring_workers.specs.WorkLanes.{AreSameLanes, HaveCarriedNone, HoldJobs, HoldResults, SomeIsFull, numbers_of_lanes};
-ghost use Rattle.uring_threads.specs.Delivered.{DeliversMost};
 ghost use Rattle.uring_threads.specs.EventRows.{RecordsTurn};
 ghost use Rattle.uring_threads.specs.Kept.{now};
+ghost use Rattle.uring_threads.specs.Served.{DeliversMost, PullsMost};
 ghost use Rattle.uring_threads.specs.Tallies.{Tally, Appends, TakesFewResults, starts_request};
 ghost use Rattle.uring_threads.specs.Turns.{Counts, awaits_memory};
 ghost use Rattle.uring_threads.specs.declared.intake.Intake.TheVariants.{Ready};
@@ -46,11 +47,11 @@ impl<P: KernelPort> Model for Kernel<P> {
     ghost use Rattle.std.specs.Prelude.{◌≤◌, vec_capacity};
     ghost use Rattle.uring_threads.specs.Kernel.{IsKernel};
 
-    ghost view = { λ k. record { kept = k.kept; intake = k.intake; lanes = k.lanes.items; pairing = P.pairing k.port; sizes = P.sizes k.port; pulled = P.pulled k.port; reaped = P.delivered k.port; free = P.free k.port; dropped = P.dropped k.port } };
+    ghost view = { λ k. record { kept = k.kept; intake = k.intake; lanes = k.lanes.items; pairing = P.pairing k.port; sizes = P.sizes k.port; pulled = P.pulled k.port; saw_calls = P.saw_calls k.port; reaped = P.delivered k.port; free = P.free k.port; room_looks = P.room_looks k.port; dropped = P.dropped k.port } };
 
     ghost invariant = { λ k. (k.kept.setup.sq ≤ vec_capacity k.items)
         × IsKernel
-        (record { kept = k.kept; intake = k.intake; lanes = k.lanes.items; pairing = P.pairing k.port; sizes = P.sizes k.port; pulled = P.pulled k.port; reaped = P.delivered k.port; free = P.free k.port; dropped = P.dropped k.port }) };
+        (record { kept = k.kept; intake = k.intake; lanes = k.lanes.items; pairing = P.pairing k.port; sizes = P.sizes k.port; pulled = P.pulled k.port; saw_calls = P.saw_calls k.port; reaped = P.delivered k.port; free = P.free k.port; room_looks = P.room_looks k.port; dropped = P.dropped k.port }) };
 }
 
 impl<P: KernelPort> Kernel<P> {
@@ -70,7 +71,7 @@ impl<P: KernelPort> Kernel<P> {
         requires short { HoldResults lanes.items }
         requires carried { HaveCarriedNone lanes.items }
         ensures { result
-            ≡ record { kept = kept; intake = Ready; lanes = lanes.items; pairing = P.pairing port; sizes = sizes_of kept.setup; pulled = nothing_put; reaped = []; free = P.free port; dropped = P.dropped port } }
+            ≡ record { kept = kept; intake = Ready; lanes = lanes.items; pairing = P.pairing port; sizes = sizes_of kept.setup; pulled = nothing_put; saw_calls = P.saw_calls port; reaped = []; free = P.free port; room_looks = P.room_looks port; dropped = P.dropped port } }
     {
         Kernel {
             kept,
@@ -90,6 +91,10 @@ impl<P: KernelPort> Kernel<P> {
         // No call waits for memory.
         ensures begun { OnOk result (awaits_memory self.new.intake ≡ false) }
 
+        // It pulls what waits: if the intake is ready and no item was pulled, the port has looked, and shows no whole call and no close mark.
+        ensures pulls { IfOk result
+            (λ turn. PullsMost self.new.intake turn.popped self.old.saw_calls self.new.saw_calls) }
+
         // No request is left that can be issued, unless some worker's lane shows no room.
         ensures none_left { IfOk result
             (λ turn. (next_of (now self.new.kept).requests ≡ None) ⊎ SomeIsFull self.new.lanes) }
@@ -108,6 +113,9 @@ impl<P: KernelPort> Kernel<P> {
         ensures most { IfOk result
             (λ turn. DeliversMost (now self.new.kept).completions self.new.free
             self.old.kept.setup.cq turn.delivered) }
+
+        // It has looked how much room there is.
+        ensures looked { OnOk result (HasLooked self.old.room_looks self.new.room_looks) }
         ensures err { OnErr result ((t : Tally) × Appends self.old.kept self.new.kept t) }
 
         // Its events are rows of steps, one behind the other, also if memory was refused.

@@ -3,10 +3,11 @@ ghost use Rattle.std.specs.Prelude.{◌≡◌, ◌<◌, ◌≤◌, ◌⊎◌, le
 ghost use Rattle.uring_entry.specs.Requests.{next_of};
 ghost use Rattle.uring_entry.specs.Submission.{dropped};
 ghost use Rattle.uring_ports.specs.Dropped.{with_word};
+ghost use Rattle.uring_ports.specs.Seen.{HasLooked};
 ghost use Rattle.uring_workers.specs.WorkLanes.{AreSameLanes, SomeIsFull};
-ghost use Rattle.uring_threads.specs.Delivered.{DeliversMost};
 ghost use Rattle.uring_threads.specs.EventRows.{RecordsTurn};
 ghost use Rattle.uring_threads.specs.Kept.{now};
+ghost use Rattle.uring_threads.specs.Served.{DeliversMost, PullsMost};
 ghost use Rattle.uring_threads.specs.Tallies.{Tally, Appends, TakesFewResults};
 ghost use Rattle.uring_threads.specs.Turns.{AreTies, Counts, awaits_memory};
 
@@ -57,6 +58,10 @@ pub fn make_turn<P: KernelPort>(
     ensures counts { IfOk result (λ turn. Counts kept.old kept.new turn) }
     ensures begun { OnOk result (awaits_memory intake.new ≡ false) }
 
+    // It pulls what waits: if the intake is ready and no item was pulled, the port has looked, and shows no whole call and no close mark.
+    ensures pulls { IfOk result
+        (λ turn. PullsMost intake.new turn.popped (P.saw_calls port.old) (P.saw_calls port.new)) }
+
     // No request is left that can be issued, unless some worker's lane shows no room.
     ensures none_left { IfOk result
         (λ turn. (next_of (now kept.new).requests ≡ None) ⊎ SomeIsFull lanes.new) }
@@ -70,6 +75,9 @@ pub fn make_turn<P: KernelPort>(
     ensures most { IfOk result
         (λ turn. DeliversMost (now kept.new).completions (P.free port.new)
         kept.old.setup.cq turn.delivered) }
+
+    // It has looked how much room there is.
+    ensures looked { OnOk result (HasLooked (P.room_looks port.old) (P.room_looks port.new)) }
     ensures err { OnErr result ((t : Tally) × Appends kept.old kept.new t) }
 
     // Its events are rows of steps, one behind the other, also if memory was refused.
@@ -122,6 +130,8 @@ fn tell_dropped<P: KernelPort>(
     ensures pulled { P.pulled port.new ≡ P.pulled port.old }
     ensures delivered { P.delivered port.new ≡ P.delivered port.old }
     ensures free { P.free port.new ≡ P.free port.old }
+    ensures calls { P.saw_calls port.new ≡ P.saw_calls port.old }
+    ensures room_looks { P.room_looks port.new ≡ P.room_looks port.old }
 {
     if intake.awaits_memory() {
         return Err(AllocError);

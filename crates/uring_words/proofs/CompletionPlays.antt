@@ -59,7 +59,7 @@ loads_head slots id i me is_kernel is =
     let P : List ℕ → Type 0 = λ ws. Agree ws a (head_loaded me.0.kernel (length a.got)) in (
       head_loaded me.0.kernel (length a.got),
       subst P (sym (set-get_or words i 0)) (keeps-head_loaded words a me.0.kernel h),
-      (length a.got, refl, ap (λ j. get_or words j 0) is ∙ h.head, h.head_seen, omega (arith, got_few words a me.0.kernel h)),
+      (length a.got, refl, ap (λ j. get_or words j 0) is ∙ h.head, h.head_seen, omega (arith, got_few words a me.0.kernel h), is),
     ))
 
 -- the tail is loaded
@@ -81,6 +81,7 @@ loads_tail slots id i me is_app is =
           all = λ is_kernel. ap (λ (e : KernelSide). e.put) (both is_kernel) ∙ h.begins;
           dropped = λ is_kernel. let Q : KernelSide → Type 0 = λ e. WereHad (0 ∷ e.dropped) a.dropped in subst Q (sym (both is_kernel)) h.loaded;
         },
+        is,
       ),
     ))
 

@@ -56,7 +56,7 @@ loads_head slots id i me is_app is =
     let o = h.ordered in (
       head_loaded me.0.app d.taken,
       subst P (sym (set-get_or words i 0)) (keeps-head_loaded words me.0.app d h),
-      (d.taken, refl, ap (λ j. get_or words j 0) is ∙ h.head, o.head_seen, omega (arith, o.taken, o.tail_seen)),
+      (d.taken, refl, ap (λ j. get_or words j 0) is ∙ h.head, o.head_seen, omega (arith, o.taken, o.tail_seen), is),
     ))
 
 -- the tail is loaded
@@ -80,6 +80,7 @@ loads_tail slots id i me is_kernel is =
           few = omega (arith, o.room, o.head_seen, length-append a.published a.staged, h.sized.size);
           all = λ is_app. ap (λ (b : AppSide). b.published) (both is_app) ∙ h.begins;
         },
+        is,
       ),
     ))
 

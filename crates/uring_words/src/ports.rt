@@ -39,7 +39,7 @@ impl Model for AppWords {
 
     ghost Value = { AppWords };
 
-    ghost use Rattle.std.specs.Prelude.{◌≡◌};
+    ghost use Rattle.std.specs.Prelude.{◌≡◌, ◌+◌, ◌-◌, length, Some};
     ghost use Rattle.std.specs.Arc.{arc_value};
     ghost use Rattle.uring_words.specs.Completion.Ends.{completions_of};
     ghost use Rattle.uring_words.specs.Completion.Ends.{AppRests as AppCompletionsRest};
@@ -49,7 +49,7 @@ impl Model for AppWords {
     ghost use Rattle.uring_words.specs.Submission.Ends.{AppRests, SawHead};
     ghost use Rattle.uring_words.specs.Submission.Layout.{word_count};
 
-    ghost view = { λ p. record { pairing = numbers_of_tables p.seat.table_id p.cq_seat.table_id; sizes = record { sq = p.size; cq = p.cq_size }; put = put_of p.seat.me.0.app.published; got = completions_of p.cq_seat.me.0.app.got; dropped = p.cq_seat.me.0.app.dropped } };
+    ghost view = { λ p. record { pairing = numbers_of_tables p.seat.table_id p.cq_seat.table_id; sizes = record { sq = p.size; cq = p.cq_size }; put = put_of p.seat.me.0.app.published; got = completions_of p.cq_seat.me.0.app.got; saw_room = record { places = p.seat.me.0.app.head_seen + p.size - length p.seat.me.0.app.published; looks = Some p.seat.me.0.app.looks }; saw_completions = record { waiting = completions_of p.cq_seat.me.0.app.known; looks = Some p.cq_seat.me.0.app.looks }; dropped = p.cq_seat.me.0.app.dropped } };
 
     ghost invariant = { λ p. (p.seat.table_id ≡ (arc_value p.ring).shared.table_id)
         × (p.seat.table_id.words ≡ word_count p.size) × AppRests p.seat.me p.size p.tail
@@ -83,7 +83,7 @@ impl Model for KernelWords {
 
     ghost Value = { KernelWords };
 
-    ghost use Rattle.std.specs.Prelude.{◌≡◌, ◌+◌, ◌-◌, length};
+    ghost use Rattle.std.specs.Prelude.{◌≡◌, ◌+◌, ◌-◌, nat_lt, length, Some};
     ghost use Rattle.std.specs.Arc.{arc_value};
     ghost use Rattle.uring_words.specs.Completion.Ends.{completions_of};
     ghost use Rattle.uring_words.specs.Completion.Ends.{KernelRests as KernelCompletionsRest, SawHead};
@@ -93,7 +93,7 @@ impl Model for KernelWords {
     ghost use Rattle.uring_words.specs.Submission.Ends.{KernelRests};
     ghost use Rattle.uring_words.specs.Submission.Layout.{word_count};
 
-    ghost view = { λ p. record { pairing = numbers_of_tables p.seat.table_id p.cq_seat.table_id; sizes = record { sq = p.size; cq = p.cq_size }; pulled = put_of p.seat.me.0.kernel.copied; delivered = completions_of p.cq_seat.me.0.kernel.put; free = p.cq_seat.me.0.kernel.head_seen + p.cq_size - length p.cq_seat.me.0.kernel.put; dropped = p.cq_seat.me.0.kernel.dropped } };
+    ghost view = { λ p. record { pairing = numbers_of_tables p.seat.table_id p.cq_seat.table_id; sizes = record { sq = p.size; cq = p.cq_size }; pulled = put_of p.seat.me.0.kernel.copied; saw_calls = record { waits = nat_lt 0 (length p.seat.me.0.kernel.known); looks = Some p.seat.me.0.kernel.looks }; delivered = completions_of p.cq_seat.me.0.kernel.put; free = p.cq_seat.me.0.kernel.head_seen + p.cq_size - length p.cq_seat.me.0.kernel.put; room_looks = p.cq_seat.me.0.kernel.looks; dropped = p.cq_seat.me.0.kernel.dropped } };
 
     ghost invariant = { λ p. (p.seat.table_id ≡ (arc_value p.ring).shared.table_id)
         × (p.seat.table_id.words ≡ word_count p.size) × KernelRests p.seat.me p.size p.tail p.head
@@ -250,6 +250,10 @@ impl AppPort for AppWords {
 
     ghost got = { λ p. p.got };
 
+    ghost saw_room = { λ p. p.saw_room };
+
+    ghost saw_completions = { λ p. p.saw_completions };
+
     ghost dropped = { λ p. Some p.dropped };
 
     fn put(&mut self, items: &[Item]) -> bool {
@@ -299,7 +303,11 @@ impl KernelPort for KernelWords {
 
     ghost delivered = { λ p. p.delivered };
 
+    ghost saw_calls = { λ p. p.saw_calls };
+
     ghost free = { λ p. p.free };
+
+    ghost room_looks = { λ p. Some p.room_looks };
 
     ghost dropped = { λ p. Some p.dropped };
 

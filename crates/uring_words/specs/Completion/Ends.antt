@@ -1,5 +1,5 @@
 -- Glue. What a seat of the completion ring's table and the numbers beside it are, between two calls of a port.
-use Rattle.std.specs.Prelude.{◌≡◌, ℕ, ◌+◌, ◌≤◌, true, List, [], ◌∷◌, ◌++◌, length, map}
+use Rattle.std.specs.Prelude.{◌≡◌, ℕ, ◌+◌, ◌<◌, ◌≤◌, true, List, [], ◌∷◌, ◌++◌, length, map}
 use Rattle.std.specs.Int.{IsPowerOfTwo}
 use Rattle.uring_entry.specs.IndexWords.{word_of}
 use Rattle.uring_entry.specs.Layout.{Cqe, completion_of}
@@ -39,6 +39,12 @@ pub record AppRests (me : Holder) (size tail head : ℕ) : Type 0 where
   pub few : length me.0.app.known ≤ size
   pub loaded : me.0.app.loaded ≡ 0
   pub head_word : head ≡ word_of me.0.app.start (length me.0.app.got)
+
+-- It knew of no completion that isn't got, it loaded the tail, and it knows of none.
+pub record FindsNone (before after : Holder) : Type 0 where
+  pub before_none : before.0.app.known ≡ []
+  pub looked : before.0.app.looks < after.0.app.looks
+  pub after_none : after.0.app.known ≡ []
 
 -- The first of the known completions was got, and is this one.
 pub record GetsOne (before after : Holder) (completion : Cqe) : Type 0 where

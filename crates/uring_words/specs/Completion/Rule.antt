@@ -56,5 +56,5 @@ BothAgree s = AgreeBy Agree s
 -- what the first seat knows, which is both sides'
 abbrev pub at_first : Shape → View AppSide KernelSide
 at_first k = both_know
-    (record { start = k.start; size = k.size; got = []; known = []; loaded = 0; dropped = [] })
-    (record { start = k.start; size = k.size; put = []; cell = []; head_seen = 0; dropped = [] })
+    (record { start = k.start; size = k.size; got = []; known = []; loaded = 0; looks = 0; dropped = [] })
+    (record { start = k.start; size = k.size; put = []; cell = []; head_seen = 0; looks = 0; dropped = [] })

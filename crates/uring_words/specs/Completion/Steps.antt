@@ -1,9 +1,9 @@
--- What each step on the completion ring's table changes of what its seat knows, and what it tells. Of a step at the seat `before`, `found` is the word loaded or stored.
+-- What each step on the completion ring's table changes of what its seat knows, and what it tells. Of a step at the seat `before`, `found` is the word loaded or stored, and `st.word` the index in the table at which it stands: a load of a tail or head is a load at its index, and no other counts as a look.
 use Rattle.std.specs.Prelude.{◌≡◌, ℕ, ◌+◌, ◌^◌, ◌<◌, ◌≤◌, ◌==◌, true, List, [], ◌∷◌, ◌++◌, length, slice_index, if◌then◌else◌}
 use Rattle.atomic_table.specs.Table.{Me, Step}
 use Rattle.uring_entry.specs.IndexWords.{word_of}
 use Rattle.uring_ports.specs.Dropped.{WereHad}
-use Rattle.uring_words.specs.Completion.Layout.{cell_index}
+use Rattle.uring_words.specs.Completion.Layout.{cell_index, head_index, tail_index}
 use Rattle.uring_words.specs.Completion.Rule.{tail_seen}
 use Rattle.uring_words.specs.Places.{place_of}
 use Rattle.uring_words.specs.Sides.{with_app, with_kernel, spent_with}
@@ -28,9 +28,9 @@ tail_stored d = record d { put = d.put ++ d.cell ∷ []; cell = [] }
 abbrev pub dropped_stored : KernelSide → ℕ → KernelSide
 dropped_stored d word = record d { dropped = d.dropped ++ word ∷ [] }
 
--- the head is loaded
+-- the head is loaded, and this count stands there
 abbrev pub head_loaded : KernelSide → ℕ → KernelSide
-head_loaded d count = record d { head_seen = count }
+head_loaded d count = record d { head_seen = count; looks = d.looks + 1 }
 
 abbrev pub StoresWord : Step (Unit {0}) → Holder → ℕ → Holder → Type 0
 StoresWord st before found after = after ≡ with_kernel before (word_stored before.0.kernel found)
@@ -46,13 +46,13 @@ abbrev pub LoadsHead : Step (Unit {0}) → Holder → ℕ → Holder → Type 0
 LoadsHead st before found after =
     (count : ℕ) × (after ≡ with_kernel before (head_loaded before.0.kernel count))
     × (found ≡ word_of before.0.kernel.start count) × (before.0.kernel.head_seen ≤ count)
-    × (count ≤ length before.0.kernel.put)
+    × (count ≤ length before.0.kernel.put) × (st.word ≡ head_index before.0.kernel.size)
 
 -- The application's steps.
 
 -- the tail is loaded, and these completions more are known to be there
 abbrev pub tail_loaded : AppSide → List (List ℕ) → AppSide
-tail_loaded a more = record a { known = a.known ++ more }
+tail_loaded a more = record a { known = a.known ++ more; looks = a.looks + 1 }
 
 -- a word is loaded: the next one of the first of the known completions, or another, which doesn't count
 abbrev pub word_loaded : AppSide → ℕ → AppSide
@@ -82,6 +82,7 @@ pub record TailTold (before : View AppSide KernelSide) (found : ℕ) (more : Lis
 abbrev pub LoadsTail : Step (Unit {0}) → Holder → ℕ → Holder → Type 0
 LoadsTail st before found after = (more : List (List ℕ))
     × (after ≡ with_app before (tail_loaded before.0.app more)) × TailTold before.0 found more
+    × (st.word ≡ tail_index before.0.app.size)
 
 -- the word counts if it is the next; the first of the known completions has ten words, and the word found is the one that stands at that index of its cell
 abbrev pub LoadsWord : Step (Unit {0}) → Holder → ℕ → Holder → Type 0
@@ -99,5 +100,5 @@ LoadsDropped st before found after =
 -- what is left of the seat that is taken in
 abbrev pub spent : View AppSide KernelSide
 spent = spent_with
-    (record { start = 0; size = 0; got = []; known = []; loaded = 0; dropped = [] })
-    (record { start = 0; size = 0; put = []; cell = []; head_seen = 0; dropped = [] })
+    (record { start = 0; size = 0; got = []; known = []; loaded = 0; looks = 0; dropped = [] })
+    (record { start = 0; size = 0; put = []; cell = []; head_seen = 0; looks = 0; dropped = [] })

@@ -1,5 +1,5 @@
 -- Glue. What a seat and the numbers beside it are, between two calls of a port.
-use Rattle.std.specs.Prelude.{◌≡◌, ℕ, ◌+◌, ◌≤◌, Bool, true, false, List, [], ◌∷◌, ◌++◌, length, map}
+use Rattle.std.specs.Prelude.{◌≡◌, ℕ, ◌+◌, ◌<◌, ◌≤◌, Bool, true, false, List, [], ◌∷◌, ◌++◌, length, map}
 use Rattle.std.specs.Int.{IsPowerOfTwo}
 use Rattle.uring_entry.specs.IndexWords.{word_of}
 use Rattle.uring_ports.specs.declared.item.Item.{Item}
@@ -31,6 +31,11 @@ pub record SawHead (a : AppSide) (head : ℕ) : Type 0 where
   pub word : head ≡ word_of a.start a.head_seen
   pub below : a.head_seen ≤ length a.published
   pub room : length a.published ≤ a.head_seen + a.size
+
+-- It loaded the head, above which fewer than so many places are free.
+pub record LooksInVain (before after : Holder) (count : ℕ) : Type 0 where
+  pub looked : before.0.app.looks < after.0.app.looks
+  pub room : after.0.app.head_seen + after.0.app.size < length after.0.app.published + count
 
 -- A position more was staged, which holds this item, and ends its call or not.
 pub record StagesItem (before after : Holder) (x : Item) (last : Bool) : Type 0 where
@@ -86,6 +91,12 @@ pub record KernelRests (me : Holder) (size tail head : ℕ) : Type 0 where
   pub taken : me.0.kernel.taken ≡ length me.0.kernel.copied
   pub known : AreWhole (me.0.kernel.copied ++ me.0.kernel.known)
   pub whole : AreWhole me.0.kernel.copied
+
+-- It knew of no position that isn't copied, it loaded the tail, and it knows of none.
+pub record FindsNone (before after : Holder) : Type 0 where
+  pub before_none : length before.0.kernel.known ≡ 0
+  pub looked : before.0.kernel.looks < after.0.kernel.looks
+  pub after_none : length after.0.kernel.known ≡ 0
 
 -- As a call is copied: these positions of it were, none of which ends it, and these are their items.
 pub record InCall (before now : Holder) (copied_count : ℕ) (items : List Item) : Type 0 where

@@ -61,5 +61,5 @@ BothAgree s = AgreeBy Agree s
 -- what the first seat knows, which is both sides'
 abbrev pub at_first : Shape → View AppSide KernelSide
 at_first k = both_know
-    (record { start = k.start; size = k.size; published = []; staged = []; entry = []; head_seen = 0 })
-    (record { start = k.start; size = k.size; copied = []; known = []; loaded = 0; taken = 0 })
+    (record { start = k.start; size = k.size; published = []; staged = []; entry = []; head_seen = 0; looks = 0 })
+    (record { start = k.start; size = k.size; copied = []; known = []; loaded = 0; taken = 0; looks = 0 })

@@ -1,11 +1,11 @@
--- What each step on the table changes of what its seat knows, and what it tells. Of a step at the seat `before`, `found` is the word loaded or stored.
+-- What each step on the table changes of what its seat knows, and what it tells. Of a step at the seat `before`, `found` is the word loaded or stored, and `st.word` the index in the table at which it stands: a load of a tail or head is a load at its index, and no other counts as a look.
 use Rattle.std.specs.Prelude.{◌≡◌, ℕ, ◌+◌, ◌<◌, ◌≤◌, ◌==◌, true, List, [], ◌∷◌, ◌++◌, length, slice_index, if◌then◌else◌}
 use Rattle.atomic_table.specs.Table.{Me, Step}
 use Rattle.uring_entry.specs.IndexWords.{word_of}
 use Rattle.uring_words.specs.Sides.{with_app, with_kernel, spent_with}
 use Rattle.uring_words.specs.Submission.Calls.{AreWhole}
 use Rattle.uring_words.specs.Places.{place_of}
-use Rattle.uring_words.specs.Submission.Layout.{IsPosition}
+use Rattle.uring_words.specs.Submission.Layout.{head_index, tail_index, IsPosition}
 use Rattle.uring_words.specs.Submission.Rule.{tail_seen}
 use Rattle.uring_words.specs.declared.submission.view.AppSide.{AppSide}
 use Rattle.uring_words.specs.declared.submission.view.KernelSide.{KernelSide}
@@ -30,9 +30,9 @@ mark_stored a mark =
 abbrev pub tail_stored : AppSide → AppSide
 tail_stored a = record a { published = a.published ++ a.staged; staged = [] }
 
--- the head is loaded
+-- the head is loaded, and this count stands there
 abbrev pub head_loaded : AppSide → ℕ → AppSide
-head_loaded a count = record a { head_seen = count }
+head_loaded a count = record a { head_seen = count; looks = a.looks + 1 }
 
 abbrev pub StoresWord : Step (Unit {0}) → Holder → ℕ → Holder → Type 0
 StoresWord st before found after = after ≡ with_app before (word_stored before.0.app found)
@@ -47,13 +47,13 @@ abbrev pub LoadsHead : Step (Unit {0}) → Holder → ℕ → Holder → Type 0
 LoadsHead st before found after =
     (count : ℕ) × (after ≡ with_app before (head_loaded before.0.app count))
     × (found ≡ word_of before.0.app.start count) × (before.0.app.head_seen ≤ count)
-    × (count ≤ length before.0.app.published)
+    × (count ≤ length before.0.app.published) × (st.word ≡ head_index before.0.app.size)
 
 -- The dispatcher's steps.
 
 -- the tail is loaded, and these positions more are known to be there
 abbrev pub tail_loaded : KernelSide → List Position → KernelSide
-tail_loaded d more = record d { known = d.known ++ more }
+tail_loaded d more = record d { known = d.known ++ more; looks = d.looks + 1 }
 
 -- a word of the first known position is loaded: the position is copied once all its words are
 abbrev pub loaded_of : KernelSide → List Position → KernelSide
@@ -80,6 +80,7 @@ pub record TailTold (before : View AppSide KernelSide) (found : ℕ) (more : Lis
 abbrev pub LoadsTail : Step (Unit {0}) → Holder → ℕ → Holder → Type 0
 LoadsTail st before found after = (more : List Position)
     × (after ≡ with_kernel before (tail_loaded before.0.kernel more)) × TailTold before.0 found more
+    × (st.word ≡ tail_index before.0.kernel.size)
 
 -- the first known position begins with the array word found
 pub record MarkTold (before : KernelSide) (found : ℕ) : Type 0 where
@@ -105,5 +106,5 @@ StoresHead st before found after = after ≡ with_kernel before (head_stored bef
 -- what is left of the seat that is taken in
 abbrev pub spent : View AppSide KernelSide
 spent = spent_with
-    (record { start = 0; size = 0; published = []; staged = []; entry = []; head_seen = 0 })
-    (record { start = 0; size = 0; copied = []; known = []; loaded = 0; taken = 0 })
+    (record { start = 0; size = 0; published = []; staged = []; entry = []; head_seen = 0; looks = 0 })
+    (record { start = 0; size = 0; copied = []; known = []; loaded = 0; taken = 0; looks = 0 })

@@ -1,6 +1,7 @@
 //! The application's calls on the table: one completion, the dropped word.
 ghost use Rattle.std.specs.Prelude.{◌≡◌, ◌<◌, true, [], ◌∷◌, ◌++◌, length, MatchOption};
-ghost use Rattle.uring_words.specs.Completion.Ends.{completions_of, AppRests, GetsOne};
+ghost use mathlib.Core.List.{IsPrefix};
+ghost use Rattle.uring_words.specs.Completion.Ends.{completions_of, AppRests, FindsNone, GetsOne};
 ghost use Rattle.uring_words.specs.Completion.Layout.{word_count};
 ghost use Rattle.uring_words.specs.Completion.Steps.{dropped_loaded};
 ghost use Rattle.uring_words.specs.Sides.{with_app};
@@ -17,7 +18,10 @@ fn see_tail(words: &Words, seat: &mut Seat, size: u32, tail: u32, head: u32) -> 
     ensures table { seat.new.table_id ≡ seat.old.table_id }
     ensures rests { AppRests seat.new.me size result head }
     ensures is { seat.new.me
-        ≡ with_app seat.old.me (record seat.old.me.0.app { known = seat.new.me.0.app.known }) }
+        ≡ with_app seat.old.me
+        (record seat.old.me.0.app { known = seat.new.me.0.app.known; looks = seat.new.me.0.app.looks }) }
+    ensures more { IsPrefix seat.old.me.0.app.known seat.new.me.0.app.known }
+    ensures looked { result ≡ head → FindsNone seat.old.me seat.new.me }
 {
     if head != tail {
         return tail;
@@ -41,7 +45,7 @@ pub fn get_one(words: &Words, seat: &mut Seat, size: u32, tail: u32, head: &mut 
     Cqe::from_words(cell)
 }
 
-// Gets the oldest completion that was put and not got. `None` says only that this end saw none.
+// Gets the oldest completion that was put and not got. `None` says only that this end looked and saw none.
 pub fn get(words: &Words, seat: &mut Seat, size: u32, tail: &mut u32, head: &mut u32) -> Option<Cqe>
     requires table { (seat.old.table_id ≡ words.now.table_id)
         × (words.now.table_id.words ≡ word_count size) }
@@ -53,6 +57,9 @@ pub fn get(words: &Words, seat: &mut Seat, size: u32, tail: &mut u32, head: &mut
         (completions_of seat.new.me.0.app.got ≡ completions_of seat.old.me.0.app.got)
         (λ completion. completions_of seat.new.me.0.app.got
         ≡ completions_of seat.old.me.0.app.got ++ completion ∷ []) }
+    ensures looked { MatchOption result (FindsNone seat.old.me seat.new.me)
+        (λ completion. IsPrefix (completions_of seat.old.me.0.app.known)
+        (completion ∷ completions_of seat.new.me.0.app.known)) }
 {
     *tail = see_tail(words, seat, size, *tail, *head);
     if *head == *tail {

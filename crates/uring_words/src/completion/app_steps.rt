@@ -1,5 +1,6 @@
 //! The application's steps on the table, from one word up to one completion.
 ghost use Rattle.std.specs.Prelude.{◌≡◌, ℕ, ◌+◌, ◌<◌, ◌≤◌, true, List, ◌∷◌, ◌++◌, length};
+ghost use mathlib.Core.List.{IsPrefix};
 ghost use Rattle.uring_entry.specs.IndexWords.{word_of};
 ghost use Rattle.uring_ports.specs.Dropped.{WereHad};
 ghost use Rattle.uring_words.specs.Completion.Ends.{AppRests};
@@ -18,7 +19,9 @@ pub fn load_tail(words: &Words, seat: &mut Seat, size: u32, tail: u32, head: u32
     ensures table { seat.new.table_id ≡ seat.old.table_id }
     ensures rests { AppRests seat.new.me size result head }
     ensures is { seat.new.me
-        ≡ with_app seat.old.me (record seat.old.me.0.app { known = seat.new.me.0.app.known }) }
+        ≡ with_app seat.old.me
+        (record seat.old.me.0.app { known = seat.new.me.0.app.known; looks = seat.old.me.0.app.looks + 1 }) }
+    ensures more { IsPrefix seat.old.me.0.app.known seat.new.me.0.app.known }
     ensures all { seat.old.me.0.is_kernel ≡ true
         → seat.old.me.0.kernel.put ≡ seat.old.me.0.app.got ++ seat.new.me.0.app.known }
     ensures dropped { seat.old.me.0.is_kernel ≡ true

@@ -46,6 +46,7 @@ pub fn room(words: &Words, seat: &mut Seat, size: u32, head: &mut u32, tail: u32
     ensures dropped { seat.new.me.0.kernel.dropped ≡ seat.old.me.0.kernel.dropped }
     ensures room { result + length seat.old.me.0.kernel.put
         ≡ seat.new.me.0.kernel.head_seen + size }
+    ensures looked { seat.old.me.0.kernel.looks < seat.new.me.0.kernel.looks }
 {
     *head = load_head(words, seat, size, tail);
     free(seat, size, *head, tail)
@@ -62,6 +63,7 @@ pub fn put(words: &Words, seat: &mut Seat, size: u32, head: u32, tail: &mut u32,
     ensures rests { KernelRests seat.new.me size tail.new }
     ensures saw { SawHead seat.new.me.0.kernel head }
     ensures seen { seat.new.me.0.kernel.head_seen ≡ seat.old.me.0.kernel.head_seen }
+    ensures looks { seat.new.me.0.kernel.looks ≡ seat.old.me.0.kernel.looks }
     ensures dropped { seat.new.me.0.kernel.dropped ≡ seat.old.me.0.kernel.dropped }
     ensures more { length seat.new.me.0.kernel.put ≡ length seat.old.me.0.kernel.put + 1 }
     ensures put { completions_of seat.new.me.0.kernel.put

@@ -16,6 +16,9 @@ pub struct AppSide {
     /// How many words of the first of these it has loaded, from the first word on.
     pub loaded: u64,
 
+    /// How often it loaded the tail.
+    pub looks: u64,
+
     /// The dropped words that it loaded, oldest first.
     pub dropped: LinkedList<u64>,
 }
@@ -33,6 +36,9 @@ pub struct KernelSide {
 
     /// The count at the head that it last loaded.
     pub head_seen: u64,
+
+    /// How often it loaded the head.
+    pub looks: u64,
 
     /// The dropped words that it stored, oldest first.
     pub dropped: LinkedList<u64>,

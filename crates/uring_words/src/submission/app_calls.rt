@@ -4,7 +4,7 @@ ghost use Rattle.uring_entry.specs.IndexWords.{word_of};
 ghost use Rattle.uring_ports.specs.Items.{AreItems};
 ghost use Rattle.uring_ports.specs.Ports.{places_of, with_call, with_close};
 ghost use Rattle.uring_words.specs.Submission.Calls.{item_of, put_of, has_close_mark, AllGoOn};
-ghost use Rattle.uring_words.specs.Submission.Ends.{AppRests, SawHead, StagesCall};
+ghost use Rattle.uring_words.specs.Submission.Ends.{AppRests, LooksInVain, SawHead, StagesCall};
 ghost use Rattle.uring_words.specs.Submission.Layout.{word_count};
 ghost use Rattle.uring_words.specs.Sides.{with_app};
 
@@ -31,6 +31,7 @@ fn load_head(words: &Words, seat: &mut Seat, size: u32, tail: u32) -> u32
     ensures rests { AppRests seat.new.me size tail }
     ensures saw { SawHead seat.new.me.0.app result }
     ensures published { seat.new.me.0.app.published ≡ seat.old.me.0.app.published }
+    ensures looked { seat.new.me.0.app.looks ≡ seat.old.me.0.app.looks + 1 }
 {
     words.load::<LoadHead>(seat, 17 * size as usize + 1) as u32
 }
@@ -55,6 +56,7 @@ fn has_room(
     ensures room { MatchBool result
         (length seat.old.me.0.app.published + count ≤ seat.new.me.0.app.head_seen + size)
         (size < length seat.old.me.0.app.published + count) }
+    ensures looked { MatchBool result (Unit {0}) (LooksInVain seat.old.me seat.new.me count) }
 {
     if count <= free(seat, size, *head, tail) {
         return true;
@@ -133,6 +135,8 @@ pub fn put_call(
         ≡ with_call (put_of seat.old.me.0.app.published) items.now)
         ((put_of seat.new.me.0.app.published ≡ put_of seat.old.me.0.app.published)
         × (size < places_of (put_of seat.old.me.0.app.published) + length items.now)) }
+    ensures looked { MatchBool result (Unit {0})
+        (LooksInVain seat.old.me seat.new.me (length items.now)) }
 {
     if !has_room(words, seat, size, head, *tail, items.len()) {
         return false;
@@ -156,6 +160,7 @@ pub fn put_close(words: &Words, seat: &mut Seat, size: u32, head: &mut u32, tail
         (put_of seat.new.me.0.app.published ≡ with_close (put_of seat.old.me.0.app.published))
         ((put_of seat.new.me.0.app.published ≡ put_of seat.old.me.0.app.published)
         × (size < places_of (put_of seat.old.me.0.app.published) + 1)) }
+    ensures looked { MatchBool result (Unit {0}) (LooksInVain seat.old.me seat.new.me 1) }
 {
     if !has_room(words, seat, size, head, *tail, 1) {
         return false;

@@ -1,8 +1,8 @@
 //! The dispatcher's calls on the table: one whole call, the close mark, or nothing.
-ghost use Rattle.std.specs.Prelude.{◌≡◌, ◌<◌, ◌≤◌, true, false, [], ◌++◌, length, vec_capacity};
+ghost use Rattle.std.specs.Prelude.{◌≡◌, ◌≢◌, ◌+◌, ◌<◌, ◌≤◌, true, false, [], ◌++◌, length, vec_capacity};
 ghost use Rattle.uring_ports.specs.Ports.{Pulls};
 ghost use Rattle.uring_words.specs.Submission.Calls.{put_of, has_close_mark, AreWhole};
-ghost use Rattle.uring_words.specs.Submission.Ends.{Copying, KernelRests};
+ghost use Rattle.uring_words.specs.Submission.Ends.{Copying, FindsNone, KernelRests};
 ghost use Rattle.uring_words.specs.Submission.Layout.{word_count};
 ghost use Rattle.uring_words.specs.Sides.{with_kernel};
 ghost use Rattle.uring_words.specs.Submission.Steps.{head_stored};
@@ -20,7 +20,7 @@ pub fn load_tail(words: &Words, seat: &mut Seat, size: u32, tail: u32, head: u32
     ensures rests { KernelRests seat.new.me size result head }
     ensures is { seat.new.me
         ≡ with_kernel seat.old.me
-        (record seat.old.me.0.kernel { known = seat.new.me.0.kernel.known }) }
+        (record seat.old.me.0.kernel { known = seat.new.me.0.kernel.known; looks = seat.old.me.0.kernel.looks + 1 }) }
     ensures all { seat.old.me.0.is_app ≡ true
         → seat.old.me.0.app.published ≡ seat.old.me.0.kernel.copied ++ seat.new.me.0.kernel.known }
 {
@@ -36,7 +36,8 @@ fn see_tail(words: &Words, seat: &mut Seat, size: u32, tail: u32, head: u32) -> 
     ensures rests { KernelRests seat.new.me size result head }
     ensures is { seat.new.me
         ≡ with_kernel seat.old.me
-        (record seat.old.me.0.kernel { known = seat.new.me.0.kernel.known }) }
+        (record seat.old.me.0.kernel { known = seat.new.me.0.kernel.known; looks = seat.new.me.0.kernel.looks }) }
+    ensures looked { result ≡ head → FindsNone seat.old.me seat.new.me }
 {
     if head != tail {
         return tail;
@@ -83,6 +84,7 @@ fn copy_call(
     ensures room { vec_capacity items.new ≡ vec_capacity items.old }
     ensures pulled { Pulls size (put_of seat.old.me.0.kernel.copied) result items.new.items
         (put_of seat.new.me.0.kernel.copied) }
+    ensures some { result ≢ Pulled.Nothing }
 {
     for _ in 0..tail.wrapping_sub(*head) {
         let copied = copy_one(words, seat, size, *head);
@@ -119,6 +121,7 @@ pub fn pull(
     ensures room { vec_capacity items.new ≡ vec_capacity items.old }
     ensures pulled { Pulls size (put_of seat.old.me.0.kernel.copied) result items.new.items
         (put_of seat.new.me.0.kernel.copied) }
+    ensures looked { result ≡ Pulled.Nothing → FindsNone seat.old.me seat.new.me }
 {
     items.clear();
     *tail = see_tail(words, seat, size, *tail, *head);

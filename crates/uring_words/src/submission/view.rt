@@ -24,6 +24,9 @@ pub struct AppSide {
 
     /// The count at the head that it last loaded.
     pub head_seen: u64,
+
+    /// How often it loaded the head.
+    pub looks: u64,
 }
 
 /// What the dispatcher knows.
@@ -42,4 +45,7 @@ pub struct KernelSide {
 
     /// The count at the head that it last stored.
     pub taken: u64,
+
+    /// How often it loaded the tail.
+    pub looks: u64,
 }

@@ -18,5 +18,7 @@ invariant-loop g l = record {
   pairing : g.P.KernelPort.pairing l.port ≡ g.P.KernelPort.pairing l.initial.port;
   sizes : g.P.KernelPort.sizes l.port ≡ g.P.KernelPort.sizes l.initial.port;
   pulled : g.P.KernelPort.pulled l.port ≡ g.P.KernelPort.pulled l.initial.port;
+  calls : g.P.KernelPort.saw_calls l.port ≡ g.P.KernelPort.saw_calls l.initial.port;
+  room_looks : g.P.KernelPort.room_looks l.port ≡ g.P.KernelPort.room_looks l.initial.port;
   dropped : g.P.KernelPort.dropped l.port ≡ g.P.KernelPort.dropped l.initial.port;
 }

@@ -1,7 +1,7 @@
-use Rattle.std.proofs.Common.{[], subst}
+use Rattle.std.proofs.Common.{[], subst, sym, ap, ◌∙◌}
 use Rattle.uring_entry.specs.Setup.{Setup}
 use Rattle.uring_threads.specs.Kept.{now}
-use Rattle.uring_threads.specs.Turns.{Tied}
+use Rattle.uring_threads.specs.Turns.{Tied, is_shut}
 use Rattle.uring_threads.proofs.Recording.{none_pulled, pulled_as, records_none, records_then}
 use Rattle.uring_threads.proofs.Closing.{once_unmoved}
 use Rattle.uring_threads.proofs.Tying.{completions_behind, pulled_at, takes_behind, takes_nothing, tied_still}
@@ -48,3 +48,6 @@ returns-clause-row g c =
 
 pub returns-clause-once : goal.returns-clause-once
 returns-clause-once g c = λ once. c.take_pulled.ensures.once (once_unmoved c.args.kept.now c.reserve.new.self c.args.intake.now c.reserve.ensures.unmoved once)
+
+pub returns-clause-most : goal.returns-clause-most
+returns-clause-most g c = λ ready none. c.pull-pulled.ensures.looked (c.take_pulled.ensures.none none ready) (sym c.requires.tied.shut ∙ ap is_shut c.requires.ready)

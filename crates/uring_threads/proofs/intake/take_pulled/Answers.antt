@@ -80,3 +80,8 @@ returns-in-Nothing-clause-row c =
 
 pub returns-in-Nothing-clause-once : goal.returns-in-Nothing-clause-once
 returns-in-Nothing-clause-once c = λ once. once
+
+pub returns-in-Call-clause-none : goal.returns-in-Call-clause-none
+returns-in-Call-clause-none c = λ none ready.
+    let pulled = subst (λ v. Pulls c.args.kept.now.setup.sq c.requires.tied.0 v c.args.items.now c.requires.tied.1) c.in-Call.is c.requires.tied.3 in
+    absurd (omega (arith, none, pulled.0))

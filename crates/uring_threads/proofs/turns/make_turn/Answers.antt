@@ -4,14 +4,15 @@ use Rattle.uring_entry.specs.Setup.{Setup}
 use Rattle.uring_entry.specs.Submission.{dropped}
 use Rattle.uring_ports.specs.Dropped.{with_word}
 use Rattle.uring_ports.specs.Ports.{Sizes}
-use Rattle.uring_threads.specs.Delivered.{DeliversMost}
+use Rattle.uring_ports.specs.Seen.{HasLooked}
+use Rattle.uring_threads.specs.Served.{DeliversMost, PullsMost}
 use Rattle.uring_threads.specs.EventRows.{AreOfTurn, RecordsTurn}
 use Rattle.uring_threads.specs.Kept.{now}
 use Rattle.uring_threads.specs.Tallies.{TakesFewResults, finishes_counted, issues_counted, reaps_counted}
 use Rattle.std.proofs.lemmas.Result.{IfOk-weaker, IfOk-from_err}
 use Rattle.uring_threads.specs.Turns.{AreTies, Counts}
 use Rattle.uring_threads.specs.declared.turns.Turn.{Turn}
-use Rattle.uring_threads.proofs.Collecting.{on_err}
+use Rattle.uring_threads.proofs.Collecting.{on_err, on_ok}
 use Rattle.uring_threads.proofs.FewResults.{few_of_none, few_behind, few_before}
 use Rattle.uring_threads.proofs.Recording.{finishes_many, issues_many, records_none, records_nothing, turn_recorded}
 use Rattle.uring_threads.proofs.TraceSteps.{appends_none}
@@ -345,3 +346,48 @@ returns-clause-rows g c =
     subst (λ p. RecordsTurn c.args.kept.now c.deliver.new.kept c.args.intake.now (g.P.KernelPort.pulled c.args.port.now) p c.tell_dropped.result) (sym (c.tell_dropped.ensures.pulled ∙ c.deliver.ensures.pulled))
     (turn_recorded c.args.kept.now c.take_in.new.kept c.collect_all.new.kept c.issue_all.new.kept c.deliver.new.kept c.args.intake.now (g.P.KernelPort.pulled c.args.port.now) (g.P.KernelPort.pulled c.take_in.new.port) c.in_ok-delivered.delivered c.tell_dropped.result c.take_in.ensures.row f s c.in_ok-delivered.ensures.row
     (IfOk-weaker c.tell_dropped.result _ _ (λ made same. subst (λ t. AreOfTurn t f.0 s.0 c.in_ok-delivered.delivered) (sym same) told) c.tell_dropped.ensures.turn))
+
+pub returns-in_err-popped-clause-pulls : goal.returns-in_err-popped-clause-pulls
+returns-in_err-popped-clause-pulls g c =
+    IfOk-from_err c.from_residual.result _ c.from_residual.ensures.0
+
+pub returns-in_err-popped-clause-looked : goal.returns-in_err-popped-clause-looked
+returns-in_err-popped-clause-looked g c =
+    IfOk-from_err c.from_residual.result _ c.from_residual.ensures.0
+
+pub returns-in_err-finished-clause-pulls : goal.returns-in_err-finished-clause-pulls
+returns-in_err-finished-clause-pulls g c =
+    IfOk-from_err c.from_residual-in_err-finished.result _ c.from_residual-in_err-finished.ensures.0
+
+pub returns-in_err-finished-clause-looked : goal.returns-in_err-finished-clause-looked
+returns-in_err-finished-clause-looked g c =
+    IfOk-from_err c.from_residual-in_err-finished.result _ c.from_residual-in_err-finished.ensures.0
+
+pub returns-in_err-issued-clause-pulls : goal.returns-in_err-issued-clause-pulls
+returns-in_err-issued-clause-pulls g c =
+    IfOk-from_err c.from_residual-in_err-issued.result _ c.from_residual-in_err-issued.ensures.0
+
+pub returns-in_err-issued-clause-looked : goal.returns-in_err-issued-clause-looked
+returns-in_err-issued-clause-looked g c =
+    IfOk-from_err c.from_residual-in_err-issued.result _ c.from_residual-in_err-issued.ensures.0
+
+pub returns-in_err-delivered-clause-pulls : goal.returns-in_err-delivered-clause-pulls
+returns-in_err-delivered-clause-pulls g c =
+    IfOk-from_err c.from_residual-in_err-delivered.result _ c.from_residual-in_err-delivered.ensures.0
+
+pub returns-in_err-delivered-clause-looked : goal.returns-in_err-delivered-clause-looked
+returns-in_err-delivered-clause-looked g c =
+    IfOk-from_err c.from_residual-in_err-delivered.result _ c.from_residual-in_err-delivered.ensures.0
+
+pub returns-clause-pulls : goal.returns-clause-pulls
+returns-clause-pulls g c =
+    let before = g.P.KernelPort.saw_calls c.args.port.now in
+    let after = g.P.KernelPort.saw_calls c.tell_dropped.new.port in
+    let popped = c.in_ok-popped.popped in
+    let most : PullsMost c.take_in.new.intake popped before after = subst (λ s. PullsMost c.take_in.new.intake popped before s) (sym (c.tell_dropped.ensures.calls ∙ c.deliver.ensures.calls)) c.in_ok-popped.ensures.most in
+    IfOk-weaker c.tell_dropped.result _ _ (λ made same. subst (λ (t : Turn). PullsMost c.take_in.new.intake t.popped before after) (sym same) most) c.tell_dropped.ensures.turn
+
+pub returns-clause-looked : goal.returns-clause-looked
+returns-clause-looked g c =
+    let looks = subst (λ b. HasLooked b (g.P.KernelPort.room_looks c.deliver.new.port)) c.take_in.ensures.room_looks c.deliver.ensures.looked in
+    on_ok c.tell_dropped.result (subst (λ a. HasLooked (g.P.KernelPort.room_looks c.args.port.now) a) (sym c.tell_dropped.ensures.room_looks) looks)

@@ -3,7 +3,8 @@ use Rattle.std.specs.Prelude.{IfOk, OnOk, OnErr}
 use Rattle.uring_entry.specs.Submission.{dropped}
 use Rattle.uring_ports.specs.Dropped.{with_word}
 use Rattle.uring_ports.specs.Ports.{Sizes}
-use Rattle.uring_threads.specs.Delivered.{DeliversMost}
+use Rattle.uring_ports.specs.Seen.{HasLooked}
+use Rattle.uring_threads.specs.Served.{DeliversMost, PullsMost}
 use Rattle.uring_threads.specs.EventRows.{RecordsTurn}
 use Rattle.uring_threads.specs.Kept.{now}
 use Rattle.uring_threads.specs.Tallies.{Tally, Appends}
@@ -114,3 +115,11 @@ returns-clause-rows g c =
 pub returns-clause-most : goal.returns-clause-most
 returns-clause-most g c =
     subst (λ (k : Kernel). IfOk c.make_turn.result (λ turn. DeliversMost (now c.make_turn.new.kept).completions (g.P.KernelPort.free c.make_turn.new.port) k.kept.setup.cq turn.delivered)) c.self.view_is c.make_turn.ensures.most
+
+pub returns-clause-pulls : goal.returns-clause-pulls
+returns-clause-pulls g c =
+    subst (λ (k : Kernel). IfOk c.make_turn.result (λ turn. PullsMost c.make_turn.new.intake turn.popped k.saw_calls (g.P.KernelPort.saw_calls c.make_turn.new.port))) c.self.view_is c.make_turn.ensures.pulls
+
+pub returns-clause-looked : goal.returns-clause-looked
+returns-clause-looked g c =
+    subst (λ (k : Kernel). OnOk c.make_turn.result (HasLooked k.room_looks (g.P.KernelPort.room_looks c.make_turn.new.port))) c.self.view_is c.make_turn.ensures.looked

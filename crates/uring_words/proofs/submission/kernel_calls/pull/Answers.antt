@@ -19,3 +19,6 @@ returns-clause-rests c =
       known = subst AreWhole (sym k.known) s.known;
       whole = k.whole;
     })
+
+pub returns-clause-looked : goal.returns-clause-looked
+returns-clause-looked c = λ none. absurd (c.copy_call-pulled.ensures.some none)
