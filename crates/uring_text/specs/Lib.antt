@@ -7,3 +7,7 @@ pub mod KeptLine
 pub mod Remarks
 pub mod Streams
 pub mod Writing
+pub mod Places
+pub mod Reaches
+pub mod Visible
+pub mod Flaws

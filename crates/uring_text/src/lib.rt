@@ -3,19 +3,27 @@
 
 mod completion_text;
 mod entry_tokens;
+mod flaw;
 mod flag_tokens;
 mod hex_tokens;
 mod kept_line;
 pub mod laws;
 mod number_tokens;
+mod place;
+mod reach;
 mod streams;
 mod tokens;
 mod trace_fault;
+mod visible;
 
 pub use completion_text::push_completion;
 pub use entry_tokens::spelled_entry;
+pub use flaw::push_flaw;
 pub use kept_line::KeptLine;
 pub use number_tokens::{spelled_long, spelled_number, spelled_signed};
+pub use place::{Kind, Place, is_of_kind};
+pub use reach::{Reach, entry_reach, kinds_reach};
 pub use streams::{Calls, read_once, write_all};
 pub use tokens::{is_name, split_tokens};
 pub use trace_fault::TraceFault;
+pub use visible::push_visible;

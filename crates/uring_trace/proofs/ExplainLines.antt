@@ -75,7 +75,7 @@ line_asked m number bad line before after notes question is tells = record {
 
 pub line_bad : (m : Machine) (number : ℕ) (was_bad : Bool) (line before after notes notes' : List ℕ)
     → IsBad line → is_remark line ≡ false → IsNoQuestion line
-    → after ≡ before ++ ended (codes "bad line") → notes' ≡ notes ++ bad_note number
+    → after ≡ before ++ ended (codes "bad line") → notes' ≡ notes ++ bad_note number line
     → AppendsLine m m number was_bad true line before after notes notes'
 line_bad m number was_bad line before after notes notes' is remark none told noted = record {
   said = Bad;
@@ -122,9 +122,9 @@ explained_more setup m m' number was_bad bad xs line text before after notes not
           ap (λ (t : List ℕ). text ++ t) told ∙ sym (append_assoc text before (told_of setup (world setup past) a.said))
           ∙ ap (λ (t : List ℕ). t ++ told_of setup (world setup past) a.said) h.told;
       noted =
-          ap (λ (t : List ℕ). notes ++ t) (a.noted ∙ ap (λ n. noted ++ noted_of n a.said) numbered)
-          ∙ sym (append_assoc notes noted (noted_of (line_number (length xs)) a.said))
-          ∙ ap (λ (t : List ℕ). t ++ noted_of (line_number (length xs)) a.said) h.noted;
+          ap (λ (t : List ℕ). notes ++ t) (a.noted ∙ ap (λ n. noted ++ noted_of n line a.said) numbered)
+          ∙ sym (append_assoc notes noted (noted_of (line_number (length xs)) line a.said))
+          ∙ ap (λ (t : List ℕ). t ++ noted_of (line_number (length xs)) line a.said) h.noted;
     }
 
 bad_more : (m m' : Machine) (number : ℕ) (was_bad bad : Bool) (xs : List Saying) (line before after noted noted' : List ℕ)

@@ -25,7 +25,7 @@ pub record AppendsLine (old new : Machine) (number : ℕ) (was_bad bad : Bool) (
   pub read : IsSaid line said
   pub told : (h : History) → Fits old h
       → after ≡ before ++ told_of old.core.setup (world old.core.setup h) said
-  pub noted : noted_after ≡ noted_before ++ noted_of number said
+  pub noted : noted_after ≡ noted_before ++ noted_of number line said
   pub bad_line : bad ≡ (was_bad || is_bad said)
   pub same : new.core.setup ≡ old.core.setup
   pub fits : (h : History) → Fits old h → Fits new (with_event (event_in said) h)

@@ -15,6 +15,8 @@ use Rattle.uring_text.specs.Remarks.{is_remark}
 use Rattle.uring_text.specs.Lines.{ended, Splits, with_last}
 use Rattle.uring_trace.specs.Spelling.{IsStep, IsBad}
 use Rattle.uring_trace.specs.Questions.{IsQuestion, IsNoQuestion}
+use Rattle.uring_trace.specs.Flaws.{line_flaw}
+use Rattle.uring_trace.specs.declared.flaws.Language.TheVariants as language
 use Rattle.uring_trace.specs.Shown.{shown}
 use Rattle.uring_trace.specs.declared.questions.Question.{Question}
 use Rattle.uring_trace.specs.Reasons.{reason_of, reason_text}
@@ -61,16 +63,18 @@ told_of g w (Asked question) = ended (shown g w question)
 told_of g w Remark = []
 told_of g w Bad = ended (codes "bad line")
 
--- the note that the line with this number is bad
-abbrev pub bad_note : ℕ → List ℕ
-bad_note number = codes "uring: line " ++ decimal number ++ ended (codes ": bad line")
+-- the note that the line with this number is bad, and what is wrong with it
+abbrev pub bad_note : ℕ → List ℕ → List ℕ
+bad_note number line =
+    codes "uring: line " ++ decimal number ++ codes ": bad line: "
+    ++ ended (line_flaw language.Questions line)
 
--- what is noted of a line with this number: only that it is bad
-abbrev pub noted_of : ℕ → Said → List ℕ
-noted_of number (Made event) = []
-noted_of number (Asked question) = []
-noted_of number Remark = []
-noted_of number Bad = bad_note number
+-- what is noted of a line with this number: only that it is bad, and why
+abbrev pub noted_of : ℕ → List ℕ → Said → List ℕ
+noted_of number line (Made event) = []
+noted_of number line (Asked question) = []
+noted_of number line Remark = []
+noted_of number line Bad = bad_note number line
 
 -- the number of a line behind so many others, from 1 on; 2^64 - 1 is the number of every later one
 abbrev pub line_number : ℕ → ℕ
@@ -85,7 +89,7 @@ explained g (x ∷ before) =
 
 abbrev pub notes_of : List Saying → List ℕ
 notes_of [] = []
-notes_of (x ∷ before) = notes_of before ++ noted_of (line_number (length before)) x.said
+notes_of (x ∷ before) = notes_of before ++ noted_of (line_number (length before)) x.line x.said
 
 -- whether a line is bad
 abbrev pub is_bad : Said → Bool

@@ -6,6 +6,7 @@ pub mod Traces
 pub mod Sessions
 pub mod Reasons
 pub mod Questions
+pub mod Flaws
 pub mod Shown
 pub mod Explanations
 pub mod Explaining

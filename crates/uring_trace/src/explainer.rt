@@ -6,8 +6,10 @@ ghost use Rattle.uring_text.specs.KeptLine.{kept_of};
 ghost use Rattle.uring_text.specs.Lines.{ended};
 ghost use Rattle.uring_trace.specs.Explanations.{bad_note};
 ghost use Rattle.uring_trace.specs.Explaining.{TellsStep, TellsShown};
+ghost use Rattle.uring_trace.specs.Flaws.{line_flaw};
 
 use crate::answer_text::push_answer;
+use crate::flaws::{Language, push_line_flaw};
 use crate::questions::{Question, read_question};
 use crate::reason_text::{ask, keep, push_reason, seek};
 use crate::shown_text::push_shown;
@@ -147,7 +149,7 @@ impl Explainer {
                 Some(question) => tell_shown(self.alloc, &self.machine, question, text),
                 None => {
                     self.has_bad = true;
-                    tell_bad(self.number, text, notes)
+                    tell_bad(self.alloc, self.number, &self.line, text, notes)
                 }
             },
         }
@@ -197,13 +199,32 @@ fn tell_shown(
     text.push_str("\n")
 }
 
-/// Appends that a line is bad, to what is told and with its number to the notes.
-fn tell_bad(number: u64, text: &mut String, notes: &mut String) -> Result<(), AllocError>
+/// Appends that a line is bad, to what is told and with its number and what is wrong with it to the notes.
+fn tell_bad(
+    alloc: Global,
+    number: u64,
+    line: &KeptLine,
+    text: &mut String,
+    notes: &mut String,
+) -> Result<(), AllocError>
     ensures told { OnOk result
         (string_bytes text.new ≡ string_bytes text.old ++ ended (codes "bad line")) }
     ensures noted { OnOk result
-        (string_bytes notes.new ≡ string_bytes notes.old ++ bad_note number) }
+        ((bytes : List ℕ) → line.now ≡ kept_of bytes
+        → string_bytes notes.new ≡ string_bytes notes.old ++ bad_note number bytes) }
 {
     text.push_str("bad line\n")?;
-    write!(notes, "uring: line {number}: bad line\n")
+    write!(notes, "uring: line {number}: bad line: ")?;
+    note_flaw(alloc, line, notes)
+}
+
+/// Appends what is wrong with a line, and the end of the note.
+fn note_flaw(alloc: Global, line: &KeptLine, notes: &mut String) -> Result<(), AllocError>
+    ensures { OnOk result
+        ((bytes : List ℕ) → line.now ≡ kept_of bytes
+        → string_bytes notes.new
+        ≡ string_bytes notes.old ++ ended (line_flaw Language.Questions bytes)) }
+{
+    push_line_flaw(alloc, notes, line, Language::Questions)?;
+    notes.push_str("\n")
 }

@@ -4,6 +4,7 @@
 mod answer_text;
 mod explain_loop;
 mod explainer;
+mod flaws;
 pub mod laws;
 mod questions;
 mod reason_text;
@@ -15,6 +16,7 @@ mod trace_loop;
 pub use answer_text::push_answer;
 pub use explain_loop::explain;
 pub use explainer::Explainer;
+pub use flaws::{Language, push_line_flaw};
 pub use reason_text::{push_since, push_why};
 pub use step_lines::read_step;
 pub use trace_loop::trace;

@@ -20,5 +20,5 @@ returns-in-None-read_question-clause-told c =
     if_ok_both c.tell_bad.result _ _ _
     (λ done told noted line k.
     line_bad c.args.self.now.machine c.args.self.now.number c.args.self.now.has_bad line _ _ _ _ (rw c.in-None-2.is at (c.in_ok-step.ensures line k))
-    (sym (c.is_remark.ensures line k) ∙ c.if-is_remark.false) (rw c.in-None-read_question.is at (c.read_question.ensures line k)) told noted)
+    (sym (c.is_remark.ensures line k) ∙ c.if-is_remark.false) (rw c.in-None-read_question.is at (c.read_question.ensures line k)) told (noted line k))
     c.tell_bad.ensures.told c.tell_bad.ensures.noted

@@ -1,0 +1,107 @@
+//! How far the tokens of a line fit the language.
+
+ghost use Rattle.std.specs.Prelude.{◌≡◌, ◌+◌, ◌<◌, ◌≤◌, ◌^◌, length, map, option_map};
+ghost use Rattle.uring_text.specs.Reaches.{reach_at, further, ending, kinds_reach, form_kinds, entry_reach};
+
+use crate::place::{Kind, Place, is_of_kind};
+use crate::tokens::is_name;
+
+/// How many tokens of a line fit, from the first on, and what may stand behind them.
+#[derive(Clone, Copy, Debug, PartialEq, Eq)]
+pub struct Reach {
+    /// How many tokens fit.
+    pub tokens: usize,
+
+    /// What may stand behind them.
+    pub wanted: Place,
+}
+
+impl Reach {
+    /// No token fits a place.
+    pub fn at(wanted: Place) -> Reach
+        ensures { result ≡ reach_at wanted }
+    {
+        Reach { tokens: 0, wanted }
+    }
+
+    /// The reach with one token more before it.
+    pub fn further(self) -> Reach
+        requires { self.tokens + 1 < 2 ^ 64 }
+        ensures { result ≡ further self }
+    {
+        Reach {
+            tokens: self.tokens + 1,
+            wanted: self.wanted,
+        }
+    }
+}
+
+/// How far tokens fit these kinds, one each, with nothing behind them.
+pub fn kinds_reach(kinds: &[Kind], tokens: &[&[u8]]) -> Reach
+    ensures reach { result ≡ kinds_reach kinds.now (map (λ token. token.now) tokens.now) }
+    ensures few { result.tokens ≤ length tokens.now }
+{
+    let Some((kind, kinds)) = kinds.split_first() else {
+        return Reach::at(ending(tokens));
+    };
+    let Some((token, tokens)) = tokens.split_first() else {
+        return Reach::at(Place::Token(*kind));
+    };
+    if !is_of_kind(*kind, token) {
+        return Reach::at(Place::Token(*kind));
+    }
+    kinds_reach(kinds, tokens).further()
+}
+
+/// What may stand where a line is to end and these tokens are left: of a recorded trace that is told apart.
+fn ending(tokens: &[&[u8]]) -> Place
+    ensures { result ≡ ending (map (λ token. token.now) tokens.now) }
+{
+    match tokens.split_first() {
+        Some((token, _)) if is_name(token, "=") => Place::NoAnswer,
+        _ => Place::End,
+    }
+}
+
+/// How far the tokens of an entry fit.
+pub fn entry_reach(tokens: &[&[u8]]) -> Reach
+    ensures reach { result ≡ entry_reach (map (λ token. token.now) tokens.now) }
+    ensures few { result.tokens ≤ length tokens.now }
+{
+    let Some((name, tokens)) = tokens.split_first() else {
+        return Reach::at(Place::Form);
+    };
+    match form_kinds(name) {
+        Some(kinds) => kinds_reach(kinds, tokens).further(),
+        None => Reach::at(Place::Form),
+    }
+}
+
+/// The kinds of the tokens behind the name of an entry's form.
+fn form_kinds(name: &[u8]) -> Option<&'static [Kind]>
+    ensures { option_map (λ kinds. kinds.now) result ≡ form_kinds name.now }
+{
+    match name {
+        _ if is_name(name, "nop") => Some(&[Kind::UserData, Kind::Flags]),
+        _ if is_name(name, "fsync") => Some(&[Kind::UserData, Kind::Flags, Kind::File]),
+        _ if is_name(name, "read") => Some(&[
+            Kind::UserData,
+            Kind::Flags,
+            Kind::File,
+            Kind::Offset,
+            Kind::Length,
+        ]),
+        _ if is_name(name, "write") => Some(&[
+            Kind::UserData,
+            Kind::Flags,
+            Kind::File,
+            Kind::Offset,
+            Kind::Data,
+        ]),
+        _ if is_name(name, "cancel") => Some(&[Kind::UserData, Kind::Flags, Kind::Target]),
+        _ if is_name(name, "cancelall") => Some(&[Kind::UserData, Kind::Flags, Kind::Target]),
+        _ if is_name(name, "op") => Some(&[Kind::Code, Kind::UserData, Kind::Flags]),
+        _ if is_name(name, "raw") => Some(&[Kind::Bytes]),
+        _ => None,
+    }
+}

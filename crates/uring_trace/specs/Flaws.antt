@@ -1,0 +1,80 @@
+-- What is wrong with a line that isn't one of a language of steps. The languages and the words are our own rule.
+use Rattle.std.specs.Prelude.{ℕ, Bool, ◌==◌, ◌||◌, nat_lt, List, [], ◌∷◌, length, Option, Some, None, if◌then◌else◌, codes}
+use Rattle.std.specs.Str.{bytes_eq}
+use Rattle.uring_text.specs.Tokens.{tokens_of}
+use Rattle.uring_text.specs.Places.{is_of_kind}
+use Rattle.uring_text.specs.Reaches.{reach_at, further, named_reach, entry_reach}
+use Rattle.uring_text.specs.Flaws.{flaw_text}
+use Rattle.uring_text.specs.declared.place.Kind.{Kind}
+use Rattle.uring_text.specs.declared.place.Kind.TheVariants as kind
+use Rattle.uring_text.specs.declared.place.Place.{Place}
+use Rattle.uring_text.specs.declared.place.Place.TheVariants as place
+use Rattle.uring_text.specs.declared.reach.Reach.{Reach}
+use Rattle.uring_trace.specs.declared.flaws.Language.{Language}
+use Rattle.uring_trace.specs.declared.flaws.Language.TheVariants as language
+
+-- whether a name is that of a step of one token
+abbrev pub is_alone : List ℕ → Bool
+is_alone name =
+    bytes_eq name (codes "tail") || bytes_eq name (codes "head") || bytes_eq name (codes "take")
+    || bytes_eq name (codes "end") || bytes_eq name (codes "flush") || bytes_eq name (codes "cqtail")
+    || bytes_eq name (codes "reap") || bytes_eq name (codes "cqhead") || bytes_eq name (codes "close")
+    || bytes_eq name (codes "next")
+
+-- the kinds of the tokens behind the name of a step, other than `fill`
+abbrev pub step_kinds : List ℕ → Option (List Kind)
+step_kinds name =
+    if bytes_eq name (codes "index") then Some (kind.Word ∷ []) else
+    if bytes_eq name (codes "begin") then Some (kind.Count ∷ []) else
+    if bytes_eq name (codes "issue") || bytes_eq name (codes "finish") then Some (kind.Number ∷ []) else
+    if is_alone name then Some [] else None
+
+-- how far the tokens behind `fill` fit
+abbrev pub fill_reach : List (List ℕ) → Reach
+fill_reach [] = reach_at (place.Token kind.Slot)
+fill_reach (slot ∷ tokens) =
+    if is_of_kind kind.Slot slot then further (entry_reach tokens) else reach_at (place.Token kind.Slot)
+
+-- how far the tokens of a step fit
+abbrev pub step_reach : List (List ℕ) → Reach
+step_reach [] = reach_at place.Step
+step_reach (name ∷ tokens) =
+    if bytes_eq name (codes "fill") then further (fill_reach tokens) else
+    named_reach place.Step (step_kinds name) tokens
+
+-- the kinds of the tokens behind the name of what is to be shown
+abbrev pub shown_kinds : List ℕ → Option (List Kind)
+shown_kinds name =
+    if bytes_eq name (codes "counts") || bytes_eq name (codes "sizes") || bytes_eq name (codes "overflow") then Some [] else
+    if bytes_eq name (codes "file") then Some (kind.File ∷ []) else None
+
+-- how far the tokens behind `show` fit
+abbrev pub shown_reach : List (List ℕ) → Reach
+shown_reach [] = reach_at place.Shown
+shown_reach (name ∷ tokens) = named_reach place.Shown (shown_kinds name) tokens
+
+-- how far the tokens of a step or of a question fit
+abbrev pub asked_reach : List (List ℕ) → Reach
+asked_reach [] = reach_at place.Step
+asked_reach (name ∷ tokens) =
+    if bytes_eq name (codes "show") then further (shown_reach tokens) else step_reach (name ∷ tokens)
+
+-- what may stand in a recorded trace, where this may stand in a trace: an answer follows each step
+abbrev pub with_answer : Place → Place
+with_answer place.End = place.Answer
+with_answer place.NoAnswer = place.Answer
+with_answer p = p
+
+-- how far tokens fit a line of a language
+abbrev pub line_reach : Language → List (List ℕ) → Reach
+line_reach language.Steps tokens = step_reach tokens
+line_reach language.Questions tokens = asked_reach tokens
+line_reach language.Records tokens =
+    record { tokens = (step_reach tokens).tokens; wanted = with_answer (step_reach tokens).wanted }
+
+-- what is wrong with a line
+abbrev pub line_flaw : Language → List ℕ → List ℕ
+line_flaw language line =
+    if nat_lt 300 (length line) then codes "more than 300 bytes" else
+    if length line == 0 then codes "an empty line" else
+    flaw_text line (tokens_of line) (line_reach language (tokens_of line))

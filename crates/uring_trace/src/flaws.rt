@@ -1,0 +1,182 @@
+//! The words for what is wrong with a bad line.
+
+ghost use Rattle.std.specs.Prelude.{◌≡◌, ◌≤◌, ◌++◌, ℕ, List, OnOk, length, map, option_map, string_bytes};
+ghost use Rattle.uring_text.specs.KeptLine.{kept_of};
+ghost use Rattle.uring_trace.specs.Flaws.{is_alone, step_kinds, fill_reach, step_reach, shown_kinds, shown_reach, asked_reach, with_answer, line_reach, line_flaw};
+
+use std::alloc::{AllocError, Global};
+use uring_text::{
+    KeptLine, Kind, Place, Reach, entry_reach, is_name, is_of_kind, kinds_reach, push_flaw,
+    split_tokens,
+};
+
+/// A language whose lines have steps.
+#[derive(Clone, Copy, Debug, PartialEq, Eq)]
+pub enum Language {
+    /// Steps alone: a trace.
+    Steps,
+
+    /// Steps and questions: an explanation.
+    Questions,
+
+    /// Steps with their answers: a recorded trace.
+    Records,
+}
+
+/// Appends what is wrong with a line that isn't one of a language: that it is empty or has more than 300 bytes, or where its first token stands that doesn't fit there, and what may.
+pub fn push_line_flaw(
+    alloc: Global,
+    text: &mut String,
+    line: &KeptLine,
+    language: Language,
+) -> Result<(), AllocError>
+    ensures { OnOk result
+        ((bytes : List ℕ) → line.now ≡ kept_of bytes
+        → string_bytes text.new ≡ string_bytes text.old ++ line_flaw language bytes) }
+{
+    match line.whole() {
+        Some(bytes) => push_short_flaw(alloc, text, bytes, language),
+        None => text.push_str("more than 300 bytes"),
+    }
+}
+
+/// Appends what is wrong with a line of at most 300 bytes.
+fn push_short_flaw(
+    alloc: Global,
+    text: &mut String,
+    line: &[u8],
+    language: Language,
+) -> Result<(), AllocError>
+    requires { length line.now ≤ 300 }
+    ensures { OnOk result
+        (string_bytes text.new ≡ string_bytes text.old ++ line_flaw language line.now) }
+{
+    if line.is_empty() {
+        return text.push_str("an empty line");
+    }
+    let tokens = split_tokens(alloc, line)?;
+    let reach = line_reach(language, tokens.as_slice());
+    push_flaw(alloc, text, line, tokens.as_slice(), reach)
+}
+
+/// How far tokens fit a line of a language.
+fn line_reach(language: Language, tokens: &[&[u8]]) -> Reach
+    ensures reach { result ≡ line_reach language (map (λ token. token.now) tokens.now) }
+    ensures few { result.tokens ≤ length tokens.now }
+{
+    match language {
+        Language::Steps => step_reach(tokens),
+        Language::Questions => asked_reach(tokens),
+        Language::Records => recorded(step_reach(tokens)),
+    }
+}
+
+/// A reach in a recorded trace, where this is the one in a trace.
+fn recorded(reach: Reach) -> Reach
+    ensures tokens { result.tokens ≡ reach.tokens }
+    ensures wanted { result.wanted ≡ with_answer reach.wanted }
+{
+    let wanted = match reach.wanted {
+        Place::End | Place::NoAnswer => Place::Answer,
+        place => place,
+    };
+    Reach {
+        tokens: reach.tokens,
+        wanted,
+    }
+}
+
+/// How far the tokens of a step fit.
+fn step_reach(tokens: &[&[u8]]) -> Reach
+    ensures reach { result ≡ step_reach (map (λ token. token.now) tokens.now) }
+    ensures few { result.tokens ≤ length tokens.now }
+{
+    let Some((name, tokens)) = tokens.split_first() else {
+        return Reach::at(Place::Step);
+    };
+    if is_name(name, "fill") {
+        return fill_reach(tokens).further();
+    }
+    match step_kinds(name) {
+        Some(kinds) => kinds_reach(kinds, tokens).further(),
+        None => Reach::at(Place::Step),
+    }
+}
+
+/// The kinds of the tokens behind the name of a step, other than `fill`.
+fn step_kinds(name: &[u8]) -> Option<&'static [Kind]>
+    ensures { option_map (λ kinds. kinds.now) result ≡ step_kinds name.now }
+{
+    match name {
+        _ if is_name(name, "index") => Some(&[Kind::Word]),
+        _ if is_name(name, "begin") => Some(&[Kind::Count]),
+        _ if is_name(name, "issue") || is_name(name, "finish") => Some(&[Kind::Number]),
+        _ if is_alone(name) => Some(&[]),
+        _ => None,
+    }
+}
+
+/// Whether a name is that of a step of one token.
+fn is_alone(name: &[u8]) -> bool
+    ensures { result ≡ is_alone name.now }
+{
+    is_name(name, "tail")
+        || is_name(name, "head")
+        || is_name(name, "take")
+        || is_name(name, "end")
+        || is_name(name, "flush")
+        || is_name(name, "cqtail")
+        || is_name(name, "reap")
+        || is_name(name, "cqhead")
+        || is_name(name, "close")
+        || is_name(name, "next")
+}
+
+/// How far the tokens behind `fill` fit.
+fn fill_reach(tokens: &[&[u8]]) -> Reach
+    ensures reach { result ≡ fill_reach (map (λ token. token.now) tokens.now) }
+    ensures few { result.tokens ≤ length tokens.now }
+{
+    match tokens.split_first() {
+        Some((slot, tokens)) if is_of_kind(Kind::Slot, slot) => entry_reach(tokens).further(),
+        _ => Reach::at(Place::Token(Kind::Slot)),
+    }
+}
+
+/// How far the tokens of a step or of a question fit.
+fn asked_reach(tokens: &[&[u8]]) -> Reach
+    ensures reach { result ≡ asked_reach (map (λ token. token.now) tokens.now) }
+    ensures few { result.tokens ≤ length tokens.now }
+{
+    match tokens.split_first() {
+        Some((name, tokens)) if is_name(name, "show") => shown_reach(tokens).further(),
+        _ => step_reach(tokens),
+    }
+}
+
+/// How far the tokens behind `show` fit.
+fn shown_reach(tokens: &[&[u8]]) -> Reach
+    ensures reach { result ≡ shown_reach (map (λ token. token.now) tokens.now) }
+    ensures few { result.tokens ≤ length tokens.now }
+{
+    let Some((name, tokens)) = tokens.split_first() else {
+        return Reach::at(Place::Shown);
+    };
+    match shown_kinds(name) {
+        Some(kinds) => kinds_reach(kinds, tokens).further(),
+        None => Reach::at(Place::Shown),
+    }
+}
+
+/// The kinds of the tokens behind the name of what is to be shown.
+fn shown_kinds(name: &[u8]) -> Option<&'static [Kind]>
+    ensures { option_map (λ kinds. kinds.now) result ≡ shown_kinds name.now }
+{
+    match name {
+        _ if is_name(name, "counts") || is_name(name, "sizes") || is_name(name, "overflow") => {
+            Some(&[])
+        }
+        _ if is_name(name, "file") => Some(&[Kind::File]),
+        _ => None,
+    }
+}
