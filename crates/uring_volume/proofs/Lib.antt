@@ -4,3 +4,7 @@ pub mod Units
 pub mod Rest
 pub mod Steps
 pub mod Chosen
+pub mod Taking
+pub mod Parts
+pub mod Painting
+pub mod Leaving

@@ -1,5 +1,5 @@
 -- How a choice of numbers leaves an image: for each unit, and for the length, it names the writes that are left, one after the other. Our own structure.
-use Rattle.std.specs.Prelude.{◌≡◌, ℕ, ◌+◌, ◌<◌, ◌/◌, Bool, true, false, not, ◌==◌, List, [], ◌∷◌, ◌++◌, length, slice_index, if◌then◌else◌}
+use Rattle.std.specs.Prelude.{◌≡◌, ℕ, zero, suc, ◌+◌, ◌<◌, ◌/◌, Bool, true, false, not, ◌==◌, List, [], ◌∷◌, ◌++◌, length, slice_index, if◌then◌else◌}
 use Rattle.std.specs.List.{list_any, filter}
 use Rattle.uring_volume.specs.Writes.{Write}
 use Rattle.uring_volume.specs.declared.event.Event.{Event}
@@ -55,3 +55,14 @@ pub record IsChosen (u : ℕ) (first : List ℕ) (h : History) (choices : ℕ �
   pub bytes : (k : ℕ) → k < length now
       → slice_index now k
       ≡ byte_over (slice_index first k) (chosen h (filter (is_on u (k / u)) (issued h)) (choices (k / u))) k
+
+-- Part i of a choice, which is a list of numbers: a 0 ends a part, and one that is missing is empty.
+abbrev pub part : List ℕ → ℕ → List ℕ
+part [] i = []
+part (n ∷ later) zero = if n == 0 then [] else n ∷ part later zero
+part (n ∷ later) (suc i) = if n == 0 then part later i else part later (suc i)
+
+-- The image that a choice leaves: its first part chooses for the length, and each later one for a unit, in their order.
+abbrev pub IsLeftBy : (u : ℕ) (first : List ℕ) (h : History) (choice now : List ℕ) → Type 0
+IsLeftBy u first h choice now =
+    IsChosen u first h (λ i. part choice (suc i)) (part choice 0) now

@@ -57,4 +57,26 @@ impl Piece {
     {
         self.number
     }
+
+    /// The offset of its first byte.
+    pub fn off(&self) -> u64
+        ensures { result ≡ self.now.off }
+    {
+        self.off
+    }
+
+    /// The bytes that it writes.
+    pub fn bytes(&self) -> &[u8]
+        ensures { result.now ≡ self.now.bytes }
+    {
+        &self.bytes
+    }
+
+    /// The offset behind its last byte.
+    pub fn end(&self) -> u64
+        ensures value { result ≡ self.now.off + length self.now.bytes }
+        ensures bound { result < 2 ^ 63 }
+    {
+        self.off + self.bytes.len() as u64
+    }
 }

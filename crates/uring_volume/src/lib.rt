@@ -1,8 +1,10 @@
 //! What a power failure leaves of a file: which images may be found, by the writes and syncs that were made, and which writes are safe. It stands on std alone.
 #![tactic(auto)]
 
+mod crash;
 mod event;
 pub mod laws;
+mod order;
 mod standing;
 
 pub use event::{Event, Piece};

@@ -1,0 +1,45 @@
+-- What a crash has written is the image that the choice leaves.
+use Rattle.std.proofs.Common.{◌≡◌, ◌<◌, ◌≤◌, ◌+◌, ◌-◌, ◌/◌, ℕ, zero, suc, List, [], ◌∷◌, ◌++◌, length, get_or, replicate, refl, sym, ap, ◌∙◌, arith}
+use Rattle.std.specs.List.{filter}
+use Rattle.std.proofs.lemmas.List.{length-append, length-replicate}
+use Rattle.uring_volume.specs.Writes.{Write}
+use Rattle.uring_volume.specs.Events.{History}
+use Rattle.uring_volume.specs.Images.{is_on, byte_over, length_over}
+use Rattle.uring_volume.specs.Choices.{issued, chosen, part, IsLeftBy}
+use Rattle.uring_volume.proofs.ReadBack.{len_grows}
+
+zeros : (n k : ℕ) → get_or {A = ℕ} (replicate n 0) k 0 ≡ 0
+zeros zero k = refl
+zeros (suc n) zero = refl
+zeros (suc n) (suc k) = zeros n k
+
+-- zeros behind a file change no byte of it
+padded : (xs : List ℕ) (n k : ℕ) → get_or (xs ++ replicate n 0) k 0 ≡ get_or xs k 0
+padded [] n k = zeros n k
+padded (x ∷ xs) n zero = refl
+padded (x ∷ xs) n (suc k) = padded xs n k
+
+pub left_by : (u : ℕ) (first : List ℕ) (h : History) (choice whole rest : List ℕ)
+    (pieces order : List Write) (grown now : List ℕ) (len : ℕ)
+    → pieces ≡ issued h
+    → whole ≡ part choice 0
+    → ((i : ℕ) → part rest i ≡ part choice (suc i))
+    → order ≡ chosen h (issued h) whole
+    → len ≡ length_over (length first) order
+    → grown ≡ first ++ replicate (len - length first) 0
+    → length now ≡ length grown
+    → ((k : ℕ) → k < length grown → get_or now k 0
+    ≡ byte_over (get_or grown k 0) (chosen h (filter (is_on u (k / u)) pieces) (part rest (k / u))) k)
+    → IsLeftBy u first h choice now
+left_by u first h choice whole rest pieces order grown now len all begins goes_on chose long padding same left =
+    let longer : length first ≤ len = omega (arith, len_grows (length first) order) in
+    let size : length grown ≡ length first + (len - length first) = ap length padding ∙ length-append first (replicate (len - length first) 0) ∙ ap (λ n. length first + n) (length-replicate (len - length first) 0) in
+    let total : length now ≡ len = omega arith in
+    record {
+      len = total ∙ long ∙ ap (length_over (length first)) (chose ∙ ap (chosen h (issued h)) begins);
+      bytes = λ k within.
+          left k (omega arith)
+          ∙ ap (λ byte. byte_over byte (chosen h (filter (is_on u (k / u)) pieces) (part rest (k / u))) k) (ap (λ xs. get_or xs k 0) padding ∙ padded first (len - length first) k)
+          ∙ ap (λ ws. byte_over (get_or first k 0) (chosen h (filter (is_on u (k / u)) ws) (part rest (k / u))) k) all
+          ∙ ap (λ ns. byte_over (get_or first k 0) (chosen h (filter (is_on u (k / u)) (issued h)) ns) k) (goes_on (k / u));
+    }

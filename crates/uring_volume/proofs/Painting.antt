@@ -1,0 +1,43 @@
+-- Bytes of a file that a write doesn't touch.
+use Rattle.std.proofs.Common.{◌≡◌, ◌<◌, ◌≤◌, ◌+◌, ◌*◌, ◌/◌, ℕ, false, List, ◌++◌, length, get_or, take, drop, ◌⊎◌, ap, ◌∙◌, inl, inr, arith, leb, ltb}
+use Rattle.std.proofs.Math.Nat.{div-eq_of_lt-le, mul_comm, add-mul, one-mul}
+use Rattle.std.proofs.lemmas.List.{append-nil, take_all, drop_all}
+use Rattle.std.proofs.lemmas.Bool.{cases_Bool, and_from, both_ways, le-leb, lt-ltb, ltb-true, ltb-false}
+use Rattle.uring_volume.specs.Writes.{Write}
+use Rattle.uring_volume.specs.Images.{is_under}
+
+pub below_or_from : (k n : ℕ) → (k < n) ⊎ (n ≤ k)
+below_or_from k n = elim (cases_Bool (ltb k n)) [
+  | inl is ↦ inl (ltb-true k n is)
+  | inr out ↦ inr (ltb-false k n out)
+]
+
+-- past the end of a write, from its first byte on
+pub past : (w : Write) (k : ℕ) → w.off ≤ k → is_under w k ≡ false → w.off + length w.bytes ≤ k
+past w k from out = elim (below_or_from k (w.off + length w.bytes)) [
+  | inl to ↦ absurd (both_ways (is_under w k) out (and_from _ _ (le-leb w.off k from) (lt-ltb k (w.off + length w.bytes) to)))
+  | inr further ↦ further
+]
+
+-- bytes that are the same before one place and from another on
+pub unchanged : (now old : List ℕ) (start reached k : ℕ)
+    → ((j : ℕ) → j < start → get_or now j 0 ≡ get_or old j 0)
+    → ((j : ℕ) → reached ≤ j → get_or now j 0 ≡ get_or old j 0)
+    → (start ≤ k → reached ≤ k)
+    → get_or now k 0 ≡ get_or old k 0
+unchanged now old start reached k below rest outside = elim (below_or_from k start) [
+  | inl before ↦ below k before
+  | inr from ↦ rest k (outside from)
+]
+
+-- a byte of unit i
+pub in_unit : (u i k : ℕ) → u * i ≤ k → k < u * i + u → k / u ≡ i
+in_unit u i k from to = div-eq_of_lt-le {k = i} u {m = k} (omega (arith, mul_comm u i)) (omega (arith, mul_comm u i, add-mul i 1 u, one-mul u))
+
+-- what a slice that was written whole makes of the list that it lends from
+pub written_back : (now old : List ℕ) (n : ℕ) → n ≡ length old → length now ≡ length old
+    → take n (now ++ drop (length now) old) ≡ now
+written_back now old n e same =
+    ap (λ ys. take n (now ++ ys)) (drop_all (length now) old (omega arith))
+    ∙ ap (take n) (append-nil now)
+    ∙ take_all n now (omega arith)

@@ -1,0 +1,25 @@
+use Rattle.std.proofs.Common.{◌≡◌, ◌-◌, suc, arith, sym, ◌∙◌, ap, subst, false, map, drop, reverse}
+use Rattle.uring_volume.specs.Events.{is_safe}
+use Rattle.uring_volume.specs.Choices.{has_safe}
+use Rattle.uring_volume.proofs.Taking.{last_safe, one_less, none_safe}
+use Rattle.uring_volume.proofs.order.count_up_to_safe.Goals as goal
+
+pub returns-then-is_safe-clause-value : goal.returns-then-is_safe-clause-value
+returns-then-is_safe-clause-value c =
+    let next : c.loop-i.i ≡ suc (c.loop-i.i - 1) = omega arith in
+    last_safe (λ p. p.now) (reverse c.args.events.now) c.args.rest.now c.loop-i.i (c.loop-i.i - 1) c.index-rest-i.result next c.loop-i.invariant.within c.index-rest-i.is
+    (ap (is_safe (reverse c.args.events.now)) (sym c.number.ensures) ∙ sym c.is_safe.ensures ∙ c.if-is_safe.true) c.loop-i.invariant.none
+
+pub loop-i-preserved : goal.loop-i-preserved
+loop-i-preserved c = record {
+  within = omega arith;
+  none =
+      let next : c.loop-i.i ≡ suc (c.loop-i.i - 1) = omega arith in
+      one_less (λ p. p.now) (λ w. is_safe (reverse c.args.events.now) w.number) c.args.rest.now c.loop-i.i (c.loop-i.i - 1) c.index-rest-i.result next c.loop-i.invariant.within c.index-rest-i.is
+      (ap (is_safe (reverse c.args.events.now)) (sym c.number.ensures) ∙ sym c.is_safe.ensures ∙ c.if-is_safe.false) c.loop-i.invariant.none;
+}
+
+pub returns-clause-value : goal.returns-clause-value
+returns-clause-value c =
+    let none_left : c.loop-i.i ≡ 0 = omega arith in
+    sym (none_safe (reverse c.args.events.now) (map (λ p. p.now) c.args.rest.now) (subst (λ i. has_safe (reverse c.args.events.now) (drop i (map (λ p. p.now) c.args.rest.now)) ≡ false) none_left c.loop-i.invariant.none))

@@ -1,0 +1,186 @@
+//! What a crash leaves of a file, by a choice of numbers.
+
+ghost use Rattle.std.specs.Prelude.{◌≡◌, ◌≢◌, ◌∷◌, [], ℕ, suc, ◌+◌, ◌-◌, ◌*◌, ◌/◌, ◌^◌, ◌<◌, ◌≤◌, ◌⊎◌, ◌++◌, length, map, replicate, reverse, slice_index, IfOk, OnOk};
+ghost use Rattle.std.specs.List.{filter};
+ghost use Rattle.uring_volume.specs.Images as spec;
+ghost use Rattle.uring_volume.specs.Images.{byte_over, length_over};
+ghost use Rattle.uring_volume.specs.Choices.{issued, chosen, part, IsLeftBy};
+
+use crate::event::{Event, Piece};
+use crate::order::{chosen_pieces, issued_pieces};
+use std::alloc::{AllocError, Global};
+
+/// The first part of a choice, and the choice without it.
+fn first_part(choice: &[u64]) -> (&[u64], &[u64])
+    ensures first { result.0.now ≡ part choice.now 0 }
+    ensures rest { (i : ℕ) → part result.1.now i ≡ part choice.now (suc i) }
+{
+    for (i, n) in choice.iter().enumerate() {
+        if *n == 0 {
+            return (&choice[..i], &choice[i + 1..]);
+        }
+    }
+    (choice, &choice[choice.len()..])
+}
+
+/// The length that these writes make of one.
+fn length_left(first: u64, order: &[&Piece]) -> u64
+    ensures { result ≡ length_over first (map (λ p. p.now) order.now) }
+{
+    let mut len = first;
+    for piece in order {
+        if !piece.bytes().is_empty() {
+            len = len.max(piece.end());
+        }
+    }
+    len
+}
+
+/// These bytes with zeros behind them up to a length.
+fn grown(alloc: Global, first: &[u8], len: usize) -> Result<Vec<u8>, AllocError>
+    requires { length first.now ≤ len }
+    ensures { IfOk result (λ now. now.items ≡ first.now ++ replicate (len - length first.now) 0) }
+{
+    let mut now = Vec::with_capacity(alloc, len)?;
+    now.extend_from_slice(first)?;
+    now.resize(len, 0)?;
+    Ok(now)
+}
+
+/// Whether a write writes a byte of unit `i`.
+fn is_on(piece: &Piece, unit: u64, i: u64) -> bool
+    requires { unit * i < 2 ^ 64 }
+    ensures { result ≡ spec.is_on unit i piece.now }
+{
+    let from = unit * i;
+    let start = from.max(piece.off());
+    start < piece.end() && start - from < unit
+}
+
+/// Those of these writes that write a byte of unit `i`.
+fn pieces_on<'a>(
+    alloc: Global,
+    pieces: &[&'a Piece],
+    unit: u64,
+    i: u64,
+) -> Result<Vec<&'a Piece>, AllocError>
+    requires { unit * i < 2 ^ 64 }
+    ensures { IfOk result (λ on. map (λ p. p.now) on.items
+        ≡ filter (spec.is_on unit i) (map (λ p. p.now) pieces.now)) }
+{
+    let mut on = Vec::new(alloc);
+    for piece in pieces {
+        if is_on(piece, unit, i) {
+            on.push(*piece)?;
+        }
+    }
+    Ok(on)
+}
+
+/// Writes what a piece has of the bytes from `from` to `to` over them.
+fn write_over(now: &mut [u8], from: usize, to: usize, piece: &Piece)
+    requires { to ≤ length now.old }
+    ensures within { (k : ℕ) → from ≤ k → k < to
+        → slice_index now.new k ≡ byte_over (slice_index now.old k) (piece.now ∷ []) k }
+    ensures before { (k : ℕ) → k < from → slice_index now.new k ≡ slice_index now.old k }
+    ensures after { (k : ℕ) → to ≤ k → slice_index now.new k ≡ slice_index now.old k }
+{
+    let off = piece.off() as usize;
+    let bytes = piece.bytes();
+    let start = from.max(off);
+    let end = to.min(piece.end() as usize);
+    for k in start..end {
+        now[k] = bytes[k - off];
+    }
+}
+
+/// Writes what these pieces have of the bytes from `from` to `to` over them, one after the other.
+fn write_all(now: &mut [u8], from: usize, to: usize, order: &[&Piece])
+    requires { to ≤ length now.old }
+    ensures within { (k : ℕ) → from ≤ k → k < to
+        → slice_index now.new k ≡ byte_over (slice_index now.old k) (map (λ p. p.now) order.now) k }
+    ensures before { (k : ℕ) → k < from → slice_index now.new k ≡ slice_index now.old k }
+    ensures after { (k : ℕ) → to ≤ k → slice_index now.new k ≡ slice_index now.old k }
+{
+    for piece in order {
+        write_over(now, from, to, piece);
+    }
+}
+
+/// Leaves in unit `i` what a part of a choice leaves of these writes.
+fn leave_unit(
+    alloc: Global,
+    events: &[Event],
+    pieces: &[&Piece],
+    choice: &[u64],
+    unit: u64,
+    i: u64,
+    now: &mut [u8],
+) -> Result<(), AllocError>
+    requires unit { 0 < unit }
+    requires within { unit * i < length now.old }
+    ensures left { OnOk result ((k : ℕ) → k < length now.old → k / unit ≡ i
+        → slice_index now.new k ≡ byte_over (slice_index now.old k)
+        (chosen (reverse events.now) (filter (spec.is_on unit i) (map (λ p. p.now) pieces.now)) choice.now) k) }
+    ensures others { (k : ℕ) → k / unit ≢ i → slice_index now.new k ≡ slice_index now.old k }
+{
+    let order = chosen_pieces(alloc, events, pieces_on(alloc, pieces, unit, i)?, choice)?;
+    let from = (unit * i) as usize;
+    let rest = now.len() - from;
+    let to = from + rest.min(unit as usize);
+    write_all(now, from, to, &order);
+    Ok(())
+}
+
+/// How many units there are up to a length.
+fn count_units(len: u64, unit: u64) -> u64
+    requires { 0 < unit }
+    ensures within { (i : ℕ) → i < result → unit * i < len }
+    ensures all { (k : ℕ) → k < len → k / unit < result }
+{
+    if len == 0 { 0 } else { (len - 1) / unit + 1 }
+}
+
+/// Leaves in each unit what its part of a choice leaves of these writes.
+fn leave_units(
+    alloc: Global,
+    events: &[Event],
+    pieces: &[&Piece],
+    choice: &[u64],
+    unit: u64,
+    now: &mut [u8],
+) -> Result<(), AllocError>
+    requires { 0 < unit }
+    ensures { OnOk result ((k : ℕ) → k < length now.old
+        → slice_index now.new k ≡ byte_over (slice_index now.old k)
+        (chosen (reverse events.now) (filter (spec.is_on unit (k / unit)) (map (λ p. p.now) pieces.now))
+        (part choice.now (k / unit))) k) }
+{
+    let mut rest = choice;
+    for i in 0..count_units(now.len() as u64, unit) {
+        let (own, later) = first_part(rest);
+        leave_unit(alloc, events, pieces, own, unit, i, now)?;
+        rest = later;
+    }
+    Ok(())
+}
+
+/// What a crash leaves of a file, by a choice of numbers.
+pub fn crash(
+    alloc: Global,
+    unit: u64,
+    first: &[u8],
+    events: &[Event],
+    choice: &[u64],
+) -> Result<Vec<u8>, AllocError>
+    requires { 0 < unit }
+    ensures { IfOk result (λ now. IsLeftBy unit first.now (reverse events.now) choice.now now.items) }
+{
+    let (whole, rest) = first_part(choice);
+    let pieces = issued_pieces(alloc, events)?;
+    let order = chosen_pieces(alloc, events, issued_pieces(alloc, events)?, whole)?;
+    let len = length_left(first.len() as u64, &order);
+    let mut now = grown(alloc, first, len as usize)?;
+    leave_units(alloc, events, &pieces, rest, unit, &mut now)?;
+    Ok(now)
+}
