@@ -1,7 +1,11 @@
--- Counts below a bound: what one change does to them.
-use Rattle.std.proofs.Common.{◌≡◌, ◌≢◌, ℕ, zero, suc, ◌+◌, ◌<◌, ◌≤◌, Bool, true, false, refl, sym, ◌∙◌, ap, arith, inl, inr}
-use Rattle.std.proofs.lemmas.Bool.{cases_eq}
-use Rattle.uring_entry.specs.Below.{count_below}
+-- Counts below a bound: what one change does to them, the bits of a block, and the list of all that are counted.
+use Rattle.std.proofs.Common.{◌≡◌, ◌≢◌, ℕ, zero, suc, ◌+◌, ◌*◌, ◌/◌, ◌%◌, ◌^◌, ◌<◌, ◌≤◌, ◌==◌, cond, count_ones, Bool, true, false, List, [], ◌∷◌, ◌++◌, length, slice_get, Some, None, refl, sym, ◌∙◌, ap, arith, inl, inr, length-append}
+use Rattle.std.specs.Int.{bit_at}
+use Rattle.std.specs.Int.Count.{ones_step}
+use Rattle.std.proofs.lemmas.Bool.{cases_eq, eq-eqb, ne_eqb}
+use Rattle.std.proofs.lemmas.Nat.{ones_le_self}
+use Rattle.std.proofs.lemmas.Nat.Bits.{bit_at-suc, bit_at_lowest}
+use Rattle.uring_entry.specs.Below.{count_below, all_below}
 use Rattle.uring_dispatch.specs.Window.{one_if}
 
 pub count_below-same : (p q : ℕ → Bool) (n : ℕ) → ((k : ℕ) → k < n → p k ≡ q k)
@@ -41,3 +45,107 @@ count_below-some p (suc n) k lt e =
       | inl same ↦ let one : one_if (p n) ≡ 1 = ap one_if (ap p (sym same) ∙ e) in omega arith
       | inr other ↦ let before = count_below-some p n k (omega arith) e in omega arith
     ]
+
+pub count_below-zero : (p : ℕ → Bool) (n : ℕ) → ((k : ℕ) → k < n → p k ≡ false)
+    → count_below p n ≡ 0
+count_below-zero p zero none = refl
+count_below-zero p (suc n) none =
+    let before = count_below-zero p n (λ k lt. none k (omega arith)) in
+    let here : one_if (p n) ≡ 0 = ap one_if (none n (omega arith)) in
+    omega arith
+
+-- nothing from n on is counted
+pub count_below-past : (p : ℕ → Bool) (n m : ℕ) → n ≤ m → ((k : ℕ) → n ≤ k → p k ≡ false)
+    → count_below p m ≡ count_below p n
+count_below-past p n zero le none = let same : n ≡ 0 = omega arith in ap (count_below p) (sym same)
+count_below-past p n (suc m) le none =
+    elim (cases_eq n (suc m)) [
+      | inl same ↦ ap (count_below p) (sym same)
+      | inr other ↦
+          let rest = count_below-past p n m (omega arith) none in
+          let here : one_if (p m) ≡ 0 = ap one_if (none m (omega arith)) in
+          omega arith
+    ]
+
+-- a count goes on behind a number
+pub count_below-apart : (p : ℕ → Bool) (n k : ℕ)
+    → count_below p (n + k) ≡ count_below p n + count_below (λ i. p (n + i)) k
+count_below-apart p n zero = let same : n + 0 ≡ n = omega arith in ap (count_below p) same ∙ omega arith
+count_below-apart p n (suc k) =
+    let more : n + suc k ≡ suc (n + k) = omega arith in
+    let rest = count_below-apart p n k in
+    ap (count_below p) more ∙ omega arith
+
+-- the first number apart
+count_below-front : (p : ℕ → Bool) (n : ℕ)
+    → count_below p (suc n) ≡ one_if (p 0) + count_below (λ i. p (suc i)) n
+count_below-front p zero = omega arith
+count_below-front p (suc n) = let rest = count_below-front p n in omega arith
+
+-- the bits of a number
+pub ones-counted : (n k : ℕ) → n < 2 ^ k → count_ones n ≡ count_below (λ i. bit_at n i == 1) k
+ones-counted n zero lt = let few = ones_le_self n in omega arith
+ones-counted n (suc k) lt =
+    let step = ones_step n in
+    let rest = ones-counted (n / 2) k (omega arith) in
+    let shifted = count_below-same (λ i. bit_at n (suc i) == 1) (λ i. bit_at (n / 2) i == 1) k (λ i low. ap (λ b. b == 1) (bit_at-suc n i)) in
+    let front = count_below-front (λ i. bit_at n i == 1) k in
+    let lowest : one_if (bit_at n 0 == 1) ≡ n % 2 =
+    ap (λ b. one_if (b == 1)) (bit_at_lowest n)
+    ∙ elim (cases_eq (n % 2) 1) [
+      | inl one ↦ ap one_if (eq-eqb (n % 2) 1 one) ∙ sym one
+      | inr other ↦ let none : n % 2 ≡ 0 = omega arith in ap one_if (ne_eqb (n % 2) 1 other) ∙ sym none
+    ]
+    in
+    omega arith
+
+-- The list of all that are counted.
+
+pub length-all_below : (p : ℕ → Bool) (n : ℕ) → length (all_below p n) ≡ count_below p n
+length-all_below p zero = refl
+length-all_below p (suc n) =
+    length-append (all_below p n) (cond (p n) (n ∷ []) [])
+    ∙ ap (λ c. c + length (cond (p n) (n ∷ []) [])) (length-all_below p n)
+    ∙ elim (p n) as (λ b. count_below p n + length (cond b (n ∷ []) []) ≡ count_below p n + one_if b) [ true ↦ refl | false ↦ refl ]
+
+get-left : (xs ys : List ℕ) (i x : ℕ) → slice_get xs i ≡ Some x → slice_get (xs ++ ys) i ≡ Some x
+get-left [] ys i x e = absurd (let f : None ≡ Some x = e in cc)
+get-left (y ∷ xs) ys zero x e = e
+get-left (y ∷ xs) ys (suc i) x e = get-left xs ys i x e
+
+get-last : (xs : List ℕ) (x : ℕ) → slice_get (xs ++ x ∷ []) (length xs) ≡ Some x
+get-last [] x = refl
+get-last (y ∷ xs) x = get-last xs x
+
+-- a number that is counted stands behind those before it
+pub get-all_below : (p : ℕ → Bool) (n m : ℕ) → m < n → p m ≡ true
+    → slice_get (all_below p n) (count_below p m) ≡ Some m
+get-all_below p zero m lt e = absurd (omega arith)
+get-all_below p (suc n) m lt e =
+    elim (cases_eq m n) [
+      | inl same ↦
+          ap (λ k. slice_get (all_below p n ++ cond (p n) (n ∷ []) []) (count_below p k)) same
+          ∙ ap (λ b. slice_get (all_below p n ++ cond b (n ∷ []) []) (count_below p n)) (ap p (sym same) ∙ e)
+          ∙ ap (slice_get (all_below p n ++ n ∷ [])) (sym (length-all_below p n)) ∙ get-last (all_below p n) n ∙ ap Some (sym same)
+      | inr other ↦ get-left (all_below p n) _ (count_below p m) m (get-all_below p n m (omega arith) e)
+    ]
+
+-- The numbers of a block of 64.
+
+-- those before one of them
+pub block-before : (p : ℕ → Bool) (block place i : ℕ)
+    → ((j : ℕ) → j < i → (bit_at block j == 1) ≡ p (64 * place + j))
+    → count_below p (64 * place + i)
+    ≡ count_below p (64 * place) + count_below (λ j. bit_at block j == 1) i
+block-before p block place i told =
+    count_below-apart p (64 * place) i
+    ∙ ap (λ c. count_below p (64 * place) + c) (sym (count_below-same (λ j. bit_at block j == 1) (λ j. p (64 * place + j)) i told))
+
+-- all of them
+pub block-counted : (p : ℕ → Bool) (block place size : ℕ) → size ≡ 64 → block < 2 ^ size
+    → ((j : ℕ) → j < size → (bit_at block j == 1) ≡ p (64 * place + j))
+    → count_below p (64 * (place + 1)) ≡ count_below p (64 * place) + count_ones block
+block-counted p block place size is fits told =
+    let stop : 64 * (place + 1) ≡ 64 * place + size = omega arith in
+    ap (count_below p) stop ∙ block-before p block place size told
+    ∙ ap (λ c. count_below p (64 * place) + c) (sym (ones-counted block size fits))

@@ -5,8 +5,8 @@ use Rattle.std.proofs.lemmas.Bool.{both_ways, eqb-true, eq-eqb, cases_Bool, case
 use Rattle.uring_entry.specs.Below.{found_or}
 use Rattle.uring_dispatch.specs.declared.group.Group.{Group}
 use Rattle.uring_dispatch.specs.declared.group.Barrier.{Barrier}
-use Rattle.uring_dispatch.specs.Groups.{drain_of, covers, IsSorted, IsBeyond, AreGroups, IsLiveFront, with_member, with_barrier, starts_at, last_group, Groups, HasBarrierBefore}
-use Rattle.std.specs.Prelude.{if◌then◌else◌}
+use Rattle.uring_dispatch.specs.Groups.{drain_of, covers, IsSorted, IsBeyond, AreGroups, IsLiveFront, with_member, with_barrier, starts_at, last_group, Groups, group_at, HasBarrierBefore, IsFirstDraining}
+use Rattle.std.specs.Prelude.{if◌then◌else◌, MatchOption}
 use Rattle.std.proofs.lemmas.Option.{none-some}
 use Rattle.uring_dispatch.proofs.BarrierLemmas.{front-least, beyond-next, beyond-push, sorted-push, covered-push, covered-pushed}
 
@@ -197,6 +197,25 @@ none-free records barriers last n a none key number drains =
     empty : (xs : List Barrier) → length xs ≡ 0 → list_any (covers key number) xs ≡ true → ⊥
     empty [] e any = false≢true any
     empty (x ∷ xs) e any = omega arith
+
+-- the first barrier's group drains from the least number on
+pub first-draining : (g : Groups) (b : Barrier) (o : Option Group)
+    → AreGroups g.records g.barriers g.last → IsLiveFront g.records g.barriers
+    → 0 < length g.barriers → b ≡ get_or g.barriers 0 b → o ≡ group_at g b.key
+    → MatchOption o ((key number : ℕ) → drain_of (group_at g key) ≡ Some number → ⊥) (IsFirstDraining g)
+first-draining g b None a live lt e is =
+    let head = head_is g.barriers b lt e in
+    let drains : None ≡ Some b.number = ap drain_of is ∙ live b head.0 head.1 in
+    absurd cc
+first-draining g b (Some p) a live lt e is =
+    let head = head_is g.barriers b lt e in
+    record {
+      key = b.key;
+      number = b.number;
+      here = sym is;
+      drains = ap drain_of is ∙ live b head.0 head.1;
+      first = before-free g.records g.barriers g.last b b.number a lt e (omega arith);
+    }
 
 pub sorted-pop : (b : Barrier) (rest : List Barrier) → IsSorted (b ∷ rest) → IsSorted rest
 sorted-pop b rest s = s.1

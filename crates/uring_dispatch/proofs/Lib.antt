@@ -1,6 +1,6 @@
 pub mod Counting
 pub mod WaitingLemmas
-pub mod NextLemmas
+pub mod IssuableLemmas
 pub mod WindowLemmas
 pub mod WindowEvents
 pub mod WindowFront

@@ -1,5 +1,5 @@
 -- Glue. The groups that have an outstanding member, and the barriers among them.
-use Rattle.std.specs.Prelude.{◌≡◌, ◌≢◌, ℕ, ◌+◌, ◌<◌, Bool, true, false, ◌&&◌, ◌==◌, nat_lt, List, [], ◌∷◌, ◌++◌, if◌then◌else◌, slice_index_or, Option, Some, None, is_some}
+use Rattle.std.specs.Prelude.{◌≡◌, ◌≢◌, ℕ, ◌+◌, ◌<◌, ◌≤◌, Bool, true, false, ◌&&◌, ◌==◌, nat_lt, List, [], ◌∷◌, ◌++◌, if◌then◌else◌, slice_index_or, Option, Some, None, is_some}
 use Rattle.std.specs.List.{list_any, list_all}
 use Rattle.uring_entry.specs.Below.{found_or}
 use Rattle.uring_dispatch.specs.declared.group.Group.{Group}
@@ -85,3 +85,11 @@ pub record HasBarrierBefore (g : Groups) (n : ℕ) : Type 0 where
   pub number : ℕ
   pub drains : drain_of (group_at g key) ≡ Some number
   pub before : number < n
+
+-- the kept group that drains from the least number on, with its key and that number
+pub record IsFirstDraining (g : Groups) (p : Group) : Type 0 where
+  pub key : ℕ
+  pub number : ℕ
+  pub here : group_at g key ≡ Some p
+  pub drains : p.drain ≡ Some number
+  pub first : (k m : ℕ) → drain_of (group_at g k) ≡ Some m → number ≤ m

@@ -1,7 +1,6 @@
 -- Glue. Which of the outstanding requests wait at the head of their group, and which are doomed.
 use Rattle.std.specs.Prelude.{◌≡◌, ℕ, ◌+◌, ◌*◌, ◌/◌, ◌<◌, ◌≤◌, Bool, true, false, not, ◌&&◌, ◌||◌, ◌==◌, Option, Some, None, is_some}
 use Rattle.uring_entry.specs.Groups.{is_before}
-use Rattle.uring_entry.specs.Requests.{Requests, is_issuable, is_outstanding, is_running, is_ready}
 use Rattle.uring_number_set.specs.NumberSet.{NumberSet, holds, start_of, stop_of, Covers, HasLetGo}
 use Rattle.uring_dispatch.specs.declared.request.Request.{Request}
 use Rattle.uring_dispatch.specs.declared.group.Group.{Group}
@@ -98,12 +97,6 @@ pub record IsFirstTold (g : Groups) (n key from : ℕ) : Type 0 where
   pub within : from ≤ n
   pub all : (p : Group) → group_at g key ≡ Some p → p.fault ≡ Some n → from ≤ p.least
   pub low : from < n → (p : Group) × (group_at g key ≡ Some p) × (p.least ≤ from)
-
--- The first request that waits at the head of its group, if it is ready; else no request is that isn't doomed.
-pub record IsReadyHead (r : Requests) (found : Option ℕ) : Type 0 where
-  pub some : (n : ℕ) → found ≡ Some n → is_issuable r n ≡ true
-  pub all : (k : ℕ) → is_outstanding r k ≡ true → is_running r k ≡ false → is_ready r k ≡ true
-      → (n : ℕ) × (found ≡ Some n) × (n ≤ k)
 
 -- What both sets keep of numbers before this one begins with some that are in them, 64 at a time.
 pub record HaveLetGo (s : Waiting) (n : ℕ) : Type 0 where

@@ -1,7 +1,8 @@
-ghost use Rattle.std.specs.Prelude.{◌≡◌, ℕ, List, ◌+◌, ◌-◌, ◌^◌, ◌<◌, ◌≤◌, ◌↔◌, IsTrue, true, false, OnOk, OnErr, IsErrOf};
+ghost use Rattle.std.specs.Prelude.{◌≡◌, ℕ, List, ◌+◌, ◌-◌, ◌^◌, ◌<◌, ◌≤◌, ◌↔◌, IsTrue, true, false, OnOk, OnErr, IsErrOf, length, slice_get};
 ghost use Rattle.uring_entry.specs.Requests.{Requests, no_request, with_accepted, with_cut, next_of, least_of, operation_running, entry_outstanding, outstanding_in, running_in};
 ghost use Rattle.uring_entry.specs.Why.{why_of};
 ghost use Rattle.uring_dispatch.specs.Cancels.{found_by};
+ghost use Rattle.uring_dispatch.specs.Issuable.{issuables_of, issuable_from};
 ghost use Rattle.uring_dispatch.specs.IssueAndFinish.{issued, after_issue, finished, after_finish, posted_by, after_end};
 
 use crate::answers::{Finished, Found, Issued, Posts};
@@ -10,7 +11,7 @@ use crate::groups::Groups;
 use crate::request::Request;
 use crate::waiting::Waiting;
 use crate::window::Window;
-use crate::{events, found, next, why};
+use crate::{events, found, issuable, why};
 use std::alloc::Global;
 use std::marker::Model;
 use uring_entry::{Op, Outcome, Sqe, Why, prepare};
@@ -217,7 +218,32 @@ impl Dispatch {
         requires { IsTrue self.now.is_between_calls }
         ensures { (r : Requests) → ShowsRequests self.now r → result ≡ next_of r }
     {
-        next::next(&self.window, &self.groups, &self.waiting)
+        self.next_issuable(0)
+    }
+
+    /// The least request from `n` on, any number, that `issue` doesn't refuse, if there is one: so all of them, in order, from 0 on, each time from the number behind the last. It looks once at each 4,096 numbers that it passes. Our own rule.
+    pub fn next_issuable(&self, n: u64) -> Option<u64>
+        requires { IsTrue self.now.is_between_calls }
+        ensures { (r : Requests) → ShowsRequests self.now r → result ≡ issuable_from r n }
+    {
+        issuable::next_from(&self.window, &self.groups, &self.waiting, n)
+    }
+
+    /// How many requests `issue` doesn't refuse. It looks once at each 64 numbers from the least outstanding one on. Our own rule.
+    pub fn issuable(&self) -> u64
+        requires { IsTrue self.now.is_between_calls }
+        ensures { (r : Requests) → ShowsRequests self.now r → result ≡ length (issuables_of r) }
+    {
+        issuable::count(&self.window, &self.groups, &self.waiting)
+    }
+
+    /// Of the requests that `issue` doesn't refuse, in the order of their numbers, the one that comes after `k` others: `Some` exactly if more than `k` can be issued. It looks once at each 64 numbers from the least outstanding one on. Our own rule.
+    pub fn nth_issuable(&self, k: u64) -> Option<u64>
+        requires { IsTrue self.now.is_between_calls }
+        ensures { (r : Requests) → ShowsRequests self.now r
+            → result ≡ slice_get (issuables_of r) k }
+    {
+        issuable::nth(&self.window, &self.groups, &self.waiting, k)
     }
 
     /// The least outstanding request, if there is one.

@@ -1,11 +1,11 @@
 //! The groups of the outstanding requests.
 
-ghost use Rattle.std.specs.Prelude.{◌≡◌, ◌≢◌, ℕ, ◌+◌, ◌<◌, ◌≤◌, ◌^◌, true, false, Some, None, OnOk, OnErr, is_some, option_copied, IsOk, count_by, if◌then◌else◌};
+ghost use Rattle.std.specs.Prelude.{◌≡◌, ◌≢◌, ℕ, ◌+◌, ◌<◌, ◌≤◌, ◌^◌, true, false, Some, None, OnOk, OnErr, is_some, option_copied, IsOk, MatchOption, count_by, if◌then◌else◌};
 ghost use Rattle.std.specs.List.{list_any};
 ghost use Rattle.std.specs.VecDeque.{deque_len, deque_capacity};
 ghost use Rattle.slab.specs.Slab.{get, slab_len, ContainsKey, HasRoomFor};
 ghost use Rattle.uring_entry.specs.Requests.{is_linked, is_drain};
-ghost use Rattle.uring_dispatch.specs.Groups.{group_at, last_group, drain_of, with_member, with_barrier, starts_at, covers, IsSorted, IsBeyond, IsLiveFront, Exchanges, HasBarrierBefore};
+ghost use Rattle.uring_dispatch.specs.Groups.{group_at, last_group, drain_of, with_member, with_barrier, starts_at, covers, IsSorted, IsBeyond, IsLiveFront, Exchanges, HasBarrierBefore, IsFirstDraining};
 
 use crate::group::{Barrier, Group, found_or};
 use slab::Slab;
@@ -143,6 +143,17 @@ impl Groups {
         match self.barriers.front() {
             Some(barrier) => barrier.number < n,
             None => false,
+        }
+    }
+
+    /// The group that drains from the least number on, if any drains.
+    pub(crate) fn first_draining(&self) -> Option<Group>
+        ensures { MatchOption result ((key number : ℕ)
+            → drain_of (group_at self.now key) ≡ Some number → ⊥) (IsFirstDraining self.now) }
+    {
+        match self.barriers.front() {
+            Some(barrier) => self.groups.get(barrier.key).copied(),
+            None => None,
         }
     }
 }

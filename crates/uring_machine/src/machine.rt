@@ -4,6 +4,7 @@ ghost use Rattle.uring_entry.specs.Completions.{unreaped};
 ghost use Rattle.uring_entry.specs.Requests.{operation_running, next_of, least_of};
 ghost use Rattle.uring_entry.specs.Why.{why_of};
 ghost use Rattle.uring_dispatch.specs.Cancels.{found_by};
+ghost use Rattle.uring_dispatch.specs.Issuable.{issuables_of, issuable_from};
 ghost use Rattle.uring_files.specs.Contents.{FileContents, max_len};
 ghost use Rattle.uring_files.specs.Operations.{IsForFiles, ended_with, is_lengthening, result_of, state_of, byte_of};
 ghost use Rattle.uring_core.specs.CalledFor.{CalledFor, files_of};
@@ -194,6 +195,30 @@ impl Machine {
             → result ≡ next_of (world self.now.core.setup h).requests }
     {
         self.core.next()
+    }
+
+    /// The least request from this number on, any number, that can be issued: so all of them, in order, from 0 on, each time from the number behind the last. It is no step, and so not part of a history.
+    pub fn next_issuable(&self, number: u64) -> Option<u64>
+        ensures { (h : History) → Fits self.now h
+            → result ≡ issuable_from (world self.now.core.setup h).requests number }
+    {
+        self.core.next_issuable(number)
+    }
+
+    /// How many requests can be issued. It looks once at each 64 numbers from the least outstanding one on. It is no step, and so not part of a history.
+    pub fn issuable(&self) -> u64
+        ensures { (h : History) → Fits self.now h
+            → result ≡ length (issuables_of (world self.now.core.setup h).requests) }
+    {
+        self.core.issuable()
+    }
+
+    /// The request at this place, from 0, among those that can be issued, in the order of their numbers: `Some` exactly if the place is below their count. It looks once at each 64 numbers from the least outstanding one on. It is no step, and so not part of a history.
+    pub fn nth_issuable(&self, place: u64) -> Option<u64>
+        ensures { (h : History) → Fits self.now h
+            → result ≡ slice_get (issuables_of (world self.now.core.setup h).requests) place }
+    {
+        self.core.nth_issuable(place)
     }
 
     /// The least outstanding request.

@@ -5,10 +5,11 @@ use Rattle.std.specs.Int.{bit_at, bit_not, trailing_zeros}
 use Rattle.std.specs.Option.{option_to_list}
 use Rattle.std.proofs.lemmas.Bool.{cases_lt, cases_eq, lt-ltb, le-ltb, eq-eqb, ne_eqb, both_ways}
 use Rattle.std.proofs.lemmas.List.{get_or_past, get_or-set_same, get_or-set_other}
-use Rattle.std.proofs.lemmas.Nat.Bits.{bit_at-zero, bit_at_set_same, bit_at_set_other, bit_at_clear_same, bit_at_clear_other, bit_at-trailing_zeros}
+use Rattle.std.proofs.lemmas.Nat.Bits.{bit_at-zero, bit_at_above, bit_at_set_same, bit_at_set_other, bit_at_clear_same, bit_at_clear_other, bit_at-trailing_zeros}
+use Rattle.std.proofs.lemmas.Nat.{shr-shr, shr_le}
 use Rattle.std.proofs.Math.ListN.{get_or-append}
 use Rattle.std.proofs.Math.Seq.{get_or-append_seam}
-use Rattle.uring_number_set.specs.NumberSet.{NumberSet, block_of, block_at, holds, Covers, start_of, stop_of, Puts, IsSameSet, IsLeastIn, IsFilled, HasLetGo}
+use Rattle.uring_number_set.specs.NumberSet.{NumberSet, block_of, block_at, holds, Covers, start_of, stop_of, Puts, IsSameSet, IsLeastFrom, IsLeastOf, HasNoneFrom, IsFilled, HasLetGo}
 
 pub block_of-low : (first : ℕ) (blocks : List ℕ) (i : ℕ) → i < first → block_of first blocks i ≡ 0
 unfolding block_of
@@ -158,27 +159,99 @@ remove-puts s t n block c was first blocks limit =
     written s t n _ false c first blocks limit (ap (λ b. eqb b 1) none)
     (λ i lt ne. bit_at_clear_other w64 block (n % 64) low i lt ne ∙ ap (λ b. bit_at b i) was)
 
--- The lowest bit of the first block that isn't zero is the least number.
-pub lowest-least : (s : NumberSet) (place block : ℕ) → block ≡ block_at s place → 0 < block
-    → block < 2 ^ 64 → ((k : ℕ) → k < place → block_at s k ≡ 0)
-    → IsLeastIn s (64 * place + trailing_zeros w64 block)
-lowest-least s place block is some fits before =
+-- The lowest bit of a block that isn't zero is in the set.
+lowest-holds : (s : NumberSet) (place block : ℕ) → block ≡ block_at s place → 0 < block
+    → block < 2 ^ 64 → holds s (64 * place + trailing_zeros w64 block) ≡ true
+lowest-holds s place block is some fits =
     let t : ℕ = trailing_zeros w64 block in
     let low = bit_at-trailing_zeros w64 block some fits in
     let small : t < 64 = low.0 in
     let at_place : (64 * place + t) / 64 ≡ place = omega arith in
     let at_bit : (64 * place + t) % 64 ≡ t = omega arith in
+    holds-block s (64 * place + t) block (ap (block_at s) at_place ∙ sym is)
+    ∙ ap (λ i. eqb (bit_at block i) 1) at_bit ∙ eq-eqb _ 1 low.1
+
+-- The least number of a block, from one of its numbers on.
+
+-- a block without its low bits
+bit_at-shr : (block k i : ℕ) → bit_at (block / 2 ^ k) i ≡ bit_at block (k + i)
+bit_at-shr block k i = ap (λ b. b % 2) (shr-shr block k i)
+
+pub block-none : (block n : ℕ) → block / 2 ^ (n % 64) ≡ 0 → HasNoneFrom block n
+block-none block n zero k le same =
+    let place : k % 64 ≡ n % 64 + (k % 64 - n % 64) = omega arith in
+    ap (bit_at block) place ∙ sym (bit_at-shr block (n % 64) (k % 64 - n % 64))
+    ∙ ap (λ b. bit_at b (k % 64 - n % 64)) zero ∙ bit_at-zero (k % 64 - n % 64)
+
+pub block-least : (block n : ℕ) → block < 2 ^ 64 → 0 < block / 2 ^ (n % 64)
+    → IsLeastOf block n (n + trailing_zeros w64 (block / 2 ^ (n % 64)))
+block-least block n fits some =
+    let t : ℕ = trailing_zeros w64 (block / 2 ^ (n % 64)) in
+    let low = bit_at-trailing_zeros w64 (block / 2 ^ (n % 64)) some (omega (arith, shr_le block (n % 64))) in
+    let here : bit_at block (n % 64 + t) ≡ 1 = sym (bit_at-shr block (n % 64) t) ∙ low.1 in
+    let small : n % 64 + t < 64 =
+    elim (cases_lt (n % 64 + t) 64) [
+      | inl lt ↦ lt
+      | inr le ↦ absurd (omega (arith, bit_at_above block 64 (n % 64 + t) fits le))
+    ]
+    in
+    let place : (n + t) % 64 ≡ n % 64 + t = omega arith in
     record {
-      here =
-          holds-block s (64 * place + t) block (ap (block_at s) at_place ∙ sym is)
-          ∙ ap (λ i. eqb (bit_at block i) 1) at_bit ∙ eq-eqb _ 1 low.1;
-      before = λ k lt.
-          elim (cases_lt (k / 64) place) [
-            | inl lower ↦ holds-zero s k (before (k / 64) lower)
-            | inr not_lower ↦
-                let same : k / 64 ≡ place = omega arith in
-                holds-block s k block (ap (block_at s) same ∙ sym is)
-                ∙ ap (λ b. eqb b 1) (low.2 (k % 64) (omega arith))
+      from = omega arith;
+      same = omega arith;
+      here = ap (bit_at block) place ∙ here;
+      before = λ k le lt.
+          let behind : k % 64 ≡ n % 64 + (k - n) = omega arith in
+          ap (bit_at block) behind ∙ sym (bit_at-shr block (n % 64) (k - n)) ∙ low.2 (k - n) (omega arith);
+    }
+
+-- The least number of the set from n on: it is in n's block, or else in the first block behind it that isn't zero.
+pub least-within : (s : NumberSet) (n block m : ℕ) → block ≡ block_at s (n / 64)
+    → IsLeastOf block n m → IsLeastFrom s n m
+least-within s n block m is l =
+    let same = l.same in
+    record {
+      from = l.from;
+      here = holds-block s m block (ap (block_at s) same ∙ sym is) ∙ eq-eqb _ 1 l.here;
+      before = λ k le lt.
+          let there : k / 64 ≡ n / 64 = omega arith in
+          holds-block s k block (ap (block_at s) there ∙ sym is) ∙ ap (λ b. eqb b 1) (l.before k le lt);
+    }
+
+none-within : (s : NumberSet) (n block k : ℕ) → block ≡ block_at s (n / 64) → HasNoneFrom block n
+    → n ≤ k → k / 64 ≡ n / 64 → holds s k ≡ false
+none-within s n block k is none le same =
+    holds-block s k block (ap (block_at s) same ∙ sym is) ∙ ap (λ b. eqb b 1) (none k le same)
+
+pub none-from : (s : NumberSet) (n block : ℕ) → block ≡ block_at s (n / 64) → HasNoneFrom block n
+    → ((i : ℕ) → n / 64 + 1 ≤ i → block_at s i ≡ 0) → (k : ℕ) → n ≤ k → holds s k ≡ false
+none-from s n block is none zeros k le =
+    elim (cases_eq (k / 64) (n / 64)) [
+      | inl same ↦ none-within s n block k is none le same
+      | inr other ↦ holds-zero s k (zeros (k / 64) (omega arith))
+    ]
+
+pub least-behind : (s : NumberSet) (n block place found : ℕ) → block ≡ block_at s (n / 64)
+    → HasNoneFrom block n → found ≡ block_at s place → 0 < found → found < 2 ^ 64
+    → n / 64 + 1 ≤ place → ((i : ℕ) → n / 64 + 1 ≤ i → i < place → block_at s i ≡ 0)
+    → IsLeastFrom s n (64 * place + trailing_zeros w64 found)
+least-behind s n block place found is none at_place some fits behind zeros =
+    let low = bit_at-trailing_zeros w64 found some fits in
+    let small : trailing_zeros w64 found < 64 = low.0 in
+    record {
+      from = omega arith;
+      here = lowest-holds s place found at_place some fits;
+      before = λ k le lt.
+          elim (cases_eq (k / 64) (n / 64)) [
+            | inl same ↦ none-within s n block k is none le same
+            | inr other ↦
+                elim (cases_lt (k / 64) place) [
+                  | inl lower ↦ holds-zero s k (zeros (k / 64) (omega arith) lower)
+                  | inr not_lower ↦
+                      let same : k / 64 ≡ place = omega arith in
+                      holds-block s k found (ap (block_at s) same ∙ sym at_place)
+                      ∙ ap (λ b. eqb b 1) (low.2 (k % 64) (omega arith))
+                ]
           ];
     }
 
@@ -300,9 +373,10 @@ unfolding holds
 limit-puts s t n now a b p same =
     record { here = p.here; others = p.others; blocks = p.blocks; start = p.start; stop = p.stop; limit = same }
 
-pub limit-least : (s : NumberSet) (a n : ℕ) → IsLeastIn s n → IsLeastIn (record s { limit = a }) n
+pub limit-least : (s : NumberSet) (a n m : ℕ) → IsLeastFrom s n m
+    → IsLeastFrom (record s { limit = a }) n m
 unfolding holds
-limit-least s a n l = record { here = l.here; before = l.before }
+limit-least s a n m l = record { from = l.from; here = l.here; before = l.before }
 
 -- a number whose block is zero needn't be taken out
 pub zero-puts : (s : NumberSet) (n : ℕ) → block_at s (n / 64) ≡ 0 → Puts s s n false
@@ -323,11 +397,11 @@ let_go s t f g h p q stop (inr (inr some)) =
       | inl low ↦
           let first : g.first - g.first ≡ 0 = omega arith in
           let here : block_at g g.first ≡ get_or g.blocks 0 0 = block_of-high g.first g.blocks g.first (omega arith) ∙ ap (λ k. get_or g.blocks k 0) first in
-          let least = lowest-least g g.first (get_or g.blocks 0 0) (sym here) some.0 some.1 (λ k lt. block_of-low g.first g.blocks k lt) in
+          let holds_it = lowest-holds g g.first (get_or g.blocks 0 0) (sym here) some.0 some.1 in
           let bit = (bit_at-trailing_zeros w64 (get_or g.blocks 0 0) some.0 some.1).0 in
           let n : ℕ = 64 * g.first + trailing_zeros w64 (get_or g.blocks 0 0) in
           let before : n < t.first = omega arith in
           let zero : block_at s n ≡ 0 = sym (p.same n) ∙ block_of-low t.first t.blocks n before in
-          absurd (both_ways _ (holds-same f g q.same n ∙ h.places n ∙ ap not (eq-eqb (block_at s n) 0 zero)) least.here)
+          absurd (both_ways _ (holds-same f g q.same n ∙ h.places n ∙ ap not (eq-eqb (block_at s n) 0 zero)) holds_it)
       | inr high ↦ high
     ]

@@ -47,21 +47,35 @@ pub record IsSameSet (old new : NumberSet) : Type 0 where
   pub same : (i : ℕ) → block_at new i ≡ block_at old i
   pub limit : old.limit ≤ new.limit
 
--- n is in the set, and no lesser number
-pub record IsLeastIn (s : NumberSet) (n : ℕ) : Type 0 where
-  pub here : holds s n ≡ true
-  pub before : (k : ℕ) → k < n → holds s k ≡ false
+-- m is the least number in the set from n on
+pub record IsLeastFrom (s : NumberSet) (n m : ℕ) : Type 0 where
+  pub from : n ≤ m
+  pub here : holds s m ≡ true
+  pub before : (k : ℕ) → n ≤ k → k < m → holds s k ≡ false
 
--- the first of the blocks that isn't zero
-pub record IsFirstFilled (blocks : List ℕ) (i : ℕ) : Type 0 where
+-- no number from n on has its bit in n's block, which is this one
+abbrev pub HasNoneFrom : ℕ → ℕ → Type 0
+HasNoneFrom block n = (k : ℕ) → n ≤ k → k / 64 ≡ n / 64 → bit_at block (k % 64) ≡ 0
+
+-- m is the least number from n on that has its bit in n's block, which is this one
+pub record IsLeastOf (block n m : ℕ) : Type 0 where
+  pub from : n ≤ m
+  pub same : m / 64 ≡ n / 64
+  pub here : bit_at block (m % 64) ≡ 1
+  pub before : (k : ℕ) → n ≤ k → k < m → bit_at block (k % 64) ≡ 0
+
+-- the first of the blocks from this place on that isn't zero
+pub record IsFirstFilled (blocks : List ℕ) (from i : ℕ) : Type 0 where
+  pub from_on : from ≤ i
   pub within : i < length blocks
   pub filled : slice_index_or blocks i 0 ≢ 0
-  pub before : (k : ℕ) → k < i → slice_index_or blocks k 0 ≡ 0
+  pub before : (k : ℕ) → from ≤ k → k < i → slice_index_or blocks k 0 ≡ 0
 
--- the first place of a set's blocks at which there isn't zero
-pub record IsFirstBlock (s : NumberSet) (i : ℕ) : Type 0 where
+-- the first place from this one on at which a set's block isn't zero
+pub record IsFirstBlock (s : NumberSet) (from i : ℕ) : Type 0 where
+  pub from_on : from ≤ i
   pub filled : block_at s i ≢ 0
-  pub before : (k : ℕ) → k < i → block_at s k ≡ 0
+  pub before : (k : ℕ) → from ≤ k → k < i → block_at s k ≡ 0
   pub fits : i < s.first + length s.blocks
 
 -- What is so of a set and the set of its filled blocks, whatever happened: the places of those that aren't zero are in it, and it covers all places. It keeps no more than that takes: it covers the rest of 64 places at most after the last, and what it had for places before the first has been let go.

@@ -3,7 +3,7 @@
 ghost use Rattle.std.specs.Prelude.{◌≡◌, ℕ, ◌+◌, ◌*◌, ◌/◌, ◌^◌, ◌<◌, ◌≤◌, length, true, false, OnOk, IsOk, MatchOption, slice_index_or, slice_set};
 ghost use Rattle.std.specs.VecDeque.{deque_len, deque_capacity};
 ghost use Rattle.std.specs.Int.{trailing_zeros, w64};
-ghost use Rattle.uring_number_set.specs.NumberSet.{block_of, block_at, holds, start_of, stop_of, Covers, Puts, HasLetGo, IsSameSet, IsLeastIn, IsFirstFilled, IsFirstBlock};
+ghost use Rattle.uring_number_set.specs.NumberSet.{block_of, block_at, holds, start_of, stop_of, Covers, Puts, HasLetGo, IsSameSet, IsLeastFrom, IsLeastOf, HasNoneFrom, IsFirstFilled, IsFirstBlock};
 
 use std::alloc::{AllocError, Global};
 use std::collections::VecDeque;
@@ -116,19 +116,24 @@ impl Blocks {
         write(&mut self.blocks, (n / 64 - self.first) as usize, block);
     }
 
-    /// The least number in the set.
-    pub(crate) fn least(&self) -> Option<u64>
-        ensures { MatchOption result ((n : ℕ) → holds self.now n ≡ false) (IsLeastIn self.now) }
+    /// The least number in the set from `n` on.
+    pub(crate) fn least_from(&self, n: u64) -> Option<u64>
+        ensures { MatchOption result ((k : ℕ) → n ≤ k → holds self.now k ≡ false)
+            (IsLeastFrom self.now n) }
     {
-        let place = self.first_filled()?;
+        if let Some(m) = least_of(self.block(n / 64), n) {
+            return Some(m);
+        }
+        let place = self.first_filled(n / 64 + 1)?;
         Some(lowest(place, self.block(place)))
     }
 
-    /// The place of the first block that isn't zero.
-    fn first_filled(&self) -> Option<u64>
-        ensures { MatchOption result ((i : ℕ) → block_at self.now i ≡ 0) (IsFirstBlock self.now) }
+    /// The place of the first block from this one on that isn't zero.
+    fn first_filled(&self, from: u64) -> Option<u64>
+        ensures { MatchOption result ((i : ℕ) → from ≤ i → block_at self.now i ≡ 0)
+            (IsFirstBlock self.now from) }
     {
-        match first_filled(&self.blocks) {
+        match first_filled(&self.blocks, from.saturating_sub(self.first) as usize) {
             Some(place) => Some(self.first + place as u64),
             None => None,
         }
@@ -155,6 +160,17 @@ pub(crate) fn lowest(place: u64, block: u64) -> u64
     64 * place + block.trailing_zeros() as u64
 }
 
+/// The least number from `n` on that has its bit in the block of `n`.
+pub(crate) fn least_of(block: u64, n: u64) -> Option<u64>
+    ensures { MatchOption result (HasNoneFrom block n) (IsLeastOf block n) }
+{
+    let rest = block >> (n % 64);
+    if rest == 0 {
+        return None;
+    }
+    Some(n + rest.trailing_zeros() as u64)
+}
+
 /// The block at this place, or zero.
 fn block_of(first: u64, blocks: &VecDeque<u64>, place: u64) -> u64
     ensures { result ≡ block_of first blocks.now.items place }
@@ -178,12 +194,12 @@ fn write(blocks: &mut VecDeque<u64>, place: usize, block: u64)
     blocks[place] = block;
 }
 
-/// The place of the first block that isn't zero.
-fn first_filled(blocks: &VecDeque<u64>) -> Option<usize>
-    ensures { MatchOption result ((k : ℕ) → slice_index_or blocks.now.items k 0 ≡ 0)
-        (IsFirstFilled blocks.now.items) }
+/// The place of the first block from this one on that isn't zero.
+fn first_filled(blocks: &VecDeque<u64>, from: usize) -> Option<usize>
+    ensures { MatchOption result ((k : ℕ) → from ≤ k → slice_index_or blocks.now.items k 0 ≡ 0)
+        (IsFirstFilled blocks.now.items from) }
 {
-    for place in 0..blocks.len() {
+    for place in from..blocks.len() {
         if blocks[place] != 0 {
             return Some(place);
         }

@@ -1,9 +1,10 @@
 //! A set of numbers that gives its least one at once.
 
-ghost use Rattle.std.specs.Prelude.{◌≡◌, ℕ, ◌+◌, ◌/◌, ◌^◌, ◌<◌, ◌≤◌, true, false, OnOk, IsOk, MatchOption};
-ghost use Rattle.uring_number_set.specs.NumberSet.{holds, start_of, stop_of, Covers, Puts, IsLeastIn, HasSame, HasGrown, HasMoved};
+ghost use Rattle.std.specs.Prelude.{◌≡◌, ℕ, ◌+◌, ◌*◌, ◌/◌, ◌^◌, ◌<◌, ◌≤◌, ◌==◌, true, false, OnOk, IsOk, MatchOption};
+ghost use Rattle.std.specs.Int.{bit_at};
+ghost use Rattle.uring_number_set.specs.NumberSet.{holds, start_of, stop_of, Covers, Puts, IsLeastFrom, HasSame, HasGrown, HasMoved};
 
-use crate::blocks::{Blocks, lowest};
+use crate::blocks::{Blocks, least_of, lowest};
 use std::alloc::{AllocError, Global};
 use std::marker::Model;
 use uring_memory::Memory;
@@ -114,12 +115,23 @@ impl NumberSet {
         }
     }
 
-    /// The least number in the set: `None` exactly if none is in it. It looks once at each 4,096 numbers that are covered, up to the least.
-    pub fn least(&self) -> Option<u64>
-        ensures { MatchOption result ((n : ℕ) → holds self.now n ≡ false) (IsLeastIn self.now) }
+    /// The least number in the set from `n` on, any number: `None` exactly if there is none. It looks once at the 64 numbers round `n`, and from there on once at each 4,096 numbers that are covered, up to the least.
+    pub fn least_from(&self, n: u64) -> Option<u64>
+        ensures { MatchOption result ((k : ℕ) → n ≤ k → holds self.now k ≡ false)
+            (IsLeastFrom self.now n) }
     {
-        let place = self.filled.least()?;
+        if let Some(m) = least_of(self.numbers.block(n / 64), n) {
+            return Some(m);
+        }
+        let place = self.filled.least_from(n / 64 + 1)?;
         Some(lowest(place, self.numbers.block(place)))
+    }
+
+    /// Which of the 64 numbers from 64 times this place on are in the set: a bit for each, that of the least number the lowest.
+    pub fn block(&self, place: u64) -> u64
+        ensures { (i : ℕ) → i < 64 → holds self.now (64 * place + i) ≡ (bit_at result i == 1) }
+    {
+        self.numbers.block(place)
     }
 
     /// Lets go what is kept for numbers before `n`, any number, 64 at a time, as far as none of them is in the set. No number leaves the set, and those from `n` on that are covered stay so.

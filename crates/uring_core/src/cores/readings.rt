@@ -7,6 +7,7 @@ ghost use Rattle.uring_entry.specs.Completions.{unreaped};
 ghost use Rattle.uring_entry.specs.Requests.{least_of, operation_running, next_of};
 ghost use Rattle.uring_entry.specs.Why.{why_of};
 ghost use Rattle.uring_dispatch.specs.Cancels.{found_by};
+ghost use Rattle.uring_dispatch.specs.Issuable.{issuables_of, issuable_from};
 ghost use Rattle.uring_files.specs.Operations.{IsForFiles};
 ghost use Rattle.uring_core.specs.Core.{FitsApart, IsCounts};
 ghost use Rattle.uring_core.specs.Histories.{History, world};
@@ -51,6 +52,30 @@ impl Core {
             → result ≡ next_of (world self.now.setup h).requests }
     {
         self.dispatch.next()
+    }
+
+    /// The least request from this number on, any number, that can be issued: so all of them, in order, from 0 on, each time from the number behind the last. It is no step, and so not part of a history.
+    pub fn next_issuable(&self, number: u64) -> Option<u64>
+        ensures { (h : History) → FitsApart self.now h
+            → result ≡ issuable_from (world self.now.setup h).requests number }
+    {
+        self.dispatch.next_issuable(number)
+    }
+
+    /// How many requests can be issued. It looks once at each 64 numbers from the least outstanding one on. It is no step, and so not part of a history.
+    pub fn issuable(&self) -> u64
+        ensures { (h : History) → FitsApart self.now h
+            → result ≡ length (issuables_of (world self.now.setup h).requests) }
+    {
+        self.dispatch.issuable()
+    }
+
+    /// The request at this place, from 0, among those that can be issued, in the order of their numbers: `Some` exactly if the place is below their count. It looks once at each 64 numbers from the least outstanding one on. It is no step, and so not part of a history.
+    pub fn nth_issuable(&self, place: u64) -> Option<u64>
+        ensures { (h : History) → FitsApart self.now h
+            → result ≡ slice_get (issuables_of (world self.now.setup h).requests) place }
+    {
+        self.dispatch.nth_issuable(place)
     }
 
     /// The least outstanding request.

@@ -1,5 +1,0 @@
-use Rattle.uring_dispatch.proofs.Views.{held-from}
-use Rattle.uring_dispatch.proofs.dispatch.Dispatch.next.Goals as goal
-
-pub returns : goal.returns
-returns c = λ r s. c.next.ensures r (held-from _ _ c.self.inside.groups _ _ r c.self.view_is s)

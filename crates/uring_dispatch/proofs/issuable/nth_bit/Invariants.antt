@@ -1,0 +1,7 @@
+use Rattle.std.proofs.Common.{◌≡◌, ◌+◌, ◌==◌}
+use Rattle.std.specs.Int.{bit_at}
+use Rattle.uring_entry.specs.Below.{count_below}
+use Rattle.uring_dispatch.proofs.issuable.nth_bit.Given as goal
+
+abbrev pub invariant-loop-i : goal.invariant-loop-i
+invariant-loop-i l = l.left + count_below (λ i. bit_at l.block i == 1) l.i ≡ l.k
