@@ -21,9 +21,11 @@
  *   - No call from a signal handler, nor in the forked child of a process with threads.
  *   - malloc, realloc and free are one allocator, and align a block as C demands.
  *
- * Results. Each function returns 0, or the negative of an error number; if it isn't 0, nothing has changed:
- *   -9  (EBADF)   the place is empty. Returned by every function but `new`, and only then.
- *   -22 (EINVAL)  from `step`: the words give no step. From `new`: a number of the set-up is out of its range.
+ * Results. Each function but wulgach_setup_fault returns 0, or the negative of an error number; if it isn't 0, nothing
+ * has changed:
+ *   -9  (EBADF)   the place is empty. Returned by every function of a place but `new`, and only then.
+ *   -22 (EINVAL)  from `step`: the words give no step. From `new`: a number of the set-up is out of its range, and
+ *                 wulgach_setup_fault says which.
  *   -12 (ENOMEM)  from `new`: memory was refused.
  *   -2  (ENOENT)  from a function that reads: there is no such completion, request, file or byte.
  */
@@ -52,10 +54,17 @@ struct wulgach_machine {
 struct wulgach_setup {
     uint32_t sq;    /* entries of the submission ring: 1 to 4,096, rounded up to a power of two */
     uint32_t cq;    /* entries of the completion ring, if has_cq: 1 to 8,192, rounded up, not below the other ring's */
-    uint32_t files; /* files: 1 to 64 */
+    uint32_t files; /* files of a machine: 1 to 64. A core has none, and its set-up may hold any number here */
     uint32_t start; /* the index word at which both rings begin: any 32 bits */
     bool has_cq;    /* whether cq is asked for; else the completion ring is twice the submission ring */
     bool stops;     /* whether a submission call ends behind an entry with a fault, also one with a link flag, and leaves the rest to later calls; else it goes on */
+};
+
+/* The fields of a set-up that can be out of their ranges. */
+enum wulgach_setup_field {
+    WULGACH_SETUP_SQ = 1,
+    WULGACH_SETUP_CQ = 2,   /* too few or too many, or fewer after rounding than entries of the submission ring */
+    WULGACH_SETUP_FILES = 3 /* of a machine alone */
 };
 
 /* The kinds of steps, and which fields of struct wulgach_step each uses. */
@@ -238,8 +247,12 @@ enum wulgach_flag {
     WULGACH_CQE_SKIP_SUCCESS = 64
 };
 
-/* Puts a new core into a place, empty or not: a core that was there is freed. -22 exactly if a number of the
- * set-up is out of its range, -12 if memory was refused; the place then keeps what it had. */
+/* Returns the first field of a machine's set-up that is out of its range, an enum wulgach_setup_field, or 0 if none is. Of a
+ * core's set-up: 0 and FILES say that it is taken, as a core has no files. */
+int32_t wulgach_setup_fault(const struct wulgach_setup *setup);
+
+/* Puts a new core into a place, empty or not: a core that was there is freed. -22 exactly if a size of a
+ * ring is out of its range, -12 if memory was refused; the place then keeps what it had. */
 int32_t wulgach_core_new(struct wulgach_core *core, const struct wulgach_setup *setup);
 
 /* Makes one step, and writes its answer. -22 exactly if kind is 8 (FINISH) or above 14. */
@@ -262,19 +275,36 @@ int32_t wulgach_core_running_op(struct wulgach_core *core, uint64_t number, stru
 /* Writes the least outstanding request, which is the next to go on if nothing else can. -2 if nothing is outstanding. */
 int32_t wulgach_core_least(struct wulgach_core *core, uint64_t *number);
 
+/* The requests that can be issued: those that an ISSUE starts or ends, and no others. wulgach_core_why says of each that it is
+ * doomed or may start. Writes the least of them from number from on, any number; -2 exactly if there is none. So all of them come
+ * in order, from 0 on, each time from the number behind the last. It looks once at each 4,096 numbers that it passes: some
+ * 20 ns a call. */
+int32_t wulgach_core_next_issuable(struct wulgach_core *core, uint64_t from, uint64_t *number);
+
+/* Writes how many requests can be issued. It looks once at each 64 numbers from the least outstanding one on. */
+int32_t wulgach_core_issuable(struct wulgach_core *core, uint64_t *count);
+
+/* Writes request index, from 0, of those that can be issued, in the order of their numbers: with an index below their count, one
+ * of them chosen at random isn't refused. -2 exactly past the last. It looks once at each 64 numbers from the least outstanding
+ * one on, up to the one it finds. */
+int32_t wulgach_core_nth_issuable(struct wulgach_core *core, uint64_t index, uint64_t *number);
+
 /* Writes why request number, any number, stands as it does. Whoever asks why of the request that another waits for, and again of the one that this one waits for, is told of one that runs or can be issued. */
 int32_t wulgach_core_why(struct wulgach_core *core, uint64_t number, struct wulgach_why *why);
 
 /* Frees the core, and leaves the place empty. */
 int32_t wulgach_core_free(struct wulgach_core *core);
 
-/* The same of a machine. -22 of `step` exactly if kind is above 14. */
+/* The same of a machine. -22 of `new` exactly if wulgach_setup_fault isn't 0, of `step` exactly if kind is above 14. */
 int32_t wulgach_machine_new(struct wulgach_machine *machine, const struct wulgach_setup *setup);
 int32_t wulgach_machine_step(struct wulgach_machine *machine, const struct wulgach_step *step, struct wulgach_answer *answer);
 int32_t wulgach_machine_counts(struct wulgach_machine *machine, struct wulgach_counts *counts);
 int32_t wulgach_machine_rest(struct wulgach_machine *machine, uint64_t index, struct wulgach_completion *completion);
 int32_t wulgach_machine_running_op(struct wulgach_machine *machine, uint64_t number, struct wulgach_operation *operation);
 int32_t wulgach_machine_least(struct wulgach_machine *machine, uint64_t *number);
+int32_t wulgach_machine_next_issuable(struct wulgach_machine *machine, uint64_t from, uint64_t *number);
+int32_t wulgach_machine_issuable(struct wulgach_machine *machine, uint64_t *count);
+int32_t wulgach_machine_nth_issuable(struct wulgach_machine *machine, uint64_t index, uint64_t *number);
 int32_t wulgach_machine_why(struct wulgach_machine *machine, uint64_t number, struct wulgach_why *why);
 int32_t wulgach_machine_free(struct wulgach_machine *machine);
 

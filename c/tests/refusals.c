@@ -59,6 +59,9 @@ static void empty_places(void)
     check(wulgach_core_running_op(&core, 0, &operation) == -9, "running operation of an empty place");
     uint64_t number = 99;
     check(wulgach_core_least(&core, &number) == -9 && number == 99, "least of an empty place");
+    check(wulgach_core_next_issuable(&core, 0, &number) == -9 && number == 99, "next request of an empty place");
+    check(wulgach_core_issuable(&core, &number) == -9 && number == 99, "count of an empty place");
+    check(wulgach_core_nth_issuable(&core, 0, &number) == -9 && number == 99, "request at a place of an empty place");
     struct wulgach_why why = {.number = 99};
     check(wulgach_core_why(&core, 0, &why) == -9 && why.number == 99, "why of an empty place");
     check(wulgach_core_free(&core) == -9, "free of an empty place");
@@ -67,6 +70,9 @@ static void empty_places(void)
     check(wulgach_machine_rest(&machine, 0, &completion) == -9, "rest of an empty machine");
     check(wulgach_machine_running_op(&machine, 0, &operation) == -9, "running operation of an empty machine");
     check(wulgach_machine_least(&machine, &number) == -9 && number == 99, "least of an empty machine");
+    check(wulgach_machine_next_issuable(&machine, 0, &number) == -9 && number == 99, "next request of an empty machine");
+    check(wulgach_machine_issuable(&machine, &number) == -9 && number == 99, "count of an empty machine");
+    check(wulgach_machine_nth_issuable(&machine, 0, &number) == -9 && number == 99, "request at a place of an empty machine");
     check(wulgach_machine_why(&machine, 0, &why) == -9 && why.number == 99, "why of an empty machine");
     check(wulgach_machine_state(&machine, 0, &file) == -9, "state of an empty machine");
     check(wulgach_machine_byte(&machine, 0, 0, &byte) == -9, "byte of an empty machine");
@@ -96,12 +102,12 @@ static void no_steps(void)
     wulgach_machine_free(&machine);
 }
 
-/* Numbers of set-ups at and past their limits. */
+/* Numbers of set-ups at and past their limits, and which is told to be out of its range. A core has no files. */
 static void set_ups(void)
 {
     static const struct {
         struct wulgach_setup setup;
-        int32_t result;
+        int32_t fault;
     } cases[] = {
         {{.sq = 1, .files = 1}, 0},
         {{.sq = 4096, .files = 64, .start = UINT32_MAX}, 0},
@@ -109,22 +115,29 @@ static void set_ups(void)
         {{.sq = 5, .cq = 7, .has_cq = true, .files = 1}, 0},
         {{.sq = 1, .cq = UINT32_MAX, .files = 1}, 0},
         {{.sq = 4, .files = 2, .stops = true}, 0},
-        {{.sq = 0, .files = 1}, -22},
-        {{.sq = 0, .files = 1, .stops = true}, -22},
-        {{.sq = 4097, .files = 1}, -22},
-        {{.sq = 4, .cq = 0, .has_cq = true, .files = 1}, -22},
-        {{.sq = 4, .cq = 2, .has_cq = true, .files = 1}, -22},
-        {{.sq = 4, .cq = 8193, .has_cq = true, .files = 1}, -22},
-        {{.sq = 4, .files = 0}, -22},
-        {{.sq = 4, .files = 65}, -22},
+        {{.sq = 0, .files = 1}, WULGACH_SETUP_SQ},
+        {{.sq = 0, .files = 1, .stops = true}, WULGACH_SETUP_SQ},
+        {{.sq = 4097, .files = 1}, WULGACH_SETUP_SQ},
+        {{.sq = 4097, .cq = 0, .has_cq = true, .files = 0}, WULGACH_SETUP_SQ},
+        {{.sq = 4, .cq = 0, .has_cq = true, .files = 1}, WULGACH_SETUP_CQ},
+        {{.sq = 4, .cq = 2, .has_cq = true, .files = 1}, WULGACH_SETUP_CQ},
+        {{.sq = 4, .cq = 8193, .has_cq = true, .files = 1}, WULGACH_SETUP_CQ},
+        {{.sq = 4, .cq = 2, .has_cq = true, .files = 0}, WULGACH_SETUP_CQ},
+        {{.sq = 4, .files = 0}, WULGACH_SETUP_FILES},
+        {{.sq = 4, .files = 65}, WULGACH_SETUP_FILES},
+        {{.sq = 4, .files = UINT32_MAX}, WULGACH_SETUP_FILES},
     };
     for (size_t i = 0; i < sizeof cases / sizeof *cases; i++) {
+        int32_t fault = cases[i].fault;
+        int32_t of_core = fault == 0 || fault == WULGACH_SETUP_FILES ? 0 : -22;
+        int32_t of_machine = fault == 0 ? 0 : -22;
         struct wulgach_core core = {0};
         struct wulgach_machine machine = {0};
-        check(wulgach_core_new(&core, &cases[i].setup) == cases[i].result, "the set-up of a core");
-        check(wulgach_machine_new(&machine, &cases[i].setup) == cases[i].result, "the set-up of a machine");
-        int32_t freed = cases[i].result == 0 ? 0 : -9;
-        check(wulgach_core_free(&core) == freed && wulgach_machine_free(&machine) == freed, "a place after a set-up");
+        check(wulgach_setup_fault(&cases[i].setup) == fault, "what is wrong with a set-up");
+        check(wulgach_core_new(&core, &cases[i].setup) == of_core, "the set-up of a core");
+        check(wulgach_machine_new(&machine, &cases[i].setup) == of_machine, "the set-up of a machine");
+        check(wulgach_core_free(&core) == (of_core == 0 ? 0 : -9), "a core's place after a set-up");
+        check(wulgach_machine_free(&machine) == (of_machine == 0 ? 0 : -9), "a machine's place after a set-up");
     }
 }
 

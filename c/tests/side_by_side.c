@@ -509,6 +509,43 @@ static void check_why(const struct model *m, uint64_t number, int32_t result, co
     }
 }
 
+/* The requests that can be issued are those of which why says so: all of them, in order, from any number on and at each place. */
+static void check_issuable(struct wulgach_machine *machine, struct wulgach_core *core, const struct model *m)
+{
+    uint64_t count = 0;
+    uint64_t next = 0;
+    for (uint64_t n = 0; n < m->accepted; n++) {
+        struct wulgach_why why = {0};
+        check(wulgach_core_why(core, n, &why) == 0, "why");
+        if (why.kind != WULGACH_DOOMED && why.kind != WULGACH_MAY_START)
+            continue;
+        for (; next <= n; next++) {
+            uint64_t by_core = UINT64_MAX, by_machine = UINT64_MAX;
+            check(wulgach_core_next_issuable(core, next, &by_core) == 0 && by_core == n, "the next that a core can issue");
+            check(wulgach_machine_next_issuable(machine, next, &by_machine) == 0 && by_machine == n, "the next that a machine can issue");
+        }
+        uint64_t by_core = UINT64_MAX, by_machine = UINT64_MAX;
+        check(wulgach_core_nth_issuable(core, count, &by_core) == 0 && by_core == n, "the one at a place that a core can issue");
+        check(wulgach_machine_nth_issuable(machine, count, &by_machine) == 0 && by_machine == n, "the one at a place that a machine can issue");
+        count++;
+    }
+    uint64_t told = UINT64_MAX;
+    check(wulgach_core_issuable(core, &told) == 0 && told == count, "how many a core can issue");
+    check(wulgach_machine_issuable(machine, &told) == 0 && told == count, "how many a machine can issue");
+    const uint64_t past[] = {next, m->accepted, UINT64_MAX};
+    for (int i = 0; i < 3; i++) {
+        uint64_t number = 99;
+        check(wulgach_core_next_issuable(core, past[i], &number) == -2 && number == 99, "none behind the last of a core");
+        check(wulgach_machine_next_issuable(machine, past[i], &number) == -2 && number == 99, "none behind the last of a machine");
+    }
+    const uint64_t places[] = {count, count + 1, UINT64_MAX};
+    for (int i = 0; i < 3; i++) {
+        uint64_t number = 99;
+        check(wulgach_core_nth_issuable(core, places[i], &number) == -2 && number == 99, "none at a place past the last of a core");
+        check(wulgach_machine_nth_issuable(machine, places[i], &number) == -2 && number == 99, "none at a place past the last of a machine");
+    }
+}
+
 static void check_readers(struct wulgach_machine *machine, struct wulgach_core *core, const struct model *m, const struct wulgach_setup *setup)
 {
     struct wulgach_counts counts = {9, 9, 9, 9, 9};
@@ -529,6 +566,7 @@ static void check_readers(struct wulgach_machine *machine, struct wulgach_core *
     check_why(m, number, wulgach_core_why(core, number, &why), &why);
     check_least(m, wulgach_machine_least(machine, &number), &number);
     check_least(m, wulgach_core_least(core, &number), &number);
+    check_issuable(machine, core, m);
     check_file(machine, m, setup);
 }
 

@@ -1,6 +1,7 @@
 -- The set-up that words ask for.
 use Rattle.std.specs.Prelude.{◌≡◌, ℕ, false, Option, Some, None, if◌then◌else◌}
-use Rattle.uring_entry.specs.Setup.{Setup, IsSetupFor}
+use Rattle.std.specs.Int.{IsNextPowerOfTwo}
+use Rattle.uring_entry.specs.Setup.{Setup, IsSetupFor, IsBadSq, IsBadCq, IsBadFiles}
 use Rattle.uring_c.specs.declared.set_up_words.SetupWords.{SetupWords}
 
 -- the entries of the completion ring, if they are asked for
@@ -15,3 +16,22 @@ IsAskedFor w s =
 -- the words ask for no set-up: a number is out of its range
 abbrev pub IsRefused : SetupWords → Type 0
 IsRefused w = (s : Setup) → IsAskedFor w s → ⊥
+
+-- the words of a core, which has no files: how many are asked for doesn't count
+abbrev pub without_files : SetupWords → SetupWords
+without_files w = record w { files = 1 }
+
+-- What is wrong with the words of a machine: the first of these three that is. Our own rule.
+
+-- the submission ring is out of its limits
+abbrev pub HasBadSq : SetupWords → Type 0
+HasBadSq w = IsBadSq w.sq
+
+-- the completion ring is, beside a submission ring that isn't
+abbrev pub HasBadCq : SetupWords → Type 0
+HasBadCq w = (HasBadSq w → ⊥) × ((p : ℕ) → IsNextPowerOfTwo w.sq p → IsBadCq p (asked_cq w))
+
+-- the number of files is, and neither ring
+abbrev pub HasBadFiles : SetupWords → Type 0
+HasBadFiles w =
+    (HasBadSq w → ⊥) × ((p : ℕ) → IsNextPowerOfTwo w.sq p → IsBadCq p (asked_cq w) → ⊥) × IsBadFiles w.files

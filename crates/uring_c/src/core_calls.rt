@@ -1,8 +1,9 @@
 //! The calls of a core, made on the core in a place. Each takes the core out, and puts it back; its box doesn't move.
-ghost use Rattle.std.specs.Prelude.{◌≡◌, [], IsSome, IfOk, IsSomeAnd, slice_get};
+ghost use Rattle.std.specs.Prelude.{◌≡◌, [], IsSome, IfOk, IsSomeAnd, slice_get, length};
 ghost use Rattle.uring_entry.specs.Completions.{unreaped};
 ghost use Rattle.uring_entry.specs.Requests.{least_of, operation_running};
 ghost use Rattle.uring_entry.specs.Why.{why_of};
+ghost use Rattle.uring_dispatch.specs.Issuable.{issuables_of, issuable_from};
 ghost use Rattle.uring_core.specs.Core.{FitsApart, IsCounts, IsNoFinish};
 ghost use Rattle.uring_core.specs.Histories.{History, world};
 ghost use Rattle.uring_c.specs.Places.{core_in};
@@ -110,6 +111,54 @@ impl CorePlace {
         let op = core.running_op(number);
         self.put(core);
         op
+    }
+
+    /// The least request from this number on that can be issued.
+    pub(crate) fn next_issuable(&mut self, alloc: Global, number: u64) -> Option<u64>
+        requires { IsSome (core_in self.old) }
+        ensures kept { core_in self.new ≡ core_in self.old }
+        ensures next { IsSomeAnd (core_in self.old)
+            (λ core. (h : History) → FitsApart core h
+            → result ≡ issuable_from (world core.setup h).requests number) }
+    {
+        let Some(core) = self.take(alloc) else {
+            unreachable!()
+        };
+        let next = core.next_issuable(number);
+        self.put(core);
+        next
+    }
+
+    /// How many requests can be issued.
+    pub(crate) fn issuable(&mut self, alloc: Global) -> u64
+        requires { IsSome (core_in self.old) }
+        ensures kept { core_in self.new ≡ core_in self.old }
+        ensures count { IsSomeAnd (core_in self.old)
+            (λ core. (h : History) → FitsApart core h
+            → result ≡ length (issuables_of (world core.setup h).requests)) }
+    {
+        let Some(core) = self.take(alloc) else {
+            unreachable!()
+        };
+        let count = core.issuable();
+        self.put(core);
+        count
+    }
+
+    /// The request at this place among those that can be issued.
+    pub(crate) fn nth_issuable(&mut self, alloc: Global, place: u64) -> Option<u64>
+        requires { IsSome (core_in self.old) }
+        ensures kept { core_in self.new ≡ core_in self.old }
+        ensures nth { IsSomeAnd (core_in self.old)
+            (λ core. (h : History) → FitsApart core h
+            → result ≡ slice_get (issuables_of (world core.setup h).requests) place) }
+    {
+        let Some(core) = self.take(alloc) else {
+            unreachable!()
+        };
+        let found = core.nth_issuable(place);
+        self.put(core);
+        found
     }
 
     /// Why a request stands as it does.

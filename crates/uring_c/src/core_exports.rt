@@ -1,17 +1,18 @@
 //! The calls of a core that C makes: `wulgach_core_..` of the header.
 //!
 //! Each returns 0, or the negative of an error number: -9 (EBADF) exactly at an empty place.
-ghost use Rattle.std.specs.Prelude.{◌≡◌, ◌↔◌, [], pos, neg_ℤ, None, IsSome, IfSome, IsSomeAnd, MatchOption, slice_get};
+ghost use Rattle.std.specs.Prelude.{◌≡◌, ◌↔◌, [], pos, neg_ℤ, None, IsSome, IfSome, IsSomeAnd, MatchOption, slice_get, length};
 ghost use Rattle.uring_entry.specs.Completions.{unreaped};
 ghost use Rattle.uring_entry.specs.Requests.{least_of, operation_running};
 ghost use Rattle.uring_entry.specs.Why.{why_of};
 ghost use Rattle.uring_entry.specs.declared.errno.TheConstants.{EBADF, EINVAL, ENOENT, ENOMEM};
+ghost use Rattle.uring_dispatch.specs.Issuable.{issuables_of, issuable_from};
 ghost use Rattle.uring_core.specs.Core.{FitsApart, IsCounts};
 ghost use Rattle.uring_core.specs.Histories.{History, world};
 ghost use Rattle.uring_c.specs.OperationForm.{words_of_operation};
 ghost use Rattle.uring_c.specs.Places.{core_in};
 ghost use Rattle.uring_c.specs.ReadingForms.{words_of_completion, counts_told};
-ghost use Rattle.uring_c.specs.SetUps.{IsAskedFor, IsRefused};
+ghost use Rattle.uring_c.specs.SetUps.{IsAskedFor, IsRefused, without_files};
 ghost use Rattle.uring_c.specs.StepForm.{core_step_of};
 ghost use Rattle.uring_c.specs.WhyForm.{words_of_why};
 ghost use Rattle.uring_c.specs.Stepping.{TellsStepApart, TellsFinish};
@@ -29,17 +30,17 @@ use std::alloc::Global;
 use uring_entry::errno;
 use uring_machine::Outcome;
 
-/// Puts a new core into a place; what was there is freed. -22 (EINVAL) exactly if the set-up is refused; -12 (ENOMEM) if memory is. Then the place keeps what it had.
+/// Puts a new core into a place; what was there is freed. How many files the set-up asks for doesn't count. -22 (EINVAL) exactly if the rest of it is refused; -12 (ENOMEM) if memory is. Then the place keeps what it had.
 #[unsafe(no_mangle)]
 pub extern "C" fn wulgach_core_new(alloc: Global, place: &mut CorePlace, setup: &SetupWords) -> i32
-    ensures refused { (result ≡ neg_ℤ EINVAL) ↔ IsRefused setup.now }
+    ensures refused { (result ≡ neg_ℤ EINVAL) ↔ IsRefused (without_files setup.now) }
     ensures results { (result ≡ pos 0 → ⊥) → (result ≡ neg_ℤ EINVAL → ⊥) → result ≡ neg_ℤ ENOMEM }
     ensures kept { (result ≡ pos 0 → ⊥) → core_in place.new ≡ core_in place.old }
     ensures made { result ≡ pos 0
         → IsSomeAnd (core_in place.new)
-        (λ core. IsAskedFor setup.now core.setup × FitsApart core []) }
+        (λ core. IsAskedFor (without_files setup.now) core.setup × FitsApart core []) }
 {
-    let Some(setup) = setup.set_up() else {
+    let Some(setup) = setup.without_files().set_up() else {
         return -errno::EINVAL;
     };
     let Ok(core) = new_core(alloc, &setup) else {
@@ -194,6 +195,77 @@ pub extern "C" fn wulgach_core_running_op(
         return -errno::ENOENT;
     };
     *operation = operation_words(&found);
+    0
+}
+
+/// Writes the least request from this number on, any number, that can be issued. -2 (ENOENT) if there is none.
+#[unsafe(no_mangle)]
+pub extern "C" fn wulgach_core_next_issuable(
+    alloc: Global,
+    place: &mut CorePlace,
+    from: u64,
+    number: &mut u64,
+) -> i32
+    ensures empty { (result ≡ neg_ℤ EBADF) ↔ (core_in place.old ≡ None) }
+    ensures kept { core_in place.new ≡ core_in place.old }
+    ensures refused { core_in place.old ≡ None → number.new ≡ number.old }
+    ensures next { IfSome (core_in place.old)
+        (λ core. (h : History) → FitsApart core h
+        → MatchOption (issuable_from (world core.setup h).requests from) ((result ≡ neg_ℤ ENOENT) × (number.new ≡ number.old)) (λ next. (result ≡ pos 0) × (number.new ≡ next))) }
+{
+    if !place.is_full {
+        return -errno::EBADF;
+    }
+    let Some(found) = place.next_issuable(alloc, from) else {
+        return -errno::ENOENT;
+    };
+    *number = found;
+    0
+}
+
+/// Writes how many requests can be issued.
+#[unsafe(no_mangle)]
+pub extern "C" fn wulgach_core_issuable(
+    alloc: Global,
+    place: &mut CorePlace,
+    count: &mut u64,
+) -> i32
+    ensures empty { (result ≡ neg_ℤ EBADF) ↔ (core_in place.old ≡ None) }
+    ensures kept { core_in place.new ≡ core_in place.old }
+    ensures refused { core_in place.old ≡ None → count.new ≡ count.old }
+    ensures count { IfSome (core_in place.old)
+        (λ core. (result ≡ pos 0)
+        × ((h : History) → FitsApart core h → count.new ≡ length (issuables_of (world core.setup h).requests))) }
+{
+    if !place.is_full {
+        return -errno::EBADF;
+    }
+    *count = place.issuable(alloc);
+    0
+}
+
+/// Writes the request at this place, from 0, among those that can be issued, in the order of their numbers. -2 (ENOENT) past the last.
+#[unsafe(no_mangle)]
+pub extern "C" fn wulgach_core_nth_issuable(
+    alloc: Global,
+    place: &mut CorePlace,
+    index: u64,
+    number: &mut u64,
+) -> i32
+    ensures empty { (result ≡ neg_ℤ EBADF) ↔ (core_in place.old ≡ None) }
+    ensures kept { core_in place.new ≡ core_in place.old }
+    ensures refused { core_in place.old ≡ None → number.new ≡ number.old }
+    ensures nth { IfSome (core_in place.old)
+        (λ core. (h : History) → FitsApart core h
+        → MatchOption (slice_get (issuables_of (world core.setup h).requests) index) ((result ≡ neg_ℤ ENOENT) × (number.new ≡ number.old)) (λ found. (result ≡ pos 0) × (number.new ≡ found))) }
+{
+    if !place.is_full {
+        return -errno::EBADF;
+    }
+    let Some(found) = place.nth_issuable(alloc, index) else {
+        return -errno::ENOENT;
+    };
+    *number = found;
     0
 }
 

@@ -14,6 +14,7 @@ mod machine_place;
 mod machine_slot;
 mod operation_words;
 mod parts;
+mod set_up_exports;
 mod set_up_words;
 mod state_words;
 mod step_words;

@@ -1,8 +1,9 @@
 //! The calls of a machine, made on the machine in a place. Each takes the machine out, and puts it back; its box doesn't move.
-ghost use Rattle.std.specs.Prelude.{◌≡◌, [], IsSome, IfOk, IsSomeAnd, slice_get};
+ghost use Rattle.std.specs.Prelude.{◌≡◌, [], IsSome, IfOk, IsSomeAnd, slice_get, length};
 ghost use Rattle.uring_entry.specs.Completions.{unreaped};
 ghost use Rattle.uring_entry.specs.Requests.{least_of, operation_running};
 ghost use Rattle.uring_entry.specs.Why.{why_of};
+ghost use Rattle.uring_dispatch.specs.Issuable.{issuables_of, issuable_from};
 ghost use Rattle.uring_core.specs.Core.{IsCounts};
 ghost use Rattle.uring_core.specs.CalledFor.{files_of};
 ghost use Rattle.uring_core.specs.Histories.{History, world};
@@ -100,6 +101,54 @@ impl MachinePlace {
         let op = machine.running_op(number);
         self.put(machine);
         op
+    }
+
+    /// The least request from this number on that can be issued.
+    pub(crate) fn next_issuable(&mut self, alloc: Global, number: u64) -> Option<u64>
+        requires { IsSome (machine_in self.old) }
+        ensures kept { machine_in self.new ≡ machine_in self.old }
+        ensures next { IsSomeAnd (machine_in self.old)
+            (λ machine. (h : History) → Fits machine h
+            → result ≡ issuable_from (world machine.core.setup h).requests number) }
+    {
+        let Some(machine) = self.take(alloc) else {
+            unreachable!()
+        };
+        let next = machine.next_issuable(number);
+        self.put(machine);
+        next
+    }
+
+    /// How many requests can be issued.
+    pub(crate) fn issuable(&mut self, alloc: Global) -> u64
+        requires { IsSome (machine_in self.old) }
+        ensures kept { machine_in self.new ≡ machine_in self.old }
+        ensures count { IsSomeAnd (machine_in self.old)
+            (λ machine. (h : History) → Fits machine h
+            → result ≡ length (issuables_of (world machine.core.setup h).requests)) }
+    {
+        let Some(machine) = self.take(alloc) else {
+            unreachable!()
+        };
+        let count = machine.issuable();
+        self.put(machine);
+        count
+    }
+
+    /// The request at this place among those that can be issued.
+    pub(crate) fn nth_issuable(&mut self, alloc: Global, place: u64) -> Option<u64>
+        requires { IsSome (machine_in self.old) }
+        ensures kept { machine_in self.new ≡ machine_in self.old }
+        ensures nth { IsSomeAnd (machine_in self.old)
+            (λ machine. (h : History) → Fits machine h
+            → result ≡ slice_get (issuables_of (world machine.core.setup h).requests) place) }
+    {
+        let Some(machine) = self.take(alloc) else {
+            unreachable!()
+        };
+        let found = machine.nth_issuable(place);
+        self.put(machine);
+        found
     }
 
     /// Why a request stands as it does.

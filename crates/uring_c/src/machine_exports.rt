@@ -1,11 +1,12 @@
 //! The calls of a machine that C makes: `wulgach_machine_..` of the header.
 //!
 //! Each returns 0, or the negative of an error number: -9 (EBADF) exactly at an empty place.
-ghost use Rattle.std.specs.Prelude.{◌≡◌, ◌↔◌, [], pos, neg_ℤ, None, IsSome, IfSome, IsSomeAnd, MatchOption, slice_get};
+ghost use Rattle.std.specs.Prelude.{◌≡◌, ◌↔◌, [], pos, neg_ℤ, None, IsSome, IfSome, IsSomeAnd, MatchOption, slice_get, length};
 ghost use Rattle.uring_entry.specs.Completions.{unreaped};
 ghost use Rattle.uring_entry.specs.Requests.{least_of, operation_running};
 ghost use Rattle.uring_entry.specs.Why.{why_of};
 ghost use Rattle.uring_entry.specs.declared.errno.TheConstants.{EBADF, EINVAL, ENOENT, ENOMEM};
+ghost use Rattle.uring_dispatch.specs.Issuable.{issuables_of, issuable_from};
 ghost use Rattle.uring_core.specs.Core.{IsCounts};
 ghost use Rattle.uring_core.specs.CalledFor.{files_of};
 ghost use Rattle.uring_core.specs.Histories.{History, world};
@@ -227,6 +228,77 @@ pub extern "C" fn wulgach_machine_byte(
         return -errno::ENOENT;
     };
     *byte = found;
+    0
+}
+
+/// Writes the least request from this number on, any number, that can be issued. -2 (ENOENT) if there is none.
+#[unsafe(no_mangle)]
+pub extern "C" fn wulgach_machine_next_issuable(
+    alloc: Global,
+    place: &mut MachinePlace,
+    from: u64,
+    number: &mut u64,
+) -> i32
+    ensures empty { (result ≡ neg_ℤ EBADF) ↔ (machine_in place.old ≡ None) }
+    ensures kept { machine_in place.new ≡ machine_in place.old }
+    ensures refused { machine_in place.old ≡ None → number.new ≡ number.old }
+    ensures next { IfSome (machine_in place.old)
+        (λ machine. (h : History) → Fits machine h
+        → MatchOption (issuable_from (world machine.core.setup h).requests from) ((result ≡ neg_ℤ ENOENT) × (number.new ≡ number.old)) (λ next. (result ≡ pos 0) × (number.new ≡ next))) }
+{
+    if !place.is_full {
+        return -errno::EBADF;
+    }
+    let Some(found) = place.next_issuable(alloc, from) else {
+        return -errno::ENOENT;
+    };
+    *number = found;
+    0
+}
+
+/// Writes how many requests can be issued.
+#[unsafe(no_mangle)]
+pub extern "C" fn wulgach_machine_issuable(
+    alloc: Global,
+    place: &mut MachinePlace,
+    count: &mut u64,
+) -> i32
+    ensures empty { (result ≡ neg_ℤ EBADF) ↔ (machine_in place.old ≡ None) }
+    ensures kept { machine_in place.new ≡ machine_in place.old }
+    ensures refused { machine_in place.old ≡ None → count.new ≡ count.old }
+    ensures count { IfSome (machine_in place.old)
+        (λ machine. (result ≡ pos 0)
+        × ((h : History) → Fits machine h → count.new ≡ length (issuables_of (world machine.core.setup h).requests))) }
+{
+    if !place.is_full {
+        return -errno::EBADF;
+    }
+    *count = place.issuable(alloc);
+    0
+}
+
+/// Writes the request at this place, from 0, among those that can be issued, in the order of their numbers. -2 (ENOENT) past the last.
+#[unsafe(no_mangle)]
+pub extern "C" fn wulgach_machine_nth_issuable(
+    alloc: Global,
+    place: &mut MachinePlace,
+    index: u64,
+    number: &mut u64,
+) -> i32
+    ensures empty { (result ≡ neg_ℤ EBADF) ↔ (machine_in place.old ≡ None) }
+    ensures kept { machine_in place.new ≡ machine_in place.old }
+    ensures refused { machine_in place.old ≡ None → number.new ≡ number.old }
+    ensures nth { IfSome (machine_in place.old)
+        (λ machine. (h : History) → Fits machine h
+        → MatchOption (slice_get (issuables_of (world machine.core.setup h).requests) index) ((result ≡ neg_ℤ ENOENT) × (number.new ≡ number.old)) (λ found. (result ≡ pos 0) × (number.new ≡ found))) }
+{
+    if !place.is_full {
+        return -errno::EBADF;
+    }
+    let Some(found) = place.nth_issuable(alloc, index) else {
+        return -errno::ENOENT;
+    };
+    *number = found;
     0
 }
 

@@ -1,8 +1,9 @@
 use crate::entry::Entry;
 use crate::ffi;
+use std::fmt;
 
-/// A completion: the user data of its request, the result, and 64 bytes, those that a read gave first.
-#[derive(Clone, Copy, Debug, PartialEq, Eq)]
+/// A completion: the user data of its request, the result, and 64 bytes, those that a read gave first. `{:?}` shows as many bytes as that of an answer.
+#[derive(Clone, Copy, PartialEq, Eq)]
 pub struct Completion {
     pub user_data: u64,
     /// 0 or more, or the negative of an error number.
@@ -10,8 +11,36 @@ pub struct Completion {
     pub bytes: [u8; 64],
 }
 
+/// The bytes that an end gives: as many as its result says, and further ones up to the last that isn't zero. None if all are zero.
+fn given(res: i32, bytes: &[u8; 64]) -> &[u8] {
+    match bytes.iter().rposition(|byte| *byte != 0) {
+        Some(last) => &bytes[..usize::try_from(res).map_or(0, |res| res.min(64)).max(last + 1)],
+        None => &[],
+    }
+}
+
+impl fmt::Debug for Completion {
+    fn fmt(&self, f: &mut fmt::Formatter<'_>) -> fmt::Result {
+        f.debug_struct("Completion")
+            .field("user_data", &self.user_data)
+            .field("res", &self.res)
+            .field("bytes", &given(self.res, &self.bytes))
+            .finish()
+    }
+}
+
 /// The answer to a step. A refusal changes nothing.
-#[derive(Clone, Copy, Debug, PartialEq, Eq)]
+///
+/// `{:?}` shows of an end's 64 bytes those that a read gave, as many as its result says, and further ones up to the last that isn't zero. If all are zero, it shows none.
+///
+/// ```
+/// # use wulgach::Answer;
+/// let mut bytes = [0; 64];
+/// assert_eq!(format!("{:?}", Answer::Ended { res: -5, bytes }), "Ended { res: -5, bytes: [] }");
+/// bytes[0] = 7;
+/// assert_eq!(format!("{:?}", Answer::Ended { res: 2, bytes }), "Ended { res: 2, bytes: [7, 0] }");
+/// ```
+#[derive(Clone, Copy, PartialEq, Eq)]
 pub enum Answer {
     /// To `Fill`: the slot holds the entry.
     Filled,
@@ -75,6 +104,55 @@ pub enum Answer {
     Shut,
     /// To `Next`: the least request that can be issued.
     Next(u64),
+}
+
+impl fmt::Debug for Answer {
+    fn fmt(&self, f: &mut fmt::Formatter<'_>) -> fmt::Result {
+        match self {
+            Answer::Filled => f.write_str("Filled"),
+            Answer::NoSlot => f.write_str("NoSlot"),
+            Answer::Busy => f.write_str("Busy"),
+            Answer::Staged => f.write_str("Staged"),
+            Answer::Full => f.write_str("Full"),
+            Answer::Tail(word) => f.debug_tuple("Tail").field(word).finish(),
+            Answer::Head(word) => f.debug_tuple("Head").field(word).finish(),
+            Answer::Call(count) => f.debug_tuple("Call").field(count).finish(),
+            Answer::Closed => f.write_str("Closed"),
+            Answer::InCall => f.write_str("InCall"),
+            Answer::Spent => f.write_str("Spent"),
+            Answer::Again => f.write_str("Again"),
+            Answer::Entry(entry) => f.debug_tuple("Entry").field(entry).finish(),
+            Answer::Dropped => f.write_str("Dropped"),
+            Answer::NoMore => f.write_str("NoMore"),
+            Answer::NoCall => f.write_str("NoCall"),
+            Answer::Taken {
+                accepted,
+                dropped,
+                head,
+            } => f
+                .debug_struct("Taken")
+                .field("accepted", accepted)
+                .field("dropped", dropped)
+                .field("head", head)
+                .finish(),
+            Answer::NotAll => f.write_str("NotAll"),
+            Answer::Run => f.write_str("Run"),
+            Answer::Ended { res, bytes } => f
+                .debug_struct("Ended")
+                .field("res", res)
+                .field("bytes", &given(*res, bytes))
+                .finish(),
+            Answer::NotReady => f.write_str("NotReady"),
+            Answer::Running => f.write_str("Running"),
+            Answer::Unknown => f.write_str("Unknown"),
+            Answer::NotRunning => f.write_str("NotRunning"),
+            Answer::Moved(count) => f.debug_tuple("Moved").field(count).finish(),
+            Answer::Reaped(completion) => f.debug_tuple("Reaped").field(completion).finish(),
+            Answer::Nothing => f.write_str("Nothing"),
+            Answer::Shut => f.write_str("Shut"),
+            Answer::Next(number) => f.debug_tuple("Next").field(number).finish(),
+        }
+    }
 }
 
 impl Answer {

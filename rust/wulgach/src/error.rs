@@ -5,7 +5,7 @@ use std::fmt;
 #[derive(Clone, Copy, Debug, PartialEq, Eq)]
 #[non_exhaustive]
 pub enum Error {
-    /// A number of the set-up is out of its range.
+    /// A number of the set-up is out of its range: `Setup::fault` says which.
     BadSetup,
 
     /// Out of memory.

@@ -110,6 +110,7 @@ pub struct File {
 }
 
 extern "C" {
+    pub fn wulgach_setup_fault(setup: *const Setup) -> i32;
     pub fn wulgach_core_new(core: *mut Place, setup: *const Setup) -> i32;
     pub fn wulgach_core_step(core: *mut Place, step: *const Step, answer: *mut Answer) -> i32;
     pub fn wulgach_core_finish(
@@ -124,6 +125,9 @@ extern "C" {
     pub fn wulgach_core_running_op(core: *mut Place, number: u64, operation: *mut Operation)
         -> i32;
     pub fn wulgach_core_least(core: *mut Place, number: *mut u64) -> i32;
+    pub fn wulgach_core_next_issuable(core: *mut Place, from: u64, number: *mut u64) -> i32;
+    pub fn wulgach_core_issuable(core: *mut Place, count: *mut u64) -> i32;
+    pub fn wulgach_core_nth_issuable(core: *mut Place, index: u64, number: *mut u64) -> i32;
     pub fn wulgach_core_why(core: *mut Place, number: u64, why: *mut Why) -> i32;
     pub fn wulgach_core_free(core: *mut Place) -> i32;
     pub fn wulgach_machine_new(machine: *mut Place, setup: *const Setup) -> i32;
@@ -143,6 +147,9 @@ extern "C" {
     pub fn wulgach_machine_state(machine: *mut Place, fd: i32, file: *mut File) -> i32;
     pub fn wulgach_machine_byte(machine: *mut Place, fd: i32, at: u64, byte: *mut u8) -> i32;
     pub fn wulgach_machine_least(machine: *mut Place, number: *mut u64) -> i32;
+    pub fn wulgach_machine_next_issuable(machine: *mut Place, from: u64, number: *mut u64) -> i32;
+    pub fn wulgach_machine_issuable(machine: *mut Place, count: *mut u64) -> i32;
+    pub fn wulgach_machine_nth_issuable(machine: *mut Place, index: u64, number: *mut u64) -> i32;
     pub fn wulgach_machine_why(machine: *mut Place, number: u64, why: *mut Why) -> i32;
     pub fn wulgach_machine_free(machine: *mut Place) -> i32;
 }

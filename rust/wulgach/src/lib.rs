@@ -27,6 +27,6 @@ pub use crate::entry::{flags, Entry};
 pub use crate::error::Error;
 pub use crate::machine::Machine;
 pub use crate::reading::{Counts, FileState, Operation};
-pub use crate::setup::Setup;
+pub use crate::setup::{Setup, SetupField};
 pub use crate::step::Step;
 pub use crate::why::{Doom, Fault, Since, Why};

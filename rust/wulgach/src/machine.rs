@@ -94,6 +94,64 @@ impl Machine {
         (result == 0).then(|| reading::operation(&operation))
     }
 
+    /// The least request from this number on, any number, that can be issued: that `Step::Issue` starts or ends. `None` exactly if there is none. It looks once at each 4,096 numbers that it passes.
+    pub fn next_issuable(&self, from: u64) -> Option<u64> {
+        let mut number = 0;
+        // SAFETY: as in `counts`.
+        let result =
+            unsafe { ffi::wulgach_machine_next_issuable(self.place.get(), from, &mut number) };
+        (result == 0).then_some(number)
+    }
+
+    /// The requests that can be issued, in the order of their numbers. Each is found when it is asked for.
+    ///
+    /// ```
+    /// # use wulgach::{flags, Answer, Machine, Entry, Setup, Step};
+    /// # fn main() -> Result<(), wulgach::Error> {
+    /// let mut machine = Machine::new(&Setup::default())?;
+    /// for (slot, flags) in [(0, 0), (1, flags::IO_LINK), (2, 0), (3, 0)] {
+    ///     machine.step(Step::Fill { slot, entry: Entry::nop(7, flags) });
+    ///     machine.step(Step::Index { word: slot });
+    /// }
+    /// machine.step(Step::StoreTail);
+    /// machine.step(Step::Begin { count: 4 });
+    /// while machine.step(Step::Take) != Answer::NoMore {}
+    /// machine.step(Step::End);
+    ///
+    /// assert_eq!(machine.issuable().collect::<Vec<_>>(), [0, 1, 3]);
+    /// assert_eq!(machine.issuable_count(), 3);
+    /// let number = machine.nth_issuable(1).unwrap();
+    /// assert_eq!(machine.step(Step::Issue { number }), Answer::Run);
+    /// assert_eq!(machine.issuable().collect::<Vec<_>>(), [0, 3]);
+    /// # Ok(())
+    /// # }
+    /// ```
+    pub fn issuable(&self) -> impl Iterator<Item = u64> + '_ {
+        let mut from = Some(0);
+        std::iter::from_fn(move || {
+            let number = self.next_issuable(from?)?;
+            from = number.checked_add(1);
+            Some(number)
+        })
+    }
+
+    /// How many requests can be issued. It looks once at each 64 numbers from the least outstanding one on.
+    pub fn issuable_count(&self) -> u64 {
+        let mut count = 0;
+        // SAFETY: as in `counts`.
+        unsafe { ffi::wulgach_machine_issuable(self.place.get(), &mut count) };
+        count
+    }
+
+    /// The request at this index, from 0, of those that can be issued, in the order of their numbers: `None` exactly past the last. So a random index below `issuable_count` chooses one that isn't refused. It looks once at each 64 numbers from the least outstanding one on, up to the one it finds.
+    pub fn nth_issuable(&self, index: u64) -> Option<u64> {
+        let mut number = 0;
+        // SAFETY: as in `counts`.
+        let result =
+            unsafe { ffi::wulgach_machine_nth_issuable(self.place.get(), index, &mut number) };
+        (result == 0).then_some(number)
+    }
+
     /// Why the request of this number, any number, stands as it does.
     ///
     /// ```
