@@ -24,7 +24,7 @@ use Rattle.std.specs.Prelude.{Result, Ok, Err, IfOk, OnErr}
 use Rattle.std.proofs.Math.ListN.{set}
 use Rattle.std.proofs.lemmas.List.{length-set, get_or-set_same, get_or-set_other}
 use Rattle.uring_threads.specs.Dispatched.{HaveCarried, AreTakenIn}
-use Rattle.uring_workers.specs.WorkLanes.{IsSent}
+use Rattle.uring_workers.specs.WorkLanes.{IsSent, jobs_sent, results_received}
 use Rattle.uring_threads.specs.Issued.{IssuedAs}
 use Rattle.uring_threads.specs.Delivered.{OnlyPosts}
 use Rattle.uring_threads.proofs.Posting.{end_posts}
@@ -33,7 +33,6 @@ use Rattle.uring_threads.specs.Kept.{Kept, now, Grows, history}
 use Rattle.uring_threads.specs.Tallies.{Tally, Appends, issues_request, most_results, takes_result}
 use Rattle.uring_workers.specs.Work.{place_of, results_of}
 use Rattle.uring_threads.specs.Dealt.{job_by, jobs_in, jobs_at, jobs_to, done_by_worker}
-use Rattle.rtrb.specs.Ring.{sent, received}
 use Rattle.uring_threads.proofs.Collecting.{grown_history}
 
 -- A job that was sent is the last of its worker's, and of no other.
@@ -146,20 +145,20 @@ carried_run a b n place op old new issued carried at low many was_sent others = 
           let s : IsSent j (get_or old k d) (get_or new k d) = subst (λ i. IsSent j (get_or old i d) (get_or new i d)) (sym here) (was_sent d) in
           record {
             jobs = s.jobs ∙ ap (λ js. js ++ j ∷ []) before.jobs ∙ sym (jobs-own (place_of (length old) g.files) k (jobs_in g (history a)) j (sym at ∙ sym here)) ∙ sym jobs;
-            results = ap (λ r. received r) s.results ∙ before.results ∙ ap results_of (sym done);
+            results = ap (λ r. results_received (record (get_or old k d) { results = r })) s.results ∙ before.results ∙ ap results_of (sym done);
           }
       | inr other ↦
           let same : get_or new k d ≡ get_or old k d = others k d within' other in
           record {
-            jobs = ap (λ (l : WorkLanes). sent l.jobs) same ∙ before.jobs ∙ sym (jobs-other (place_of (length old) g.files) k (jobs_in g (history a)) j (λ e. other (sym e ∙ sym at))) ∙ sym jobs;
-            results = ap (λ (l : WorkLanes). received l.results) same ∙ before.results ∙ ap results_of (sym done);
+            jobs = ap (λ (l : WorkLanes). jobs_sent l) same ∙ before.jobs ∙ sym (jobs-other (place_of (length old) g.files) k (jobs_in g (history a)) j (λ e. other (sym e ∙ sym at))) ∙ sym jobs;
+            results = ap (λ (l : WorkLanes). results_received l) same ∙ before.results ∙ ap results_of (sym done);
           }
     ]
 
 -- Results of a worker were taken in.
 pub carried_collected : (a b : Kept) (n place : ℕ) (old new : List WorkLanes) → HaveCarried a old
     → Collects a b (length old) place n → length new ≡ length old
-    → ((d : WorkLanes) → (sent (get_or new place d).jobs ≡ sent (get_or old place d).jobs) × AreTakenIn b (length old) place (received (get_or new place d).results))
+    → ((d : WorkLanes) → (jobs_sent (get_or new place d) ≡ jobs_sent (get_or old place d)) × AreTakenIn b (length old) place (results_received (get_or new place d)))
     → ((k : ℕ) (d : WorkLanes) → k < length old → k ≢ place → get_or new k d ≡ get_or old k d)
     → HaveCarried b new
 carried_collected a b n place old new carried p many here others = λ k d within.
@@ -168,14 +167,14 @@ carried_collected a b n place old new carried p many here others = λ k d within
     let jobs : jobs_to b.setup (length new) k (history b) ≡ jobs_to a.setup (length old) k (history a) = ap (λ m. jobs_to b.setup m k (history b)) many ∙ p.others.jobs k in
     elim (cases_eq k place) [
       | inl same ↦
-          let h = subst (λ i. (sent (get_or new i d).jobs ≡ sent (get_or old i d).jobs) × AreTakenIn b (length old) i (received (get_or new i d).results)) (sym same) (here d) in
-          record { jobs = h.0 ∙ before.jobs ∙ sym jobs; results = subst (λ m. AreTakenIn b m k (received (get_or new k d).results)) (sym many) h.1 }
+          let h = subst (λ i. (jobs_sent (get_or new i d) ≡ jobs_sent (get_or old i d)) × AreTakenIn b (length old) i (results_received (get_or new i d))) (sym same) (here d) in
+          record { jobs = h.0 ∙ before.jobs ∙ sym jobs; results = subst (λ m. AreTakenIn b m k (results_received (get_or new k d))) (sym many) h.1 }
       | inr other ↦
           let stays : get_or new k d ≡ get_or old k d = others k d within' other in
           let done : done_by_worker b.setup (length new) k (history b) ≡ done_by_worker a.setup (length old) k (history a) = ap (λ m. done_by_worker b.setup m k (history b)) many ∙ p.others.results k other in
           record {
-            jobs = ap (λ (l : WorkLanes). sent l.jobs) stays ∙ before.jobs ∙ sym jobs;
-            results = ap (λ (l : WorkLanes). received l.results) stays ∙ before.results ∙ ap results_of (sym done);
+            jobs = ap (λ (l : WorkLanes). jobs_sent l) stays ∙ before.jobs ∙ sym jobs;
+            results = ap (λ (l : WorkLanes). results_received l) stays ∙ before.results ∙ ap results_of (sym done);
           }
     ]
 
@@ -190,11 +189,11 @@ some_collected (Err e) a b workers place seen ok (n, most, collected) = (n, coll
 -- with these lanes in their place
 pub carried_set : (a b : Kept) (n place : ℕ) (old : List WorkLanes) (y d : WorkLanes)
     → HaveCarried a old → place < length old → Collects a b (length old) place n
-    → y.jobs ≡ (get_or old place d).jobs → AreTakenIn b (length old) place (received y.results)
+    → y.jobs ≡ (get_or old place d).jobs → AreTakenIn b (length old) place (results_received y)
     → HaveCarried b (set old place y)
 carried_set a b n place old y d carried low p jobs taken =
     carried_collected a b n place old (set old place y) carried p (length-set old place y)
     (λ e.
-    subst (λ (l : WorkLanes). (sent l.jobs ≡ sent (get_or old place e).jobs) × AreTakenIn b (length old) place (received l.results)) (sym (get_or-set_same old place y e low))
-    (ap (λ q. sent q) jobs ∙ (carried place d low).jobs ∙ sym (carried place e low).jobs, taken))
+    subst (λ (l : WorkLanes). (jobs_sent l ≡ jobs_sent (get_or old place e)) × AreTakenIn b (length old) place (results_received l)) (sym (get_or-set_same old place y e low))
+    (ap (λ q. jobs_sent (record y { jobs = q })) jobs ∙ (carried place d low).jobs ∙ sym (carried place e low).jobs, taken))
     (λ k e within other. get_or-set_other old place k y e other)

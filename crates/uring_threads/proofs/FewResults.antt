@@ -11,7 +11,7 @@ use Rattle.uring_core.specs.Histories.{Event, History, world, history_of}
 use Rattle.uring_core.specs.World.{World}
 use Rattle.uring_core.specs.declared.step.Step.TheVariants as step
 use Rattle.uring_core.proofs.Following.{history_of-cons, history_of-append}
-use Rattle.rtrb.specs.Ring.{known_items}
+use Rattle.uring_workers.specs.WorkLanes.{results_seen}
 use Rattle.uring_threads.specs.Collected.{Collects, CollectsFew, CollectsSeen, NextStays, NoneComes, OtherLanesStay, SeesNoMore, TakesSeen}
 use Rattle.uring_workers.specs.WorkLanes.{AreSameLanes}
 use Rattle.uring_threads.specs.Kept.{Kept, history}
@@ -116,25 +116,25 @@ next_stays a b workers k (r ∷ later) none stays = λ can. stays (none k r.numb
 abbrev pub SeenBefore : ℕ → ℕ → Kept → Kept → List WorkLanes → Type 0
 SeenBefore workers place a b lanes = (k : ℕ) → k < place
     → results_taken_in workers k b < results_taken_in workers k a + most_results → (d : WorkLanes)
-    → NextStays b workers k (known_items (get_or lanes k d).results)
+    → NextStays b workers k (results_seen (get_or lanes k d))
 
 seen_more : (workers place count : ℕ) (a b c : Kept) (lanes later : List WorkLanes)
     → FewBefore workers place a b → CollectsFew b c workers place
     → results_taken_in workers place c ≡ results_taken_in workers place b + count
     → NoneComes b c workers
     → OtherLanesStay lanes later place
-    → (count < most_results → (d : WorkLanes) → NextStays c workers place (known_items (get_or later place d).results))
+    → (count < most_results → (d : WorkLanes) → NextStays c workers place (results_seen (get_or later place d)))
     → SeenBefore workers place a b lanes → SeenBefore workers (place + 1) a c later
 seen_more workers place count a b c lanes later p q own none others sees seen = λ k low fewer d.
     elim (cases_eq k place) [
       | inl here ↦
           let fewer' : results_taken_in workers place c < results_taken_in workers place a + most_results = subst (λ i. results_taken_in workers i c < results_taken_in workers i a + most_results) here fewer in
           let same : results_taken_in workers place b ≡ results_taken_in workers place a = p.others place (omega arith) in
-          subst (λ i. NextStays c workers i (known_items (get_or later i d).results)) (sym here) (sees (omega (arith, fewer', same, own)) d)
+          subst (λ i. NextStays c workers i (results_seen (get_or later i d))) (sym here) (sees (omega (arith, fewer', same, own)) d)
       | inr other ↦
           let same : results_taken_in workers k c ≡ results_taken_in workers k b = q.others k other in
-          subst (λ (l : WorkLanes). NextStays c workers k (known_items l.results)) (sym (others k other d))
-          (next_stays b c workers k (known_items (get_or lanes k d).results) none (seen k (omega (arith, low, other)) (omega (arith, fewer, same)) d))
+          subst (λ (l : WorkLanes). NextStays c workers k (results_seen l)) (sym (others k other d))
+          (next_stays b c workers k (results_seen (get_or lanes k d)) none (seen k (omega (arith, low, other)) (omega (arith, fewer, same)) d))
     ]
 
 -- the same, of lanes that stay the same
@@ -151,7 +151,7 @@ seen_at old lanes later place count a b c same stay p q own none others sees =
     (subst (λ n. results_taken_in n place c ≡ results_taken_in n place b + count) same.many own)
     (subst (NoneComes b c) same.many none)
     others
-    (subst (λ n. count < most_results → (d : WorkLanes) → NextStays c n place (known_items (get_or later place d).results)) (stay.many ∙ same.many) sees)
+    (subst (λ n. count < most_results → (d : WorkLanes) → NextStays c n place (results_seen (get_or later place d))) (stay.many ∙ same.many) sees)
 
 -- of all
 pub seen_in_all : (old lanes : List WorkLanes) (a b : Kept) → AreSameLanes old lanes

@@ -3,7 +3,6 @@ use Rattle.std.proofs.Common.{◌≡◌, ◌+◌, ◌<◌, ◌≤◌, ◌==◌, 
 use Rattle.std.specs.Prelude.{◌⊎◌, None, Result, Ok, Err, IfOk, OnErr, Bool}
 use Rattle.std.proofs.lemmas.List.{length-append}
 use Rattle.std.proofs.lemmas.List.Sums.{length-filter, count_by-le-length}
-use Rattle.rtrb.specs.Ring.{sent, known_free, producer_capacity}
 use Rattle.uring_entry.specs.Requests.{next_of}
 use Rattle.uring_entry.specs.Setup.{Setup}
 use Rattle.uring_laws.specs.Direct.{with_told}
@@ -19,6 +18,7 @@ use Rattle.uring_threads.specs.Tallies.{Tally, Appends, starts_request}
 use Rattle.uring_threads.specs.Turns.{Counts}
 use Rattle.uring_workers.specs.Work.{place_of}
 use Rattle.uring_threads.specs.Dealt.{job_in, job_by, jobs_in}
+use Rattle.uring_workers.proofs.LaneFacts.{lane_full}
 use Rattle.uring_workers.specs.declared.job.Job.{Job}
 use Rattle.uring_threads.specs.declared.turns.Turn.{Turn}
 use Rattle.uring_workers.specs.declared.work_lanes.WorkLanes.{WorkLanes}
@@ -40,11 +40,6 @@ told_length w jobs (s, a) = omega arith
 jobs_count : (g : Setup) (h : History) → length (jobs_in g h) ≡ times starts_request h
 jobs_count g [] = refl
 jobs_count g (e ∷ h) = omega (arith, told_length (world g h) (jobs_in g h) e, jobs_count g h)
-
--- a lane that shows no room has carried what it holds
-lane_full : (l : WorkLanes) → producer_capacity l.jobs ≡ 64 → known_free l.jobs ≡ 0
-    → 64 ≤ length (sent l.jobs)
-lane_full l hold none = omega (arith, hold, none, l.jobs.counts.0)
 
 some_full : (k : Kept) (lanes : List WorkLanes) → HaveCarried k lanes → HoldJobs lanes
     → SomeIsFull lanes → 64 ≤ count_by starts_request k.trace

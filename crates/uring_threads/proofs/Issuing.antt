@@ -2,12 +2,12 @@
 use Rattle.std.proofs.Common.{◌≡◌, ℕ, ◌+◌, ◌<◌, ◌≤◌, List, length, get_or, refl, sym, subst, ap, ◌∙◌, arith}
 use Rattle.std.proofs.lemmas.List.{length-append}
 use Rattle.std.proofs.lemmas.List.Sums.{count_by-le-length}
-use Rattle.rtrb.specs.Ring.{received, SameConsumer}
 use Rattle.uring_threads.specs.Delivered.{OnlyPosts}
 use Rattle.uring_threads.specs.Dispatched.{HasCarried, HaveCarried}
-use Rattle.uring_workers.specs.WorkLanes.{AreSameLanes, IsLookedAt}
+use Rattle.uring_workers.specs.WorkLanes.{AreSameLanes, IsLookedAt, results_received}
 use Rattle.uring_threads.specs.Kept.{Kept, now, IsUnmoved}
 use Rattle.uring_threads.specs.Tallies.{Tally, Appends, none_counted, issues_counted, issues_request}
+use Rattle.uring_workers.proofs.LaneFacts.{looked_results}
 use Rattle.uring_workers.specs.declared.work_lanes.WorkLanes.{WorkLanes}
 use Rattle.uring_threads.proofs.Carrying.{quiet_stays, carried_stays}
 use Rattle.uring_threads.proofs.Posting.{posts_then}
@@ -20,7 +20,7 @@ module _ (a k r : Kept) (first old new : List WorkLanes) (u : IsUnmoved k r) (ma
   looked_carried carried = λ j d low.
       let before : j < length old = omega (arith, low, many) in
       let had = carried_stays k r old (quiet_stays k r none_counted (appends_none k r u) refl refl) carried j d before in
-      subst (λ n. HasCarried r n j (get_or new j d)) (sym many) (record { jobs = (looked j d before).jobs ∙ had.jobs; results = ap (λ rs. received rs) (looked j d before).results ∙ had.results })
+      subst (λ n. HasCarried r n j (get_or new j d)) (sym many) (record { jobs = (looked j d before).jobs ∙ had.jobs; results = ap (λ rs. results_received (record (get_or old j d) { results = rs })) (looked j d before).results ∙ had.results })
 
   pub looked_same : AreSameLanes first old → AreSameLanes first new
   looked_same same =
@@ -28,7 +28,7 @@ module _ (a k r : Kept) (first old new : List WorkLanes) (u : IsUnmoved k r) (ma
       (record {
         many = many;
         jobs = λ j d low. (looked j d low).ring;
-        results = λ j d low. subst (SameConsumer (get_or old j d).results) (sym (looked j d low).results) ((refl, refl, refl, refl), refl);
+        results = λ j d low. looked_results (get_or old j d) (get_or new j d) (looked j d low);
       })
 
   pub looked_posts : OnlyPosts (now a) (now k) → OnlyPosts (now a) (now r)

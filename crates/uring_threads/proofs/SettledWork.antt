@@ -5,7 +5,7 @@ use Rattle.uring_files.specs.Done.{Done}
 use Rattle.uring_core.specs.Histories.{Event, History, history_of, IsLawfulApart}
 use Rattle.uring_workers.specs.declared.job.Job.{Job}
 use Rattle.uring_workers.specs.declared.job.JobResult.{JobResult}
-use Rattle.rtrb.specs.Ring.{sent, received}
+use Rattle.uring_workers.specs.WorkLanes.{jobs_sent, results_received}
 use Rattle.uring_workers.specs.declared.work_lanes.WorkLanes.{WorkLanes}
 use Rattle.uring_threads.specs.Collected.{TakesAll}
 use Rattle.uring_threads.specs.Dispatched.{HasCarried}
@@ -31,7 +31,7 @@ longer_history a b events same =
 
 module _ (a b : Kept) (workers k : ℕ) (done : List Done) (untaken : List Job) (waiting : List JobResult) (lanes : WorkLanes)
     (lawful : IsLawfulApart a.setup (history a)) (carried : HasCarried a workers k lanes)
-    (jobs : jobs_of done ++ untaken ≡ sent lanes.jobs) (results : received lanes.results ++ waiting ≡ results_of done) (all : TakesAll a b waiting) where
+    (jobs : jobs_of done ++ untaken ≡ jobs_sent lanes) (results : results_received lanes ++ waiting ≡ results_of done) (all : TakesAll a b waiting) where
   work : IsWork a.setup workers (history a) k (record { done = done; untaken = untaken; waiting = waiting })
   work = record { jobs = jobs ∙ carried.jobs; results = ap (λ rs. rs ++ waiting) (sym carried.results) ∙ results }
 
@@ -49,8 +49,8 @@ module _ (a b : Kept) (workers k : ℕ) (done : List Done) (untaken : List Job) 
       subst (λ h. IsWork b.setup workers h k (record { done = done; untaken = untaken; waiting = [] })) (sym later)
       (subst (λ g. IsWork g workers (with_taken_in waiting (history a)) k (record { done = done; untaken = untaken; waiting = [] })) (sym all.setup) drained.own)
 
-  pub settled_at : (now : WorkLanes) → sent now.jobs ≡ sent lanes.jobs
-      → received now.results ≡ received lanes.results ++ waiting
+  pub settled_at : (now : WorkLanes) → jobs_sent now ≡ jobs_sent lanes
+      → results_received now ≡ results_received lanes ++ waiting
       → IsSettledAt a b workers k now done untaken
   settled_at now same came =
       record {

@@ -3,7 +3,7 @@ use Rattle.std.proofs.Common.{◌≡◌, ◌≢◌, ℕ, ◌+◌, ◌*◌, ◌<�
 use Rattle.std.specs.Prelude.{slice_set}
 use Rattle.std.proofs.lemmas.Bool.{cases_eq}
 use Rattle.std.proofs.lemmas.List.{map-append, length-set, get_or-set_same, get_or-set_other, take_all, take_more, length-take-le, get_or_default}
-use Rattle.rtrb.specs.Ring.{received, consumer_capacity}
+use Rattle.uring_workers.specs.WorkLanes.{results_held, results_received}
 use Rattle.uring_files.specs.Done.{AreDone}
 use Rattle.uring_core.specs.Histories.{IsLawfulApart}
 use Rattle.uring_workers.specs.declared.job.JobResult.{JobResult}
@@ -119,18 +119,18 @@ module _ (a b : Kept) (ls ms : List WorkLanes) (ws vs : List Worker) (count file
       ≡ pairing_of (get_or ms count d).jobs (get_or ms count d).results
   next_paired = ap (λ w. w.pairing) (s.workers_stay count e (omega arith)) ∙ of.pairing count d e lt ∙ sym (ap (λ (l : WorkLanes). pairing_of l.jobs l.results) (s.lanes_stay count d (omega arith)))
 
-  pub next_short : consumer_capacity (get_or ms count d).results ≤ 64
-  next_short = subst (λ l. consumer_capacity l.results ≤ 64) (sym (s.lanes_stay count d (omega arith))) (of.short count d lt)
+  pub next_short : results_held (get_or ms count d) ≤ 64
+  next_short = subst (λ l. results_held l ≤ 64) (sym (s.lanes_stay count d (omega arith))) (of.short count d lt)
 
   pub next_fits : length a.trace + 64 * length ls ≤ a.room
-      → length b.trace + consumer_capacity (get_or ms count d).results ≤ b.room
+      → length b.trace + results_held (get_or ms count d) ≤ b.room
   next_fits room = omega (arith, room, s.few, s.recorded.room, next_short, lt)
 
 -- what settling one worker ensures
 pub record SettlesOne (b c : Kept) (m now : WorkLanes) (v after : Worker) : Type 0 where
-  pub trace : (waiting : List JobResult) × (results_of v.done ≡ received m.results ++ waiting)
+  pub trace : (waiting : List JobResult) × (results_of v.done ≡ results_received m ++ waiting)
       × TakesAll b c waiting
-  pub few : length c.trace ≤ length b.trace + consumer_capacity m.results
+  pub few : length c.trace ≤ length b.trace + results_held m
   pub settled : (workers k : ℕ) → HasCarried b workers k m
       → IsSettledAt b c workers k now v.done after.seen
   pub looks : Looks v after
@@ -164,7 +164,7 @@ module _ (a b c : Kept) (ls ms : List WorkLanes) (ws vs : List Worker) (count fi
   took : TakesAll a c (all_waiting (take (count + 1) ls) (take (count + 1) ws))
   took =
       let waits : waiting_at (get_or ls count d) (get_or ws count e) ≡ one.trace.0 =
-      ap₂ waiting_at (sym (s.lanes_stay count d (omega arith))) (sym (s.workers_stay count e (omega arith))) ∙ waits_behind (received (get_or ms count d).results) one.trace.0 (results_of (get_or vs count e).done) one.trace.1 in
+      ap₂ waiting_at (sym (s.lanes_stay count d (omega arith))) (sym (s.workers_stay count e (omega arith))) ∙ waits_behind (results_received (get_or ms count d)) one.trace.0 (results_of (get_or vs count e).done) one.trace.1 in
       subst (TakesAll a c) (ap (λ rs. all_waiting (take count ls) (take count ws) ++ rs) (sym waits) ∙ sym (waiting_more ls ws d e count of.many lt))
       (takes_then a b c (all_waiting (take count ls) (take count ws)) one.trace.0 s.recorded one.trace.2)
 

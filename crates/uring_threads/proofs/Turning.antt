@@ -9,7 +9,7 @@ use Rattle.uring_laws.specs.Standing.{Stands}
 use Rattle.uring_ports.specs.Ports.{Put}
 use Rattle.uring_threads.specs.Delivered.{KeepsAllBut, OnlyPosts}
 use Rattle.uring_threads.specs.Dispatched.{HaveCarried}
-use Rattle.uring_workers.specs.WorkLanes.{AreSameLanes, SomeIsFull}
+use Rattle.uring_workers.specs.WorkLanes.{AreSameLanes, OnlyReceives, SomeIsFull}
 use Rattle.uring_core.specs.World.{World}
 use Rattle.uring_threads.specs.Kept.{Kept, now, IsUnmoved}
 use Rattle.uring_threads.specs.Kernel.{Kernel, IsKernel}
@@ -152,6 +152,13 @@ kernel_unmoved k kept u is =
 pub some_then : (a b c : Kept) (t u : Tally) → Appends a b t → Appends b c u
     → (x : Tally) × Appends a c x
 some_then a b c t u p q = (both t u, appends_then a b c t u (both t u) p q refl)
+
+-- results were received twice
+pub receives_then : (a b c : WorkLanes) → OnlyReceives a b → OnlyReceives b c → OnlyReceives a c
+receives_then a b c p q =
+    let x = p.ring in
+    let y = q.ring in
+    record { jobs = q.jobs ∙ p.jobs; ring = ((y.0.0 ∙ x.0.0, y.0.1 ∙ x.0.1, y.0.2 ∙ x.0.2, y.0.3 ∙ x.0.3), y.1 ∙ x.1) }
 
 -- the same lanes twice
 pub lanes_then : (a b c : List WorkLanes) → AreSameLanes a b → AreSameLanes b c → AreSameLanes a c

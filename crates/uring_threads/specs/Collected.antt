@@ -6,7 +6,7 @@ use Rattle.uring_files.specs.Done.{Done}
 use Rattle.uring_workers.specs.declared.job.Job.{Job}
 use Rattle.uring_workers.specs.declared.job.JobResult.{JobResult}
 use Rattle.uring_workers.specs.declared.work_lanes.WorkLanes.{WorkLanes}
-use Rattle.rtrb.specs.Ring.{known_items}
+use Rattle.uring_workers.specs.WorkLanes.{results_seen}
 use Rattle.uring_threads.specs.EventRows.{RecordsFinishes}
 use Rattle.uring_threads.specs.Kept.{Kept, now, Grows, history}
 use Rattle.uring_threads.specs.Delivered.{OnlyPosts}
@@ -37,7 +37,7 @@ NextStays kept workers place (r ∷ later) = CanBeTaken kept workers place r.num
 -- the next result that is seen at this place can't be taken in, if one is seen
 abbrev pub SeesNoMore : Kept → List WorkLanes → ℕ → Type 0
 SeesNoMore kept lanes place = (d : WorkLanes)
-    → NextStays kept (length lanes) place (known_items (get_or lanes place d).results)
+    → NextStays kept (length lanes) place (results_seen (get_or lanes place d))
 
 -- of each of these workers, fewer than 64 were taken in only if no other result is seen, or the next can't be taken in
 abbrev pub TakesSeen : Kept → Kept → List WorkLanes → Type 0

@@ -2,7 +2,6 @@
 use Rattle.std.specs.Prelude.{◌≡◌, ◌↔◌, ℕ, ◌==◌, Bool, true, List, [], ◌∷◌, ◌++◌, length, map, drop, count_by, All, if◌then◌else◌}
 use Rattle.std.specs.List.{list_any}
 use mathlib.Core.List.{IsPrefix}
-use Rattle.rtrb.specs.Ring.{sent, received}
 use Rattle.uring_entry.specs.Layout.{Cqe}
 use Rattle.uring_entry.specs.Setup.{Setup}
 use Rattle.uring_entry.specs.Submission.{taken, published_items}
@@ -15,7 +14,7 @@ use Rattle.uring_ports.specs.Ports.{Put, items_of_calls}
 use Rattle.uring_ports.specs.declared.item.Item.{Item}
 use Rattle.uring_workers.specs.Work.{results_of}
 use Rattle.uring_workers.specs.declared.job.JobResult.{JobResult}
-use Rattle.uring_workers.specs.WorkLanes.{numbers_of_lanes}
+use Rattle.uring_workers.specs.WorkLanes.{jobs_sent, results_received, numbers_of_lanes}
 use Rattle.uring_threads.specs.Kept.{IsUnmoved}
 use Rattle.uring_threads.specs.Kernel.{Kernel}
 use Rattle.uring_threads.specs.Settled.{finish_of}
@@ -31,9 +30,10 @@ pub record AreTogether (app : AppEnd) (kernel : Kernel) (workers : List Worker) 
   pub lanes : map (λ (w : Worker). w.pairing) workers ≡ numbers_of_lanes kernel.lanes
   pub files : All (λ (w : Worker). length w.files ≡ kernel.kept.setup.files) workers
 
--- What is reported: the set-up, and the dispatcher's trace over it, the oldest event first; the items that were submitted and not published; the completions that the trace has reaped and the application hasn't; and those that were posted and not reaped. Each list is in order.
+-- What is reported: the set-up, how many workers there are, and the dispatcher's trace over the set-up, the oldest event first; the items that were submitted and not published; the completions that the trace has reaped and the application hasn't; and those that were posted and not reaped. Each list is in order.
 pub record Report : Type 0 where
   pub setup : Setup
+  pub workers : ℕ
   pub trace : List Event
   pub unsent : List Item
   pub undelivered : List Cqe
@@ -45,7 +45,7 @@ left_by r = world r.setup (history_of r.trace)
 
 -- the results of a worker that weren't received, and those of all workers, worker 0's first
 abbrev pub waiting_at : WorkLanes → Worker → List JobResult
-waiting_at lanes worker = drop (length (received lanes.results)) (results_of worker.done)
+waiting_at lanes worker = drop (length (results_received lanes)) (results_of worker.done)
 
 abbrev pub all_waiting : List WorkLanes → List Worker → List JobResult
 all_waiting (l ∷ lanes) (w ∷ workers) = waiting_at l w ++ all_waiting lanes workers
@@ -57,7 +57,7 @@ FinishesAll trace lanes workers r = r.trace ≡ trace ++ map finish_of (all_wait
 
 -- the jobs that were sent to a worker and that it hasn't taken, and those of all workers, worker 0's first
 abbrev pub untaken_at : WorkLanes → Worker → List Job
-untaken_at lanes worker = drop (length worker.done) (sent lanes.jobs)
+untaken_at lanes worker = drop (length worker.done) (jobs_sent lanes)
 
 abbrev pub all_untaken : List WorkLanes → List Worker → List Job
 all_untaken (l ∷ lanes) (w ∷ workers) = untaken_at l w ++ all_untaken lanes workers

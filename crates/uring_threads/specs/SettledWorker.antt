@@ -1,6 +1,5 @@
 -- Glue. Settling a worker: all its results are taken in. Our own rule.
 use Rattle.std.specs.Prelude.{◌≡◌, ℕ, ℤ, Option, ◌<◌, List, [], ◌++◌, length, get_or}
-use Rattle.rtrb.specs.Ring.{sent}
 use Rattle.uring_files.specs.Done.{Done}
 use Rattle.uring_workers.specs.declared.job.Job.{Job}
 use Rattle.uring_workers.specs.declared.work_lanes.WorkLanes.{WorkLanes}
@@ -12,6 +11,7 @@ use Rattle.uring_core.specs.CalledFor.{files_of}
 use Rattle.uring_threads.specs.Kept.{Kept, now, history}
 use Rattle.uring_threads.specs.Settled.{Work, IsWork, IsSettled}
 use Rattle.uring_workers.specs.Work.{jobs_of}
+use Rattle.uring_workers.specs.WorkLanes.{jobs_sent}
 use Rattle.uring_workers.specs.Worker.{Worker, Looks}
 
 -- All results of a worker were taken in, and of no other worker any: of the jobs that its lane has carried these are done, and these it hasn't taken.
@@ -42,7 +42,7 @@ pub record HaveLooked (old new : List Worker) : Type 0 where
 -- each has seen all jobs that these lanes have carried and that it hasn't taken
 abbrev pub HaveSeenAll : List WorkLanes → List Worker → Type 0
 HaveSeenAll lanes workers = (k : ℕ) (d : WorkLanes) (e : Worker) → k < length lanes
-    → jobs_of (get_or workers k e).done ++ (get_or workers k e).seen ≡ sent (get_or lanes k d).jobs
+    → jobs_of (get_or workers k e).done ++ (get_or workers k e).seen ≡ jobs_sent (get_or lanes k d)
 
 -- there is a worker, and each has as many files as there are
 pub record HaveFiles (files : ℕ) (workers : List Worker) : Type 0 where

@@ -2,20 +2,18 @@
 ghost use Rattle.std.specs.Prelude.{◌≡◌, ℕ, ◌+◌, ◌<◌, ◌≤◌, ◌↔◌, [], ◌∷◌, ◌++◌, length, IsTrue, IfOk, OnOk, OnErr};
 ghost use Rattle.uring_threads.specs.Delivered.{OnlyPosts};
 ghost use Rattle.uring_threads.specs.Dispatched.{HaveCarried, AreTakenIn};
-ghost use Rattle.uring_workers.specs.WorkLanes.{AreSameLanes};
+ghost use Rattle.uring_workers.specs.WorkLanes.{AreSameLanes, OnlyReceives, results_received, results_seen};
 ghost use Rattle.uring_threads.specs.EventRows.{RecordsFinishes};
 ghost use Rattle.uring_threads.specs.Kept.{now};
 ghost use Rattle.uring_threads.specs.Tallies.{Appends, TakesFewResults, finishes_counted, most_results, results_taken_in};
-ghost use Rattle.rtrb.specs.Ring.{received, known_items, SameConsumer};
 ghost use Rattle.uring_threads.specs.Collected.{CanBeTaken, Collects, CollectsFew, CollectsNext, CollectsSeen, NoneComes, OtherLanesStay, OthersStay, SeesNoMore, TakesAll, TakesNext, TakesSeen, Wait};
 ghost use Rattle.uring_threads.specs.Kept.{Grows};
 ghost use Rattle.uring_threads.specs.Settled.{finish_of};
 ghost use Rattle.uring_workers.specs.declared.job.JobResult.{JobResult};
 
 use crate::kept::Kept;
-use rtrb::Consumer;
 use std::alloc::AllocError;
-use uring_workers::{JobResult, LANE_LENGTH, WorkLanes, place_of};
+use uring_workers::{LANE_LENGTH, WorkLanes, place_of};
 
 /// Takes in results of all workers, worker 0's first, at most 64 of each, and returns how many. Conditions: there are 1 to 8 workers. `AllocError`: room for the next event was refused; what was taken in until then is recorded, and nothing more was taken.
 pub fn collect_all(kept: &mut Kept, lanes: &mut [WorkLanes]) -> Result<u64, AllocError>
@@ -65,27 +63,27 @@ fn collect_at(kept: &mut Kept, lanes: &mut [WorkLanes], place: u32) -> Result<u6
     ensures err { OnErr result ((count : ℕ) × Appends kept.old kept.new (finishes_counted count)) }
 {
     let workers = lanes.len() as u32;
-    collect(kept, &mut lanes[place as usize].results, place, workers)
+    collect(kept, &mut lanes[place as usize], place, workers)
 }
 
 /// Takes in the results of a worker that are seen, at most 64 of them, and returns how many. `AllocError`: room for the next event was refused; what was taken in until then is recorded, and nothing more was taken.
 pub fn collect(
     kept: &mut Kept,
-    results: &mut Consumer<JobResult>,
+    lanes: &mut WorkLanes,
     place: u32,
     workers: u32,
 ) -> Result<u64, AllocError>
     requires workers { 0 < workers }
-    requires taken { AreTakenIn kept.old workers place (received results.old) }
-    ensures taken { AreTakenIn kept.new workers place (received results.new) }
+    requires taken { AreTakenIn kept.old workers place (results_received lanes.old) }
+    ensures taken { AreTakenIn kept.new workers place (results_received lanes.new) }
     ensures ok { IfOk result
-        (λ count. CollectsSeen kept.old kept.new workers place count (known_items results.new)) }
+        (λ count. CollectsSeen kept.old kept.new workers place count (results_seen lanes.new)) }
     ensures err { OnErr result
         ((count : ℕ) × (count ≤ most_results) × Collects kept.old kept.new workers place count) }
-    ensures ring { SameConsumer results.old results.new }
+    ensures lanes { OnlyReceives lanes.old lanes.new }
 {
     for count in 0..LANE_LENGTH {
-        if !collect_next(kept, results, place, workers)? {
+        if !collect_next(kept, lanes, place, workers)? {
             return Ok(count as u64);
         }
     }
@@ -95,49 +93,44 @@ pub fn collect(
 /// Takes in the next result of a worker, if one is seen, with room for it asked for first.
 fn collect_next(
     kept: &mut Kept,
-    results: &mut Consumer<JobResult>,
+    lanes: &mut WorkLanes,
     place: u32,
     workers: u32,
 ) -> Result<bool, AllocError>
     requires workers { 0 < workers }
-    requires taken { AreTakenIn kept.old workers place (received results.old) }
-    ensures taken { AreTakenIn kept.new workers place (received results.new) }
+    requires taken { AreTakenIn kept.old workers place (results_received lanes.old) }
+    ensures taken { AreTakenIn kept.new workers place (results_received lanes.new) }
     ensures ok { IfOk result
-        (λ more. CollectsNext kept.old kept.new workers place (known_items results.new) more) }
+        (λ more. CollectsNext kept.old kept.new workers place (results_seen lanes.new) more) }
     ensures err { OnErr result (Collects kept.old kept.new workers place 0) }
-    ensures ring { SameConsumer results.old results.new }
+    ensures lanes { OnlyReceives lanes.old lanes.new }
 {
-    if results.is_empty() {
+    if lanes.results.is_empty() {
         return Ok(false);
     }
     kept.reserve(1)?;
-    Ok(collect_one(kept, results, place, workers))
+    Ok(collect_one(kept, lanes, place, workers))
 }
 
 /// Takes in the next result of a worker, if one is seen: it ends its request, which is recorded. A result of a request that doesn't run, or of one that is another worker's, stays in the lane. Condition: there is room in the trace for one event.
-pub fn collect_one(
-    kept: &mut Kept,
-    results: &mut Consumer<JobResult>,
-    place: u32,
-    workers: u32,
-) -> bool
+pub fn collect_one(kept: &mut Kept, lanes: &mut WorkLanes, place: u32, workers: u32) -> bool
     requires room { length kept.old.trace < kept.old.room }
     requires workers { 0 < workers }
-    requires taken { AreTakenIn kept.old workers place (received results.old) }
-    ensures taken { AreTakenIn kept.new workers place (received results.new) }
-    ensures next { TakesNext kept.old kept.new workers place (received results.old)
-        (received results.new) (known_items results.new) result }
+    requires taken { AreTakenIn kept.old workers place (results_received lanes.old) }
+    ensures taken { AreTakenIn kept.new workers place (results_received lanes.new) }
+    ensures next { TakesNext kept.old kept.new workers place (results_received lanes.old)
+        (results_received lanes.new) (results_seen lanes.new) result }
     ensures others { OthersStay kept.old kept.new workers place }
-    ensures ring { SameConsumer results.old results.new }
+    ensures lanes { OnlyReceives lanes.old lanes.new }
 {
-    if results.is_empty() {
+    if lanes.results.is_empty() {
         return false;
     }
-    let next = results.peek_known().number;
+    let next = lanes.results.peek_known().number;
     if !is_at(kept, next, place, workers) {
         return false;
     }
-    let result = results.pop_known();
+    let result = lanes.results.pop_known();
     kept.finish(result.number, result.outcome);
     true
 }
@@ -154,31 +147,31 @@ fn is_at(kept: &Kept, number: u64, place: u32, workers: u32) -> bool
 }
 
 /// Takes in all results of a worker that are seen. Conditions: these are all that wait there, and there is room in the trace for an event each.
-pub fn take_waiting(kept: &mut Kept, results: &mut Consumer<JobResult>)
-    requires room { length kept.old.trace + length (known_items results.old) ≤ kept.old.room }
-    requires work { Wait kept.old (known_items results.old) }
-    ensures trace { TakesAll kept.old kept.new (known_items results.old) }
-    ensures results { (received results.new ≡ received results.old ++ known_items results.old)
-        × (known_items results.new ≡ []) }
-    ensures ring { SameConsumer results.old results.new }
+pub fn take_waiting(kept: &mut Kept, lanes: &mut WorkLanes)
+    requires room { length kept.old.trace + length (results_seen lanes.old) ≤ kept.old.room }
+    requires work { Wait kept.old (results_seen lanes.old) }
+    ensures trace { TakesAll kept.old kept.new (results_seen lanes.old) }
+    ensures results { (results_received lanes.new ≡ results_received lanes.old ++ results_seen lanes.old)
+        × (results_seen lanes.new ≡ []) }
+    ensures lanes { OnlyReceives lanes.old lanes.new }
 {
-    for _taken in 0..results.cached_slots() {
-        take_known(kept, results);
+    for _taken in 0..lanes.results.cached_slots() {
+        take_known(kept, lanes);
     }
 }
 
 /// Takes in the next result of a worker, which is seen. Conditions: those seen are all that wait there, and there is room in the trace for one event.
-fn take_known(kept: &mut Kept, results: &mut Consumer<JobResult>)
+fn take_known(kept: &mut Kept, lanes: &mut WorkLanes)
     requires room { length kept.old.trace < kept.old.room }
-    requires some { 0 < length (known_items results.old) }
-    requires work { Wait kept.old (known_items results.old) }
-    ensures next { (r : JobResult) × (known_items results.old ≡ r ∷ known_items results.new)
-        × (received results.new ≡ received results.old ++ r ∷ [])
+    requires some { 0 < length (results_seen lanes.old) }
+    requires work { Wait kept.old (results_seen lanes.old) }
+    ensures next { (r : JobResult) × (results_seen lanes.old ≡ r ∷ results_seen lanes.new)
+        × (results_received lanes.new ≡ results_received lanes.old ++ r ∷ [])
         × Grows kept.old kept.new (finish_of r) }
-    ensures work { Wait kept.new (known_items results.new) }
-    ensures ring { SameConsumer results.old results.new }
+    ensures work { Wait kept.new (results_seen lanes.new) }
+    ensures lanes { OnlyReceives lanes.old lanes.new }
 {
     kept.is_lawful();
-    let result = results.pop_known();
+    let result = lanes.results.pop_known();
     kept.finish(result.number, result.outcome);
 }

@@ -41,7 +41,7 @@ impl<G: Gate> Model for Report<G> {
     ghost use Rattle.std.specs.Prelude.{◌≤◌, length};
     ghost use Rattle.uring_threads.specs.SettledWorker.{AreSettled, HaveFiles};
 
-    ghost view = { λ r. record { setup = r.kept.setup; trace = r.kept.trace; unsent = r.unsent.items; undelivered = r.undelivered.items; waiting = r.waiting.items } };
+    ghost view = { λ r. record { setup = r.kept.setup; workers = length r.workers.items; trace = r.kept.trace; unsent = r.unsent.items; undelivered = r.undelivered.items; waiting = r.waiting.items } };
 
     ghost invariant = { λ r. AreSettled r.kept r.workers.items
         × HaveFiles r.kept.setup.files r.workers.items × (length r.workers.items ≤ 8) };
@@ -65,6 +65,7 @@ impl<G: Gate> Report<G> {
         requires list { length (unreaped (now kept).completions) + 64 * length lanes.items
             ≤ vec_capacity waiting }
         ensures setup { result.setup ≡ kept.setup }
+        ensures many { result.workers ≡ length workers.items }
         ensures trace { FinishesAll kept.trace lanes.items workers.items result }
         ensures lawful { IsLawful result.setup (history_of result.trace) }
         ensures running { LeavesRunning lanes.items workers.items result }

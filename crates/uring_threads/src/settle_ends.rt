@@ -1,5 +1,5 @@
 //! Settling all ends of a set-up: the one place where application, dispatcher and workers meet.
-ghost use Rattle.std.specs.Prelude.{◌≡◌, IfOk, IfErr, OnOk};
+ghost use Rattle.std.specs.Prelude.{◌≡◌, length, IfOk, IfErr, OnOk};
 ghost use Rattle.uring_core.specs.CalledFor.{IsLawful};
 ghost use Rattle.uring_core.specs.Histories.{history_of};
 ghost use Rattle.uring_ports.specs.Dropped.{WereStored};
@@ -31,6 +31,7 @@ pub fn settle<K: KernelPort, G: Gate>(
     requires { AreTogether app kernel workers.items }
     // The trace is the dispatcher's, and then a Finish for each result that waited; over the same set-up it is lawful.
     ensures setup { IfOk result (λ report. report.setup ≡ kernel.kept.setup) }
+    ensures many { IfOk result (λ report. report.workers ≡ length workers.items) }
     ensures trace { IfOk result
         (λ report. FinishesAll kernel.kept.trace kernel.lanes workers.items report) }
     ensures lawful { IfOk result (λ report. IsLawful report.setup (history_of report.trace)) }

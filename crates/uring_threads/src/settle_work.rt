@@ -1,6 +1,5 @@
 //! Settling: with both ends of a worker's lanes in hand, all its results are taken in.
 ghost use Rattle.std.specs.Prelude.{◌≡◌, ℕ, List, ◌+◌, ◌*◌, ◌<◌, ◌≤◌, ◌++◌, length};
-ghost use Rattle.rtrb.specs.Ring.{received, consumer_capacity};
 ghost use Rattle.uring_threads.specs.Collected.{TakesAll};
 ghost use Rattle.uring_threads.specs.Dispatched.{HasCarried, HaveCarried};
 ghost use Rattle.uring_workers.specs.Pairings.{pairing_of};
@@ -8,6 +7,7 @@ ghost use Rattle.uring_threads.specs.SettledWorker.{AreSettled, HaveLooked, Have
 ghost use Rattle.uring_workers.specs.Opened.{AreLanesOf};
 ghost use Rattle.uring_threads.specs.Report.{all_waiting};
 ghost use Rattle.uring_workers.specs.Work.{results_of};
+ghost use Rattle.uring_workers.specs.WorkLanes.{results_held, results_received};
 ghost use Rattle.uring_workers.specs.Worker.{IsRight, Looks};
 ghost use Rattle.uring_workers.specs.declared.job.JobResult.{JobResult};
 
@@ -38,14 +38,14 @@ pub fn settle_workers<G: Gate>(kept: &mut Kept, lanes: &mut [WorkLanes], workers
 /// Takes in all results of a worker that wait. Conditions: these are the dispatcher's ends of its lanes, which have carried what the trace has, and there is room in the trace for as many events as the lane of results holds.
 pub fn settle_worker<G: Gate>(kept: &mut Kept, lanes: &mut WorkLanes, worker: &mut Worker<G>)
     requires pairing { worker.old.pairing ≡ pairing_of lanes.old.jobs lanes.old.results }
-    requires room { length kept.old.trace + consumer_capacity lanes.old.results ≤ kept.old.room }
+    requires room { length kept.old.trace + results_held lanes.old ≤ kept.old.room }
     requires carried { (workers : ℕ) × (k : ℕ) × HasCarried kept.old workers k lanes.old }
     // A Finish for each result that waited, and no more.
     ensures trace { (waiting : List JobResult)
-        × (results_of worker.old.done ≡ received lanes.old.results ++ waiting)
+        × (results_of worker.old.done ≡ results_received lanes.old ++ waiting)
         × TakesAll kept.old kept.new waiting }
     ensures few { length kept.new.trace
-        ≤ length kept.old.trace + consumer_capacity lanes.old.results }
+        ≤ length kept.old.trace + results_held lanes.old }
     // Whichever worker it is.
     ensures settled { (workers k : ℕ) → HasCarried kept.old workers k lanes.old
         → IsSettledAt kept.old kept.new workers k lanes.new worker.old.done worker.new.seen }
@@ -57,5 +57,5 @@ pub fn settle_worker<G: Gate>(kept: &mut Kept, lanes: &mut WorkLanes, worker: &m
     worker.see_all(lanes);
     worker.is_right();
     kept.is_lawful();
-    take_waiting(kept, &mut lanes.results);
+    take_waiting(kept, lanes);
 }

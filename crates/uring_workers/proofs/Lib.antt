@@ -1,2 +1,3 @@
 pub mod Working
 mod FreshWorkers
+pub mod LaneFacts

@@ -1,9 +1,8 @@
 -- Workers and their lanes: which belong together, and how they stand before anything is done with them. All of it is our own rule.
 use Rattle.std.specs.Prelude.{◌≡◌, ℕ, ◌<◌, ◌≤◌, List, [], length, get_or}
-use Rattle.rtrb.specs.Ring.{consumer_capacity}
 use Rattle.uring_files.specs.Contents.{empty_files}
 use Rattle.uring_workers.specs.Pairings.{pairing_of}
-use Rattle.uring_workers.specs.WorkLanes.{HaveCarriedNone, HoldJobs}
+use Rattle.uring_workers.specs.WorkLanes.{HaveCarriedNone, HoldJobs, results_held}
 use Rattle.uring_workers.specs.Worker.{Worker}
 use Rattle.uring_workers.specs.declared.work_lanes.WorkLanes.{WorkLanes}
 
@@ -24,7 +23,7 @@ pub record AreLanesOf (files : ℕ) (lanes : List WorkLanes) (workers : List Wor
   pub pairing : (k : ℕ) (d : WorkLanes) (e : Worker) → k < length lanes
       → (get_or workers k e).pairing ≡ pairing_of (get_or lanes k d).jobs (get_or lanes k d).results
   pub short : (k : ℕ) (d : WorkLanes) → k < length lanes
-      → consumer_capacity (get_or lanes k d).results ≤ 64
+      → results_held (get_or lanes k d) ≤ 64
   pub have : (k : ℕ) (e : Worker) → k < length lanes → length (get_or workers k e).files ≡ files
 
 -- the dispatcher's ends of fresh lanes, and their workers, in their order

@@ -1,6 +1,7 @@
 use Rattle.std.proofs.Common.{rules, refl, arith}
-use Rattle.rtrb.specs.Ring.{known_items}
+use Rattle.uring_workers.specs.WorkLanes.{results_seen}
 use Rattle.uring_threads.proofs.Collecting.{on_err, collects_then, collects_more, collects_no_more}
+use Rattle.uring_threads.proofs.Turning.{receives_then}
 use Rattle.uring_threads.proofs.collect.collect.Goals as goal
 
 pub returns-in_err-collect_next-clause-err : goal.returns-in_err-collect_next-clause-err
@@ -9,13 +10,13 @@ returns-in_err-collect_next-clause-err c =
 
 pub returns-then-not-branch-clause-ok : goal.returns-then-not-branch-clause-ok
 returns-then-not-branch-clause-ok c =
-    collects_no_more c.args.kept.now c.loop-count.kept c.collect_next.new.kept c.args.workers c.args.place c.loop-count.count (known_items c.collect_next.new.results) c.in_ok-collect_next.field-0 (search rules) (search (rules, arith)) c.loop-count.invariant.4 c.in_ok-collect_next.ensures.ok
+    collects_no_more c.args.kept.now c.loop-count.kept c.collect_next.new.kept c.args.workers c.args.place c.loop-count.count (results_seen c.collect_next.new.lanes) c.in_ok-collect_next.field-0 (search rules) (search (rules, arith)) c.loop-count.invariant.4 c.in_ok-collect_next.ensures.ok
 
 pub loop-count-preserved : goal.loop-count-preserved
 loop-count-preserved c = (
   refl,
   refl,
-  search rules,
+  receives_then _ _ _ c.loop-count.invariant.2 c.collect_next.ensures.lanes,
   c.collect_next.ensures.taken,
-  collects_more c.args.kept.now c.loop-count.kept c.collect_next.new.kept c.args.workers c.args.place c.loop-count.count (known_items c.collect_next.new.results) c.in_ok-collect_next.field-0 (search rules) c.loop-count.invariant.4 c.in_ok-collect_next.ensures.ok,
+  collects_more c.args.kept.now c.loop-count.kept c.collect_next.new.kept c.args.workers c.args.place c.loop-count.count (results_seen c.collect_next.new.lanes) c.in_ok-collect_next.field-0 (search rules) c.loop-count.invariant.4 c.in_ok-collect_next.ensures.ok,
 )

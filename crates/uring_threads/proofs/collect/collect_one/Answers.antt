@@ -1,5 +1,5 @@
 use Rattle.std.proofs.Common.{◌++◌, [], ◌∷◌, ◌∙◌, ap, refl, subst}
-use Rattle.rtrb.specs.Ring.{received}
+use Rattle.uring_workers.specs.WorkLanes.{results_received}
 use Rattle.uring_threads.specs.Collected.{CanBeTaken}
 use Rattle.uring_threads.specs.Kept.{Grows}
 use Rattle.uring_threads.specs.Settled.{finish_of}
@@ -20,7 +20,7 @@ grows c = takes_in c.args.kept.now c.finish.new.self c.args.workers c.args.place
 pub returns-clause-taken : goal.returns-clause-taken
 returns-clause-taken c =
     rw (c.pop_known-result.ensures.received.0, c.is_empty.ensures.looked.1)
-    (result_taken c.args.kept.now c.finish.new.self c.args.workers c.args.place c.pop_known-result.result (popped_can c) (grows c) (received c.args.results.now) c.requires.taken)
+    (result_taken c.args.kept.now c.finish.new.self c.args.workers c.args.place c.pop_known-result.result (popped_can c) (grows c) (results_received c.args.lanes.now) c.requires.taken)
 
 pub returns-clause-next : goal.returns-clause-next
 returns-clause-next c =

@@ -1,5 +1,5 @@
 use Rattle.std.proofs.Common.{◌≡◌, ◌++◌, sym, ap, ◌∙◌}
-use Rattle.rtrb.specs.Ring.{known_items}
+use Rattle.uring_workers.specs.WorkLanes.{jobs_sent, results_seen}
 use Rattle.uring_workers.specs.Work.{jobs_of, results_of}
 use Rattle.uring_threads.proofs.SettledWork.{settled_at}
 use Rattle.uring_threads.proofs.settle_work.settle_worker.Goals as goal
@@ -8,7 +8,7 @@ pub take_waiting-requires-clause-work : goal.take_waiting-requires-clause-work
 take_waiting-requires-clause-work g c =
     let seen = c.see_all.ensures in
     let carried = c.requires.carried in
-    let waiting = known_items c.see_all.new.lanes.results in (
+    let waiting = results_seen c.see_all.new.lanes in (
       carried.0,
       carried.1,
       c.see_all.new.self.done,
@@ -20,10 +20,10 @@ pub returns-clause-settled : goal.returns-clause-settled
 returns-clause-settled g c = λ workers k carried.
     let seen = c.see_all.ensures in
     let same : c.see_all.new.self.done ≡ c.args.worker.now.done = ap (λ w. w.done) seen.worker.same in
-    settled_at c.args.kept.now c.take_waiting.new.kept workers k c.args.worker.now.done c.see_all.new.self.seen (known_items c.see_all.new.lanes.results) c.args.lanes.now c.is_lawful.ensures.lawful carried
+    settled_at c.args.kept.now c.take_waiting.new.kept workers k c.args.worker.now.done c.see_all.new.self.seen (results_seen c.see_all.new.lanes) c.args.lanes.now c.is_lawful.ensures.lawful carried
     (ap (λ ds. jobs_of ds ++ c.see_all.new.self.seen) (sym same) ∙ seen.jobs ∙ seen.dispatcher.0)
-    (ap (λ rs. rs ++ known_items c.see_all.new.lanes.results) (sym seen.dispatcher.1) ∙ seen.results ∙ ap results_of same)
+    (ap (λ rs. rs ++ results_seen c.see_all.new.lanes) (sym seen.dispatcher.1) ∙ seen.results ∙ ap results_of same)
     c.take_waiting.ensures.trace
-    (record c.see_all.new.lanes { results = c.take_waiting.new.results })
-    seen.dispatcher.0
-    (c.take_waiting.ensures.results.0 ∙ ap (λ rs. rs ++ known_items c.see_all.new.lanes.results) seen.dispatcher.1)
+    c.take_waiting.new.lanes
+    (ap (λ jobs. jobs_sent (record c.see_all.new.lanes { jobs = jobs })) c.take_waiting.ensures.lanes.jobs ∙ seen.dispatcher.0)
+    (c.take_waiting.ensures.results.0 ∙ ap (λ rs. rs ++ results_seen c.see_all.new.lanes) seen.dispatcher.1)
