@@ -17,7 +17,8 @@ use Rattle.uring_check.specs.Checking.{FitsBy, Judges, Looks, Looked, LooksAt, r
 use Rattle.uring_check.specs.Findings.{IsFinding, IsFindingBehind, first_fault, has_stopped, history_behind, judged, stops, with_finding}
 use Rattle.uring_check.specs.Findings as finding
 use Rattle.uring_check.specs.Records.{IsRecord, IsNoRecord}
-use Rattle.uring_check.specs.Reports.{counted_with, line_text, told_of, told_of_all, wanted_text, why_asked, why_told}
+use Rattle.uring_check.specs.Reports.{counted_with, line_text, told_of, told_of_all, wanted_text, why_asked, why_told, why_bad}
+use Rattle.uring_text.specs.Visible.{visible_line}
 use Rattle.uring_check.specs.Rules.{Rules, IsCalled}
 use Rattle.uring_check.specs.declared.answer_text.AnswerText.{AnswerText}
 use Rattle.uring_check.specs.declared.checker.Checker.{Checker}
@@ -43,17 +44,21 @@ looked_passed c line h none remark over fits = record {
   told = sym (append-nil c.report.items);
 }
 
+three_parts : (i a b c : List ℕ) → i ++ a ++ b ++ c ≡ i ++ (a ++ b ++ c)
+three_parts i a b c = simp append_assoc refl
+
 bad_told : (w : World) (n : ℕ) (line items : List ℕ)
-    → items ++ line_text n ++ ended (codes "bad line") ≡ items ++ told_of w n line finding.Bad
-bad_told w n line items = simp append_assoc refl
+    → items ++ line_text n ++ ended (codes "bad line") ++ why_bad line
+    ≡ items ++ told_of w n line finding.Bad
+bad_told w n line items = three_parts items (line_text n) (ended (codes "bad line")) (why_bad line)
 
 regroup : (i a b c d e : List ℕ) → i ++ a ++ b ++ c ++ d ++ e ≡ i ++ (a ++ b ++ c ++ d ++ e)
 regroup i a b c d e = simp append_assoc refl
 
 wrong_told : (w : World) (n : ℕ) (line items : List ℕ) (s : Step) (wanted : Wanted)
-    → items ++ line_text n ++ ended line ++ codes "wanted: " ++ ended (wanted_text wanted) ++ why_told (why_asked w.requests s)
+    → items ++ line_text n ++ ended (visible_line line) ++ codes "wanted: " ++ ended (wanted_text wanted) ++ why_told (why_asked w.requests s)
     ≡ items ++ told_of w n line (finding.Wrong s wanted)
-wrong_told w n line items s wanted = regroup items (line_text n) (ended line) (codes "wanted: ") (ended (wanted_text wanted)) (why_told (why_asked w.requests s))
+wrong_told w n line items s wanted = regroup items (line_text n) (ended (visible_line line)) (codes "wanted: ") (ended (wanted_text wanted)) (why_told (why_asked w.requests s))
 
 -- a checker that found a bad line, and told it
 abbrev pub found_bad : Checker → Vec ℕ Global → Checker
@@ -62,10 +67,10 @@ found_bad c report = record c { is_over = true; report = report }
 pub looked_bad : (old mid : Checker) (report : Vec ℕ Global) (line : List ℕ) (h : History)
     → mid ≡ record old { verdict = first_fault old.verdict verdict.Bad } → IsNoRecord line
     → is_remark line ≡ false → FitsBy old.machine h
-    → report.items ≡ mid.report.items ++ line_text mid.number ++ ended (codes "bad line")
+    → report.items ≡ mid.report.items ++ line_text mid.number ++ ended (codes "bad line") ++ why_bad line
     → Looked old (found_bad mid report) line h
 looked_bad old mid report line h is none remark fits =
-    subst (λ (m : Checker). report.items ≡ m.report.items ++ line_text m.number ++ ended (codes "bad line") → Looked old (found_bad m report) line h) (sym is)
+    subst (λ (m : Checker). report.items ≡ m.report.items ++ line_text m.number ++ ended (codes "bad line") ++ why_bad line → Looked old (found_bad m report) line h) (sym is)
     (λ told. record {
       finding = finding.Bad;
       is_so = (none, remark);
@@ -112,7 +117,7 @@ pub looked_wrong : (old new : Checker) (m : Follower) (t : AnswerText) (s : Step
     → (wanted : Wanted) × (shown ≡ wanted_text wanted) × Judges old.machine m s text (Some wanted)
     → new ≡ found_wrong (with_machine old m t) new.report
     → new.report.items
-    ≡ old.report.items ++ line_text old.number ++ ended line ++ codes "wanted: " ++ ended shown ++ why_told why
+    ≡ old.report.items ++ line_text old.number ++ ended (visible_line line) ++ codes "wanted: " ++ ended shown ++ why_told why
     → IsRecord line s text → LooksAt old new line
 looked_wrong old new m t s text line shown why same asked judges is told rec = λ h f.
     let j = judges.2 h f in
@@ -129,8 +134,8 @@ looked_wrong old new m t s text line shown why same asked judges is told rec = �
       stopped = ap (λ (c : Checker). c.is_over) is;
       told =
           told
-          ∙ ap (λ (t : List ℕ). old.report.items ++ line_text old.number ++ ended line ++ codes "wanted: " ++ ended t ++ why_told why) judges.1
-          ∙ ap (λ (w : Option (ℕ × Why)). old.report.items ++ line_text old.number ++ ended line ++ codes "wanted: " ++ ended (wanted_text wanted) ++ why_told w) (asked h f)
+          ∙ ap (λ (t : List ℕ). old.report.items ++ line_text old.number ++ ended (visible_line line) ++ codes "wanted: " ++ ended t ++ why_told why) judges.1
+          ∙ ap (λ (w : Option (ℕ × Why)). old.report.items ++ line_text old.number ++ ended (visible_line line) ++ codes "wanted: " ++ ended (wanted_text wanted) ++ why_told w) (asked h f)
           ∙ wrong_told (world (rules_of old.machine).setup h) old.number line old.report.items s wanted;
     }
 

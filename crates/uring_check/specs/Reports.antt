@@ -12,6 +12,9 @@ use Rattle.uring_core.specs.declared.wanted.Wanted.{Wanted}
 use Rattle.uring_core.specs.declared.wanted.Wanted.TheVariants.{Only, CallOrAgain, AnyEnd, EndOrNoMemory}
 use Rattle.uring_trace.specs.Explanations.{line_number}
 use Rattle.uring_text.specs.Lines.{ended}
+use Rattle.uring_text.specs.Visible.{visible_line}
+use Rattle.uring_trace.specs.Flaws.{line_flaw}
+use Rattle.uring_trace.specs.declared.flaws.Language.TheVariants as language
 use Rattle.uring_trace.specs.Reasons.{why_text}
 use Rattle.uring_trace.specs.Text.{text_of}
 use Rattle.uring_check.specs.Findings.{Found, Finding, history_behind, verdict_of}
@@ -42,11 +45,15 @@ why_told (Some why) = codes "why: " ++ decimal why.0 ++ codes " " ++ ended (why_
 abbrev pub line_text : ℕ → List ℕ
 line_text number = codes "line " ++ decimal number ++ codes ": "
 
--- What is told of the line with this number, by the world before it: of a wrong one the line, the answers that are called for, and why; and that a line is bad.
+-- what is told of a bad line: what is wrong with it
+abbrev pub why_bad : List ℕ → List ℕ
+why_bad line = codes "why: " ++ ended (line_flaw language.Records line)
+
+-- What is told of the line with this number, by the world before it: of a wrong one the line, in which no byte is invisible, the answers that are called for, and why; and that a line is bad, and why.
 abbrev pub told_of : World → ℕ → List ℕ → Finding → List ℕ
 told_of w number line (finding.Wrong s wanted) =
-    line_text number ++ ended line ++ codes "wanted: " ++ ended (wanted_text wanted) ++ why_told (why_asked w.requests s)
-told_of w number line finding.Bad = line_text number ++ ended (codes "bad line")
+    line_text number ++ ended (visible_line line) ++ codes "wanted: " ++ ended (wanted_text wanted) ++ why_told (why_asked w.requests s)
+told_of w number line finding.Bad = line_text number ++ ended (codes "bad line") ++ why_bad line
 told_of w number line _ = []
 
 -- one step more for a right line

@@ -4,6 +4,7 @@ ghost use Rattle.std.specs.Prelude.{◌≡◌, ◌∷◌, ◌++◌, [], false, n
 ghost use Rattle.uring_core.specs.Histories.{History, world};
 ghost use Rattle.uring_text.specs.KeptLine.{kept_of};
 ghost use Rattle.uring_text.specs.Lines.{ended};
+ghost use Rattle.uring_text.specs.Visible.{visible_line};
 ghost use Rattle.uring_check.specs.Checking.{FitsBy, rules_of, Looks, LooksAt, IsTold};
 ghost use Rattle.uring_check.specs.Findings.{first_fault};
 ghost use Rattle.uring_check.specs.Rules.{Rules};
@@ -125,7 +126,7 @@ impl Checker {
         }
         self.fault(Verdict::Bad);
         self.is_over = true;
-        tell_bad(self.alloc, &mut self.report, self.number)
+        tell_bad(self.alloc, &mut self.report, self.number, line)
     }
 
     /// Finds a line that is this step with this text for its answer.
@@ -156,7 +157,7 @@ impl Checker {
             ≡ record self.old { verdict = first_fault self.old.verdict Verdict.Wrong; is_over = not self.old.is_all; report = self.new.report }) }
         ensures told { OnOk result
             (self.new.report.items
-            ≡ self.old.report.items ++ line_text self.old.number ++ ended line.now ++ codes "wanted: " ++ ended wanted.now ++ why_told why) }
+            ≡ self.old.report.items ++ line_text self.old.number ++ ended (visible_line line.now) ++ codes "wanted: " ++ ended wanted.now ++ why_told why) }
     {
         self.fault(Verdict::Wrong);
         self.is_over = !self.is_all;

@@ -1,16 +1,20 @@
 //! The lines of a report.
 
-ghost use Rattle.std.specs.Prelude.{◌≡◌, [], ◌++◌, OnOk, string_bytes, codes};
+ghost use Rattle.std.specs.Prelude.{◌≡◌, ℕ, List, [], ◌++◌, OnOk, string_bytes, codes};
 ghost use Rattle.uring_text.specs.Lines.{ended};
-ghost use Rattle.uring_check.specs.Reports.{closing, line_text, wanted_text, why_told};
+ghost use Rattle.uring_check.specs.Reports.{closing, line_text, wanted_text, why_bad, why_told};
+ghost use Rattle.uring_text.specs.KeptLine.{kept_of};
+ghost use Rattle.uring_text.specs.Visible.{visible_line};
+ghost use Rattle.uring_trace.specs.Flaws.{line_flaw};
 
 use crate::verdict::Verdict;
 use std::alloc::{AllocError, Global};
 use std::fmt::Write;
 use uring_machine::{Wanted, Why};
-use uring_trace::{push_answer, push_why};
+use uring_text::{KeptLine, push_visible_line};
+use uring_trace::{Language, push_answer, push_line_flaw, push_why};
 
-/// Appends a wrong line with its number, the answers that are called for, and why.
+/// Appends a wrong line with its number, in which no byte is invisible, the answers that are called for, and why.
 pub(crate) fn tell_wrong(
     alloc: Global,
     report: &mut Vec<u8>,
@@ -21,20 +25,51 @@ pub(crate) fn tell_wrong(
 ) -> Result<(), AllocError>
     ensures { OnOk result
         (report.new.items
-        ≡ report.old.items ++ line_text number ++ ended line.now ++ codes "wanted: " ++ ended wanted.now ++ why_told why) }
+        ≡ report.old.items ++ line_text number ++ ended (visible_line line.now) ++ codes "wanted: " ++ ended wanted.now ++ why_told why) }
 {
     tell_line(alloc, report, number)?;
-    report.extend_from_slice(line)?;
+    tell_visible(alloc, report, line)?;
     tell_reasons(alloc, report, wanted, why)
 }
 
-/// Appends that the line with this number is bad.
-pub(crate) fn tell_bad(alloc: Global, report: &mut Vec<u8>, number: u64) -> Result<(), AllocError>
+/// Appends that the line with this number is bad, and what is wrong with it.
+pub(crate) fn tell_bad(
+    alloc: Global,
+    report: &mut Vec<u8>,
+    number: u64,
+    line: &KeptLine,
+) -> Result<(), AllocError>
     ensures { OnOk result
-        (report.new.items ≡ report.old.items ++ line_text number ++ ended (codes "bad line")) }
+        ((bytes : List ℕ) → line.now ≡ kept_of bytes
+        → report.new.items
+        ≡ report.old.items ++ line_text number ++ ended (codes "bad line") ++ why_bad bytes) }
 {
     tell_line(alloc, report, number)?;
-    report.extend_from_slice(b"bad line\n")
+    report.extend_from_slice(b"bad line\n")?;
+    tell_flaw(alloc, report, line)
+}
+
+/// Appends what is wrong with a bad line.
+fn tell_flaw(alloc: Global, report: &mut Vec<u8>, line: &KeptLine) -> Result<(), AllocError>
+    ensures { OnOk result
+        ((bytes : List ℕ) → line.now ≡ kept_of bytes
+        → report.new.items ≡ report.old.items ++ why_bad bytes) }
+{
+    let mut text = String::new(alloc);
+    push_flaw(alloc, &mut text, line)?;
+    report.extend_from_slice(b"why: ")?;
+    report.extend_from_slice(text.as_bytes())
+}
+
+/// Appends what is wrong with a bad line, as the end of a line of text.
+fn push_flaw(alloc: Global, text: &mut String, line: &KeptLine) -> Result<(), AllocError>
+    ensures { OnOk result
+        ((bytes : List ℕ) → line.now ≡ kept_of bytes
+        → string_bytes text.new
+        ≡ string_bytes text.old ++ ended (line_flaw Language.Records bytes)) }
+{
+    push_line_flaw(alloc, text, line, Language::Records)?;
+    text.push_str("\n")
 }
 
 /// Appends how many steps there were, if all is lawful.
@@ -67,6 +102,15 @@ fn tell_line(alloc: Global, report: &mut Vec<u8>, number: u64) -> Result<(), All
 {
     let mut text = String::new(alloc);
     write!(text, "line {number}: ")?;
+    report.extend_from_slice(text.as_bytes())
+}
+
+/// Appends a line in which no byte is invisible.
+fn tell_visible(alloc: Global, report: &mut Vec<u8>, line: &[u8]) -> Result<(), AllocError>
+    ensures { OnOk result (report.new.items ≡ report.old.items ++ visible_line line.now) }
+{
+    let mut text = String::new(alloc);
+    push_visible_line(alloc, &mut text, line)?;
     report.extend_from_slice(text.as_bytes())
 }
 

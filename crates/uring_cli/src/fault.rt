@@ -15,6 +15,9 @@ pub enum Fault {
 
     /// A fault of the command line.
     Options(OptionsFault),
+
+    /// Nobody reads standard output any more: its pipe was closed at the other end.
+    Closed,
 }
 
 impl From<TraceFault> for Fault {

@@ -2,13 +2,17 @@
 #![tactic(auto)]
 
 mod fault;
+mod outlet;
+mod strict;
 mod telling;
 
 use crate::fault::Fault;
+use crate::outlet::Outlet;
+use crate::strict::StrictReader;
 use crate::telling::tell;
 use std::alloc::{AllocError, Global};
 use std::env;
-use std::io::ErrorKind;
+use std::io::{ErrorKind, Read, Write};
 use std::process::ExitCode;
 use std::sync::Wait;
 use std::thread::Threads;
@@ -24,7 +28,7 @@ const DONE: u8 = 0;
 /// The exit status if an answer of a recorded trace isn't called for.
 const WRONG: u8 = 3;
 
-/// The exit status if a line of `explain` or `check` was bad.
+/// The exit status if a line of `explain`, `check` or a strict trace was bad.
 const BAD_LINE: u8 = 4;
 
 fn main(rt: HostRuntime) -> ExitCode {
@@ -50,16 +54,23 @@ fn run<R: Threads + Wait + Copy + Send + 'static>(
     drop(words);
     match asked? {
         Options::Play(setup, workers) => {
-            let (mut stdin, mut stdout) = (rt.stdin(), rt.stdout());
-            play(threads, alloc, &mut stdin, &mut stdout, &setup, workers)?;
+            let (mut input, mut output) = (rt.stdin(), Outlet::new(rt.stdout()));
+            let played = play(threads, alloc, &mut input, &mut output, &setup, workers);
+            unless_closed(&output, played)?;
             Ok(DONE)
         }
         Options::Shared(setup, workers) => {
-            let (mut stdin, mut stdout) = (rt.stdin(), rt.stdout());
-            play_shared(threads, alloc, &mut stdin, &mut stdout, &setup, workers)?;
+            let (mut input, mut output) = (rt.stdin(), Outlet::new(rt.stdout()));
+            let played = play_shared(threads, alloc, &mut input, &mut output, &setup, workers);
+            unless_closed(&output, played)?;
             Ok(DONE)
         }
-        Options::Trace { setup, is_echo } => run_trace(rt, &setup, is_echo),
+        Options::Trace {
+            setup,
+            is_echo,
+            is_strict: false,
+        } => run_trace(rt, &setup, is_echo),
+        Options::Trace { setup, is_echo, .. } => run_strict(rt, &setup, is_echo),
         Options::Check {
             setup,
             is_all,
@@ -80,44 +91,80 @@ fn texts(alloc: Global, words: &[String]) -> Result<Vec<&str>, AllocError> {
     Ok(texts)
 }
 
+/// What a command came to that wrote to this output, unless nobody reads it any more.
+fn unless_closed<W: Write + Drop, T: Drop, E>(
+    output: &Outlet<W>,
+    result: Result<T, E>,
+) -> Result<T, Fault>
+where
+    Fault: From<E>,
+{
+    match result {
+        Ok(done) => Ok(done),
+        Err(_) if output.is_closed() => Err(Fault::Closed),
+        Err(fault) => Err(Fault::from(fault)),
+    }
+}
+
 /// A trace over the standard streams.
 fn run_trace(rt: &HostRuntime, setup: &Setup, is_echo: bool) -> Result<u8, Fault> {
-    trace(
-        rt.alloc(),
-        &mut rt.stdin(),
-        &mut rt.stdout(),
-        setup,
-        is_echo,
-    )?;
+    let (mut input, mut output) = (rt.stdin(), Outlet::new(rt.stdout()));
+    let traced = trace(rt.alloc(), &mut input, &mut output, setup, is_echo);
+    unless_closed(&output, traced)?;
     Ok(DONE)
+}
+
+/// A trace over the standard streams that ends at the first bad line.
+fn run_strict(rt: &HostRuntime, setup: &Setup, is_echo: bool) -> Result<u8, Fault> {
+    let mut input = StrictReader::new(rt.alloc(), rt.stdin())?;
+    let mut output = Outlet::new(rt.stdout());
+    let traced = trace(rt.alloc(), &mut input, &mut output, setup, is_echo);
+    let told = tell_strict(rt, &input);
+    drop(input);
+    unless_closed(&output, traced)?;
+    told
+}
+
+/// Tells the bad line that a strict trace met, if it met one, and returns the exit status.
+fn tell_strict<R: Read + Drop>(rt: &HostRuntime, input: &StrictReader<R>) -> Result<u8, Fault> {
+    if input.is_refused() {
+        return Err(Fault::Trace(TraceFault::Memory));
+    }
+    let Some(note) = input.note() else {
+        return Ok(DONE);
+    };
+    match rt.stderr().write_all(note.as_bytes()) {
+        Ok(()) => Ok(BAD_LINE),
+        Err(_) => Err(Fault::Trace(TraceFault::Write)),
+    }
 }
 
 /// A check of the trace that standard input has.
 fn run_check(rt: &HostRuntime, setup: &Setup, is_all: bool, is_apart: bool) -> Result<u8, Fault> {
-    let (mut input, mut output) = (rt.stdin(), rt.stdout());
-    let verdict = check(rt.alloc(), &mut input, &mut output, setup, is_all, is_apart)?;
-    Ok(status_of(verdict))
+    let (mut input, mut output) = (rt.stdin(), Outlet::new(rt.stdout()));
+    let checked = check(rt.alloc(), &mut input, &mut output, setup, is_all, is_apart);
+    Ok(status_of(unless_closed(&output, checked)?))
 }
 
 /// An explained trace over the standard streams.
 fn run_explain(rt: &HostRuntime, setup: &Setup) -> Result<u8, Fault> {
-    let (mut input, mut output, mut errors) = (rt.stdin(), rt.stdout(), rt.stderr());
-    let has_bad = explain(rt.alloc(), &mut input, &mut output, &mut errors, setup)?;
-    Ok(status_behind(has_bad))
+    let (mut input, mut output) = (rt.stdin(), Outlet::new(rt.stdout()));
+    let explained = explain(rt.alloc(), &mut input, &mut output, &mut rt.stderr(), setup);
+    Ok(status_behind(unless_closed(&output, explained)?))
 }
 
 /// The graph of the trace that standard input has.
 fn run_graph(rt: &HostRuntime, setup: &Setup) -> Result<u8, Fault> {
-    let (mut input, mut output, mut errors) = (rt.stdin(), rt.stdout(), rt.stderr());
-    let has_bad = graph(rt.alloc(), &mut input, &mut output, &mut errors, setup)?;
-    Ok(status_behind(has_bad))
+    let (mut input, mut output) = (rt.stdin(), Outlet::new(rt.stdout()));
+    let drawn = graph(rt.alloc(), &mut input, &mut output, &mut rt.stderr(), setup);
+    Ok(status_behind(unless_closed(&output, drawn)?))
 }
 
 /// The timeline of the trace that standard input has.
 fn run_timeline(rt: &HostRuntime, setup: &Setup) -> Result<u8, Fault> {
-    let (mut input, mut output, mut errors) = (rt.stdin(), rt.stdout(), rt.stderr());
-    let has_bad = timeline(rt.alloc(), &mut input, &mut output, &mut errors, setup)?;
-    Ok(status_behind(has_bad))
+    let (mut input, mut output) = (rt.stdin(), Outlet::new(rt.stdout()));
+    let drawn = timeline(rt.alloc(), &mut input, &mut output, &mut rt.stderr(), setup);
+    Ok(status_behind(unless_closed(&output, drawn)?))
 }
 
 /// The exit status behind the lines of an explanation, of which some may have been bad.

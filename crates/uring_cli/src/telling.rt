@@ -14,7 +14,7 @@ const REFUSED: u8 = 2;
 /// The line if memory was refused.
 const OUT_OF_MEMORY: &str = "uring: out of memory\n";
 
-/// Writes what a fault says to `writer`, and returns the exit status, 1 or 2, also if the write fails: 2 for a fault of the command line or a call for help, whose text is clap's own, and 1 for any other, refused memory among them.
+/// Writes what a fault says to `writer`, and returns the exit status, 1 or 2, also if the write fails: 2 for a fault of the command line or a call for help, whose text is clap's own, and 1 for any other, refused memory among them. Of a pipe that was closed it says nothing.
 pub fn tell<W: Write>(alloc: Global, writer: &mut W, fault: &Fault) -> u8 {
     let (text, status) = match text_of(alloc, fault) {
         Ok(text) => (text, status_of(fault)),
@@ -41,6 +41,7 @@ fn text_of(alloc: Global, fault: &Fault) -> Result<String, AllocError> {
         Fault::Trace(fault) => format!(in alloc; "uring: {fault}\n"),
         Fault::Play(fault) => format!(in alloc; "uring: {fault}\n"),
         Fault::Options(fault) => text_of_options(alloc, fault),
+        Fault::Closed => Ok(String::new(alloc)),
     }
 }
 

@@ -58,26 +58,28 @@ record AreRules (rules : List Rule) : Type 0 where
   graph : HasParser (codes "graph") vp.Bool rules
   timeline : HasParser (codes "timeline") vp.Bool rules
   echo : HasParser (codes "echo") vp.Bool rules
+  strict : HasParser (codes "strict") vp.Bool rules
   every : HasParser (codes "all") vp.Bool rules
   apart : HasParser (codes "apart") vp.Bool rules
   shared : HasParser (codes "shared") vp.Bool rules
 
 trace_rules : AreRules trace_shape.rules
 trace_rules = record {
-  plain = (refl, (refl, (refl, (refl, (refl, (refl, (refl, tt)))))));
-  defaults = (refl, (refl, (refl, (refl, (refl, (refl, (refl, tt)))))));
-  sq = ((λ _. refl), ((λ e. other_name e), ((λ e. other_name e), ((λ e. other_name e), ((λ e. other_name e), ((λ e. other_name e), ((λ e. other_name e), tt)))))));
-  cq = ((λ e. other_name e), ((λ _. refl), ((λ e. other_name e), ((λ e. other_name e), ((λ e. other_name e), ((λ e. other_name e), ((λ e. other_name e), tt)))))));
-  files = ((λ e. other_name e), ((λ e. other_name e), ((λ _. refl), ((λ e. other_name e), ((λ e. other_name e), ((λ e. other_name e), ((λ e. other_name e), tt)))))));
-  start = ((λ e. other_name e), ((λ e. other_name e), ((λ e. other_name e), ((λ _. refl), ((λ e. other_name e), ((λ e. other_name e), ((λ e. other_name e), tt)))))));
-  stop = ((λ e. other_name e), ((λ e. other_name e), ((λ e. other_name e), ((λ e. other_name e), ((λ _. refl), ((λ e. other_name e), ((λ e. other_name e), tt)))))));
-  workers = ((λ e. other_name e), ((λ e. other_name e), ((λ e. other_name e), ((λ e. other_name e), ((λ e. other_name e), ((λ e. other_name e), ((λ e. other_name e), tt)))))));
-  graph = ((λ e. other_name e), ((λ e. other_name e), ((λ e. other_name e), ((λ e. other_name e), ((λ e. other_name e), ((λ e. other_name e), ((λ e. other_name e), tt)))))));
-  timeline = ((λ e. other_name e), ((λ e. other_name e), ((λ e. other_name e), ((λ e. other_name e), ((λ e. other_name e), ((λ e. other_name e), ((λ e. other_name e), tt)))))));
-  echo = ((λ e. other_name e), ((λ e. other_name e), ((λ e. other_name e), ((λ e. other_name e), ((λ e. other_name e), ((λ _. refl), ((λ e. other_name e), tt)))))));
-  every = ((λ e. other_name e), ((λ e. other_name e), ((λ e. other_name e), ((λ e. other_name e), ((λ e. other_name e), ((λ e. other_name e), ((λ e. other_name e), tt)))))));
-  apart = ((λ e. other_name e), ((λ e. other_name e), ((λ e. other_name e), ((λ e. other_name e), ((λ e. other_name e), ((λ e. other_name e), ((λ e. other_name e), tt)))))));
-  shared = ((λ e. other_name e), ((λ e. other_name e), ((λ e. other_name e), ((λ e. other_name e), ((λ e. other_name e), ((λ e. other_name e), ((λ e. other_name e), tt)))))));
+  plain = (refl, (refl, (refl, (refl, (refl, (refl, (refl, (refl, tt))))))));
+  defaults = (refl, (refl, (refl, (refl, (refl, (refl, (refl, (refl, tt))))))));
+  sq = ((λ _. refl), ((λ e. other_name e), ((λ e. other_name e), ((λ e. other_name e), ((λ e. other_name e), ((λ e. other_name e), ((λ e. other_name e), ((λ e. other_name e), tt))))))));
+  cq = ((λ e. other_name e), ((λ _. refl), ((λ e. other_name e), ((λ e. other_name e), ((λ e. other_name e), ((λ e. other_name e), ((λ e. other_name e), ((λ e. other_name e), tt))))))));
+  files = ((λ e. other_name e), ((λ e. other_name e), ((λ _. refl), ((λ e. other_name e), ((λ e. other_name e), ((λ e. other_name e), ((λ e. other_name e), ((λ e. other_name e), tt))))))));
+  start = ((λ e. other_name e), ((λ e. other_name e), ((λ e. other_name e), ((λ _. refl), ((λ e. other_name e), ((λ e. other_name e), ((λ e. other_name e), ((λ e. other_name e), tt))))))));
+  stop = ((λ e. other_name e), ((λ e. other_name e), ((λ e. other_name e), ((λ e. other_name e), ((λ _. refl), ((λ e. other_name e), ((λ e. other_name e), ((λ e. other_name e), tt))))))));
+  workers = ((λ e. other_name e), ((λ e. other_name e), ((λ e. other_name e), ((λ e. other_name e), ((λ e. other_name e), ((λ e. other_name e), ((λ e. other_name e), ((λ e. other_name e), tt))))))));
+  graph = ((λ e. other_name e), ((λ e. other_name e), ((λ e. other_name e), ((λ e. other_name e), ((λ e. other_name e), ((λ e. other_name e), ((λ e. other_name e), ((λ e. other_name e), tt))))))));
+  timeline = ((λ e. other_name e), ((λ e. other_name e), ((λ e. other_name e), ((λ e. other_name e), ((λ e. other_name e), ((λ e. other_name e), ((λ e. other_name e), ((λ e. other_name e), tt))))))));
+  echo = ((λ e. other_name e), ((λ e. other_name e), ((λ e. other_name e), ((λ e. other_name e), ((λ e. other_name e), ((λ _. refl), ((λ e. other_name e), ((λ e. other_name e), tt))))))));
+  strict = ((λ e. other_name e), ((λ e. other_name e), ((λ e. other_name e), ((λ e. other_name e), ((λ e. other_name e), ((λ e. other_name e), ((λ _. refl), ((λ e. other_name e), tt))))))));
+  every = ((λ e. other_name e), ((λ e. other_name e), ((λ e. other_name e), ((λ e. other_name e), ((λ e. other_name e), ((λ e. other_name e), ((λ e. other_name e), ((λ e. other_name e), tt))))))));
+  apart = ((λ e. other_name e), ((λ e. other_name e), ((λ e. other_name e), ((λ e. other_name e), ((λ e. other_name e), ((λ e. other_name e), ((λ e. other_name e), ((λ e. other_name e), tt))))))));
+  shared = ((λ e. other_name e), ((λ e. other_name e), ((λ e. other_name e), ((λ e. other_name e), ((λ e. other_name e), ((λ e. other_name e), ((λ e. other_name e), ((λ e. other_name e), tt))))))));
 }
 
 explain_rules : AreRules explain_shape.rules
@@ -93,6 +95,7 @@ explain_rules = record {
   graph = ((λ e. other_name e), ((λ e. other_name e), ((λ e. other_name e), ((λ e. other_name e), ((λ e. other_name e), ((λ _. refl), ((λ e. other_name e), ((λ e. other_name e), tt))))))));
   timeline = ((λ e. other_name e), ((λ e. other_name e), ((λ e. other_name e), ((λ e. other_name e), ((λ e. other_name e), ((λ e. other_name e), ((λ _. refl), ((λ e. other_name e), tt))))))));
   echo = ((λ e. other_name e), ((λ e. other_name e), ((λ e. other_name e), ((λ e. other_name e), ((λ e. other_name e), ((λ e. other_name e), ((λ e. other_name e), ((λ e. other_name e), tt))))))));
+  strict = ((λ e. other_name e), ((λ e. other_name e), ((λ e. other_name e), ((λ e. other_name e), ((λ e. other_name e), ((λ e. other_name e), ((λ e. other_name e), ((λ e. other_name e), tt))))))));
   every = ((λ e. other_name e), ((λ e. other_name e), ((λ e. other_name e), ((λ e. other_name e), ((λ e. other_name e), ((λ e. other_name e), ((λ e. other_name e), ((λ e. other_name e), tt))))))));
   apart = ((λ e. other_name e), ((λ e. other_name e), ((λ e. other_name e), ((λ e. other_name e), ((λ e. other_name e), ((λ e. other_name e), ((λ e. other_name e), ((λ e. other_name e), tt))))))));
   shared = ((λ e. other_name e), ((λ e. other_name e), ((λ e. other_name e), ((λ e. other_name e), ((λ e. other_name e), ((λ e. other_name e), ((λ e. other_name e), ((λ e. other_name e), tt))))))));
@@ -111,6 +114,7 @@ check_rules = record {
   graph = ((λ e. other_name e), ((λ e. other_name e), ((λ e. other_name e), ((λ e. other_name e), ((λ e. other_name e), ((λ e. other_name e), ((λ e. other_name e), ((λ e. other_name e), tt))))))));
   timeline = ((λ e. other_name e), ((λ e. other_name e), ((λ e. other_name e), ((λ e. other_name e), ((λ e. other_name e), ((λ e. other_name e), ((λ e. other_name e), ((λ e. other_name e), tt))))))));
   echo = ((λ e. other_name e), ((λ e. other_name e), ((λ e. other_name e), ((λ e. other_name e), ((λ e. other_name e), ((λ e. other_name e), ((λ e. other_name e), ((λ e. other_name e), tt))))))));
+  strict = ((λ e. other_name e), ((λ e. other_name e), ((λ e. other_name e), ((λ e. other_name e), ((λ e. other_name e), ((λ e. other_name e), ((λ e. other_name e), ((λ e. other_name e), tt))))))));
   every = ((λ e. other_name e), ((λ e. other_name e), ((λ e. other_name e), ((λ e. other_name e), ((λ e. other_name e), ((λ _. refl), ((λ e. other_name e), ((λ e. other_name e), tt))))))));
   apart = ((λ e. other_name e), ((λ e. other_name e), ((λ e. other_name e), ((λ e. other_name e), ((λ e. other_name e), ((λ e. other_name e), ((λ _. refl), ((λ e. other_name e), tt))))))));
   shared = ((λ e. other_name e), ((λ e. other_name e), ((λ e. other_name e), ((λ e. other_name e), ((λ e. other_name e), ((λ e. other_name e), ((λ e. other_name e), ((λ e. other_name e), tt))))))));
@@ -129,6 +133,7 @@ play_rules = record {
   graph = ((λ e. other_name e), ((λ e. other_name e), ((λ e. other_name e), ((λ e. other_name e), ((λ e. other_name e), ((λ e. other_name e), ((λ e. other_name e), tt)))))));
   timeline = ((λ e. other_name e), ((λ e. other_name e), ((λ e. other_name e), ((λ e. other_name e), ((λ e. other_name e), ((λ e. other_name e), ((λ e. other_name e), tt)))))));
   echo = ((λ e. other_name e), ((λ e. other_name e), ((λ e. other_name e), ((λ e. other_name e), ((λ e. other_name e), ((λ e. other_name e), ((λ e. other_name e), tt)))))));
+  strict = ((λ e. other_name e), ((λ e. other_name e), ((λ e. other_name e), ((λ e. other_name e), ((λ e. other_name e), ((λ e. other_name e), ((λ e. other_name e), tt)))))));
   every = ((λ e. other_name e), ((λ e. other_name e), ((λ e. other_name e), ((λ e. other_name e), ((λ e. other_name e), ((λ e. other_name e), ((λ e. other_name e), tt)))))));
   apart = ((λ e. other_name e), ((λ e. other_name e), ((λ e. other_name e), ((λ e. other_name e), ((λ e. other_name e), ((λ e. other_name e), ((λ e. other_name e), tt)))))));
   shared = ((λ e. other_name e), ((λ e. other_name e), ((λ e. other_name e), ((λ e. other_name e), ((λ e. other_name e), ((λ _. refl), ((λ e. other_name e), tt)))))));
@@ -150,6 +155,8 @@ pub record HasNumbers (rows : List Row) : Type 0 where
   pub timeline_given : IsGiven rows (codes "timeline") times
   pub echoes : Bool
   pub echo_given : IsGiven rows (codes "echo") echoes
+  pub is_strict : Bool
+  pub strict_given : IsGiven rows (codes "strict") is_strict
   pub is_all : Bool
   pub all_given : IsGiven rows (codes "all") is_all
   pub is_apart : Bool
@@ -172,6 +179,8 @@ no_numbers = record {
   timeline_given = inl refl;
   echoes = false;
   echo_given = inl refl;
+  is_strict = false;
+  strict_given = inl refl;
   is_all = false;
   all_given = inl refl;
   is_apart = false;
@@ -191,6 +200,7 @@ rows_numbers rules rows are each =
     let graph = flag_given rules rows (codes "graph") are.graph each in
     let timeline = flag_given rules rows (codes "timeline") are.timeline each in
     let echo = flag_given rules rows (codes "echo") are.echo each in
+    let strict = flag_given rules rows (codes "strict") are.strict each in
     let every = flag_given rules rows (codes "all") are.every each in
     let apart = flag_given rules rows (codes "apart") are.apart each in
     let shared = flag_given rules rows (codes "shared") are.shared each in
@@ -215,6 +225,8 @@ rows_numbers rules rows are each =
       timeline_given = timeline.1;
       echoes = echo.0;
       echo_given = echo.1;
+      is_strict = strict.0;
+      strict_given = strict.1;
       is_all = every.0;
       all_given = every.1;
       is_apart = apart.0;

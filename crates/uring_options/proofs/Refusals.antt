@@ -84,7 +84,7 @@ not_over words n s writes set_up (m, small_writes, small) =
     omega arith
 
 not_both : (words : List Text) (o : Options) → AskFor words o → AskForTooSmall words → ⊥
-not_both words (Trace s echo) (n, writes, over) small =
+not_both words (Trace s echo strict) (n, writes, over) small =
     not_over words n (record s { stops = false }) writes over.1.0 small
 not_both words (Explain s) (n, writes, over) small =
     not_over words n (record s { stops = false }) writes over.1.0 small

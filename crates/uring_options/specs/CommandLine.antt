@@ -54,9 +54,13 @@ abbrev pub with_plays_of : App → App
 with_plays_of app =
     with_rule (with_rule app (option_rule (codes "workers") (Signed (pos 1) (pos 8)))) (flag_rule (codes "shared"))
 
--- `uring trace`, with the option by which steps are written too
+-- a command with the options of a trace
+abbrev pub with_traces_of : App → App
+with_traces_of app = with_rule (with_rule app (flag_rule (codes "echo"))) (flag_rule (codes "strict"))
+
+-- `uring trace`
 abbrev pub trace_app : App
-trace_app = with_rule (with_set_up_of (new_app (codes "trace"))) (flag_rule (codes "echo"))
+trace_app = with_traces_of (with_set_up_of (new_app (codes "trace")))
 
 -- `uring check`
 abbrev pub check_app : App
@@ -167,8 +171,8 @@ IsTracedOver rows n s =
 
 -- what a command runs, over the set-up that these rows and numbers give: `uring explain` the graph if `--graph` is given, else the timeline if `--timeline` is, and else the answers; `uring play` a play over shared words if `--shared` is given, and else one over lanes
 abbrev pub IsRunOver : Run → List Row → Numbers → Options → Type 0
-IsRunOver run rows n (Trace s echo) =
-    (run ≡ Traces) × IsTracedOver rows n s × IsGiven rows (codes "echo") echo
+IsRunOver run rows n (Trace s echo strict) = (run ≡ Traces) × IsTracedOver rows n s
+    × IsGiven rows (codes "echo") echo × IsGiven rows (codes "strict") strict
 IsRunOver run rows n (Explain s) = (run ≡ Explains) × IsTracedOver rows n s
     × IsGiven rows (codes "graph") false × IsGiven rows (codes "timeline") false
 IsRunOver run rows n (Graph s) =

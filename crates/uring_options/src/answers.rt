@@ -15,6 +15,8 @@ pub enum Options {
         setup: Setup,
         /// Whether each answer follows its step on a line (`--echo`).
         is_echo: bool,
+        /// Whether the first bad line ends the trace (`--strict`).
+        is_strict: bool,
     },
 
     /// `uring explain`: an explained trace over this set-up.

@@ -24,7 +24,7 @@ const DEFAULT_START: u32 = 0;
 /// Workers of a play if the command line doesn't say.
 const DEFAULT_WORKERS: u32 = 2;
 
-/// Reads a command line, whose first word is the program's name: `uring`, or `uring trace`, `uring explain`, `uring check` or `uring play` with options for the entries of the submission ring (`--sq`, 1 to 4,096, else 4) and of the completion ring (`--cq`, 1 to 8,192, else twice as many), for the files (`--files`, 1 to 64, else 2) and for the word at which both rings begin (`--start`, 32 bits, else 0). A play takes one more for its workers (`--workers`, 1 to 8, else 2) and one by which its application and dispatcher share words (`--shared`, else they have lanes), and the others one by which submission calls stop behind an entry with a fault (`--stop`, else they go on). A trace takes one by which its steps are written too (`--echo`), an explained trace two for pictures in place of the answers (`--graph`, which goes before `--timeline`), and a check one by which all wrong lines are told (`--all`) and one by which ends may be any (`--apart`). Our own rule.
+/// Reads a command line, whose first word is the program's name: `uring`, or `uring trace`, `uring explain`, `uring check` or `uring play` with options for the entries of the submission ring (`--sq`, 1 to 4,096, else 4) and of the completion ring (`--cq`, 1 to 8,192, else twice as many), for the files (`--files`, 1 to 64, else 2) and for the word at which both rings begin (`--start`, 32 bits, else 0). A play takes one more for its workers (`--workers`, 1 to 8, else 2) and one by which its application and dispatcher share words (`--shared`, else they have lanes), and the others one by which submission calls stop behind an entry with a fault (`--stop`, else they go on). A trace takes one by which its steps are written too (`--echo`) and one by which the first bad line ends it (`--strict`), an explained trace two for pictures in place of the answers (`--graph`, which goes before `--timeline`), and a check one by which all wrong lines are told (`--all`) and one by which ends may be any (`--apart`). Our own rule.
 ///
 /// `Words` comes for a fault of the words, a number out of its range among them, for a call for help, and if memory is refused. `Small` comes if there is none, and the options give a completion ring that is smaller after rounding than the submission ring. Numbers may have a leading `+` or leading zeros.
 pub fn options<'a>(alloc: Global, args: &'a [&'a str]) -> Result<Options, OptionsFault>
@@ -65,6 +65,7 @@ fn asked(matches: &ArgMatches<'_>) -> Result<Options, OptionsFault>
         None => Ok(Options::Trace {
             setup: setup_over(None, None, None, None)?,
             is_echo: false,
+            is_strict: false,
         }),
     }
 }
@@ -82,6 +83,8 @@ fn traced(matches: &ArgMatches<'_>) -> Result<Options, OptionsFault>
     requires numbers { (n : Numbers) × GivesNumbers (rows_of (found_of matches.now)) n }
     requires stop { (stops : Bool) × IsGiven (rows_of (found_of matches.now)) (codes "stop") stops }
     requires echo { (given : Bool) × IsGiven (rows_of (found_of matches.now)) (codes "echo") given }
+    requires strict { (given : Bool)
+        × IsGiven (rows_of (found_of matches.now)) (codes "strict") given }
     ensures ok { IfOk result
         (λ o. (n : Numbers) × GivesNumbers (rows_of (found_of matches.now)) n
         × IsRunOver Traces (rows_of (found_of matches.now)) n o) }
@@ -91,7 +94,12 @@ fn traced(matches: &ArgMatches<'_>) -> Result<Options, OptionsFault>
 {
     let setup = traced_setup_of(matches)?;
     let is_echo = is_given(matches, "echo");
-    Ok(Options::Trace { setup, is_echo })
+    let is_strict = is_given(matches, "strict");
+    Ok(Options::Trace {
+        setup,
+        is_echo,
+        is_strict,
+    })
 }
 
 /// What the options of `uring check` ask for.

@@ -66,6 +66,12 @@ const ECHO: OptionRow = OptionRow {
     numbers: None,
 };
 
+const STRICT: OptionRow = OptionRow {
+    id: "strict",
+    help: "End at the first bad line with status 4, and name it on standard error",
+    numbers: None,
+};
+
 const GRAPH: OptionRow = OptionRow {
     id: "graph",
     help: "Write no answers, but a graph of the requests that are outstanding at the end",
@@ -107,7 +113,7 @@ static TRACE: CommandRow = CommandRow {
     name: "trace",
     about: "Read steps from standard input, a line each, and write the answer to each",
     after_help: STEPS,
-    options: &[SQ, CQ, FILES, START, STOP, ECHO],
+    options: &[SQ, CQ, FILES, START, STOP, ECHO, STRICT],
 };
 
 /// `uring explain`.

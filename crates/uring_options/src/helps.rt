@@ -25,8 +25,9 @@ Steps, a line each, and their answers:
   cqhead         store the completion ring's head: head N
   close          close the ring: ok, in call
   next           name the request to be issued next: next N, none
-Any other line is answered bad line, and is no step. With --echo a step is
-written before its answer, STEP = ANSWER, so that check reads what is written.
+Any other line is answered bad line, and is no step; with --strict the first one
+ends the trace, with status 4, and is named on standard error. With --echo a step
+is written before its answer, STEP = ANSWER, so that check reads what is written.
 
 Requests are numbered from 0 on, in the order in which they are accepted, over
 all calls: NUM is that number. A dropped word has none, a faulty entry has one.
@@ -51,8 +52,8 @@ nor has a cancel of all that is carried out. The reasons:
   doomed: a cancel chose it
   of a cancel of one: chose M, M is running, found none
 A line that is empty or begins with # is passed over. Any other that is no step
-is answered bad line, and told on standard error with its number; the status at
-the end is then 4.
+is answered bad line, and told on standard error with its number and what is
+wrong with it; the status at the end is then 4.
 
 Lines that ask how things stand, and their answers:
   show counts    accepted N outstanding N running N posted N reaped N
@@ -79,6 +80,7 @@ passed over. All input is read before anything is written:
   why: NUM REASON    of an issue or a finish, how its request stands, in the
                      words of explain
   line K: bad line   before any such line, this one is no step with an answer
+  why: WORDS         what is wrong with it
 The status is 0, 3 and 4 in this order.
 
 With --all the lines behind a wrong one are looked at too, and each wrong one is

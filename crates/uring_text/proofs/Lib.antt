@@ -12,3 +12,4 @@ pub mod KeptLines
 pub mod LineLaws
 pub mod Splits
 pub mod Writing
+pub mod VisibleLaws

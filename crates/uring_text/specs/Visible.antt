@@ -16,3 +16,13 @@ visible_byte b =
 abbrev pub visible : List ℕ → List ℕ
 visible [] = []
 visible (b ∷ bytes) = visible_byte b ++ visible bytes
+
+-- the last byte of a line, which can be seen also if it is a blank
+abbrev pub last_byte : ℕ → List ℕ
+last_byte b = if b == 32 then coded b else visible_byte b
+
+-- a line with its last byte
+abbrev pub visible_line : List ℕ → List ℕ
+visible_line [] = []
+visible_line (b ∷ []) = last_byte b
+visible_line (b ∷ c ∷ line) = visible_byte b ++ visible_line (c ∷ line)

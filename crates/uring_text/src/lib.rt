@@ -26,4 +26,4 @@ pub use reach::{Reach, entry_reach, kinds_reach};
 pub use streams::{Calls, read_once, write_all};
 pub use tokens::{is_name, split_tokens};
 pub use trace_fault::TraceFault;
-pub use visible::push_visible;
+pub use visible::{push_visible, push_visible_line};

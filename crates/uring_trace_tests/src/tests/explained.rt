@@ -12,8 +12,9 @@ const INPUT: &str =
 const ANSWERS: &str =
     "ok\nok\nok\nok\nok\nok\ntail 3\ncall 3\nentry 1\nentry 2\nentry 3\ntaken 3 dropped 0 head 3\nrun  # waits for nobody\nended -125  # doomed: 1 of its group has a fault\nended -22  # doomed: an operation that is not served\nunknown  # never accepted\nbad line\nrunning\n";
 
-/// The bad line is the 19th.
-const NOTES: &str = "uring: line 19: bad line\n";
+/// The bad line is the 19th, and has two spaces.
+const NOTES: &str =
+    "uring: line 19: bad line: column 7: a blank too many, wanted: NUM, a number up to 18446744073709551615\n";
 
 /// A write of 2 bytes at offset 2 and a no-op, whose completion finds no room in a ring of one entry. Each question is asked where its answer differs from what it was at first.
 const ASKING: &str =
@@ -23,7 +24,8 @@ const SHOWN: &str =
     "sq 1 cq 1 files 1 start 0\noverflow 0\nok\nok\ntail 1\ncall 1\nentry 5\ntaken 1 dropped 0 head 1\nrun  # waits for nobody\naccepted 1 outstanding 1 running 1 posted 0 reaped 0\nended 2\nlen 4 writes 1 synced 0\nno file\nno file\nhead 1\nok\nok\ntail 2\ncall 1\nentry 6\ntaken 1 dropped 0 head 2\nrun  # waits for nobody\nended 0\noverflow 1, cqe 6 0 -\naccepted 2 outstanding 0 running 0 posted 2 reaped 0\nbad line\nbad line\n";
 
 /// Two spaces, and a number with a leading zero.
-const TOO_MUCH: &str = "uring: line 26: bad line\nuring: line 27: bad line\n";
+const TOO_MUCH: &str =
+    "uring: line 26: bad line: column 6: a blank too many, wanted: counts, sizes, overflow or file\nuring: line 27: bad line: column 11: `01`, wanted: FD, a number from -2147483648 to 2147483647\n";
 
 /// Whether answers and notes to this input are these, and it is told that a line was bad.
 fn is_explained(

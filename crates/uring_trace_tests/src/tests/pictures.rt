@@ -18,7 +18,8 @@ const TIMELINE: &str =
     "  request  accepted   started     ended    posted    reaped\n        0         6         7         8         8        10\n        1        26        27         -         -         -\n        2        26         -         -         -         -\n        3        26         -         -         -         -\n        4        26         -         -         -         -\n";
 
 /// The last line is the 28th.
-const NOTES: &str = "uring: line 28: bad line\n";
+const NOTES: &str =
+    "uring: line 28: bad line: column 1: `oops`, wanted: fill, index, tail, head, begin, take, end, issue, finish, flush, cqtail, reap, cqhead, close or next\n";
 
 /// Whether the graph and the notes are these.
 fn is_graph(alloc: Global) -> Result<bool, Fail> {

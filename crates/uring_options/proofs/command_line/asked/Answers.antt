@@ -125,6 +125,12 @@ traced-requires-clause-echo c =
     let has = subst HasNumbers asks.rows_are (numbers_written c.requires.0 c.requires.2) in
     (has.echoes, has.echo_given)
 
+pub traced-requires-clause-strict : goal.traced-requires-clause-strict
+traced-requires-clause-strict c =
+    let asks = trace_asked c.args.matches.now c.requires.0 _ c.requires.1 c.in-Some-subcommand_matches-3.ensures.rows (c.in-Some-subcommand_matches-3.ensures.found.0 refl) in
+    let has = subst HasNumbers asks.rows_are (numbers_written c.requires.0 c.requires.2) in
+    (has.is_strict, has.strict_given)
+
 pub returns-in-Some-subcommand_matches-3-clause-ok : goal.returns-in-Some-subcommand_matches-3-clause-ok
 returns-in-Some-subcommand_matches-3-clause-ok c =
     λ words has fine.
@@ -145,5 +151,5 @@ returns-in_ok-setup_over-in-None-clause-ok c =
     (λ e. true≢false (sym (c.in_default.ensures.found.1 e))) (λ e. true≢false (sym (c.in_default-subcommand_matches.ensures.found.1 e)))
     (λ e. true≢false (sym (c.in_default-subcommand_matches-2.ensures.found.1 e))) (λ e. true≢false (sym (c.in-None.ensures.found.1 e)))
     in
-    is_asked words [] _ (Trace c.in_ok-setup_over-in-None.field-0 false) fine asks
-    (no_numbers.numbers, no_numbers.given, (refl, untraced_over [] no_numbers.numbers _ (inl refl) c.in_ok-setup_over-in-None.ensures.ok, inl refl))
+    is_asked words [] _ (Trace c.in_ok-setup_over-in-None.field-0 false false) fine asks
+    (no_numbers.numbers, no_numbers.given, (refl, untraced_over [] no_numbers.numbers _ (inl refl) c.in_ok-setup_over-in-None.ensures.ok, inl refl, inl refl))

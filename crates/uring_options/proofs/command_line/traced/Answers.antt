@@ -9,4 +9,5 @@ returns-clause-ok c =
     let rows = rows_of (found_of c.args.matches.now) in
     let over = c.in_ok-setup.ensures.ok in
     let echo = subst (IsGiven rows (codes "echo")) (sym (c.is_given-is_echo.ensures c.requires.echo.0 c.requires.echo.1)) c.requires.echo.1 in
-    (over.0, over.1, (refl, over.2, echo))
+    let strict = subst (IsGiven rows (codes "strict")) (sym (c.is_given-is_strict.ensures c.requires.strict.0 c.requires.strict.1)) c.requires.strict.1 in
+    (over.0, over.1, (refl, over.2, echo, strict))

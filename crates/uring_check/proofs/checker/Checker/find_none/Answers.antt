@@ -7,4 +7,4 @@ pub returns-then-is_remark : goal.returns-then-is_remark
 returns-then-is_remark c = λ text e none h fits. looked_passed c.args.self.now text h none (sym (c.is_remark.ensures text e) ∙ c.if-is_remark.true) c.requires fits
 
 pub returns : goal.returns
-returns c = on_ok_weaker c.tell_bad.result (λ told text e none h fits. looked_bad c.args.self.now c.fault.new.self c.tell_bad.new.report text h c.fault.ensures none (sym (c.is_remark.ensures text e) ∙ c.if-is_remark.false) fits told) c.tell_bad.ensures
+returns c = on_ok_weaker c.tell_bad.result (λ told text e none h fits. looked_bad c.args.self.now c.fault.new.self c.tell_bad.new.report text h c.fault.ensures none (sym (c.is_remark.ensures text e) ∙ c.if-is_remark.false) fits (told text e)) c.tell_bad.ensures
