@@ -9,6 +9,7 @@ use Rattle.uring_entry.specs.Setup.{Setup}
 use Rattle.uring_core.specs.CalledFor.{IsLawful}
 use Rattle.uring_core.specs.Histories.{Event, history_of}
 use Rattle.uring_ports.specs.declared.item.Item.{Item}
+use Rattle.uring_threads.specs.Report.{Report}
 use Rattle.uring_play_text.specs.Inputs.{ReadsCalls, lists_of}
 use Rattle.uring_play_text.specs.Outputs.{lines_text, counts_text, IsInOrder, IsWritten, Writes}
 use Rattle.uring_play.specs.Plays.{IsPlay, IsTextOf, IsPlayText, WritesPlay, Plays, made_by}
@@ -23,9 +24,9 @@ nothing_written None = tt
 nothing_written (Some held) = sym (append-nil held)
 
 -- the reader failed, or has a faulty line
-no_calls : (g : Setup) (f : PlayFault) (before after held : Option (List ℕ))
-    → ReadsCalls g (Err f) before after → Plays g (Err f) before after held held
-no_calls g fault.Read before after held r = record {
+no_calls : (g : Setup) (workers : ℕ) (f : PlayFault) (before after held : Option (List ℕ))
+    → ReadsCalls g (Err f) before after → Plays g workers (Err f) before after held held
+no_calls g workers fault.Read before after held r = record {
   bytes = r.bytes;
   consumed = r.consumed;
   whole = tt;
@@ -33,7 +34,7 @@ no_calls g fault.Read before after held r = record {
   appended = nothing_written held;
   answers = refl;
 }
-no_calls g fault.Memory before after held r = record {
+no_calls g workers fault.Memory before after held r = record {
   bytes = r.bytes;
   consumed = r.consumed;
   whole = tt;
@@ -41,7 +42,7 @@ no_calls g fault.Memory before after held r = record {
   appended = nothing_written held;
   answers = refl;
 }
-no_calls g (fault.Line k) before after held r = record {
+no_calls g workers (fault.Line k) before after held r = record {
   bytes = r.bytes;
   consumed = r.consumed;
   whole = r.whole;
@@ -49,7 +50,7 @@ no_calls g (fault.Line k) before after held r = record {
   appended = nothing_written held;
   answers = (r.returned, refl);
 }
-no_calls g (fault.Long k) before after held r = record {
+no_calls g workers (fault.Long k) before after held r = record {
   bytes = r.bytes;
   consumed = r.consumed;
   whole = r.whole;
@@ -57,33 +58,34 @@ no_calls g (fault.Long k) before after held r = record {
   appended = nothing_written held;
   answers = (r.returned, refl);
 }
-no_calls g fault.Write before after held r = absurd r.whole
+no_calls g workers fault.Write before after held r = absurd r.whole
 
-pub stopped_reading : (g : Setup) (answer : Result (Unit {0}) PlayFault) (f : PlayFault) (before after held : Option (List ℕ))
-    → answer ≡ Err f → ReadsCalls g (Err f) before after → Plays g answer before after held held
-stopped_reading g answer f before after held is r = subst (λ (a : Result (Unit {0}) PlayFault). Plays g a before after held held) (sym is) (no_calls g f before after held r)
+pub stopped_reading : (g : Setup) (workers : ℕ) (answer : Result (Unit {0}) PlayFault) (f : PlayFault) (before after held : Option (List ℕ))
+    → answer ≡ Err f → ReadsCalls g (Err f) before after → Plays g workers answer before after held held
+stopped_reading g workers answer f before after held is r = subst (λ (a : Result (Unit {0}) PlayFault). Plays g workers a before after held held) (sym is) (no_calls g workers f before after held r)
 
 -- memory was refused to the play
-pub out_of_memory : (g : Setup) (answer : Result (Unit {0}) PlayFault) (calls : Vec (Vec Item Global) Global) (before after held : Option (List ℕ))
+pub out_of_memory : (g : Setup) (workers : ℕ) (answer : Result (Unit {0}) PlayFault) (calls : Vec (Vec Item Global) Global) (before after held : Option (List ℕ))
     → answer ≡ Err fault.Memory → ReadsCalls g (Ok calls) before after
-    → Plays g answer before after held held
-out_of_memory g answer calls before after held is r =
-    let nothing : Plays g (Err fault.Memory) before after held held = record { bytes = r.bytes; consumed = r.consumed; whole = tt; written = []; appended = nothing_written held; answers = refl } in
-    subst (λ (a : Result (Unit {0}) PlayFault). Plays g a before after held held) (sym is) nothing
+    → Plays g workers answer before after held held
+out_of_memory g workers answer calls before after held is r =
+    let nothing : Plays g workers (Err fault.Memory) before after held held = record { bytes = r.bytes; consumed = r.consumed; whole = tt; written = []; appended = nothing_written held; answers = refl } in
+    subst (λ (a : Result (Unit {0}) PlayFault). Plays g workers a before after held held) (sym is) nothing
 
 -- it was played
-pub played : (g : Setup) (calls : Vec (Vec Item Global) Global) (trace : List Event) (completions : List Cqe) (answer : Result (Unit {0}) PlayFault) (before after held_before held_after : Option (List ℕ))
+pub played : (g : Setup) (workers : ℕ) (calls : Vec (Vec Item Global) Global) (report : Report) (completions : List Cqe) (answer : Result (Unit {0}) PlayFault) (before after held_before held_after : Option (List ℕ))
     → ReadsCalls g (Ok calls) before after
-    → IsPlay g (lists_of calls.items) trace completions
-    → WritesPlay answer held_before held_after trace completions
-    → Plays g answer before after held_before held_after
-played g calls trace completions answer before after held_before held_after r play (text, written, (part, appended, is)) =
+    → report.setup ≡ g → report.workers ≡ workers
+    → IsPlay g (lists_of calls.items) report.trace completions
+    → WritesPlay answer held_before held_after report.trace completions
+    → Plays g workers answer before after held_before held_after
+played g workers calls report completions answer before after held_before held_after r setup many play (text, written, (part, appended, is)) =
     go answer is
   where
-    the_text : (whole : List ℕ) → text ≡ whole → IsPlayText g r.bytes whole
-    the_text whole same = record { calls = lists_of calls.items; told = r.returned; trace = trace; completions = completions; play = play; written = subst (λ (t : List ℕ). IsTextOf trace completions t) same written }
+    the_text : (whole : List ℕ) → text ≡ whole → IsPlayText g workers r.bytes whole
+    the_text whole same = record { calls = lists_of calls.items; told = r.returned; report = report; setup = setup; many = many; completions = completions; play = play; written = subst (λ (t : List ℕ). IsTextOf report.trace completions t) same written }
 
-    go : (a : Result (Unit {0}) PlayFault) → IsWritten a text part → Plays g a before after held_before held_after
+    go : (a : Result (Unit {0}) PlayFault) → IsWritten a text part → Plays g workers a before after held_before held_after
     go (Ok done) is = record { bytes = r.bytes; consumed = r.consumed; whole = r.whole; written = part; appended = appended; answers = the_text part (sym is) }
     go (Err fault.Write) (more, some, all) = record { bytes = r.bytes; consumed = r.consumed; whole = r.whole; written = part; appended = appended; answers = (more, some, the_text (part ++ more) all) }
     go (Err fault.Memory) is = record { bytes = r.bytes; consumed = r.consumed; whole = tt; written = part; appended = appended; answers = is }

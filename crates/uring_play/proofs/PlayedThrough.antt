@@ -122,6 +122,13 @@ accepted_total g trace lawful =
 
 -- ---- the ends behind their threads
 
+-- there are still as many workers
+pub as_many : (before after : List Worker) → StayWorkers before after
+    → length after ≡ length before
+as_many before after so =
+    let count : Worker → ℕ = λ w. length w.files in
+    sym (length-map after count) ∙ ap length so.files ∙ length-map before count
+
 -- the ends are still all of one set-up
 pub still_together : {P : Type 0} (app : AppEnd) (kernel : Kernel) (workers : List Worker) (calls : List (List Item)) (applied : Applied P) (kernel_after : Kernel) (workers_after : List Worker)
     → AreTogether app kernel workers
@@ -129,7 +136,7 @@ pub still_together : {P : Type 0} (app : AppEnd) (kernel : Kernel) (workers : Li
     → StayWorkers workers workers_after → AreTogether applied.app kernel_after workers_after
 still_together app kernel workers calls applied kernel_after workers_after t applies stays so =
     let count : Worker → ℕ = λ w. length w.files in
-    let many : length workers_after ≡ length workers = sym (length-map workers_after count) ∙ ap length so.files ∙ length-map workers count in
+    let many : length workers_after ≡ length workers = as_many workers workers_after so in
     record {
       ports = stays.pairing ∙ t.ports ∙ sym applies.pairing;
       sizes = stays.sizes ∙ t.sizes ∙ sym applies.sizes;

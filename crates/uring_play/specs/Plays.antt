@@ -12,6 +12,7 @@ use Rattle.uring_core.specs.World.{World}
 use Rattle.uring_ports.specs.Items.{all_published_as}
 use Rattle.uring_ports.specs.Ports.{items_of_calls}
 use Rattle.uring_ports.specs.declared.item.Item.{Item}
+use Rattle.uring_threads.specs.Report.{Report}
 use Rattle.uring_play_text.specs.Inputs.{IsTold}
 use Rattle.uring_play_text.specs.Outputs.{lines_text, counts_text, IsInOrder, Writes}
 use Rattle.uring_play.specs.Totals.{accepted_in, dropped_last}
@@ -45,26 +46,28 @@ abbrev pub WritesPlay : Result (Unit {0}) PlayFault → Option (List ℕ) → Op
 WritesPlay answer before after trace completions =
     (text : List ℕ) × IsTextOf trace completions text × Writes answer before after text
 
--- These bytes tell calls, and this is the text of a play of them.
-pub record IsPlayText (g : Setup) (bytes text : List ℕ) : Type 0 where
+-- These bytes tell calls, and this is the text of a play of them: of the report that the ends of this set-up left, with so many workers.
+pub record IsPlayText (g : Setup) (workers : ℕ) (bytes text : List ℕ) : Type 0 where
   pub calls : List (List Item)
   pub told : IsTold g.sq bytes (Ok calls)
-  pub trace : List Event
+  pub report : Report
+  pub setup : report.setup ≡ g
+  pub many : report.workers ≡ workers
   pub completions : List Cqe
-  pub play : IsPlay g calls trace completions
-  pub written : IsTextOf trace completions text
+  pub play : IsPlay g calls report.trace completions
+  pub written : IsTextOf report.trace completions text
 
 -- What is written of bytes, by what is returned: all of the text, or its beginning after a write that failed, and after another fault nothing. A faulty line is the first of the bytes.
-abbrev pub AnswersPlay : Setup → List ℕ → Result (Unit {0}) PlayFault → List ℕ → Type 0
-AnswersPlay g bytes (Ok done) written = IsPlayText g bytes written
-AnswersPlay g bytes (Err fault.Write) written =
-    (more : List ℕ) × (0 < length more) × IsPlayText g bytes (written ++ more)
-AnswersPlay g bytes (Err (fault.Line k)) written =
+abbrev pub AnswersPlay : Setup → ℕ → List ℕ → Result (Unit {0}) PlayFault → List ℕ → Type 0
+AnswersPlay g workers bytes (Ok done) written = IsPlayText g workers bytes written
+AnswersPlay g workers bytes (Err fault.Write) written =
+    (more : List ℕ) × (0 < length more) × IsPlayText g workers bytes (written ++ more)
+AnswersPlay g workers bytes (Err (fault.Line k)) written =
     IsTold g.sq bytes (Err (fault.Line k)) × (written ≡ [])
-AnswersPlay g bytes (Err (fault.Long k)) written =
+AnswersPlay g workers bytes (Err (fault.Long k)) written =
     IsTold g.sq bytes (Err (fault.Long k)) × (written ≡ [])
-AnswersPlay g bytes (Err fault.Read) written = written ≡ []
-AnswersPlay g bytes (Err fault.Memory) written = written ≡ []
+AnswersPlay g workers bytes (Err fault.Read) written = written ≡ []
+AnswersPlay g workers bytes (Err fault.Memory) written = written ≡ []
 
 -- at the end the reader has nothing left, unless it failed or memory was refused
 abbrev pub ReadsToEnd : Result (Unit {0}) PlayFault → Option (List ℕ) → Type 0
@@ -72,11 +75,11 @@ ReadsToEnd (Err fault.Read) left = Unit {0}
 ReadsToEnd (Err fault.Memory) left = Unit {0}
 ReadsToEnd answer left = IsAtEnd left
 
--- What was read and written: the reader had `left_before` left and has `left_after`, the writer held `held_before` and holds `held_after`.
-pub record Plays (g : Setup) (answer : Result (Unit {0}) PlayFault) (left_before left_after held_before held_after : Option (List ℕ)) : Type 0 where
+-- What was read and written by a play with so many workers: the reader had `left_before` left and has `left_after`, the writer held `held_before` and holds `held_after`.
+pub record Plays (g : Setup) (workers : ℕ) (answer : Result (Unit {0}) PlayFault) (left_before left_after held_before held_after : Option (List ℕ)) : Type 0 where
   pub bytes : List ℕ
   pub consumed : Consumes left_before left_after bytes
   pub whole : ReadsToEnd answer left_after
   pub written : List ℕ
   pub appended : Appends held_before held_after written
-  pub answers : AnswersPlay g bytes answer written
+  pub answers : AnswersPlay g workers bytes answer written

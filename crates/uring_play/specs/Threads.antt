@@ -57,7 +57,7 @@ abbrev pub workers_of : List WorkerThread → List Worker
 workers_of threads = map worker_of threads
 
 -- The threads did all that was to be done, and settling has left nothing outstanding and nothing that waits: the play has this report, and behind the completions that were received those that weren't.
-pub record IsWhole (is_over : Bool) (report : Report) (received : List Cqe) (played : Played) : Type 0 where
+pub record IsWhole {K A : Type 0} (is_over : Bool) (report : Report) (received : List Cqe) (played : Played K A) : Type 0 where
   pub over : is_over ≡ true
   pub none_outstanding : outstanding_in (left_by report).requests ≡ 0
   pub none_waits : report.waiting ≡ []

@@ -1,5 +1,5 @@
 //! A play of calls: all ends are made, run in threads, and settled.
-ghost use Rattle.std.specs.Prelude.{◌≡◌, ◌<◌, ◌≤◌, ◌++◌, List, true, false, [], IfOk, IsTrue, OnOk};
+ghost use Rattle.std.specs.Prelude.{◌≡◌, ◌<◌, ◌≤◌, ◌++◌, length, List, true, false, [], IfOk, IsTrue, OnOk};
 ghost use Rattle.uring_entry.specs.Requests.{outstanding_in};
 ghost use Rattle.uring_ports.specs.Ports.{nothing_put};
 ghost use Rattle.uring_ports.specs.declared.item.Item.{Item};
@@ -13,20 +13,25 @@ ghost use Rattle.uring_threads.specs.Report.{AreTogether, left_by};
 use crate::application::Applied;
 use crate::running::{Ended, run_threads};
 use std::alloc::{AllocError, Global};
+use std::marker::PhantomData;
 use std::sync::Wait;
 use std::thread::Threads;
 use uring_core::Cqe;
 use uring_threads::{
-    AppEnd, Item, Kernel, KernelPort, Open, Report, Setup, Worker, lanes, settle, words,
+    AppEnd, Item, Kernel, KernelLanes, KernelPort, KernelWords, Open, Report, Setup, Worker, lanes,
+    settle, words,
 };
 
-/// What a play leaves.
+/// What a play over ports of this kind leaves.
 #[derive(Drop)]
-pub(crate) struct Played {
+pub(crate) struct Played<K: KernelPort> {
     pub report: Report<Open>,
 
     /// The completions of all requests, in order.
     pub completions: Vec<Cqe>,
+
+    /// What lay between application and dispatcher.
+    pub ports: PhantomData<K>,
 }
 
 /// Plays calls over lanes of this set-up with so many workers. Conditions: there are 1 to 8 workers, and calls of the set-up go on. `AllocError`: as of `drive`.
@@ -36,11 +41,12 @@ pub(crate) fn drive_lanes<R: Threads + Wait + Copy + Send + 'static>(
     setup: &Setup,
     workers: u32,
     calls: Vec<Vec<Item>>,
-) -> Result<Played, AllocError>
+) -> Result<Played<KernelLanes>, AllocError>
     requires some { 0 < workers }
     requires few { workers ≤ 8 }
     requires goes_on { setup.now.stops ≡ false }
     ensures setup { IfOk result (λ played. played.report.setup ≡ setup.now) }
+    ensures many { IfOk result (λ played. played.report.workers ≡ workers) }
     ensures play { IfOk result
         (λ played. IsPlay setup.now (lists_of calls.items) played.report.trace played.completions.items) }
 {
@@ -58,11 +64,12 @@ pub(crate) fn drive_words<R: Threads + Wait + Copy + Send + 'static>(
     setup: &Setup,
     workers: u32,
     calls: Vec<Vec<Item>>,
-) -> Result<Played, AllocError>
+) -> Result<Played<KernelWords>, AllocError>
     requires some { 0 < workers }
     requires few { workers ≤ 8 }
     requires goes_on { setup.now.stops ≡ false }
     ensures setup { IfOk result (λ played. played.report.setup ≡ setup.now) }
+    ensures many { IfOk result (λ played. played.report.workers ≡ workers) }
     ensures play { IfOk result
         (λ played. IsPlay setup.now (lists_of calls.items) played.report.trace played.completions.items) }
 {
@@ -81,13 +88,14 @@ fn drive<R: Threads + Wait + Copy + Send + 'static, K: KernelPort + Send + 'stat
     kernel: Kernel<K>,
     workers: Vec<Worker<Open>>,
     calls: Vec<Vec<Item>>,
-) -> Result<Played, AllocError>
+) -> Result<Played<K>, AllocError>
 where
     K::App: Send + 'static,
     requires submitted { app.submitted ≡ nothing_put }
     requires reaped { app.received ≡ [] }
     requires together { AreTogether app kernel workers.items }
     ensures setup { IfOk result (λ played. played.report.setup ≡ kernel.kept.setup) }
+    ensures many { IfOk result (λ played. played.report.workers ≡ length workers.items) }
     ensures play { IfOk result
         (λ played. IsPlay kernel.kept.setup (lists_of calls.items) played.report.trace played.completions.items) }
 {
@@ -96,10 +104,11 @@ where
 }
 
 /// Settles all ends, and takes the completions that weren't received behind those that were. `AllocError`: out of memory; or one of the threads was, and so left something undone.
-fn settle_all<K: KernelPort>(alloc: Global, ended: Ended<K>) -> Result<Played, AllocError>
+fn settle_all<K: KernelPort>(alloc: Global, ended: Ended<K>) -> Result<Played<K>, AllocError>
     requires together { AreTogether ended.applied.app ended.kernel ended.workers.items }
     requires reaped { ended.applied.app.received ≡ ended.applied.completions.items }
     ensures setup { IfOk result (λ played. played.report.setup ≡ ended.kernel.kept.setup) }
+    ensures many { IfOk result (λ played. played.report.workers ≡ length ended.workers.items) }
     ensures play { (calls : List (List Item))
         → (ended.applied.done ≡ true → ended.applied.app.submitted ≡ record { calls = calls; closed = true })
         → IfOk result
@@ -122,7 +131,11 @@ fn settle_all<K: KernelPort>(alloc: Global, ended: Ended<K>) -> Result<Played, A
 }
 
 /// The play of this report, if the threads did all that was to be done, with the completions that weren't received behind these, which were. `AllocError`: they didn't; or out of memory.
-fn whole_play(is_over: bool, report: Report<Open>, received: Vec<Cqe>) -> Result<Played, AllocError>
+fn whole_play<K: KernelPort>(
+    is_over: bool,
+    report: Report<Open>,
+    received: Vec<Cqe>,
+) -> Result<Played<K>, AllocError>
     ensures { IfOk result (λ played. IsWhole is_over report received.items played) }
 {
     let mut completions = received;
@@ -130,6 +143,7 @@ fn whole_play(is_over: bool, report: Report<Open>, received: Vec<Cqe>) -> Result
         Ok(()) => Ok(Played {
             report,
             completions,
+            ports: PhantomData,
         }),
         Err(error) => {
             drop(report);

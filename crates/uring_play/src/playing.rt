@@ -10,7 +10,7 @@ use std::sync::Wait;
 use std::thread::Threads;
 use uring_core::Cqe;
 use uring_play_text::{PlayFault, read_calls, write_out};
-use uring_threads::{Open, Report, Setup};
+use uring_threads::{KernelLanes, KernelPort, KernelWords, Open, Report, Setup};
 
 /// Reads all of `reader` as calls of a play over this set-up, plays them with so many workers, and writes the completions of all requests to `writer`, sorted, and then how many requests were accepted and how many words dropped. Conditions: there are 1 to 8 workers, and calls of the set-up go on behind an entry with a fault. Our own rule.
 ///
@@ -30,11 +30,11 @@ pub fn play<R: Threads + Wait + Copy + Send + 'static, I: Read, O: Write>(
     requires some { 0 < workers }
     requires few { workers ≤ 8 }
     requires goes_on { setup.now.stops ≡ false }
-    ensures { Plays setup.now result (I.remaining reader.old) (I.remaining reader.new)
+    ensures { Plays setup.now workers result (I.remaining reader.old) (I.remaining reader.new)
         (O.contents writer.old) (O.contents writer.new) }
 {
     let calls = read_calls(alloc, reader, setup)?;
-    let played = drive_lanes(rt, alloc, setup, workers, calls)?;
+    let played: Played<KernelLanes> = drive_lanes(rt, alloc, setup, workers, calls)?;
     write_played(alloc, writer, played)
 }
 
@@ -52,22 +52,27 @@ pub fn play_shared<R: Threads + Wait + Copy + Send + 'static, I: Read, O: Write>
     requires some { 0 < workers }
     requires few { workers ≤ 8 }
     requires goes_on { setup.now.stops ≡ false }
-    ensures { Plays setup.now result (I.remaining reader.old) (I.remaining reader.new)
+    ensures { Plays setup.now workers result (I.remaining reader.old) (I.remaining reader.new)
         (O.contents writer.old) (O.contents writer.new) }
 {
     let calls = read_calls(alloc, reader, setup)?;
-    let played = drive_words(rt, alloc, setup, workers, calls)?;
+    let played: Played<KernelWords> = drive_words(rt, alloc, setup, workers, calls)?;
     write_played(alloc, writer, played)
 }
 
 /// Writes the completions of a play, and its counts.
-fn write_played<O: Write>(alloc: Global, writer: &mut O, played: Played) -> Result<(), PlayFault>
+fn write_played<O: Write, K: KernelPort>(
+    alloc: Global,
+    writer: &mut O,
+    played: Played<K>,
+) -> Result<(), PlayFault>
     ensures { WritesPlay result (O.contents writer.old)
         (O.contents writer.new) played.report.trace played.completions.items }
 {
     let Played {
         report,
         mut completions,
+        ports: _,
     } = played;
     let written = write_report(alloc, writer, &report, &mut completions);
     drop(report);

@@ -1,9 +1,9 @@
-use Rattle.std.proofs.Common.{◌≡◌, subst}
+use Rattle.std.proofs.Common.{◌≡◌, length, subst}
 use Rattle.std.specs.Prelude.{IfOk}
 use Rattle.uring_entry.specs.Setup.{Setup}
 use Rattle.uring_play_text.specs.Inputs.{lists_of}
 use Rattle.uring_play.specs.Plays.{IsPlay}
-use Rattle.uring_play.proofs.PlayedThrough.{still_together}
+use Rattle.uring_play.proofs.PlayedThrough.{as_many, still_together}
 use Rattle.uring_play.proofs.drive.drive.Goals as goal
 
 pub settle_all-requires-clause-together : goal.settle_all-requires-clause-together
@@ -24,3 +24,8 @@ returns-clause-play g c =
     let ran = c.in_ok-ended.ensures in
     subst (λ (s : Setup). IfOk c.settle_all.result (λ played. IsPlay s (lists_of c.args.calls.items) played.report.trace played.completions.items)) ran.dispatcher.setup
     (c.settle_all.ensures.play (lists_of c.args.calls.items) ran.application.submitted)
+
+pub returns-clause-many : goal.returns-clause-many
+returns-clause-many g c =
+    let same : length c.in_ok-ended.ended.workers.items ≡ length c.args.workers.items = as_many c.args.workers.items c.in_ok-ended.ended.workers.items c.in_ok-ended.ensures.workers in
+    subst (λ n. IfOk c.settle_all.result (λ played. played.report.workers ≡ n)) same c.settle_all.ensures.many

@@ -34,3 +34,7 @@ returns-in-Ok-clause-play g c = λ calls submitted.
     })
     (whole.completions ∙ ap (λ xs. xs ++ c.in-Ok.report.undelivered) (sym c.requires.reaped))))
     c.whole_play.ensures
+
+pub returns-in-Ok-clause-many : goal.returns-in-Ok-clause-many
+returns-in-Ok-clause-many g c =
+    IfOk-weaker c.whole_play.result _ _ (λ played whole. ap (λ (r : Report). r.workers) whole.report_is ∙ c.in-Ok.ensures.many) c.whole_play.ensures
