@@ -92,14 +92,14 @@ fn texts(alloc: Global, words: &[String]) -> Result<Vec<&str>, AllocError> {
 }
 
 /// What a command came to that wrote to this output, unless nobody reads it any more.
-fn unless_closed<W: Write + Drop, T: Drop, E>(
+fn unless_closed<W: Write + Drop, T: Drop, E: Drop>(
     output: &Outlet<W>,
-    result: Result<T, E>,
+    ended: Result<T, E>,
 ) -> Result<T, Fault>
 where
     Fault: From<E>,
 {
-    match result {
+    match ended {
         Ok(done) => Ok(done),
         Err(_) if output.is_closed() => Err(Fault::Closed),
         Err(fault) => Err(Fault::from(fault)),

@@ -182,7 +182,7 @@ impl<P: AppPort> AppEnd<P> {
     }
 }
 
-// The refusals of an open end that hang on the call alone.
+/// The refusals of an open end that hang on the call alone.
 fn check_call(items: &[Item], size: u32) -> Result<(), SubmitRefusal>
     ensures ok { OnOk result
         ((0 < length items.now) × (length items.now ≤ size) × AreItems size items.now) }
@@ -200,7 +200,7 @@ fn check_call(items: &[Item], size: u32) -> Result<(), SubmitRefusal>
     Ok(())
 }
 
-// Whether no bad word is below the size.
+/// Whether no bad word is below the size.
 fn are_items(items: &[Item], size: u32) -> bool
     ensures { IsTrue result ↔ AreItems size items.now }
 {

@@ -11,7 +11,7 @@ use crate::pulled::Pulled;
 use rtrb::{Consumer, Producer};
 use std::alloc::Global;
 
-// Whether so many places are free. It looks anew only if too few were free when it last looked.
+/// Whether so many places are free. It looks anew only if too few were free when it last looked.
 fn has_room_for(lane: &mut Producer<Message, Global, WholeCalls>, count: usize) -> bool
     ensures looked { ProducerLooked lane.old lane.new }
     ensures room { MatchBool result (count ≤ known_free lane.new) (known_free lane.new < count) }
@@ -20,7 +20,7 @@ fn has_room_for(lane: &mut Producer<Message, Global, WholeCalls>, count: usize) 
     lane.cached_slots() >= count || lane.slots() >= count
 }
 
-// Puts the items as one call, if there is room for all of them.
+/// Puts the items as one call, if there is room for all of them.
 pub fn put_call(lane: &mut Producer<Message, Global, WholeCalls>, items: &[Item]) -> bool
     requires whole { AreWhole (sent lane.old) }
     requires open { has_close_mark (sent lane.old) ≡ false }
@@ -40,7 +40,7 @@ pub fn put_call(lane: &mut Producer<Message, Global, WholeCalls>, items: &[Item]
     true
 }
 
-// Puts the items of one call, for all of which there is room.
+/// Puts the items of one call, for all of which there is room.
 fn push_items(lane: &mut Producer<Message, Global, WholeCalls>, items: &[Item])
     requires whole { AreWhole (sent lane.old) }
     requires open { has_close_mark (sent lane.old) ≡ false }
@@ -58,7 +58,7 @@ fn push_items(lane: &mut Producer<Message, Global, WholeCalls>, items: &[Item])
     }
 }
 
-// Puts the close mark, if there is room for it.
+/// Puts the close mark, if there is room for it.
 pub fn put_close(lane: &mut Producer<Message, Global, WholeCalls>) -> bool
     requires whole { AreWhole (sent lane.old) }
     requires open { has_close_mark (sent lane.old) ≡ false }
@@ -76,7 +76,7 @@ pub fn put_close(lane: &mut Producer<Message, Global, WholeCalls>) -> bool
     true
 }
 
-// Takes one whole call, or the close mark, or nothing.
+/// Takes one whole call, or the close mark, or nothing.
 pub fn pull(lane: &mut Consumer<Message, Global, WholeCalls>, items: &mut Vec<Item>) -> Pulled
     requires whole { AreWhole (received lane.old) }
     requires open { has_close_mark (received lane.old) ≡ false }
@@ -109,7 +109,7 @@ pub fn pull(lane: &mut Consumer<Message, Global, WholeCalls>, items: &mut Vec<It
     Pulled::Call
 }
 
-// Takes the items that are still to come of a call, which are there.
+/// Takes the items that are still to come of a call, which are there.
 fn pull_rest(lane: &mut Consumer<Message, Global, WholeCalls>, items: &mut Vec<Item>, left: usize)
     requires owed { owed (received lane.old) ≡ left }
     requires there { left ≤ length (known_items lane.old) }

@@ -10,7 +10,7 @@ use rtrb::{Consumer, Producer};
 use std::alloc::Global;
 use uring_entry::Cqe;
 
-// Takes the items that were put and not pulled.
+/// Takes the items that were put and not pulled.
 pub fn take_unsent(
     lane: &mut Consumer<Message, Global, WholeCalls>,
     sender: &mut Producer<Message, Global, WholeCalls>,
@@ -27,7 +27,7 @@ pub fn take_unsent(
     take_known_items(lane, items);
 }
 
-// Takes the items whose messages are known to be there, up to the close mark.
+/// Takes the items whose messages are known to be there, up to the close mark.
 fn take_known_items(lane: &mut Consumer<Message, Global, WholeCalls>, items: &mut Vec<Item>)
     requires room { vec_len items.old + length (known_items lane.old) ≤ vec_capacity items.old }
     ensures { items.new.items ≡ items.old.items ++ items_of (known_items lane.old) }
@@ -56,7 +56,7 @@ pub fn take_undelivered(
     take_known(lane, completions);
 }
 
-// Takes the completions that are known to be there.
+/// Takes the completions that are known to be there.
 fn take_known(lane: &mut Consumer<Cqe>, completions: &mut Vec<Cqe>)
     requires room { vec_len completions.old + length (known_items lane.old)
         ≤ vec_capacity completions.old }

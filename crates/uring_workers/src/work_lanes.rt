@@ -64,7 +64,7 @@ pub fn open_all<G: Gate>(
     Ok((lanes, workers))
 }
 
-// One worker more, behind those that are there.
+/// One worker more, behind those that are there.
 fn open_next<G: Gate>(
     alloc: Global,
     files: u32,

@@ -10,7 +10,7 @@ use crate::completion::app_steps::{load_cell, load_tail, store_head};
 use crate::completion::table::{LoadDropped, Seat, Words};
 use uring_entry::Cqe;
 
-// Loads the tail if nothing is known to be there.
+/// Loads the tail if nothing is known to be there.
 fn see_tail(words: &Words, seat: &mut Seat, size: u32, tail: u32, head: u32) -> u32
     requires table { (seat.old.table_id ≡ words.now.table_id)
         × (words.now.table_id.words ≡ word_count size) }
@@ -29,7 +29,7 @@ fn see_tail(words: &Words, seat: &mut Seat, size: u32, tail: u32, head: u32) -> 
     load_tail(words, seat, size, tail, head)
 }
 
-// Gets the first of the known completions.
+/// Gets the first of the known completions.
 pub fn get_one(words: &Words, seat: &mut Seat, size: u32, tail: u32, head: &mut u32) -> Cqe
     requires table { (seat.old.table_id ≡ words.now.table_id)
         × (words.now.table_id.words ≡ word_count size) }
@@ -45,7 +45,7 @@ pub fn get_one(words: &Words, seat: &mut Seat, size: u32, tail: u32, head: &mut 
     Cqe::from_words(cell)
 }
 
-// Gets the oldest completion that was put and not got. `None` says only that this end looked and saw none.
+/// Gets the oldest completion that was put and not got. `None` says only that this end looked and saw none.
 pub fn get(words: &Words, seat: &mut Seat, size: u32, tail: &mut u32, head: &mut u32) -> Option<Cqe>
     requires table { (seat.old.table_id ≡ words.now.table_id)
         × (words.now.table_id.words ≡ word_count size) }
@@ -68,7 +68,7 @@ pub fn get(words: &Words, seat: &mut Seat, size: u32, tail: &mut u32, head: &mut
     Some(get_one(words, seat, size, *tail, head))
 }
 
-// Loads the dropped word.
+/// Loads the dropped word.
 pub fn load_dropped(words: &Words, seat: &mut Seat, size: u32) -> u32
     requires table { (seat.old.table_id ≡ words.now.table_id)
         × (words.now.table_id.words ≡ word_count size) }

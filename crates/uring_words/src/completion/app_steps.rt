@@ -11,7 +11,7 @@ ghost use Rattle.uring_words.specs.Sides.{with_app};
 
 use crate::completion::table::{LoadTail, LoadWord, Seat, StoreHead, Words};
 
-// Loads the tail.
+/// Loads the tail.
 pub fn load_tail(words: &Words, seat: &mut Seat, size: u32, tail: u32, head: u32) -> u32
     requires table { (seat.old.table_id ≡ words.now.table_id)
         × (words.now.table_id.words ≡ word_count size) }
@@ -30,7 +30,7 @@ pub fn load_tail(words: &Words, seat: &mut Seat, size: u32, tail: u32, head: u32
     words.load::<LoadTail>(seat, 10 * size as usize) as u32
 }
 
-// Loads the words of the first of the known completions.
+/// Loads the words of the first of the known completions.
 pub fn load_cell(words: &Words, seat: &mut Seat, size: u32, place: u32) -> [u64; 10]
     requires table { (seat.old.table_id ≡ words.now.table_id)
         × (words.now.table_id.words ≡ word_count size) }
@@ -51,7 +51,7 @@ pub fn load_cell(words: &Words, seat: &mut Seat, size: u32, place: u32) -> [u64;
     cell
 }
 
-// Stores the head, with which the first of the known completions is got.
+/// Stores the head, with which the first of the known completions is got.
 pub fn store_head(words: &Words, seat: &mut Seat, size: u32, head: u32)
     requires table { (seat.old.table_id ≡ words.now.table_id)
         × (words.now.table_id.words ≡ word_count size) }

@@ -9,7 +9,7 @@ use crate::completion::kernel_steps::{cell_of, store_cell, store_tail};
 use crate::completion::table::{LoadHead, Seat, StoreDropped, Words};
 use uring_entry::Cqe;
 
-// Loads the head.
+/// Loads the head.
 fn load_head(words: &Words, seat: &mut Seat, size: u32, tail: u32) -> u32
     requires table { (seat.old.table_id ≡ words.now.table_id)
         × (words.now.table_id.words ≡ word_count size) }
@@ -24,7 +24,7 @@ fn load_head(words: &Words, seat: &mut Seat, size: u32, tail: u32) -> u32
     words.load::<LoadHead>(seat, 10 * size as usize + 1) as u32
 }
 
-// How many cells are free above the head that was last seen. The seat says only which head that is.
+/// How many cells are free above the head that was last seen. The seat says only which head that is.
 fn free(_seat: &Seat, size: u32, head: u32, tail: u32) -> usize
     requires rests { KernelRests _seat.now.me size tail }
     requires saw { SawHead _seat.now.me.0.kernel head }
@@ -33,7 +33,7 @@ fn free(_seat: &Seat, size: u32, head: u32, tail: u32) -> usize
     (size - tail.wrapping_sub(head)) as usize
 }
 
-// How many completions there is room for, by the head as it is now.
+/// How many completions there is room for, by the head as it is now.
 pub fn room(words: &Words, seat: &mut Seat, size: u32, head: &mut u32, tail: u32) -> usize
     requires table { (seat.old.table_id ≡ words.now.table_id)
         × (words.now.table_id.words ≡ word_count size) }
@@ -52,7 +52,7 @@ pub fn room(words: &Words, seat: &mut Seat, size: u32, head: &mut u32, tail: u32
     free(seat, size, *head, tail)
 }
 
-// Puts a completion in the next cell, which is free.
+/// Puts a completion in the next cell, which is free.
 pub fn put(words: &Words, seat: &mut Seat, size: u32, head: u32, tail: &mut u32, completion: Cqe)
     requires table { (seat.old.table_id ≡ words.now.table_id)
         × (words.now.table_id.words ≡ word_count size) }
@@ -74,7 +74,7 @@ pub fn put(words: &Words, seat: &mut Seat, size: u32, head: u32, tail: &mut u32,
     store_tail(words, seat, size, *tail);
 }
 
-// Stores the dropped word.
+/// Stores the dropped word.
 pub fn store_dropped(words: &Words, seat: &mut Seat, size: u32, dropped: u32)
     requires table { (seat.old.table_id ≡ words.now.table_id)
         × (words.now.table_id.words ≡ word_count size) }

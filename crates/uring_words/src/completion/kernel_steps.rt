@@ -11,7 +11,7 @@ use crate::completion::table::{Seat, StoreTail, StoreWord, Words};
 use uring_entry::Cqe;
 use uring_entry::laws::completions_have_their_words;
 
-// The words of a completion, which give it back and have no flags.
+/// The words of a completion, which give it back and have no flags.
 pub fn cell_of(completion: &Cqe) -> [u64; 10]
     ensures back { completion_of result ≡ completion.now }
     ensures cell { IsCell result }
@@ -22,7 +22,7 @@ pub fn cell_of(completion: &Cqe) -> [u64; 10]
     completion.words()
 }
 
-// Stores the words of a completion in the next cell.
+/// Stores the words of a completion in the next cell.
 pub fn store_cell(words: &Words, seat: &mut Seat, size: u32, place: u32, cell: &[u64; 10])
     requires table { (seat.old.table_id ≡ words.now.table_id)
         × (words.now.table_id.words ≡ word_count size) }
@@ -42,7 +42,7 @@ pub fn store_cell(words: &Words, seat: &mut Seat, size: u32, place: u32, cell: &
     }
 }
 
-// Stores the tail, with which the completion of the next cell is put.
+/// Stores the tail, with which the completion of the next cell is put.
 pub fn store_tail(words: &Words, seat: &mut Seat, size: u32, tail: u32)
     requires table { (seat.old.table_id ≡ words.now.table_id)
         × (words.now.table_id.words ≡ word_count size) }

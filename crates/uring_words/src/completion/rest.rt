@@ -10,7 +10,7 @@ use crate::completion::app_steps::load_tail;
 use crate::completion::table::{BothSides, Seat, Words};
 use uring_entry::Cqe;
 
-// Takes the completions that are known to be there.
+/// Takes the completions that are known to be there.
 fn take_known(
     words: &Words,
     seat: &mut Seat,
@@ -33,7 +33,7 @@ fn take_known(
     }
 }
 
-// Takes the completions that were put and not got.
+/// Takes the completions that were put and not got.
 pub fn take_undelivered(
     words: &Words,
     seat: &mut Seat,

@@ -19,10 +19,13 @@ impl TableRule<(), Known, Shape> for RingRule {
     ghost first = { at_first };
 }
 
+/// The table of the completion ring, before its seats are taken.
 pub type Ring = Table<(), Known, Shape, RingRule, Global>;
 
+/// The words of the completion ring, as both sides share them.
 pub type Words = Shared<(), Known, Shape, RingRule>;
 
+/// What one side may do to the words, and what it knows of them.
 pub type Seat = atomic_table::Seat<(), Known>;
 
 /// The dispatcher stores a cell word.

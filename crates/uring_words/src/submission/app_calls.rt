@@ -12,7 +12,7 @@ use crate::submission::app_steps::{publish, stage_close, stage_item};
 use crate::submission::table::{LoadHead, Seat, Words};
 use uring_ports::Item;
 
-// How many places are free above the head that was last seen. The seat says only which head that is.
+/// How many places are free above the head that was last seen. The seat says only which head that is.
 fn free(_seat: &Seat, size: u32, head: u32, tail: u32) -> usize
     requires rests { AppRests _seat.now.me size tail }
     requires saw { SawHead _seat.now.me.0.app head }
@@ -21,7 +21,7 @@ fn free(_seat: &Seat, size: u32, head: u32, tail: u32) -> usize
     (size - tail.wrapping_sub(head)) as usize
 }
 
-// Loads the head.
+/// Loads the head.
 fn load_head(words: &Words, seat: &mut Seat, size: u32, tail: u32) -> u32
     requires table { (seat.old.table_id ≡ words.now.table_id)
         × (words.now.table_id.words ≡ word_count size) }
@@ -36,7 +36,7 @@ fn load_head(words: &Words, seat: &mut Seat, size: u32, tail: u32) -> u32
     words.load::<LoadHead>(seat, 17 * size as usize + 1) as u32
 }
 
-// Whether so many places are free. It loads the head only if too few were free above the head that was last seen.
+/// Whether so many places are free. It loads the head only if too few were free above the head that was last seen.
 fn has_room(
     words: &Words,
     seat: &mut Seat,
@@ -65,7 +65,7 @@ fn has_room(
     count <= free(seat, size, *head, tail)
 }
 
-// Stages items that others of their call follow.
+/// Stages items that others of their call follow.
 fn stage_front(words: &Words, seat: &mut Seat, size: u32, tail: u32, items: &[Item]) -> u32
     requires table { (seat.old.table_id ≡ words.now.table_id)
         × (words.now.table_id.words ≡ word_count size) }
@@ -89,7 +89,7 @@ fn stage_front(words: &Words, seat: &mut Seat, size: u32, tail: u32, items: &[It
     word
 }
 
-// Stages the items of one call, for all of which there is room.
+/// Stages the items of one call, for all of which there is room.
 fn stage_call(words: &Words, seat: &mut Seat, size: u32, tail: u32, items: &[Item]) -> u32
     requires table { (seat.old.table_id ≡ words.now.table_id)
         × (words.now.table_id.words ≡ word_count size) }
@@ -111,7 +111,7 @@ fn stage_call(words: &Words, seat: &mut Seat, size: u32, tail: u32, items: &[Ite
     word.wrapping_add(1)
 }
 
-// Puts the items as one call, if there is room for all of them.
+/// Puts the items as one call, if there is room for all of them.
 pub fn put_call(
     words: &Words,
     seat: &mut Seat,
@@ -146,7 +146,7 @@ pub fn put_call(
     true
 }
 
-// Puts the close mark, if there is room for it.
+/// Puts the close mark, if there is room for it.
 pub fn put_close(words: &Words, seat: &mut Seat, size: u32, head: &mut u32, tail: &mut u32) -> bool
     requires table { (seat.old.table_id ≡ words.now.table_id)
         × (words.now.table_id.words ≡ word_count size) }

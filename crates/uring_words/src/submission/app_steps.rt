@@ -21,7 +21,7 @@ pub const CLOSE_MARK: u64 = 1 << 33;
 /// What the array word of the last item of a call has beside its low half.
 pub const LAST_OF_CALL: u64 = 1 << 32;
 
-// The array word of an item with this low half.
+/// The array word of an item with this low half.
 fn mark_of(low: u32, last: bool) -> u64
     ensures low { slot_of result ≡ low }
     ensures last { ends_call result ≡ last }
@@ -35,7 +35,7 @@ fn mark_of(low: u32, last: bool) -> u64
     }
 }
 
-// Stores the words of an entry at the next place.
+/// Stores the words of an entry at the next place.
 fn store_entry(words: &Words, seat: &mut Seat, size: u32, place: u32, entry: &[u64; 16])
     requires table { (seat.old.table_id ≡ words.now.table_id)
         × (words.now.table_id.words ≡ word_count size) }
@@ -55,7 +55,7 @@ fn store_entry(words: &Words, seat: &mut Seat, size: u32, place: u32, entry: &[u
     }
 }
 
-// Stores an array word at the next place, with which the position is staged.
+/// Stores an array word at the next place, with which the position is staged.
 fn store_mark(words: &Words, seat: &mut Seat, size: u32, place: u32, mark: u64)
     requires table { (seat.old.table_id ≡ words.now.table_id)
         × (words.now.table_id.words ≡ word_count size) }
@@ -72,7 +72,7 @@ fn store_mark(words: &Words, seat: &mut Seat, size: u32, place: u32, mark: u64)
     words.store::<StoreMark>(seat, 16 * size as usize + place as usize, mark);
 }
 
-// Stores the tail, with which all that is staged is published.
+/// Stores the tail, with which all that is staged is published.
 pub fn publish(words: &Words, seat: &mut Seat, size: u32, tail: u32)
     requires table { (seat.old.table_id ≡ words.now.table_id)
         × (words.now.table_id.words ≡ word_count size) }
@@ -86,7 +86,7 @@ pub fn publish(words: &Words, seat: &mut Seat, size: u32, tail: u32)
     words.store::<StoreTail>(seat, 17 * size as usize, tail as u64);
 }
 
-// Stages an item at the next place.
+/// Stages an item at the next place.
 pub fn stage_item(words: &Words, seat: &mut Seat, size: u32, word: u32, item: &Item, last: bool)
     requires table { (seat.old.table_id ≡ words.now.table_id)
         × (words.now.table_id.words ≡ word_count size) }
@@ -109,7 +109,7 @@ pub fn stage_item(words: &Words, seat: &mut Seat, size: u32, word: u32, item: &I
     }
 }
 
-// Stages the close mark at the next place.
+/// Stages the close mark at the next place.
 pub fn stage_close(words: &Words, seat: &mut Seat, size: u32, word: u32)
     requires table { (seat.old.table_id ≡ words.now.table_id)
         × (words.now.table_id.words ≡ word_count size) }

@@ -11,7 +11,7 @@ use crate::submission::kernel_steps::{Copied, copy_one};
 use crate::submission::table::{LoadTail, Seat, StoreHead, Words};
 use uring_ports::{Item, Pulled};
 
-// Loads the tail.
+/// Loads the tail.
 pub fn load_tail(words: &Words, seat: &mut Seat, size: u32, tail: u32, head: u32) -> u32
     requires table { (seat.old.table_id ≡ words.now.table_id)
         × (words.now.table_id.words ≡ word_count size) }
@@ -27,7 +27,7 @@ pub fn load_tail(words: &Words, seat: &mut Seat, size: u32, tail: u32, head: u32
     words.load::<LoadTail>(seat, 17 * size as usize) as u32
 }
 
-// Loads the tail if nothing is known to be there.
+/// Loads the tail if nothing is known to be there.
 fn see_tail(words: &Words, seat: &mut Seat, size: u32, tail: u32, head: u32) -> u32
     requires table { (seat.old.table_id ≡ words.now.table_id)
         × (words.now.table_id.words ≡ word_count size) }
@@ -45,7 +45,7 @@ fn see_tail(words: &Words, seat: &mut Seat, size: u32, tail: u32, head: u32) -> 
     load_tail(words, seat, size, tail, head)
 }
 
-// Stores the head, with which all that was copied is taken.
+/// Stores the head, with which all that was copied is taken.
 fn store_head(words: &Words, seat: &mut Seat, size: u32, head: u32)
     requires table { (seat.old.table_id ≡ words.now.table_id)
         × (words.now.table_id.words ≡ word_count size) }
@@ -56,7 +56,7 @@ fn store_head(words: &Words, seat: &mut Seat, size: u32, head: u32)
     words.store::<StoreHead>(seat, 17 * size as usize + 1, head as u64);
 }
 
-// Copies one whole call, or the close mark, which is known to be there.
+/// Copies one whole call, or the close mark, which is known to be there.
 fn copy_call(
     words: &Words,
     seat: &mut Seat,
@@ -101,7 +101,7 @@ fn copy_call(
     unreachable!()
 }
 
-// Takes one whole call, or the close mark, or nothing.
+/// Takes one whole call, or the close mark, or nothing.
 pub fn pull(
     words: &Words,
     seat: &mut Seat,

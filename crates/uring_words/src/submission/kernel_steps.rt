@@ -27,7 +27,7 @@ pub enum Copied {
     Close,
 }
 
-// Loads the array word of the first known position.
+/// Loads the array word of the first known position.
 fn load_mark(words: &Words, seat: &mut Seat, size: u32, place: u32) -> u64
     requires table { (seat.old.table_id ≡ words.now.table_id)
         × (words.now.table_id.words ≡ word_count size) }
@@ -43,7 +43,7 @@ fn load_mark(words: &Words, seat: &mut Seat, size: u32, place: u32) -> u64
     words.load::<LoadMark>(seat, 16 * size as usize + place as usize)
 }
 
-// Loads the entry words of the first known position, whose array word is loaded. It is then copied.
+/// Loads the entry words of the first known position, whose array word is loaded. It is then copied.
 fn load_entry(words: &Words, seat: &mut Seat, size: u32, place: u32) -> [u64; 16]
     requires table { (seat.old.table_id ≡ words.now.table_id)
         × (words.now.table_id.words ≡ word_count size) }
@@ -66,14 +66,14 @@ fn load_entry(words: &Words, seat: &mut Seat, size: u32, place: u32) -> [u64; 16
     entry
 }
 
-// Whether an array word is that of an entry.
+/// Whether an array word is that of an entry.
 fn is_of_entry(size: u32, mark: u64) -> bool
     ensures { result ≡ has_entry size mark }
 {
     mark != CLOSE_MARK && mark % LAST_OF_CALL < size as u64
 }
 
-// What a position with this array word holds, if not the close mark.
+/// What a position with this array word holds, if not the close mark.
 fn copied_item(mark: u64, item: Item) -> Copied
     ensures { (p : Position) → p.mark ≡ mark → closes mark ≡ false → item_of p ≡ item
         → HoldsAs result p }

@@ -10,7 +10,7 @@ use crate::submission::table::{Ring, Seat};
 use atomic_table::Table;
 use std::alloc::{AllocError, Global};
 
-// The words of a table as it begins.
+/// The words of a table as it begins.
 fn first_words(alloc: Global, shape: Shape) -> Result<Vec<u64>, AllocError>
     requires { shape.size ≤ 4096 }
     ensures many { IfOk result (λ words. length words.items ≡ word_count shape.size) }

@@ -10,7 +10,7 @@ use crate::submission::kernel_steps::{Copied, copy_one};
 use crate::submission::table::{BothSides, Seat, Words};
 use uring_ports::Item;
 
-// Takes the items that are known to be there, up to the close mark.
+/// Takes the items that are known to be there, up to the close mark.
 fn take_known(
     words: &Words,
     seat: &mut Seat,
@@ -35,7 +35,7 @@ fn take_known(
     }
 }
 
-// Takes the items that were put and not pulled.
+/// Takes the items that were put and not pulled.
 pub fn take_unsent(
     words: &Words,
     seat: &mut Seat,
