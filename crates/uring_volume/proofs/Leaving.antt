@@ -6,6 +6,7 @@ use Rattle.uring_volume.specs.Writes.{Write}
 use Rattle.uring_volume.specs.Events.{History}
 use Rattle.uring_volume.specs.Images.{is_on, byte_over, length_over}
 use Rattle.uring_volume.specs.Choices.{issued, chosen, part, IsLeftBy}
+use Rattle.uring_volume.specs.Volume.{ended, IsShown}
 use Rattle.uring_volume.proofs.ReadBack.{len_grows}
 
 zeros : (n k : ℕ) → get_or {A = ℕ} (replicate n 0) k 0 ≡ 0
@@ -42,4 +43,23 @@ left_by u first h choice whole rest pieces order grown now len all begins goes_o
           ∙ ap (λ byte. byte_over byte (chosen h (filter (is_on u (k / u)) pieces) (part rest (k / u))) k) (ap (λ xs. get_or xs k 0) padding ∙ padded first (len - length first) k)
           ∙ ap (λ ws. byte_over (get_or first k 0) (chosen h (filter (is_on u (k / u)) ws) (part rest (k / u))) k) all
           ∙ ap (λ ns. byte_over (get_or first k 0) (chosen h (filter (is_on u (k / u)) (issued h)) ns) k) (goes_on (k / u));
+    }
+
+pub shown_by : (first : List ℕ) (h : History) (order : List Write) (grown now : List ℕ) (len : ℕ)
+    → order ≡ ended h
+    → len ≡ length_over (length first) order
+    → grown ≡ first ++ replicate (len - length first) 0
+    → length now ≡ length grown
+    → ((k : ℕ) → 0 ≤ k → k < len → get_or now k 0 ≡ byte_over (get_or grown k 0) order k)
+    → IsShown first h now
+shown_by first h order grown now len all long padding same left =
+    let longer : length first ≤ len = omega (arith, len_grows (length first) order) in
+    let size : length grown ≡ length first + (len - length first) = ap length padding ∙ length-append first (replicate (len - length first) 0) ∙ ap (λ n. length first + n) (length-replicate (len - length first) 0) in
+    let total : length now ≡ len = omega arith in
+    record {
+      len = total ∙ long ∙ ap (length_over (length first)) all;
+      bytes = λ k within.
+          left k (omega arith) (omega arith)
+          ∙ ap (λ byte. byte_over byte order k) (ap (λ xs. get_or xs k 0) padding ∙ padded first (len - length first) k)
+          ∙ ap (λ ws. byte_over (get_or first k 0) ws k) all;
     }

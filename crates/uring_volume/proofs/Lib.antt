@@ -3,8 +3,13 @@ pub mod ReadBack
 pub mod Units
 pub mod Rest
 pub mod Steps
+pub mod Fitting
 pub mod Chosen
+pub mod Flat
 pub mod Taking
 pub mod Parts
 pub mod Painting
 pub mod Leaving
+pub mod Numbers
+pub mod Results
+pub mod Crashing

@@ -5,3 +5,8 @@ use Rattle.std.proofs.lemmas.List.{take_more, reverse-append}
 pub newest : {X : Type 0} (xs : List X) (i : ℕ) (d : X) → i < length xs
     → reverse (take (i + 1) xs) ≡ get_or xs i d ∷ reverse (take i xs)
 newest xs i d within = ap reverse (take_more xs i d within) ∙ reverse-append (take i xs) (get_or xs i d ∷ [])
+
+pub pushed : {X : Type 0} (xs old ys : List X) (x : X) → ys ≡ old ++ x ∷ [] → old ≡ xs
+    → reverse ys ≡ x ∷ reverse xs
+pushed xs old ys x e same =
+    ap reverse e ∙ reverse-append old (x ∷ []) ∙ ap (λ zs. x ∷ reverse zs) same

@@ -66,3 +66,7 @@ part (n ∷ later) (suc i) = if n == 0 then part later i else part later (suc i)
 abbrev pub IsLeftBy : (u : ℕ) (first : List ℕ) (h : History) (choice now : List ℕ) → Type 0
 IsLeftBy u first h choice now =
     IsChosen u first h (λ i. part choice (suc i)) (part choice 0) now
+
+-- all of these numbers are below a bound
+abbrev pub AreBelow : ℕ → List ℕ → Type 0
+AreBelow bound numbers = (n : ℕ) → IsIn n numbers → n < bound

@@ -2,4 +2,5 @@ pub mod Writes
 pub mod Events
 pub mod Images
 pub mod Choices
+pub mod Volume
 pub mod Laws

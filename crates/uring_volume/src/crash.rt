@@ -24,7 +24,7 @@ fn first_part(choice: &[u64]) -> (&[u64], &[u64])
 }
 
 /// The length that these writes make of one.
-fn length_left(first: u64, order: &[&Piece]) -> u64
+pub fn length_left(first: u64, order: &[&Piece]) -> u64
     ensures { result ≡ length_over first (map (λ p. p.now) order.now) }
 {
     let mut len = first;
@@ -37,7 +37,7 @@ fn length_left(first: u64, order: &[&Piece]) -> u64
 }
 
 /// These bytes with zeros behind them up to a length.
-fn grown(alloc: Global, first: &[u8], len: usize) -> Result<Vec<u8>, AllocError>
+pub fn grown(alloc: Global, first: &[u8], len: usize) -> Result<Vec<u8>, AllocError>
     requires { length first.now ≤ len }
     ensures { IfOk result (λ now. now.items ≡ first.now ++ replicate (len - length first.now) 0) }
 {
@@ -95,7 +95,7 @@ fn write_over(now: &mut [u8], from: usize, to: usize, piece: &Piece)
 }
 
 /// Writes what these pieces have of the bytes from `from` to `to` over them, one after the other.
-fn write_all(now: &mut [u8], from: usize, to: usize, order: &[&Piece])
+pub fn write_all(now: &mut [u8], from: usize, to: usize, order: &[&Piece])
     requires { to ≤ length now.old }
     ensures within { (k : ℕ) → from ≤ k → k < to
         → slice_index now.new k ≡ byte_over (slice_index now.old k) (map (λ p. p.now) order.now) k }

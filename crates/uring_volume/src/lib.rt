@@ -5,7 +5,10 @@ mod crash;
 mod event;
 pub mod laws;
 mod order;
+mod show;
 mod standing;
+mod volume;
 
 pub use event::{Event, Piece};
 pub use standing::{is_before, is_covered, is_safe};
+pub use volume::{BeginError, Volume};

@@ -32,6 +32,23 @@ fn has_one_before(events: &[Event], rest: &[&Piece], n: u64) -> bool
     false
 }
 
+/// Puts those of these writes that have number `n` behind others.
+pub fn push_named<'a>(
+    pieces: &[&'a Piece],
+    n: u64,
+    order: &mut Vec<&'a Piece>,
+) -> Result<(), AllocError>
+    ensures { OnOk result (map (λ p. p.now) order.new.items
+        ≡ map (λ p. p.now) order.old.items ++ named n (map (λ p. p.now) pieces.now)) }
+{
+    for piece in pieces {
+        if piece.number() == n {
+            order.push(*piece)?;
+        }
+    }
+    Ok(())
+}
+
 /// Moves the writes of number `n` behind those that are left already.
 fn move_named<'a>(
     rest: &mut Vec<&'a Piece>,
@@ -43,11 +60,7 @@ fn move_named<'a>(
     ensures rest { OnOk result (map (λ p. p.now) rest.new.items
         ≡ without n (map (λ p. p.now) rest.old.items)) }
 {
-    for piece in rest.iter() {
-        if piece.number() == n {
-            order.push(*piece)?;
-        }
-    }
+    push_named(rest, n, order)?;
     rest.retain(|piece| piece.number() != n);
     Ok(())
 }

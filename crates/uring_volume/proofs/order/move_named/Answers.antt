@@ -1,11 +1,8 @@
-use Rattle.std.proofs.Common.{rules, ◌==◌, not, map, ap, ◌∙◌, sym}
+use Rattle.std.proofs.Common.{rules, ◌==◌, ◌++◌, not, map, ap, ◌∙◌, sym}
 use Rattle.std.proofs.lemmas.Fn.{filter_same}
-use Rattle.uring_volume.proofs.Taking.{filter-map, all_pushed}
+use Rattle.uring_volume.specs.Choices.{named}
+use Rattle.uring_volume.proofs.Taking.{filter-map}
 use Rattle.uring_volume.proofs.order.move_named.Goals as goal
-
-pub returns-clause-moved : goal.returns-clause-moved
-returns-clause-moved c =
-    all_pushed (λ p. p.now) (λ w. w.number == c.args.n) _ _ _ _ c.loop-piece.piece-index c.loop-piece.invariant c.deref-piece-items.ensures.value c.loop-piece-test.false
 
 pub returns-clause-rest : goal.returns-clause-rest
 returns-clause-rest c =

@@ -1,0 +1,47 @@
+-- What a crash of a sound volume leaves.
+use Rattle.std.proofs.Common.{◌≡◌, ◌↔◌, ◌<◌, ℕ, suc, List, length, reverse, sym, subst, ap, ◌∙◌, arith}
+use Rattle.uring_volume.specs.Writes.{Write}
+use Rattle.uring_volume.specs.declared.event.Event.{Event}
+use Rattle.uring_volume.specs.Images.{IsImage}
+use Rattle.uring_volume.specs.Choices.{part, IsLeftBy, AreBelow}
+use Rattle.uring_volume.specs.Laws.{IsKept, IsReadBack}
+use Rattle.uring_volume.specs.Volume.{Volume, IsSound}
+use Rattle.uring_volume.proofs.ReadBack.{read_back}
+use Rattle.uring_volume.proofs.Chosen.{chosen_is_image}
+use Rattle.uring_volume.proofs.Flat.{left_once, image_has_choice}
+
+-- an image of a volume's fields, as one of the volume
+pub left_seen : (inside v : Volume) (first : List ℕ) (events kept : List Event) (choice now : List ℕ)
+    → inside ≡ v → first ≡ inside.first → events ≡ kept → inside.history ≡ reverse kept
+    → IsLeftBy inside.unit first (reverse events) choice now
+    → IsLeftBy v.unit v.first v.history choice now
+left_seen inside v first events kept choice now same bytes past turned left =
+    subst (λ x. IsLeftBy x.unit x.first x.history choice now) same
+    (subst (λ h. IsLeftBy inside.unit inside.first h choice now) (ap reverse past ∙ sym turned)
+    (subst (λ xs. IsLeftBy inside.unit xs (reverse events) choice now) bytes left))
+
+pub left_is_image : (v : Volume) (choice now : List ℕ) → IsSound v
+    → IsLeftBy v.unit v.first v.history choice now → IsImage v.unit v.first v.history now
+left_is_image v choice now sound left =
+    chosen_is_image v.unit v.first v.history (λ i. part choice (suc i)) (part choice 0) now sound.unit sound.lawful left
+
+pub left_alone : (v : Volume) (choice now : List ℕ) → IsLeftBy v.unit v.first v.history choice now
+    → (other : List ℕ) → IsLeftBy v.unit v.first v.history choice other ↔ (other ≡ now)
+left_alone v choice now left other = (
+  λ also. left_once v.unit v.first v.history choice other now also left,
+  λ same. subst (λ bytes. IsLeftBy v.unit v.first v.history choice bytes) (sym same) left,
+)
+
+pub left_keeps : (v : Volume) (choice now : List ℕ) → IsSound v
+    → IsLeftBy v.unit v.first v.history choice now
+    → (w : Write) (k : ℕ) → IsKept v.history w → k < length w.bytes → IsReadBack now w k
+left_keeps v choice now sound left w k kept within =
+    read_back v.unit v.first v.history now w k sound.unit kept (left_is_image v choice now sound left) within
+
+pub each_is_left : (v : Volume) (bound : ℕ) → IsSound v → v.next < bound → (now : List ℕ)
+    → IsImage v.unit v.first v.history now
+    → (other : List ℕ) × AreBelow bound other × IsLeftBy v.unit v.first v.history other now
+each_is_left v bound sound small now image =
+    image_has_choice v.unit bound v.first v.history now (omega arith)
+    (record { positive = sound.numbered.positive; below = λ w among. omega (arith, sound.numbered.issued w among) })
+    sound.lawful image

@@ -1,0 +1,240 @@
+-- What may be left of some writes, wherever they lie: a choice gives it, and it is what some choice gives.
+use Rattle.std.proofs.Common.{◌≡◌, ◌==◌, ◌<◌, ◌/◌, ℕ, Bool, true, false, not, ◌&&◌, ◌||◌, cond, List, [], ◌∷◌, ◌++◌, ◌⊎◌, length, map, refl, sym, subst, ap, ◌∙◌, inl, inr}
+use Rattle.std.specs.Prelude.{slice_index}
+use Rattle.std.specs.List.{filter, list_any}
+use Rattle.std.proofs.lemmas.Bool.{cases_Bool, both_ways, false_from_ne_true, cond-true, cond-false, cond_both, or_from, or_left, or_right, or_parts, and_left, and_right, eqb-true, eqb-false, eq-eqb, ne_eqb, not-true, not_from_true, not_from_false}
+use Rattle.uring_volume.specs.Writes.{Write}
+use Rattle.uring_volume.specs.declared.event.Event.{Event}
+use Rattle.uring_volume.specs.declared.event.Event.TheVariants.{WriteIssued, WriteEnded, SyncIssued, SyncEnded, SyncFailed}
+use Rattle.uring_volume.specs.Events.{History, writes, has_ended, is_before, is_safe}
+use Rattle.uring_volume.specs.Images.{IsIn, IsInOrder, is_on, byte_over, length_over, MayBeLeft, UnitIsLeft, LengthIsLeft, IsImage}
+use Rattle.uring_volume.specs.Choices.{IsLawful, issued, waits_for_one, has_safe, up_to_safe, named, without, chosen, IsChosen}
+use Rattle.uring_volume.specs.Laws.{ChosenIsImage, ImageIsChosen}
+use Rattle.uring_volume.proofs.Units.{in_filter, of_filter, filter_in_order}
+
+-- Tests of lists.
+
+any_in : (p : Write → Bool) (x : Write) (xs : List Write) → IsIn x xs → p x ≡ true
+    → list_any p xs ≡ true
+any_in p x [] among is = absurd among
+any_in p x (y ∷ ys) (inl same) is =
+    or_left (p y) (list_any p ys) (subst (λ z. p z ≡ true) same is)
+any_in p x (y ∷ ys) (inr more) is = or_right (p y) (list_any p ys) (any_in p x ys more is)
+
+none_in : (p : Write → Bool) (xs : List Write) → ((x : Write) → IsIn x xs → p x ≡ false)
+    → list_any p xs ≡ false
+none_in p [] none = refl
+none_in p (y ∷ ys) none =
+    or_from (p y) (list_any p ys) (none y (inl refl)) (none_in p ys (λ x among. none x (inr among)))
+
+not_in : (p : Write → Bool) (x : Write) (xs : List Write) → list_any p xs ≡ false → IsIn x xs
+    → p x ≡ false
+not_in p x xs none among =
+    false_from_ne_true (p x) (λ is. both_ways (list_any p xs) none (any_in p x xs among is))
+
+pub in_left : {X : Type 0} (x : X) (xs ys : List X) → IsIn x xs → IsIn x (xs ++ ys)
+in_left x [] ys among = absurd among
+in_left x (z ∷ xs) ys (inl same) = inl same
+in_left x (z ∷ xs) ys (inr more) = inr (in_left x xs ys more)
+
+pub in_right : {X : Type 0} (x : X) (xs ys : List X) → IsIn x ys → IsIn x (xs ++ ys)
+in_right x [] ys among = among
+in_right x (z ∷ xs) ys among = inr (in_right x xs ys among)
+
+pub in_either : {X : Type 0} (x : X) (xs ys : List X) → IsIn x (xs ++ ys) → IsIn x xs ⊎ IsIn x ys
+in_either x [] ys among = inr among
+in_either x (z ∷ xs) ys (inl same) = inl (inl same)
+in_either x (z ∷ xs) ys (inr more) = elim (in_either x xs ys more) [
+  | inl left ↦ inl (inr left)
+  | inr right ↦ inr right
+]
+
+pub append_in_order : (h : History) (xs ys : List Write) → IsInOrder h xs → IsInOrder h ys
+    → ((x m : Write) → IsIn x xs → IsIn m ys → is_before h m.number x.number ≡ false)
+    → ((x : Write) → IsIn x xs → IsIn x ys → ⊥)
+    → IsInOrder h (xs ++ ys)
+append_in_order h [] ys ox oy after apart = oy
+append_in_order h (x ∷ xs) ys ox oy after apart = (
+  λ m among. elim (in_either m xs ys among) [
+    | inl left ↦ ox.0 m left
+    | inr right ↦ after x m (inl refl) right
+  ],
+  λ among. elim (in_either x xs ys among) [
+    | inl left ↦ ox.1 left
+    | inr right ↦ apart x (inl refl) right
+  ],
+  append_in_order h xs ys ox.2 oy (λ y m among. after y m (inr among)) (λ y among. apart y (inr among)),
+)
+
+-- What may be left of some writes, wherever they lie.
+
+pub record FitsIn (h : History) (rest order : List Write) : Type 0 where
+  pub within : (w : Write) → IsIn w order → IsIn w rest
+  pub safe : (w : Write) → IsIn w rest → is_safe h w.number ≡ true → IsIn w order
+  pub closed : (m w : Write) → IsIn m rest → IsIn w order → is_before h m.number w.number ≡ true
+      → IsIn m order
+  pub in_order : IsInOrder h order
+
+-- Soundness.
+
+safe_fits_with : (h : History) (w : Write) (later : List Write) → IsInOrder h (w ∷ later)
+    → FitsIn h later (up_to_safe h later) → FitsIn h (w ∷ later) (w ∷ up_to_safe h later)
+safe_fits_with h w later o f = record {
+  within = λ x among. elim among [ inl same ↦ inl same | inr more ↦ inr (f.within x more) ];
+  safe = λ x among safe. elim among [ inl same ↦ inl same | inr more ↦ inr (f.safe x more safe) ];
+  closed = λ m x among kept before. elim among [
+    | inl same ↦ inl same
+    | inr more ↦ elim kept [
+      | inl is ↦ absurd (both_ways (is_before h m.number w.number) (o.0 m more) (subst (λ y. is_before h m.number y.number ≡ true) is before))
+      | inr further ↦ inr (f.closed m x more further before)
+    ]
+  ];
+  in_order = (λ m among. o.0 m (f.within m among), λ among. o.1 (f.within w among), f.in_order);
+}
+
+safe_fits : (h : History) (rest : List Write) → IsInOrder h rest → FitsIn h rest (up_to_safe h rest)
+safe_fits h [] o = record {
+  within = λ w among. among;
+  safe = λ w among safe. among;
+  closed = λ m w among kept before. among;
+  in_order = tt;
+}
+safe_fits h (w ∷ later) o =
+    elim (cases_Bool (has_safe h (w ∷ later))) [
+      | inl some ↦ subst (λ order. FitsIn h (w ∷ later) order) (sym (cond-true (has_safe h (w ∷ later)) (w ∷ up_to_safe h later) [] some)) (safe_fits_with h w later o (safe_fits h later o.2))
+      | inr none ↦ subst (λ order. FitsIn h (w ∷ later) order) (sym (cond-false (has_safe h (w ∷ later)) (w ∷ up_to_safe h later) [] none)) (record {
+        within = λ x among. absurd among;
+        safe = λ x among safe. absurd (both_ways (is_safe h x.number) (not_in (λ y. is_safe h y.number) x (w ∷ later) none among) safe);
+        closed = λ m x among kept before. absurd kept;
+        in_order = tt;
+      })
+    ]
+
+-- whether a write has the number n
+abbrev has : ℕ → Write → Bool
+has n w = w.number == n
+
+abbrev lacks : ℕ → Write → Bool
+lacks n w = not (w.number == n)
+
+place_fits : (h : History) (n : ℕ) (rest order : List Write) → IsInOrder h rest
+    → waits_for_one h rest n ≡ false → FitsIn h (without n rest) order
+    → FitsIn h rest (named n rest ++ order)
+place_fits h n rest order o free f =
+    let names = λ (x : Write) (among : IsIn x (named n rest)). of_filter (has n) x rest among in
+    let lies = λ (x : Write) (among : IsIn x order). of_filter (lacks n) x rest (f.within x among) in
+    record {
+      within = λ x among. elim (in_either x (named n rest) order among) [
+        | inl left ↦ (names x left).0
+        | inr right ↦ (lies x right).0
+      ];
+      safe = λ x among safe. elim (cases_Bool (has n x)) [
+        | inl is ↦ in_left x (named n rest) order (in_filter (has n) x rest among is)
+        | inr out ↦ in_right x (named n rest) order (f.safe x (in_filter (lacks n) x rest among (not_from_false (has n x) out)) safe)
+      ];
+      closed = λ m x among kept before. elim (in_either x (named n rest) order kept) [
+        | inl left ↦ absurd (both_ways (is_before h m.number n) (not_in (λ y. is_before h y.number n) m rest free among) (subst (λ k. is_before h m.number k ≡ true) (eqb-true x.number n (names x left).1) before))
+        | inr right ↦ elim (cases_Bool (has n m)) [
+          | inl is ↦ in_left m (named n rest) order (in_filter (has n) m rest among is)
+          | inr out ↦ in_right m (named n rest) order (f.closed m x (in_filter (lacks n) m rest among (not_from_false (has n m) out)) right before)
+        ]
+      ];
+      in_order = append_in_order h (named n rest) order (filter_in_order h (has n) rest o) f.in_order
+          (λ x m left right. subst (λ k. is_before h m.number k ≡ false) (sym (eqb-true x.number n (names x left).1)) (not_in (λ y. is_before h y.number n) m rest free (lies m right).0))
+          (λ x left right. both_ways (has n x) (not-true (has n x) (lies x right).1) (names x left).1);
+    }
+
+pub chosen_fits : (h : History) (rest : List Write) (choice : List ℕ) → IsInOrder h rest
+    → FitsIn h rest (chosen h rest choice)
+chosen_fits h rest [] o = safe_fits h rest o
+chosen_fits h rest (n ∷ more) o =
+    elim (cases_Bool (waits_for_one h rest n)) [
+      | inl waits ↦ subst (λ order. FitsIn h rest order) (sym (cond-true (waits_for_one h rest n) (chosen h rest more) (named n rest ++ chosen h (without n rest) more) waits)) (chosen_fits h rest more o)
+      | inr free ↦ subst (λ order. FitsIn h rest order) (sym (cond-false (waits_for_one h rest n) (chosen h rest more) (named n rest ++ chosen h (without n rest) more) free)) (place_fits h n rest (chosen h (without n rest) more) o free (chosen_fits h (without n rest) more (filter_in_order h (lacks n) rest o)))
+    ]
+
+-- Completeness.
+
+-- No two of these writes have the same number, and none is before itself.
+pub record AreApart (h : History) (rest : List Write) : Type 0 where
+  pub in_order : IsInOrder h rest
+  pub unique : (x y : Write) → IsIn x rest → IsIn y rest → x.number ≡ y.number → x ≡ y
+  pub irreflexive : (x : Write) → IsIn x rest → is_before h x.number x.number ≡ false
+
+pub apart_filter : (h : History) (p : Write → Bool) (rest : List Write) → AreApart h rest
+    → AreApart h (filter p rest)
+apart_filter h p rest a = record {
+  in_order = filter_in_order h p rest a.in_order;
+  unique = λ x y ax ay same. a.unique x y (of_filter p x rest ax).0 (of_filter p y rest ay).0 same;
+  irreflexive = λ x among. a.irreflexive x (of_filter p x rest among).0;
+}
+
+filter_none : (p : Write → Bool) (xs : List Write) → ((x : Write) → IsIn x xs → p x ≡ false)
+    → filter p xs ≡ []
+filter_none p [] none = refl
+filter_none p (y ∷ ys) none =
+    cond-false (p y) (y ∷ filter p ys) (filter p ys) (none y (inl refl)) ∙ filter_none p ys (λ x among. none x (inr among))
+
+named_is : (h : History) (w : Write) (rest : List Write) → AreApart h rest → IsIn w rest
+    → named w.number rest ≡ w ∷ []
+named_is h w [] a among = absurd among
+named_is h w (y ∷ ys) a (inl same) =
+    cond-true (has w.number y) (y ∷ named w.number ys) (named w.number ys) (eq-eqb y.number w.number (ap (λ z. z.number) (sym same)))
+    ∙ ap (λ zs. y ∷ zs) (filter_none (has w.number) ys (λ x among. ne_eqb x.number w.number (λ e. a.in_order.1 (subst (λ z. IsIn z ys) (a.unique x w (inr among) (inl same) e ∙ same) among))))
+    ∙ ap (λ z. z ∷ []) (sym same)
+named_is h w (y ∷ ys) a (inr more) =
+    cond-false (has w.number y) (y ∷ named w.number ys) (named w.number ys) (ne_eqb y.number w.number (λ e. a.in_order.1 (subst (λ z. IsIn z ys) (sym (a.unique y w (inl refl) (inr more) e)) more)))
+    ∙ named_is h w ys (record {
+      in_order = a.in_order.2;
+      unique = λ x z ax az. a.unique x z (inr ax) (inr az);
+      irreflexive = λ x among. a.irreflexive x (inr among);
+    }) more
+
+none_left : (h : History) (rest : List Write)
+    → ((w : Write) → IsIn w rest → is_safe h w.number ≡ true → ⊥)
+    → up_to_safe h rest ≡ []
+none_left h [] none = refl
+none_left h (w ∷ later) none =
+    cond-false (has_safe h (w ∷ later)) (w ∷ up_to_safe h later) [] (none_in (λ y. is_safe h y.number) (w ∷ later) (λ x among. false_from_ne_true (is_safe h x.number) (none x among)))
+
+-- the numbers of these writes
+abbrev pub numbers : List Write → List ℕ
+numbers [] = []
+numbers (w ∷ later) = w.number ∷ numbers later
+
+first_is_free : (h : History) (rest : List Write) (w : Write) (more : List Write) → AreApart h rest
+    → FitsIn h rest (w ∷ more) → waits_for_one h rest w.number ≡ false
+first_is_free h rest w more a f =
+    none_in (λ y. is_before h y.number w.number) rest (λ m among. false_from_ne_true (is_before h m.number w.number) (λ before.
+    elim (f.closed m w among (inl refl) before) [
+      | inl same ↦ both_ways (is_before h w.number w.number) (a.irreflexive w (f.within w (inl refl))) (subst (λ y. is_before h y.number w.number ≡ true) same before)
+      | inr later ↦ both_ways (is_before h m.number w.number) (f.in_order.0 m later) before
+    ]))
+
+-- a write of a number isn't among those without it
+other : (w x : Write) (rest : List Write) → IsIn x (without w.number rest) → x ≡ w → ⊥
+other w x rest among same =
+    both_ways (has w.number x) (not-true (has w.number x) (of_filter (lacks w.number) x rest among).1) (eq-eqb x.number w.number (ap (λ z. z.number) same))
+
+rest_fits : (h : History) (rest : List Write) (w : Write) (more : List Write) → AreApart h rest
+    → FitsIn h rest (w ∷ more) → FitsIn h (without w.number rest) more
+rest_fits h rest w more a f = record {
+  within = λ x among. in_filter (lacks w.number) x rest (f.within x (inr among)) (not_from_false (has w.number x) (ne_eqb x.number w.number (λ e. f.in_order.1 (subst (λ z. IsIn z more) (a.unique x w (f.within x (inr among)) (f.within w (inl refl)) e) among))));
+  safe = λ x among safe. elim (f.safe x (of_filter (lacks w.number) x rest among).0 safe) [
+    | inl same ↦ absurd (other w x rest among same)
+    | inr later ↦ later
+  ];
+  closed = λ m x among kept before. elim (f.closed m x (of_filter (lacks w.number) m rest among).0 (inr kept) before) [
+    | inl same ↦ absurd (other w m rest among same)
+    | inr later ↦ later
+  ];
+  in_order = f.in_order.2;
+}
+
+pub fits_chosen : (h : History) (rest order : List Write) → AreApart h rest → FitsIn h rest order
+    → chosen h rest (numbers order) ≡ order
+fits_chosen h rest [] a f = none_left h rest (λ w among safe. f.safe w among safe)
+fits_chosen h rest (w ∷ more) a f =
+    cond-false (waits_for_one h rest w.number) (chosen h rest (numbers more)) (named w.number rest ++ chosen h (without w.number rest) (numbers more)) (first_is_free h rest w more a f)
+    ∙ ap (λ xs. xs ++ chosen h (without w.number rest) (numbers more)) (named_is h w rest a (f.within w (inl refl)))
+    ∙ ap (λ xs. w ∷ xs) (fits_chosen h (without w.number rest) more (apart_filter h (lacks w.number) rest a) (rest_fits h rest w more a f))

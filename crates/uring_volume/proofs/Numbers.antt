@@ -1,0 +1,167 @@
+-- What a volume's calls keep: each write has a number of its own, and the lists of what runs are those of the history.
+use Rattle.std.proofs.Common.{◌≡◌, ◌==◌, ◌<◌, ◌≤◌, ◌+◌, ℕ, Bool, true, false, not, ◌||◌, cond, List, [], ◌∷◌, ◌++◌, ◌⊎◌, length, refl, sym, subst, ap, ◌∙◌, inl, inr, arith}
+use Rattle.std.specs.List.{list_any, filter}
+use Rattle.std.proofs.lemmas.Bool.{cases_Bool, both_ways, cond-true, cond-false, or_left, or_right, eqb-true, eq-eqb, not_from_true, false_from_ne_true}
+use Rattle.std.proofs.lemmas.List.Folds.{list_any-append}
+use Rattle.uring_volume.specs.Writes.{Write}
+use Rattle.uring_volume.specs.declared.event.Event.{Event}
+use Rattle.uring_volume.specs.declared.event.Event.TheVariants.{WriteIssued, WriteEnded, SyncIssued, SyncEnded, SyncFailed}
+use Rattle.uring_volume.specs.Events.{History, writes, has_ended}
+use Rattle.uring_volume.specs.Images.{IsIn}
+use Rattle.uring_volume.specs.Volume.{Volume, but, is_one_of, running_writes, running_syncs, with_event, with_write, with_sync, IsNumbered, IsSound, IsHeld}
+
+or_either : (x y : Bool) → (x || y) ≡ true → (x ≡ true) ⊎ (y ≡ true)
+or_either true y is = inl refl
+or_either false y is = inr is
+
+-- Lists of numbers.
+
+pub is_in_but : (n m : ℕ) (ns : List ℕ) → is_one_of m (but n ns) ≡ true → is_one_of m ns ≡ true
+is_in_but n m [] is = is
+is_in_but n m (k ∷ ns) is = elim (cases_Bool (not (k == n))) [
+  | inl stays ↦
+      let here : is_one_of m (k ∷ but n ns) ≡ true = subst (λ ks. is_one_of m ks ≡ true) (cond-true (not (k == n)) (k ∷ but n ns) (but n ns) stays) is in
+      elim (or_either (k == m) (is_one_of m (but n ns)) here) [
+        | inl same ↦ or_left (k == m) (is_one_of m ns) same
+        | inr more ↦ or_right (k == m) (is_one_of m ns) (is_in_but n m ns more)
+      ]
+  | inr goes ↦ or_right (k == m) (is_one_of m ns) (is_in_but n m ns (subst (λ ks. is_one_of m ks ≡ true) (cond-false (not (k == n)) (k ∷ but n ns) (but n ns) goes) is))
+]
+
+but_is_short : (n : ℕ) (ns : List ℕ) → length (but n ns) ≤ length ns
+but_is_short n [] = omega arith
+but_is_short n (k ∷ ns) = elim (cases_Bool (not (k == n))) [
+  | inl stays ↦ omega (arith, but_is_short n ns, ap length (cond-true (not (k == n)) (k ∷ but n ns) (but n ns) stays))
+  | inr goes ↦ omega (arith, but_is_short n ns, ap length (cond-false (not (k == n)) (k ∷ but n ns) (but n ns) goes))
+]
+
+-- a list without one of its numbers is shorter
+pub but_is_shorter : (n : ℕ) (ns : List ℕ) → is_one_of n ns ≡ true → length (but n ns) < length ns
+but_is_shorter n [] is = absurd (cc is)
+but_is_shorter n (k ∷ ns) is = elim (cases_Bool (k == n)) [
+  | inl same ↦ omega (arith, but_is_short n ns, ap length (cond-false (not (k == n)) (k ∷ but n ns) (but n ns) (ap not same)))
+  | inr other ↦
+      let more : is_one_of n ns ≡ true = elim (or_either (k == n) (is_one_of n ns) is) [ inl same ↦ absurd (both_ways (k == n) other same) | inr later ↦ later ] in
+      omega (arith, but_is_shorter n ns more, ap length (cond-true (not (k == n)) (k ∷ but n ns) (but n ns) (ap not other)))
+]
+
+one_more : (n m : ℕ) (ns : List ℕ) → is_one_of m (ns ++ n ∷ []) ≡ true
+    → (is_one_of m ns ≡ true) ⊎ (m ≡ n)
+one_more n m ns is =
+    elim (or_either (is_one_of m ns) (is_one_of m (n ∷ [])) (sym (list_any-append (λ k. k == m) ns (n ∷ [])) ∙ is)) [
+      | inl old ↦ inl old
+      | inr new ↦ elim (or_either (n == m) false new) [
+        | inl same ↦ inr (sym (eqb-true n m same))
+        | inr none ↦ absurd (both_ways false refl none)
+      ]
+    ]
+
+-- the same volume, as other terms say it
+pub carried : (v : Volume) (write_list sync_list writes_now syncs_now : List ℕ) (h : History) (n : ℕ)
+    → IsHeld v write_list sync_list → h ≡ v.history → n ≡ v.next
+    → writes_now ≡ write_list → syncs_now ≡ sync_list
+    → IsHeld (record { unit = v.unit; first = v.first; history = h; next = n }) writes_now syncs_now
+carried v write_list sync_list writes_now syncs_now h n held past number ws ss =
+    subst (λ us. IsHeld (record { unit = v.unit; first = v.first; history = h; next = n }) us syncs_now) (sym ws)
+    (subst (λ us. IsHeld (record { unit = v.unit; first = v.first; history = h; next = n }) write_list us) (sym ss)
+    (subst (λ g. IsHeld (record { unit = v.unit; first = v.first; history = g; next = n }) write_list sync_list) (sym past)
+    (subst (λ m. IsHeld (record { unit = v.unit; first = v.first; history = v.history; next = m }) write_list sync_list) (sym number) held)))
+
+-- Each event.
+
+pub held_write : (v : Volume) (off : ℕ) (bytes write_list sync_list : List ℕ)
+    → IsHeld v write_list sync_list
+    → IsHeld (with_write off bytes v) (write_list ++ v.next ∷ []) sync_list
+held_write v off bytes write_list sync_list held =
+    let numbered = held.sound.numbered in
+    record {
+      sound = record {
+        unit = held.sound.unit;
+        lawful = (
+          λ w among same. let below : w.number < v.next = numbered.issued w among in absurd (omega arith),
+          false_from_ne_true (has_ended v.history v.next) (λ is. let below : v.next < v.next = numbered.ended v.next is in omega arith),
+          held.sound.lawful,
+        );
+        numbered = record {
+          some = omega arith;
+          positive = λ w among. elim among [
+            | inl same ↦ omega (arith, numbered.some, ap (λ x. x.number) same)
+            | inr old ↦ numbered.positive w old
+          ];
+          issued = λ w among. elim among [
+            | inl same ↦ omega (arith, ap (λ x. x.number) same)
+            | inr old ↦ omega (arith, numbered.issued w old)
+          ];
+          ended = λ n is. omega (arith, numbered.ended n is);
+          running = λ n is. elim (one_more v.next n (running_writes v.history) is) [
+            | inl old ↦ omega (arith, numbered.running n old)
+            | inr same ↦ omega arith
+          ];
+        };
+      };
+      writes = ap (λ ns. ns ++ v.next ∷ []) held.writes;
+      syncs = held.syncs;
+    }
+
+pub held_sync : (v : Volume) (write_list sync_list : List ℕ) → IsHeld v write_list sync_list
+    → IsHeld (with_sync v) write_list (sync_list ++ v.next ∷ [])
+held_sync v write_list sync_list held =
+    let numbered = held.sound.numbered in
+    record {
+      sound = record {
+        unit = held.sound.unit;
+        lawful = held.sound.lawful;
+        numbered = record {
+          some = omega arith;
+          positive = numbered.positive;
+          issued = λ w among. omega (arith, numbered.issued w among);
+          ended = λ n is. omega (arith, numbered.ended n is);
+          running = λ n is. omega (arith, numbered.running n is);
+        };
+      };
+      writes = held.writes;
+      syncs = ap (λ ns. ns ++ v.next ∷ []) held.syncs;
+    }
+
+pub held_write_end : (v : Volume) (n : ℕ) (write_list sync_list : List ℕ)
+    → IsHeld v write_list sync_list → is_one_of n write_list ≡ true
+    → IsHeld (with_event (WriteEnded n) v) (but n write_list) sync_list
+held_write_end v n write_list sync_list held runs =
+    let numbered = held.sound.numbered in
+    let known : is_one_of n (running_writes v.history) ≡ true = subst (λ ns. is_one_of n ns ≡ true) held.writes runs in
+    record {
+      sound = record {
+        unit = held.sound.unit;
+        lawful = held.sound.lawful;
+        numbered = record {
+          some = numbered.some;
+          positive = numbered.positive;
+          issued = numbered.issued;
+          ended = λ m is. elim (or_either (n == m) (has_ended v.history m) is) [
+            | inl same ↦ subst (λ k. k < v.next) (eqb-true n m same) (numbered.running n known)
+            | inr old ↦ numbered.ended m old
+          ];
+          running = λ m is. numbered.running m (is_in_but n m (running_writes v.history) is);
+        };
+      };
+      writes = ap (but n) held.writes;
+      syncs = held.syncs;
+    }
+
+pub held_sync_end : (v : Volume) (s : ℕ) (write_list sync_list : List ℕ)
+    → IsHeld v write_list sync_list
+    → IsHeld (with_event (SyncEnded s) v) write_list (but s sync_list)
+held_sync_end v s write_list sync_list held = record {
+  sound = record { unit = held.sound.unit; lawful = held.sound.lawful; numbered = record { some = held.sound.numbered.some; positive = held.sound.numbered.positive; issued = held.sound.numbered.issued; ended = held.sound.numbered.ended; running = held.sound.numbered.running } };
+  writes = held.writes;
+  syncs = ap (but s) held.syncs;
+}
+
+pub held_sync_failure : (v : Volume) (s : ℕ) (write_list sync_list : List ℕ)
+    → IsHeld v write_list sync_list
+    → IsHeld (with_event (SyncFailed s) v) write_list (but s sync_list)
+held_sync_failure v s write_list sync_list held = record {
+  sound = record { unit = held.sound.unit; lawful = held.sound.lawful; numbered = record { some = held.sound.numbered.some; positive = held.sound.numbered.positive; issued = held.sound.numbered.issued; ended = held.sound.numbered.ended; running = held.sound.numbered.running } };
+  writes = held.writes;
+  syncs = ap (but s) held.syncs;
+}

@@ -1,0 +1,16 @@
+-- What holds of a result, by how the call ended.
+use Rattle.std.proofs.Common.{◌≡◌, true, false, refl}
+use Rattle.std.specs.Prelude.{Result, Ok, Err, IfOk, OnOk}
+use Rattle.std.specs.Result.{is_err}
+use Rattle.std.proofs.lemmas.Bool.{both_ways}
+
+-- what holds if the call succeeded, when it did
+pub not_err : {T E : Type 0} (r : Result T E) (P : Type 0) → is_err r ≡ false → OnOk r P → P
+not_err (Ok x) P fine holds = holds
+not_err (Err e) P fine holds = absurd (both_ways true fine refl)
+
+-- what follows of the value
+pub on_value : {T E : Type 0} (r : Result T E) (P Q : T → Type 0) → ((x : T) → P x → Q x)
+    → IfOk r P → IfOk r Q
+on_value (Ok x) P Q follows holds = follows x holds
+on_value (Err e) P Q follows holds = tt

@@ -1,0 +1,10 @@
+use Rattle.std.proofs.Common.{◌≡◌, map, take, reverse}
+use Rattle.uring_volume.specs.Choices.{issued}
+use Rattle.uring_volume.specs.Volume.{ended}
+use Rattle.uring_volume.proofs.show.ended_pieces.Given as goal
+
+abbrev pub invariant-loop-event : goal.invariant-loop-event
+invariant-loop-event l = record {
+  pieces : map (λ p. p.now) l.pieces.items ≡ issued (reverse (take l.event-index l.events));
+  order : map (λ p. p.now) l.order.items ≡ ended (reverse (take l.event-index l.events));
+}

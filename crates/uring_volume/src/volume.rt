@@ -1,0 +1,219 @@
+//! A file whose writes a crash may lose: what happened to it, what reads show, and what a crash leaves.
+
+ghost use Rattle.std.specs.Prelude.{◌≡◌, ◌↔◌, ◌+◌, ◌<◌, ◌≤◌, ◌^◌, [], ◌∷◌, ◌++◌, length, if◌then◌else◌, IfOk, OnOk, OnErr, IfErr, true, Err, vec_len, vec_capacity, reverse};
+ghost use Rattle.uring_volume.specs.Volume.{but, is_one_of};
+ghost use Rattle.uring_volume.specs.declared.event.Event.TheVariants.{WriteEnded, SyncEnded, SyncFailed};
+ghost use Rattle.uring_volume.specs.declared.volume.BeginError.TheVariants.{OutOfNumbers};
+
+use crate::crash::crash;
+use crate::event::{Event, Piece};
+use crate::show::shown;
+use std::alloc::{AllocError, Global};
+use std::marker::Model;
+
+/// One file, the writes and syncs that were made of it, and how far they have come. It keeps all of them.
+#[derive(Debug, Drop)]
+pub struct Volume {
+    unit: u64,
+    first: Vec<u8>,
+    events: Vec<Event>,
+    writes: Vec<u64>,
+    syncs: Vec<u64>,
+    next: u64,
+}
+
+impl Model for Volume {
+    ghost use Rattle.uring_volume.specs.Volume.{Volume};
+
+    ghost Value = { Volume };
+
+    ghost use Rattle.std.specs.Prelude.{◌≡◌, ◌+◌, ◌≤◌, reverse, vec_len, vec_capacity};
+    ghost use Rattle.uring_volume.specs.Volume.{IsHeld};
+
+    ghost view = { λ v. record { unit = v.unit; first = v.first.items; history = reverse v.events.items; next = v.next } };
+
+    ghost invariant = { λ v. record {
+      held : IsHeld (record { unit = v.unit; first = v.first.items; history = reverse v.events.items; next = v.next }) v.writes.items v.syncs.items;
+      room : vec_len v.events + vec_len v.writes + vec_len v.syncs ≤ vec_capacity v.events;
+    } };
+}
+
+/// Why a write or a sync can't begin.
+#[derive(Debug, Clone, Copy, PartialEq, Drop)]
+pub enum BeginError {
+    /// Memory was refused.
+    OutOfMemory,
+    /// Each number up to 2^64 - 2 was given to a write or a sync.
+    OutOfNumbers,
+}
+
+/// Puts an item behind the others, where there is room for it.
+fn put<T: Drop>(items: &mut Vec<T>, item: T)
+    requires { vec_len items.old < vec_capacity items.old }
+    ensures items { items.new.items ≡ items.old.items ++ item ∷ [] }
+    ensures len { vec_len items.new ≡ vec_len items.old + 1 }
+    ensures capacity { vec_capacity items.old ≤ vec_capacity items.new }
+{
+    let _ = items.push(item);
+}
+
+/// Makes room for one event more, for its end and for the ends of so many that run, and for one number more.
+fn make_room(
+    events: &mut Vec<Event>,
+    running: usize,
+    numbers: &mut Vec<u64>,
+) -> Result<(), AllocError>
+    requires { running + 2 < 2 ^ 64 }
+    ensures events { events.new.items ≡ events.old.items }
+    ensures event_count { vec_len events.new ≡ vec_len events.old }
+    ensures event_room { vec_capacity events.old ≤ vec_capacity events.new }
+    ensures numbers { numbers.new.items ≡ numbers.old.items }
+    ensures number_count { vec_len numbers.new ≡ vec_len numbers.old }
+    ensures ends { OnOk result (vec_len events.new + running + 2 ≤ vec_capacity events.new) }
+    ensures number_room { OnOk result (vec_len numbers.new < vec_capacity numbers.new) }
+{
+    events.reserve(running + 2)?;
+    numbers.reserve(1)
+}
+
+/// Takes a number out of these, and says whether it was there.
+fn take_out(numbers: &mut Vec<u64>, n: u64) -> bool
+    ensures found { result ≡ is_one_of n numbers.old.items }
+    ensures items { numbers.new.items ≡ (if result then but n numbers.old.items else numbers.old.items) }
+    ensures len { result ≡ true → vec_len numbers.new < vec_len numbers.old }
+{
+    let is_there = numbers.contains(&n);
+    if is_there {
+        numbers.retain(|m| *m != n);
+    }
+    is_there
+}
+
+impl Volume {
+    ghost use Rattle.uring_volume.specs.Volume.{with_event, with_write, with_sync, is_one_of, running_writes, running_syncs, IsShown};
+    ghost use Rattle.std.specs.Prelude.{ℕ, List};
+    ghost use Rattle.uring_volume.specs.Writes.{Write};
+    ghost use Rattle.uring_volume.specs.Images.{IsImage};
+    ghost use Rattle.uring_volume.specs.Choices.{IsLeftBy, AreBelow};
+    ghost use Rattle.uring_volume.specs.Laws.{IsKept, IsReadBack};
+
+    /// A file with units of so many bytes and these first bytes, of which each is safe.
+    pub fn new(alloc: Global, unit: u64, first: Vec<u8>) -> Volume
+        requires { 0 < unit }
+        ensures { result ≡ record { unit = unit; first = first.items; history = []; next = 1 } }
+    {
+        Volume {
+            unit,
+            first,
+            events: Vec::new(alloc),
+            writes: Vec::new(alloc),
+            syncs: Vec::new(alloc),
+            next: 1,
+        }
+    }
+
+    /// Begins a write of these bytes at an offset, and gives it the next number. Memory is asked for here, for its end too; a refusal changes nothing.
+    pub fn begin_write(&mut self, off: u64, bytes: Vec<u8>) -> Result<u64, BeginError>
+        requires { off + length bytes.items < 2 ^ 63 }
+        ensures number { IfOk result (λ n. n ≡ self.old.next) }
+        ensures issued { OnOk result (self.new ≡ with_write off bytes.items self.old) }
+        ensures err { OnErr result (self.new ≡ self.old) }
+        ensures numbers { (result ≡ Err OutOfNumbers) ↔ (self.old.next + 1 ≡ 2 ^ 64) }
+    {
+        let number = self.next;
+        if number == u64::MAX {
+            return Err(BeginError::OutOfNumbers);
+        }
+        let running = self.writes.len() + self.syncs.len();
+        if make_room(&mut self.events, running, &mut self.writes).is_err() {
+            return Err(BeginError::OutOfMemory);
+        }
+        put(&mut self.writes, number);
+        put(
+            &mut self.events,
+            Event::WriteIssued(Piece::new(number, off, bytes)),
+        );
+        self.next = number + 1;
+        Ok(number)
+    }
+
+    /// Begins a sync of the whole file, and gives it the next number. Memory is asked for here, for its end too; a refusal changes nothing.
+    pub fn begin_sync(&mut self) -> Result<u64, BeginError>
+        ensures number { IfOk result (λ n. n ≡ self.old.next) }
+        ensures issued { OnOk result (self.new ≡ with_sync self.old) }
+        ensures err { OnErr result (self.new ≡ self.old) }
+        ensures numbers { (result ≡ Err OutOfNumbers) ↔ (self.old.next + 1 ≡ 2 ^ 64) }
+    {
+        let number = self.next;
+        if number == u64::MAX {
+            return Err(BeginError::OutOfNumbers);
+        }
+        let running = self.writes.len() + self.syncs.len();
+        if make_room(&mut self.events, running, &mut self.syncs).is_err() {
+            return Err(BeginError::OutOfMemory);
+        }
+        put(&mut self.syncs, number);
+        put(&mut self.events, Event::SyncIssued(number));
+        self.next = number + 1;
+        Ok(number)
+    }
+
+    /// Ends a running write. It answers whether a write of this number ran; if none did, nothing changes.
+    pub fn end_write(&mut self, n: u64) -> bool
+        ensures found { result ≡ is_one_of n (running_writes self.old.history) }
+        ensures ended { self.new ≡ (if result then with_event (WriteEnded n) self.old else self.old) }
+    {
+        let is_running = take_out(&mut self.writes, n);
+        if is_running {
+            put(&mut self.events, Event::WriteEnded(n));
+        }
+        is_running
+    }
+
+    /// Ends a running sync with success. It answers whether a sync of this number ran; if none did, nothing changes.
+    pub fn end_sync(&mut self, s: u64) -> bool
+        ensures found { result ≡ is_one_of s (running_syncs self.old.history) }
+        ensures ended { self.new ≡ (if result then with_event (SyncEnded s) self.old else self.old) }
+    {
+        let is_running = take_out(&mut self.syncs, s);
+        if is_running {
+            put(&mut self.events, Event::SyncEnded(s));
+        }
+        is_running
+    }
+
+    /// Ends a running sync with an error. It answers whether a sync of this number ran; if none did, nothing changes.
+    pub fn fail_sync(&mut self, s: u64) -> bool
+        ensures found { result ≡ is_one_of s (running_syncs self.old.history) }
+        ensures failed { self.new ≡ (if result then with_event (SyncFailed s) self.old else self.old) }
+    {
+        let is_running = take_out(&mut self.syncs, s);
+        if is_running {
+            put(&mut self.events, Event::SyncFailed(s));
+        }
+        is_running
+    }
+
+    /// The bytes that a read of the whole file shows: the first ones with the writes over them that have ended, in the order of their ends.
+    pub fn contents(&self, alloc: Global) -> Result<Vec<u8>, AllocError>
+        ensures { IfOk result (λ now. IsShown self.now.first self.now.history now.items) }
+    {
+        shown(alloc, &self.first, &self.events)
+    }
+
+    /// The bytes that a crash leaves, by a choice: a 0 ends one of its parts; the first part names the writes that make the length, and each later one those that are left in a unit, one after the other. Any numbers are a choice. The volume stays as it is, so that many crashes can be tried.
+    pub fn crash(&self, alloc: Global, choice: &[u64]) -> Result<Vec<u8>, AllocError>
+        ensures image { IfOk result (λ now.
+            IsImage self.now.unit self.now.first self.now.history now.items) }
+        ensures chosen { IfOk result (λ now. (other : List ℕ)
+            → IsLeftBy self.now.unit self.now.first self.now.history choice.now other ↔ (other ≡ now.items)) }
+        ensures complete { (now : List ℕ) → IsImage self.now.unit self.now.first self.now.history now
+            → (other : List ℕ) × AreBelow (2 ^ 64) other
+            × IsLeftBy self.now.unit self.now.first self.now.history other now }
+        ensures kept { IfOk result (λ now. (w : Write) (k : ℕ) → IsKept self.now.history w
+            → k < length w.bytes → IsReadBack now.items w k) }
+    {
+        let _bound = self.next;
+        crash(alloc, self.unit, &self.first, &self.events, choice)
+    }
+}
