@@ -68,9 +68,8 @@ fn run<R: Threads + Wait + Copy + Send + 'static>(
         Options::Trace {
             setup,
             is_echo,
-            is_strict: false,
-        } => run_trace(rt, &setup, is_echo),
-        Options::Trace { setup, is_echo, .. } => run_strict(rt, &setup, is_echo),
+            is_strict,
+        } => run_steps(rt, &setup, is_echo, is_strict),
         Options::Check {
             setup,
             is_all,
@@ -92,17 +91,31 @@ fn texts(alloc: Global, words: &[String]) -> Result<Vec<&str>, AllocError> {
 }
 
 /// What a command came to that wrote to this output, unless nobody reads it any more.
-fn unless_closed<W: Write + Drop, T: Drop, E>(
+fn unless_closed<W: Write + Drop, T: Drop, E: Drop>(
     output: &Outlet<W>,
-    result: Result<T, E>,
+    ended: Result<T, E>,
 ) -> Result<T, Fault>
 where
     Fault: From<E>,
 {
-    match result {
+    match ended {
         Ok(done) => Ok(done),
         Err(_) if output.is_closed() => Err(Fault::Closed),
         Err(fault) => Err(Fault::from(fault)),
+    }
+}
+
+/// A trace over the standard streams, which its first bad line ends if it is strict.
+fn run_steps(
+    rt: &HostRuntime,
+    setup: &Setup,
+    is_echo: bool,
+    is_strict: bool,
+) -> Result<u8, Fault> {
+    if is_strict {
+        run_strict(rt, setup, is_echo)
+    } else {
+        run_trace(rt, setup, is_echo)
     }
 }
 
