@@ -68,9 +68,8 @@ fn run<R: Threads + Wait + Copy + Send + 'static>(
         Options::Trace {
             setup,
             is_echo,
-            is_strict: false,
-        } => run_trace(rt, &setup, is_echo),
-        Options::Trace { setup, is_echo, .. } => run_strict(rt, &setup, is_echo),
+            is_strict,
+        } => run_steps(rt, &setup, is_echo, is_strict),
         Options::Check {
             setup,
             is_all,
@@ -103,6 +102,20 @@ where
         Ok(done) => Ok(done),
         Err(_) if output.is_closed() => Err(Fault::Closed),
         Err(fault) => Err(Fault::from(fault)),
+    }
+}
+
+/// A trace over the standard streams, which its first bad line ends if it is strict.
+fn run_steps(
+    rt: &HostRuntime,
+    setup: &Setup,
+    is_echo: bool,
+    is_strict: bool,
+) -> Result<u8, Fault> {
+    if is_strict {
+        run_strict(rt, setup, is_echo)
+    } else {
+        run_trace(rt, setup, is_echo)
     }
 }
 
