@@ -1,8 +1,9 @@
 -- Counts below a bound: what one change does to them, the bits of a block, and the list of all that are counted.
-use Rattle.std.proofs.Common.{◌≡◌, ◌≢◌, ℕ, zero, suc, ◌+◌, ◌*◌, ◌/◌, ◌%◌, ◌^◌, ◌<◌, ◌≤◌, ◌==◌, cond, count_ones, Bool, true, false, List, [], ◌∷◌, ◌++◌, length, slice_get, Some, None, refl, sym, ◌∙◌, ap, arith, inl, inr, length-append}
+use Rattle.std.proofs.Common.{◌≡◌, ◌≢◌, ℕ, zero, suc, ◌+◌, ◌*◌, ◌/◌, ◌%◌, ◌^◌, ◌<◌, ◌≤◌, ◌⊎◌, ◌==◌, cond, count_ones, Bool, true, false, List, [], ◌∷◌, ◌++◌, length, slice_get, Some, None, refl, sym, ◌∙◌, ap, arith, inl, inr, length-append}
 use Rattle.std.specs.Int.{bit_at}
 use Rattle.std.specs.Int.Count.{ones_step}
 use Rattle.std.proofs.lemmas.Bool.{cases_eq, eq-eqb, ne_eqb}
+use Rattle.std.proofs.lemmas.Option.{same_Some}
 use Rattle.std.proofs.lemmas.Nat.{ones_le_self}
 use Rattle.std.proofs.lemmas.Nat.Bits.{bit_at-suc, bit_at_lowest}
 use Rattle.uring_entry.specs.Below.{count_below, all_below}
@@ -128,6 +129,29 @@ get-all_below p (suc n) m lt e =
           ∙ ap (λ b. slice_get (all_below p n ++ cond b (n ∷ []) []) (count_below p n)) (ap p (sym same) ∙ e)
           ∙ ap (slice_get (all_below p n ++ n ∷ [])) (sym (length-all_below p n)) ∙ get-last (all_below p n) n ∙ ap Some (sym same)
       | inr other ↦ get-left (all_below p n) _ (count_below p m) m (get-all_below p n m (omega arith) e)
+    ]
+
+-- what stands at a place of two lists is in one of them
+get-either : (xs ys : List ℕ) (k x : ℕ) → slice_get (xs ++ ys) k ≡ Some x
+    → (slice_get xs k ≡ Some x) ⊎ ((j : ℕ) × (slice_get ys j ≡ Some x))
+get-either [] ys k x e = inr (k, e)
+get-either (y ∷ xs) ys zero x e = inl e
+get-either (y ∷ xs) ys (suc k) x e = get-either xs ys k x e
+
+get-one : (holds : Bool) (n j x : ℕ) → slice_get (cond holds (n ∷ []) []) j ≡ Some x
+    → (n ≡ x) × (holds ≡ true)
+get-one false n j x e = absurd (let f : None ≡ Some x = e in cc)
+get-one true n zero x e = (same_Some n x e, refl)
+get-one true n (suc j) x e = absurd (let f : None ≡ Some x = e in cc)
+
+-- what stands at a place is counted
+pub all_below-gives : (p : ℕ → Bool) (n k x : ℕ) → slice_get (all_below p n) k ≡ Some x
+    → (x < n) × (p x ≡ true)
+all_below-gives p zero k x e = absurd (let f : None ≡ Some x = e in cc)
+all_below-gives p (suc n) k x e =
+    elim (get-either (all_below p n) (cond (p n) (n ∷ []) []) k x e) [
+      | inl below ↦ let found = all_below-gives p n k x below in (omega (arith, found.0), found.1)
+      | inr here ↦ let is = get-one (p n) n here.0 x here.1 in (omega (arith, is.0), ap p (sym is.0) ∙ is.1)
     ]
 
 -- The numbers of a block of 64.

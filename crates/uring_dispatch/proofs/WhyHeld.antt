@@ -1,62 +1,29 @@
 -- Why an outstanding request stands as it does, from what is held.
-use Rattle.std.proofs.Common.{◌≡◌, ◌≢◌, ℕ, ◌<◌, ◌≤◌, length, Bool, true, false, not, ◌&&◌, ◌||◌, Option, Some, None, is_some, refl, sym, ◌∙◌, ap, subst, arith, inl, inr}
+use Rattle.std.proofs.Common.{◌≡◌, ◌≢◌, ℕ, ◌<◌, ◌≤◌, length, Bool, true, false, not, ◌||◌, Option, Some, None, is_some, refl, sym, ◌∙◌, ap, subst, arith, inl, inr}
 use Rattle.std.specs.Prelude.{if◌then◌else◌}
-use Rattle.std.proofs.lemmas.Bool.{cases_lt, lt-leb, le-leb, lt-ltb}
-use Rattle.std.proofs.lemmas.Option.{same_Some}
+use Rattle.std.proofs.lemmas.Bool.{cases_lt, and_from, and_left, and_right, or_left, or_right, lt-leb, le-leb, lt-ltb}
 use Rattle.uring_entry.specs.Requests.{Requests, entry_of, has_ended, is_running, is_doomed, is_joined, is_draining, holds_back}
-use Rattle.uring_entry.specs.Groups.{is_before}
+use Rattle.uring_entry.specs.Groups.{IsGroup, is_before}
 use Rattle.uring_entry.specs.Why.{first_doom, faulty_member_of, failed_member_of, doom_of, since_of, holder_of, waiting_for, why_of}
 use Rattle.uring_entry.specs.Preparation.{fault_of}
 use Rattle.uring_entry.specs.declared.fault.Fault.{Fault}
 use Rattle.uring_entry.specs.declared.why.Doom.TheVariants.{OwnFault, FaultOf, FailureOf, Cancel}
 use Rattle.uring_entry.specs.declared.why.Since.{Since}
 use Rattle.uring_entry.specs.declared.why.Since.TheVariants.{SameGroup, ItDrains, OwnDrains}
-use Rattle.uring_entry.proofs.GroupLemmas.{joined-member}
+use Rattle.uring_entry.proofs.GroupLemmas.{joined-member, draining-is, groups-apart, first_member-inside}
 use Rattle.uring_entry.specs.declared.why.Why.{Why}
 use Rattle.uring_entry.specs.declared.why.Why.TheVariants.{NeverAccepted, HasEnded, Runs, IsDoomed, Waits, MayStart}
 use Rattle.uring_entry.proofs.BelowLemmas.{least_below-none, least_below-some}
 use Rattle.uring_entry.proofs.WhyLemmas.{StillWaits, faulty_member-is, failed_member-before, failed_member-none}
 use Rattle.uring_dispatch.specs.declared.request.Request.{Request}
 use Rattle.uring_dispatch.specs.declared.group.Group.{Group}
-use Rattle.uring_dispatch.specs.Window.{Window, at}
-use Rattle.uring_dispatch.specs.Groups.{Groups, group_at, drain_of}
+use Rattle.uring_dispatch.specs.Window.{Window, at, IsFirst}
+use Rattle.uring_dispatch.specs.Groups.{Groups, group_at, drain_of, IsFirstDraining}
 use Rattle.uring_dispatch.specs.Held.{IsSound, AreHeld}
-use Rattle.uring_dispatch.specs.Waits.{wait_of}
-use Rattle.uring_dispatch.proofs.HeldLemmas.{shown-within, in-group, draining-held, running-some}
+use Rattle.uring_dispatch.specs.Waits.{IsFirstHolder}
+use Rattle.uring_dispatch.proofs.HeldLemmas.{shown-within, open-here, in-group, draining-held, least-open, running-some}
 
 -- What a request waits for.
-
--- why a request that hasn't ended keeps a later one from starting, by the three tests
-abbrev pub wait_by : Bool → Bool → Bool → Option Since
-wait_by joined drains own =
-    if joined then Some SameGroup else
-    if drains then Some ItDrains else
-    if own then Some OwnDrains else
-    None
-
-wait-by : (r : Requests) (n m : ℕ) → has_ended r m ≡ false
-    → wait_of r n m ≡ wait_by (is_joined r m n) (is_draining r m) (is_draining r n)
-wait-by r n m going =
-    ap (λ b. if not b && ((is_joined r m n || is_draining r m) || is_draining r n) then Some (since_of r n m) else None) going
-    ∙ go (is_joined r m n) (is_draining r m) (is_draining r n)
-  where
-    go : (joined drains own : Bool) → (if (joined || drains) || own then Some (if joined then SameGroup else if drains then ItDrains else OwnDrains) else None) ≡ wait_by joined drains own
-    go true drains own = refl
-    go false true own = refl
-    go false false true = refl
-    go false false false = refl
-
-pub wait-is : (r : Requests) (n m : ℕ) (joined drains own : Bool) → has_ended r m ≡ false
-    → is_joined r m n ≡ joined → is_draining r m ≡ drains → is_draining r n ≡ own
-    → wait_by joined drains own ≡ wait_of r n m
-wait-is r n m joined drains own going a b c =
-    sym (wait-by r n m going ∙ ap (λ x. wait_by x (is_draining r m) (is_draining r n)) a ∙ ap (λ x. wait_by joined x (is_draining r n)) b ∙ ap (wait_by joined drains) c)
-
-pub wait-gone : (w : Window) (g : Groups) (r : Requests) (n m : ℕ) (request : Request) → IsSound w g
-    → AreHeld w g r → at w n ≡ Some request → m < n → at w m ≡ None → wait_of r n m ≡ None
-wait-gone w g r n m request s h e low gone =
-    let within = shown-within w g r n request s h e in
-    ap (λ b. if not b && ((is_joined r m n || is_draining r m) || is_draining r n) then Some (since_of r n m) else None) (h.ended m gone (omega arith))
 
 -- an earlier outstanding request is a member of the group if it has its key
 pub joined-held : (w : Window) (g : Groups) (r : Requests) (n m : ℕ) (request other : Request)
@@ -148,24 +115,123 @@ still-held w g r n request s h e still =
 
 -- The least request that it waits for.
 
--- what is told of one earlier request
-wait-tells : (r : Requests) (n m : ℕ) (since : Since) → Some since ≡ wait_of r n m
-    → (holds_back r n m ≡ true) × (since ≡ since_of r n m)
-wait-tells r n m since e = go (holds_back r n m) e
+-- one that has ended keeps nobody
+gone-free : (w : Window) (g : Groups) (r : Requests) (n k : ℕ) (request : Request) → IsSound w g
+    → AreHeld w g r → at w n ≡ Some request → k < n → at w k ≡ None → holds_back r n k ≡ false
+gone-free w g r n k request s h there low gone =
+    let within = shown-within w g r n request s h there in
+    and_left _ _ (ap not (h.ended k gone (omega arith)))
+
+-- one of an earlier group keeps nobody whose group doesn't drain, if no group drains from a number before a later group on
+early-free : (w : Window) (g : Groups) (r : Requests) (n k from end : ℕ) (request : Request) (q : Group)
+    → IsSound w g → AreHeld w g r → at w n ≡ Some request → group_at g request.group ≡ Some q
+    → q.drain ≡ None → IsGroup r from end → k < from → from ≤ q.from
+    → ((key number : ℕ) → drain_of (group_at g key) ≡ Some number → from ≤ number)
+    → holds_back r n k ≡ false
+early-free w g r n k from end request q s h there found plain group low le free = go (at w k) refl
   where
-    go : (b : Bool) → Some since ≡ (if b then Some (since_of r n m) else None) → (b ≡ true) × (since ≡ since_of r n m)
-    go true is = (refl, same_Some since (since_of r n m) is)
-    go false is = cc
+    no-drain : (o : Option ℕ) → ((d : ℕ) → o ≡ Some d → ⊥) → is_some o ≡ false
+    no-drain None k = refl
+    no-drain (Some d) k = absurd (k d refl)
 
-pub waits-for : (r : Requests) (n m : ℕ) (since : Since) → m < n → Some since ≡ wait_of r n m
-    → ((k : ℕ) → k < m → holds_back r n k ≡ false) → Waits m since ≡ waiting_for r n (holder_of r n)
-waits-for r n m since low e before =
-    let tells = wait-tells r n m since e in
-    sym (ap (waiting_for r n) (least_below-some (holds_back r n) n m low tells.0 before) ∙ ap (Waits m) (sym tells.1))
+    go : (o : Option Request) → at w k ≡ o → holds_back r n k ≡ false
+    go None e = let i = (in-group w g r n request q s h there found).from in gone-free w g r n k request s h there (omega arith) e
+    go (Some other) e =
+        let i = in-group w g r n request q s h there found in
+        let behind = i.from in
+        let link = s.linked k other e in
+        let shown = h.groups other.group link.group link.found in
+        let joined : is_joined r k n ≡ false = joined-member r q.from q.end k n i.shown.group i.from i.to (omega arith) ∙ lt-leb q.from k (omega arith) in
+        let own : is_draining r n ≡ false = draining-held w g r n request q s h there found ∙ ap is_some plain in
+        let its : is_draining r k ≡ false =
+        draining-held w g r k other link.group s h e link.found
+        ∙ no-drain link.group.drain
+        (λ d drains.
+        let member = first_member-inside _ link.group.from link.group.end d (sym shown.drain ∙ drains) in
+        let high = free other.group d (ap drain_of link.found ∙ drains) in
+        groups-apart r link.group.from link.group.end from end k shown.group group link.from link.to low (omega (arith, member.1)))
+        in
+        and_right _ _
+        (ap (λ b. (b || is_draining r k) || is_draining r n) joined ∙ ap (λ b. b || is_draining r n) its ∙ own)
 
-pub waits-for_none : (r : Requests) (n : ℕ) → ((k : ℕ) → k < n → holds_back r n k ≡ false)
+-- its own group drains, and this is the least outstanding request
+pub first-of_all : (w : Window) (g : Groups) (r : Requests) (n m : ℕ) (request : Request) (q : Group)
+    → IsSound w g → AreHeld w g r → at w n ≡ Some request → group_at g request.group ≡ Some q
+    → is_some q.drain ≡ true → IsFirst w m → IsFirstHolder r n m
+first-of_all w g r n m request q s h there found drains first = record {
+  before = λ k low lt. gone-free w g r n k request s h there lt (first.before k low);
+  here = λ lt.
+      and_from _ _ (ap not (open-here w g r m h first.here))
+      (or_right _ _ (draining-held w g r n request q s h there found ∙ drains));
+}
+
+pub first-none : (w : Window) (g : Groups) (r : Requests) (n : ℕ) (request : Request) → IsSound w g
+    → AreHeld w g r → at w n ≡ Some request → ((k : ℕ) → at w k ≡ None) → IsFirstHolder r n n
+first-none w g r n request s h there none =
+    record { before = λ k low lt. gone-free w g r n k request s h there lt (none k); here = λ lt. absurd (omega arith) }
+
+-- an earlier group is the first that drains
+pub first-draining_is : (w : Window) (g : Groups) (r : Requests) (n : ℕ) (request : Request) (q b : Group)
+    → IsSound w g → AreHeld w g r → at w n ≡ Some request → group_at g request.group ≡ Some q
+    → q.drain ≡ None → IsFirstDraining g b → b.from < q.from → IsFirstHolder r n b.least
+first-draining_is w g r n request q b s h there found plain f low =
+    let kept = s.kept f.key b f.here in
+    let shown = h.groups f.key b f.here in
+    let member = first_member-inside _ b.from b.end f.number (sym shown.drain ∙ f.drains) in
+    record {
+      before = λ k lt earlier.
+          elim (cases_lt k b.from) [
+            | inl before ↦
+                early-free w g r n k b.from b.end request q s h there found plain shown.group before (omega arith)
+                (λ key number d. let le = f.first key number d in omega (arith, member.0))
+            | inr inside ↦ gone-free w g r n k request s h there earlier (kept.over k inside lt)
+          ];
+      here = λ lt.
+          and_from _ _ (ap not (least-open w g r f.key b s h f.here))
+          (or_left _ _ (or_right _ _ (draining-is r b.from b.end b.least shown.group kept.from kept.to ∙ ap is_some (sym shown.drain ∙ f.drains))));
+    }
+
+-- none is, and so it waits for its own group alone
+pub first-own : (w : Window) (g : Groups) (r : Requests) (n : ℕ) (request : Request) (q : Group)
+    → IsSound w g → AreHeld w g r → at w n ≡ Some request → group_at g request.group ≡ Some q
+    → q.drain ≡ None
+    → ((key number : ℕ) → drain_of (group_at g key) ≡ Some number → q.from ≤ number)
+    → IsFirstHolder r n q.least
+first-own w g r n request q s h there found plain free =
+    let i = in-group w g r n request q s h there found in
+    let kept = s.kept request.group q found in
+    record {
+      before = λ k lt earlier.
+          elim (cases_lt k q.from) [
+            | inl before ↦ early-free w g r n k q.from q.end request q s h there found plain i.shown.group before (omega arith) free
+            | inr inside ↦ gone-free w g r n k request s h there earlier (kept.over k inside lt)
+          ];
+      here = λ lt.
+          let from = kept.from in
+          and_from _ _ (ap not (least-open w g r request.group q s h found))
+          (or_left _ _ (or_left _ _ (joined-member r q.from q.end q.least n i.shown.group i.from i.to (omega arith) ∙ le-leb q.from q.least from)));
+    }
+
+pub waits-for : (r : Requests) (n m : ℕ) (since : Since) → m < n → IsFirstHolder r n m
+    → since ≡ since_of r n m → Waits m since ≡ waiting_for r n (holder_of r n)
+waits-for r n m since low f e =
+    sym
+    (ap (waiting_for r n) (least_below-some (holds_back r n) n m low (f.here low) (λ k lt. f.before k lt (omega arith)))
+    ∙ ap (Waits m) (sym e))
+
+pub waits-for_none : (r : Requests) (n m : ℕ) → n ≤ m → IsFirstHolder r n m
     → MayStart ≡ waiting_for r n (holder_of r n)
-waits-for_none r n none = sym (ap (waiting_for r n) (least_below-none (holds_back r n) n none))
+waits-for_none r n m le f =
+    sym (ap (waiting_for r n) (least_below-none (holds_back r n) n (λ k lt. f.before k (omega arith) lt)))
+
+-- why it waits for one: the first of the three tests
+pub since-is : (r : Requests) (n m : ℕ) (joined drains : Bool) → is_joined r m n ≡ joined
+    → is_draining r m ≡ drains
+    → (if joined then SameGroup else if drains then ItDrains else OwnDrains) ≡ since_of r n m
+since-is r n m joined drains a b =
+    sym
+    (ap (λ x. if x then SameGroup else if is_draining r m then ItDrains else OwnDrains) a
+    ∙ ap (λ x. if joined then SameGroup else if x then ItDrains else OwnDrains) b)
 
 -- What has ended.
 

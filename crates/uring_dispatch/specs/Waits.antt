@@ -1,9 +1,8 @@
--- Glue. Why a request waits for one earlier request.
-use Rattle.std.specs.Prelude.{ℕ, Option, Some, None, if◌then◌else◌}
+-- Glue. The least request that keeps another from starting.
+use Rattle.std.specs.Prelude.{◌≡◌, ℕ, ◌<◌, true, false}
 use Rattle.uring_entry.specs.Requests.{Requests, holds_back}
-use Rattle.uring_entry.specs.Why.{since_of}
-use Rattle.uring_entry.specs.declared.why.Since.{Since}
 
--- why m, an earlier request, keeps n from starting, if it does
-abbrev pub wait_of : Requests → ℕ → ℕ → Option Since
-wait_of r n m = if holds_back r n m then Some (since_of r n m) else None
+-- Of the requests before n none that is less than m keeps it from starting, and m does, if it is before n.
+pub record IsFirstHolder (r : Requests) (n m : ℕ) : Type 0 where
+  pub before : (k : ℕ) → k < m → k < n → holds_back r n k ≡ false
+  pub here : m < n → holds_back r n m ≡ true

@@ -2,11 +2,11 @@
 
 ghost use Rattle.std.specs.Prelude.{◌≡◌, ◌<◌, true, Some, None, is_some};
 ghost use Rattle.uring_entry.specs.Requests.{Requests};
-ghost use Rattle.uring_entry.specs.Why.{why_of, doom_of, holder_of, waiting_for};
+ghost use Rattle.uring_entry.specs.Why.{why_of, doom_of, since_of, holder_of, waiting_for};
 ghost use Rattle.uring_dispatch.specs.Window.{at};
 ghost use Rattle.uring_dispatch.specs.Groups.{group_at, drain_of};
 ghost use Rattle.uring_dispatch.specs.Held.{AreHeld, IsSound};
-ghost use Rattle.uring_dispatch.specs.Waits.{wait_of};
+ghost use Rattle.uring_dispatch.specs.Waits.{IsFirstHolder};
 
 use crate::groups::Groups;
 use crate::request::Request;
@@ -69,34 +69,55 @@ fn waiting(window: &Window, groups: &Groups, n: u64, request: &Request) -> Why
     ensures { (r : Requests) → AreHeld window.now groups.now r
         → result ≡ waiting_for r n (holder_of r n) }
 {
-    for m in window.first()..n {
-        if let Some(since) = wait(window, groups, n, request, m) {
-            return Why::Waits { least: m, since };
-        }
+    let least = first_holder(window, groups, n, request);
+    if least < n {
+        let since = since(window, groups, n, request, least);
+        Why::Waits { least, since }
+    } else {
+        Why::MayStart
     }
-    Why::MayStart
 }
 
-/// Why request `n` waits for `m`, an earlier number, if it does and `m` hasn't ended.
-fn wait(window: &Window, groups: &Groups, n: u64, request: &Request, m: u64) -> Option<Since>
+/// The least request that keeps request `n` from starting, or else a number from `n` on. If its own group drains, it is the least outstanding request; else the least of the first group that drains, if that begins before its own, and else the least of its own group.
+fn first_holder(window: &Window, groups: &Groups, n: u64, request: &Request) -> u64
+    requires sound { IsSound window.now groups.now }
+    requires there { at window.now n ≡ Some request.now }
+    ensures holds { (r : Requests) → AreHeld window.now groups.now r → IsFirstHolder r n result }
+    ensures outstanding { result < n → is_some (at window.now result) ≡ true }
+{
+    let group = group_of(groups, request);
+    if group.drain.is_some() {
+        return match window.least() {
+            Some(least) => least,
+            None => n,
+        };
+    }
+    match groups.first_draining() {
+        Some(first) if first.from < group.from => first.least,
+        Some(_) => group.least,
+        None => group.least,
+    }
+}
+
+/// Why request `n` waits for `m`, an earlier one, if it does.
+fn since(window: &Window, groups: &Groups, n: u64, request: &Request, m: u64) -> Since
     requires sound { IsSound window.now groups.now }
     requires there { at window.now n ≡ Some request.now }
     requires earlier { m < n }
-    ensures { (r : Requests) → AreHeld window.now groups.now r → result ≡ wait_of r n m }
+    requires outstanding { is_some (at window.now m) ≡ true }
+    ensures { (r : Requests) → AreHeld window.now groups.now r → result ≡ since_of r n m }
 {
     let Some(other) = window.get(m) else {
-        return None;
+        unreachable!()
     };
     if other.group == request.group {
-        return Some(Since::SameGroup);
+        return Since::SameGroup;
     }
     if drains(groups, other) {
-        return Some(Since::ItDrains);
+        Since::ItDrains
+    } else {
+        Since::OwnDrains
     }
-    if drains(groups, request) {
-        return Some(Since::OwnDrains);
-    }
-    None
 }
 
 /// Whether the group of a request drains.
