@@ -106,12 +106,7 @@ where
 }
 
 /// A trace over the standard streams, which its first bad line ends if it is strict.
-fn run_steps(
-    rt: &HostRuntime,
-    setup: &Setup,
-    is_echo: bool,
-    is_strict: bool,
-) -> Result<u8, Fault> {
+fn run_steps(rt: &HostRuntime, setup: &Setup, is_echo: bool, is_strict: bool) -> Result<u8, Fault> {
     if is_strict {
         run_strict(rt, setup, is_echo)
     } else {

@@ -3,8 +3,8 @@
 
 mod completion_text;
 mod entry_tokens;
-mod flaw;
 mod flag_tokens;
+mod flaw;
 mod hex_tokens;
 mod kept_line;
 pub mod laws;

@@ -110,7 +110,8 @@ const BAD_AND_WRONG: &str = "next = none\nhead  = head 0\nhead = head 5\n";
 #[test]
 fn a_bad_line_ends_a_check(rt: HostRuntime) -> Result<(), Fail> {
     let first = "line 2: tail = hello\nwanted: tail 0\n";
-    let both = "line 2: tail = hello\nwanted: tail 0\nline 3: bad line\nwhy: column 5: the end of the line, wanted: ` = ` and an answer (uring trace reads steps alone)\n";
+    let both =
+        "line 2: tail = hello\nwanted: tail 0\nline 3: bad line\nwhy: column 5: the end of the line, wanted: ` = ` and an answer (uring trace reads steps alone)\n";
     assert!(rt; are_told(rt.alloc(), WRONG_AND_BAD, Verdict::Wrong, first, both)?);
     let bad =
         "line 2: bad line\nwhy: column 6: a blank too many, wanted: ` = ` and an answer (uring trace reads steps alone)\n";
