@@ -1,22 +1,27 @@
+-- In the order in which they are best read.
+-- What an event moves:
 pub mod Changes
-pub mod SoundRings
-pub mod ListCounts
-pub mod SoundRequests
-pub mod RequestEnds
-pub mod Groups
-pub mod Sound
-pub mod Issuable
+pub mod Moves
+pub mod SubmissionMoves
+pub mod CompletionMoves
+-- From the layers to the core:
 pub mod CoreSteps
 pub mod CoreCalls
 pub mod CoreTakes
 pub mod CoreEnds
-pub mod Moves
-pub mod SubmissionMoves
-pub mod CompletionMoves
+pub mod Following
+-- What is so after every lawful history:
+pub mod ListCounts
+pub mod Sound
+pub mod SoundRings
+pub mod SoundRequests
+pub mod RequestEnds
+pub mod Groups
+pub mod Numbers
 pub mod Running
 pub mod FileHistory
-pub mod Following
-pub mod Outstanding
-pub mod Numbers
+-- Recorded answers, and what settling asks:
 pub mod SameAnswers
 pub mod RecordedAnswers
+pub mod Issuable
+pub mod Outstanding

@@ -1,25 +1,31 @@
+-- In the order in which they are best read.
+-- The lists are the history's own:
 pub mod Telling
 pub mod ToldRequests
-pub mod Growth
-pub mod WholeLaws
-pub mod RecordedLaws
-pub mod RequestLaws
-pub mod RingLaws
-pub mod TakenPlaces
-pub mod OrderLaws
+pub mod ReadOff
 pub mod DirectSubmission
-pub mod DirectCompletions
 pub mod DirectRequests
+pub mod DirectCompletions
 pub mod DirectPlaces
 pub mod DirectPut
-pub mod Chosen
-pub mod ReadOff
-pub mod FilesApart
-pub mod FileLaws
+pub mod TakenPlaces
 pub mod PublishedItems
-pub mod Standing
-pub mod WholeCalls
+pub mod Chosen
+-- Requests and rings:
+pub mod Growth
+pub mod OrderLaws
+pub mod RequestLaws
+pub mod RingLaws
 pub mod ReasonLaws
 pub mod FoundLaws
-mod WorkedHistory
+pub mod RecordedLaws
+-- Calls:
+pub mod Standing
+pub mod WholeCalls
 pub mod Stopping
+-- Files:
+pub mod WholeLaws
+pub mod FilesApart
+pub mod FileLaws
+-- The definitions, computed on one history:
+mod WorkedHistory
