@@ -1,8 +1,8 @@
 /* Reads the policy from the environment, and chooses by it.
  *
- *   WULGACH_POLICY    order (the default), lazy, seed:N, or list:ITEMS. An item is the next choice's number, or AT=NUMBER
- *                     for choice AT; items are separated by commas. A choice that isn't listed is 0, which is what
- *                     "order" would do; so is one that is beyond what there is to choose from.
+ *   WULGACH_POLICY    order (the default), lazy, seed:N, pct:SEED:DEPTH[:CHOICES], or list:ITEMS. An item is the next
+ *                     choice's number, or AT=NUMBER for choice AT; items are separated by commas. A choice that isn't
+ *                     listed is 0, which is what "order" would do; so is one that is beyond what there is to choose from.
  *   WULGACH_CHOOSE    events (the default): issuing and finishing a request are two choices; ends: they are one
  *   WULGACH_CHOICES   PREFIX: a process that chooses writes to PREFIX.PID a line for each choice: its number, which way,
  *                     of how many, and in words
@@ -12,6 +12,7 @@
 #define _GNU_SOURCE
 #include "policy.h"
 #include "fault.h"
+#include "priorities.h"
 
 #include <inttypes.h>
 #include <pthread.h>
@@ -35,7 +36,7 @@ static struct {
     pthread_mutex_t lock;
 } chosen_by = {.lock = PTHREAD_MUTEX_INITIALIZER};
 
-enum { MOST_LISTED = 10000000 };
+enum { MOST_LISTED = 10000000, MOST_DEPTH = 1000, USUAL_CHOICES = 100 };
 
 static void put_listed(uint64_t at, uint32_t choice)
 {
@@ -80,6 +81,22 @@ static uint64_t read_list(const char *at)
     return place;
 }
 
+/* SEED:DEPTH or SEED:DEPTH:CHOICES. The seed also rolls what nobody plays for. */
+static void read_priorities(const char *at)
+{
+    uint64_t seed = chosen_by.random = read_number(&at);
+    demand(*at == ':', "WULGACH_POLICY: pct wants SEED:DEPTH");
+    at++;
+    uint64_t depth = read_number(&at), choices = USUAL_CHOICES;
+    demand(depth >= 1 && depth <= MOST_DEPTH, "WULGACH_POLICY: a depth is 1 to 1,000");
+    if (*at == ':') {
+        at++;
+        choices = read_number(&at);
+    }
+    demand(*at == '\0' && choices >= 1, "WULGACH_POLICY: pct is SEED:DEPTH or SEED:DEPTH:CHOICES");
+    draw_priorities(seed, depth, choices);
+}
+
 static void read_name(const char *name)
 {
     if (strcmp(name, "order") == 0) {
@@ -91,11 +108,14 @@ static void read_name(const char *name)
         chosen_by.policy = SEEDED;
         chosen_by.random = read_number(&at);
         demand(*at == '\0', "WULGACH_POLICY: a seed is one number");
+    } else if (strncmp(name, "pct:", 4) == 0) {
+        chosen_by.policy = BY_PRIORITY;
+        read_priorities(name + 4);
     } else if (strncmp(name, "list:", 5) == 0) {
         chosen_by.policy = LISTED;
         chosen_by.listed_end = read_list(name + 5);
     } else {
-        stop_program("WULGACH_POLICY is order, lazy, seed:N or list:ITEMS");
+        stop_program("WULGACH_POLICY is order, lazy, seed:N, pct:SEED:DEPTH or list:ITEMS");
     }
 }
 
@@ -147,7 +167,7 @@ uint32_t choose(uint64_t at, uint32_t count)
 {
     pthread_mutex_lock(&chosen_by.lock);
     uint32_t chosen = 0;
-    if (chosen_by.policy == SEEDED)
+    if (chosen_by.policy == SEEDED || chosen_by.policy == BY_PRIORITY)
         chosen = (uint32_t)((roll() >> 32) * count >> 32);
     else if (at < chosen_by.list_count)
         chosen = chosen_by.list[at];

@@ -11,6 +11,7 @@ enum policy {
     IN_ORDER,   /* order: the least request that can go on, until none can */
     LAZY,       /* lazy: the same, but nothing goes on before the application waits or peeks */
     SEEDED,     /* seed:N: rolled */
+    BY_PRIORITY, /* pct:SEED:DEPTH or pct:SEED:DEPTH:CHOICES: by priorities that are drawn (priorities.h) */
     LISTED      /* list:ITEMS: given, and 0 where the list says nothing */
 };
 
@@ -25,7 +26,8 @@ bool is_choosing_events(void);
 /* Counts a choice, and returns its number. Only policies that choose make any. */
 uint64_t count_choice(void);
 
-/* Which of `count` ways, from 0, choice `at` is. Asked again, a seed may say another one. */
+/* Which of `count` ways, from 0, choice `at` is. Asked again, a seed may say another one. By priorities it is rolled too:
+ * that is for choices in which nobody plays, as whether an operation has a fault. */
 uint32_t choose(uint64_t at, uint32_t count);
 
 /* The core doesn't allow what was chosen: it is to be chosen again. A list then says 0. */
@@ -34,7 +36,7 @@ void refuse_choice(uint64_t at);
 /* Records a choice that was made: which of how many ways, and in words. */
 void record_choice(uint64_t at, uint32_t count, uint32_t chosen, const char *what);
 
-/* Keep others from choosing and recording, over a fork. */
+/* Keep others from choosing and recording: over a fork, and while priorities are looked at. */
 void lock_choices(void);
 void unlock_choices(void);
 

@@ -8,6 +8,7 @@
 #include "injection.h"
 #include "operations.h"
 #include "policy.h"
+#include "priorities.h"
 #include "steps.h"
 #include "times.h"
 #include "trace.h"
@@ -179,24 +180,67 @@ static bool try_way(struct ring *ring, struct request *request, uint64_t at, uin
     return true;
 }
 
+/* An application that has returned from so many calls in a row without anything going on only looks again and again: it
+ * comes last then, whatever it drew. */
+enum { MOST_RETURNS = 3 };
+
+static bool can_go(struct ring *ring, const struct request *way)
+{
+    return way->state == RUNS || can_issue(ring, way->number);
+}
+
+/* The way of the highest priority, of those that can go on; `ways_count` is the application's. */
+static uint32_t highest_way(struct ring *ring, struct request **ways, uint32_t ways_count, bool may_return)
+{
+    bool is_idle = ring->returns >= MOST_RETURNS;
+    uint64_t highest = may_return && !is_idle ? priority_of((struct player){.is_application = true}) : 0;
+    uint32_t best = ways_count;
+    for (uint32_t i = 0; i < ways_count; i++) {
+        uint64_t priority = priority_of((struct player){.ring = ring->index, .chain = ways[i]->chain});
+        if (priority > highest && can_go(ring, ways[i])) {
+            highest = priority;
+            best = i;
+        }
+    }
+    return best;
+}
+
+static uint32_t choose_by_priority(struct ring *ring, uint64_t at, struct request **ways, uint32_t ways_count, bool may_return)
+{
+    lock_choices();
+    uint32_t best = highest_way(ring, ways, ways_count, may_return);
+    if (falls_at(at)) {
+        bool is_application = best == ways_count;
+        let_fall(at, (struct player){.is_application = is_application, .ring = ring->index, .chain = is_application ? 0 : ways[best]->chain});
+        best = highest_way(ring, ways, ways_count, may_return);
+    }
+    unlock_choices();
+    return best;
+}
+
 /* Chooses until the core allows it. */
 static enum progress choose_way(struct ring *ring, struct request **ways, uint32_t ways_count, bool may_return)
 {
     uint32_t count = ways_count + may_return;
     if (count == 1) {
         go_on_with(ring, ways[0]);
+        ring->returns = 0;
         return WENT_ON;
     }
     uint64_t at = count_choice();
     for (;;) {
-        uint32_t chosen = choose(at, count);
+        bool is_drawn = policy() == BY_PRIORITY;
+        uint32_t chosen = is_drawn ? choose_by_priority(ring, at, ways, ways_count, may_return) : choose(at, count);
         if (chosen == ways_count) {
+            ring->returns++;
             trace_note(ring, "choice %" PRIu64 " is %" PRIu32 " of %" PRIu32 ": return", at, chosen, count);
             record_choice(at, count, chosen, "return");
             return MAY_RETURN;
         }
-        if (try_way(ring, ways[chosen], at, count, chosen))
+        if (try_way(ring, ways[chosen], at, count, chosen)) {
+            ring->returns = 0;
             return WENT_ON;
+        }
         refuse_choice(at);
     }
 }
@@ -211,7 +255,7 @@ enum progress go_on(struct ring *ring, bool may_return)
     struct request *first = first_in_order(ring);
     if (!first)
         return STUCK;
-    if (policy() == SEEDED || policy() == LISTED)
+    if (policy() == SEEDED || policy() == BY_PRIORITY || policy() == LISTED)
         return go_on_by_choice(ring, first, may_return);
     go_on_with(ring, first);
     return WENT_ON;

@@ -20,6 +20,7 @@ struct request {
     bool is_refused;                /* not ready when it was last asked for, and nothing has ended since */
     int32_t fault;                  /* of a refused entry: what it ends with */
     bool is_linked;                 /* a link puts it behind the one before it */
+    uint64_t chain;                 /* the number of its chain's first member: its own, if it is loose */
     bool is_stream;                 /* a transfer that may have to wait: on what has no offset, or a device */
     bool is_cancelled;              /* a cancel found it running */
     int64_t expiry;                /* a timeout's, in virtual time */

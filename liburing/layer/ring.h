@@ -39,6 +39,7 @@ struct ring {
     struct requests staged;             /* staged and not accepted; a word that names no slot has an empty place */
     struct request **ways;              /* room for the ways of a choice: as many as there are requests */
     size_t ways_room;
+    uint32_t returns;                   /* how often in a row the choice was to return */
     uint64_t accepted;                  /* how many requests were accepted so far */
     struct completions completions;     /* posted and not reaped */
     int64_t now;                        /* virtual time in nanoseconds */

@@ -139,3 +139,9 @@ void finish(struct ring *ring, uint64_t number, int32_t told)
     trace_step(ring, &step, &answer);
     demand(answer.kind == WULGACH_ENDED && answer.res == told, "the core doesn't end a running request");
 }
+
+bool can_issue(struct ring *ring, uint64_t number)
+{
+    uint64_t least;
+    return wulgach_core_next_issuable(&ring->core, number, &least) == 0 && least == number;
+}

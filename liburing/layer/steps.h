@@ -26,4 +26,7 @@ bool find_next(struct ring *ring, uint64_t *number);    /* false: nothing can be
 struct wulgach_answer issue(struct ring *ring, uint64_t number);
 void finish(struct ring *ring, uint64_t number, int32_t told);
 
+/* A question, and no step: whether a request can be issued now. */
+bool can_issue(struct ring *ring, uint64_t number);
+
 #endif

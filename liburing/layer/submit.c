@@ -72,6 +72,7 @@ static void accept_one(struct ring *ring, struct request *request, const struct 
         return;
     request->number = ring->accepted++;
     request->is_linked = before && before->entry.flags & (IOSQE_IO_LINK | IOSQE_IO_HARDLINK);
+    request->chain = request->is_linked ? before->chain : request->number;
     request->is_stream = request->mapping == TOKEN && is_stream(request);
     add_request(&ring->requests, request);
 }

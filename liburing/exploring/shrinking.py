@@ -1,0 +1,84 @@
+"""Makes a failing run short, and prints a run as one reads it."""
+
+import os
+import shlex
+import sys
+
+from exploring.runs import Policies, list_of
+
+
+def shortest(program, items):
+    """Leaves choices out, so that they are made in order, as long as the run still fails."""
+    size = max(1, len(items) // 2)
+    while True:
+        at = 0
+        while at < len(items):
+            fewer = items[:at] + items[at + size :]
+            run = program.run(list_of(fewer))
+            if run.fails():
+                # (what the run didn't come to, or couldn't do, isn't needed either)
+                items = [it for it in run.items() if it in fewer]
+            else:
+                at += size
+        if size == 1:
+            return items
+        size //= 2
+
+
+def shrink(options, program):
+    policy = options.seed if ":" in options.seed else Policies(program, options.policy).of(int(options.seed))
+    name = policy if ":" in options.seed else f"seed {options.seed}"
+    run = program.run(policy)
+    if not run.fails():
+        print(f"{name} doesn't fail")
+        return 2
+    items = run.items()
+    if not program.run(list_of(items)).fails():
+        print(f"{name} fails, and its list of choices doesn't: the program doesn't do the same in each run")
+        return 2
+    before = len(run.choices)
+    while True:
+        fewer = shortest(program, items)
+        if len(fewer) == len(items):
+            break
+        items = fewer
+    print(f"{name} made {before} choices; {len(items)} are enough:\n")
+    return print_run(program, list_of(items))
+
+
+def show(options, program):
+    return print_run(program, options.list if options.list.startswith(("list:", "seed:", "pct:")) else "list:" + options.list)
+
+
+def print_run(program, policy):
+    """Prints a run: the choices that aren't in order, then what happened on each ring."""
+    run = program.run(policy, is_tracing=True)
+    variables = " ".join(f"{name}={value}" for name, value in run.environment.items() if name in ("WULGACH_POLICY", "WULGACH_CHOOSE"))
+    # What the surroundings say of faults is part of the run: without it the same list gives another.
+    faults = " ".join(f"{name}={shlex.quote(os.environ[name])}" for name in ("WULGACH_FAULTS", "WULGACH_FAULT_RATE") if name in os.environ)
+    variables = f"{faults} {variables}" if faults else variables
+    print(f"    {variables} {shlex.join(program.words)}\n")
+    for at, way, count, what in run.choices:
+        if way:
+            print(f"choice {at}: {what}, way {way} of 0 to {count - 1}")
+    for index, trace in enumerate(run.traces):
+        print(f"\nring {index}:")
+        for line in trace.splitlines():
+            print_line(line)
+    print(f"\nstatus {run.status}")
+    sys.stdout.flush()
+    sys.stdout.buffer.write(run.output)
+    return 1 if run.fails() else 0
+
+
+def print_line(line):
+    if line.startswith("# "):
+        is_plain = line.startswith("# choice ") and " is 0 of " in line
+        if not is_plain:
+            print("    " + line[2:])
+    elif line.startswith("begin "):
+        print("call")
+    elif line.endswith(" = not ready"):
+        print("    refused: it isn't ready")
+    elif line.startswith("reap "):
+        print("    the application reaps " + line.split(" = cqe ")[1].split(" ")[0])

@@ -1,0 +1,70 @@
+"""The traces of the layer, beside `uring trace`."""
+
+import os
+import re
+import subprocess
+import sys
+
+TOP = os.path.dirname(os.path.dirname(os.path.dirname(os.path.realpath(__file__))))
+IS_REPOSITORY = os.path.isdir(f"{TOP}/crates")
+# The program `uring`: the repository's, or the one that is installed beside this tool.
+URING = f"{TOP}/crates/uring_cli/out/uring_cli" if IS_REPOSITORY else f"{TOP}/../bin/uring"
+
+
+def numbers_of_failed(lines):
+    """The requests that were finished with a failure."""
+    return {int(step.split()[1]) for step, answer in lines if step.startswith("finish ") and answer.startswith("ended -")}
+
+
+def split_trace(text):
+    """The options, steps and answers of a trace. What a served request will come to is known only at its end, so the layer gives its core a no-op, and ends it with 0 or with -9. `uring trace` carries operations out, so here a no-op that failed is written as an fsync of a descriptor that no file has, which fails with -9. The core asks of neither what it is. Fills and requests have one order: the n-th fill is request n. A call that was refused for want of memory changed nothing, and is left out."""
+    head, *rest = text.splitlines() or ["setup"]
+    lines = [tuple(line.split(" = ", 1)) for line in rest if not line.startswith("# ") and not line.endswith(" = again")]
+    failed, steps, fills = numbers_of_failed(lines), [], 0
+    for step, _ in lines:
+        if step.startswith("fill "):
+            words = step.split()
+            if fills in failed:
+                assert words[2] == "nop", step
+                step = f"fill {words[1]} fsync {words[3]} {words[4]} -1"
+            fills += 1
+        steps.append(step)
+    return head.split()[1:], "".join(it + "\n" for it in steps), "".join(answer + "\n" for _, answer in lines)
+
+
+def read_trace(path):
+    with open(path, errors="replace") as file:
+        text = file.read()
+    for line in text.splitlines()[1:]:
+        if not line.startswith("# ") and not re.fullmatch(r"[a-z]+( [-0-9a-zA-Z]+)* = .+", line):
+            sys.exit(f"{path}: no step and answer: {line!r}")
+    return split_trace(text)
+
+
+def compare(options, program):
+    lines = 0
+    if IS_REPOSITORY:
+        # (which builds the program, if it isn't there)
+        subprocess.run([f"{TOP}/uring", "prove"], check=True)
+    for path in options.traces:
+        words, steps, answers = read_trace(path)
+        done = subprocess.run([URING, "trace", *words], input=steps.encode(), stdout=subprocess.PIPE, check=True)
+        lines += steps.count("\n")
+        if done.stdout.decode() != answers:
+            print(f"{path}: the answers of uring trace differ")
+            for step, one, other in zip(steps.splitlines(), answers.splitlines(), done.stdout.decode().splitlines()):
+                if one != other:
+                    print(f"{step}: {one} here, {other} there")
+                    break
+            return 1
+    print(f"{len(options.traces)} traces, {lines} steps: uring trace gives the same answers")
+    return 0
+
+
+def split(options, program):
+    for number, path in enumerate(options.traces):
+        words, steps, answers = read_trace(path)
+        for end, text in ("", steps), (".stdout", answers), (".args", "\n".join(["trace", *words])):
+            with open(f"{options.folder}/trace_{number}{end}", "w") as file:
+                file.write(text)
+    return 0
