@@ -81,6 +81,16 @@ def list_of_ways(ways):
     return "list:" + ",".join(str(way) for way in ways)
 
 
+def count_choices(program):
+    """About how many choices a run makes: as many as the one in order, and 1 at least."""
+    return max(1, len(program.run("list:").choices))
+
+
+def priorities(seed, depth, choices):
+    """The policy that draws priorities by this seed."""
+    return f"pct:{seed}:{depth}:{choices}"
+
+
 class Policies:
     """The policy of each seed: rolled, or by priorities whose depth is 1, 2 and 3 in turn."""
 
@@ -88,10 +98,9 @@ class Policies:
 
     def __init__(self, program, name):
         self.name = name
-        # About how many choices a run makes: as many as the one in order.
-        self.choices = max(1, len(program.run("list:").choices)) if name == "pct" else None
+        self.choices = count_choices(program) if name == "pct" else None
 
     def of(self, seed):
         if self.name == "pct":
-            return f"pct:{seed}:{1 + (seed - 1) % self.DEPTHS}:{self.choices}"
+            return priorities(seed, 1 + (seed - 1) % self.DEPTHS, self.choices)
         return f"seed:{seed}"

@@ -1,0 +1,23 @@
+"""How often each policy meets a failure, as a table."""
+
+import sys
+
+from exploring.runs import count_choices, priorities
+from exploring.side_by_side import Progress, in_turn
+
+
+def rates(options, program):
+    choices = count_choices(program)
+    policies = [("seed", lambda seed: f"seed:{seed}")]
+    policies += [(f"pct, depth {depth}", lambda seed, depth=depth: priorities(seed, depth, choices)) for depth in range(1, options.depths + 1)]
+    print(f"{options.count} runs a policy, {choices} choices in order\n\n| Policy | Runs that fail | First | Runs a second |\n|---|---:|---:|---:|")
+    for name, policy in policies:
+        progress, first = Progress(options, options.count), None
+        for seed, run in in_turn(options.jobs, lambda seed: program.run(policy(seed)), range(1, options.count + 1)):
+            progress.add(run.fails())
+            if run.fails() and first is None:
+                first = seed
+        progress.end()
+        print(f"| {name} | {progress.failed} | {first or ''} | {progress.runs / progress.seconds():.0f} |")
+        sys.stdout.flush()
+    return 0
