@@ -1,0 +1,244 @@
+/* A program that this one becomes or starts inherits the filter, and so needs this library too: a surrounding without
+ * LD_PRELOAD is given it again. One that can't take it, since it is linked statically or changes its user, is told of: the
+ * kernel ends it with SIGSYS if it calls io_uring.
+ */
+#define _GNU_SOURCE
+#include "run.h"
+
+#include <dlfcn.h>
+#include <elf.h>
+#include <errno.h>
+#include <fcntl.h>
+#include <limits.h>
+#include <spawn.h>
+#include <stdarg.h>
+#include <stdbool.h>
+#include <stdio.h>
+#include <stdlib.h>
+#include <string.h>
+#include <sys/stat.h>
+#include <unistd.h>
+
+extern char **environ;
+
+/* NAME=PATH as it was when this library came in, with the policy and the like. */
+enum { MOST_VARIABLES = 16 };
+static char *variables[MOST_VARIABLES + 1];
+static size_t variable_count;
+
+static bool is_ours(const char *variable)
+{
+    return strncmp(variable, "LD_PRELOAD=", 11) == 0 || strncmp(variable, "WULGACH_", 8) == 0;
+}
+
+static void __attribute__((constructor)) remember(void)
+{
+    for (char **at = environ; *at && variable_count < MOST_VARIABLES; at++)
+        if (is_ours(*at))
+            variables[variable_count++] = strdup(*at);
+}
+
+static bool has_name(char *const *surrounding, const char *variable)
+{
+    size_t length = (size_t)(strchr(variable, '=') - variable) + 1;
+    for (; surrounding && *surrounding; surrounding++)
+        if (strncmp(*surrounding, variable, length) == 0)
+            return true;
+    return false;
+}
+
+static size_t count_of(char *const *words)
+{
+    size_t count = 0;
+    while (words && words[count])
+        count++;
+    return count;
+}
+
+/* The surrounding with what is missing of ours. There is room for it in `room`. */
+static char *const *with_ours(char *const *surrounding, char **room)
+{
+    size_t count = count_of(surrounding);
+    if (count > 0)
+        memcpy(room, surrounding, count * sizeof *room);
+    for (size_t i = 0; i < variable_count; i++)
+        if (!has_name(surrounding, variables[i]))
+            room[count++] = variables[i];
+    room[count] = NULL;
+    return room;
+}
+
+/* Whether a file is a program without an interpreter, which loads no library. */
+static bool is_static(int file)
+{
+    Elf64_Ehdr head;
+    if (pread(file, &head, sizeof head, 0) != sizeof head || memcmp(head.e_ident, ELFMAG, SELFMAG) != 0 || head.e_ident[EI_CLASS] != ELFCLASS64)
+        return false;
+    for (unsigned i = 0; i < head.e_phnum; i++) {
+        Elf64_Phdr part;
+        if (pread(file, &part, sizeof part, (off_t)(head.e_phoff + i * head.e_phentsize)) != sizeof part || part.p_type == PT_INTERP)
+            return false;
+    }
+    return true;
+}
+
+static bool changes_user(int file)
+{
+    struct stat about;
+    return fstat(file, &about) == 0 && ((about.st_mode & S_ISUID && about.st_uid != geteuid()) || (about.st_mode & S_ISGID && about.st_gid != getegid()));
+}
+
+/* Tells of a program that isn't reached. */
+static void look_at(const char *path)
+{
+    int kept = errno, file = open(path, O_RDONLY | O_CLOEXEC);
+    if (file >= 0) {
+        if (is_static(file))
+            say("it is linked statically and can't be reached: SIGSYS ends it if it calls io_uring", path);
+        else if (changes_user(file))
+            say("it changes its user and can't be reached: SIGSYS ends it if it calls io_uring", path);
+        close(file);
+    }
+    errno = kept;
+}
+
+/* The same of a name that is looked for in PATH. */
+static void look_for(const char *name)
+{
+    const char *path = getenv("PATH");
+    if (strchr(name, '/') || !path) {
+        look_at(name);
+        return;
+    }
+    while (*path) {
+        char found[PATH_MAX];
+        size_t length = strcspn(path, ":");
+        int size = snprintf(found, sizeof found, "%.*s/%s", (int)length, path, name);
+        if (size > 0 && size < (int)sizeof found && access(found, X_OK) == 0) {
+            look_at(found);
+            return;
+        }
+        path += length + (path[length] == ':');
+    }
+}
+
+static void *next(const char *name)
+{
+    return dlsym(RTLD_NEXT, name);
+}
+
+SEEN int execve(const char *path, char *const *words, char *const *surrounding)
+{
+    int (*call)(const char *, char *const *, char *const *);
+    *(void **)&call = next("execve");
+    look_at(path);
+    char *room[count_of(surrounding) + MOST_VARIABLES + 1];
+    return call(path, words, with_ours(surrounding, room));
+}
+
+SEEN int fexecve(int file, char *const *words, char *const *surrounding)
+{
+    int (*call)(int, char *const *, char *const *);
+    *(void **)&call = next("fexecve");
+    if (is_static(file))
+        say("it is linked statically and can't be reached: SIGSYS ends it if it calls io_uring", "a program");
+    char *room[count_of(surrounding) + MOST_VARIABLES + 1];
+    return call(file, words, with_ours(surrounding, room));
+}
+
+SEEN int execvpe(const char *name, char *const *words, char *const *surrounding)
+{
+    int (*call)(const char *, char *const *, char *const *);
+    *(void **)&call = next("execvpe");
+    look_for(name);
+    char *room[count_of(surrounding) + MOST_VARIABLES + 1];
+    return call(name, words, with_ours(surrounding, room));
+}
+
+SEEN int execv(const char *path, char *const *words)
+{
+    return execve(path, words, environ);
+}
+
+SEEN int execvp(const char *name, char *const *words)
+{
+    return execvpe(name, words, environ);
+}
+
+/* The words of a call that lists them. */
+#define LISTED(first)                                                                                                  \
+    size_t count = 1;                                                                                                  \
+    va_list arguments;                                                                                                 \
+    va_start(arguments, first);                                                                                        \
+    while (va_arg(arguments, char *))                                                                                  \
+        count++;                                                                                                       \
+    va_end(arguments);                                                                                                 \
+    char *words[count + 1];                                                                                            \
+    words[0] = (char *)first;                                                                                          \
+    va_start(arguments, first);                                                                                        \
+    for (size_t i = 1; i <= count; i++)                                                                                \
+        words[i] = va_arg(arguments, char *)
+
+SEEN int execl(const char *path, const char *first, ...)
+{
+    LISTED(first);
+    va_end(arguments);
+    return execv(path, words);
+}
+
+SEEN int execlp(const char *name, const char *first, ...)
+{
+    LISTED(first);
+    va_end(arguments);
+    return execvp(name, words);
+}
+
+SEEN int execle(const char *path, const char *first, ...)
+{
+    LISTED(first);
+    char *const *surrounding = va_arg(arguments, char *const *);
+    va_end(arguments);
+    return execve(path, words, surrounding);
+}
+
+SEEN int posix_spawn(pid_t *process, const char *path, const posix_spawn_file_actions_t *actions, const posix_spawnattr_t *attributes, char *const *words, char *const *surrounding)
+{
+    int (*call)(pid_t *, const char *, const posix_spawn_file_actions_t *, const posix_spawnattr_t *, char *const *, char *const *);
+    *(void **)&call = next("posix_spawn");
+    look_at(path);
+    char *room[count_of(surrounding) + MOST_VARIABLES + 1];
+    return call(process, path, actions, attributes, words, with_ours(surrounding, room));
+}
+
+SEEN int posix_spawnp(pid_t *process, const char *name, const posix_spawn_file_actions_t *actions, const posix_spawnattr_t *attributes, char *const *words, char *const *surrounding)
+{
+    int (*call)(pid_t *, const char *, const posix_spawn_file_actions_t *, const posix_spawnattr_t *, char *const *, char *const *);
+    *(void **)&call = next("posix_spawnp");
+    look_for(name);
+    char *room[count_of(surrounding) + MOST_VARIABLES + 1];
+    return call(process, name, actions, attributes, words, with_ours(surrounding, room));
+}
+
+/* The C library starts the shell of these by itself, with the program's own surrounding. */
+static void restore(void)
+{
+    for (size_t i = 0; i < variable_count; i++)
+        if (!has_name(environ, variables[i]))
+            putenv(variables[i]);
+}
+
+SEEN int system(const char *line)
+{
+    int (*call)(const char *);
+    *(void **)&call = next("system");
+    restore();
+    return call(line);
+}
+
+SEEN FILE *popen(const char *line, const char *mode)
+{
+    FILE *(*call)(const char *, const char *);
+    *(void **)&call = next("popen");
+    restore();
+    return call(line, mode);
+}

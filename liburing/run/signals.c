@@ -1,0 +1,83 @@
+/* SIGSYS stays the trap's: a program that asks to catch, ignore or block it, or all signals, is told that it is so, and
+ * it isn't. What a program says of SIGSYS is kept, so that it is told the same when it asks again.
+ *
+ * A program that calls the kernel for this by itself, and not through the C library, isn't reached: if a thread of its has
+ * blocked SIGSYS when it calls io_uring, the kernel ends the program with that signal.
+ */
+#define _GNU_SOURCE
+#include "run.h"
+
+#include <dlfcn.h>
+#include <errno.h>
+#include <pthread.h>
+#include <stddef.h>
+
+static struct sigaction asked = {.sa_handler = SIG_DFL};
+
+static void *next(const char *name)
+{
+    return dlsym(RTLD_NEXT, name);
+}
+
+int real_sigaction(int number, const struct sigaction *action, struct sigaction *before)
+{
+    static int (*call)(int, const struct sigaction *, struct sigaction *);
+    if (!call)
+        *(void **)&call = next("sigaction");
+    return call(number, action, before);
+}
+
+int real_sigmask(int how, const sigset_t *set, sigset_t *before)
+{
+    static int (*call)(int, const sigset_t *, sigset_t *);
+    if (!call)
+        *(void **)&call = next("pthread_sigmask");
+    return call(how, set, before);
+}
+
+/* The set without SIGSYS. NULL stays NULL. */
+static const sigset_t *without_trap(const sigset_t *set, sigset_t *copy)
+{
+    if (!set)
+        return NULL;
+    *copy = *set;
+    sigdelset(copy, SIGSYS);
+    return copy;
+}
+
+SEEN int sigaction(int number, const struct sigaction *action, struct sigaction *before)
+{
+    if (number == SIGSYS) {
+        if (before)
+            *before = asked;
+        if (action)
+            asked = *action;
+        return 0;
+    }
+    if (!action)
+        return real_sigaction(number, NULL, before);
+    struct sigaction copy = *action;
+    sigdelset(&copy.sa_mask, SIGSYS);
+    return real_sigaction(number, &copy, before);
+}
+
+SEEN sighandler_t signal(int number, sighandler_t handler)
+{
+    struct sigaction action = {.sa_handler = handler, .sa_flags = SA_RESTART}, before;
+    return sigaction(number, &action, &before) == 0 ? before.sa_handler : SIG_ERR;
+}
+
+SEEN int pthread_sigmask(int how, const sigset_t *set, sigset_t *before)
+{
+    sigset_t copy;
+    return real_sigmask(how, how == SIG_UNBLOCK ? set : without_trap(set, &copy), before);
+}
+
+SEEN int sigprocmask(int how, const sigset_t *set, sigset_t *before)
+{
+    int result = pthread_sigmask(how, set, before);
+    if (result == 0)
+        return 0;
+    errno = result;
+    return -1;
+}

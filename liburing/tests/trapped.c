@@ -1,0 +1,194 @@
+/* A program that is linked with nothing of ours and calls io_uring by the processor's own instruction. Run by uring-run
+ * its rings are the layer's, which it sees by their descriptors: those are memory.
+ *
+ *   trapped nop | blocked | threads | fork | vfork | exec | list | spawn | shell | sqpoll | static PROGRAM
+ *
+ * Status 0: all was as it is to be. Else the number of the line that wasn't.
+ */
+#define _GNU_SOURCE
+#include <errno.h>
+#include <linux/io_uring.h>
+#include <pthread.h>
+#include <signal.h>
+#include <spawn.h>
+#include <stdint.h>
+#include <stdio.h>
+#include <stdlib.h>
+#include <string.h>
+#include <sys/mman.h>
+#include <sys/syscall.h>
+#include <sys/wait.h>
+#include <unistd.h>
+
+#define WANT(is_so)                                                                                                    \
+    do {                                                                                                               \
+        if (!(is_so)) {                                                                                                \
+            fprintf(stderr, "trapped: line %d: %s\n", __LINE__, #is_so);                                               \
+            _exit(__LINE__ & 0x7f);                                                                                    \
+        }                                                                                                              \
+    } while (0)
+
+static long call(long number, long a, long b, long c, long d, long e, long f)
+{
+    long result;
+    register long fourth __asm__("r10") = d, fifth __asm__("r8") = e, sixth __asm__("r9") = f;
+    __asm__ volatile("syscall" : "=a"(result) : "0"(number), "D"(a), "S"(b), "d"(c), "r"(fourth), "r"(fifth), "r"(sixth) : "rcx", "r11", "memory");
+    return result;
+}
+
+static void want_memory(int ring)
+{
+    char name[64], target[64] = {0};
+    snprintf(name, sizeof name, "/proc/self/fd/%d", ring);
+    WANT(readlink(name, target, sizeof target - 1) > 0 && strstr(target, "memfd:"));
+}
+
+/* A no-op through both rings. */
+static void no_op(void)
+{
+    struct io_uring_params params = {0};
+    int ring = (int)call(SYS_io_uring_setup, 4, (long)&params, 0, 0, 0, 0);
+    WANT(ring >= 0);
+    want_memory(ring);
+    size_t sq_size = params.sq_off.array + params.sq_entries * sizeof(uint32_t);
+    size_t cq_size = params.cq_off.cqes + params.cq_entries * sizeof(struct io_uring_cqe);
+    char *sq = mmap(NULL, sq_size, PROT_READ | PROT_WRITE, MAP_SHARED, ring, IORING_OFF_SQ_RING);
+    char *cq = mmap(NULL, cq_size, PROT_READ | PROT_WRITE, MAP_SHARED, ring, IORING_OFF_CQ_RING);
+    struct io_uring_sqe *entries = mmap(NULL, params.sq_entries * sizeof *entries, PROT_READ | PROT_WRITE, MAP_SHARED, ring, IORING_OFF_SQES);
+    WANT(sq != MAP_FAILED && cq != MAP_FAILED && entries != MAP_FAILED);
+    entries[0] = (struct io_uring_sqe){.opcode = IORING_OP_NOP, .user_data = 77};
+    *(uint32_t *)(sq + params.sq_off.array) = 0;
+    __atomic_store_n((uint32_t *)(sq + params.sq_off.tail), 1, __ATOMIC_RELEASE);
+    errno = 5;
+    WANT(call(SYS_io_uring_enter, ring, 1, 1, IORING_ENTER_GETEVENTS, 0, 0) == 1);
+    WANT(errno == 5);
+    WANT(__atomic_load_n((uint32_t *)(cq + params.cq_off.tail), __ATOMIC_ACQUIRE) == 1);
+    struct io_uring_cqe *completion = (struct io_uring_cqe *)(cq + params.cq_off.cqes);
+    WANT(completion->user_data == 77 && completion->res == 0);
+    WANT(call(SYS_io_uring_enter, -1, 0, 0, 0, 0, 0) == -EBADF);
+    WANT(close(ring) == 0);
+}
+
+static void on_signal(int number)
+{
+    (void)number;
+}
+
+/* Catches and blocks all that it can, and asks whether it has. */
+static void blocked(void)
+{
+    struct sigaction action = {.sa_handler = on_signal}, before;
+    sigset_t all;
+    for (int number = 1; number < 32; number++)
+        if (number != SIGKILL && number != SIGSTOP)
+            WANT(sigaction(number, &action, NULL) == 0);
+    WANT(sigaction(SIGSYS, NULL, &before) == 0 && before.sa_handler == on_signal);
+    WANT(signal(SIGSYS, SIG_IGN) == on_signal);
+    sigfillset(&all);
+    WANT(sigprocmask(SIG_SETMASK, &all, NULL) == 0);
+    no_op();
+}
+
+static void *in_thread(void *none)
+{
+    sigset_t all;
+    sigfillset(&all);
+    pthread_sigmask(SIG_BLOCK, &all, NULL);
+    for (int i = 0; i < 20; i++)
+        no_op();
+    return none;
+}
+
+static void threads(void)
+{
+    pthread_t started[4];
+    for (int i = 0; i < 4; i++)
+        WANT(pthread_create(&started[i], NULL, in_thread, NULL) == 0);
+    for (int i = 0; i < 4; i++)
+        pthread_join(started[i], NULL);
+}
+
+static void want_success(pid_t child)
+{
+    int status;
+    WANT(child > 0 && waitpid(child, &status, 0) == child && status == 0);
+}
+
+static char *const nop_words[] = {"trapped", "nop", NULL};
+static char *const no_surrounding[] = {NULL};
+
+static void forked(void)
+{
+    pid_t child = fork();
+    if (child == 0) {
+        no_op();
+        _exit(0);
+    }
+    want_success(child);
+    no_op();
+}
+
+static void vforked(const char *self)
+{
+    pid_t child = vfork();
+    if (child == 0) {
+        execve(self, nop_words, no_surrounding);
+        _exit(1);
+    }
+    want_success(child);
+}
+
+static void spawned(const char *self)
+{
+    pid_t child;
+    WANT(posix_spawn(&child, self, NULL, NULL, nop_words, no_surrounding) == 0);
+    want_success(child);
+}
+
+static void shell(const char *self)
+{
+    char line[4200];
+    clearenv();
+    snprintf(line, sizeof line, "%s nop", self);
+    WANT(system(line) == 0);
+    FILE *pipe = popen(line, "r");
+    WANT(pipe && pclose(pipe) == 0);
+}
+
+static void sqpoll(void)
+{
+    struct io_uring_params params = {.flags = IORING_SETUP_SQPOLL};
+    WANT(call(SYS_io_uring_setup, 4, (long)&params, 0, 0, 0, 0) == -EINVAL);
+}
+
+int main(int argc, char **argv)
+{
+    static char self[4096];
+    const char *name = argc > 1 ? argv[1] : "";
+    WANT(readlink("/proc/self/exe", self, sizeof self - 1) > 0);
+    if (strcmp(name, "nop") == 0)
+        no_op();
+    else if (strcmp(name, "blocked") == 0)
+        blocked();
+    else if (strcmp(name, "threads") == 0)
+        threads();
+    else if (strcmp(name, "fork") == 0)
+        forked();
+    else if (strcmp(name, "vfork") == 0)
+        vforked(self);
+    else if (strcmp(name, "exec") == 0)
+        execve(self, nop_words, no_surrounding);
+    else if (strcmp(name, "list") == 0)
+        execle(self, "trapped", "nop", NULL, no_surrounding);
+    else if (strcmp(name, "spawn") == 0)
+        spawned(self);
+    else if (strcmp(name, "shell") == 0)
+        shell(self);
+    else if (strcmp(name, "sqpoll") == 0)
+        sqpoll();
+    else if (strcmp(name, "static") == 0 && argc > 2)
+        execl(argv[2], argv[2], "nop", NULL);
+    else
+        return 2;
+    return 0;
+}
