@@ -1,6 +1,6 @@
 -- Histories from events written oldest first: what `history_of` makes of a list with one event more, and of two lists.
 -- From std's lemmas on `reverse`. `follow_next` is one round of `run` of `uring_machine`.
--- Stable: other crates may import `history_of-snoc`, `history_of-cons` and `history_of-append`.
+-- Stable: other crates may import `history_of-snoc`, `history_of-cons`, `history_of-append` and `zip_next`.
 use Rattle.std.proofs.Common.{◌≡◌, ℕ, ◌+◌, ◌<◌, List, [], ◌∷◌, ◌++◌, length, take, get_or, refl, sym, ap, ◌∙◌, arith, append_assoc}
 use Rattle.std.specs.List.{zip}
 use Rattle.std.proofs.lemmas.List.{take_more, length-take-le, reverse-append}
@@ -35,15 +35,21 @@ zip-snoc (first ∷ steps) [] s a e = absurd (omega (arith, e))
 zip-snoc (first ∷ steps) (answer ∷ answers) s a e =
     ap (λ events. (first, answer) ∷ events) (zip-snoc steps answers s a (omega (arith, e)))
 
--- one step more
+-- one step more, with its answer
+pub zip_next : (steps : List Step) (i : ℕ) (answers pushed : List Answer) (s : Step) (a : Answer)
+    → i < length steps → s ≡ get_or steps i s → length answers ≡ i → pushed ≡ answers ++ a ∷ []
+    → zip (take (i + 1) steps) pushed ≡ zip (take i steps) answers ++ (s, a) ∷ []
+zip_next steps i answers pushed s a lt at many more =
+    rw (take_more steps i s lt, ← at, more)
+    (zip-snoc (take i steps) answers s a (length-take-le i steps (omega arith) ∙ sym many))
+
 pub follow_next : (h : History) (steps : List Step) (i : ℕ) (answers pushed : List Answer) (s : Step) (a : Answer)
     → i < length steps → s ≡ get_or steps i s → length answers ≡ i → pushed ≡ answers ++ a ∷ []
     → history_of (zip (take (i + 1) steps) pushed) ++ h
     ≡ (s, a) ∷ (history_of (zip (take i steps) answers) ++ h)
 follow_next h steps i answers pushed s a lt at many more =
-    rw (take_more steps i s lt, ← at, more)
-    (ap (λ events. history_of events ++ h) (zip-snoc (take i steps) answers s a (length-take-le i steps (omega arith) ∙ sym many))
-    ∙ ap (λ k. k ++ h) (history_of-snoc (zip (take i steps) answers) (s, a)))
+    ap (λ events. history_of events ++ h) (zip_next steps i answers pushed s a lt at many more)
+    ∙ ap (λ k. k ++ h) (history_of-snoc (zip (take i steps) answers) (s, a))
 
 -- what isn't a Finish is no finish
 pub no_finish : (s : Step) → ((n : ℕ) → s ≡ step.Finish n → ⊥) → IsNoFinish s

@@ -92,7 +92,7 @@ settling-append g before started ((s, a) ∷ earlier) later e l =
     (e.0, settling-append g ((s, a) ∷ before) (started_by (s, a)) earlier later e.1 (subst (λ h. AreSettling g h (started_last (started_by (s, a)) earlier) later) (history_of-cons (s, a) earlier before) l))
 
 -- events that refuse no memory, behind others that refused none
-unrefused-append : (g : Setup) (before : History) (earlier later : List Event)
+pub unrefused-append : (g : Setup) (before : History) (earlier later : List Event)
     → AreUnrefused g before earlier → AreUnrefused g (history_of earlier ++ before) later
     → AreUnrefused g before (earlier ++ later)
 unrefused-append g before [] later e l = l

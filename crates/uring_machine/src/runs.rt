@@ -4,6 +4,7 @@ ghost use Rattle.std.specs.Prelude.{◌≡◌, ℕ, ◌++◌, ◌<◌, ◌≤◌
 ghost use Rattle.std.specs.List.{zip};
 ghost use Rattle.uring_core.specs.Histories.{History, history_of};
 ghost use Rattle.uring_machine.specs.Machine.{Fits};
+ghost use Rattle.uring_machine.specs.Settling.{AreUnrefused};
 
 use crate::machine::Machine;
 use std::alloc::{AllocError, Global};
@@ -23,7 +24,7 @@ pub fn run(alloc: Global, machine: &mut Machine, steps: &[Step]) -> Result<Vec<A
     run_in(&alloc, alloc, machine, steps)
 }
 
-/// As `run`, by this memory. If it grants as many elements as there are steps, there is no error.
+/// As `run`, by this memory. If it grants as many elements as there are steps, there is no error; and if it grants whatever is asked for, no answer says that memory was refused.
 pub fn run_in<M: Memory>(
     memory: &M,
     alloc: Global,
@@ -38,6 +39,9 @@ pub fn run_in<M: Memory>(
     ensures err { OnErr result (machine.new ≡ machine.old) }
     ensures some { OnErr result (0 < length steps.now) }
     ensures granted { (n : ℕ) → M.grants memory.now n → length steps.now ≤ n → IsOk result }
+    ensures unrefused { ((n : ℕ) → M.grants memory.now n) → IfOk result
+        (λ answers. (h : History) → Fits machine.old h
+        → AreUnrefused machine.old.core.setup h (zip steps.now answers.items)) }
 {
     let mut answers = memory.list(alloc, steps.len())?;
     for step in steps {

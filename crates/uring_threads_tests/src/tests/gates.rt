@@ -1,4 +1,4 @@
-//! A gate is shown the number of the job, and the worker's files as they are before it is carried out.
+//! A gate is passed once for each job, and shown its number, and the worker's files as they are before it is carried out.
 
 use super::ends::{Ends, Ports};
 use std::alloc::Global;
@@ -8,9 +8,10 @@ use uring_entry::{Setup, Sqe};
 use uring_threads::{Files, Gate, Item, KernelLanes, KernelPort, Worked};
 use uring_words::KernelWords;
 
-/// What a gate was last shown: 99 at first.
+/// What a gate was last shown, 99 at first, and how often it was passed.
 #[derive(Drop)]
 struct Shown {
+    times: AtomicU64,
     number: AtomicU64,
     // The length of file 0.
     len: AtomicU64,
@@ -26,6 +27,7 @@ impl Gate for Noting<'_> {
     ghost passes = { λ _ _ _. true };
 
     fn pass(&self, number: u64, files: &Files) {
+        self.0.times.fetch_add(1, Ordering::SeqCst);
         self.0.number.store(number, Ordering::SeqCst);
         if let Some(state) = files.state(0) {
             self.0.len.store(u64::from(state.len), Ordering::SeqCst);
@@ -33,9 +35,10 @@ impl Gate for Noting<'_> {
     }
 }
 
-/// Whether the gate was last shown this number, and file 0 of this length.
-fn was_shown(shown: &Shown, number: u64, len: u64) -> bool {
-    shown.number.load(Ordering::SeqCst) == number && shown.len.load(Ordering::SeqCst) == len
+/// Whether the gate was passed so often, and last shown this number, and file 0 of this length.
+fn was_shown(shown: &Shown, times: u64, number: u64, len: u64) -> bool {
+    let passed = shown.times.load(Ordering::SeqCst) == times;
+    passed && shown.number.load(Ordering::SeqCst) == number && shown.len.load(Ordering::SeqCst) == len
 }
 
 /// Whether two writes of two bytes each, one behind the other, are carried out, the gate being shown the file as the first left it.
@@ -43,9 +46,9 @@ fn goes_through<K: KernelPort>(ends: &mut Ends<K, Noting>, shown: &Shown) -> boo
     let first = Item::Entry(Sqe::write(1, 0, 0, 0, &[97, 98]));
     let second = Item::Entry(Sqe::write(2, 0, 0, 2, &[99, 100]));
     let submitted = ends.submit(&[first, second]) && ends.turn().is_some();
-    let before = was_shown(shown, 99, 99);
-    let one = ends.work(0) == Some(Worked::Done(0)) && was_shown(shown, 0, 0);
-    let two = ends.work(0) == Some(Worked::Done(1)) && was_shown(shown, 1, 2);
+    let before = was_shown(shown, 0, 99, 99);
+    let one = ends.work(0) == Some(Worked::Done(0)) && was_shown(shown, 1, 0, 0);
+    let two = ends.work(0) == Some(Worked::Done(1)) && was_shown(shown, 2, 1, 2);
     submitted && before && one && two
 }
 
@@ -53,6 +56,7 @@ fn goes_through<K: KernelPort>(ends: &mut Ends<K, Noting>, shown: &Shown) -> boo
 fn is_shown<K: Ports>(alloc: Global) -> Result<bool, Fail> {
     let setup = Setup::new(4, Some(4), 1, 0)?;
     let shown = Shown {
+        times: AtomicU64::new(0),
         number: AtomicU64::new(99),
         len: AtomicU64::new(99),
     };

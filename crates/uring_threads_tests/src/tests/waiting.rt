@@ -1,4 +1,4 @@
-//! A turn takes a call in though completions wait for room.
+//! A turn takes a call in though completions wait for room, and results beside a call.
 ghost use Rattle.std.specs.Prelude.{◌≤◌};
 
 use super::ends::{Ends, Ports, new_ends};
@@ -39,6 +39,25 @@ fn are_taken_in<K: Ports>(alloc: Global) -> Result<bool, Fail> {
         && are_served(&mut ends, 3, 0);
     drop(ends);
     Ok(right)
+}
+
+/// Whether a turn that takes a call in also takes in the result of the call before it.
+fn are_taken_beside<K: Ports>(alloc: Global) -> Result<bool, Fail> {
+    let mut ends = new_ends::<K>(alloc, 2, 1)?;
+    let first = ends.submit(&[nop(1)]) && ends.turn() == Some(turn(1, 1, 0, 0));
+    let done = first && are_done(&mut ends, 1);
+    let right = done && ends.submit(&[nop(2)]) && ends.turn() == Some(turn(1, 1, 1, 1));
+    drop(ends);
+    Ok(right)
+}
+
+#[test]
+fn results_are_taken_in_beside_a_call(rt: HostRuntime) -> Result<(), Fail> {
+    let lanes = are_taken_beside::<KernelLanes>(rt.alloc())?;
+    let words = are_taken_beside::<KernelWords>(rt.alloc())?;
+    assert!(rt; lanes, "over lanes");
+    assert!(rt; words, "over words");
+    Ok(())
 }
 
 #[test]

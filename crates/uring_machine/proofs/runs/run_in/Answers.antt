@@ -1,6 +1,24 @@
-use Rattle.std.proofs.Common.{◌∙◌, arith}
-use Rattle.uring_core.proofs.Following.{follow_next}
+use Rattle.std.proofs.Common.{ℕ, ◌<◌, ◌≡◌, ◌+◌, ◌++◌, List, [], ◌∷◌, length, take, get_or, sym, subst, ◌∙◌, arith}
+use Rattle.std.specs.List.{zip}
+use Rattle.uring_entry.specs.Setup.{Setup}
+use Rattle.uring_core.specs.Histories.{History, world, history_of}
+use Rattle.uring_core.specs.declared.step.Step.{Step}
+use Rattle.uring_core.specs.declared.answer.Answer.{Answer}
+use Rattle.uring_core.proofs.Following.{follow_next, zip_next}
+use Rattle.uring_machine.specs.Machine.{IsUnrefused, elements_for_step}
+use Rattle.uring_machine.specs.Settling.{AreUnrefused}
+use Rattle.uring_machine.proofs.Settling.{unrefused-append}
 use Rattle.uring_machine.proofs.runs.run_in.Goals as goal
+
+-- one answer more that refuses no memory
+unrefused_next : (g : Setup) (h : History) (steps : List Step) (i : ℕ) (answers pushed : List Answer) (s : Step) (a : Answer)
+    → i < length steps → s ≡ get_or steps i s → length answers ≡ i → pushed ≡ answers ++ a ∷ []
+    → AreUnrefused g h (zip (take i steps) answers)
+    → IsUnrefused g (world g (history_of (zip (take i steps) answers) ++ h)) s a
+    → AreUnrefused g h (zip (take (i + 1) steps) pushed)
+unrefused_next g h steps i answers pushed s a lt at many more earlier last =
+    subst (AreUnrefused g h) (sym (zip_next steps i answers pushed s a lt at many more))
+    (unrefused-append g h (zip (take i steps) answers) ((s, a) ∷ []) earlier (last, tt))
 
 pub loop-step-preserved : goal.loop-step-preserved
 loop-step-preserved g c =
@@ -9,6 +27,12 @@ loop-step-preserved g c =
       answers = omega (arith, i.answers, c.push_reserved.ensures.len);
       room = omega (arith, i.room, c.push_reserved.ensures.capacity);
       setup = c.step_in.ensures.setup ∙ i.setup;
+      unrefused = λ sure h f.
+          let p = c.loop-step.machine.core in
+          let before : History = history_of (zip (take c.loop-step.step-index c.args.steps.now) c.loop-step.answers.items) ++ h in
+          let n : ℕ = elements_for_step p (world p.setup before) c.step-item.result in
+          unrefused_next c.args.machine.now.core.setup h c.args.steps.now c.loop-step.step-index c.loop-step.answers.items c.push_reserved.new.self.items c.step-item.result c.step_in.result (omega arith) c.step-item.is (omega arith) c.push_reserved.ensures.items (i.unrefused sure h f)
+          (subst (λ k. IsUnrefused k (world k before) c.step-item.result c.step_in.result) i.setup (c.step_in.ensures.granted before n (i.fits h f) (sure n) (omega arith)));
       fits = λ h f.
           rw (follow_next h c.args.steps.now c.loop-step.step-index c.loop-step.answers.items c.push_reserved.new.self.items c.step-item.result c.step_in.result (omega arith) c.step-item.is (omega arith) c.push_reserved.ensures.items)
           (c.step_in.ensures.fits _ (i.fits h f));
