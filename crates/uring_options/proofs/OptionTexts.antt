@@ -1,75 +1,47 @@
--- What an option gives of words that clap finds no fault in.
-use Rattle.std.proofs.Common.{◌≡◌, ◌∙◌, ◌≤◌, ◌==◌, ◌||◌, ◌⊎◌, ℕ, Bool, true, false, cond, List, [], ◌∷◌, Option, Some, None, refl, sym, ap, subst, inl, inr, arith, drop}
-use Rattle.std.specs.Prelude.{codes, pos, unwrap_or}
-use Rattle.std.specs.List.{find}
+-- What the option of a name gives of words that clap finds no fault in.
+use Rattle.std.proofs.Common.{◌≡◌, ◌∙◌, ◌<◌, ◌≤◌, ◌^◌, ℕ, Bool, true, false, cond, List, [], ◌∷◌, Option, Some, None, Result, Ok, Err, refl, sym, ap, subst, inl, inr, arith}
+use Rattle.std.specs.Prelude.{codes}
+use Rattle.std.specs.List.{find, list_all}
 use Rattle.std.specs.Str.{bytes_eq}
-use Rattle.std.specs.Str.Parse.{IsNumeral, digits_value, starts_with_minus, without_leading_plus}
-use Rattle.std.proofs.lemmas.Bool.{ne_eqb, or_cases}
+use Rattle.std.specs.Str.Parse.{ParsesUnsigned}
+use Rattle.std.proofs.lemmas.Bool.{or_cases}
 use Rattle.std.proofs.lemmas.Slice.Eq.{bytes_eq-Decides}
-use Rattle.std.proofs.lemmas.Int.{ints}
-use Rattle.std.proofs.lemmas.Str.Parse.{digit_from_value}
 use Rattle.clap.specs.Facts.{parser_of_value}
-use Rattle.clap.specs.Lexer.{without_minus}
 use Rattle.clap.specs.Kinds.{value_kinds, values_kinds}
-use Rattle.clap.specs.Values.{IsSignedIn, reading_of}
+use Rattle.clap.specs.Lexer.{without_minus}
+use Rattle.clap.specs.Matches.{one_text, ReadsOne}
+use Rattle.clap.specs.Values.{reading_of}
 use Rattle.clap.specs.ValueTests.{accepts}
-use Rattle.clap.specs.Walk.{Row, Rule, Text, one_of}
+use Rattle.clap.specs.Walk.{Row, Rule, Text, one_of, rows_of}
 use Rattle.clap.specs.declared.builder.value_parser.ValueParser.{ValueParser}
-use Rattle.clap.specs.declared.builder.value_parser.ValueParser.TheVariants.{Signed}
-use Rattle.clap.specs.declared.builder.value_parser.ValueParser.TheVariants as vp
+use Rattle.clap.specs.declared.parser.matches.Found.{Found}
+use Rattle.clap.proofs.CallerReads.{signed_reads}
 use Rattle.clap.proofs.ValueTestLemmas.{accepts-Accepts}
-use Rattle.uring_options.specs.CommandLine.{Gives, IsWithin, IsGiven}
-use Rattle.uring_options.proofs.Walks.{Each, each_among, found_among, IsRowOf, neither_fails}
+use Rattle.clap.proofs.WalkLemmas.{one_text-rows}
+use Rattle.uring_options.specs.CommandLine.{CommandOption, flag, number, Gives, IsWithin, IsGiven}
+use Rattle.uring_options.specs.OptionRows.{parser_for, TakesOption, TakesOptions}
+use Rattle.uring_options.proofs.Walks.{Among, each_among, found_among, Each, IsRowOf, neither_fails}
 
--- ---- texts
+-- ---- what clap's parser took
 
--- the text with its minus taken off
-minus_off : (t : Text) → without_minus t ≡ cond (starts_with_minus t) (drop 1 t) t
-minus_off [] = refl
-minus_off (x ∷ xs) = go (x == 45)
+-- the parsers of the rules of a name
+abbrev pub parsers_of : Text → List Rule → List ValueParser
+parsers_of id [] = []
+parsers_of id (a ∷ rules) =
+    cond (bytes_eq a.id id) (parser_of_value a.parser ∷ parsers_of id rules) (parsers_of id rules)
+
+among_parsers : (id : Text) (rules : List Rule) (a : Rule) → Among a rules → bytes_eq a.id id ≡ true
+    → Among (parser_of_value a.parser) (parsers_of id rules)
+among_parsers id [] a among named = absurd among
+among_parsers id (b ∷ rules) a (inl here) named =
+    let test : bytes_eq b.id id ≡ true = ap (λ (r : Rule). bytes_eq r.id id) here ∙ named in
+    rw test (inl (ap (λ (r : Rule). parser_of_value r.parser) here))
+among_parsers id (b ∷ rules) a (inr later) named =
+    go (bytes_eq b.id id) (among_parsers id rules a later named)
   where
-    go : (b : Bool) → unwrap_or (cond b (Some xs) None) (x ∷ xs) ≡ cond b xs (x ∷ xs)
-    go true = refl
-    go false = refl
-
-no_plus : (ds : Text) → IsNumeral 10 ds → without_leading_plus ds ≡ ds
-no_plus [] h = refl
-no_plus (d ∷ ds) h =
-    let plus : (d == 43) ≡ false = ne_eqb _ _ (λ e. omega (arith, digit_from_value d h.1.0)) in
-    ap (λ (b : Bool). drop (cond b 1 0) (d ∷ ds)) plus
-
-abbrev value_of : Text → ℕ
-value_of t = digits_value 10 (without_leading_plus t)
-
--- the text is a number, from low to high
-abbrev IsNumberIn : ℕ → ℕ → Text → Type 0
-IsNumberIn low high t =
-    IsNumeral 10 (without_leading_plus t) × (low ≤ value_of t) × (value_of t ≤ high)
-
--- a text that a parser of numbers took is one, as it is read
-number_read : (low high : ℕ) (t : Text) → IsSignedIn (pos low) (pos high) t
-    → IsNumberIn low high (without_minus t)
-number_read low high t passed =
-    subst (IsNumberIn low high) (sym (minus_off t)) (go (starts_with_minus t) refl)
-  where
-    go : (b : Bool) → starts_with_minus t ≡ b → IsNumberIn low high (cond b (drop 1 t) t)
-    go true minus =
-        let least = rw minus at passed.2 in
-        let numeral : IsNumeral 10 (drop 1 t) = rw minus at passed.0 in
-        let same = no_plus (drop 1 t) numeral in
-        (rw same numeral, rw same (omega (arith, ints)), rw same (omega (arith, ints)))
-    go false minus =
-        let least = rw minus at passed.2 in
-        let most = rw minus at passed.3 in
-        let numeral = rw minus at passed.0 in
-        (numeral, omega (arith, ints), omega (arith, ints))
-
--- ---- an option
-
--- each rule of this name has this parser
-abbrev pub HasParser : Text → ValueParser → List Rule → Type 0
-HasParser id parser rules =
-    Each (λ (a : Rule). bytes_eq a.id id ≡ true → parser_of_value a.parser ≡ parser) rules
+    go : (test : Bool) → Among (parser_of_value a.parser) (parsers_of id rules) → Among (parser_of_value a.parser) (cond test (parser_of_value b.parser ∷ parsers_of id rules) (parsers_of id rules))
+    go true among = inr among
+    go false among = among
 
 first_passes : (ignore_case : Bool) (p : ValueParser) (t : Text) (rest : List Text)
     → values_kinds ignore_case p (t ∷ rest) ≡ [] → accepts ignore_case p t ≡ true
@@ -80,62 +52,77 @@ first_passes ignore_case p t rest passes =
     go true e h = e
     go false e h = absurd cc
 
-abbrev IsNumberGiven : List Row → Text → ℕ → ℕ → Type 0
-IsNumberGiven rows id low high = (n : Option ℕ) × Gives rows id n × IsWithin low high n
+-- the rules have one of this option's name, with its parser
+abbrev pub parsers_for : List Rule → CommandOption → List ValueParser
+parsers_for rules option = parsers_of option.0 rules
 
-pub option_given : (rules : List Rule) (rows : List Row) (id : Text) (low high : ℕ)
-    → HasParser id (Signed (pos low) (pos high)) rules → Each (IsRowOf rules) rows
-    → IsNumberGiven rows id low high
-option_given rules rows id low high parsers each = row (find (λ r. bytes_eq r.id id) rows) refl
+abbrev pub only_parser : CommandOption → List ValueParser
+only_parser option = parser_for option.1 ∷ []
+
+-- so its text, in rows of these rules, passed its parser
+option_taken : (rules : List Rule) (rows : List Row) (option : CommandOption)
+    → parsers_for rules option ≡ only_parser option → Each (IsRowOf rules) rows
+    → TakesOption rows option
+option_taken rules rows option one each = row (find (λ r. bytes_eq r.id option.0) rows) refl
   where
-    value : (r : Row) → find (λ r. bytes_eq r.id id) rows ≡ Some r → r.reading ≡ reading_of (Signed (pos low) (pos high)) → (ignore_case : Bool) (vs : List Text) → r.values ≡ vs
-        → values_kinds ignore_case (Signed (pos low) (pos high)) vs ≡ [] → IsNumberGiven rows id low high
-    value r found reading ignore_case [] is passes = (None, rw (found, is) refl, tt)
+    value : (r : Row) → find (λ r. bytes_eq r.id option.0) rows ≡ Some r → r.reading ≡ reading_of (parser_for option.1) → (ignore_case : Bool) (vs : List Text) → r.values ≡ vs
+        → values_kinds ignore_case (parser_for option.1) vs ≡ [] → TakesOption rows option
+    value r found reading ignore_case [] is passes = inl (rw (found, is) refl)
     value r found reading ignore_case (t ∷ vs) is passes =
-        let number = number_read low high t (accepts-Accepts ignore_case (Signed (pos low) (pos high)) t (first_passes ignore_case (Signed (pos low) (pos high)) t vs passes)) in
-        let text : one_of id rows ≡ Some (without_minus t) = rw (found, is, reading) refl in
-        (Some (value_of (without_minus t)), (without_minus t, text, record { digits = number.0; value = refl }), (number.1, number.2))
+        inr (t, ignore_case, rw (found, is, reading) refl, accepts-Accepts ignore_case (parser_for option.1) t (first_passes ignore_case (parser_for option.1) t vs passes))
 
-    row : (o : Option Row) → find (λ r. bytes_eq r.id id) rows ≡ o → IsNumberGiven rows id low high
-    row None found = (None, rw found refl, tt)
+    only : (p : ValueParser) → Among p (only_parser option) → p ≡ parser_for option.1
+    only p (inl is) = sym is
+    only p (inr none) = absurd none
+
+    row : (o : Option Row) → find (λ r. bytes_eq r.id option.0) rows ≡ o → TakesOption rows option
+    row None found = inl (rw found refl)
     row (Some r) found =
-        let place = found_among (λ r. bytes_eq r.id id) rows r found in
+        let place = found_among (λ r. bytes_eq r.id option.0) rows r found in
         let of : IsRowOf rules r = each_among (IsRowOf rules) rows r each place.0 in
-        let named : bytes_eq of.rule.id id ≡ true = rw of.id at place.1 in
-        let parser : parser_of_value of.rule.parser ≡ Signed (pos low) (pos high) = each_among (λ (a : Rule). bytes_eq a.id id ≡ true → parser_of_value a.parser ≡ Signed (pos low) (pos high)) rules of.rule parsers of.among named in
+        let named : bytes_eq of.rule.id option.0 ≡ true = rw of.id at place.1 in
+        let parser = only (parser_of_value of.rule.parser) (subst (Among (parser_of_value of.rule.parser)) one (among_parsers option.0 rules of.rule of.among named)) in
         value r found (of.reading ∙ ap reading_of parser) of.rule.ignore_case r.values refl (subst (λ p. values_kinds of.rule.ignore_case p r.values ≡ []) parser of.values)
 
--- a text that the parser of `true` and `false` took is one of them
-true_or_false : (t : Text) → (bytes_eq t (codes "true") || bytes_eq t (codes "false")) ≡ true
-    → (t ≡ codes "true") ⊎ (t ≡ codes "false")
-true_or_false t e =
-    elim (or_cases (bytes_eq t (codes "true")) (bytes_eq t (codes "false")) e) [
-      | inl is ↦ inl ((bytes_eq-Decides t (codes "true")).0 is)
-      | inr is ↦ inr ((bytes_eq-Decides t (codes "false")).0 is)
+-- and those of a list of options, if a test of all of them computes to it
+pub options_taken : (rules : List Rule) (rows : List Row) (options : List CommandOption)
+    → Each (λ (o : CommandOption). parsers_for rules o ≡ only_parser o) options
+    → Each (IsRowOf rules) rows → TakesOptions rows options
+options_taken rules rows [] fits each = tt
+options_taken rules rows (option ∷ rest) fits each =
+    (option_taken rules rows option fits.0 each, options_taken rules rows rest fits.1 each)
+
+-- ---- what clap's getters read of it
+
+-- the number of an option
+pub number_given : {E : Type 0} (G : Text → Result ℕ E → Type 0) (f : Found) (id : Text) (r : Option ℕ)
+    → (one_text f id ≡ None → r ≡ None) → ((t : Text) → one_text f id ≡ Some t → ReadsOne G t r)
+    → ((t : Text) (x : Result ℕ E) → G t x → ParsesUnsigned 32 10 t x)
+    → (low high : ℕ) → high ≤ 4294967295 → TakesOption (rows_of f) (number id low high)
+    → Gives (rows_of f) id r × IsWithin low high r
+number_given G f id r none value only low high fits (inl absent) =
+    subst (λ (o : Option ℕ). Gives (rows_of f) id o × IsWithin low high o) (sym (none (one_text-rows f id ∙ absent))) (absent, tt)
+number_given {E} G f id r none value only low high fits (inr (text, ignore_case, is, passed)) =
+    let reads = value (without_minus text) (one_text-rows f id ∙ is) in
+    let small : high < 2 ^ 32 = omega arith in
+    let read = signed_reads E G 32 low high text r reads only small passed in
+    let parsed = only (without_minus text) (Ok read.0) (subst (ReadsOne G (without_minus text)) read.1 reads) in
+    subst (λ (o : Option ℕ). Gives (rows_of f) id o × IsWithin low high o) (sym read.1)
+    ((without_minus text, is, record { digits = parsed.0.0; value = parsed.1 }), (read.2, read.3))
+
+-- whether an option is given that takes no value
+pub flag_given : (f : Found) (id : Text) (r : Bool) → (one_text f id ≡ None → r ≡ false)
+    → (one_text f id ≡ Some (codes "true") → r ≡ true)
+    → (one_text f id ≡ Some (codes "false") → r ≡ false)
+    → TakesOption (rows_of f) (flag id) → IsGiven (rows_of f) id r
+flag_given f id r none set unset (inl absent) =
+    subst (IsGiven (rows_of f) id) (sym (none (one_text-rows f id ∙ absent))) (inl absent)
+flag_given f id r none set unset (inr (text, ignore_case, is, passed)) =
+    elim (or_cases (bytes_eq text (codes "true")) (bytes_eq text (codes "false")) passed) [
+      | inl same ↦
+          let given = is ∙ ap (λ (t : Text). Some t) ((bytes_eq-Decides text (codes "true")).0 same) in
+          subst (IsGiven (rows_of f) id) (sym (set (one_text-rows f id ∙ given))) given
+      | inr same ↦
+          let given = is ∙ ap (λ (t : Text). Some t) ((bytes_eq-Decides text (codes "false")).0 same) in
+          subst (IsGiven (rows_of f) id) (sym (unset (one_text-rows f id ∙ given))) (inr given)
     ]
-
-abbrev IsFlagGiven : List Row → Text → Type 0
-IsFlagGiven rows id = (given : Bool) × IsGiven rows id given
-
-pub flag_given : (rules : List Rule) (rows : List Row) (id : Text) → HasParser id vp.Bool rules
-    → Each (IsRowOf rules) rows → IsFlagGiven rows id
-flag_given rules rows id parsers each = row (find (λ r. bytes_eq r.id id) rows) refl
-  where
-    value : (r : Row) → find (λ r. bytes_eq r.id id) rows ≡ Some r → r.reading ≡ reading_of vp.Bool → (ignore_case : Bool) (vs : List Text) → r.values ≡ vs
-        → values_kinds ignore_case vp.Bool vs ≡ [] → IsFlagGiven rows id
-    value r found reading ignore_case [] is passes = (false, inl (rw (found, is) refl))
-    value r found reading ignore_case (t ∷ vs) is passes =
-        let text : one_of id rows ≡ Some t = rw (found, is, reading) refl in
-        elim (true_or_false t (first_passes ignore_case vp.Bool t vs passes)) [
-          | inl same ↦ (true, text ∙ ap (λ (x : Text). Some x) same)
-          | inr same ↦ (false, inr (text ∙ ap (λ (x : Text). Some x) same))
-        ]
-
-    row : (o : Option Row) → find (λ r. bytes_eq r.id id) rows ≡ o → IsFlagGiven rows id
-    row None found = (false, inl (rw found refl))
-    row (Some r) found =
-        let place = found_among (λ r. bytes_eq r.id id) rows r found in
-        let of : IsRowOf rules r = each_among (IsRowOf rules) rows r each place.0 in
-        let named : bytes_eq of.rule.id id ≡ true = rw of.id at place.1 in
-        let parser : parser_of_value of.rule.parser ≡ vp.Bool = each_among (λ (a : Rule). bytes_eq a.id id ≡ true → parser_of_value a.parser ≡ vp.Bool) rules of.rule parsers of.among named in
-        value r found (of.reading ∙ ap reading_of parser) of.rule.ignore_case r.values refl (subst (λ p. values_kinds of.rule.ignore_case p r.values ≡ []) parser of.values)
