@@ -1,11 +1,11 @@
 -- What the commands' options give, of words that clap finds no fault in.
-use Rattle.std.proofs.Common.{◌≡◌, ℕ, Bool, true, false, List, [], ◌∷◌, Option, Some, None, refl, inl}
+use Rattle.std.proofs.Common.{◌≡◌, true, false, List, [], Option, Some, None, refl, inl}
 use Rattle.std.specs.Prelude.{option_map}
 use Rattle.std.specs.List.{find, list_all}
 use Rattle.std.specs.Option.{option_map_or}
 use Rattle.clap.specs.Faults.{fault_of, level_fault, entered_fault, is_simple_and_free}
 use Rattle.clap.specs.Simple.{Shape, argument_words, built, built_leaf, entered, inherited, marked_built, with_leaf_noted, is_simple, label_of, names_of, rows_at, subcommand_of}
-use Rattle.clap.specs.Walk.{Text, Row, answers_to, nothing_held, rows_after, stop_after}
+use Rattle.clap.specs.Walk.{Text, answers_to, nothing_held, rows_after, stop_after}
 use Rattle.clap.proofs.OnLiterals.{clap_on_literals}
 use Rattle.uring_options.specs.CommandLine.{uring, CommandOption, Run, Traces, Explains, Checks, Plays, app_for, setup_options, own_options}
 use Rattle.uring_options.specs.OptionRows.{TakesFor, TakesNamed}
@@ -65,10 +65,16 @@ TakesAt words s =
 each_taken : (words : List Text) → Each (TakesAt words) (built uring).subs
 each_taken words = (
   taken_for Traces (shape_for Traces) (fits Traces) words,
-  (taken_for Explains (shape_for Explains) (fits Explains) words,
-  (taken_for Checks (shape_for Checks) (fits Checks) words,
-  (taken_for Plays (shape_for Plays) (fits Plays) words,
-  ((λ passes. nothing_taken), tt)))),
+  (
+    taken_for Explains (shape_for Explains) (fits Explains) words,
+    (
+      taken_for Checks (shape_for Checks) (fits Checks) words,
+      (
+        taken_for Plays (shape_for Plays) (fits Plays) words,
+        ((λ passes. nothing_taken), tt),
+      ),
+    ),
+  ),
 )
 
 stop_taken : (stop : Option (Text × List Text)) → entered_fault (built uring) stop ≡ []
