@@ -1,5 +1,5 @@
 pub mod Walks
-pub mod Numbers
+pub mod OptionTexts
 pub mod CommandOptions
 pub mod CommandLine
 pub mod Refusals

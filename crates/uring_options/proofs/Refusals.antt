@@ -5,7 +5,7 @@ use Rattle.std.specs.Int.{IsNextPowerOfTwo}
 use Rattle.std.specs.Str.Parse.{digits_value, without_leading_plus}
 use Rattle.std.proofs.Math.Nat.{pow-suc}
 use Rattle.std.proofs.lemmas.Bool.{cases_lt}
-use Rattle.std.proofs.lemmas.Result.{IfOk-weaker, IfErr-weaker}
+use Rattle.std.proofs.lemmas.Result.{IfErr-weaker}
 use Rattle.clap.specs.Faults.{fault_of}
 use Rattle.clap.specs.Kinds.{Kinds, HasKind, IsAmong}
 use Rattle.clap.specs.Simple.{subcommand_of}
@@ -15,8 +15,8 @@ use Rattle.clap.specs.declared.error.Error.{Error}
 use Rattle.clap.specs.declared.error.kind.ErrorKind.TheVariants.{OutOfMemory}
 use Rattle.uring_entry.specs.Setup.{Setup, IsBadCq}
 use Rattle.uring_entry.proofs.Powers.{rounded_once}
-use Rattle.uring_options.specs.CommandLine.{uring, Run, run_of, command_rows, Gives, Numbers, AreInRange, GivesNumbers, IsWithin, IsSetupOver, IsRunOver, Writes, IsTooSmall, AskFor, AskForTooSmall, IsMemory, IsFaultOf}
-use Rattle.uring_options.proofs.CommandLine.{Asks}
+use Rattle.uring_options.specs.CommandLine.{uring, command_rows, Gives, Numbers, AreInRange, IsWithin, IsSetupOver, Writes, IsTooSmall, AskFor, AskForTooSmall, IsMemory, IsFaultOf}
+use Rattle.uring_options.specs.OptionRows.{AnswersNamed}
 use Rattle.uring_options.specs.declared.answers.Options.{Options}
 use Rattle.uring_options.specs.declared.answers.Options.TheVariants.{Trace, Explain, Graph, Timeline, Check, Play, Shared}
 use Rattle.uring_options.specs.declared.answers.OptionsFault.{OptionsFault}
@@ -107,69 +107,37 @@ abbrev pub IsRefusal : List Text → OptionsFault → Type 0
 IsRefusal words Small = AskForTooSmall words
 IsRefusal words (Words e) = HasKind (fault_of uring words) e
 
-pub small_exactly : (words : List Text) (r : Result Options OptionsFault) → IfOk r (AskFor words)
-    → IfErr r (IsRefusal words)
-    → IsErrOf r Small ↔ (AskForTooSmall words × ¬ IsErrAnd r IsMemory)
-small_exactly words (Ok o) asked refused =
-    ((λ e. absurd cc), (λ h. absurd (not_both words o asked h.0)))
-small_exactly words (Err Small) asked refused = ((λ _. (refused, λ m. m)), (λ _. refl))
-small_exactly words (Err (Words e)) asked refused = ((λ e. absurd cc), (λ h. absurd (h.1 (memory_alone (fault_of uring words) e h.0.1.no_fault refused))))
+-- ---- what words lead to
 
--- ---- what the rows of the options ask for
+-- what is asked for, or the refusal
+abbrev pub Outcome : List Text → Result Options OptionsFault → Type 0
+Outcome words r = IfOk r (AskFor words) × IfErr r (IsRefusal words)
 
-written : (words : List Text) (rows : List Row) (n : Numbers) (run : Run)
-    → fault_of uring words ≡ [] → Asks words rows run → GivesNumbers rows n → Writes words n
-written words rows n run no_fault asks gives = record {
-  no_fault = no_fault;
-  numbers = subst (λ (rs : List Row). GivesNumbers rs n) (sym asks.rows_are) gives;
-}
+-- words without a fault, as their rows have an outcome
+pub words_answered : (words : List Text) (r : Result Options OptionsFault) → fault_of uring words ≡ []
+    → AnswersNamed (subcommand_of uring words) r → Outcome words r
+words_answered words (Ok o) fine (n, gives, over) =
+    ((n, record { no_fault = fine; numbers = gives }, over), tt)
+words_answered words (Err e) fine (small, (n, gives, too)) =
+    (tt, subst (IsRefusal words) (sym small) (n, record { no_fault = fine; numbers = gives }, too))
 
--- what is run over the numbers that the rows give
-abbrev pub RunsOver : Run → List Row → Options → Type 0
-RunsOver run rows o = (n : Numbers) × GivesNumbers rows n × IsRunOver run rows n o
+-- words that clap refuses
+pub words_refused : (words : List Text) (r : Result Options OptionsFault) (e : Error)
+    → IsErrAnd r (λ f. f ≡ Words e) → HasKind (fault_of uring words) e → Outcome words r
+words_refused words (Ok o) e is kind = absurd is
+words_refused words (Err f) e is kind = (tt, subst (IsRefusal words) (sym is) kind)
 
-pub is_asked : (words : List Text) (rows : List Row) (run : Run) (o : Options)
-    → fault_of uring words ≡ [] → Asks words rows run → RunsOver run rows o → AskFor words o
-is_asked words rows run o no_fault asks (n, gives, over) =
-    let runs = subst (λ (r : Run). IsRunOver r rows n o) (sym asks.runs) over in
-    (n, written words rows n run no_fault asks gives, subst (λ (rs : List Row). IsRunOver (run_of (subcommand_of uring words)) rs n o) (sym asks.rows_are) runs)
+fault_shown : (words : List Text) (e : OptionsFault) → IsRefusal words e → IsFaultOf words e
+fault_shown words Small shown = tt
+fault_shown words (Words e) shown = shown
 
-abbrev pub IsSmallBy : List Row → OptionsFault → Type 0
-IsSmallBy rows e = (e ≡ Small) × ((n : Numbers) × GivesNumbers rows n × IsTooSmall n)
-
--- a small ring alone refuses such words
-abbrev pub IsSmallFor : List Text → OptionsFault → Type 0
-IsSmallFor words e = (e ≡ Small) × AskForTooSmall words
-
-too_small_for : (words : List Text) (rows : List Row) (e : OptionsFault) (run : Run)
-    → fault_of uring words ≡ [] → Asks words rows run → IsSmallBy rows e → IsSmallFor words e
-too_small_for words rows e run no_fault asks (small, (n, gives, too)) =
-    (small, (n, written words rows n run no_fault asks gives, too))
-
--- what such words lead to, of a call that fails for a small ring alone
-pub all_asked : (words : List Text) (rows : List Row) (run : Run) (r : Result Options OptionsFault)
-    → fault_of uring words ≡ [] → Asks words rows run → IfOk r (RunsOver run rows)
-    → IfOk r (AskFor words)
-all_asked words rows run r no_fault asks over =
-    IfOk-weaker r _ _ (λ o h. is_asked words rows run o no_fault asks h) over
-
-pub all_too_small : (words : List Text) (rows : List Row) (run : Run) (r : Result Options OptionsFault)
-    → fault_of uring words ≡ [] → Asks words rows run → IfErr r (IsSmallBy rows)
-    → IfErr r (IsSmallFor words)
-all_too_small words rows run r no_fault asks small =
-    IfErr-weaker r _ _ (λ e h. too_small_for words rows e run no_fault asks h) small
-
-pub all_small : (words : List Text) (r : Result Options OptionsFault) → IfOk r (AskFor words)
-    → IfErr r (IsSmallFor words) → IsErrOf r Small ↔ (AskForTooSmall words × ¬ IsErrAnd r IsMemory)
-all_small words r asked small = small_exactly words r asked (IfErr-weaker r _ _ (λ e h. subst (IsRefusal words) (sym h.0) h.1) small)
-
-pub all_faults : (words : List Text) (r : Result Options OptionsFault) → IfErr r (IsSmallFor words)
+pub refusal_is_fault : (words : List Text) (r : Result Options OptionsFault) → Outcome words r
     → IfErr r (IsFaultOf words)
-all_faults words r small = IfErr-weaker r _ _ (λ e h. subst (IsFaultOf words) (sym h.0) tt) small
+refusal_is_fault words r outcome = IfErr-weaker r _ _ (fault_shown words) outcome.1
 
-pub refused_by_words : (words : List Text) (r : Result Options OptionsFault) (e : Error)
-    → IsErrAnd r (λ f. f ≡ Words e) → HasKind (fault_of uring words) e
+pub small_exactly : (words : List Text) (r : Result Options OptionsFault) → Outcome words r
     → IsErrOf r Small ↔ (AskForTooSmall words × ¬ IsErrAnd r IsMemory)
-refused_by_words words (Ok o) e is kind = absurd is
-refused_by_words words (Err f) e is kind =
-    small_exactly words (Err f) tt (subst (IsRefusal words) (sym is) kind)
+small_exactly words (Ok o) outcome =
+    ((λ e. absurd cc), (λ h. absurd (not_both words o outcome.0 h.0)))
+small_exactly words (Err Small) outcome = ((λ _. (outcome.1, λ m. m)), (λ _. refl))
+small_exactly words (Err (Words e)) outcome = ((λ e. absurd cc), (λ h. absurd (h.1 (memory_alone (fault_of uring words) e h.0.1.no_fault outcome.1))))

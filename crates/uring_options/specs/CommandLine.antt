@@ -1,5 +1,5 @@
 -- The command line, and what it asks for. The options are our own rule.
-use Rattle.std.specs.Prelude.{◌≡◌, ℕ, ◌<◌, ◌≤◌, ◌⊎◌, pos, Bool, true, false, List, [], Option, Some, None, codes, unwrap_or, if◌then◌else◌}
+use Rattle.std.specs.Prelude.{◌≡◌, ℕ, ◌<◌, ◌≤◌, ◌⊎◌, pos, Bool, true, false, List, [], ◌∷◌, Option, Some, None, codes, unwrap_or, if◌then◌else◌}
 use Rattle.std.specs.Int.{IsNextPowerOfTwo}
 use Rattle.std.specs.Str.{bytes_eq}
 use Rattle.std.specs.Str.Parse.{IsNumeral, digits_value, without_leading_plus}
@@ -18,73 +18,69 @@ use Rattle.uring_options.specs.declared.answers.Options.TheVariants.{Trace, Expl
 use Rattle.uring_options.specs.declared.answers.OptionsFault.{OptionsFault}
 use Rattle.uring_options.specs.declared.answers.OptionsFault.TheVariants.{Small, Words}
 
--- an option of this name that takes a number, as clap's parser checks it
-abbrev pub option_rule : Text → ValueParser → Rule
-option_rule id parser =
-    record (new_rule id) { long = Some id; value_names = 1; action = Some Set; parser = Some parser }
-
--- a command with the four options of a set-up, each of which takes a number
-abbrev pub with_numbers_of : App → App
-with_numbers_of app =
-    with_rule
-    (with_rule
-    (with_rule (with_rule app (option_rule (codes "sq") (Signed (pos 1) (pos 4096)))) (option_rule (codes "cq") (Signed (pos 1) (pos 8192))))
-    (option_rule (codes "files") (Signed (pos 1) (pos 64))))
-    (option_rule (codes "start") (Signed (pos 0) (pos 4294967295)))
-
--- an option of this name that takes no value
-abbrev pub flag_rule : Text → Rule
-flag_rule id = record (new_rule id) { long = Some id; action = Some SetTrue }
-
--- a command with the four options, and with the one by which calls stop
-abbrev pub with_set_up_of : App → App
-with_set_up_of app = with_rule (with_numbers_of app) (flag_rule (codes "stop"))
-
--- a command with the options of the pictures
-abbrev pub with_pictures_of : App → App
-with_pictures_of app =
-    with_rule (with_rule app (flag_rule (codes "graph"))) (flag_rule (codes "timeline"))
-
--- a command with the options of a check
-abbrev pub with_checks_of : App → App
-with_checks_of app = with_rule (with_rule app (flag_rule (codes "all"))) (flag_rule (codes "apart"))
-
--- a command with the options of a play
-abbrev pub with_plays_of : App → App
-with_plays_of app =
-    with_rule (with_rule app (option_rule (codes "workers") (Signed (pos 1) (pos 8)))) (flag_rule (codes "shared"))
-
--- a command with the options of a trace
-abbrev pub with_traces_of : App → App
-with_traces_of app = with_rule (with_rule app (flag_rule (codes "echo"))) (flag_rule (codes "strict"))
-
--- `uring trace`
-abbrev pub trace_app : App
-trace_app = with_traces_of (with_set_up_of (new_app (codes "trace")))
-
--- `uring check`
-abbrev pub check_app : App
-check_app = with_checks_of (with_set_up_of (new_app (codes "check")))
-
--- `uring explain`, which has the options of the pictures as well
-abbrev pub explain_app : App
-explain_app = with_pictures_of (with_set_up_of (new_app (codes "explain")))
-
--- `uring play`, whose calls go on
-abbrev pub play_app : App
-play_app = with_plays_of (with_numbers_of (new_app (codes "play")))
-
--- the program's command line, as clap sees a command
-abbrev pub uring : App
-uring =
-    with_subcommand (with_subcommand (with_subcommand (with_subcommand (new_app (codes "uring")) trace_app.top) explain_app.top) check_app.top) play_app.top
-
 -- what a command runs
 pub data Run : Type 0 where
   Traces : Run
   Explains : Run
   Checks : Run
   Plays : Run
+
+-- an option of a command: its name, and the least and the most number that it takes, or none if it takes no value
+abbrev pub CommandOption : Type 0
+CommandOption = Text × Option (ℕ × ℕ)
+
+abbrev pub number : Text → ℕ → ℕ → CommandOption
+number id low high = (id, Some (low, high))
+
+abbrev pub flag : Text → CommandOption
+flag id = (id, None)
+
+-- the four options of a set-up
+abbrev pub setup_options : List CommandOption
+setup_options =
+    number (codes "sq") 1 4096 ∷ number (codes "cq") 1 8192 ∷ number (codes "files") 1 64 ∷ number (codes "start") 0 4294967295 ∷ []
+
+-- the further options of each command; calls of a play go on
+abbrev pub own_options : Run → List CommandOption
+own_options Traces = flag (codes "stop") ∷ flag (codes "echo") ∷ flag (codes "strict") ∷ []
+own_options Explains = flag (codes "stop") ∷ flag (codes "graph") ∷ flag (codes "timeline") ∷ []
+own_options Checks = flag (codes "stop") ∷ flag (codes "all") ∷ flag (codes "apart") ∷ []
+own_options Plays = number (codes "workers") 1 8 ∷ flag (codes "shared") ∷ []
+
+-- an option of this name that takes a number, as clap's parser checks it
+abbrev pub option_rule : Text → ValueParser → Rule
+option_rule id parser =
+    record (new_rule id) { long = Some id; value_names = 1; action = Some Set; parser = Some parser }
+
+-- an option of this name that takes no value
+abbrev pub flag_rule : Text → Rule
+flag_rule id = record (new_rule id) { long = Some id; action = Some SetTrue }
+
+abbrev pub rule_for : Text → Option (ℕ × ℕ) → Rule
+rule_for id None = flag_rule id
+rule_for id (Some range) = option_rule id (Signed (pos range.0) (pos range.1))
+
+-- a command with these options, in their order
+abbrev pub with_options_of : App → List CommandOption → App
+with_options_of app [] = app
+with_options_of app (option ∷ rest) =
+    with_options_of (with_rule app (rule_for option.0 option.1)) rest
+
+abbrev pub name_of : Run → Text
+name_of Traces = codes "trace"
+name_of Explains = codes "explain"
+name_of Checks = codes "check"
+name_of Plays = codes "play"
+
+-- a command of the program with its options
+abbrev pub app_for : Run → App
+app_for run =
+    with_options_of (with_options_of (new_app (name_of run)) setup_options) (own_options run)
+
+-- the program's command line, as clap sees a command
+abbrev pub uring : App
+uring =
+    with_subcommand (with_subcommand (with_subcommand (with_subcommand (new_app (codes "uring")) (app_for Traces).top) (app_for Explains).top) (app_for Checks).top) (app_for Plays).top
 
 -- the command, a trace without one
 abbrev pub run_of : Option (Text × List Row) → Run

@@ -1,9 +1,10 @@
 //! The command line.
 
-ghost use Rattle.std.specs.Prelude.{◌≡◌, ◌↔◌, ℕ, Bool, List, Option, codes, [], ◌∷◌, IfOk, IfErr, IsErrOf, IsErrAnd, false, if◌then◌else◌};
-ghost use Rattle.clap.specs.Words.{FailsBy, HasMatchesOf, fault_of, found_of, kind_of, rows_of};
+ghost use Rattle.std.specs.Prelude.{◌≡◌, ◌↔◌, ◌≤◌, ℕ, List, Some, codes, [], ◌∷◌, IfOk, IfErr, IsErrOf, IsErrAnd, false, if◌then◌else◌};
+ghost use Rattle.clap.specs.Words.{FailsBy, HasMatchesOf, fault_of, found_of, kind_of, rows_of, subcommand_of};
 ghost use Rattle.clap.specs.Walk.{Text, texts};
-ghost use Rattle.uring_options.specs.CommandLine.{uring, Gives, IsWithin, Numbers, AreInRange, GivesNumbers, GivesWorkers, AreWorkers, IsSetupOver, IsGiven, IsTracedOver, IsRunOver, Traces, Explains, Checks, Plays, IsTooSmall, AskFor, AskForTooSmall, IsWords, IsMemory, IsFaultOf};
+ghost use Rattle.uring_options.specs.CommandLine.{uring, Run, flag, number, setup_options, Gives, IsWithin, Numbers, AreInRange, GivesNumbers, AreWorkers, IsSetupOver, IsGiven, IsTracedOver, IsTooSmall, AskFor, AskForTooSmall, IsWords, IsMemory, IsFaultOf};
+ghost use Rattle.uring_options.specs.OptionRows.{TakesOption, TakesOptions, TakesFor, TakesNamed, IsSmallFor, Answers, AnswersNamed};
 
 use crate::answers::{Options, OptionsFault};
 use crate::commands::uring_command;
@@ -45,29 +46,38 @@ pub fn options<'a>(alloc: Global, args: &'a [&'a str]) -> Result<Options, Option
 fn asked(matches: &ArgMatches<'_>) -> Result<Options, OptionsFault>
     requires { (words : List Text) × HasMatchesOf uring words matches.now
         × (fault_of uring words ≡ []) }
-    ensures ok { (words : List Text) → HasMatchesOf uring words matches.now
-        → fault_of uring words ≡ [] → IfOk result (AskFor words) }
-    ensures err { (words : List Text) → HasMatchesOf uring words matches.now
-        → fault_of uring words ≡ []
-        → IfErr result (λ e. (e ≡ OptionsFault.Small) × AskForTooSmall words) }
+    ensures { (words : List Text) → HasMatchesOf uring words matches.now
+        → fault_of uring words ≡ [] → AnswersNamed (subcommand_of uring words) result }
 {
-    if let Some(matches) = matches.subcommand_matches("explain") {
-        return explained(matches);
+    match matches.subcommand() {
+        Some((name, matches)) => named(name, matches),
+        None => defaulted(),
     }
-    if let Some(matches) = matches.subcommand_matches("check") {
-        return checked(matches);
+}
+
+/// What the options of the command of this name ask for.
+fn named(name: &str, matches: &ArgMatches<'_>) -> Result<Options, OptionsFault>
+    requires { TakesNamed (Some (name.now, rows_of (found_of matches.now))) }
+    ensures { AnswersNamed (Some (name.now, rows_of (found_of matches.now))) result }
+{
+    match name {
+        "explain" => explained(matches),
+        "check" => checked(matches),
+        "play" => played(matches),
+        "trace" => traced(matches),
+        _ => defaulted(),
     }
-    if let Some(matches) = matches.subcommand_matches("play") {
-        return played(matches);
-    }
-    match matches.subcommand_matches("trace") {
-        Some(matches) => traced(matches),
-        None => Ok(Options::Trace {
-            setup: setup_over(None, None, None, None)?,
-            is_echo: false,
-            is_strict: false,
-        }),
-    }
+}
+
+/// A trace over the defaults.
+fn defaulted() -> Result<Options, OptionsFault>
+    ensures { Answers Run.Traces [] result }
+{
+    Ok(Options::Trace {
+        setup: setup_over(None, None, None, None)?,
+        is_echo: false,
+        is_strict: false,
+    })
 }
 
 /// What clap finds in the words.
@@ -80,17 +90,8 @@ fn matches_of<'a>(alloc: Global, args: &'a [&'a str]) -> Result<ArgMatches<'a>, 
 
 /// What the options of `uring trace` ask for.
 fn traced(matches: &ArgMatches<'_>) -> Result<Options, OptionsFault>
-    requires numbers { (n : Numbers) × GivesNumbers (rows_of (found_of matches.now)) n }
-    requires stop { (stops : Bool) × IsGiven (rows_of (found_of matches.now)) (codes "stop") stops }
-    requires echo { (given : Bool) × IsGiven (rows_of (found_of matches.now)) (codes "echo") given }
-    requires strict { (given : Bool)
-        × IsGiven (rows_of (found_of matches.now)) (codes "strict") given }
-    ensures ok { IfOk result
-        (λ o. (n : Numbers) × GivesNumbers (rows_of (found_of matches.now)) n
-        × IsRunOver Traces (rows_of (found_of matches.now)) n o) }
-    ensures err { IfErr result
-        (λ e. (e ≡ OptionsFault.Small)
-        × ((n : Numbers) × GivesNumbers (rows_of (found_of matches.now)) n × IsTooSmall n)) }
+    requires { TakesFor Run.Traces (rows_of (found_of matches.now)) }
+    ensures { Answers Run.Traces (rows_of (found_of matches.now)) result }
 {
     let setup = traced_setup_of(matches)?;
     let is_echo = is_given(matches, "echo");
@@ -104,17 +105,8 @@ fn traced(matches: &ArgMatches<'_>) -> Result<Options, OptionsFault>
 
 /// What the options of `uring check` ask for.
 fn checked(matches: &ArgMatches<'_>) -> Result<Options, OptionsFault>
-    requires numbers { (n : Numbers) × GivesNumbers (rows_of (found_of matches.now)) n }
-    requires stop { (stops : Bool) × IsGiven (rows_of (found_of matches.now)) (codes "stop") stops }
-    requires every { (given : Bool) × IsGiven (rows_of (found_of matches.now)) (codes "all") given }
-    requires apart { (given : Bool)
-        × IsGiven (rows_of (found_of matches.now)) (codes "apart") given }
-    ensures ok { IfOk result
-        (λ o. (n : Numbers) × GivesNumbers (rows_of (found_of matches.now)) n
-        × IsRunOver Checks (rows_of (found_of matches.now)) n o) }
-    ensures err { IfErr result
-        (λ e. (e ≡ OptionsFault.Small)
-        × ((n : Numbers) × GivesNumbers (rows_of (found_of matches.now)) n × IsTooSmall n)) }
+    requires { TakesFor Run.Checks (rows_of (found_of matches.now)) }
+    ensures { Answers Run.Checks (rows_of (found_of matches.now)) result }
 {
     let setup = traced_setup_of(matches)?;
     let is_all = is_given(matches, "all");
@@ -128,18 +120,8 @@ fn checked(matches: &ArgMatches<'_>) -> Result<Options, OptionsFault>
 
 /// What the options of `uring explain` ask for.
 fn explained(matches: &ArgMatches<'_>) -> Result<Options, OptionsFault>
-    requires numbers { (n : Numbers) × GivesNumbers (rows_of (found_of matches.now)) n }
-    requires stop { (stops : Bool) × IsGiven (rows_of (found_of matches.now)) (codes "stop") stops }
-    requires graph { (given : Bool)
-        × IsGiven (rows_of (found_of matches.now)) (codes "graph") given }
-    requires timeline { (given : Bool)
-        × IsGiven (rows_of (found_of matches.now)) (codes "timeline") given }
-    ensures ok { IfOk result
-        (λ o. (n : Numbers) × GivesNumbers (rows_of (found_of matches.now)) n
-        × IsRunOver Explains (rows_of (found_of matches.now)) n o) }
-    ensures err { IfErr result
-        (λ e. (e ≡ OptionsFault.Small)
-        × ((n : Numbers) × GivesNumbers (rows_of (found_of matches.now)) n × IsTooSmall n)) }
+    requires { TakesFor Run.Explains (rows_of (found_of matches.now)) }
+    ensures { Answers Run.Explains (rows_of (found_of matches.now)) result }
 {
     let setup = traced_setup_of(matches)?;
     let graph = is_given(matches, "graph");
@@ -163,16 +145,8 @@ fn explained_over(setup: Setup, graph: bool, timeline: bool) -> Options
 
 /// What the options of `uring play` ask for.
 fn played(matches: &ArgMatches<'_>) -> Result<Options, OptionsFault>
-    requires numbers { (n : Numbers) × GivesNumbers (rows_of (found_of matches.now)) n }
-    requires workers { (n : Option ℕ) × GivesWorkers (rows_of (found_of matches.now)) n }
-    requires shared { (given : Bool)
-        × IsGiven (rows_of (found_of matches.now)) (codes "shared") given }
-    ensures ok { IfOk result
-        (λ o. (n : Numbers) × GivesNumbers (rows_of (found_of matches.now)) n
-        × IsRunOver Plays (rows_of (found_of matches.now)) n o) }
-    ensures err { IfErr result
-        (λ e. (e ≡ OptionsFault.Small)
-        × ((n : Numbers) × GivesNumbers (rows_of (found_of matches.now)) n × IsTooSmall n)) }
+    requires { TakesFor Run.Plays (rows_of (found_of matches.now)) }
+    ensures { Answers Run.Plays (rows_of (found_of matches.now)) result }
 {
     let setup = setup_of(matches)?;
     let workers = workers_of(matches);
@@ -194,14 +168,12 @@ fn played_over(setup: Setup, workers: u32, shared: bool) -> Options
 
 /// The set-up that the options of a command give which takes the one by which calls stop.
 fn traced_setup_of(matches: &ArgMatches<'_>) -> Result<Setup, OptionsFault>
-    requires numbers { (n : Numbers) × GivesNumbers (rows_of (found_of matches.now)) n }
-    requires stop { (stops : Bool) × IsGiven (rows_of (found_of matches.now)) (codes "stop") stops }
+    requires setup { TakesOptions (rows_of (found_of matches.now)) setup_options }
+    requires stop { TakesOption (rows_of (found_of matches.now)) (flag (codes "stop")) }
     ensures ok { IfOk result
         (λ s. (n : Numbers) × GivesNumbers (rows_of (found_of matches.now)) n
         × IsTracedOver (rows_of (found_of matches.now)) n s) }
-    ensures err { IfErr result
-        (λ e. (e ≡ OptionsFault.Small)
-        × ((n : Numbers) × GivesNumbers (rows_of (found_of matches.now)) n × IsTooSmall n)) }
+    ensures err { IfErr result (IsSmallFor (rows_of (found_of matches.now))) }
 {
     let setup = setup_of(matches)?;
     Ok(stopping_if(setup, is_given(matches, "stop")))
@@ -217,20 +189,18 @@ fn stopping_if(setup: Setup, stops: bool) -> Setup
 
 /// Whether an option that takes no value is given: clap has taken its text, so that it is one of the two.
 fn is_given(matches: &ArgMatches<'_>, id: &str) -> bool
-    ensures { (given : Bool) → IsGiven (rows_of (found_of matches.now)) id.now given
-        → result ≡ given }
+    requires { TakesOption (rows_of (found_of matches.now)) (flag id.now) }
+    ensures { IsGiven (rows_of (found_of matches.now)) id.now result }
 {
     matches.get_flag(id)
 }
 
 /// The set-up of the numbers that the options give.
 fn setup_of(matches: &ArgMatches<'_>) -> Result<Setup, OptionsFault>
-    requires { (n : Numbers) × GivesNumbers (rows_of (found_of matches.now)) n }
+    requires { TakesOptions (rows_of (found_of matches.now)) setup_options }
     ensures ok { IfOk result
         (λ s. (n : Numbers) × GivesNumbers (rows_of (found_of matches.now)) n × IsSetupOver n s) }
-    ensures err { IfErr result
-        (λ e. (e ≡ OptionsFault.Small)
-        × ((n : Numbers) × GivesNumbers (rows_of (found_of matches.now)) n × IsTooSmall n)) }
+    ensures err { IfErr result (IsSmallFor (rows_of (found_of matches.now))) }
 {
     let sq = given_number(matches, "sq");
     let cq = given_number(matches, "cq");
@@ -241,7 +211,7 @@ fn setup_of(matches: &ArgMatches<'_>) -> Result<Setup, OptionsFault>
 
 /// How many workers the options of `uring play` give.
 fn workers_of(matches: &ArgMatches<'_>) -> u32
-    requires { (n : Option ℕ) × GivesWorkers (rows_of (found_of matches.now)) n }
+    requires { TakesOption (rows_of (found_of matches.now)) (number (codes "workers") 1 8) }
     ensures { AreWorkers (rows_of (found_of matches.now)) result }
 {
     given_number(matches, "workers").unwrap_or(DEFAULT_WORKERS)
@@ -273,8 +243,9 @@ fn setup_over(
 
 /// The number given for an option, if any: clap has taken its text, so that it is one.
 fn given_number(matches: &ArgMatches<'_>, id: &str) -> Option<u32>
-    ensures { (n : Option ℕ) → Gives (rows_of (found_of matches.now)) id.now n
-        → IsWithin 0 4294967295 n → result ≡ n }
+    ensures { (low high : ℕ) → high ≤ 4294967295
+        → TakesOption (rows_of (found_of matches.now)) (number id.now low high)
+        → Gives (rows_of (found_of matches.now)) id.now result × IsWithin low high result }
 {
     matches.get_one::<u32>(id)
 }

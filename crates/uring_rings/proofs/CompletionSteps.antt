@@ -38,25 +38,13 @@ put_shows g q l x rest spare i s room oldest =
     let near : l.put < length l.reaped + g.cq = omega (arith, s.seen_head_first, s.head_first) in
     let cells_length : length q.cells ≡ g.cq = i.all_cells ∙ s.size in
     let cell_of_tail : q.tail % q.size ≡ (g.start + l.put) % 2 ^ 32 % g.cq = ap (λ (n : ℕ). q.tail % n) s.size ∙ ap (λ (n : ℕ). n % g.cq) s.tail in
-    record {
-      size = s.size;
-      tail = ap (λ (w : ℕ). (w + 1) % 2 ^ 32) s.tail ∙ word_after g.start l.put 1;
-      head = s.head;
-      seen_head = s.seen_head;
-      seen_tail = s.seen_tail;
-      next = s.next;
-      posted = s.posted;
-      reaped = s.reaped;
-      seen_head_first = s.seen_head_first;
-      head_first = s.head_first;
-      reaped_first = s.reaped_first;
-      seen_tail_first = omega (arith, s.seen_tail_first);
-      put_first = omega arith;
-      few = omega arith;
-      in_order = s.in_order;
-      cells = λ k d from to. cells_after_write q.cells (λ (n : ℕ). get_or l.posted n d) d x g.start g.cq (length l.reaped) l.put (q.tail % q.size) (subst IsPowerOfTwo s.size i.power) limit cells_length low near cell_of_tail (first ∙ get_or_default l.posted l.put x d more) (λ n lower upper. s.cells n d lower upper) k from to;
-      waiting = others;
-    }
+    let at_tail = ap (λ (w : ℕ). (w + 1) % 2 ^ 32) s.tail ∙ word_after g.start l.put 1 in
+    let seen_tail_first : l.seen_tail ≤ l.put + 1 = omega (arith, s.seen_tail_first) in
+    let put_first : l.put + 1 ≤ length l.posted = omega arith in
+    let few : l.put + 1 ≤ l.seen_head + g.cq = omega arith in
+    let cells : (k : ℕ) (d : Cqe) → length l.reaped ≤ k → k < l.put + 1 → get_or (set q.cells (q.tail % q.size) x) (word_of g.start k % g.cq) d ≡ get_or l.posted k d =
+    λ k d from to. cells_after_write q.cells (λ (n : ℕ). get_or l.posted n d) d x g.start g.cq (length l.reaped) l.put (q.tail % q.size) (subst IsPowerOfTwo s.size i.power) limit cells_length low near cell_of_tail (first ∙ get_or_default l.posted l.put x d more) (λ n lower upper. s.cells n d lower upper) k from to in
+    assumption
 
 -- A completion is posted, and waits behind the others.
 pub wait_shows : (g : Setup) (q : Cq) (l : Completions) (x : Cqe) (room spare : ℕ)
@@ -65,25 +53,13 @@ pub wait_shows : (g : Setup) (q : Cq) (l : Completions) (x : Cqe) (room spare : 
 wait_shows g q l x room spare s =
     let long = length_push l.posted x in
     let reaped_within : length l.reaped ≤ length l.posted = omega (arith, s.reaped_first, s.seen_tail_first, s.put_first) in
-    record {
-      size = s.size;
-      tail = s.tail;
-      head = s.head;
-      seen_head = s.seen_head;
-      seen_tail = s.seen_tail;
-      next = s.next;
-      posted = omega (arith, s.posted);
-      reaped = s.reaped;
-      seen_head_first = s.seen_head_first;
-      head_first = s.head_first;
-      reaped_first = s.reaped_first;
-      seen_tail_first = s.seen_tail_first;
-      put_first = omega (arith, s.put_first);
-      few = s.few;
-      in_order = s.in_order ∙ sym (take-append-le (length l.reaped) l.posted (x ∷ []) reaped_within);
-      cells = λ k d from to. s.cells k d from to ∙ sym (get_or_append_left l.posted (x ∷ []) d k (omega (arith, s.put_first)));
-      waiting = ap (λ (xs : List Cqe). xs ++ x ∷ []) s.waiting ∙ sym (drop-append-le l.put l.posted (x ∷ []) s.put_first);
-    }
+    let posted : (q.posted + 1) % 2 ^ 64 ≡ length (l.posted ++ x ∷ []) % 2 ^ 64 = omega (arith, s.posted) in
+    let put_first : l.put ≤ length (l.posted ++ x ∷ []) = omega (arith, s.put_first) in
+    let in_order = s.in_order ∙ sym (take-append-le (length l.reaped) l.posted (x ∷ []) reaped_within) in
+    let cells : (k : ℕ) (d : Cqe) → length l.reaped ≤ k → k < l.put → get_or q.cells (word_of g.start k % g.cq) d ≡ get_or (l.posted ++ x ∷ []) k d =
+    λ k d from to. s.cells k d from to ∙ sym (get_or_append_left l.posted (x ∷ []) d k (omega (arith, s.put_first))) in
+    let waiting = ap (λ (xs : List Cqe). xs ++ x ∷ []) s.waiting ∙ sym (drop-append-le l.put l.posted (x ∷ []) s.put_first) in
+    assumption
 
 -- whether the overflow list is empty says whether all was put
 pub all_put : (g : Setup) (q : Cq) (l : Completions) → ShowsCompletions g q l
@@ -162,49 +138,21 @@ reap_shows g q l x next i s apart is is_next =
     let more = more_to_reap g q l i s apart in
     let within : length l.reaped < length l.posted = omega (arith, s.seen_tail_first, s.put_first) in
     let longer : length (l.reaped ++ x ∷ []) ≡ length l.reaped + 1 = length_push l.reaped x in
-    record {
-      size = s.size;
-      tail = s.tail;
-      head = s.head;
-      seen_head = s.seen_head;
-      seen_tail = s.seen_tail;
-      next = is_next ∙ ap (λ (w : ℕ). (w + 1) % 2 ^ 32) s.next ∙ word_after g.start (length l.reaped) 1 ∙ ap (word_of g.start) (sym longer);
-      posted = s.posted;
-      reaped = omega (arith, s.reaped);
-      seen_head_first = s.seen_head_first;
-      head_first = omega (arith, s.head_first);
-      reaped_first = omega arith;
-      seen_tail_first = s.seen_tail_first;
-      put_first = s.put_first;
-      few = s.few;
-      in_order = ap (λ (xs : List Cqe). xs ++ x ∷ []) s.in_order ∙ ap (λ (y : Cqe). take (length l.reaped) l.posted ++ y ∷ []) (sym is) ∙ sym (take_more l.posted (length l.reaped) x within) ∙ ap (λ (n : ℕ). take n l.posted) (sym longer);
-      cells = λ k d from to. s.cells k d (omega arith) to;
-      waiting = s.waiting;
-    }
+    let at_next = is_next ∙ ap (λ (w : ℕ). (w + 1) % 2 ^ 32) s.next ∙ word_after g.start (length l.reaped) 1 ∙ ap (word_of g.start) (sym longer) in
+    let reaped : (q.reaped + 1) % 2 ^ 64 ≡ length (l.reaped ++ x ∷ []) % 2 ^ 64 = omega (arith, s.reaped) in
+    let head_first : l.head ≤ length (l.reaped ++ x ∷ []) = omega (arith, s.head_first) in
+    let reaped_first : length (l.reaped ++ x ∷ []) ≤ l.seen_tail = omega arith in
+    let in_order = ap (λ (xs : List Cqe). xs ++ x ∷ []) s.in_order ∙ ap (λ (y : Cqe). take (length l.reaped) l.posted ++ y ∷ []) (sym is) ∙ sym (take_more l.posted (length l.reaped) x within) ∙ ap (λ (n : ℕ). take n l.posted) (sym longer) in
+    let cells : (k : ℕ) (d : Cqe) → length (l.reaped ++ x ∷ []) ≤ k → k < l.put → get_or q.cells (word_of g.start k % g.cq) d ≡ get_or l.posted k d = λ k d from to. s.cells k d (omega arith) to in
+    assumption
 
 -- the dispatcher loads the head
 pub load_shows : (g : Setup) (q : Cq) (l : Completions) → ShowsCompletions g q l
     → ShowsCompletions g (record q { seen_head = q.head }) (record l { seen_head = l.head })
 load_shows g q l s =
-    record {
-      size = s.size;
-      tail = s.tail;
-      head = s.head;
-      seen_head = s.head;
-      seen_tail = s.seen_tail;
-      next = s.next;
-      posted = s.posted;
-      reaped = s.reaped;
-      seen_head_first = omega arith;
-      head_first = s.head_first;
-      reaped_first = s.reaped_first;
-      seen_tail_first = s.seen_tail_first;
-      put_first = s.put_first;
-      few = omega (arith, s.few, s.seen_head_first);
-      in_order = s.in_order;
-      cells = s.cells;
-      waiting = s.waiting;
-    }
+    let seen_head_first : l.head ≤ l.head = omega arith in
+    let few : l.put ≤ l.head + g.cq = omega (arith, s.few, s.seen_head_first) in
+    assumption
 
 -- where no more can be moved, as many are put as a flush puts
 pub all_moved : (g : Setup) (q : Cq) (l : Completions) (moved : ℕ)

@@ -110,22 +110,8 @@ take_shows g q l c word n s t is_n =
     let on : c.taken + 1 ≡ t.call.taken + 1 = ap (λ (m : ℕ). m + 1) at in
     let further : t.call.taken + 1 ≤ t.call.count = omega (arith, t.less) in
     subst (λ (o : Option Call). ShowsSubmission g (record q { call = Some (record { count = c.count; taken = c.taken + 1; accepted = n }) }) (taken_on l o)) (sym t.is)
-    (record {
-      size = s.size;
-      tail = s.tail;
-      published = s.published;
-      head = s.head;
-      seen_head = s.seen_head;
-      dropped = s.dropped;
-      seen_first = s.seen_first;
-      taken_first = s.taken_first;
-      few = s.few;
-      call = ap (λ (d : OpenCall). Some d) (same_progress _ _ to on is_n);
-      call_fits = (further, t.ready);
-      slots = s.slots;
-      cells = s.cells;
-      places = s.places;
-    })
+    (let call = ap (λ (d : OpenCall). Some d) (same_progress _ _ to on is_n) in
+    assumption (call, further, t.ready, s))
 
 pub take_gives_shows : (g : Setup) (q : Sq) (l : Submission) (c : OpenCall) (word : ℕ)
     → ShowsSubmission g q l
@@ -218,19 +204,8 @@ pub end_shows : (g : Setup) (q : Sq) (l : Submission) (c : OpenCall) (head : ℕ
 end_shows g q l c head s e is_head =
     let all : taken (with_closed l e.call) ≡ taken l + e.call.count = sum_by_push (λ (n : ℕ). n) l.calls e.call.count in
     subst (λ (o : Option Call). ShowsSubmission g (record q { head = head; dropped = (q.dropped + (c.count - c.accepted)) % 2 ^ 32; call = None }) (closed_on l o)) (sym e.is)
-    (record {
-      size = s.size;
-      tail = s.tail;
-      published = s.published;
-      head = head_closed g q l c head s e is_head;
-      seen_head = s.seen_head;
-      dropped = dropped_closed g q l c s e;
-      seen_first = omega (arith, s.seen_first);
-      taken_first = omega (arith, s.taken_first, e.ready);
-      few = s.few;
-      call = refl;
-      call_fits = tt;
-      slots = s.slots;
-      cells = s.cells;
-      places = s.places;
-    })
+    (let at_head = head_closed g q l c head s e is_head in
+    let dropped_is = dropped_closed g q l c s e in
+    let seen_first : l.seen_head ≤ taken (with_closed l e.call) = omega (arith, s.seen_first) in
+    let taken_first : taken (with_closed l e.call) ≤ length l.published = omega (arith, s.taken_first, e.ready) in
+    assumption)

@@ -43,22 +43,11 @@ index_shows g q l d tail cell word i s small leads not_full is_tail is_cell =
     let before = λ (k : ℕ) (from : l.seen_head ≤ k) (to : k < staged l).
     let within : k < length (words l) = rw length-words to in
     s.cells k from to ∙ sym (ap (λ (ws : List ℕ). get_or ws k 0) (words-indexed l word) ∙ get_or_append_left (words l) (word ∷ []) 0 k within) in
-    record {
-      size = s.size;
-      tail = is_tail ∙ ap (λ (w : ℕ). (w + 1) % 2 ^ 32) s.tail ∙ word_after g.start (staged l) 1 ∙ ap (λ (n : ℕ). (g.start + n) % 2 ^ 32) (sym grown);
-      published = s.published;
-      head = s.head;
-      seen_head = s.seen_head;
-      dropped = s.dropped;
-      seen_first = s.seen_first;
-      taken_first = s.taken_first;
-      few = omega arith;
-      call = s.call;
-      call_fits = s.call_fits;
-      slots = s.slots;
-      cells = λ k from to. cells_after_write q.array (λ (n : ℕ). get_or (words (with_staged l word)) n 0) 0 word g.start g.sq l.seen_head (staged l) cell (size_power g q l i s) size_fits cells_length ordered room cell_of_tail last before k from (omega arith);
-      places = s.places;
-    }
+    let at_tail = is_tail ∙ ap (λ (w : ℕ). (w + 1) % 2 ^ 32) s.tail ∙ word_after g.start (staged l) 1 ∙ ap (λ (n : ℕ). (g.start + n) % 2 ^ 32) (sym grown) in
+    let few : staged (with_staged l word) ≤ l.seen_head + g.sq = omega arith in
+    let cells : (k : ℕ) → l.seen_head ≤ k → k < staged (with_staged l word) → get_or (set q.array cell word) (word_of g.start k % g.sq) 0 ≡ get_or (words (with_staged l word)) k 0 =
+    λ k from to. cells_after_write q.array (λ (n : ℕ). get_or (words (with_staged l word)) n 0) 0 word g.start g.sq l.seen_head (staged l) cell (size_power g q l i s) size_fits cells_length ordered room cell_of_tail last before k from (omega arith) in
+    assumption
 
 -- a table's slots after one was written
 slot_after_fill : (table : List Sqe) (content : ℕ → Sqe) (slot n : ℕ) (entry : Sqe)
@@ -86,22 +75,11 @@ pub fill_shows : (g : Setup) (q : Sq) (l : Submission) (slot : ℕ) (entry : Sqe
     → ShowsSubmission g (record q { table = set q.table slot entry }) (with_filled l slot entry)
 fill_shows g q l slot entry i s below free =
     let within : slot < length q.table = omega (arith, i.slots) in
-    record {
-      size = s.size;
-      tail = s.tail;
-      published = s.published;
-      head = s.head;
-      seen_head = s.seen_head;
-      dropped = s.dropped;
-      seen_first = s.seen_first;
-      taken_first = s.taken_first;
-      few = s.few;
-      call = s.call;
-      call_fits = s.call_fits;
-      slots = λ n to. slot_after_fill q.table l.content slot n entry within (s.slots n to) (omega (arith, i.slots, s.size));
-      cells = s.cells;
-      places = λ k p from found. s.places k p from found ∙ place_kept g.sq l.content slot entry p.word (not_named l slot k p free from found);
-    }
+    let slots : (n : ℕ) → n < g.sq → slice_get (set q.table slot entry) n ≡ Some (cond (eqb n slot) entry (l.content n)) =
+    λ n to. slot_after_fill q.table l.content slot n entry within (s.slots n to) (omega (arith, i.slots, s.size)) in
+    let places : (k : ℕ) (p : Place) → l.seen_head ≤ k → slice_get l.published k ≡ Some p → p ≡ place_of g.sq (with_filled l slot entry).content p.word =
+    λ k p from found. s.places k p from found ∙ place_kept g.sq l.content slot entry p.word (not_named l slot k p free from found) in
+    assumption
 
 -- publishing leaves what an open call took
 progress_kept : (size : ℕ) (l : Submission) (o : Option Call)
@@ -154,19 +132,14 @@ store_shows g q l s =
     let grown : length (l.published ++ xs) ≡ staged l = simp (length-append, length-map) in
     let same : staged (with_published g.sq l) ≡ staged l = omega (arith, grown) in
     let more : length l.published ≤ length (l.published ++ xs) = omega arith in
-    record {
-      size = s.size;
-      tail = s.tail ∙ ap (word_of g.start) (sym same);
-      published = s.tail ∙ ap (word_of g.start) (sym grown);
-      head = s.head;
-      seen_head = s.seen_head;
-      dropped = s.dropped ∙ ap (λ (ps : List Place). dropped_in ps % 2 ^ 32) (sym (take-append-le (taken l) l.published xs s.taken_first));
-      seen_first = s.seen_first;
-      taken_first = omega (arith, s.taken_first);
-      few = omega (arith, s.few);
-      call = s.call ∙ progress_kept g.sq l l.call s.call_fits s.taken_first;
-      call_fits = fits_kept g.sq l l.call s.call_fits;
-      slots = s.slots;
-      cells = λ k from to. s.cells k from (omega arith) ∙ ap (λ (ws : List ℕ). get_or ws k 0) (sym (words-stored g.sq l));
-      places = placed_both (λ (p : Place). p ≡ place_of g.sq l.content p.word) l.published xs l.seen_head s.places (placed_by g.sq l.content l.fresh);
-    }
+    let at_tail = s.tail ∙ ap (word_of g.start) (sym same) in
+    let published = s.tail ∙ ap (word_of g.start) (sym grown) in
+    let dropped_is = s.dropped ∙ ap (λ (ps : List Place). dropped_in ps % 2 ^ 32) (sym (take-append-le (taken l) l.published xs s.taken_first)) in
+    let taken_first : taken l ≤ length (l.published ++ xs) = omega (arith, s.taken_first) in
+    let few : staged (with_published g.sq l) ≤ l.seen_head + g.sq = omega (arith, s.few) in
+    let call = s.call ∙ progress_kept g.sq l l.call s.call_fits s.taken_first in
+    let call_fits = fits_kept g.sq l l.call s.call_fits in
+    let cells : (k : ℕ) → l.seen_head ≤ k → k < staged (with_published g.sq l) → get_or q.array (word_of g.start k % g.sq) 0 ≡ get_or (words (with_published g.sq l)) k 0 =
+    λ k from to. s.cells k from (omega arith) ∙ ap (λ (ws : List ℕ). get_or ws k 0) (sym (words-stored g.sq l)) in
+    let places = placed_both (λ (p : Place). p ≡ place_of g.sq l.content p.word) l.published xs l.seen_head s.places (placed_by g.sq l.content l.fresh) in
+    assumption

@@ -2,13 +2,13 @@ use Rattle.std.proofs.Common.{◌≡◌, ◌∙◌, ap, rules}
 use Rattle.std.proofs.lemmas.Result.{IfOk-weaker}
 use Rattle.std.specs.Prelude.{codes}
 use Rattle.clap.specs.Simple.{App, app_of, new_app, with_subcommand}
-use Rattle.uring_options.specs.CommandLine.{trace_app, explain_app, check_app, play_app}
+use Rattle.uring_options.specs.CommandLine.{Traces, Explains, Checks, Plays, app_for}
 use Rattle.uring_options.proofs.commands.uring_command.Goals as goal
 
 pub returns : goal.returns
 returns c =
     let start : app_of c.long_about-command.result ≡ new_app (codes "uring") = search rules in
-    let trace = c.in_ok-command.ensures ∙ ap (λ (a : App). with_subcommand a trace_app.top) start in
-    let explain = c.in_ok-command-2.ensures ∙ ap (λ (a : App). with_subcommand a explain_app.top) trace in
-    let check = c.in_ok-command-3.ensures ∙ ap (λ (a : App). with_subcommand a check_app.top) explain in
-    IfOk-weaker c.with_command-4.result _ _ (λ more h. h ∙ ap (λ (a : App). with_subcommand a play_app.top) check) c.with_command-4.ensures
+    let trace = c.in_ok-command.ensures ∙ ap (λ (a : App). with_subcommand a (app_for Traces).top) start in
+    let explain = c.in_ok-command-2.ensures ∙ ap (λ (a : App). with_subcommand a (app_for Explains).top) trace in
+    let check = c.in_ok-command-3.ensures ∙ ap (λ (a : App). with_subcommand a (app_for Checks).top) explain in
+    IfOk-weaker c.with_command-4.result _ _ (λ more h. h ∙ ap (λ (a : App). with_subcommand a (app_for Plays).top) check) c.with_command-4.ensures
