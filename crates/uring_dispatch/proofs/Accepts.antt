@@ -15,18 +15,9 @@ use Rattle.uring_dispatch.specs.declared.group.Group.{Group}
 use Rattle.uring_dispatch.specs.Window.{Window, at, end_of, Changes}
 use Rattle.uring_dispatch.specs.Groups.{Groups, group_at, last_group, with_member, Exchanges, IsBeyond}
 use Rattle.uring_dispatch.specs.Held.{IsKept, IsSound, AreHeld}
+use Rattle.uring_dispatch.specs.Accepts.{Accepts}
 use Rattle.uring_dispatch.proofs.GroupsKept.{only_key}
-
--- An entry is accepted: what the window and the groups are before and after.
-pub record Accepts (w v : Window) (g h : Groups) (entry : Sqe) (request : Request) : Type 0 where
-  pub changes : Changes w v (end_of w) (Some request)
-  pub end : end_of v ≡ end_of w + 1
-  pub joins : group_at g request.group ≡ last_group g.records g.last
-  pub key : (k : ℕ) → g.last ≡ Some k → request.group ≡ k
-  pub kept : is_some (last_group g.records g.last) ≡ is_some g.last
-  pub exchange : Exchanges g h request.group (Some (with_member (last_group g.records g.last) (end_of w) (is_drain entry) (is_faulty entry)))
-  pub beyond : IsBeyond h.barriers (end_of w + 1)
-  pub last : h.last ≡ (if is_linked entry then Some request.group else None)
+use Rattle.uring_dispatch.proofs.HeldLemmas.{linked, member}
 
 older : (w v : Window) (q : Request) (k : ℕ) (x : Request) → Changes w v (end_of w) (Some q)
     → at v k ≡ Some x → k ≢ end_of w → at w k ≡ Some x
@@ -51,7 +42,7 @@ joined-kept w v g h entry request s a (Some q) e =
       from = k.from;
       to = omega (arith, k.to);
       end = omega (arith, a.end);
-      over = λ m high low. a.changes.others m (λ same. absurd (omega (arith, k.to, same))) ∙ k.over m high low;
+      over = λ m high low. ap is_some (a.changes.others m (λ same. absurd (omega (arith, k.to, same)))) ∙ k.over m high low;
       here = ap is_some (a.changes.others q.least (λ same. absurd (omega (arith, k.to, same)))) ∙ k.here;
     }
 
@@ -83,24 +74,16 @@ accept-sound w v g h entry request s a =
           elim (cases_eq k (end_of w)) [
             | inl same ↦
                 let one : request ≡ x = same_Some _ _ (sym a.changes.here ∙ ap (at v) (sym same) ∙ is) in
-                record {
-                  group = p;
-                  found = ap (λ (z : Request). group_at h z.group) (sym one) ∙ a.exchange.here;
-                  from = omega arith;
-                  to = omega arith;
-                }
+                member _ p k (ap (λ (z : Request). group_at h z.group) (sym one) ∙ a.exchange.here) (omega arith) (omega arith)
             | inr other ↦
-                let link = s.linked k x (older w v request k x a.changes is other) in
+                let link = linked _ _ k x s (older w v request k x a.changes is other) in
                 elim (cases_eq x.group request.group) [
                   | inl same ↦
                       let joined = sym a.joins ∙ ap (group_at g) (sym same) ∙ link.found in
-                      record {
-                        group = p;
-                        found = ap (group_at h) same ∙ a.exchange.here;
-                        from = ap-from (last_group g.records g.last) link.group joined (end_of w) (is_drain entry) (is_faulty entry) k link.from;
-                        to = let k1 = (s.kept x.group link.group link.found).end in omega (arith, link.to);
-                      }
-                  | inr elsewhere ↦ record { group = link.group; found = a.exchange.others x.group elsewhere ∙ link.found; from = link.from; to = link.to }
+                      member _ p k (ap (group_at h) same ∙ a.exchange.here)
+                      (ap-from (last_group g.records g.last) link.group joined (end_of w) (is_drain entry) (is_faulty entry) k link.from)
+                      (let k1 = (s.kept x.group link.group link.found).end in omega (arith, link.to))
+                  | inr elsewhere ↦ member _ link.group k (a.exchange.others x.group elsewhere ∙ link.found) link.from link.to
                 ]
           ];
       members = λ key x k y found from to is.
@@ -139,7 +122,7 @@ accept-sound w v g h entry request s a =
                   from = k.from;
                   to = k.to;
                   end = omega (arith, k.end, a.end);
-                  over = λ m high under. a.changes.others m (λ same. absurd (omega (arith, k.to, k.end, same))) ∙ k.over m high under;
+                  over = λ m high under. ap is_some (a.changes.others m (λ same. absurd (omega (arith, k.to, k.end, same)))) ∙ k.over m high under;
                   here = ap is_some (a.changes.others x.least (λ same. absurd (omega (arith, k.to, k.end, same)))) ∙ k.here;
                 }
           ];
@@ -157,7 +140,7 @@ accept-sound w v g h entry request s a =
 
 pub cut-sound : (w : Window) (g : Groups) → IsSound w g → IsSound w (record g { last = None })
 cut-sound w g s = record {
-  linked = λ n q e. let link = s.linked n q e in record { group = link.group; found = link.found; from = link.from; to = link.to };
+  linked = s.linked;
   members = s.members;
   kept = s.kept;
   beyond = s.beyond;

@@ -25,7 +25,7 @@ use Rattle.uring_dispatch.specs.Groups.{Groups, group_at, last_group, with_membe
 use Rattle.uring_dispatch.specs.Held.{IsSound, IsShown, IsShownGroup, AreHeld, op_of}
 use Rattle.uring_dispatch.proofs.Counting.{count_below-same}
 use Rattle.uring_dispatch.proofs.HeldLemmas.{some_none}
-use Rattle.uring_dispatch.proofs.Accepts.{Accepts}
+use Rattle.uring_dispatch.specs.Accepts.{Accepts, new_request}
 
 -- The lists, when an entry is accepted.
 
@@ -231,16 +231,27 @@ kept-op e p o none right wrong is empty =
     let both = prepared e p right wrong in
     (is ∙ both.0, sym (not-not none) ∙ ap not (sym empty ∙ ap is_some is ∙ both.1) ∙ not-not (is_faulty e))
 
-pub accepts : (w v : Window) (g h : Groups) (entry : Sqe) (request : Request) (n : ℕ) (faulty : Bool)
-    → n ≡ end_of w → faulty ≡ is_faulty entry → Changes w v (end_of w) (Some request)
-    → end_of v ≡ end_of w + 1 → group_at g request.group ≡ last_group g.records g.last
-    → ((k : ℕ) → g.last ≡ Some k → request.group ≡ k)
+pub accepts-new : (w v : Window) (g h : Groups) (entry : Sqe) (key n : ℕ) (op : Option Op) (faulty : Bool)
+    → n ≡ end_of w → (op ≡ op_of entry) × (faulty ≡ is_faulty entry)
+    → Changes w v (end_of w) (Some (record (new_request entry key) { op = op }))
+    → end_of v ≡ end_of w + 1 → group_at g key ≡ last_group g.records g.last
+    → ((k : ℕ) → g.last ≡ Some k → key ≡ k)
     → is_some (last_group g.records g.last) ≡ is_some g.last
-    → Exchanges g h request.group (Some (with_member (last_group g.records g.last) n (is_drain entry) faulty))
-    → IsBeyond h.barriers (n + 1) → h.last ≡ (if is_linked entry then Some request.group else None)
-    → Accepts w v g h entry request
-accepts w v g h entry request n faulty top same changes end joins key kept exchange beyond last =
-    let P : ℕ → Type 0 = λ m. Exchanges g h request.group (Some (with_member (last_group g.records g.last) m (is_drain entry) faulty)) in
-    let Q : Bool → Type 0 = λ f. Exchanges g h request.group (Some (with_member (last_group g.records g.last) (end_of w) (is_drain entry) f)) in
+    → Exchanges g h key (Some (with_member (last_group g.records g.last) n (is_drain entry) faulty))
+    → IsBeyond h.barriers (n + 1) → h.last ≡ (if is_linked entry then Some key else None)
+    → Accepts w v g h entry (new_request entry key)
+accepts-new w v g h entry key n op faulty top same changes end joins only kept exchange beyond last =
+    let O : Option Op → Type 0 = λ o. Changes w v (end_of w) (Some (record (new_request entry key) { op = o })) in
+    let P : ℕ → Type 0 = λ m. Exchanges g h key (Some (with_member (last_group g.records g.last) m (is_drain entry) faulty)) in
+    let Q : Bool → Type 0 = λ f. Exchanges g h key (Some (with_member (last_group g.records g.last) (end_of w) (is_drain entry) f)) in
     let R : ℕ → Type 0 = λ m. IsBeyond h.barriers (m + 1) in
-    record { changes = changes; end = end; joins = joins; key = key; kept = kept; exchange = subst Q same (subst P top exchange); beyond = subst R top beyond; last = last }
+    record {
+      changes = subst O same.0 changes;
+      end = end;
+      joins = joins;
+      key = only;
+      kept = kept;
+      exchange = subst Q same.1 (subst P top exchange);
+      beyond = subst R top beyond;
+      last = last;
+    }

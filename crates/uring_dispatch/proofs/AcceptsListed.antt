@@ -15,9 +15,8 @@ use Rattle.uring_dispatch.specs.Window.{Window, at, end_of}
 use Rattle.uring_dispatch.specs.Groups.{Groups, group_at, with_member}
 use Rattle.uring_dispatch.specs.Held.{IsSound}
 use Rattle.uring_dispatch.specs.Waiting.{waits_at_head, waits_doomed, IsListedAt, Reaches, IsListed, GrowsTo, Starts, CanGrow, StandsAsBefore}
-use Rattle.uring_dispatch.proofs.WindowFront.{at-room}
-use Rattle.uring_dispatch.proofs.HeldLemmas.{some_none}
-use Rattle.uring_dispatch.proofs.Accepts.{Accepts}
+use Rattle.uring_dispatch.proofs.HeldLemmas.{some_none, vacant, linked}
+use Rattle.uring_dispatch.specs.Accepts.{Accepts}
 use Rattle.uring_dispatch.proofs.WaitingLemmas.{told-before, stands-apart, stands-in}
 
 -- An entry is accepted.
@@ -104,7 +103,7 @@ accept-listed w v g h entry request s t n sound l a is own members told heads do
               let P : Request → Type 0 = λ z. group_at h z.group ≡ group_at g z.group in
               subst P one (a.exchange.others x.group apart)))
           | inl here ↦
-              let link = sound.linked k x e in
+              let link = linked _ _ k x sound e in
               let q : Group = link.group in
               let was : group_at g request.group ≡ Some q = ap (group_at g) (sym here) ∙ link.found in
               let p : Group = with_member (Some q) (end_of w) (is_drain entry) (is_faulty entry) in
@@ -119,7 +118,7 @@ accept-listed w v g h entry request s t n sound l a is own members told heads do
                     let to = link.to in
                     let from : q.least ≤ k =
                     elim (cases_lt k q.least) [
-                      | inl low ↦ some_none x _ (kept.over k link.from low) e
+                      | inl low ↦ some_none x _ (vacant w k (kept.over k link.from low)) e
                       | inr high ↦ high
                     ]
                     in
@@ -136,28 +135,6 @@ pub cut-listed : (w : Window) (g : Groups) (s : Waiting) → IsListed w g s
 cut-listed w g s l = record { told = λ n. let t = l.told n in record { head = t.head; doomed = t.doomed }; heads = l.heads; doomed = l.doomed }
 
 -- Memory is asked for.
-
-reaches-room : (w : Window) (room : ℕ) (s : NumberSet) → Reaches w s
-    → Reaches (record w { room = room }) s
-reaches-room w room s r = record {
-  start = r.start;
-  stop = r.stop;
-  few = r.few;
-  low = λ n there. r.low n (ap is_some (sym (at-room w room n)) ∙ there);
-}
-
-pub room-listed : (w : Window) (g : Groups) (s : Waiting) (a b : ℕ) → IsListed w g s
-    → IsListed (record w { room = a }) (record g { room = b }) s
-room-listed w g s a b l = record {
-  told = λ n.
-      let t = l.told n in
-      record {
-        head = t.head ∙ sym (ap (λ o. waits_at_head g o n) (at-room w a n));
-        doomed = t.doomed ∙ sym (ap (λ o. waits_doomed g o n) (at-room w a n));
-      };
-  heads = reaches-room w a s.heads l.heads;
-  doomed = reaches-room w a s.doomed l.doomed;
-}
 
 reaches-same : (w : Window) (s t : NumberSet) → Reaches w s → HasSame s t → Reaches w t
 reaches-same w s t r h =

@@ -11,7 +11,7 @@ use Rattle.uring_dispatch.specs.Groups.{Groups, group_at, IsBeyond}
 use Rattle.uring_dispatch.specs.Held.{IsSound, IsShown, AreHeld}
 use Rattle.uring_dispatch.proofs.WindowFront.{at-past}
 use Rattle.uring_dispatch.proofs.Counting.{count_below-changed}
-use Rattle.uring_dispatch.proofs.HeldLemmas.{some_none, shown-within, running-some}
+use Rattle.uring_dispatch.proofs.HeldLemmas.{some_none, shown-within, running-some, vacant, linked, member}
 
 -- Request n is written, and stays in its group.
 
@@ -32,8 +32,8 @@ pub write-sound : (w v : Window) (g : Groups) (n : ℕ) (p q : Request) → IsSo
 write-sound w v g n p q s there c same end = record {
   linked = λ k x is.
       let old = written w v n p q there c same k x is in
-      let link = s.linked k old.0 old.1 in
-      record { group = link.group; found = ap (group_at g) old.2 ∙ link.found; from = link.from; to = link.to };
+      let link = linked _ _ k old.0 s old.1 in
+      member _ link.group k (ap (group_at g) old.2 ∙ link.found) link.from link.to;
   members = λ key y k x found from to is.
       let old = written w v n p q there c same k x is in
       old.2 ∙ s.members key y k old.0 found from to old.1;
@@ -44,7 +44,7 @@ write-sound w v g n p q s there c same end = record {
         to = k.to;
         end = omega (arith, k.end);
         over = λ m high low.
-            c.others m (λ e. some_none p _ (ap (at w) (sym e) ∙ k.over m high low) there) ∙ k.over m high low;
+            ap is_some (c.others m (λ e. some_none p _ (ap (at w) (sym e) ∙ vacant w m (k.over m high low)) there)) ∙ k.over m high low;
         here =
             elim (cases_eq y.least n) [
               | inl is ↦ ap (λ m. is_some (at v m)) is ∙ ap is_some c.here

@@ -17,8 +17,10 @@ use Rattle.uring_entry.proofs.RequestLemmas.{one_success, all_success, never_suc
 use Rattle.uring_dispatch.specs.declared.request.Request.{Request}
 use Rattle.uring_dispatch.specs.Window.{Window, at, runs, Changes, chosen, IsAsBefore, HasSameRequests}
 use Rattle.uring_dispatch.specs.Groups.{Groups}
-use Rattle.uring_dispatch.specs.Held.{AreHeld, IsSound}
-use Rattle.uring_dispatch.specs.Waiting.{IsListed, HasMemory}
+use Rattle.uring_dispatch.specs.Held.{AreHeld}
+use Rattle.uring_dispatch.specs.Waiting.{HasMemory}
+use Rattle.uring_dispatch.specs.Grouped.{Shows}
+use Rattle.uring_dispatch.specs.declared.outstanding.Outstanding.{Outstanding}
 use Rattle.uring_dispatch.specs.Choosing.{HasChosen}
 use Rattle.uring_dispatch.specs.declared.waiting.Waiting.{Waiting}
 use Rattle.uring_dispatch.proofs.HeldLemmas.{running-none, running-some, candidate-none}
@@ -125,17 +127,15 @@ memory-both s t u a b =
     let v = b.doomed in
     record { heads = omega arith; doomed = omega arith }
 
-pub chosen-nobody : (w : Window) (g : Groups) (s : Waiting) → IsSound w g → IsListed w g s
-    → HasChosen w w g s s
-chosen-nobody w g s sound listed = record { sound = sound; listed = listed; memory = record { heads = omega arith; doomed = omega arith }; same = same-none w }
+pub chosen-nobody : (d : Outstanding) → HasChosen d d
+chosen-nobody d =
+    record { same = same-none d.grouped.window; groups = refl; memory = record { heads = omega arith; doomed = omega arith } }
 
-chosen-both : (u v w : Window) (g : Groups) (s t x : Waiting) → HasChosen u v g s t
-    → HasChosen v w g t x → HasChosen u w g s x
-chosen-both u v w g s t x a b = record {
-  sound = b.sound;
-  listed = b.listed;
-  memory = memory-both s t x a.memory b.memory;
-  same = same-both u v w a.same b.same;
+chosen-both : (a b c : Outstanding) → HasChosen a b → HasChosen b c → HasChosen a c
+chosen-both a b c x y = record {
+  same = same-both a.grouped.window b.grouped.window c.grouped.window x.same y.same;
+  groups = y.groups ∙ x.groups;
+  memory = memory-both a.waiting b.waiting c.waiting x.memory y.memory;
 }
 
 -- Targets.
@@ -172,25 +172,25 @@ target-next r n m =
 -- The search for targets.
 
 -- the targets of the cancel n before the number m are chosen, so many
-pub record AreChosen (w v : Window) (g : Groups) (s t : Waiting) (n user_data m count : ℕ) : Type 0 where
-  pub chosen : HasChosen w v g s t
+pub record AreChosen (old now : Outstanding) (n user_data m count : ℕ) : Type 0 where
+  pub chosen : HasChosen old now
   pub few : count ≤ m
-  pub count_is : (r : Requests) → AreHeld w g r → user_data ≡ addr_of (entry_of r n)
+  pub count_is : (r : Requests) → Shows old.grouped r → user_data ≡ addr_of (entry_of r n)
       → count ≡ length (all_below (is_target r n) m)
-  pub held : (r : Requests) → AreHeld w g r → user_data ≡ addr_of (entry_of r n)
-      → AreHeld v g (with_cancelled r (all_below (is_target r n) m))
+  pub shows : (r : Requests) → Shows old.grouped r → user_data ≡ addr_of (entry_of r n)
+      → Shows now.grouped (with_cancelled r (all_below (is_target r n) m))
 
-pub chosen-none : (w : Window) (g : Groups) (s : Waiting) (n user_data m : ℕ) → IsSound w g
-    → IsListed w g s → ((k : ℕ) → k < m → at w k ≡ None) → AreChosen w w g s s n user_data m 0
-chosen-none w g s n user_data m sound listed none =
-    let nobody : (r : Requests) → AreHeld w g r → all_below (is_target r n) m ≡ [] =
-    λ r h. all_below-none (is_target r n) m (λ k lt. and_left _ _ (candidate-none w g r n k h (none k lt)))
+pub chosen-none : (d : Outstanding) (n user_data m : ℕ)
+    → ((k : ℕ) → k < m → at d.grouped.window k ≡ None) → AreChosen d d n user_data m 0
+chosen-none d n user_data m none =
+    let nobody : (r : Requests) → Shows d.grouped r → all_below (is_target r n) m ≡ [] =
+    λ r h. all_below-none (is_target r n) m (λ k lt. and_left _ _ (candidate-none d.grouped.window d.grouped.groups r n k h (none k lt)))
     in
     record {
-      chosen = chosen-nobody w g s sound listed;
+      chosen = chosen-nobody d;
       few = omega arith;
       count_is = λ r h named. sym (ap (λ (xs : List ℕ). length xs) (nobody r h));
-      held = λ r h named. subst (λ xs. AreHeld w g (with_cancelled r xs)) (sym (nobody r h)) (subst (λ q. AreHeld w g q) (sym (none-cancelled r)) h);
+      shows = λ r h named. subst (λ xs. Shows d.grouped (with_cancelled r xs)) (sym (nobody r h)) (subst (λ q. Shows d.grouped q) (sym (none-cancelled r)) h);
     }
 
 one-more : (p : ℕ → Bool) (m : ℕ) → p m ≡ true → all_below p (m + 1) ≡ all_below p m ++ m ∷ []
@@ -202,52 +202,52 @@ none-more p m e = let next : m + 1
     ≡ suc m = omega arith in ap (all_below p) next ∙ ap (λ b. all_below p m ++ cond b (m ∷ []) []) e ∙ append-nil (all_below p m)
 
 -- what the test of the next number answers
-target-tested : (w v : Window) (g : Groups) (s t : Waiting) (n user_data m count : ℕ) (tested : Bool)
-    → AreChosen w v g s t n user_data m count
-    → ((r : Requests) → AreHeld v g r → user_data ≡ addr_of (entry_of r n) → tested ≡ is_target r n m)
-    → (r : Requests) → AreHeld w g r → user_data ≡ addr_of (entry_of r n) → is_target r n m ≡ tested
-target-tested w v g s t n user_data m count tested c test r h named =
-    sym (test (with_cancelled r (all_below (is_target r n) m)) (c.held r h named) named ∙ target-next r n m)
+target-tested : (old now : Outstanding) (n user_data m count : ℕ) (tested : Bool)
+    → AreChosen old now n user_data m count
+    → ((r : Requests) → Shows now.grouped r → user_data ≡ addr_of (entry_of r n) → tested ≡ is_target r n m)
+    → (r : Requests) → Shows old.grouped r → user_data ≡ addr_of (entry_of r n) → is_target r n m ≡ tested
+target-tested old now n user_data m count tested c test r h named =
+    sym (test (with_cancelled r (all_below (is_target r n) m)) (c.shows r h named) named ∙ target-next r n m)
 
 -- the next number is a target, and was chosen
-pub chosen-more : (w v x : Window) (g : Groups) (s t u : Waiting) (n user_data m count : ℕ)
-    → AreChosen w v g s t n user_data m count
-    → ((r : Requests) → AreHeld v g r → user_data ≡ addr_of (entry_of r n) → true ≡ is_target r n m)
-    → HasChosen v x g t u
-    → ((r : Requests) → AreHeld v g r → AreHeld x g (with_cancelled r (m ∷ [])))
-    → AreChosen w x g s u n user_data (m + 1) (count + 1)
-chosen-more w v x g s t u n user_data m count c test chosen held =
+pub chosen-more : (old now next : Outstanding) (n user_data m count : ℕ)
+    → AreChosen old now n user_data m count
+    → ((r : Requests) → Shows now.grouped r → user_data ≡ addr_of (entry_of r n) → true ≡ is_target r n m)
+    → HasChosen now next
+    → ((r : Requests) → Shows now.grouped r → Shows next.grouped (with_cancelled r (m ∷ [])))
+    → AreChosen old next n user_data (m + 1) (count + 1)
+chosen-more old now next n user_data m count c test chosen shows =
     let few = c.few in
-    let more : (r : Requests) → AreHeld w g r → user_data ≡ addr_of (entry_of r n) → all_below (is_target r n) (m + 1) ≡ all_below (is_target r n) m ++ m ∷ [] =
-    λ r h named. one-more (is_target r n) m (target-tested w v g s t n user_data m count true c test r h named)
+    let more : (r : Requests) → Shows old.grouped r → user_data ≡ addr_of (entry_of r n) → all_below (is_target r n) (m + 1) ≡ all_below (is_target r n) m ++ m ∷ [] =
+    λ r h named. one-more (is_target r n) m (target-tested old now n user_data m count true c test r h named)
     in
     record {
-      chosen = chosen-both w v x g s t u c.chosen chosen;
+      chosen = chosen-both old now next c.chosen chosen;
       few = omega arith;
       count_is = λ r h named.
           ap (λ k. k + 1) (c.count_is r h named) ∙ sym (length-append (all_below (is_target r n) m) (m ∷ []))
           ∙ ap (λ (xs : List ℕ). length xs) (sym (more r h named));
-      held = λ r h named.
-          subst (λ xs. AreHeld x g (with_cancelled r xs)) (sym (more r h named))
-          (subst (λ xs. AreHeld x g (record r { cancelled = xs })) (append_assoc r.cancelled (all_below (is_target r n) m) (m ∷ []))
-          (held (with_cancelled r (all_below (is_target r n) m)) (c.held r h named)));
+      shows = λ r h named.
+          subst (λ xs. Shows next.grouped (with_cancelled r xs)) (sym (more r h named))
+          (subst (λ xs. Shows next.grouped (record r { cancelled = xs })) (append_assoc r.cancelled (all_below (is_target r n) m) (m ∷ []))
+          (shows (with_cancelled r (all_below (is_target r n) m)) (c.shows r h named)));
     }
 
 -- the next number is none
-pub chosen-past : (w v : Window) (g : Groups) (s t : Waiting) (n user_data m count : ℕ)
-    → AreChosen w v g s t n user_data m count
-    → ((r : Requests) → AreHeld v g r → user_data ≡ addr_of (entry_of r n) → false ≡ is_target r n m)
-    → AreChosen w v g s t n user_data (m + 1) count
-chosen-past w v g s t n user_data m count c test =
+pub chosen-past : (old now : Outstanding) (n user_data m count : ℕ)
+    → AreChosen old now n user_data m count
+    → ((r : Requests) → Shows now.grouped r → user_data ≡ addr_of (entry_of r n) → false ≡ is_target r n m)
+    → AreChosen old now n user_data (m + 1) count
+chosen-past old now n user_data m count c test =
     let few = c.few in
-    let same_ones : (r : Requests) → AreHeld w g r → user_data ≡ addr_of (entry_of r n) → all_below (is_target r n) (m + 1) ≡ all_below (is_target r n) m =
-    λ r h named. none-more (is_target r n) m (target-tested w v g s t n user_data m count false c test r h named)
+    let same_ones : (r : Requests) → Shows old.grouped r → user_data ≡ addr_of (entry_of r n) → all_below (is_target r n) (m + 1) ≡ all_below (is_target r n) m =
+    λ r h named. none-more (is_target r n) m (target-tested old now n user_data m count false c test r h named)
     in
     record {
       chosen = c.chosen;
       few = omega arith;
       count_is = λ r h named. c.count_is r h named ∙ ap (λ (xs : List ℕ). length xs) (sym (same_ones r h named));
-      held = λ r h named. subst (λ xs. AreHeld v g (with_cancelled r xs)) (sym (same_ones r h named)) (c.held r h named);
+      shows = λ r h named. subst (λ xs. Shows now.grouped (with_cancelled r xs)) (sym (same_ones r h named)) (c.shows r h named);
     }
 
 -- all numbers were tested

@@ -7,7 +7,7 @@ use Rattle.uring_dispatch.specs.declared.group.Group.{Group}
 use Rattle.uring_dispatch.specs.Window.{Window, at, end_of, Changes}
 use Rattle.uring_dispatch.specs.Groups.{Groups, group_at, Exchanges, IsBeyond}
 use Rattle.uring_dispatch.specs.Held.{IsKept, IsSound, IsNext}
-use Rattle.uring_dispatch.proofs.HeldLemmas.{some_none}
+use Rattle.uring_dispatch.proofs.HeldLemmas.{some_none, vacant, linked, member}
 
 -- Request n of this group ends: what the window and the groups are before and after.
 pub record Ends (w v : Window) (g h : Groups) (n : ℕ) (request : Request) (q : Group) (left : Option Group) : Type 0 where
@@ -21,7 +21,7 @@ pub record Ends (w v : Window) (g h : Groups) (n : ℕ) (request : Request) (q :
 pub in-group : (w : Window) (g : Groups) (n : ℕ) (request : Request) (q : Group) → IsSound w g
     → at w n ≡ Some request → group_at g request.group ≡ Some q → (q.from ≤ n) × (n < q.end)
 in-group w g n request q s there is =
-    let link = s.linked n request there in
+    let link = linked _ _ n request s there in
     let one : link.group ≡ q = same_Some _ _ (sym link.found ∙ is) in
     let P : Group → Type 0 = λ x. (x.from ≤ n) × (n < x.end) in
     subst P one (link.from, link.to)
@@ -31,7 +31,7 @@ pub least-before : (w : Window) (g : Groups) (n : ℕ) (request : Request) (q : 
     → at w n ≡ Some request → group_at g request.group ≡ Some q → q.least ≤ n
 least-before w g n request q s there is =
     elim (cases_lt n q.least) [
-      | inl low ↦ some_none request _ ((s.kept request.group q is).over n (in-group w g n request q s there is).0 low) there
+      | inl low ↦ some_none request _ (vacant w n ((s.kept request.group q is).over n (in-group w g n request q s there is).0 low)) there
       | inr high ↦ high
     ]
 
@@ -67,7 +67,7 @@ kept-elsewhere w v g n key request p s there c end is ne =
       from = k.from;
       to = k.to;
       end = omega (arith, k.end);
-      over = λ m high low. gone-stays w v n m c (k.over m high low);
+      over = λ m high low. ap is_some (gone-stays w v n m c (vacant w m (k.over m high low)));
       here =
           ap is_some (c.others p.least (λ same. apart w g n key request p s there is ne (omega (arith, k.from)) (omega (arith, k.to))))
           ∙ k.here;
@@ -83,12 +83,12 @@ end-sound_last w v g h n request q least s e next all beyond closed =
     let over : (k : ℕ) (p : Request) → at v k ≡ Some p → p.group ≢ request.group =
     λ k p is same.
     let was = kept-request w v n k p e.changes is in
-    let link = s.linked k p was.1 in
+    let link = linked _ _ k p s was.1 in
     let one : link.group ≡ q = same_Some _ _ (sym link.found ∙ ap (group_at g) same ∙ e.group) in
     let from : q.from ≤ k = let P : Group → Type 0 = λ x. x.from ≤ k in subst P one link.from in
     let to : k < q.end = let P : Group → Type 0 = λ x. k < x.end in subst P one link.to in
     elim (cases_lt k q.least) [
-      | inl low ↦ some_none p _ (kept.over k from low) was.1
+      | inl low ↦ some_none p _ (vacant w k (kept.over k from low)) was.1
       | inr high ↦ some_none p _ (next.over k high (omega arith)) is
     ]
     in
@@ -102,8 +102,8 @@ end-sound_last w v g h n request q least s e next all beyond closed =
     record {
       linked = λ k p is.
           let was = kept-request w v n k p e.changes is in
-          let link = s.linked k p was.1 in
-          record { group = link.group; found = e.exchange.others p.group (over k p is) ∙ link.found; from = link.from; to = link.to };
+          let link = linked _ _ k p s was.1 in
+          member _ link.group k (e.exchange.others p.group (over k p is) ∙ link.found) link.from link.to;
       members = λ key p k r is from to there. s.members key p k r (still key p is).1 from to (kept-request w v n k r e.changes there).1;
       kept = λ key p is.
           let old = still key p is in kept-elsewhere w v g n key request p s e.there e.changes e.end old.1 old.0;
@@ -132,17 +132,14 @@ end-sound_more w v g h n request q p least s e next more from end is beyond clos
     record {
       linked = λ k x there.
           let was = kept-request w v n k x e.changes there in
-          let link = s.linked k x was.1 in
+          let link = linked _ _ k x s was.1 in
           elim (cases_eq x.group request.group) [
             | inl same ↦
                 let one : link.group ≡ q = same_Some _ _ (sym link.found ∙ ap (group_at g) same ∙ e.group) in
-                record {
-                  group = p;
-                  found = ap (group_at h) same ∙ e.exchange.here;
-                  from = let f : link.group.from ≡ q.from = ap (λ (z : Group). z.from) one in omega (arith, link.from);
-                  to = let f : link.group.end ≡ q.end = ap (λ (z : Group). z.end) one in omega (arith, link.to);
-                }
-            | inr other ↦ record { group = link.group; found = e.exchange.others x.group other ∙ link.found; from = link.from; to = link.to }
+                member _ p k (ap (group_at h) same ∙ e.exchange.here)
+                (let f : link.group.from ≡ q.from = ap (λ (z : Group). z.from) one in omega (arith, link.from))
+                (let f : link.group.end ≡ q.end = ap (λ (z : Group). z.end) one in omega (arith, link.to))
+            | inr other ↦ member _ link.group k (e.exchange.others x.group other ∙ link.found) link.from link.to
           ];
       members = λ key x k r found a b there.
           let was = old key x found in
@@ -159,8 +156,8 @@ end-sound_more w v g h n request q p least s e next more from end is beyond clos
                   end = omega (arith, kept.end, e.end);
                   over = λ m high under.
                       elim (cases_lt m q.least) [
-                        | inl before ↦ gone-stays w v n m e.changes (kept.over m (omega arith) before)
-                        | inr behind ↦ next.over m behind (omega arith)
+                        | inl before ↦ ap is_some (gone-stays w v n m e.changes (vacant w m (kept.over m (omega arith) before)))
+                        | inr behind ↦ ap is_some (next.over m behind (omega arith))
                       ];
                   here = ap (λ m. is_some (at v m)) is ∙ next.here low;
                 })

@@ -13,7 +13,7 @@ use Rattle.uring_dispatch.specs.Window.{Window, at, one_if}
 use Rattle.uring_dispatch.specs.Groups.{Groups, group_at}
 use Rattle.uring_dispatch.specs.Held.{IsSound, IsShownGroup, AreHeld, HasLost}
 use Rattle.uring_dispatch.proofs.Counting.{count_below-changed}
-use Rattle.uring_dispatch.proofs.HeldLemmas.{shown-within, outstanding-some, running-some}
+use Rattle.uring_dispatch.proofs.HeldLemmas.{shown-within, outstanding-some, running-some, linked}
 use Rattle.uring_dispatch.proofs.EndLemmas.{kept-request, apart, Ends}
 
 -- The lists.
@@ -90,7 +90,7 @@ pub end-held : (w v : Window) (g h : Groups) (r : Requests) (n : ℕ) (request :
     → ShowsEnd r n res q left → AreHeld v h (with_ended r n res bytes)
 end-held w v g h r n request q left res bytes s a e lost was closed shows =
     let inside = shown-within w g r n request s a e.there in
-    let link = s.linked n request e.there in
+    let link = linked _ _ n request s e.there in
     let one : link.group ≡ q = same_Some _ _ (sym link.found ∙ e.group) in
     let from : q.from ≤ n = let P : Group → Type 0 = λ x. x.from ≤ n in subst P one link.from in
     let to : n < q.end = let P : Group → Type 0 = λ x. n < x.end in subst P one link.to in

@@ -1,6 +1,6 @@
 -- How an outstanding request stands, from what is held.
-use Rattle.std.proofs.Common.{◌≡◌, ◌≢◌, ℕ, ◌<◌, ◌≤◌, length, Bool, true, false, not, ◌&&◌, ◌||◌, Option, Some, None, is_some, refl, sym, ◌∙◌, ap, subst, arith, inl, inr}
-use Rattle.std.proofs.lemmas.Bool.{cases_lt, cases_eq, and_from, and_left, and_right, both_ways, lt-ltb, le-ltb, eq-eqb, ne_eqb}
+use Rattle.std.proofs.Common.{◌≡◌, ◌≢◌, ℕ, ◌<◌, ◌≤◌, length, Bool, true, false, not, ◌&&◌, ◌||◌, ltb, leb, Option, Some, None, is_some, refl, sym, ◌∙◌, ap, subst, arith, inl, inr}
+use Rattle.std.proofs.lemmas.Bool.{cases_lt, cases_eq, and_from, and_parts, and_left, and_right, both_ways, false≢true, lt-ltb, le-ltb, ltb-true, le-leb, leb-true, eq-eqb, ne_eqb}
 use Rattle.std.proofs.Math.Bool.{and-true, or-false}
 use Rattle.std.proofs.lemmas.Option.{same_Some}
 use Rattle.uring_entry.specs.Requests.{Requests, entry_of, has_started, has_ended, is_outstanding, is_running, is_cancelled, is_draining, is_doomed, is_ready, is_issuable, is_candidate}
@@ -12,16 +12,39 @@ use Rattle.uring_dispatch.specs.declared.request.Request.{Request}
 use Rattle.uring_dispatch.specs.declared.group.Group.{Group}
 use Rattle.uring_dispatch.specs.Window.{Window, at, HasBefore}
 use Rattle.uring_dispatch.specs.Groups.{Groups, group_at, drain_of, HasBarrierBefore}
-use Rattle.uring_dispatch.specs.Held.{IsSound, IsShownGroup, AreHeld}
+use Rattle.uring_dispatch.specs.Held.{HasGroup, has_member, IsSound, IsShownGroup, AreHeld}
 
 pub some_none : {X : Type 0} {P : Type 0} (x : X) (o : Option X) → o ≡ None → o ≡ Some x → P
 some_none x o a b = cc
+
+-- a number without a request
+pub vacant : (w : Window) (n : ℕ) → is_some (at w n) ≡ false → at w n ≡ None
+vacant w n e = go (at w n) e
+  where
+    go : (o : Option Request) → is_some o ≡ false → o ≡ None
+    go None f = refl
+    go (Some q) f = absurd (false≢true (sym f))
+
+-- a request's group is kept
+pub linked : (w : Window) (g : Groups) (n : ℕ) (q : Request) → IsSound w g → at w n ≡ Some q
+    → HasGroup g q.group n
+linked w g n q s e = go (group_at g q.group) refl (s.linked n q e)
+  where
+    go : (o : Option Group) → group_at g q.group ≡ o → has_member o n ≡ true → HasGroup g q.group n
+    go None f none = absurd (false≢true none)
+    go (Some p) f within =
+        let parts = and_parts (leb p.from n) (ltb n p.end) within in
+        record { group = p; found = f; from = leb-true p.from n parts.0; to = ltb-true n p.end parts.1 }
+
+pub member : (o : Option Group) (p : Group) (n : ℕ) → o ≡ Some p → p.from ≤ n → n < p.end
+    → has_member o n ≡ true
+member o p n e from to = ap (λ x. has_member x n) e ∙ and_from _ _ (le-leb p.from n from) (lt-ltb n p.end to)
 
 -- a number with a request is outstanding
 pub shown-within : (w : Window) (g : Groups) (r : Requests) (n : ℕ) (q : Request) → IsSound w g
     → AreHeld w g r → at w n ≡ Some q → n < length r.accepted
 shown-within w g r n q s h e =
-    let group = s.linked n q e in
+    let group = linked _ _ n q s e in
     let kept = s.kept q.group group.group group.found in
     let a = kept.end in
     let b = group.to in
@@ -50,7 +73,7 @@ pub in-group : (w : Window) (g : Groups) (r : Requests) (n : ℕ) (request : Req
     → IsSound w g → AreHeld w g r → at w n ≡ Some request → group_at g request.group ≡ Some q
     → InGroup r n q
 in-group w g r n request q s h e is =
-    let group = s.linked n request e in
+    let group = linked _ _ n request s e in
     let same : group.group ≡ q = same_Some _ _ (sym group.found ∙ is) in
     record {
       from = let P : Group → Type 0 = λ x. x.from ≤ n in subst P same group.from;
@@ -93,7 +116,7 @@ not-least w g r n request q s h e is ne =
       | inr le ↦
           elim (cases_eq q.least n) [
             | inl same ↦ absurd (ne same)
-            | inr other ↦ some_none request _ (kept.over n i.from (omega arith)) e
+            | inr other ↦ some_none request _ (vacant w n (kept.over n i.from (omega arith))) e
           ]
     ]
     in
@@ -151,10 +174,10 @@ ready-held w g r n request q s h e is least free alone =
     let from = i.from in
     let kept = s.kept request.group q is in
     ready-yes r q.from q.end n i.shown.group i.from i.to
-    (λ m high low. h.ended m (kept.over m high (omega arith)) (omega arith))
+    (λ m high low. h.ended m (vacant w m (kept.over m high (omega arith))) (omega arith))
     (λ m low going.
     let other = open-request w g r m h (omega arith) going in
-    let link = s.linked m other.0 other.1 in
+    let link = linked _ _ m other.0 s other.1 in
     let shown = h.groups other.0.group link.group link.found in
     draining-held w g r m other.0 link.group s h other.1 link.found
     ∙ none-drains link.group.drain

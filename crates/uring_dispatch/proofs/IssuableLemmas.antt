@@ -19,7 +19,7 @@ use Rattle.uring_dispatch.specs.Issuable.{issuables_of, issuable_from}
 use Rattle.uring_dispatch.specs.Limits.{lesser_of, can_go, IsLimit, IsLeastBelow}
 use Rattle.uring_dispatch.proofs.Counting.{count_below-zero, count_below-past, count_below-same, length-all_below, get-all_below}
 use Rattle.uring_dispatch.proofs.WindowFront.{at-past}
-use Rattle.uring_dispatch.proofs.HeldLemmas.{some_none, shown-within, in-group, doomed-held, not-least, not-alone, ready-held, behind-barrier, outstanding-none, issuable-some}
+use Rattle.uring_dispatch.proofs.HeldLemmas.{some_none, shown-within, in-group, doomed-held, not-least, not-alone, ready-held, behind-barrier, outstanding-none, issuable-some, linked}
 
 -- The lesser of two.
 
@@ -102,7 +102,7 @@ can_go-is w g r s limit n sound h l limits = go (at w n) refl
     go : (o : Option Request) → at w n ≡ o → can_go s limit n ≡ is_issuable r n
     go None e = can_go-gone w g s limit n l e ∙ sym (and_left _ _ (and_left _ _ (outstanding-none w g r n h e)))
     go (Some q) e =
-        let link = sound.linked n q e in
+        let link = linked _ _ n q sound e in
         let doomed : holds s.doomed n ≡ (not q.is_running && is_doomed r n) =
         (l.told n).doomed ∙ ap (λ o. waits_doomed g o n) e ∙ ap (λ o. not q.is_running && (dooms o n || q.is_cancelled)) link.found
         ∙ ap (λ b. not q.is_running && b) (sym (doomed-held w g r n q link.group sound h e link.found))

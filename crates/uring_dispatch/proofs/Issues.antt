@@ -66,6 +66,20 @@ issued-ready r n free ready =
     (λ b. if not b then NotReady else if is_cancel (entry_of r n) then Ended (cancel_result r n) else Run (operation_of (entry_of r n)))
     ready
 
+pub issued-not_ready : (r : Requests) (n : ℕ) → is_doomed r n ≡ false → is_ready r n ≡ false
+    → NotReady ≡ issued_waiting r n
+issued-not_ready r n free waits =
+    sym
+    (ap
+    (λ b.
+    if b then Ended (doomed_result r n) else
+    if not (is_ready r n) then NotReady else
+    if is_cancel (entry_of r n) then Ended (cancel_result r n) else Run (operation_of (entry_of r n)))
+    free
+    ∙ ap
+    (λ b. if not b then NotReady else if is_cancel (entry_of r n) then Ended (cancel_result r n) else Run (operation_of (entry_of r n)))
+    waits)
+
 -- the operation of an opcode
 operation_at : ℕ → Sqe → Op
 operation_at o e =
@@ -113,6 +127,17 @@ issued-run r n op free ready does other =
     ]
 
 -- The order of the tests.
+
+pub issued-gone : (r : Requests) (n : ℕ) → is_outstanding r n ≡ false → Unknown ≡ issued r n
+issued-gone r n a =
+    sym (ap (λ x. if not x then Unknown else if is_running r n then Running else issued_waiting r n) a)
+
+pub issued-runs : (r : Requests) (n : ℕ) → is_outstanding r n ≡ true → is_running r n ≡ true
+    → Running ≡ issued r n
+issued-runs r n a b =
+    sym
+    (ap (λ x. if not x then Unknown else if is_running r n then Running else issued_waiting r n) a
+    ∙ ap (λ x. if x then Running else issued_waiting r n) b)
 
 pub issued-else : (r : Requests) (n : ℕ) → is_outstanding r n ≡ true → is_running r n ≡ false
     → issued_waiting r n ≡ issued r n

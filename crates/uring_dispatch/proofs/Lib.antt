@@ -17,5 +17,6 @@ pub mod Choosing
 pub mod Accepts
 pub mod AcceptsHeld
 pub mod AcceptsListed
+pub mod Alike
 pub mod Views
 pub mod Sizes

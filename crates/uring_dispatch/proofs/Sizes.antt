@@ -11,8 +11,7 @@ use Rattle.uring_dispatch.specs.declared.group.Group.{Group}
 use Rattle.uring_dispatch.specs.declared.group.Barrier.{Barrier}
 use Rattle.uring_dispatch.specs.Window.{Window, at, end_of}
 use Rattle.uring_dispatch.specs.Groups.{Groups, IsSorted, IsBeyond}
-use Rattle.uring_dispatch.specs.Held.{IsSound}
-use Rattle.uring_dispatch.specs.Dispatch.{Dispatch, ShowsRequests}
+use Rattle.uring_dispatch.specs.Held.{IsSound, AreHeld}
 
 -- the least members of the groups that are kept
 leasts : List (Option Group) → List ℕ
@@ -116,9 +115,10 @@ count_below-few p (suc n) = one_more (p n) _ (count_below-few p n)
     one_more true k few = omega arith
     one_more false k few = omega arith
 
-pub outstanding-few : (d : Dispatch) (r : Requests) → ShowsRequests d r → d.outstanding ≤ d.accepted
-outstanding-few d r s =
+pub window-few : (w : Window) (g : Groups) (r : Requests) → AreHeld w g r
+    → w.outstanding ≤ end_of w
+window-few w g r h =
     let few = count_below-few (is_outstanding r) (length r.accepted) in
-    let a = s.accepted in
-    let b = s.outstanding in
+    let a = h.count in
+    let b = h.outstanding in
     omega arith

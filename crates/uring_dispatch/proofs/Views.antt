@@ -5,33 +5,22 @@ use Rattle.std.proofs.lemmas.Bool.{false≢true}
 use Rattle.uring_entry.specs.Preparation.{operation_of}
 use Rattle.uring_entry.specs.Requests.{Requests, no_request, entry_of, is_outstanding, is_running, least_of, operation_running, entry_outstanding}
 use Rattle.uring_entry.proofs.BelowLemmas.{least_below-none, least_below-some, is_some_value}
-use Rattle.uring_number_set.specs.NumberSet.{HasSame}
 use Rattle.uring_dispatch.specs.declared.request.Request.{Request}
 use Rattle.uring_dispatch.specs.Window.{Window, at, end_of, IsFirst}
 use Rattle.uring_dispatch.specs.Groups.{Groups, group_at, IsBeyond}
 use Rattle.uring_dispatch.specs.Held.{IsSound, AreHeld}
-use Rattle.uring_dispatch.specs.Dispatch.{Dispatch, dispatch_of, ShowsRequests, StandsFor, IsDispatch, IssueCounts, EndCounts}
+use Rattle.uring_dispatch.specs.Dispatch.{Dispatch, dispatch_of, ShowsRequests, StandsFor, IsSameCount, IssueCounts, EndCounts}
+use Rattle.uring_dispatch.specs.Grouped.{HasSameRecords}
+use Rattle.uring_dispatch.specs.declared.grouped.Grouped.{Grouped}
+use Rattle.uring_number_set.specs.NumberSet.{stop_of}
+use Rattle.uring_dispatch.specs.declared.waiting.Waiting.{Waiting}
+use Rattle.uring_dispatch.specs.Outstanding.{HasRoom, Stays}
+use Rattle.uring_dispatch.specs.declared.outstanding.Outstanding.{Outstanding}
 use Rattle.uring_dispatch.specs.declared.answers.Issued.{Issued}
 use Rattle.uring_dispatch.specs.declared.answers.Issued.TheVariants.{Run, Ended, NotReady, Running, Unknown}
 use Rattle.uring_dispatch.specs.declared.answers.Posts.{Posts}
-use Rattle.uring_dispatch.specs.declared.waiting.Waiting.{Waiting}
-use Rattle.uring_dispatch.proofs.WindowFront.{at-room}
-use Rattle.uring_dispatch.proofs.AcceptsListed.{room-listed, same-listed}
+use Rattle.uring_dispatch.proofs.Alike.{held-alike, alike-room, alike-back}
 use Rattle.uring_dispatch.proofs.HeldLemmas.{some_none, shown-within, outstanding-none, outstanding-some, running-some}
-
--- the room isn't part of what is shown
-roomless : (w : Window) (g : Groups) (r : Requests) (a b : ℕ) → AreHeld w g r
-    → AreHeld (record w { room = a }) (record g { room = b }) r
-roomless w g r a b h = record {
-  count = h.count;
-  outstanding = h.outstanding;
-  running = h.running;
-  ended = λ n e lt. h.ended n (sym (at-room w a n) ∙ e) lt;
-  shown = λ n q e. h.shown n q (sym (at-room w a n) ∙ e);
-  groups = h.groups;
-  last = h.last;
-  untouched = h.untouched;
-}
 
 pub shows-held : (w : Window) (g : Groups) (r : Requests) (room : ℕ) (between : Bool)
     → AreHeld w g r → ShowsRequests (dispatch_of w g room between) r
@@ -40,24 +29,14 @@ shows-held w g r room between h = record {
   accepted = sym h.count;
   outstanding = h.outstanding;
   running = h.running;
-  held = roomless w g r 0 0 h;
+  held = held-alike w (record w { room = 0 }) g (record g { room = 0 }) r (alike-room w g 0 0) h;
 }
 
 held-shows : (w : Window) (g : Groups) (r : Requests) (room : ℕ) (between : Bool)
     → ShowsRequests (dispatch_of w g room between) r → AreHeld w g r
 unfolding StandsFor
 held-shows w g r room between s =
-    let h = s.held in
-    record {
-      count = h.count;
-      outstanding = h.outstanding;
-      running = h.running;
-      ended = λ n e lt. h.ended n (at-room w 0 n ∙ e) lt;
-      shown = λ n q e. h.shown n q (at-room w 0 n ∙ e);
-      groups = h.groups;
-      last = h.last;
-      untouched = h.untouched;
-    }
+    held-alike (record w { room = 0 }) w (record g { room = 0 }) g r (alike-back w g 0 0) s.held
 
 -- what is held, where the value was opened
 pub held-from : (d : Dispatch) (w : Window) (g : Groups) (room : ℕ) (between : Bool) (r : Requests)
@@ -122,6 +101,8 @@ empty-sound w g none end groups beyond = record {
   last = λ key q e found. some_none q _ (groups key) found;
 }
 
+-- Room.
+
 -- an issue and an end accept nothing
 pub unchanged-end-issue : (answer : Issued) (old new : Dispatch) → IssueCounts answer old new
     → new.accepted ≡ old.accepted
@@ -136,6 +117,65 @@ pub unchanged-end : (posted : Option Posts) (old new : Dispatch) → EndCounts p
 unchanged-end (Some posted) old new c = c.accepted
 unchanged-end None old new c = ap (λ (d : Dispatch). d.accepted) c
 
+pub room-stays : (old new : Outstanding) (room : ℕ) → Stays old new
+    → end_of new.grouped.window ≡ end_of old.grouped.window → HasRoom old room → HasRoom new room
+room-stays old new room s end r = record {
+  window = omega (arith, s.window, r.window);
+  groups = omega (arith, s.groups, r.groups);
+  heads = omega (arith, end, s.memory.heads, r.heads);
+  doomed = omega (arith, end, s.memory.doomed, r.doomed);
+}
+
+pub room-fewer : (d : Outstanding) (room fewer : ℕ) → fewer ≤ room → HasRoom d room → HasRoom d fewer
+room-fewer d room fewer le r = record {
+  window = omega (arith, r.window);
+  groups = omega (arith, r.groups);
+  heads = omega (arith, r.heads);
+  doomed = omega (arith, r.doomed);
+}
+
+-- room was asked for, and not refused
+pub reserved-room : {E : Type 0} (d : Outstanding) (x : Result (Unit {0}) E) (w : Window) (s : Waiting) (count : ℕ)
+    → d.grouped.window.room ≡ count → d.grouped.groups.room ≡ count
+    → end_of d.grouped.window ≡ end_of w → end_of w ≤ stop_of s.heads → end_of w ≤ stop_of s.doomed
+    → OnOk x (stop_of s.heads + count ≤ d.waiting.heads.limit)
+    → OnOk x (stop_of s.doomed + count ≤ d.waiting.doomed.limit) → OnOk x (HasRoom d count)
+reserved-room d (Ok u) w s count window groups end a b heads doomed =
+    record { window = omega (arith, window); groups = omega (arith, groups); heads = omega (arith, end, a, heads); doomed = omega (arith, end, b, doomed) }
+reserved-room d (Err u) w s count window groups end a b heads doomed = heads
+
+-- the dispatcher shows no more than before, if only the room of its parts differs
+pub same-view : (d e : Grouped) (room : ℕ) (between : Bool) → HasSameRecords d e
+    → dispatch_of e.window e.groups room between ≡ dispatch_of d.window d.groups room between
+same-view d e room between s =
+    ap (λ (w : Window). dispatch_of w e.groups room between) s.window
+    ∙ ap (λ (g : Groups). dispatch_of d.window g room between) s.groups
+
+pub counts-records : (d e : Grouped) (old : Dispatch) (room more : ℕ) (between : Bool)
+    → dispatch_of d.window d.groups room between ≡ old → HasSameRecords d e → room ≤ more
+    → IsSameCount old (dispatch_of e.window e.groups more between)
+counts-records d e old room more between view s le =
+    let P : Dispatch → Type 0 = λ x. IsSameCount x (dispatch_of e.window e.groups more between) in
+    subst P view
+    (record {
+      accepted = ap (λ (w : Window). end_of w) s.window;
+      outstanding = ap (λ (w : Window). w.outstanding) s.window;
+      running = ap (λ (w : Window). w.running) s.window;
+      room = le;
+    })
+
+pub counts-same : (w v : Window) (g h : Groups) (old : Dispatch) (room : ℕ) (between after : Bool)
+    → dispatch_of w g room between ≡ old → v ≡ w → IsSameCount old (dispatch_of v h room after)
+counts-same w v g h old room between after view same =
+    let P : Dispatch → Type 0 = λ x. IsSameCount x (dispatch_of v h room after) in
+    subst P view
+    (record {
+      accepted = ap (λ (z : Window). end_of z) same;
+      outstanding = ap (λ (z : Window). z.outstanding) same;
+      running = ap (λ (z : Window). z.running) same;
+      room = omega arith;
+    })
+
 pub on-ok : {E : Type 0} (x : Result (Unit {0}) E) (P : Type 0) → is_err x ≡ false → OnOk x P → P
 on-ok (Ok u) P e h = h
 on-ok (Err u) P e h = cc
@@ -144,58 +184,3 @@ pub ok-not_err : {E : Type 0} (x : Result (Unit {0}) E) → IsOk x → is_err x 
 ok-not_err (Ok u) ok e = cc
 ok-not_err (Err u) ok e = absurd (false≢true ok)
 
-pub on-err : {E : Type 0} (x : Result (Unit {0}) E) (P : Type 0) → is_err x ≡ true → OnErr x P → P
-on-err (Ok u) P e h = cc
-on-err (Err u) P e h = h
-
--- What a dispatcher is doesn't depend on what more its parts have room for.
-
-sound-room : (w : Window) (g : Groups) (a : ℕ) → IsSound w g → IsSound (record w { room = a }) g
-sound-room w g a s = record {
-  linked = λ n q e. s.linked n q (sym (at-room w a n) ∙ e);
-  members = λ key q n x found from to e. s.members key q n x found from to (sym (at-room w a n) ∙ e);
-  kept = λ key q found.
-      let k = s.kept key q found in
-      record {
-        from = k.from;
-        to = k.to;
-        end = k.end;
-        over = λ m high low. at-room w a m ∙ k.over m high low;
-        here = ap is_some (at-room w a q.least) ∙ k.here;
-      };
-  beyond = s.beyond;
-  last = s.last;
-}
-
-sound-groups : (w : Window) (g : Groups) (b : ℕ) → IsSound w g → IsSound w (record g { room = b })
-sound-groups w g b s = record {
-  linked = λ n q e. let link = s.linked n q e in record { group = link.group; found = link.found; from = link.from; to = link.to };
-  members = s.members;
-  kept = s.kept;
-  beyond = s.beyond;
-  last = s.last;
-}
-
-pub dispatcher-window : (w : Window) (g : Groups) (s : Waiting) (room : ℕ) (between : Bool) (count : ℕ)
-    → IsDispatch w g s room between → room ≤ count → end_of w + count < 2 ^ 63
-    → IsDispatch (record w { room = count }) g s room between
-dispatcher-window w g s room between count d le fits =
-    record { sound = sound-room w g count d.sound; listed = room-listed w g s count g.room d.listed; heads = d.heads; doomed = d.doomed; window = le; groups = d.groups; closed = d.closed; fits = fits }
-
--- room for who waits was asked for too, and may have been refused
-pub dispatcher-both : (w : Window) (g : Groups) (s t : Waiting) (room : ℕ) (between : Bool) (count more : ℕ)
-    → IsDispatch w g s room between → more ≤ count → end_of w + count < 2 ^ 63
-    → HasSame s.heads t.heads → HasSame s.doomed t.doomed → end_of w + more ≤ t.heads.limit
-    → end_of w + more ≤ t.doomed.limit
-    → IsDispatch (record w { room = count }) (record g { room = count }) t more between
-dispatcher-both w g s t room between count more d le fits x y heads doomed =
-    record {
-      sound = sound-groups (record w { room = count }) g count (sound-room w g count d.sound);
-      listed = same-listed (record w { room = count }) (record g { room = count }) s t (room-listed w g s count count d.listed) x y;
-      heads = heads;
-      doomed = doomed;
-      window = le;
-      groups = le;
-      closed = d.closed;
-      fits = fits;
-    }

@@ -13,13 +13,13 @@ use Rattle.uring_dispatch.specs.Window.{Window, at, end_of, Changes}
 use Rattle.uring_dispatch.specs.Groups.{Groups, group_at}
 use Rattle.uring_dispatch.specs.Held.{IsSound, IsNext}
 use Rattle.uring_dispatch.proofs.WindowFront.{at-past}
-use Rattle.uring_dispatch.proofs.HeldLemmas.{some_none}
+use Rattle.uring_dispatch.proofs.HeldLemmas.{some_none, vacant, linked}
 use Rattle.uring_dispatch.proofs.EndLemmas.{Ends}
 use Rattle.uring_dispatch.specs.Waiting.{leads, dooms, waits_at_head, waits_doomed, IsListedAt, Reaches, IsListed, CanTell, IsSameReach, GrowsTo, Keeps, StandsAsBefore}
 
 -- Telling anew.
 
-same-reach : (s : NumberSet) → IsSameReach s s
+pub same-reach : (s : NumberSet) → IsSameReach s s
 same-reach s = record { start = refl; stop = refl; limit = refl }
 
 reach-both : (s t u : NumberSet) → IsSameReach s t → IsSameReach t u → IsSameReach s u
@@ -173,12 +173,12 @@ stands-ended_last w v g h n request q least k s e next all ne =
     (λ x is.
     e.exchange.others x.group
     (λ here.
-    let link = s.linked k x is in
+    let link = linked _ _ k x s is in
     let one : link.group ≡ q = same_Some _ _ (sym link.found ∙ ap (group_at g) here ∙ e.group) in
     let from : q.from ≤ k = let P : Group → Type 0 = λ z. z.from ≤ k in subst P one link.from in
     let to : k < q.end = let P : Group → Type 0 = λ z. k < z.end in subst P one link.to in
     elim (cases_lt k q.least) [
-      | inl low ↦ some_none x _ (kept.over k from low) is
+      | inl low ↦ some_none x _ (vacant w k (kept.over k from low)) is
       | inr high ↦ some_none x _ (next.over k high (omega arith)) (same ∙ is)
     ]))
 
@@ -205,7 +205,7 @@ stands-ended_more w v g h n request q p least k breaks s e next is_least fault b
           | inl here ↦
               let was = ap (group_at g) here ∙ e.group in
               let now = ap (group_at h) here ∙ e.exchange.here in
-              let link = s.linked k x is in
+              let link = linked _ _ k x s is in
               let one : link.group ≡ q = same_Some _ _ (sym link.found ∙ was) in
               let to : k < q.end = let P : Group → Type 0 = λ z. k < z.end in subst P one link.to in
               let led : q.least ≢ k =
@@ -377,3 +377,11 @@ write-listed w v g s t n q l there c end keeps own =
       heads = reaches-fewer w v s.heads t.heads l.heads end as_many keeps.heads;
       doomed = reaches-fewer w v s.doomed t.doomed l.doomed end as_many keeps.doomed;
     }
+
+-- and the groups stayed as they were
+pub restarted-listed : (w v : Window) (g h : Groups) (s t : Waiting) (n : ℕ) (q : Request)
+    → IsListed w g s → is_some (at w n) ≡ true → Changes w v n (Some q) → end_of v ≡ end_of w → h ≡ g
+    → Keeps v h s t → IsListedAt v h t n → IsListed v h t
+restarted-listed w v g h s t n q l there c end same keeps own =
+    let P : Groups → Type 0 = λ x. IsListed w x s in
+    write-listed w v h s t n q (subst P (sym same) l) there c end keeps own

@@ -21,7 +21,7 @@ use Rattle.uring_dispatch.specs.Window.{Window, at, IsFirst}
 use Rattle.uring_dispatch.specs.Groups.{Groups, group_at, drain_of, IsFirstDraining}
 use Rattle.uring_dispatch.specs.Held.{IsSound, AreHeld}
 use Rattle.uring_dispatch.specs.Waits.{IsFirstHolder}
-use Rattle.uring_dispatch.proofs.HeldLemmas.{shown-within, open-here, in-group, draining-held, least-open, running-some}
+use Rattle.uring_dispatch.proofs.HeldLemmas.{shown-within, open-here, in-group, draining-held, least-open, running-some, vacant, linked}
 
 -- What a request waits for.
 
@@ -30,9 +30,9 @@ pub joined-held : (w : Window) (g : Groups) (r : Requests) (n m : ℕ) (request 
     → IsSound w g → AreHeld w g r → at w n ≡ Some request → at w m ≡ Some other → m < n
     → other.group ≡ request.group → is_joined r m n ≡ true
 joined-held w g r n m request other s h e f low same =
-    let link = s.linked n request e in
+    let link = linked _ _ n request s e in
     let i = in-group w g r n request link.group s h e link.found in
-    let near = s.linked m other f in
+    let near = linked _ _ m other s f in
     let one : Some near.group ≡ Some link.group = sym near.found ∙ ap (group_at g) same ∙ link.found in
     let from : link.group.from ≤ m = from_same near.group link.group one near.from in
     joined-member r link.group.from link.group.end m n i.shown.group i.from i.to (omega arith) ∙ le-leb link.group.from m from
@@ -44,7 +44,7 @@ pub joined-apart : (w : Window) (g : Groups) (r : Requests) (n m : ℕ) (request
     → IsSound w g → AreHeld w g r → at w n ≡ Some request → at w m ≡ Some other → m < n
     → other.group ≢ request.group → is_joined r m n ≡ false
 joined-apart w g r n m request other s h e f low ne =
-    let link = s.linked n request e in
+    let link = linked _ _ n request s e in
     let i = in-group w g r n request link.group s h e link.found in
     let to = i.to in
     joined-member r link.group.from link.group.end m n i.shown.group i.from to (omega arith)
@@ -58,7 +58,7 @@ pub draining-kept : (w : Window) (g : Groups) (r : Requests) (n : ℕ) (request 
     → IsSound w g → AreHeld w g r → at w n ≡ Some request
     → is_draining r n ≡ is_some (drain_of (group_at g request.group))
 draining-kept w g r n request s h e =
-    let link = s.linked n request e in
+    let link = linked _ _ n request s e in
     draining-held w g r n request link.group s h e link.found ∙ ap (λ o. is_some (drain_of o)) (sym link.found)
 
 -- What dooms it.
@@ -139,7 +139,7 @@ early-free w g r n k from end request q s h there found plain group low le free 
     go (Some other) e =
         let i = in-group w g r n request q s h there found in
         let behind = i.from in
-        let link = s.linked k other e in
+        let link = linked _ _ k other s e in
         let shown = h.groups other.group link.group link.found in
         let joined : is_joined r k n ≡ false = joined-member r q.from q.end k n i.shown.group i.from i.to (omega arith) ∙ lt-leb q.from k (omega arith) in
         let own : is_draining r n ≡ false = draining-held w g r n request q s h there found ∙ ap is_some plain in
@@ -184,7 +184,7 @@ first-draining_is w g r n request q b s h there found plain f low =
             | inl before ↦
                 early-free w g r n k b.from b.end request q s h there found plain shown.group before (omega arith)
                 (λ key number d. let le = f.first key number d in omega (arith, member.0))
-            | inr inside ↦ gone-free w g r n k request s h there earlier (kept.over k inside lt)
+            | inr inside ↦ gone-free w g r n k request s h there earlier (vacant w k (kept.over k inside lt))
           ];
       here = λ lt.
           and_from _ _ (ap not (least-open w g r f.key b s h f.here))
@@ -204,7 +204,7 @@ first-own w g r n request q s h there found plain free =
       before = λ k lt earlier.
           elim (cases_lt k q.from) [
             | inl before ↦ early-free w g r n k q.from q.end request q s h there found plain i.shown.group before (omega arith) free
-            | inr inside ↦ gone-free w g r n k request s h there earlier (kept.over k inside lt)
+            | inr inside ↦ gone-free w g r n k request s h there earlier (vacant w k (kept.over k inside lt))
           ];
       here = λ lt.
           let from = kept.from in

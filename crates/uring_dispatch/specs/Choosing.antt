@@ -1,13 +1,11 @@
 -- Glue. What noting whom a cancel chooses leaves.
-use Rattle.uring_dispatch.specs.declared.waiting.Waiting.{Waiting}
-use Rattle.uring_dispatch.specs.Window.{Window, HasSameRequests}
-use Rattle.uring_dispatch.specs.Groups.{Groups}
-use Rattle.uring_dispatch.specs.Held.{IsSound}
-use Rattle.uring_dispatch.specs.Waiting.{IsListed, HasMemory}
+use Rattle.std.specs.Prelude.{◌≡◌}
+use Rattle.uring_dispatch.specs.declared.outstanding.Outstanding.{Outstanding}
+use Rattle.uring_dispatch.specs.Window.{HasSameRequests}
+use Rattle.uring_dispatch.specs.Waiting.{HasMemory}
 
--- the same requests are outstanding and run, and it is told of each anew
-pub record HasChosen (w v : Window) (g : Groups) (s t : Waiting) : Type 0 where
-  pub sound : IsSound v g
-  pub listed : IsListed v g t
-  pub memory : HasMemory s t
-  pub same : HasSameRequests w v
+-- the same requests are outstanding and run, in the same groups
+pub record HasChosen (old new : Outstanding) : Type 0 where
+  pub same : HasSameRequests old.grouped.window new.grouped.window
+  pub groups : new.grouped.groups ≡ old.grouped.groups
+  pub memory : HasMemory old.waiting new.waiting

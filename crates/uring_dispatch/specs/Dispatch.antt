@@ -1,16 +1,16 @@
 -- Glue. The dispatcher as its callers see it.
-use Rattle.std.specs.Prelude.{◌≡◌, ℕ, ◌+◌, ◌<◌, ◌≤◌, ◌^◌, Bool, true, Option, Some, None, length}
+use Rattle.std.specs.Prelude.{◌≡◌, ℕ, ◌+◌, ◌≤◌, Bool, true, Option, Some, None, length}
 use Rattle.uring_entry.specs.Requests.{Requests, outstanding_in, running_in}
 use Rattle.uring_dispatch.specs.Window.{Window, end_of}
 use Rattle.uring_dispatch.specs.Groups.{Groups}
-use Rattle.uring_dispatch.specs.Held.{AreHeld, IsSound}
+use Rattle.uring_dispatch.specs.Held.{AreHeld}
+use Rattle.uring_dispatch.specs.Outstanding.{HasRoom}
 use Rattle.uring_dispatch.specs.declared.answers.Issued.{Issued}
 use Rattle.uring_dispatch.specs.declared.answers.Issued.TheVariants.{Run, Ended}
 use Rattle.uring_dispatch.specs.declared.answers.Finished.{Finished}
 use Rattle.uring_dispatch.specs.declared.answers.Finished.TheVariants as finish
 use Rattle.uring_dispatch.specs.declared.answers.Posts.{Posts}
-use Rattle.uring_dispatch.specs.declared.waiting.Waiting.{Waiting}
-use Rattle.uring_dispatch.specs.Waiting.{IsListed}
+use Rattle.uring_dispatch.specs.declared.outstanding.Outstanding.{Outstanding}
 
 -- what the dispatcher keeps of the requests. Only `ShowsRequests` says what it means
 pub record Held : Type 0 where
@@ -42,16 +42,10 @@ dispatch_of w g room between = record {
   held = record { window = record w { room = 0 }; groups = record g { room = 0 } };
 }
 
--- What is so whatever happened: the parts fit one another and have the room that is told, it is told who waits, and nothing joins a group between calls.
-pub record IsDispatch (w : Window) (g : Groups) (s : Waiting) (room : ℕ) (between : Bool) : Type 0 where
-  pub sound : IsSound w g
-  pub listed : IsListed w g s
-  pub heads : end_of w + room ≤ s.heads.limit
-  pub doomed : end_of w + room ≤ s.doomed.limit
-  pub window : room ≤ w.room
-  pub groups : room ≤ g.room
-  pub closed : between ≡ true → g.last ≡ None
-  pub fits : end_of w + w.room < 2 ^ 63
+-- What is so whatever happened: there is the room that is told, and nothing joins a group between calls.
+pub record IsDispatch (d : Outstanding) (room : ℕ) (between : Bool) : Type 0 where
+  pub memory : HasRoom d room
+  pub closed : between ≡ true → d.grouped.groups.last ≡ None
 
 -- what is kept stands for these requests
 unfoldable pub StandsFor : Held → Requests → Type 0

@@ -1,5 +1,5 @@
 -- Glue. What the dispatcher holds: the outstanding requests and their groups.
-use Rattle.std.specs.Prelude.{◌≡◌, ℕ, ◌+◌, suc, ◌<◌, ◌≤◌, true, false, not, ◌==◌, length, Option, Some, None, is_some, if◌then◌else◌}
+use Rattle.std.specs.Prelude.{◌≡◌, ℕ, ◌+◌, suc, ◌<◌, ◌≤◌, Bool, true, false, not, ◌&&◌, ◌==◌, nat_le, nat_lt, length, Option, Some, None, is_some, if◌then◌else◌}
 use Rattle.std.specs.List.{list_any}
 use Rattle.uring_entry.specs.Layout.{Sqe}
 use Rattle.uring_entry.specs.declared.operation.Op.{Op}
@@ -27,12 +27,17 @@ pub record IsKept (w : Window) (q : Group) : Type 0 where
   pub from : q.from ≤ q.least
   pub to : q.least < q.end
   pub end : q.end ≤ end_of w
-  pub over : (m : ℕ) → q.from ≤ m → m < q.least → at w m ≡ None
+  pub over : (m : ℕ) → q.from ≤ m → m < q.least → is_some (at w m) ≡ false
   pub here : is_some (at w q.least) ≡ true
+
+-- whether this group has the member n
+abbrev pub has_member : Option Group → ℕ → Bool
+has_member None n = false
+has_member (Some q) n = nat_le q.from n && nat_lt n q.end
 
 -- What is so of the requests and the groups together, whatever happened.
 pub record IsSound (w : Window) (g : Groups) : Type 0 where
-  pub linked : (n : ℕ) (q : Request) → at w n ≡ Some q → HasGroup g q.group n
+  pub linked : (n : ℕ) (q : Request) → at w n ≡ Some q → has_member (group_at g q.group) n ≡ true
   pub members : (key : ℕ) (q : Group) (n : ℕ) (request : Request) → group_at g key ≡ Some q
       → q.from ≤ n → n < q.end → at w n ≡ Some request → request.group ≡ key
   pub kept : (key : ℕ) (q : Group) → group_at g key ≡ Some q → IsKept w q

@@ -9,14 +9,10 @@ ghost use Rattle.uring_dispatch.specs.IssueAndFinish.{issued, after_issue, finis
 
 use crate::answers::{Finished, Found, Issued, Posts};
 use crate::errors::ReserveError;
-use crate::groups::Groups;
-use crate::request::Request;
-use crate::waiting::Waiting;
-use crate::window::Window;
-use crate::{events, found, issuable, why};
+use crate::outstanding::Outstanding;
 use std::alloc::Global;
 use std::marker::Model;
-use uring_entry::{Op, Outcome, Sqe, Why, prepare};
+use uring_entry::{Op, Outcome, Sqe, Why};
 use uring_memory::Memory;
 
 /// The requests that were accepted, numbered from 0 in the order of their acceptance, with what was made of them. Which of them wait, are doomed or may start is that of io_uring_enter(2), IOSQE_IO_DRAIN, IOSQE_IO_LINK, IOSQE_IO_HARDLINK and IORING_OP_ASYNC_CANCEL; the numbers, and that a request is issued by its number, are our own rule.
@@ -24,9 +20,7 @@ use uring_memory::Memory;
 /// A submission call gives its entries one by one to `accept` and ends with `end_call`; every other call is made between submission calls.
 #[derive(Drop)]
 pub struct Dispatch {
-    window: Window,
-    groups: Groups,
-    waiting: Waiting,
+    outstanding: Outstanding,
     // How many more requests can be accepted: the memory of all that they need was asked for.
     room: u64,
     // Whether no submission call is open.
@@ -38,9 +32,9 @@ impl Model for Dispatch {
 
     ghost Value = { Dispatch };
 
-    ghost view = { λ d. dispatch_of d.window d.groups d.room d.is_between_calls };
+    ghost view = { λ d. dispatch_of d.outstanding.grouped.window d.outstanding.grouped.groups d.room d.is_between_calls };
 
-    ghost invariant = { λ d. IsDispatch d.window d.groups d.waiting d.room d.is_between_calls };
+    ghost invariant = { λ d. IsDispatch d.outstanding d.room d.is_between_calls };
 }
 
 impl Dispatch {
@@ -55,9 +49,7 @@ impl Dispatch {
         ensures between { result.is_between_calls ≡ true }
     {
         Dispatch {
-            window: Window::new(alloc),
-            groups: Groups::new(alloc),
-            waiting: Waiting::new(alloc),
+            outstanding: Outstanding::new(alloc),
             room: 0,
             is_between_calls: true,
         }
@@ -77,7 +69,7 @@ impl Dispatch {
         ensures between { self.new.is_between_calls ≡ true }
         ensures shows { (r : Requests) → ShowsRequests self.old r → ShowsRequests self.new r }
     {
-        let memory = self.window.allocator();
+        let memory = self.outstanding.grouped.window.allocator();
         self.reserve_in(&memory, count)
     }
 
@@ -101,13 +93,7 @@ impl Dispatch {
         if count <= self.room {
             return Ok(());
         }
-        if self.window.reserve_in(memory, count).is_err() {
-            return Err(ReserveError::NoMemory);
-        }
-        if self.groups.reserve_in(memory, count).is_err() {
-            return Err(ReserveError::NoMemory);
-        }
-        if self.waiting.reserve_in(memory, count).is_err() {
+        if self.outstanding.reserve_in(memory, count).is_err() {
             return Err(ReserveError::NoMemory);
         }
         self.room = count;
@@ -124,18 +110,7 @@ impl Dispatch {
         ensures counts { HasAccepted self.old self.new }
         ensures between { self.new.is_between_calls ≡ false }
     {
-        let op = prepare(&entry).ok();
-        let number = self.window.end();
-        let group = self.groups.accept(number, &entry, op.is_none());
-        self.window.push(Request {
-            entry,
-            op,
-            group,
-            is_cancelled: false,
-            is_running: false,
-        });
-        self.waiting
-            .accept(&self.window, &self.groups, number, group);
+        self.outstanding.accept(entry);
         self.room -= 1;
         self.is_between_calls = false;
     }
@@ -147,7 +122,7 @@ impl Dispatch {
         ensures counts { IsSameCount self.old self.new }
         ensures between { self.new.is_between_calls ≡ true }
     {
-        self.groups.close();
+        self.outstanding.close();
         self.is_between_calls = true;
     }
 
@@ -161,7 +136,7 @@ impl Dispatch {
             → ShowsRequests self.new (after_issue r n result) }
         ensures counts { IssueCounts result self.old self.new }
     {
-        events::issue(&mut self.window, &mut self.groups, &mut self.waiting, n)
+        self.outstanding.issue(n)
     }
 
     /// Ends request `n` with this outcome. Refused with `NotRunning` if it isn't running, and then nothing changes. Our own rule.
@@ -186,13 +161,7 @@ impl Dispatch {
             → ShowsRequests self.new (after_end r n res bytes result) }
         ensures counts { EndCounts result self.old self.new }
     {
-        events::end_running(
-            &mut self.window,
-            &mut self.groups,
-            &mut self.waiting,
-            n,
-            res,
-        )
+        self.outstanding.end_running(n, res)
     }
 
     /// The operation of request `n`: `Some` exactly if it is running.
@@ -200,7 +169,7 @@ impl Dispatch {
         requires { IsTrue self.now.is_between_calls }
         ensures { (r : Requests) → ShowsRequests self.now r → result ≡ operation_running r n }
     {
-        let request = self.window.get(n)?;
+        let request = self.outstanding.grouped.window.get(n)?;
         if request.is_running { request.op } else { None }
     }
 
@@ -209,7 +178,7 @@ impl Dispatch {
         requires { IsTrue self.now.is_between_calls }
         ensures { (r : Requests) → ShowsRequests self.now r → result ≡ entry_outstanding r n }
     {
-        match self.window.get(n) {
+        match self.outstanding.grouped.window.get(n) {
             Some(request) => Some(request.entry),
             None => None,
         }
@@ -228,7 +197,7 @@ impl Dispatch {
         requires { IsTrue self.now.is_between_calls }
         ensures { (r : Requests) → ShowsRequests self.now r → result ≡ issuable_from r n }
     {
-        issuable::next_from(&self.window, &self.groups, &self.waiting, n)
+        self.outstanding.next_from(n)
     }
 
     /// How many requests `issue` doesn't refuse. It looks once at each 64 numbers from the least outstanding one on. Our own rule.
@@ -236,7 +205,7 @@ impl Dispatch {
         requires { IsTrue self.now.is_between_calls }
         ensures { (r : Requests) → ShowsRequests self.now r → result ≡ length (issuables_of r) }
     {
-        issuable::count(&self.window, &self.groups, &self.waiting)
+        self.outstanding.count()
     }
 
     /// Of the requests that `issue` doesn't refuse, in the order of their numbers, the one that comes after `k` others: `Some` exactly if more than `k` can be issued. It looks once at each 64 numbers from the least outstanding one on. Our own rule.
@@ -245,7 +214,7 @@ impl Dispatch {
         ensures { (r : Requests) → ShowsRequests self.now r
             → result ≡ slice_get (issuables_of r) k }
     {
-        issuable::nth(&self.window, &self.groups, &self.waiting, k)
+        self.outstanding.nth(k)
     }
 
     /// The least outstanding request, if there is one.
@@ -253,7 +222,7 @@ impl Dispatch {
         requires { IsTrue self.now.is_between_calls }
         ensures { (r : Requests) → ShowsRequests self.now r → result ≡ least_of r }
     {
-        self.window.least()
+        self.outstanding.grouped.window.least()
     }
 
     /// Why request `n`, any number, stands as it does: what dooms it, or the least request that it waits for, with the first reason in the order of `Doom` or `Since`. Our own rule.
@@ -261,7 +230,7 @@ impl Dispatch {
         requires { IsTrue self.now.is_between_calls }
         ensures { (r : Requests) → ShowsRequests self.now r → result ≡ why_of r n }
     {
-        why::why(&self.window, &self.groups, n)
+        self.outstanding.grouped.why(n)
     }
 
     /// What request `n`, any number, would find if it were carried out now: `Some` exactly if it is an outstanding cancel of one request, without a fault. Our own rule.
@@ -269,7 +238,7 @@ impl Dispatch {
         requires { IsTrue self.now.is_between_calls }
         ensures { (r : Requests) → ShowsRequests self.now r → result ≡ found_by r n }
     {
-        found::would_find(&self.window, &self.groups, n)
+        self.outstanding.grouped.would_find(n)
     }
 
     /// How many requests were accepted: at most `MAX_ACCEPTED`.
@@ -277,7 +246,7 @@ impl Dispatch {
         ensures value { result ≡ self.now.accepted }
         ensures limit { result ≤ 2 ^ 63 - 1 }
     {
-        self.window.end()
+        self.outstanding.grouped.window.end()
     }
 
     /// How many of them haven't ended.
@@ -286,7 +255,7 @@ impl Dispatch {
         ensures value { result ≡ self.now.outstanding }
         ensures shown { (r : Requests) → ShowsRequests self.now r → result ≡ outstanding_in r }
     {
-        self.window.outstanding()
+        self.outstanding.grouped.window.outstanding()
     }
 
     /// How many of them were started and haven't ended.
@@ -295,6 +264,6 @@ impl Dispatch {
         ensures value { result ≡ self.now.running }
         ensures shown { (r : Requests) → ShowsRequests self.now r → result ≡ running_in r }
     {
-        self.window.running()
+        self.outstanding.grouped.window.running()
     }
 }

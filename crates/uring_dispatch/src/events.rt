@@ -8,78 +8,142 @@ ghost use Rattle.uring_entry.specs.Success as success;
 ghost use Rattle.uring_dispatch.specs.IssueAndFinish.{issued, issued_waiting, after_issue, posted_by, after_end};
 ghost use Rattle.uring_dispatch.specs.Dispatch.{dispatch_of, IssueCounts, EndCounts};
 ghost use Rattle.uring_dispatch.specs.Window.{key_at, at, end_of, runs, one_if, Changes};
-ghost use Rattle.uring_dispatch.specs.Held.{AreHeld, IsSound, IsNext, HasLost};
-ghost use Rattle.uring_dispatch.specs.Waiting.{IsListed, HasMemory, HaveLetGo, StandsAsBefore};
+ghost use Rattle.uring_dispatch.specs.Held.{IsNext, HasLost};
+ghost use Rattle.uring_dispatch.specs.Grouped.{Shows, IsGroupOf};
+ghost use Rattle.uring_dispatch.specs.Outstanding.{Stays};
+ghost use Rattle.uring_dispatch.specs.Waiting.{HaveLetGo, StandsAsBefore};
 
 use crate::answers::{Issued, Posts};
-use crate::cancels::cancel;
 use crate::group::{Group, earlier_of};
-use crate::groups::Groups;
+use crate::grouped::Grouped;
+use crate::outstanding::Outstanding;
 use crate::request::Request;
-use crate::standing::{group_of, is_doomed, is_ready};
-use crate::waiting::Waiting;
+use crate::standing::{group_of, is_doomed_in};
 use crate::window::Window;
 use uring_entry::{Op, errno, succeeded};
 
-/// Ends request `n`, lets go what was kept of it, and tells anew who waits.
-pub(crate) fn end(
-    window: &mut Window,
-    groups: &mut Groups,
-    waiting: &mut Waiting,
-    n: u64,
-    is_success: bool,
-)
-    requires sound { IsSound window.old groups.old }
-    requires closed { groups.old.last ≡ None }
-    requires listed { IsListed window.old groups.old waiting.old }
-    requires there { is_some (at window.old n) ≡ true }
-    ensures sound { IsSound window.new groups.new }
-    ensures closed { groups.new.last ≡ None }
-    ensures groups_room { groups.new.room ≡ groups.old.room }
-    ensures listed { IsListed window.new groups.new waiting.new }
-    ensures waiting_room { HasMemory waiting.old waiting.new }
-    ensures far { HaveLetGo waiting.new window.new.first }
-    ensures held { (r : Requests) (res : ℤ) (bytes : List ℕ) → AreHeld window.old groups.old r
-        → is_success ≡ success.is_success (entry_of r n) res
-        → AreHeld window.new groups.new (with_ended r n res bytes) }
-    ensures counts { HasLost window.old window.new (one_if (runs (at window.old n))) }
-{
-    let Some(key) = window.key(n) else {
-        unreachable!()
-    };
-    end_by_key(window, groups, waiting, n, key, is_success);
-}
+impl Outstanding {
+    /// Issues request `n`: it ends if it is doomed or a cancel that may be carried out, starts if it may, and is left as it is otherwise. It is looked up once.
+    pub(crate) fn issue(&mut self, n: u64) -> Issued
+        requires { self.old.grouped.groups.last ≡ None }
+        ensures stays { Stays self.old self.new }
+        ensures answer { (r : Requests) → Shows self.old.grouped r → result ≡ issued r n }
+        ensures shows { (r : Requests) → Shows self.old.grouped r
+            → Shows self.new.grouped (after_issue r n result) }
+        ensures counts { (room : ℕ) (between : Bool)
+            → IssueCounts result (dispatch_of self.old.grouped.window self.old.grouped.groups room between)
+            (dispatch_of self.new.grouped.window self.new.grouped.groups room between) }
+    {
+        let Some(key) = self.grouped.window.key(n) else {
+            return Issued::Unknown;
+        };
+        let request = self.grouped.window.by_key(key);
+        if request.is_running {
+            return Issued::Running;
+        }
+        let request = *request;
+        self.issue_waiting(n, key, request)
+    }
 
-/// Ends request `n`, which has this key, as `end` does.
-fn end_by_key(
-    window: &mut Window,
-    groups: &mut Groups,
-    waiting: &mut Waiting,
-    n: u64,
-    key: usize,
-    is_success: bool,
-)
-    requires sound { IsSound window.old groups.old }
-    requires closed { groups.old.last ≡ None }
-    requires listed { IsListed window.old groups.old waiting.old }
-    requires found { key_at window.old.first window.old.keys n ≡ Some key }
-    requires there { is_some (at window.old n) ≡ true }
-    ensures sound { IsSound window.new groups.new }
-    ensures closed { groups.new.last ≡ None }
-    ensures groups_room { groups.new.room ≡ groups.old.room }
-    ensures listed { IsListed window.new groups.new waiting.new }
-    ensures waiting_room { HasMemory waiting.old waiting.new }
-    ensures far { HaveLetGo waiting.new window.new.first }
-    ensures held { (r : Requests) (res : ℤ) (bytes : List ℕ) → AreHeld window.old groups.old r
-        → is_success ≡ success.is_success (entry_of r n) res
-        → AreHeld window.new groups.new (with_ended r n res bytes) }
-    ensures counts { HasLost window.old window.new (one_if (runs (at window.old n))) }
-{
-    let others = take_out(window, groups, n, key, is_success);
-    waiting.forget(n);
-    waiting.relist_other(window, groups, others.head, n);
-    waiting.relist_range(window, groups, n, others.doomed_end);
-    waiting.drop_before(window.first());
+    /// Issues request `n`, which has this key and was not started. Its group is looked up once.
+    fn issue_waiting(&mut self, n: u64, key: usize, request: Request) -> Issued
+        requires last { self.old.grouped.groups.last ≡ None }
+        requires found { key_at self.old.grouped.window.first self.old.grouped.window.keys n ≡ Some key }
+        requires there { at self.old.grouped.window n ≡ Some request }
+        requires waits { request.is_running ≡ false }
+        ensures stays { Stays self.old self.new }
+        ensures answer { (r : Requests) → Shows self.old.grouped r → result ≡ issued_waiting r n }
+        ensures shows { (r : Requests) → Shows self.old.grouped r
+            → Shows self.new.grouped (after_issue r n result) }
+        ensures counts { (room : ℕ) (between : Bool)
+            → IssueCounts result (dispatch_of self.old.grouped.window self.old.grouped.groups room between)
+            (dispatch_of self.new.grouped.window self.new.grouped.groups room between) }
+    {
+        let group = group_of(&self.grouped.groups, &request);
+        let Some(op) = request.op else {
+            self.end_by_key(n, key, &group, false);
+            return Issued::Ended(-errno::EINVAL);
+        };
+        if is_doomed_in(&request, &group, n) {
+            self.end_by_key(n, key, &group, false);
+            return Issued::Ended(-errno::ECANCELED);
+        }
+        if !self.grouped.is_ready(n, &group) {
+            return Issued::NotReady;
+        }
+        if let Op::Cancel { all, .. } = op {
+            let user_data = request.entry.addr();
+            return Issued::Ended(self.cancel(n, user_data, all));
+        }
+        self.grouped.start(n);
+        self.waiting.relist(&self.grouped, n);
+        Issued::Run(op)
+    }
+
+    /// Ends request `n` with this result if it is running, and leaves it as it is otherwise. It is looked up once, and its success tested once.
+    pub(crate) fn end_running(&mut self, n: u64, res: i32) -> Option<Posts>
+        requires { self.old.grouped.groups.last ≡ None }
+        ensures stays { Stays self.old self.new }
+        ensures answer { (r : Requests) → Shows self.old.grouped r → result ≡ posted_by r n res }
+        ensures shows { (r : Requests) (bytes : List ℕ) → Shows self.old.grouped r
+            → Shows self.new.grouped (after_end r n res bytes result) }
+        ensures counts { (room : ℕ) (between : Bool)
+            → EndCounts result (dispatch_of self.old.grouped.window self.old.grouped.groups room between)
+            (dispatch_of self.new.grouped.window self.new.grouped.groups room between) }
+    {
+        let grouped = &self.grouped;
+        let Some(key) = grouped.window.key(n) else {
+            return None;
+        };
+        let request = grouped.window.by_key(key);
+        if !request.is_running {
+            return None;
+        }
+        let is_success = succeeded(&request.entry, res);
+        let posts = Posts::of(&request.entry, is_success);
+        let group = group_of(&grouped.groups, request);
+        self.end_by_key(n, key, &group, is_success);
+        Some(posts)
+    }
+
+    /// Ends request `n`, which is outstanding.
+    pub(crate) fn end(&mut self, n: u64, is_success: bool)
+        requires there { is_some (at self.old.grouped.window n) ≡ true }
+        requires last { self.old.grouped.groups.last ≡ None }
+        ensures stays { Stays self.old self.new }
+        ensures shows { (r : Requests) (res : ℤ) (bytes : List ℕ) → Shows self.old.grouped r
+            → is_success ≡ success.is_success (entry_of r n) res
+            → Shows self.new.grouped (with_ended r n res bytes) }
+        ensures counts { HasLost self.old.grouped.window self.new.grouped.window
+            (one_if (runs (at self.old.grouped.window n))) }
+    {
+        let Some(key) = self.grouped.window.key(n) else {
+            unreachable!()
+        };
+        let grouped = &self.grouped;
+        let group = group_of(&grouped.groups, grouped.window.by_key(key));
+        self.end_by_key(n, key, &group, is_success);
+    }
+
+    /// Ends request `n`, which has this key and is of this group, lets go what was kept of it, and tells anew who waits.
+    fn end_by_key(&mut self, n: u64, key: usize, group: &Group, is_success: bool)
+        requires found { key_at self.old.grouped.window.first self.old.grouped.window.keys n ≡ Some key }
+        requires group { IsGroupOf self.old.grouped n group.now }
+        requires last { self.old.grouped.groups.last ≡ None }
+        ensures stays { Stays self.old self.new }
+        ensures far { HaveLetGo self.new.waiting self.new.grouped.window.first }
+        ensures shows { (r : Requests) (res : ℤ) (bytes : List ℕ) → Shows self.old.grouped r
+            → is_success ≡ success.is_success (entry_of r n) res
+            → Shows self.new.grouped (with_ended r n res bytes) }
+        ensures counts { HasLost self.old.grouped.window self.new.grouped.window
+            (one_if (runs (at self.old.grouped.window n))) }
+    {
+        let others = self.grouped.take_out(n, key, group, is_success);
+        self.waiting.forget(n);
+        self.waiting.relist_other(&self.grouped, others.head, n);
+        self.waiting.relist_range(&self.grouped, n, others.doomed_end);
+        self.waiting.drop_before(self.grouped.window.first());
+    }
 }
 
 /// Which others stand differently once a request has ended.
@@ -91,53 +155,48 @@ struct Others {
     doomed_end: u64,
 }
 
-/// Ends request `n`, which has this key, and lets go what was kept of it; its group goes with its last member.
-fn take_out(
-    window: &mut Window,
-    groups: &mut Groups,
-    n: u64,
-    key: usize,
-    is_success: bool,
-) -> Others
-    requires sound { IsSound window.old groups.old }
-    requires closed { groups.old.last ≡ None }
-    requires found { key_at window.old.first window.old.keys n ≡ Some key }
-    requires there { is_some (at window.old n) ≡ true }
-    ensures sound { IsSound window.new groups.new }
-    ensures closed { groups.new.last ≡ None }
-    ensures groups_room { groups.new.room ≡ groups.old.room }
-    ensures held { (r : Requests) (res : ℤ) (bytes : List ℕ) → AreHeld window.old groups.old r
-        → is_success ≡ success.is_success (entry_of r n) res
-        → AreHeld window.new groups.new (with_ended r n res bytes) }
-    ensures counts { HasLost window.old window.new (one_if (runs (at window.old n))) }
-    ensures gone { Changes window.old window.new n None }
-    ensures head { is_some (at window.old result.head) ≡ true }
-    ensures doomed { result.doomed_end ≤ end_of window.old }
-    ensures others { (k : ℕ) → k ≢ n → k ≢ result.head → (k < n) ⊎ (result.doomed_end ≤ k)
-        → StandsAsBefore window.old window.new groups.old groups.new k }
-{
-    let request = window.end_one(n, key);
-    let group = group_of(groups, &request);
-    let least = least_left(window, &group, n);
-    if least == group.end {
-        groups.remove(request.group);
-        return Others {
-            head: n,
-            doomed_end: n,
+impl Grouped {
+    /// Ends request `n`, which has this key and is of this group, and lets go what was kept of it; its group goes with its last member.
+    fn take_out(&mut self, n: u64, key: usize, group: &Group, is_success: bool) -> Others
+        requires found { key_at self.old.window.first self.old.window.keys n ≡ Some key }
+        requires group { IsGroupOf self.old n group.now }
+        requires last { self.old.groups.last ≡ None }
+        ensures there { is_some (at self.old.window n) ≡ true }
+        ensures last { self.new.groups.last ≡ None }
+        ensures room { self.new.groups.room ≡ self.old.groups.room }
+        ensures shows { (r : Requests) (res : ℤ) (bytes : List ℕ) → Shows self.old r
+            → is_success ≡ success.is_success (entry_of r n) res
+            → Shows self.new (with_ended r n res bytes) }
+        ensures counts { HasLost self.old.window self.new.window
+            (one_if (runs (at self.old.window n))) }
+        ensures gone { Changes self.old.window self.new.window n None }
+        ensures head { is_some (at self.old.window result.head) ≡ true }
+        ensures doomed { result.doomed_end ≤ end_of self.old.window }
+        ensures others { (k : ℕ) → k ≢ n → k ≢ result.head → (k < n) ⊎ (result.doomed_end ≤ k)
+            → StandsAsBefore self.old.window self.new.window self.old.groups self.new.groups k }
+    {
+        let request = self.window.end_one(n, key);
+        let least = least_left(&self.window, group, n);
+        if least == group.end {
+            self.groups.remove(request.group);
+            return Others {
+                head: n,
+                doomed_end: n,
+            };
+        }
+        let is_break = breaks(&request, is_success);
+        let doomed_end = behind_failure(group, is_break, n);
+        let broken = earlier_of(group.broken, is_break, n);
+        let left = Group {
+            least,
+            broken,
+            ..*group
         };
-    }
-    let is_break = breaks(&request, is_success);
-    let doomed_end = behind_failure(&group, is_break, n);
-    let broken = earlier_of(group.broken, is_break, n);
-    let group = Group {
-        least,
-        broken,
-        ..group
-    };
-    groups.update(request.group, group);
-    Others {
-        head: least,
-        doomed_end,
+        self.groups.update(request.group, left);
+        Others {
+            head: least,
+            doomed_end,
+        }
     }
 }
 
@@ -189,121 +248,4 @@ fn breaks(request: &Request, is_success: bool) -> bool
     ensures { result ≡ (spec.is_soft request.now.entry && not is_success) }
 {
     request.entry.is_soft() && !is_success
-}
-
-/// Issues request `n`: it ends if it is doomed or a cancel that may be carried out, starts if it may, and is left as it is otherwise.
-pub(crate) fn issue(
-    window: &mut Window,
-    groups: &mut Groups,
-    waiting: &mut Waiting,
-    n: u64,
-) -> Issued
-    requires sound { IsSound window.old groups.old }
-    requires closed { groups.old.last ≡ None }
-    requires listed { IsListed window.old groups.old waiting.old }
-    ensures sound { IsSound window.new groups.new }
-    ensures closed { groups.new.last ≡ None }
-    ensures groups_room { groups.new.room ≡ groups.old.room }
-    ensures listed { IsListed window.new groups.new waiting.new }
-    ensures waiting_room { HasMemory waiting.old waiting.new }
-    ensures answer { (r : Requests) → AreHeld window.old groups.old r → result ≡ issued r n }
-    ensures held { (r : Requests) → AreHeld window.old groups.old r
-        → AreHeld window.new groups.new (after_issue r n result) }
-    ensures counts { (room : ℕ) (between : Bool)
-        → IssueCounts result (dispatch_of window.old groups.old room between)
-        (dispatch_of window.new groups.new room between) }
-    ensures room { window.new.room ≡ window.old.room }
-{
-    let Some(request) = window.get(n) else {
-        return Issued::Unknown;
-    };
-    if request.is_running {
-        return Issued::Running;
-    }
-    let request = *request;
-    issue_waiting(window, groups, waiting, n, request)
-}
-
-/// Issues request `n`, which was not started.
-fn issue_waiting(
-    window: &mut Window,
-    groups: &mut Groups,
-    waiting: &mut Waiting,
-    n: u64,
-    request: Request,
-) -> Issued
-    requires sound { IsSound window.old groups.old }
-    requires closed { groups.old.last ≡ None }
-    requires listed { IsListed window.old groups.old waiting.old }
-    requires there { at window.old n ≡ Some request }
-    requires waits { request.is_running ≡ false }
-    ensures sound { IsSound window.new groups.new }
-    ensures closed { groups.new.last ≡ None }
-    ensures groups_room { groups.new.room ≡ groups.old.room }
-    ensures listed { IsListed window.new groups.new waiting.new }
-    ensures waiting_room { HasMemory waiting.old waiting.new }
-    ensures answer { (r : Requests) → AreHeld window.old groups.old r
-        → result ≡ issued_waiting r n }
-    ensures held { (r : Requests) → AreHeld window.old groups.old r
-        → AreHeld window.new groups.new (after_issue r n result) }
-    ensures counts { (room : ℕ) (between : Bool)
-        → IssueCounts result (dispatch_of window.old groups.old room between)
-        (dispatch_of window.new groups.new room between) }
-    ensures room { window.new.room ≡ window.old.room }
-{
-    let Some(op) = request.op else {
-        end(window, groups, waiting, n, false);
-        return Issued::Ended(-errno::EINVAL);
-    };
-    if is_doomed(window, groups, n, &request) {
-        end(window, groups, waiting, n, false);
-        return Issued::Ended(-errno::ECANCELED);
-    }
-    if !is_ready(window, groups, n, &request) {
-        return Issued::NotReady;
-    }
-    if let Op::Cancel { all, .. } = op {
-        let user_data = request.entry.addr();
-        return Issued::Ended(cancel(window, groups, waiting, n, user_data, all));
-    }
-    window.start(n);
-    waiting.relist(window, groups, n);
-    Issued::Run(op)
-}
-
-/// Ends request `n` with this result if it is running, and leaves it as it is otherwise. It is looked up once, and its success tested once.
-pub(crate) fn end_running(
-    window: &mut Window,
-    groups: &mut Groups,
-    waiting: &mut Waiting,
-    n: u64,
-    res: i32,
-) -> Option<Posts>
-    requires sound { IsSound window.old groups.old }
-    requires closed { groups.old.last ≡ None }
-    requires listed { IsListed window.old groups.old waiting.old }
-    ensures sound { IsSound window.new groups.new }
-    ensures closed { groups.new.last ≡ None }
-    ensures groups_room { groups.new.room ≡ groups.old.room }
-    ensures listed { IsListed window.new groups.new waiting.new }
-    ensures waiting_room { HasMemory waiting.old waiting.new }
-    ensures answer { (r : Requests) → AreHeld window.old groups.old r → result ≡ posted_by r n res }
-    ensures held { (r : Requests) (bytes : List ℕ) → AreHeld window.old groups.old r
-        → AreHeld window.new groups.new (after_end r n res bytes result) }
-    ensures counts { (room : ℕ) (between : Bool)
-        → EndCounts result (dispatch_of window.old groups.old room between)
-        (dispatch_of window.new groups.new room between) }
-    ensures room { window.new.room ≡ window.old.room }
-{
-    let Some(key) = window.key(n) else {
-        return None;
-    };
-    let request = window.by_key(key);
-    if !request.is_running {
-        return None;
-    }
-    let is_success = succeeded(&request.entry, res);
-    let posts = Posts::of(&request.entry, is_success);
-    end_by_key(window, groups, waiting, n, key, is_success);
-    Some(posts)
 }

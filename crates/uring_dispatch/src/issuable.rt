@@ -5,76 +5,72 @@ ghost use Rattle.std.specs.Int.{bit_at};
 ghost use Rattle.uring_entry.specs.Below.{count_below};
 ghost use Rattle.uring_entry.specs.Requests.{Requests};
 ghost use Rattle.uring_number_set.specs.NumberSet.{holds};
-ghost use Rattle.uring_dispatch.specs.Held.{AreHeld, IsSound};
-ghost use Rattle.uring_dispatch.specs.Waiting.{IsListed};
+ghost use Rattle.uring_dispatch.specs.Grouped.{Shows};
 ghost use Rattle.uring_dispatch.specs.Issuable.{issuables_of, issuable_from};
 ghost use Rattle.uring_dispatch.specs.Limits.{lesser_of, can_go, IsLimit, IsLeastBelow};
 
-use crate::groups::Groups;
+use crate::grouped::Grouped;
+use crate::outstanding::Outstanding;
 use crate::waiting::Waiting;
-use crate::window::Window;
 use uring_number_set::NumberSet;
 
-/// The least request from `n` on, any number, that can be issued.
-pub(crate) fn next_from(window: &Window, groups: &Groups, waiting: &Waiting, n: u64) -> Option<u64>
-    requires sound { IsSound window.now groups.now }
-    requires listed { IsListed window.now groups.now waiting.now }
-    ensures { (r : Requests) → AreHeld window.now groups.now r → result ≡ issuable_from r n }
-{
-    let limit = limit(window, groups);
-    let doomed = waiting.doomed.least_from(n);
-    let ready = least_below(&waiting.heads, n, limit);
-    lesser_of(doomed, ready)
-}
-
-/// How many requests can be issued.
-pub(crate) fn count(window: &Window, groups: &Groups, waiting: &Waiting) -> u64
-    requires sound { IsSound window.now groups.now }
-    requires listed { IsListed window.now groups.now waiting.now }
-    ensures { (r : Requests) → AreHeld window.now groups.now r
-        → result ≡ length (issuables_of r) }
-{
-    let limit = limit(window, groups);
-    let mut total = 0;
-    for place in window.first() / 64..window.end() / 64 + 1 {
-        total += u64::from(block(waiting, limit, place).count_ones());
+impl Outstanding {
+    /// The least request from `n` on, any number, that can be issued.
+    pub(crate) fn next_from(&self, n: u64) -> Option<u64>
+        ensures { (r : Requests) → Shows self.now.grouped r → result ≡ issuable_from r n }
+    {
+        let limit = self.grouped.limit();
+        let doomed = self.waiting.doomed.least_from(n);
+        let ready = least_below(&self.waiting.heads, n, limit);
+        lesser_of(doomed, ready)
     }
-    total
-}
 
-/// The request that `k` lesser ones can be issued beside, from 0 on.
-pub(crate) fn nth(window: &Window, groups: &Groups, waiting: &Waiting, k: u64) -> Option<u64>
-    requires sound { IsSound window.now groups.now }
-    requires listed { IsListed window.now groups.now waiting.now }
-    ensures { (r : Requests) → AreHeld window.now groups.now r
-        → result ≡ slice_get (issuables_of r) k }
-{
-    let limit = limit(window, groups);
-    let mut left = k;
-    for place in window.first() / 64..window.end() / 64 + 1 {
-        let block = block(waiting, limit, place);
-        let count = u64::from(block.count_ones());
-        if left < count {
-            return Some(64 * place + nth_bit(block, left));
+    /// How many requests can be issued.
+    pub(crate) fn count(&self) -> u64
+        ensures { (r : Requests) → Shows self.now.grouped r
+            → result ≡ length (issuables_of r) }
+    {
+        let limit = self.grouped.limit();
+        let mut total = 0;
+        for place in self.grouped.window.first() / 64..self.grouped.window.end() / 64 + 1 {
+            total += u64::from(block(&self.waiting, limit, place).count_ones());
         }
-        left -= count;
+        total
     }
-    None
+
+    /// The request that `k` lesser ones can be issued beside, from 0 on.
+    pub(crate) fn nth(&self, k: u64) -> Option<u64>
+        ensures { (r : Requests) → Shows self.now.grouped r
+            → result ≡ slice_get (issuables_of r) k }
+    {
+        let limit = self.grouped.limit();
+        let mut left = k;
+        for place in self.grouped.window.first() / 64..self.grouped.window.end() / 64 + 1 {
+            let block = block(&self.waiting, limit, place);
+            let count = u64::from(block.count_ones());
+            if left < count {
+                return Some(64 * place + nth_bit(block, left));
+            }
+            left -= count;
+        }
+        None
+    }
 }
 
-/// The number below which the heads of groups are ready: the first group that drains begins there, or ends there if nothing before it is outstanding.
-fn limit(window: &Window, groups: &Groups) -> u64
-    requires { IsSound window.now groups.now }
-    ensures { (r : Requests) → AreHeld window.now groups.now r
-        → IsLimit window.now groups.now r result }
-{
-    let Some(group) = groups.first_draining() else {
-        return window.end();
-    };
-    if window.has_before(group.from) {
-        group.from
-    } else {
-        group.end
+impl Grouped {
+    /// The number below which the heads of groups are ready: the first group that drains begins there, or ends there if nothing before it is outstanding.
+    pub(crate) fn limit(&self) -> u64
+        ensures { (r : Requests) → Shows self.now r
+            → IsLimit self.now.window self.now.groups r result }
+    {
+        let Some(group) = self.groups.first_draining() else {
+            return self.window.end();
+        };
+        if self.window.has_before(group.from) {
+            group.from
+        } else {
+            group.end
+        }
     }
 }
 

@@ -7,8 +7,8 @@ ghost use Rattle.uring_dispatch.specs.Groups.{group_at};
 ghost use Rattle.uring_dispatch.specs.Waiting.{waits_at_head, waits_doomed, dooms, IsListedAt, CanTell, Keeps, CanGrow, GrowsTo, Starts, IsFirstTold};
 
 use crate::group::{Group, is_before};
+use crate::grouped::Grouped;
 use crate::groups::Groups;
-use crate::window::Window;
 use std::alloc::{AllocError, Global};
 use uring_memory::Memory;
 use uring_number_set::NumberSet;
@@ -59,32 +59,32 @@ impl Waiting {
     }
 
     /// Tells of the new request `n` and, if its fault is the first of its group, which has this key, of all members anew.
-    pub(crate) fn accept(&mut self, window: &Window, groups: &Groups, n: u64, key: usize)
+    pub(crate) fn accept(&mut self, grouped: &Grouped, n: u64, key: usize)
         requires heads { CanGrow self.old.heads n }
         requires doomed { CanGrow self.old.doomed n }
         requires fits { n < 2 ^ 63 }
-        requires low { (p : Group) → group_at groups.now key ≡ Some p → Starts self.old p.least }
-        ensures own { IsListedAt window.now groups.now self.new n }
-        ensures members { (p : Group) → group_at groups.now key ≡ Some p → p.fault ≡ Some n
-            → (k : ℕ) → p.least ≤ k → k < n → IsListedAt window.now groups.now self.new k }
-        ensures told { (k : ℕ) → IsListedAt window.now groups.now self.old k
-            → IsListedAt window.now groups.now self.new k }
+        requires low { (p : Group) → group_at grouped.now.groups key ≡ Some p → Starts self.old p.least }
+        ensures own { IsListedAt grouped.now.window grouped.now.groups self.new n }
+        ensures members { (p : Group) → group_at grouped.now.groups key ≡ Some p → p.fault ≡ Some n
+            → (k : ℕ) → p.least ≤ k → k < n → IsListedAt grouped.now.window grouped.now.groups self.new k }
+        ensures told { (k : ℕ) → IsListedAt grouped.now.window grouped.now.groups self.old k
+            → IsListedAt grouped.now.window grouped.now.groups self.new k }
         ensures heads_reach { GrowsTo self.old.heads self.new.heads n }
         ensures doomed_reach { GrowsTo self.old.doomed self.new.doomed n }
     {
         self.heads.extend(n);
         self.doomed.extend(n);
-        let from = first_told(groups, n, key);
-        self.relist_range(window, groups, from, n + 1);
+        let from = first_told(&grouped.groups, n, key);
+        self.relist_range(grouped, from, n + 1);
     }
 
     /// Tells anew of request `n` whether it waits at the head of its group, and whether it is doomed.
-    pub(crate) fn relist(&mut self, window: &Window, groups: &Groups, n: u64)
+    pub(crate) fn relist(&mut self, grouped: &Grouped, n: u64)
         requires { CanTell self.old n }
-        ensures here { IsListedAt window.now groups.now self.new n }
-        ensures keeps { Keeps window.now groups.now self.old self.new }
+        ensures here { IsListedAt grouped.now.window grouped.now.groups self.new n }
+        ensures keeps { Keeps grouped.now.window grouped.now.groups self.old self.new }
     {
-        let standing = standing_of(window, groups, n);
+        let standing = standing_of(grouped, n);
         self.heads.put(n, standing.is_head);
         self.doomed.put(n, standing.is_doomed);
     }
@@ -100,26 +100,26 @@ impl Waiting {
     }
 
     /// Tells anew of request `m`, unless it is `n`, of which it was told.
-    pub(crate) fn relist_other(&mut self, window: &Window, groups: &Groups, m: u64, n: u64)
+    pub(crate) fn relist_other(&mut self, grouped: &Grouped, m: u64, n: u64)
         requires { CanTell self.old m }
-        ensures here { IsListedAt window.now groups.now self.old n
-            → IsListedAt window.now groups.now self.new m }
-        ensures keeps { Keeps window.now groups.now self.old self.new }
+        ensures here { IsListedAt grouped.now.window grouped.now.groups self.old n
+            → IsListedAt grouped.now.window grouped.now.groups self.new m }
+        ensures keeps { Keeps grouped.now.window grouped.now.groups self.old self.new }
     {
         if m == n {
             return;
         }
-        self.relist(window, groups, m);
+        self.relist(grouped, m);
     }
 
     /// Tells anew of the requests from one number on and below another.
-    pub(crate) fn relist_range(&mut self, window: &Window, groups: &Groups, from: u64, to: u64)
+    pub(crate) fn relist_range(&mut self, grouped: &Grouped, from: u64, to: u64)
         requires { (n : ℕ) → from ≤ n → n < to → CanTell self.old n }
-        ensures here { (n : ℕ) → from ≤ n → n < to → IsListedAt window.now groups.now self.new n }
-        ensures keeps { Keeps window.now groups.now self.old self.new }
+        ensures here { (n : ℕ) → from ≤ n → n < to → IsListedAt grouped.now.window grouped.now.groups self.new n }
+        ensures keeps { Keeps grouped.now.window grouped.now.groups self.old self.new }
     {
         for n in from..to {
-            self.relist(window, groups, n);
+            self.relist(grouped, n);
         }
     }
 
@@ -147,11 +147,11 @@ fn first_told(groups: &Groups, n: u64, key: usize) -> u64
 }
 
 /// How request `n` stands.
-fn standing_of(window: &Window, groups: &Groups, n: u64) -> Standing
-    ensures head { result.is_head ≡ waits_at_head groups.now (at window.now n) n }
-    ensures doomed { result.is_doomed ≡ waits_doomed groups.now (at window.now n) n }
+fn standing_of(grouped: &Grouped, n: u64) -> Standing
+    ensures head { result.is_head ≡ waits_at_head grouped.now.groups (at grouped.now.window n) n }
+    ensures doomed { result.is_doomed ≡ waits_doomed grouped.now.groups (at grouped.now.window n) n }
 {
-    let Some(request) = window.get(n) else {
+    let Some(request) = grouped.window.get(n) else {
         return Standing {
             is_head: false,
             is_doomed: false,
@@ -163,7 +163,7 @@ fn standing_of(window: &Window, groups: &Groups, n: u64) -> Standing
             is_doomed: false,
         };
     }
-    let Some(group) = groups.get(request.group) else {
+    let Some(group) = grouped.groups.get(request.group) else {
         return Standing {
             is_head: false,
             is_doomed: request.is_cancelled,

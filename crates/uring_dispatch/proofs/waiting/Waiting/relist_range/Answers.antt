@@ -17,7 +17,7 @@ loop-n-preserved c = record {
         | inl low ↦ c.relist.ensures.keeps.told k (c.loop-n.invariant.here k from low)
         | inr high ↦
             let same : c.loop-n.n ≡ k = omega arith in
-            let P : ℕ → Type 0 = λ j. IsListedAt c.args.window.now c.args.groups.now c.relist.new.self j in
+            let P : ℕ → Type 0 = λ j. IsListedAt c.args.grouped.now.window c.args.grouped.now.groups c.relist.new.self j in
             subst P same c.relist.ensures.here
       ];
   keeps = keeps-both _ _ _ _ _ c.loop-n.invariant.keeps c.relist.ensures.keeps;

@@ -5,6 +5,6 @@ use Rattle.uring_dispatch.proofs.waiting.Waiting.relist_range.Given as goal
 abbrev pub invariant-loop-n : goal.invariant-loop-n
 invariant-loop-n l =
     record {
-      here : (k : ℕ) → l.from ≤ k → k < l.n → IsListedAt l.window l.groups l.self k;
-      keeps : Keeps l.window l.groups l.initial.self l.self;
+      here : (k : ℕ) → l.from ≤ k → k < l.n → IsListedAt l.grouped.window l.grouped.groups l.self k;
+      keeps : Keeps l.grouped.window l.grouped.groups l.initial.self l.self;
     }

@@ -1,0 +1,111 @@
+-- The window and the groups where only how much more there is memory for differs, or nothing of what they say.
+use Rattle.std.proofs.Common.{◌≡◌, ℕ, ◌≤◌, List, Result, Ok, Err, true, not, Option, Some, None, is_some, refl, sym, ◌∙◌, ap, subst, arith}
+use Rattle.std.specs.Prelude.{OnOk, OnErr}
+use Rattle.uring_entry.specs.Requests.{Requests}
+use Rattle.uring_dispatch.specs.declared.group.Barrier.{Barrier}
+use Rattle.uring_dispatch.specs.declared.grouped.Grouped.{Grouped}
+use Rattle.uring_dispatch.specs.declared.waiting.Waiting.{Waiting}
+use Rattle.uring_dispatch.specs.Window.{Window, at, end_of}
+use Rattle.uring_dispatch.specs.Groups.{Groups, group_at, IsBeyond}
+use Rattle.uring_dispatch.specs.Held.{has_member, IsSound, AreHeld}
+use Rattle.uring_dispatch.specs.Waiting.{IsListed}
+use Rattle.uring_dispatch.specs.Grouped.{HasSameRecords}
+use Rattle.uring_dispatch.proofs.WindowFront.{at-room}
+use Rattle.uring_dispatch.proofs.WaitingLemmas.{told-before, stands-apart, reaches-fewer, same-reach}
+
+-- each number has its request, and each key its group
+pub record IsAlike (w v : Window) (g h : Groups) : Type 0 where
+  pub rows : (n : ℕ) → at v n ≡ at w n
+  pub end : end_of v ≡ end_of w
+  pub outstanding : v.outstanding ≡ w.outstanding
+  pub running : v.running ≡ w.running
+  pub groups : (key : ℕ) → group_at h key ≡ group_at g key
+  pub barriers : h.barriers ≡ g.barriers
+  pub last : h.last ≡ g.last
+
+pub alike-room : (w : Window) (g : Groups) (a b : ℕ)
+    → IsAlike w (record w { room = a }) g (record g { room = b })
+alike-room w g a b =
+    record { rows = λ n. at-room w a n; end = refl; outstanding = refl; running = refl; groups = λ key. refl; barriers = refl; last = refl }
+
+pub alike-back : (w : Window) (g : Groups) (a b : ℕ)
+    → IsAlike (record w { room = a }) w (record g { room = b }) g
+alike-back w g a b =
+    record { rows = λ n. sym (at-room w a n); end = refl; outstanding = refl; running = refl; groups = λ key. refl; barriers = refl; last = refl }
+
+pub alike-from : (w v : Window) (g h : Groups) → record v { room = 0 } ≡ record w { room = 0 }
+    → record h { room = 0 } ≡ record g { room = 0 } → IsAlike w v g h
+alike-from w v g h a b = record {
+  rows = λ n. sym (at-room v 0 n) ∙ ap (λ (z : Window). at z n) a ∙ at-room w 0 n;
+  end = ap (λ (z : Window). end_of z) a;
+  outstanding = ap (λ (z : Window). z.outstanding) a;
+  running = ap (λ (z : Window). z.running) a;
+  groups = λ key. ap (λ (z : Groups). group_at z key) b;
+  barriers = ap (λ (z : Groups). z.barriers) b;
+  last = ap (λ (z : Groups). z.last) b;
+}
+
+pub alike-records : (d e : Grouped) → HasSameRecords d e
+    → IsAlike d.window e.window d.groups e.groups
+alike-records d e s = alike-from d.window e.window d.groups e.groups s.window s.groups
+
+pub sound-alike : (w v : Window) (g h : Groups) → IsAlike w v g h → IsSound w g → IsSound v h
+sound-alike w v g h a s =
+    let P : ℕ → Type 0 = λ n. IsBeyond g.barriers n in
+    let Q : List Barrier → Type 0 = λ xs. IsBeyond xs (end_of v) in
+    record {
+      linked = λ n q e. ap (λ o. has_member o n) (a.groups q.group) ∙ s.linked n q (sym (a.rows n) ∙ e);
+      members = λ key q n x found from to e. s.members key q n x (sym (a.groups key) ∙ found) from to (sym (a.rows n) ∙ e);
+      kept = λ key q found.
+          let k = s.kept key q (sym (a.groups key) ∙ found) in
+          record {
+            from = k.from;
+            to = k.to;
+            end = omega (arith, k.end, a.end);
+            over = λ m high low. ap is_some (a.rows m) ∙ k.over m high low;
+            here = ap is_some (a.rows q.least) ∙ k.here;
+          };
+      beyond = subst Q (sym a.barriers) (subst P (sym a.end) s.beyond);
+      last = λ key q e found. s.last key q (sym a.last ∙ e) (sym (a.groups key) ∙ found) ∙ sym a.end;
+    }
+
+pub held-alike : (w v : Window) (g h : Groups) (r : Requests) → IsAlike w v g h → AreHeld w g r
+    → AreHeld v h r
+held-alike w v g h r a held = record {
+  count = held.count ∙ sym a.end;
+  outstanding = a.outstanding ∙ held.outstanding;
+  running = a.running ∙ held.running;
+  ended = λ n e lt. held.ended n (sym (a.rows n) ∙ e) lt;
+  shown = λ n q e. held.shown n q (sym (a.rows n) ∙ e);
+  groups = λ key q e. held.groups key q (sym (a.groups key) ∙ e);
+  last = λ k e. held.last k e ∙ ap (λ o. not (is_some o)) (sym a.last);
+  untouched = held.untouched;
+}
+
+pub listed-alike : (w v : Window) (g h : Groups) (s : Waiting) → IsAlike w v g h → IsListed w g s
+    → IsListed v h s
+listed-alike w v g h s a l =
+    let fewer : (k : ℕ) → is_some (at v k) ≡ true → is_some (at w k) ≡ true = λ k some. ap is_some (sym (a.rows k)) ∙ some in
+    record {
+      told = λ n. told-before w v g h s n (l.told n) (stands-apart w v g h n (a.rows n) (λ x e. a.groups x.group));
+      heads = reaches-fewer w v s.heads s.heads l.heads a.end fewer (same-reach s.heads);
+      doomed = reaches-fewer w v s.doomed s.doomed l.doomed a.end fewer (same-reach s.doomed);
+    }
+
+-- what asking for memory leaves, whatever it answers
+
+pub reserved-window : {E : Type 0} (x : Result (Unit {0}) E) (w v : Window) (count : ℕ)
+    → OnOk x (v ≡ record w { room = count }) → OnErr x (v ≡ w)
+    → (record v { room = 0 } ≡ record w { room = 0 }) × ((k : ℕ) → k ≤ count → k ≤ w.room → k ≤ v.room)
+reserved-window (Ok u) w v count ok err =
+    (ap (λ (z : Window). record z { room = 0 }) ok, λ k a b. let same : v.room ≡ count = ap (λ (z : Window). z.room) ok in omega arith)
+reserved-window (Err u) w v count ok err =
+    (ap (λ (z : Window). record z { room = 0 }) err, λ k a b. let same : v.room ≡ w.room = ap (λ (z : Window). z.room) err in omega arith)
+
+pub reserved-groups : {E : Type 0} (x : Result (Unit {0}) E) (g h : Groups) (count : ℕ)
+    → OnOk x (h ≡ record g { room = count }) → OnErr x (h ≡ g)
+    → (record h { room = 0 } ≡ record g { room = 0 }) × ((k : ℕ) → k ≤ count → k ≤ g.room → k ≤ h.room)
+reserved-groups (Ok u) g h count ok err =
+    (ap (λ (z : Groups). record z { room = 0 }) ok, λ k a b. let same : h.room ≡ count = ap (λ (z : Groups). z.room) ok in omega arith)
+reserved-groups (Err u) g h count ok err =
+    (ap (λ (z : Groups). record z { room = 0 }) err, λ k a b. let same : h.room ≡ g.room = ap (λ (z : Groups). z.room) err in omega arith)

@@ -1,0 +1,60 @@
+use Rattle.std.proofs.Common.{◌∙◌, arith, ap, refl}
+use Rattle.std.proofs.lemmas.Bool.{false≢true}
+use Rattle.std.proofs.lemmas.Result.{on_ok_weaker}
+use Rattle.uring_dispatch.specs.Window.{Window, end_of}
+use Rattle.uring_dispatch.specs.Groups.{Groups}
+use Rattle.uring_dispatch.proofs.Alike.{sound-alike, alike-from, reserved-window, reserved-groups}
+use Rattle.uring_dispatch.proofs.Sizes.{window-few, groups-few}
+use Rattle.uring_dispatch.proofs.grouped.Grouped.reserve_in.Goals as goal
+
+pub invariant_of-self : goal.invariant_of-self
+invariant_of-self g c =
+    let window = reserved-window c.reserve_in.result c.args.self.now.window c.reserve_in.new.self c.args.count c.reserve_in.ensures.ok c.reserve_in.ensures.err in
+    record { sound = sound-alike _ _ _ _ (alike-from _ _ _ _ window.0 refl) c.args.self.now.sound }
+
+pub returns-in_err-reserve_in-clause-window_kept : goal.returns-in_err-reserve_in-clause-window_kept
+returns-in_err-reserve_in-clause-window_kept g c =
+    (reserved-window c.reserve_in.result c.args.self.now.window c.reserve_in.new.self c.args.count c.reserve_in.ensures.ok c.reserve_in.ensures.err).1
+
+pub returns-in_err-reserve_in-clause-same : goal.returns-in_err-reserve_in-clause-same
+returns-in_err-reserve_in-clause-same g c =
+    let window = reserved-window c.reserve_in.result c.args.self.now.window c.reserve_in.new.self c.args.count c.reserve_in.ensures.ok c.reserve_in.ensures.err in
+    record { window = window.0; groups = refl }
+
+pub returns-in_err-reserve_in-clause-granted : goal.returns-in_err-reserve_in-clause-granted
+returns-in_err-reserve_in-clause-granted g c = λ r n h grants below.
+    let few = window-few _ _ r h in
+    absurd (false≢true (c.in_err-reserve_in.ensures.granted n grants (omega arith) (omega arith)))
+
+pub invariant_of-self-2 : goal.invariant_of-self-2
+invariant_of-self-2 g c =
+    let window = reserved-window c.reserve_in.result c.args.self.now.window c.reserve_in.new.self c.args.count c.reserve_in.ensures.ok c.reserve_in.ensures.err in
+    let groups = reserved-groups c.reserve_in-2.result c.args.self.now.groups c.reserve_in-2.new.self c.args.count c.reserve_in-2.ensures.ok c.reserve_in-2.ensures.err in
+    record { sound = sound-alike _ _ _ _ (alike-from _ _ _ _ window.0 groups.0) c.args.self.now.sound }
+
+pub returns-clause-window_room : goal.returns-clause-window_room
+returns-clause-window_room g c =
+    on_ok_weaker c.reserve_in-2.result (λ e. ap (λ (w : Window). w.room) c.in_ok-reserve_in.ensures.ok) c.reserve_in-2.ensures.ok
+
+pub returns-clause-groups_room : goal.returns-clause-groups_room
+returns-clause-groups_room g c =
+    on_ok_weaker c.reserve_in-2.result (λ e. ap (λ (x : Groups). x.room) e) c.reserve_in-2.ensures.ok
+
+pub returns-clause-window_kept : goal.returns-clause-window_kept
+returns-clause-window_kept g c =
+    (reserved-window c.reserve_in.result c.args.self.now.window c.reserve_in.new.self c.args.count c.reserve_in.ensures.ok c.reserve_in.ensures.err).1
+
+pub returns-clause-groups_kept : goal.returns-clause-groups_kept
+returns-clause-groups_kept g c =
+    (reserved-groups c.reserve_in-2.result c.args.self.now.groups c.reserve_in-2.new.self c.args.count c.reserve_in-2.ensures.ok c.reserve_in-2.ensures.err).1
+
+pub returns-clause-same : goal.returns-clause-same
+returns-clause-same g c =
+    let window = reserved-window c.reserve_in.result c.args.self.now.window c.reserve_in.new.self c.args.count c.reserve_in.ensures.ok c.reserve_in.ensures.err in
+    let groups = reserved-groups c.reserve_in-2.result c.args.self.now.groups c.reserve_in-2.new.self c.args.count c.reserve_in-2.ensures.ok c.reserve_in-2.ensures.err in
+    record { window = window.0; groups = groups.0 }
+
+pub returns-clause-granted : goal.returns-clause-granted
+returns-clause-granted g c = λ r n h grants below.
+    let few = groups-few _ _ c.args.self.now.sound in
+    c.reserve_in-2.ensures.granted n (end_of c.args.self.now.window) grants c.args.self.now.sound.beyond (omega arith) (omega arith)

@@ -1,7 +1,0 @@
-use Rattle.std.proofs.Common.{◌≡◌, ◌*◌}
-use Rattle.uring_entry.specs.Below.{count_below}
-use Rattle.uring_dispatch.specs.Limits.{can_go}
-use Rattle.uring_dispatch.proofs.issuable.count.Given as goal
-
-abbrev pub invariant-loop-place : goal.invariant-loop-place
-invariant-loop-place l = l.total ≡ count_below (can_go l.waiting l.limit) (64 * l.place)

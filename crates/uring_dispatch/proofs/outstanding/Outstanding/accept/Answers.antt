@@ -1,0 +1,47 @@
+use Rattle.std.proofs.Common.{◌≡◌, arith, subst, sym, ◌∙◌}
+use Rattle.std.proofs.lemmas.Option.{same_Some}
+use Rattle.uring_dispatch.specs.declared.group.Group.{Group}
+use Rattle.uring_dispatch.specs.Waiting.{Starts}
+use Rattle.uring_dispatch.proofs.AcceptsListed.{accept-listed, can-grow, low-member, starts-least}
+use Rattle.uring_dispatch.proofs.outstanding.Outstanding.accept.Goals as goal
+
+pub accept-requires-clause-heads : goal.accept-requires-clause-heads
+accept-requires-clause-heads c =
+    can-grow _ _ _ 1 c.args.self.now.listed.heads c.end-number.ensures.value (omega arith) c.requires.heads
+
+pub accept-requires-clause-doomed : goal.accept-requires-clause-doomed
+accept-requires-clause-doomed c =
+    can-grow _ _ _ 1 c.args.self.now.listed.doomed c.end-number.ensures.value (omega arith) c.requires.doomed
+
+pub accept-requires-clause-low : goal.accept-requires-clause-low
+accept-requires-clause-low c = λ p is.
+    let a = c.accept-group.ensures.accepts in
+    let l = c.args.self.now.listed in
+    let one : _ ≡ p = same_Some _ _ (sym a.exchange.here ∙ is) in
+    let own : Starts c.args.self.now.waiting c.end-number.result =
+    record { heads = omega (arith, l.heads.start, c.end-number.ensures.value); doomed = omega (arith, l.doomed.start, c.end-number.ensures.value) }
+    in
+    let P : Group → Type 0 = λ q. Starts c.args.self.now.waiting q.least in
+    subst P one
+    (low-member _ _ _ _ _ (record { heads = omega (arith, own.heads, c.end-number.ensures.value); doomed = omega (arith, own.doomed, c.end-number.ensures.value) })
+    (λ q last. starts-least c.args.self.now.grouped.window c.args.self.now.grouped.groups c.args.self.now.waiting c.accept-group.result q c.args.self.now.grouped.sound l (a.joins ∙ last)))
+
+pub invariant_of-self : goal.invariant_of-self
+invariant_of-self c =
+    let e = c.accept.ensures in
+    record {
+      listed = accept-listed _ _ _ _ c.args.entry _ c.args.self.now.waiting c.accept.new.self c.end-number.result c.args.self.now.grouped.sound c.args.self.now.listed c.accept-group.ensures.accepts c.end-number.ensures.value e.own e.members e.told e.heads_reach e.doomed_reach;
+    }
+
+pub returns-clause-end : goal.returns-clause-end
+returns-clause-end c = c.accept-group.ensures.accepts.end
+
+pub returns-clause-room : goal.returns-clause-room
+returns-clause-room c = λ k r.
+    let end = c.accept-group.ensures.accepts.end in
+    record {
+      window = omega (arith, r.window, c.accept-group.ensures.window_room);
+      groups = omega (arith, r.groups, c.accept-group.ensures.groups_room);
+      heads = omega (arith, r.heads, end, c.accept.ensures.heads_reach.limit);
+      doomed = omega (arith, r.doomed, end, c.accept.ensures.doomed_reach.limit);
+    }

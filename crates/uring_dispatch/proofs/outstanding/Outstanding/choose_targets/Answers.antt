@@ -1,0 +1,33 @@
+use Rattle.std.proofs.Common.{ℕ, sym, ◌∙◌, ap, subst, List, length, arith}
+use Rattle.uring_entry.specs.Requests.{with_cancelled}
+use Rattle.uring_dispatch.specs.Grouped.{Shows}
+use Rattle.uring_dispatch.proofs.Choosing.{chosen-none, chosen-more, chosen-past, chosen-all}
+use Rattle.uring_dispatch.proofs.outstanding.Outstanding.choose_targets.Goals as goal
+use Rattle.uring_dispatch.proofs.outstanding.Outstanding.choose_targets.Goals.{then-is_target, else-is_target}
+
+pub loop-m-init : goal.loop-m-init
+loop-m-init c = chosen-none _ c.args.n c.args.user_data c.first-m.result c.first-m.ensures.before
+
+pub loop-m-preserved : goal.loop-m-preserved
+loop-m-preserved c =
+    elim c.if-is_target.branch [
+      | then-is_target w ↦
+          rw (w.self-is, w.count-is)
+          (chosen-more _ _ _ c.args.n c.args.user_data c.loop-m.m c.loop-m.count c.loop-m.invariant
+          (λ r h named. sym w.if-is_target.true ∙ c.is_target.ensures.target r h named)
+          w.choose.ensures.chosen w.choose.ensures.shows)
+      | else-is_target w ↦
+          rw (w.self-is, w.count-is)
+          (chosen-past _ _ c.args.n c.args.user_data c.loop-m.m c.loop-m.count c.loop-m.invariant
+          (λ r h named. sym w.if-is_target.false ∙ c.is_target.ensures.target r h named))
+    ]
+
+pub returns-clause-count : goal.returns-clause-count
+returns-clause-count c = λ r h named.
+    c.loop-m.invariant.count_is r h named
+    ∙ ap (λ (xs : List ℕ). length xs) (chosen-all r c.args.n c.loop-m.m (omega (arith, h.count, c.end-m-end.ensures.value)))
+
+pub returns-clause-shows : goal.returns-clause-shows
+returns-clause-shows c = λ r h named.
+    subst (λ xs. Shows c.loop-m.self.grouped (with_cancelled r xs)) (chosen-all r c.args.n c.loop-m.m (omega (arith, h.count, c.end-m-end.ensures.value)))
+    (c.loop-m.invariant.shows r h named)

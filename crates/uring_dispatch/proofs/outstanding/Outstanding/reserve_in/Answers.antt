@@ -1,0 +1,54 @@
+use Rattle.std.proofs.Common.{◌≡◌, ◌+◌, ◌≤◌, ◌∙◌, arith, refl}
+use Rattle.std.proofs.lemmas.Bool.{false≢true}
+use Rattle.std.proofs.lemmas.Result.{on_ok_weaker}
+use Rattle.uring_number_set.specs.NumberSet.{stop_of}
+use Rattle.uring_dispatch.specs.Window.{end_of}
+use Rattle.uring_dispatch.proofs.Alike.{listed-alike, alike-records}
+use Rattle.uring_dispatch.proofs.AcceptsListed.{same-listed}
+use Rattle.uring_dispatch.proofs.Views.{reserved-room}
+use Rattle.uring_dispatch.proofs.outstanding.Outstanding.reserve_in.Goals as goal
+
+pub invariant_of-self : goal.invariant_of-self
+invariant_of-self g c = record {
+  listed = listed-alike _ _ _ _ _ (alike-records _ _ c.reserve_in.ensures.same) c.args.self.now.listed;
+}
+
+pub returns-in_err-reserve_in-clause-kept : goal.returns-in_err-reserve_in-clause-kept
+returns-in_err-reserve_in-clause-kept g c = λ k le r.
+    let end = (alike-records _ _ c.reserve_in.ensures.same).end in
+    record {
+      window = c.reserve_in.ensures.window_kept k le r.window;
+      groups = c.reserve_in.ensures.groups_kept k le r.groups;
+      heads = omega (arith, r.heads);
+      doomed = omega (arith, r.doomed);
+    }
+
+pub returns-in_err-reserve_in-clause-granted : goal.returns-in_err-reserve_in-clause-granted
+returns-in_err-reserve_in-clause-granted g c =
+    λ r n h grants below. absurd (false≢true (c.in_err-reserve_in.ensures.granted r n h grants below))
+
+pub invariant_of-self-2 : goal.invariant_of-self-2
+invariant_of-self-2 g c = record {
+  listed = same-listed _ _ _ _ (listed-alike _ _ _ _ _ (alike-records _ _ c.reserve_in.ensures.same) c.args.self.now.listed) c.reserve_in-2.ensures.same_heads c.reserve_in-2.ensures.same_doomed;
+}
+
+pub returns-clause-room : goal.returns-clause-room
+returns-clause-room g c =
+    reserved-room _ c.reserve_in-2.result c.args.self.now.grouped.window c.args.self.now.waiting c.args.count c.in_ok-reserve_in.ensures.window_room c.in_ok-reserve_in.ensures.groups_room
+    (alike-records _ _ c.reserve_in.ensures.same).end c.args.self.now.listed.heads.stop c.args.self.now.listed.doomed.stop c.reserve_in-2.ensures.heads c.reserve_in-2.ensures.doomed
+
+pub returns-clause-kept : goal.returns-clause-kept
+returns-clause-kept g c = λ k le r.
+    let end = (alike-records _ _ c.reserve_in.ensures.same).end in
+    record {
+      window = c.reserve_in.ensures.window_kept k le r.window;
+      groups = c.reserve_in.ensures.groups_kept k le r.groups;
+      heads = omega (arith, end, r.heads, c.reserve_in-2.ensures.same_heads.same.limit);
+      doomed = omega (arith, end, r.doomed, c.reserve_in-2.ensures.same_doomed.same.limit);
+    }
+
+pub returns-clause-granted : goal.returns-clause-granted
+returns-clause-granted g c = λ r n h grants below.
+    let heads = c.args.self.now.listed.heads.few in
+    let doomed = c.args.self.now.listed.doomed.few in
+    c.reserve_in-2.ensures.granted n grants (omega arith) (omega arith)
