@@ -3,10 +3,10 @@
 use atomic_table::{Seat, Table, TableRule};
 use std::alloc::{AllocError, Global};
 use std::sync::Arc;
-use uring_memory::Memory;
+use uring_ports::LaneMemory;
 
-/// A `Memory` that also grants what shared words take: the words of a table count as one list, and a shared value as one element.
-pub trait TableMemory: Memory {
+/// A `LaneMemory` that also grants what shared words take: the words of a table count as one list, and a shared value as one element.
+pub trait TableMemory: LaneMemory {
     ghost use Rattle.std.specs.Prelude.{◌≡◌, ℕ, ◌≤◌, [], length, IsOk, IfOk};
     ghost use Rattle.std.specs.Arc.{arc_value};
     ghost use Rattle.atomic_table.specs.Table.{opening};

@@ -5,18 +5,15 @@ ghost use Rattle.uring_ports.specs.Ports.{nothing_put, sizes_of, LeavesItems, Le
 ghost use Rattle.uring_words.specs.Completion.Layout.{word_count as cq_word_count};
 ghost use Rattle.uring_words.specs.Submission.Layout.{word_count};
 
-use crate::completion::app_calls::{get, load_dropped};
-use crate::completion::kernel_calls;
-use crate::completion::rest::take_undelivered;
+use crate::completion::reader::CompletionReader;
+use crate::completion::writer::CompletionWriter;
 use crate::memory::TableMemory;
 use crate::sides::Shape;
-use crate::submission::app_calls::{put_call, put_close};
-use crate::submission::kernel_calls::pull;
-use crate::submission::rest::take_unsent;
+use crate::submission::reader::CallReader;
+use crate::submission::writer::CallWriter;
 use crate::{completion, submission};
 use std::alloc::{AllocError, Global};
 use std::marker::Model;
-use std::sync::Arc;
 use uring_entry::{Cqe, Setup};
 use uring_memory::Memory;
 use uring_ports::{AppPort, Item, KernelPort, Pulled, Rests};
@@ -24,18 +21,8 @@ use uring_ports::{AppPort, Item, KernelPort, Pulled, Rests};
 /// The application's port over shared words.
 #[derive(Drop)]
 pub struct AppWords {
-    ring: Arc<submission::table::Ring, Global>,
-    seat: submission::table::Seat,
-    size: u32,
-    // The index words of the head that it last saw, and of the tail.
-    head: u32,
-    tail: u32,
-    cq_ring: Arc<completion::table::Ring, Global>,
-    cq_seat: completion::table::Seat,
-    cq_size: u32,
-    // The index words of the tail that it last saw, and of the head.
-    cq_tail: u32,
-    cq_head: u32,
+    calls: CallWriter,
+    completions: CompletionReader,
 }
 
 impl Model for AppWords {
@@ -43,43 +30,21 @@ impl Model for AppWords {
 
     ghost Value = { AppWords };
 
-    ghost use Rattle.std.specs.Prelude.{◌≡◌, ◌+◌, ◌-◌, length, Some};
-    ghost use Rattle.std.specs.Arc.{arc_value};
-    ghost use Rattle.uring_words.specs.Completion.Ends.{completions_of};
-    ghost use Rattle.uring_words.specs.Completion.Ends.{AppRests as AppCompletionsRest};
-    ghost use Rattle.uring_words.specs.Completion.Layout.{word_count as cq_word_count};
-    ghost use Rattle.uring_words.specs.PortViews.{numbers_of_tables};
-    ghost use Rattle.uring_words.specs.Submission.Calls.{put_of};
-    ghost use Rattle.uring_words.specs.Submission.Ends.{AppRests, SawHead};
-    ghost use Rattle.uring_words.specs.Submission.Layout.{word_count};
+    ghost use Rattle.uring_words.specs.PortViews.{app_words};
+    ghost use Rattle.uring_words.specs.Submission.Ends.{WriterRests};
 
-    ghost view = { λ p. record { pairing = numbers_of_tables p.seat.table_id p.cq_seat.table_id; sizes = record { sq = p.size; cq = p.cq_size }; put = put_of p.seat.me.0.app.published; got = completions_of p.cq_seat.me.0.app.got; saw_room = record { places = p.seat.me.0.app.head_seen + p.size - length p.seat.me.0.app.published; looks = Some p.seat.me.0.app.looks }; saw_completions = record { waiting = completions_of p.cq_seat.me.0.app.known; looks = Some p.cq_seat.me.0.app.looks }; dropped = p.cq_seat.me.0.app.dropped } };
+    ghost view = { λ p. app_words p.calls p.completions };
 
-    ghost invariant = { λ p. (p.seat.table_id ≡ (arc_value p.ring).shared.table_id)
-        × (p.seat.table_id.words ≡ word_count p.size) × AppRests p.seat.me p.size p.tail
-        × SawHead p.seat.me.0.app p.head
-        × (p.cq_seat.table_id ≡ (arc_value p.cq_ring).shared.table_id)
-        × (p.cq_seat.table_id.words ≡ cq_word_count p.cq_size)
-        × AppCompletionsRest p.cq_seat.me p.cq_size p.cq_tail p.cq_head };
+    ghost invariant = { λ p. WriterRests p.calls.knows.app };
 }
 
 /// The dispatcher's port over shared words.
 #[derive(Drop)]
 pub struct KernelWords {
-    ring: Arc<submission::table::Ring, Global>,
-    seat: submission::table::Seat,
-    size: u32,
-    // The index words of the tail that it last saw, and of the head.
-    tail: u32,
-    head: u32,
+    calls: CallReader,
     // Whether the close mark was pulled.
     closed: bool,
-    cq_ring: Arc<completion::table::Ring, Global>,
-    cq_seat: completion::table::Seat,
-    cq_size: u32,
-    // The index words of the head that it last saw, and of the tail.
-    cq_head: u32,
-    cq_tail: u32,
+    completions: CompletionWriter,
 }
 
 impl Model for KernelWords {
@@ -87,25 +52,15 @@ impl Model for KernelWords {
 
     ghost Value = { KernelWords };
 
-    ghost use Rattle.std.specs.Prelude.{◌≡◌, ◌+◌, ◌-◌, nat_lt, length, Some};
-    ghost use Rattle.std.specs.Arc.{arc_value};
-    ghost use Rattle.uring_words.specs.Completion.Ends.{completions_of};
-    ghost use Rattle.uring_words.specs.Completion.Ends.{KernelRests as KernelCompletionsRest, SawHead};
-    ghost use Rattle.uring_words.specs.Completion.Layout.{word_count as cq_word_count};
-    ghost use Rattle.uring_words.specs.PortViews.{numbers_of_tables};
-    ghost use Rattle.uring_words.specs.Submission.Calls.{put_of, has_close_mark};
-    ghost use Rattle.uring_words.specs.Submission.Ends.{KernelRests};
-    ghost use Rattle.uring_words.specs.Submission.Layout.{word_count};
+    ghost use Rattle.std.specs.Prelude.{◌≡◌};
+    ghost use Rattle.uring_words.specs.PortViews.{kernel_words};
+    ghost use Rattle.uring_words.specs.Submission.Calls.{has_close_mark};
+    ghost use Rattle.uring_words.specs.Submission.Ends.{ReaderRests};
 
-    ghost view = { λ p. record { pairing = numbers_of_tables p.seat.table_id p.cq_seat.table_id; sizes = record { sq = p.size; cq = p.cq_size }; pulled = put_of p.seat.me.0.kernel.copied; saw_calls = record { waits = nat_lt 0 (length p.seat.me.0.kernel.known); looks = Some p.seat.me.0.kernel.looks }; delivered = completions_of p.cq_seat.me.0.kernel.put; free = p.cq_seat.me.0.kernel.head_seen + p.cq_size - length p.cq_seat.me.0.kernel.put; room_looks = p.cq_seat.me.0.kernel.looks; dropped = p.cq_seat.me.0.kernel.dropped } };
+    ghost view = { λ p. kernel_words p.calls p.completions };
 
-    ghost invariant = { λ p. (p.seat.table_id ≡ (arc_value p.ring).shared.table_id)
-        × (p.seat.table_id.words ≡ word_count p.size) × KernelRests p.seat.me p.size p.tail p.head
-        × (p.closed ≡ has_close_mark p.seat.me.0.kernel.copied)
-        × (p.cq_seat.table_id ≡ (arc_value p.cq_ring).shared.table_id)
-        × (p.cq_seat.table_id.words ≡ cq_word_count p.cq_size)
-        × KernelCompletionsRest p.cq_seat.me p.cq_size p.cq_tail
-        × SawHead p.cq_seat.me.0.kernel p.cq_head };
+    ghost invariant = { λ p. ReaderRests p.calls.knows.kernel
+        × (p.closed ≡ has_close_mark p.calls.knows.kernel.copied) };
 }
 
 /// The two ports of a new pair, with the sizes of this set-up's rings. `AllocError`: out of memory.
@@ -138,47 +93,24 @@ pub fn word_ports_in<M: TableMemory>(
         → cq_word_count setup.now.cq ≤ n → IsOk result }
 {
     let start = setup.start();
-    let size = setup.sq();
-    let cq_size = setup.cq();
-    let (table, app_seat, kernel_seat) = submission::new_table::new_table(
-        memory,
-        alloc,
-        Shape { start, size },
-    )?;
-    let (app_ring, kernel_ring) = memory.shared(alloc, table)?;
-    let (cq_table, getter, putter) = completion::new_table::new_table(
-        memory,
-        alloc,
-        Shape {
-            start,
-            size: cq_size,
-        },
-    )?;
-    let (app_cq_ring, kernel_cq_ring) = memory.shared(alloc, cq_table)?;
+    let calls = Shape {
+        start,
+        size: setup.sq(),
+    };
+    let completions = Shape {
+        start,
+        size: setup.cq(),
+    };
+    let (call_writer, call_reader) = submission::ends::new_ends(memory, alloc, calls)?;
+    let (reader, writer) = completion::ends::new_ends(memory, alloc, completions)?;
     let app = AppWords {
-        ring: app_ring,
-        seat: app_seat,
-        size,
-        head: start,
-        tail: start,
-        cq_ring: app_cq_ring,
-        cq_seat: getter,
-        cq_size,
-        cq_tail: start,
-        cq_head: start,
+        calls: call_writer,
+        completions: reader,
     };
     let kernel = KernelWords {
-        ring: kernel_ring,
-        seat: kernel_seat,
-        size,
-        tail: start,
-        head: start,
+        calls: call_reader,
         closed: false,
-        cq_ring: kernel_cq_ring,
-        cq_seat: putter,
-        cq_size,
-        cq_head: start,
-        cq_tail: start,
+        completions: writer,
     };
     Ok((app, kernel))
 }
@@ -188,7 +120,7 @@ impl AppWords {
     pub fn dropped(&mut self) -> u32
         ensures { self.new ≡ record self.old { dropped = self.old.dropped ++ result ∷ [] } }
     {
-        load_dropped(&self.cq_ring.shared, &mut self.cq_seat, self.cq_size)
+        self.completions.load_dropped()
     }
 }
 
@@ -231,55 +163,23 @@ impl KernelWords {
         ensures granted { (n : ℕ) → M.grants memory.now n → self.sizes.sq ≤ n
             → app.sizes.cq ≤ n → IsOk result }
     {
-        let Ok(mut unsent) = memory.list(alloc, self.size as usize) else {
+        let Ok(mut unsent) = memory.list(alloc, self.calls.size() as usize) else {
             return Err((app, self));
         };
-        let Ok(mut undelivered) = memory.list(alloc, app.cq_size as usize) else {
+        let Ok(mut undelivered) = memory.list(alloc, app.completions.size() as usize) else {
             return Err((app, self));
         };
         let KernelWords {
-            ring,
-            mut seat,
-            size,
-            tail,
-            head,
+            calls,
             closed: _,
-            cq_ring,
-            mut cq_seat,
-            cq_size: _,
-            cq_head: _,
-            cq_tail: _,
+            completions: writer,
         } = self;
         let AppWords {
-            ring: _,
-            seat: app_seat,
-            size: _,
-            head: _,
-            tail: _,
-            cq_ring: _,
-            cq_seat: app_cq_seat,
-            cq_size,
-            cq_tail,
-            cq_head,
+            calls: call_writer,
+            completions,
         } = app;
-        take_unsent(
-            &ring.shared,
-            &mut seat,
-            app_seat,
-            size,
-            tail,
-            head,
-            &mut unsent,
-        );
-        take_undelivered(
-            &cq_ring.shared,
-            &mut cq_seat,
-            app_cq_seat,
-            cq_size,
-            cq_tail,
-            cq_head,
-            &mut undelivered,
-        );
+        calls.take_unsent(call_writer, &mut unsent);
+        completions.take_undelivered(writer, &mut undelivered);
         Ok(Rests {
             unsent,
             undelivered,
@@ -303,34 +203,15 @@ impl AppPort for AppWords {
     ghost dropped = { λ p. Some p.dropped };
 
     fn put(&mut self, items: &[Item]) -> bool {
-        put_call(
-            &self.ring.shared,
-            &mut self.seat,
-            self.size,
-            &mut self.head,
-            &mut self.tail,
-            items,
-        )
+        self.calls.put_call(items)
     }
 
     fn close(&mut self) -> bool {
-        put_close(
-            &self.ring.shared,
-            &mut self.seat,
-            self.size,
-            &mut self.head,
-            &mut self.tail,
-        )
+        self.calls.put_close()
     }
 
     fn get(&mut self) -> Option<Cqe> {
-        get(
-            &self.cq_ring.shared,
-            &mut self.cq_seat,
-            self.cq_size,
-            &mut self.cq_tail,
-            &mut self.cq_head,
-        )
+        self.completions.get()
     }
 
     fn load_dropped(&mut self) -> Option<u32> {
@@ -362,41 +243,21 @@ impl KernelPort for KernelWords {
             items.clear();
             return Pulled::Nothing;
         }
-        let pulled = pull(
-            &self.ring.shared,
-            &mut self.seat,
-            self.size,
-            &mut self.tail,
-            &mut self.head,
-            items,
-        );
+        let pulled = self.calls.pull(items);
         self.closed = pulled == Pulled::Close;
         pulled
     }
 
     fn room(&mut self) -> usize {
-        kernel_calls::room(
-            &self.cq_ring.shared,
-            &mut self.cq_seat,
-            self.cq_size,
-            &mut self.cq_head,
-            self.cq_tail,
-        )
+        self.completions.room()
     }
 
     fn deliver(&mut self, completion: Cqe) {
-        kernel_calls::put(
-            &self.cq_ring.shared,
-            &mut self.cq_seat,
-            self.cq_size,
-            self.cq_head,
-            &mut self.cq_tail,
-            completion,
-        );
+        self.completions.put(completion);
     }
 
     fn store_dropped(&mut self, word: u32) {
-        kernel_calls::store_dropped(&self.cq_ring.shared, &mut self.cq_seat, self.cq_size, word);
+        self.completions.store_dropped(word);
     }
 
     fn settle_in<M: Memory>(
