@@ -1,5 +1,5 @@
 //! The application's end: it submits calls, reaps completions and closes.
-ghost use Rattle.std.specs.Prelude.{◌≡◌, ◌≢◌, ◌<◌, ◌≤◌, ◌↔◌, true, false, None, ◌∷◌, is_some, IsTrue, length, OnOk, IfOk, IfErr, MatchOption};
+ghost use Rattle.std.specs.Prelude.{◌≡◌, ◌≢◌, ℕ, ◌<◌, ◌≤◌, ◌↔◌, true, false, None, ◌∷◌, is_some, IsTrue, IsOk, length, OnOk, IfOk, IfErr, MatchOption};
 ghost use mathlib.Core.List.{IsPrefix};
 ghost use Rattle.uring_entry.specs.Submission.{IsItem};
 ghost use Rattle.uring_ports.specs.Dropped.{WereStored};
@@ -15,6 +15,7 @@ use crate::refusals::{CloseRefusal, SubmitRefusal};
 use std::alloc::Global;
 use std::marker::Model;
 use uring_entry::Cqe;
+use uring_memory::Memory;
 
 /// The application's end. Over lanes and over shared words its calls wait for nobody and hold no lock, and none but `settle` takes memory.
 #[derive(Drop)]
@@ -171,8 +172,33 @@ impl<P: AppPort> AppEnd<P> {
             (AreItems self.sizes.sq (items_of_calls self.submitted.calls)) }
         ensures unchanged { IfErr result (λ ends. (ends.0 ≡ self) × (ends.1 ≡ kernel)) }
     {
+        self.settle_in(&alloc, alloc, kernel)
+    }
+
+    /// As `settle`, by this memory. If it grants as many elements as each of the two rings holds, there is no `Err`.
+    pub fn settle_in<M: Memory, K: KernelPort<App = P>>(
+        self,
+        memory: &M,
+        alloc: Global,
+        kernel: K,
+    ) -> Result<Rests, (AppEnd<P>, K)>
+        requires { K.pairing kernel ≡ self.pairing }
+        // What was pulled begins what was submitted, and what was reaped begins what was delivered.
+        ensures items { IfOk result
+            (λ rests. LeavesItems self.submitted (K.pulled kernel) rests.unsent.items) }
+        ensures completions { IfOk result
+            (λ rests. LeavesCompletions (K.delivered kernel) self.received rests.undelivered.items) }
+        // The dropped words that were loaded are words that were stored, in order, or the 0 before them.
+        ensures dropped { OnOk result (WereStored (K.dropped kernel) self.dropped) }
+        // No bad word that was submitted is below the submission ring's size.
+        ensures submitted { OnOk result
+            (AreItems self.sizes.sq (items_of_calls self.submitted.calls)) }
+        ensures unchanged { IfErr result (λ ends. (ends.0 ≡ self) × (ends.1 ≡ kernel)) }
+        ensures granted { (n : ℕ) → M.grants memory.now n → (K.sizes kernel).sq ≤ n
+            → self.sizes.cq ≤ n → IsOk result }
+    {
         let AppEnd { port, size, closed } = self;
-        match kernel.settle(alloc, port) {
+        match kernel.settle_in(memory, alloc, port) {
             Ok(rests) => Ok(rests),
             Err((port, kernel)) => {
                 let app = AppEnd { port, size, closed };

@@ -9,14 +9,16 @@ mod refusals;
 
 // the ports over lanes
 mod call_lane;
+mod lane_memory;
 mod lane_rests;
 mod message;
 mod port_lanes;
 
 pub use app_end::AppEnd;
 pub use item::Item;
+pub use lane_memory::LaneMemory;
 pub use lane_rests::take_undelivered;
-pub use port_lanes::{AppLanes, KernelLanes, lane_ports};
+pub use port_lanes::{AppLanes, KernelLanes, lane_ports, lane_ports_in};
 pub use ports::{AppPort, KernelPort};
 pub use pulled::{Pulled, Rests};
 pub use refusals::{CloseRefusal, SubmitRefusal};

@@ -1,17 +1,19 @@
 //! The two ports over lanes: one for submissions, as large as the submission ring, and one for completions, as large as the completion ring.
-ghost use Rattle.std.specs.Prelude.{◌≡◌, [], None, IfOk};
+ghost use Rattle.std.specs.Prelude.{◌≡◌, ℕ, ◌≤◌, [], None, IfOk, IsOk};
 ghost use Rattle.uring_ports.specs.Ports.{nothing_put, sizes_of};
 
 use crate::call_lane::{pull, put_call, put_close};
 use crate::item::Item;
+use crate::lane_memory::LaneMemory;
 use crate::lane_rests::{take_undelivered, take_unsent};
 use crate::message::{Message, WholeCalls};
 use crate::ports::{AppPort, KernelPort};
 use crate::pulled::{Pulled, Rests};
-use rtrb::{Consumer, Producer, RingBuffer};
+use rtrb::{Consumer, Producer};
 use std::alloc::{AllocError, Global};
 use std::marker::Model;
 use uring_entry::{Cqe, Setup};
+use uring_memory::Memory;
 
 /// The application's port over lanes.
 #[derive(Drop)]
@@ -70,11 +72,27 @@ pub fn lane_ports(alloc: Global, setup: &Setup) -> Result<(AppLanes, KernelLanes
         (λ ports. (ports.1.sizes ≡ sizes_of setup.now) × (ports.1.pulled ≡ nothing_put)
         × (ports.1.delivered ≡ []) × (ports.1.free ≡ setup.now.cq)) }
 {
-    let (sender, receiver) = RingBuffer::with_protocol::<Global, WholeCalls>(
-        alloc,
-        setup.sq() as usize,
-    )?;
-    let (deliverer, getter) = RingBuffer::new(alloc, setup.cq() as usize)?;
+    lane_ports_in(&alloc, alloc, setup)
+}
+
+/// As `lane_ports`, by this memory. If it grants as many elements as either ring's size, there is no error.
+pub fn lane_ports_in<M: LaneMemory>(
+    memory: &M,
+    alloc: Global,
+    setup: &Setup,
+) -> Result<(AppLanes, KernelLanes), AllocError>
+    ensures pair { IfOk result (λ ports. ports.1.pairing ≡ ports.0.pairing) }
+    ensures app { IfOk result
+        (λ ports. (ports.0.sizes ≡ sizes_of setup.now) × (ports.0.put ≡ nothing_put)
+        × (ports.0.got ≡ [])) }
+    ensures kernel { IfOk result
+        (λ ports. (ports.1.sizes ≡ sizes_of setup.now) × (ports.1.pulled ≡ nothing_put)
+        × (ports.1.delivered ≡ []) × (ports.1.free ≡ setup.now.cq)) }
+    ensures granted { (n : ℕ) → M.grants memory.now n → setup.now.sq ≤ n → setup.now.cq ≤ n
+        → IsOk result }
+{
+    let (sender, receiver) = memory.lane_with::<Message, WholeCalls>(alloc, setup.sq() as usize)?;
+    let (deliverer, getter) = memory.lane::<Cqe>(alloc, setup.cq() as usize)?;
     let app = AppLanes {
         calls: sender,
         completions: getter,
@@ -158,11 +176,16 @@ impl KernelPort for KernelLanes {
 
     fn store_dropped(&mut self, _word: u32) {}
 
-    fn settle(self, alloc: Global, app: AppLanes) -> Result<Rests, (AppLanes, KernelLanes)> {
-        let Ok(mut unsent) = Vec::with_capacity(alloc, self.calls.capacity()) else {
+    fn settle_in<M: Memory>(
+        self,
+        memory: &M,
+        alloc: Global,
+        app: AppLanes,
+    ) -> Result<Rests, (AppLanes, KernelLanes)> {
+        let Ok(mut unsent) = memory.list(alloc, self.calls.capacity()) else {
             return Err((app, self));
         };
-        let Ok(mut undelivered) = Vec::with_capacity(alloc, app.completions.capacity()) else {
+        let Ok(mut undelivered) = memory.list(alloc, app.completions.capacity()) else {
             return Err((app, self));
         };
         let KernelLanes {

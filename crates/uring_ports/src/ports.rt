@@ -4,6 +4,7 @@ use crate::item::Item;
 use crate::pulled::{Pulled, Rests};
 use std::alloc::Global;
 use uring_entry::Cqe;
+use uring_memory::Memory;
 
 /// The application's port: submissions go in, completions come out.
 pub trait AppPort: Drop {
@@ -106,7 +107,7 @@ pub trait AppPort: Drop {
 
 /// The dispatcher's port: submissions come out, completions go in.
 pub trait KernelPort: Sized + Drop {
-    ghost use Rattle.std.specs.Prelude.{◌≡◌, ℕ, ◌+◌, ◌<◌, ◌≤◌, false, List, [], ◌∷◌, ◌++◌, length, vec_capacity, Option, IfOk, IfErr, OnOk};
+    ghost use Rattle.std.specs.Prelude.{◌≡◌, ℕ, ◌+◌, ◌<◌, ◌≤◌, false, List, [], ◌∷◌, ◌++◌, length, vec_capacity, Option, IfOk, IfErr, IsOk, OnOk};
     ghost use Rattle.uring_entry.specs.Layout.{Cqe};
     ghost use Rattle.uring_ports.specs.Dropped.{with_word, WereStored};
     ghost use Rattle.uring_ports.specs.Ports.{Sizes, Put, Pulls, LeavesItems, LeavesCompletions};
@@ -207,5 +208,25 @@ pub trait KernelPort: Sized + Drop {
         ensures completions { IfOk result
             (λ rests. LeavesCompletions (delivered self) (Self.App.got app) rests.undelivered.items) }
         ensures dropped { OnOk result (WereStored (dropped self) (Self.App.dropped app)) }
-        ensures unchanged { IfErr result (λ ports. (ports.0 ≡ app) × (ports.1 ≡ self)) };
+        ensures unchanged { IfErr result (λ ports. (ports.0 ≡ app) × (ports.1 ≡ self)) }
+    {
+        self.settle_in(&alloc, alloc, app)
+    }
+
+    /// As `settle`, by this memory. If it grants as many elements as each of the two rings holds, there is no `Err`.
+    fn settle_in<M: Memory>(
+        self,
+        memory: &M,
+        alloc: Global,
+        app: Self::App,
+    ) -> Result<Rests, (Self::App, Self)>
+        requires { pairing self ≡ Self.App.pairing app }
+        ensures items { IfOk result
+            (λ rests. LeavesItems (Self.App.put app) (pulled self) rests.unsent.items) }
+        ensures completions { IfOk result
+            (λ rests. LeavesCompletions (delivered self) (Self.App.got app) rests.undelivered.items) }
+        ensures dropped { OnOk result (WereStored (dropped self) (Self.App.dropped app)) }
+        ensures unchanged { IfErr result (λ ports. (ports.0 ≡ app) × (ports.1 ≡ self)) }
+        ensures granted { (n : ℕ) → M.grants memory.now n → (sizes self).sq ≤ n
+            → (Self.App.sizes app).cq ≤ n → IsOk result };
 }

@@ -125,5 +125,5 @@ loads_dropped slots id i me is_app is =
     let P : ℕ → List ℕ → Type 0 = λ n ws. Agree ws (dropped_loaded a n) d in (
       dropped_loaded a (get_or words i 0),
       subst (P (get_or words i 0)) (sym (set-get_or words i 0)) (subst (λ (n : ℕ). P n words) (sym found) (keeps-dropped_loaded words a d h)),
-      (refl, rw found h.small),
+      (refl, rw found h.small, is),
     ))

@@ -97,7 +97,7 @@ loads_mark slots id i me p ps is_kernel known is =
     let there = known_stands words a d p ps h known in (
       word_loaded d,
       subst P (sym (set-get_or words i 0)) (keeps-word_loaded words a d h),
-      (refl, record { first = p; others = ps; known = known; mark = ap (λ j. get_or words j 0) is ∙ there.0.mark; formed = there.1 }),
+      (refl, record { first = p; others = ps; known = known; mark = ap (λ j. get_or words j 0) is ∙ there.0.mark; formed = there.1 }, is),
     ))
 
 -- its next entry word is loaded
@@ -117,7 +117,8 @@ loads_word slots id i k me p ps is_kernel known loaded within is =
         λ q qs j known' loaded' inside.
             let there = known_stands words a d q qs h known' in
             let same : k ≡ j = omega arith in
-            ap (λ n. get_or words n 0) (is ∙ ap (entry_index (place_of d.start d.size (length d.copied))) same) ∙ there.0.entry j inside,
+            let at = is ∙ ap (entry_index (place_of d.start d.size (length d.copied))) same in
+            (ap (λ n. get_or words n 0) at ∙ there.0.entry j inside, at),
       ),
     ))
 

@@ -1,30 +1,14 @@
 -- Which words are a position's, what it holds, and what loading its words makes of what the dispatcher knows.
-use Rattle.std.proofs.Common.{◌≡◌, ℕ, eqb, ◌+◌, ◌^◌, ◌<◌, ◌≤◌, Bool, true, false, nat_lt, List, [], ◌∷◌, length, if◌then◌else◌, refl, ◌∙◌, ap, arith, eq-eqb, ne_eqb}
+use Rattle.std.proofs.Common.{◌≡◌, ℕ, eqb, ◌+◌, ◌^◌, ◌<◌, ◌≤◌, Bool, true, false, nat_lt, List, [], ◌∷◌, length, if◌then◌else◌, refl, sym, ◌∙◌, ap, arith, eq-eqb, ne_eqb}
+use Rattle.std.proofs.lemmas.List.{nil_from_length}
 use Rattle.std.proofs.lemmas.Bool.Decides.{nat_tests}
 use Rattle.uring_ports.specs.declared.item.Item.TheVariants as item
 use Rattle.uring_words.specs.Submission.Calls.{item_from}
 use Rattle.uring_words.specs.Submission.Ends.{copied_one}
 use Rattle.uring_words.specs.Submission.Layout.{closes, slot_of, has_entry, IsPosition}
-use Rattle.uring_words.specs.Submission.Steps.{loaded_of, word_loaded}
+use Rattle.uring_words.specs.Submission.Steps.{loaded_of, word_loaded, MarkTold}
 use Rattle.uring_words.specs.declared.submission.view.KernelSide.{KernelSide}
 use Rattle.uring_words.specs.declared.submission.view.Position.{Position}
-
-pub entry_position : (size place mark : ℕ) (entry : List ℕ) → place < size → slot_of mark ≡ place
-    → closes mark ≡ false → mark < 2 ^ 33 → length entry ≡ 16
-    → IsPosition size place (record { mark = mark; entry = entry })
-entry_position size place mark entry below slot open' high many =
-    let within : slot_of mark < size = omega arith in
-    let test : nat_lt (slot_of mark) size ≡ true = grind (arith, nat_tests) in
-    let has : has_entry size mark ≡ true = rw (open', test) refl in
-    record { high = λ _. high; entry = rw has many; own_slot = λ _. slot }
-
-pub bad_position : (size place mark low : ℕ) → size ≤ low → slot_of mark ≡ low → closes mark ≡ false
-    → mark < 2 ^ 33 → IsPosition size place (record { mark = mark; entry = [] })
-bad_position size place mark low above slot open' high =
-    let without : size ≤ slot_of mark = omega arith in
-    let test : nat_lt (slot_of mark) size ≡ false = grind (arith, nat_tests) in
-    let none : has_entry size mark ≡ false = rw (open', test) refl in
-    record { high = λ _. high; entry = rw none refl; own_slot = λ has. absurd (cc (none, has)) }
 
 -- entry words hold an entry
 pub item_with_words : (mark : ℕ) (entry : List ℕ) → length entry ≡ 16
@@ -63,3 +47,11 @@ pub not_all_loaded : (d : KernelSide) (p : Position) (ps : List Position) (k : �
     → k < length p.entry → loaded_to d p ps k ≡ record d { loaded = k + 1 }
 not_all_loaded d p ps k more = let before : eqb k (length p.entry)
     ≡ false = ne_eqb k (length p.entry) (λ e. omega arith) in rw before refl
+
+-- what an array word of an entry tells: it is loaded, and 16 words more
+pub mark_first : (d : KernelSide) (mark : ℕ) → (t : MarkTold d mark) → d.loaded ≡ 0
+    → has_entry d.size mark ≡ true
+    → (word_loaded d ≡ record d { loaded = 1 }) × (length t.first.entry ≡ 16)
+mark_first d mark t none has =
+    let many : length t.first.entry ≡ 16 = words_of_mark d.size _ t.first t.formed true (ap (has_entry d.size) (sym t.mark) ∙ has) in
+    (mark_is_loaded d t.first t.others t.known none ∙ not_all_loaded d t.first t.others 0 (omega arith), many)

@@ -1,5 +1,5 @@
 -- What a store leaves as it was, and lists that grow by one position.
-use Rattle.std.proofs.Common.{◌≡◌, ◌≢◌, ℕ, ◌+◌, ◌^◌, ◌<◌, ◌≤◌, Bool, true, false, List, [], ◌∷◌, ◌++◌, length, get_or, set, if◌then◌else◌, refl, sym, ◌∙◌, subst, ⊎_elim, arith, length-append, get_or-set_other}
+use Rattle.std.proofs.Common.{◌≡◌, ◌≢◌, ℕ, ◌+◌, ◌%◌, ◌^◌, ◌<◌, ◌≤◌, Bool, true, false, List, [], ◌∷◌, ◌++◌, length, get_or, set, if◌then◌else◌, refl, sym, ◌∙◌, ap, subst, ⊎_elim, arith, length-append, get_or-set_other}
 use Rattle.std.proofs.lemmas.Bool.{cases_eq}
 use Rattle.std.proofs.lemmas.List.{get_or_append_left}
 use Rattle.std.proofs.Math.Seq.{get_or-append_seam}
@@ -24,6 +24,14 @@ some_size size power = rw power.1 (pow_pos power.0)
 
 pub place_below : (start size count : ℕ) → 0 < size → place_of start size count < size
 place_below start size count some = mod_below (word_of start count) size some
+
+-- the place of an index word
+pub at_place : (start size own count word : ℕ) → own ≡ size → IsPowerOfTwo size
+    → word ≡ word_of start count → (word % size ≡ place_of start own count) × (word % size < size)
+at_place start size own count word is power at = (
+  ap (λ w. w % size) at ∙ ap (λ s. place_of start s count) (sym is),
+  mod_below word size (some_size size power),
+)
 
 -- two counts less than the size apart have places of their own
 pub apart : (start size j k : ℕ) → IsPowerOfTwo size → size ≤ 2 ^ 32 → j < k → k < j + size

@@ -1,7 +1,9 @@
 -- What the seats of a ring's table know, and the rule that binds them. Our own rule.
-use Rattle.std.specs.Prelude.{◌≡◌, ℕ, true, false, List}
+use Rattle.std.specs.Prelude.{◌≡◌, ℕ, ◌≤◌, true, false, List, []}
+use Rattle.std.specs.Int.{IsPowerOfTwo}
 use mathlib.Core.Option.{some}
 use lib.ListN.{get_elem?}
+use Rattle.atomic_table.specs.Seated.{TableId}
 use Rattle.atomic_table.specs.Table.{State, Me}
 use Rattle.uring_words.specs.declared.sides.View.{View}
 
@@ -49,3 +51,16 @@ module _ {A D : Type 0} where
   -- only what the dispatcher knows changed, to d
   abbrev pub with_kernel : Me (Unit {0}) (View A D) → D → Me (Unit {0}) (View A D)
   with_kernel m d = (record m.0 { kernel = d }, m.1)
+
+-- what a seat carries, which is nothing, since the tables have no slots
+abbrev pub Hands : Type 0
+Hands = List (ℕ × Unit {0})
+
+-- A seat of this table, which carries nothing, in a ring of this size, a power of two, at most the limit.
+pub record Fits (seat table : TableId) (carried : Hands) (words limit size known_size : ℕ) : Type 0 where
+  pub same_table : seat ≡ table
+  pub many : table.words ≡ words
+  pub carries_none : carried ≡ []
+  pub power : IsPowerOfTwo size
+  pub most : size ≤ limit
+  pub sized : known_size ≡ size

@@ -1,9 +1,9 @@
--- What each step on the completion ring's table changes of what its seat knows, and what it tells. Of a step at the seat `before`, `found` is the word loaded or stored, and `st.word` the index in the table at which it stands: a load of a tail or head is a load at its index, and no other counts as a look.
+-- What each step on the completion ring's table changes of what its seat knows, and what it tells. Of a step at the seat `before`, `found` is the word loaded or stored, and `st.word` the index in the table at which it stands: each load is named by its index, and of the loads only those of a tail or head count as looks.
 use Rattle.std.specs.Prelude.{◌≡◌, ℕ, ◌+◌, ◌^◌, ◌<◌, ◌≤◌, ◌==◌, true, List, [], ◌∷◌, ◌++◌, length, slice_index, if◌then◌else◌}
 use Rattle.atomic_table.specs.Table.{Me, Step}
 use Rattle.uring_entry.specs.IndexWords.{word_of}
 use Rattle.uring_ports.specs.Dropped.{WereHad}
-use Rattle.uring_words.specs.Completion.Layout.{cell_index, head_index, tail_index}
+use Rattle.uring_words.specs.Completion.Layout.{cell_index, dropped_index, head_index, tail_index}
 use Rattle.uring_words.specs.Completion.Rule.{tail_seen}
 use Rattle.uring_words.specs.Places.{place_of}
 use Rattle.uring_words.specs.Sides.{with_app, with_kernel, spent_with}
@@ -96,6 +96,7 @@ StoresHead st before found after = after ≡ with_app before (head_stored before
 abbrev pub LoadsDropped : Step (Unit {0}) → Holder → ℕ → Holder → Type 0
 LoadsDropped st before found after =
     (after ≡ with_app before (dropped_loaded before.0.app found)) × (found < 2 ^ 32)
+    × (st.word ≡ dropped_index before.0.app.size)
 
 -- what is left of the seat that is taken in
 abbrev pub spent : View AppSide KernelSide

@@ -1,11 +1,11 @@
--- What each step on the table changes of what its seat knows, and what it tells. Of a step at the seat `before`, `found` is the word loaded or stored, and `st.word` the index in the table at which it stands: a load of a tail or head is a load at its index, and no other counts as a look.
+-- What each step on the table changes of what its seat knows, and what it tells. Of a step at the seat `before`, `found` is the word loaded or stored, and `st.word` the index in the table at which it stands: each load is named by its index, and of the loads only those of a tail or head count as looks.
 use Rattle.std.specs.Prelude.{◌≡◌, ℕ, ◌+◌, ◌<◌, ◌≤◌, ◌==◌, true, List, [], ◌∷◌, ◌++◌, length, slice_index, if◌then◌else◌}
 use Rattle.atomic_table.specs.Table.{Me, Step}
 use Rattle.uring_entry.specs.IndexWords.{word_of}
 use Rattle.uring_words.specs.Sides.{with_app, with_kernel, spent_with}
 use Rattle.uring_words.specs.Submission.Calls.{AreWhole}
 use Rattle.uring_words.specs.Places.{place_of}
-use Rattle.uring_words.specs.Submission.Layout.{head_index, tail_index, IsPosition}
+use Rattle.uring_words.specs.Submission.Layout.{array_index, entry_index, head_index, tail_index, IsPosition}
 use Rattle.uring_words.specs.Submission.Rule.{tail_seen}
 use Rattle.uring_words.specs.declared.submission.view.AppSide.{AppSide}
 use Rattle.uring_words.specs.declared.submission.view.KernelSide.{KernelSide}
@@ -93,12 +93,14 @@ pub record MarkTold (before : KernelSide) (found : ℕ) : Type 0 where
 abbrev pub LoadsMark : Step (Unit {0}) → Holder → ℕ → Holder → Type 0
 LoadsMark st before found after =
     (after ≡ with_kernel before (word_loaded before.0.kernel)) × MarkTold before.0.kernel found
+    × (st.word
+    ≡ array_index before.0.kernel.size (place_of before.0.kernel.start before.0.kernel.size (length before.0.kernel.copied)))
 
 -- the entry word found is the next of the first known position
 abbrev pub LoadsWord : Step (Unit {0}) → Holder → ℕ → Holder → Type 0
 LoadsWord st before found after =
     (after ≡ with_kernel before (word_loaded before.0.kernel))
-    × ((p : Position) (ps : List Position) (k : ℕ) → before.0.kernel.known ≡ p ∷ ps → before.0.kernel.loaded ≡ k + 1 → k < length p.entry → found ≡ slice_index p.entry k)
+    × ((p : Position) (ps : List Position) (k : ℕ) → before.0.kernel.known ≡ p ∷ ps → before.0.kernel.loaded ≡ k + 1 → k < length p.entry → (found ≡ slice_index p.entry k) × (st.word ≡ entry_index (place_of before.0.kernel.start before.0.kernel.size (length before.0.kernel.copied)) k))
 
 abbrev pub StoresHead : Step (Unit {0}) → Holder → ℕ → Holder → Type 0
 StoresHead st before found after = after ≡ with_kernel before (head_stored before.0.kernel)
