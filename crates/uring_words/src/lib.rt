@@ -2,8 +2,10 @@
 #![tactic(auto)]
 
 mod completion;
+mod memory;
 mod ports;
 mod sides;
 mod submission;
 
-pub use ports::{AppWords, KernelWords, word_ports};
+pub use memory::TableMemory;
+pub use ports::{AppWords, KernelWords, word_ports, word_ports_in};

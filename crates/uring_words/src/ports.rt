@@ -1,11 +1,14 @@
 //! The two ports over shared words: submissions go through one table, completions through another.
-ghost use Rattle.std.specs.Prelude.{◌≡◌, [], ◌∷◌, ◌++◌, length, Some, IfOk, IfErr, OnOk};
+ghost use Rattle.std.specs.Prelude.{◌≡◌, ℕ, ◌≤◌, [], ◌∷◌, ◌++◌, length, Some, IfOk, IfErr, IsOk, OnOk};
 ghost use Rattle.uring_ports.specs.Dropped.{WereHad};
 ghost use Rattle.uring_ports.specs.Ports.{nothing_put, sizes_of, LeavesItems, LeavesCompletions};
+ghost use Rattle.uring_words.specs.Completion.Layout.{word_count as cq_word_count};
+ghost use Rattle.uring_words.specs.Submission.Layout.{word_count};
 
 use crate::completion::app_calls::{get, load_dropped};
 use crate::completion::kernel_calls;
 use crate::completion::rest::take_undelivered;
+use crate::memory::TableMemory;
 use crate::sides::Shape;
 use crate::submission::app_calls::{put_call, put_close};
 use crate::submission::kernel_calls::pull;
@@ -15,6 +18,7 @@ use std::alloc::{AllocError, Global};
 use std::marker::Model;
 use std::sync::Arc;
 use uring_entry::{Cqe, Setup};
+use uring_memory::Memory;
 use uring_ports::{AppPort, Item, KernelPort, Pulled, Rests};
 
 /// The application's port over shared words.
@@ -114,42 +118,63 @@ pub fn word_ports(alloc: Global, setup: &Setup) -> Result<(AppWords, KernelWords
         (λ ports. (ports.1.sizes ≡ sizes_of setup.now) × (ports.1.pulled ≡ nothing_put)
         × (ports.1.delivered ≡ []) × (ports.1.free ≡ setup.now.cq) × (ports.1.dropped ≡ [])) }
 {
+    word_ports_in(&alloc, alloc, setup)
+}
+
+/// As `word_ports`, by this memory. If it grants as many elements as each table has words, there is no error.
+pub fn word_ports_in<M: TableMemory>(
+    memory: &M,
+    alloc: Global,
+    setup: &Setup,
+) -> Result<(AppWords, KernelWords), AllocError>
+    ensures pair { IfOk result (λ ports. ports.1.pairing ≡ ports.0.pairing) }
+    ensures app { IfOk result
+        (λ ports. (ports.0.sizes ≡ sizes_of setup.now) × (ports.0.put ≡ nothing_put)
+        × (ports.0.got ≡ []) × (ports.0.dropped ≡ [])) }
+    ensures kernel { IfOk result
+        (λ ports. (ports.1.sizes ≡ sizes_of setup.now) × (ports.1.pulled ≡ nothing_put)
+        × (ports.1.delivered ≡ []) × (ports.1.free ≡ setup.now.cq) × (ports.1.dropped ≡ [])) }
+    ensures granted { (n : ℕ) → M.grants memory.now n → word_count setup.now.sq ≤ n
+        → cq_word_count setup.now.cq ≤ n → IsOk result }
+{
     let start = setup.start();
     let size = setup.sq();
     let cq_size = setup.cq();
     let (table, app_seat, kernel_seat) = submission::new_table::new_table(
+        memory,
         alloc,
         Shape { start, size },
     )?;
-    let ring = Arc::new(alloc, table)?;
+    let (app_ring, kernel_ring) = memory.shared(alloc, table)?;
     let (cq_table, getter, putter) = completion::new_table::new_table(
+        memory,
         alloc,
         Shape {
             start,
             size: cq_size,
         },
     )?;
-    let cq_ring = Arc::new(alloc, cq_table)?;
+    let (app_cq_ring, kernel_cq_ring) = memory.shared(alloc, cq_table)?;
     let app = AppWords {
-        ring: Arc::try_clone(&ring)?,
+        ring: app_ring,
         seat: app_seat,
         size,
         head: start,
         tail: start,
-        cq_ring: Arc::try_clone(&cq_ring)?,
+        cq_ring: app_cq_ring,
         cq_seat: getter,
         cq_size,
         cq_tail: start,
         cq_head: start,
     };
     let kernel = KernelWords {
-        ring,
+        ring: kernel_ring,
         seat: kernel_seat,
         size,
         tail: start,
         head: start,
         closed: false,
-        cq_ring,
+        cq_ring: kernel_cq_ring,
         cq_seat: putter,
         cq_size,
         cq_head: start,
@@ -185,10 +210,31 @@ impl KernelWords {
         ensures dropped { OnOk result (WereHad (0 ∷ self.dropped) app.dropped) }
         ensures unchanged { IfErr result (λ ports. (ports.0 ≡ app) × (ports.1 ≡ self)) }
     {
-        let Ok(mut unsent) = Vec::with_capacity(alloc, self.size as usize) else {
+        self.settle_words_in(&alloc, alloc, app)
+    }
+
+    /// As `settle_words`, by this memory. If it grants as many elements as each ring has places, the ports are ended.
+    pub fn settle_words_in<M: Memory>(
+        self,
+        memory: &M,
+        alloc: Global,
+        app: AppWords,
+    ) -> Result<Rests, (AppWords, KernelWords)>
+        requires { self.pairing ≡ app.pairing }
+        ensures items { IfOk result (λ rests. LeavesItems app.put self.pulled rests.unsent.items) }
+        ensures completions { IfOk result
+            (λ rests. LeavesCompletions self.delivered app.got rests.undelivered.items) }
+
+        // The dropped words that the application loaded are, in order, words that the dispatcher stored, or the 0 before them.
+        ensures dropped { OnOk result (WereHad (0 ∷ self.dropped) app.dropped) }
+        ensures unchanged { IfErr result (λ ports. (ports.0 ≡ app) × (ports.1 ≡ self)) }
+        ensures granted { (n : ℕ) → M.grants memory.now n → self.sizes.sq ≤ n
+            → app.sizes.cq ≤ n → IsOk result }
+    {
+        let Ok(mut unsent) = memory.list(alloc, self.size as usize) else {
             return Err((app, self));
         };
-        let Ok(mut undelivered) = Vec::with_capacity(alloc, app.cq_size as usize) else {
+        let Ok(mut undelivered) = memory.list(alloc, app.cq_size as usize) else {
             return Err((app, self));
         };
         let KernelWords {
@@ -353,7 +399,12 @@ impl KernelPort for KernelWords {
         kernel_calls::store_dropped(&self.cq_ring.shared, &mut self.cq_seat, self.cq_size, word);
     }
 
-    fn settle(self, alloc: Global, app: AppWords) -> Result<Rests, (AppWords, KernelWords)> {
-        self.settle_words(alloc, app)
+    fn settle_in<M: Memory>(
+        self,
+        memory: &M,
+        alloc: Global,
+        app: AppWords,
+    ) -> Result<Rests, (AppWords, KernelWords)> {
+        self.settle_words_in(memory, alloc, app)
     }
 }
