@@ -2,7 +2,7 @@
 use Rattle.std.specs.Prelude.{◌≡◌, ℕ, ◌+◌, ◌<◌, ◌≤◌, List, [], ◌∷◌, ◌++◌, length}
 use mathlib.Core.List.{IsPrefix}
 use Rattle.uring_files.specs.Contents.{FileContents, empty_files}
-use Rattle.uring_files.specs.Operations.{after, IsOutcome}
+use Rattle.uring_files.specs.Operations.{after, result_of, IsOutcome}
 use Rattle.uring_files.specs.Done.{Done, files_left, AreDone}
 use Rattle.uring_workers.specs.declared.job.Job.{Job}
 use Rattle.uring_workers.specs.declared.job.JobResult.{JobResult}
@@ -62,3 +62,8 @@ abbrev pub Turns : Worker → Worker → Worked → Type 0
 Turns old new (worked.Done number) = (d : Done) × (d.number ≡ number) × CarriesOut old new d
 Turns old new worked.Idle = Looks old new × (0 < new.room) × (new.seen ≡ [])
 Turns old new worked.Held = Looks old new × (new.room ≡ 0)
+
+-- the operation that it carried out, if any, ended as its files called for
+abbrev pub EndsAsCalledFor : Worker → Worker → Type 0
+EndsAsCalledFor old new =
+    (d : Done) → new.done ≡ old.done ++ d ∷ [] → d.outcome ≡ result_of old.files d.op

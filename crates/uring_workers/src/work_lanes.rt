@@ -1,5 +1,5 @@
 //! The lanes between the dispatcher and a worker.
-ghost use Rattle.std.specs.Prelude.{◌≡◌, ◌+◌, ◌<◌, ◌≤◌, [], length, IfOk, OnOk};
+ghost use Rattle.std.specs.Prelude.{◌≡◌, ℕ, ◌+◌, ◌<◌, ◌≤◌, [], length, IsOk, IfOk, OnOk};
 ghost use Rattle.rtrb.specs.Ring.{sent, known_free, producer_capacity, received, known_items, consumer_capacity};
 ghost use Rattle.uring_workers.specs.Opened.{AreOpened};
 ghost use Rattle.uring_workers.specs.Pairings.{pairing_of};
@@ -8,9 +8,10 @@ ghost use Rattle.uring_files.specs.Contents.{empty_files};
 use crate::gate::Gate;
 use crate::job::{Job, JobResult};
 use crate::worker::{ForFiles, Worker};
-use rtrb::{Consumer, Producer, RingBuffer};
+use rtrb::{Consumer, Producer};
 use std::alloc::{AllocError, Global};
 use uring_files::Files;
+use uring_ports::LaneMemory;
 
 /// How many jobs of a worker may be on their way at once, and how many results.
 pub const LANE_LENGTH: usize = 64;
@@ -22,8 +23,9 @@ pub struct WorkLanes {
     pub results: Consumer<JobResult>,
 }
 
-/// A worker with so many empty files behind this gate, and the dispatcher's ends of its lanes.
-pub fn open_lanes<G: Gate>(
+/// A worker with so many empty files behind this gate, and the dispatcher's ends of its lanes. If the memory grants as many elements as a lane holds, and as there are files, there is no error.
+pub fn open_lanes<M: LaneMemory, G: Gate>(
+    memory: &M,
     alloc: Global,
     place: u32,
     files: u32,
@@ -38,11 +40,12 @@ pub fn open_lanes<G: Gate>(
     ensures pairing { IfOk result (λ r. r.1.pairing ≡ pairing_of r.0.jobs r.0.results) }
     ensures worker { IfOk result
         (λ r. (r.1.place ≡ place) × (r.1.done ≡ []) × (r.1.files ≡ empty_files files)) }
+    ensures granted { (n : ℕ) → M.grants memory.now n → 64 ≤ n → files ≤ n → IsOk result }
 {
-    let (jobs, to_do) = RingBuffer::with_protocol::<Global, ForFiles>(alloc, LANE_LENGTH)?;
-    let (done, results) = RingBuffer::new(alloc, LANE_LENGTH)?;
-    let files = Files::new(alloc, files)?;
-    let worker = Worker::new(place, gate, files, to_do, done);
+    let (jobs, to_do) = memory.lane_with::<Job, ForFiles>(alloc, LANE_LENGTH)?;
+    let (done, results) = memory.lane::<JobResult>(alloc, LANE_LENGTH)?;
+    let files = Files::new_in(memory, alloc, files)?;
+    let worker = Worker::new(alloc, place, gate, files, to_do, done);
     Ok((WorkLanes { jobs, results }, worker))
 }
 
@@ -56,16 +59,32 @@ pub fn open_all<G: Gate>(
     ensures many { IfOk result (λ r. length r.0.items ≡ length gates.items) }
     ensures opened { IfOk result (λ r. AreOpened files r.0.items r.1.items) }
 {
+    open_all_in(&alloc, alloc, files, gates)
+}
+
+/// As `open_all`, by this memory. If it grants 64 elements, and as many as there are files, there is no error.
+pub fn open_all_in<M: LaneMemory, G: Gate>(
+    memory: &M,
+    alloc: Global,
+    files: u32,
+    gates: Vec<G>,
+) -> Result<(Vec<WorkLanes>, Vec<Worker<G>>), AllocError>
+    requires few { length gates.items ≤ 8 }
+    ensures many { IfOk result (λ r. length r.0.items ≡ length gates.items) }
+    ensures opened { IfOk result (λ r. AreOpened files r.0.items r.1.items) }
+    ensures granted { (n : ℕ) → M.grants memory.now n → 64 ≤ n → files ≤ n → IsOk result }
+{
     let mut lanes = Vec::new(alloc);
     let mut workers = Vec::new(alloc);
     for gate in gates {
-        open_next(alloc, files, gate, &mut lanes, &mut workers)?;
+        open_next(memory, alloc, files, gate, &mut lanes, &mut workers)?;
     }
     Ok((lanes, workers))
 }
 
 /// One worker more, behind those that are there.
-fn open_next<G: Gate>(
+fn open_next<M: LaneMemory, G: Gate>(
+    memory: &M,
     alloc: Global,
     files: u32,
     gate: G,
@@ -76,9 +95,12 @@ fn open_next<G: Gate>(
     requires opened { AreOpened files lanes.old.items workers.old.items }
     ensures many { OnOk result (length lanes.new.items ≡ length lanes.old.items + 1) }
     ensures opened { OnOk result (AreOpened files lanes.new.items workers.new.items) }
+    ensures granted { (n : ℕ) → M.grants memory.now n → 64 ≤ n → files ≤ n → IsOk result }
 {
-    let (new_lanes, worker) = open_lanes(alloc, lanes.len() as u32, files, gate)?;
-    lanes.push(new_lanes)?;
-    workers.push(worker)?;
+    memory.reserve(lanes, 1)?;
+    memory.reserve(workers, 1)?;
+    let (new_lanes, worker) = open_lanes(memory, alloc, lanes.len() as u32, files, gate)?;
+    lanes.push_reserved(new_lanes);
+    workers.push_reserved(worker);
     Ok(())
 }

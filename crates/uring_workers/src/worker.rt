@@ -1,11 +1,11 @@
 //! A worker: it carries out jobs on files that it alone has.
-ghost use Rattle.std.specs.Prelude.{◌≡◌, true, [], ◌∷◌, ◌++◌, length};
+ghost use Rattle.std.specs.Prelude.{◌≡◌, ℕ, ◌≤◌, true, [], ◌∷◌, ◌++◌, length};
 ghost use Rattle.rtrb.specs.Ring.{sent, known_free, received, known_items};
-ghost use Rattle.uring_files.specs.Operations.{state_of, byte_of, after, IsForFiles, IsOutcome};
+ghost use Rattle.uring_files.specs.Operations.{state_of, byte_of, after, result_of, IsForFiles, IsOutcome};
 ghost use Rattle.uring_workers.specs.Pairings.{producer_numbers, consumer_numbers, pairing_of};
 ghost use Rattle.uring_workers.specs.Work.{jobs_of, results_of};
-ghost use Rattle.uring_workers.specs.Worker.{IsRight, Looks, Turns};
-ghost use Rattle.uring_files.specs.Contents.{empty_files};
+ghost use Rattle.uring_workers.specs.Worker.{EndsAsCalledFor, IsRight, Looks, Turns};
+ghost use Rattle.uring_files.specs.Contents.{empty_files, max_len};
 
 use crate::gate::Gate;
 use crate::job::{Job, JobResult};
@@ -15,6 +15,7 @@ use std::alloc::Global;
 use std::marker::Model;
 use uring_entry::Outcome;
 use uring_files::{FileState, Files};
+use uring_memory::Memory;
 
 /// The jobs of a worker are operations that can be carried out on files.
 #[derive(Clone, Copy)]
@@ -44,6 +45,8 @@ pub enum Worked {
 /// It takes its jobs in the order in which they were sent, passes its gate before each, carries it out on its own files and sends the result, before it takes the next. No other worker changes these files.
 #[derive(Drop)]
 pub struct Worker<G: Gate> {
+    // The memory that its writes ask for.
+    memory: Global,
     place: u32,
     gate: G,
     files: Files,
@@ -69,6 +72,7 @@ impl<G: Gate> Model for Worker<G> {
 impl<G: Gate> Worker<G> {
     /// A worker with so many files, over the ends of its lanes, through which nothing went yet.
     pub(crate) fn new(
+        memory: Global,
         place: u32,
         gate: G,
         files: Files,
@@ -84,6 +88,7 @@ impl<G: Gate> Worker<G> {
         ensures files { result.files ≡ files }
     {
         Worker {
+            memory,
             place,
             gate,
             files,
@@ -100,13 +105,26 @@ impl<G: Gate> Worker<G> {
         ensures files { length self.new.files ≡ length self.old.files }
         ensures place { self.new.place ≡ self.old.place }
     {
+        let memory = self.memory;
+        self.turn_in(&memory)
+    }
+
+    /// As `turn`, by this memory. If it grants 65,536 elements, the job ends as its operation calls for on the worker's files, and so no write ends with -12 (ENOMEM).
+    pub fn turn_in<M: Memory>(&mut self, memory: &M) -> Worked
+        ensures turns { Turns self.old self.new result }
+        ensures pairing { self.new.pairing ≡ self.old.pairing }
+        ensures files { length self.new.files ≡ length self.old.files }
+        ensures place { self.new.place ≡ self.old.place }
+        ensures granted { (n : ℕ) → M.grants memory.now n → max_len ≤ n
+            → EndsAsCalledFor self.old self.new }
+    {
         if self.results.is_full() {
             return Worked::Held;
         }
         let Ok(job) = self.jobs.pop() else {
             return Worked::Idle;
         };
-        let outcome = carry_out(&self.gate, &mut self.files, &job);
+        let outcome = carry_out(memory, &self.gate, &mut self.files, &job);
         self.results.push_reserved(JobResult {
             number: job.number,
             outcome,
@@ -161,13 +179,20 @@ impl<G: Gate> Worker<G> {
 }
 
 /// Passes the gate with the job's number, and then carries the job out on these files.
-fn carry_out<G: Gate>(gate: &G, files: &mut Files, job: &Job) -> Outcome
+fn carry_out<M: Memory, G: Gate>(
+    memory: &M,
+    gate: &G,
+    files: &mut Files,
+    job: &Job,
+) -> Outcome
     requires { IsForFiles job.now.op }
     // The gate let it pass with the files as they were before.
     ensures passed { G.passes gate.now job.now.number files.old ≡ true }
     ensures outcome { IsOutcome files.old job.now.op result }
     ensures files { files.new ≡ after files.old job.now.op result.res }
+    ensures granted { (n : ℕ) → M.grants memory.now n → max_len ≤ n
+        → result ≡ result_of files.old job.now.op }
 {
     gate.pass(job.number, files);
-    files.apply(&job.op)
+    files.apply_in(memory, &job.op)
 }

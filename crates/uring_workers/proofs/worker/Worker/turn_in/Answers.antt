@@ -1,8 +1,10 @@
-use Rattle.std.proofs.Common.{length, refl, ap, ◌∙◌, arith}
+use Rattle.std.proofs.Common.{◌≡◌, List, [], ◌∷◌, length, refl, sym, ap, ◌∙◌, arith}
+use Rattle.std.proofs.lemmas.List.{append_cancel_left}
 use Rattle.rtrb.specs.Ring.{sent, received}
+use Rattle.uring_files.specs.Done.{Done}
 use Rattle.uring_workers.specs.Worker.{Worker}
 use Rattle.uring_workers.proofs.Working.{goes_on, done_of-snoc, many_after, done_as, same_ring, same_worker}
-use Rattle.uring_workers.proofs.worker.Worker.turn.Goals as goal
+use Rattle.uring_workers.proofs.worker.Worker.turn_in.Goals as goal
 
 pub invariant_of-self : goal.invariant_of-self
 invariant_of-self g c = rw c.is_full.ensures.looked.1 c.self.invariant
@@ -40,3 +42,13 @@ pub returns-clause-files : goal.returns-clause-files
 returns-clause-files g c =
     let turned = returns-clause-turns g c in
     ap (λ (w : Worker). length w.files) turned.2.done ∙ many_after c.args.self.now.files turned.0.op turned.0.outcome.res
+
+pub returns-clause-granted : goal.returns-clause-granted
+unfolding returns-clause-turns
+returns-clause-granted g c n grants enough d is =
+    let turned = returns-clause-turns g c in
+    let carried : Done = done_as c.in-Ok.job c.carry_out-outcome.result in
+    let before : List Done = c.args.self.now.done in
+    let last = append_cancel_left before (d ∷ []) (carried ∷ []) (sym is ∙ ap (λ (w : Worker). w.done) turned.2.done) in
+    let same : d ≡ carried = cc last in
+    rw same (rw (← c.self.view_is) (c.carry_out-outcome.ensures.granted n grants enough))

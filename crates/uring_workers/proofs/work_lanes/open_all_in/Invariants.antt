@@ -1,7 +1,7 @@
 use Rattle.std.proofs.Common.{◌≡◌, ◌++◌, length}
 use Rattle.std.specs.Vec.Iter.{into_iter_items, into_iter_len}
 use Rattle.uring_workers.specs.Opened.{AreOpened}
-use Rattle.uring_workers.proofs.work_lanes.open_all.Given as goal
+use Rattle.uring_workers.proofs.work_lanes.open_all_in.Given as goal
 
 -- so many gates were taken, and each has its worker
 abbrev pub invariant-loop-gate : goal.invariant-loop-gate
