@@ -1,4 +1,4 @@
-//! Growth of texts by a memory.
+//! Growth of texts and of lists of bytes by a memory.
 
 ghost use Rattle.std.specs.Prelude.{◌≡◌, ◌+◌, ◌<◌, ◌≤◌, ◌++◌, ◌∷◌, [], ℕ, length, codes, slice_index, ◌/◌, ◌%◌, OnOk, OnErr, IsOk, string_bytes, string_len, string_capacity, decimal};
 ghost use Rattle.std.specs.Fmt.{signed_decimal};
@@ -39,6 +39,19 @@ pub fn push_text<M: TextMemory>(
 {
     memory.reserve_text(text, more.len())?;
     text.push_str(more)
+}
+
+/// Appends bytes to a list, as `push_text` does to a text.
+pub fn push_bytes<M: Memory>(
+    memory: &M,
+    list: &mut Vec<u8>,
+    bytes: &[u8],
+) -> Result<(), AllocError>
+    ensures items { OnOk result (list.new.items ≡ list.old.items ++ bytes.now) }
+    ensures granted { ((n : ℕ) → M.grants memory.now n) → IsOk result }
+{
+    memory.reserve(list, bytes.len())?;
+    list.extend_from_slice(bytes)
 }
 
 /// Appends a number in decimal digits, as `push_text` does.
