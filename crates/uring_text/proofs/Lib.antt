@@ -5,11 +5,13 @@ pub mod Trimming
 pub mod NumberLaws
 pub mod FlagLaws
 pub mod HexLaws
+pub mod Hexadecimal
 pub mod FormLaws
 pub mod EntryLaws
 pub mod Spellings
 pub mod KeptLines
 pub mod LineLaws
 pub mod Splits
+pub mod Cutting
 pub mod Writing
 pub mod VisibleLaws

@@ -1,11 +1,11 @@
 //! The text of a completion.
 
-ghost use Rattle.std.specs.Prelude.{◌≡◌, ◌++◌, OnOk, string_bytes};
+ghost use Rattle.std.specs.Prelude.{◌≡◌, ◌++◌, ℕ, OnOk, IsOk, string_bytes};
 ghost use Rattle.uring_text.specs.Tokens.{hex_or_dash};
 ghost use Rattle.uring_text.specs.Completions.{completion_text, trimmed};
 
+use crate::growth::{TextMemory, push_hex, push_number, push_signed, push_text};
 use std::alloc::{AllocError, Global};
-use std::fmt::Write;
 use uring_entry::Cqe;
 
 /// Appends a completion: its user data, its result and its data, without the end of the line.
@@ -13,22 +13,38 @@ pub fn push_completion(alloc: Global, text: &mut String, completion: &Cqe) -> Re
     ensures { OnOk result
         (string_bytes text.new ≡ string_bytes text.old ++ completion_text completion.now) }
 {
-    let user_data = completion.user_data();
-    let res = completion.res();
-    write!(text, "cqe {user_data} {res} ")?;
+    push_completion_in(&alloc, text, completion)
+}
+
+/// As `push_completion`, by this memory. If it grants whatever is asked for, there is no error.
+pub fn push_completion_in<M: TextMemory>(
+    memory: &M,
+    text: &mut String,
+    completion: &Cqe,
+) -> Result<(), AllocError>
+    ensures bytes { OnOk result
+        (string_bytes text.new ≡ string_bytes text.old ++ completion_text completion.now) }
+    ensures granted { ((n : ℕ) → M.grants memory.now n) → IsOk result }
+{
+    push_text(memory, text, "cqe ")?;
+    push_number(memory, text, completion.user_data())?;
+    push_text(memory, text, " ")?;
+    push_signed(memory, text, completion.res())?;
+    push_text(memory, text, " ")?;
     let payload = completion.payload();
-    push_data(alloc, text, without_zeros(&payload))
+    push_data(memory, text, without_zeros(&payload))
 }
 
 /// Appends bytes as two lower case hexadecimal digits each, or `-` for none.
-fn push_data(alloc: Global, text: &mut String, bytes: &[u8]) -> Result<(), AllocError>
-    ensures { OnOk result (string_bytes text.new ≡ string_bytes text.old ++ hex_or_dash bytes.now) }
+fn push_data<M: TextMemory>(memory: &M, text: &mut String, bytes: &[u8]) -> Result<(), AllocError>
+    ensures bytes { OnOk result
+        (string_bytes text.new ≡ string_bytes text.old ++ hex_or_dash bytes.now) }
+    ensures granted { ((n : ℕ) → M.grants memory.now n) → IsOk result }
 {
     if bytes.is_empty() {
-        return text.push_str("-");
+        return push_text(memory, text, "-");
     }
-    let digits = hex::encode(alloc, bytes)?;
-    text.push_str(digits.as_str())
+    push_hex(memory, text, bytes)
 }
 
 /// The bytes without the zeros at their end.

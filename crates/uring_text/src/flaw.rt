@@ -1,14 +1,14 @@
 //! The words for the first place at which a line isn't one of the language.
 
-ghost use Rattle.std.specs.Prelude.{◌≡◌, ◌≤◌, ◌++◌, OnOk, length, map, string_bytes, codes};
+ghost use Rattle.std.specs.Prelude.{◌≡◌, ◌≤◌, ◌++◌, ℕ, OnOk, IsOk, length, map, string_bytes, codes};
 ghost use Rattle.uring_text.specs.Flaws.{column_behind, found_text, stop_text, flaw_text};
 ghost use Rattle.uring_text.specs.Places.{place_text};
 
+use crate::growth::{TextMemory, push_number, push_text};
 use crate::place::{Place, place_text};
 use crate::reach::Reach;
-use crate::visible::push_visible;
+use crate::visible::push_visible_in;
 use std::alloc::{AllocError, Global};
-use std::fmt::Write;
 
 /// Appends where a line stops fitting, what stands there and what may: `column N: FOUND, wanted: ..`. The column counts bytes from 1 on; `tokens` are the line's.
 pub fn push_flaw(
@@ -23,52 +23,82 @@ pub fn push_flaw(
         (string_bytes text.new
         ≡ string_bytes text.old ++ flaw_text line.now (map (λ token. token.now) tokens.now) reach) }
 {
+    push_flaw_in(&alloc, text, line, tokens, reach)
+}
+
+/// As `push_flaw`, by this memory. If it grants whatever is asked for, there is no error.
+pub fn push_flaw_in<M: TextMemory>(
+    memory: &M,
+    text: &mut String,
+    line: &[u8],
+    tokens: &[&[u8]],
+    reach: Reach,
+) -> Result<(), AllocError>
+    requires { reach.tokens ≤ length tokens.now }
+    ensures bytes { OnOk result
+        (string_bytes text.new
+        ≡ string_bytes text.old ++ flaw_text line.now (map (λ token. token.now) tokens.now) reach) }
+    ensures granted { ((n : ℕ) → M.grants memory.now n) → IsOk result }
+{
     let column = column_behind(line, reach.tokens);
     let (_, rest) = tokens.split_at(reach.tokens);
-    push_stop(alloc, text, column, rest)?;
-    push_wanted(text, reach.wanted)
+    push_stop(memory, text, column, rest)?;
+    push_wanted(memory, text, reach.wanted)
 }
 
 /// Appends a column, and what stands there: the first of these tokens.
-fn push_stop(
-    alloc: Global,
+fn push_stop<M: TextMemory>(
+    memory: &M,
     text: &mut String,
     column: usize,
     tokens: &[&[u8]],
 ) -> Result<(), AllocError>
-    ensures { OnOk result
+    ensures bytes { OnOk result
         (string_bytes text.new
         ≡ string_bytes text.old ++ stop_text column (map (λ token. token.now) tokens.now)) }
+    ensures granted { ((n : ℕ) → M.grants memory.now n) → IsOk result }
 {
-    write!(text, "column {column}: ")?;
-    push_found(alloc, text, tokens)
+    push_text(memory, text, "column ")?;
+    push_number(memory, text, column as u64)?;
+    push_text(memory, text, ": ")?;
+    push_found(memory, text, tokens)
 }
 
 /// Appends what may stand at a place.
-fn push_wanted(text: &mut String, place: Place) -> Result<(), AllocError>
-    ensures { OnOk result
+fn push_wanted<M: TextMemory>(
+    memory: &M,
+    text: &mut String,
+    place: Place,
+) -> Result<(), AllocError>
+    ensures bytes { OnOk result
         (string_bytes text.new
         ≡ string_bytes text.old ++ (codes ", wanted: " ++ place_text place)) }
+    ensures granted { ((n : ℕ) → M.grants memory.now n) → IsOk result }
 {
-    text.push_str(", wanted: ")?;
-    text.push_str(place_text(place))
+    push_text(memory, text, ", wanted: ")?;
+    push_text(memory, text, place_text(place))
 }
 
 /// Appends what stands where these tokens are left.
-fn push_found(alloc: Global, text: &mut String, tokens: &[&[u8]]) -> Result<(), AllocError>
-    ensures { OnOk result
+fn push_found<M: TextMemory>(
+    memory: &M,
+    text: &mut String,
+    tokens: &[&[u8]],
+) -> Result<(), AllocError>
+    ensures bytes { OnOk result
         (string_bytes text.new
         ≡ string_bytes text.old ++ found_text (map (λ token. token.now) tokens.now)) }
+    ensures granted { ((n : ℕ) → M.grants memory.now n) → IsOk result }
 {
     let Some((token, _)) = tokens.split_first() else {
-        return text.push_str("the end of the line");
+        return push_text(memory, text, "the end of the line");
     };
     if token.is_empty() {
-        return text.push_str("a blank too many");
+        return push_text(memory, text, "a blank too many");
     }
-    text.push_str("`")?;
-    push_visible(alloc, text, token)?;
-    text.push_str("`")
+    push_text(memory, text, "`")?;
+    push_visible_in(memory, text, token)?;
+    push_text(memory, text, "`")
 }
 
 /// The column of the first byte behind so many blanks of a line, from 1 on.

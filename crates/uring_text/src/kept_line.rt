@@ -1,11 +1,12 @@
 //! What is kept of a line while it is read.
 
-ghost use Rattle.std.specs.Prelude.{◌≡◌, ◌<◌, ◌≤◌, ◌↔◌, ℕ, List, [], ◌∷◌, ◌++◌, IfOk, IfSome, IsTrue, MatchOption, length};
+ghost use Rattle.std.specs.Prelude.{◌≡◌, ◌<◌, ◌≤◌, ◌↔◌, ℕ, List, [], ◌∷◌, ◌++◌, IsOk, IfOk, IfSome, IsTrue, MatchOption, length};
 ghost use Rattle.uring_text.specs.KeptLine.{kept_of};
 ghost use Rattle.uring_text.specs.Remarks.{is_remark};
 
 use std::alloc::{AllocError, Global};
 use std::marker::Model;
+use uring_memory::Memory;
 
 /// Most bytes of a line that says something: our own rule.
 pub(crate) const LONGEST_LINE: usize = 300;
@@ -33,8 +34,16 @@ impl KeptLine {
     pub fn new(alloc: Global) -> Result<KeptLine, AllocError>
         ensures { IfOk result (λ kept. kept ≡ kept_of []) }
     {
+        KeptLine::new_in(&alloc, alloc)
+    }
+
+    /// As `new`, by this memory. If it grants 300 elements, there is no error.
+    pub fn new_in<M: Memory>(memory: &M, alloc: Global) -> Result<KeptLine, AllocError>
+        ensures kept { IfOk result (λ kept. kept ≡ kept_of []) }
+        ensures granted { (n : ℕ) → M.grants memory.now n → 300 ≤ n → IsOk result }
+    {
         Ok(KeptLine {
-            first: Vec::with_capacity(alloc, LONGEST_LINE)?,
+            first: memory.list(alloc, LONGEST_LINE)?,
             is_long: false,
         })
     }

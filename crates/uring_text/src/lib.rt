@@ -5,6 +5,7 @@ mod completion_text;
 mod entry_tokens;
 mod flag_tokens;
 mod flaw;
+mod growth;
 mod hex_tokens;
 mod kept_line;
 pub mod laws;
@@ -16,14 +17,17 @@ mod tokens;
 mod trace_fault;
 mod visible;
 
-pub use completion_text::push_completion;
+pub use completion_text::{push_completion, push_completion_in};
 pub use entry_tokens::spelled_entry;
-pub use flaw::push_flaw;
+pub use flaw::{push_flaw, push_flaw_in};
+pub use growth::{TextMemory, push_bytes, push_number, push_signed, push_text};
 pub use kept_line::KeptLine;
 pub use number_tokens::{spelled_long, spelled_number, spelled_signed};
 pub use place::{Kind, Place, is_of_kind};
 pub use reach::{Reach, entry_reach, kinds_reach};
 pub use streams::{Calls, read_once, write_all};
-pub use tokens::{is_name, split_tokens};
+pub use tokens::{is_name, split_tokens, split_tokens_in};
 pub use trace_fault::TraceFault;
-pub use visible::{push_visible, push_visible_line};
+pub use visible::{
+    push_visible, push_visible_in, push_visible_line, push_visible_line_in,
+};

@@ -91,6 +91,7 @@ pub fn write_all<W: Write>(
         × Appends (W.contents writer.old) (W.contents writer.new) written
         × WritesText result bytes.now written }
     ensures write { IfErr result (λ _. AreOver writes.new) }
+    ensures fault { IfErr result (λ fault. fault ≡ TraceFault.Write) }
 {
     let mut rest = bytes;
     while !rest.is_empty() {

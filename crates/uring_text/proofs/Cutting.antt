@@ -1,0 +1,63 @@
+-- The tokens of a line, one after another.
+use Rattle.std.proofs.Common.{◌≡◌, ℕ, ◌+◌, ◌<◌, ◌≤◌, Bool, true, false, eqb, List, [], ◌∷◌, ◌++◌, length, take, drop, get_or, map, sym, ap, ◌∙◌, append_assoc, append-nil, arith}
+use Rattle.std.specs.Prelude.{Option, Some, None, IfSome, IfNone}
+use Rattle.std.specs.Borrow.{Bor}
+use Rattle.std.specs.List.{All}
+use Rattle.std.proofs.lemmas.List.{drop_more, take-append-drop, map-append}
+use Rattle.std.proofs.lemmas.List.Splits.{slice_split_at}
+use Rattle.uring_text.specs.Tokens.{tokens_of}
+
+-- no byte is a blank
+abbrev pub HasNoBlank : List ℕ → Type 0
+HasNoBlank bytes = All (λ b. eqb b 32 ≡ false) bytes
+
+-- a line is cut at its first blank
+pub cut_at : (line : List ℕ) (i : ℕ) → i < length line → eqb (get_or line i 0) 32 ≡ true
+    → HasNoBlank (take i line) → tokens_of line ≡ take i line ∷ tokens_of (drop (i + 1) line)
+cut_at line i below blank none =
+    ap tokens_of (sym (take-append-drop i line) ∙ ap (λ (t : List ℕ). take i line ++ t) (drop_more line i 0 below))
+    ∙ slice_split_at (λ b. eqb b 32) (take i line) (get_or line i 0) (drop (i + 1) line) none blank
+
+-- the tokens of what is left of a line, if something is
+abbrev pub left_tokens : Option (Bor (List ℕ)) → List (List ℕ)
+left_tokens None = []
+left_tokens (Some rest) = tokens_of rest.now
+
+-- how much is left
+abbrev pub left_size : Option (Bor (List ℕ)) → ℕ
+left_size None = 0
+left_size (Some rest) = length rest.now + 1
+
+-- what tokens are
+abbrev pub words : List (Bor (List ℕ)) → List (List ℕ)
+words tokens = map (λ token. token.now) tokens
+
+-- a token more, and what is left behind it
+pub cut_more : (all : List (List ℕ)) (before after : List (Bor (List ℕ))) (token rest : Bor (List ℕ)) (left behind : Option (Bor (List ℕ)))
+    → left ≡ Some rest → after ≡ before ++ token ∷ []
+    → IfSome behind (λ b. tokens_of rest.now ≡ token.now ∷ tokens_of b.now)
+    → IfNone behind (tokens_of rest.now ≡ token.now ∷ [])
+    → words before ++ left_tokens left ≡ all → words after ++ left_tokens behind ≡ all
+cut_more all before after token rest left (Some b) is made some none told =
+    ap (λ (t : List (Bor (List ℕ))). words t ++ tokens_of b.now) made
+    ∙ ap (λ (t : List (List ℕ)). t ++ tokens_of b.now) (map-append (λ (t : Bor (List ℕ)). t.now) before (token ∷ []))
+    ∙ append_assoc (words before) (token.now ∷ []) (tokens_of b.now)
+    ∙ ap (λ (t : List (List ℕ)). words before ++ t) (sym some)
+    ∙ ap (λ (o : Option (Bor (List ℕ))). words before ++ left_tokens o) (sym is) ∙ told
+cut_more all before after token rest left None is made some none told =
+    ap (λ (t : List (Bor (List ℕ))). words t ++ []) made ∙ append-nil (words (before ++ token ∷ []))
+    ∙ map-append (λ (t : Bor (List ℕ)). t.now) before (token ∷ [])
+    ∙ ap (λ (t : List (List ℕ)). words before ++ t) (sym none)
+    ∙ ap (λ (o : Option (Bor (List ℕ))). words before ++ left_tokens o) (sym is) ∙ told
+
+-- less is left
+pub cut_less : (rest : Bor (List ℕ)) (left behind : Option (Bor (List ℕ))) → left ≡ Some rest
+    → IfSome behind (λ b. length b.now < length rest.now) → left_size behind < left_size left
+cut_less rest left (Some b) is shorter = rw is (omega (arith, shorter))
+cut_less rest left None is shorter = rw is (omega arith)
+
+-- nothing is left
+pub cut_all : (all : List (List ℕ)) (tokens : List (Bor (List ℕ))) (left : Option (Bor (List ℕ)))
+    → left ≡ None → words tokens ++ left_tokens left ≡ all → words tokens ≡ all
+cut_all all tokens left is told =
+    sym (append-nil (words tokens)) ∙ ap (λ (o : Option (Bor (List ℕ))). words tokens ++ left_tokens o) (sym is) ∙ told

@@ -1,0 +1,11 @@
+use Rattle.std.proofs.Common.{refl, arith}
+use Rattle.uring_text.proofs.Hexadecimal.{hex_more, hex_all}
+use Rattle.uring_text.proofs.growth.push_hex.Goals as goal
+
+pub loop-byte-preserved : goal.loop-byte-preserved
+loop-byte-preserved g c =
+    hex_more _ _ _ c.args.bytes.now c.loop-byte.byte-index _ (omega arith) refl c.in_ok-push_pair.ensures.bytes c.loop-byte.invariant
+
+pub returns-clause-bytes : goal.returns-clause-bytes
+returns-clause-bytes g c =
+    hex_all _ _ c.args.bytes.now c.loop-byte.byte-index (omega arith) c.loop-byte.invariant
