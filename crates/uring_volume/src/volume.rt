@@ -91,7 +91,7 @@ fn take_out(numbers: &mut Vec<u64>, n: u64) -> bool
 }
 
 impl Volume {
-    ghost use Rattle.uring_volume.specs.Volume.{with_event, with_write, with_sync, is_one_of, running_writes, running_syncs, IsShown};
+    ghost use Rattle.uring_volume.specs.Volume.{with_event, with_write, with_sync, is_one_of, running_writes, running_syncs, IsShown, IsSound};
     ghost use Rattle.std.specs.Prelude.{ℕ, List};
     ghost use Rattle.uring_volume.specs.Writes.{Write};
     ghost use Rattle.uring_volume.specs.Images.{IsImage};
@@ -193,6 +193,13 @@ impl Volume {
             put(&mut self.events, Event::SyncFailed(s));
         }
         is_running
+    }
+
+    /// What holds of each volume, for the proofs of callers: a write has a number of its own, below the next one, and ends after it was issued.
+    pub fn is_sound(&self)
+        ensures { IsSound self.now }
+    {
+        let _bound = self.next;
     }
 
     /// Whether write `n` is safe: a sync that covers it has ended with success, and none that reaches it had failed by then. False too if no write has this number. It looks at all events, and for each end of a sync at those before it.
