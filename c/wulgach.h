@@ -3,7 +3,8 @@
  * A core is a pair of rings and its requests, moved one step at a time. The two sides of the rings, the
  * application and the dispatcher (the kernel's side), make their steps in any order; each step has one answer.
  * A core carries nothing out: how a running request ends comes from the caller (wulgach_core_finish), who
- * keeps the files. A machine is a core with up to 64 files of at most 65,536 bytes each in memory.
+ * keeps the files. A machine is a core with up to 64 files of at most 65,536 bytes each in memory. A volume is one file of
+ * any size and what a power failure may leave of it; it stands apart from both.
  *
  * What is proved, and what isn't. Each function below is proved to do what the contracts of the library say: after
  * any calls in any order, each answer is the one that the definitions of the protocol give for the calls before it.
@@ -12,7 +13,7 @@
  * caller does. The stack must suffice: a call takes a few kilobytes.
  *
  * What a caller owes. The library can't check these, and breaking one is undefined behaviour.
- *   - A place (struct wulgach_core, struct wulgach_machine) is zero before its first use: `= { 0 }`. After that
+ *   - A place (struct wulgach_core, struct wulgach_machine, struct wulgach_volume) is zero before its first use: `= { 0 }`. After that
  *     its bytes are left alone, and never copied to be used twice. A place may be moved (memcpy) if the old one
  *     isn't used again.
  *   - No pointer is null, each points to a whole struct of its type, and those of one call don't overlap.
@@ -25,27 +26,35 @@
  * has changed:
  *   -9  (EBADF)   the place is empty. Returned by every function of a place but `new`, and only then.
  *   -22 (EINVAL)  from `step`: the words give no step. From `new`: a number of the set-up is out of its range, and
- *                 wulgach_setup_fault says which.
- *   -12 (ENOMEM)  from `new`: memory was refused.
- *   -2  (ENOENT)  from a function that reads: there is no such completion, request, file or byte.
+ *                 wulgach_setup_fault says which; of a volume, the unit is 0. From `begin_..`: no number is left.
+ *   -12 (ENOMEM)  from `new`, and from `begin_..`, `contents` and `crash` of a volume: memory was refused.
+ *   -27 (EFBIG)   from `begin_write`: the write would end above 2^63 - 1.
+ *   -2  (ENOENT)  from a function that reads: there is no such completion, request, file or byte. From `end_..` and `fail_..`
+ *                 of a volume: no write or sync of this number runs.
  */
 #ifndef WULGACH_H
 #define WULGACH_H
 
 #include <stdbool.h>
+#include <stddef.h>
 #include <stdint.h>
 
 #ifdef __cplusplus
 extern "C" {
 #endif
 
-/* A place for a core, and one for a machine. All zero: empty. The fields belong to the library. */
+/* A place for a core, one for a machine, and one for a volume. All zero: empty. The fields belong to the library. */
 struct wulgach_core {
     void *at;
     bool is_full;
 };
 
 struct wulgach_machine {
+    void *at;
+    bool is_full;
+};
+
+struct wulgach_volume {
     void *at;
     bool is_full;
 };
@@ -314,7 +323,69 @@ int32_t wulgach_machine_state(struct wulgach_machine *machine, int32_t fd, struc
 /* Writes the byte at an offset of a file. -2 if there is no such file, or the offset isn't below its length. */
 int32_t wulgach_machine_byte(struct wulgach_machine *machine, int32_t fd, uint64_t at, uint8_t *byte);
 
-/* Entries. These functions aren't part of what is proved. */
+/* A volume: one file, and what a power failure may leave of it. You say when a write or a sync begins and when it ends.
+ *
+ * A write is safe if it had ended when a sync began that has ended since with success, lies whole in the bytes that the sync
+ * is of, and no failed sync had reached it by then. That the write ended before the sync did isn't enough.
+ *
+ * A crash leaves each unit of the file by itself, a unit being as many bytes as `new` was told. The unit shows the first bytes
+ * with some of the writes over them: each safe one is there, with each write those that had ended when it began, and no write
+ * lies over one that began after it had ended. A unit of 1 promises least; no manual promises more. docs/CRASHES.md has the whole rule.
+ *
+ * Memory is asked for where a write or a sync begins, and when bytes are read; to end one takes none. A volume keeps all its
+ * writes until it is freed. */
+
+/* Puts a new volume into a place, empty or not: a volume that was there is freed. Its units have so many bytes, and it begins
+ * with these bytes, which are safe. -22 exactly if unit is 0, -12 if memory was refused; the place then keeps what it had. */
+int32_t wulgach_volume_new(struct wulgach_volume *volume, uint64_t unit, const uint8_t *bytes, size_t len);
+
+/* Begins a write of these bytes at an offset, and writes its number: 1 for the first write or sync, and one more for each. */
+int32_t wulgach_volume_begin_write(struct wulgach_volume *volume, uint64_t off, const uint8_t *bytes, size_t len, uint64_t *number);
+
+/* Ends write number. A write that failed is best left running: then any part of it may be found. -2 exactly if it doesn't run. */
+int32_t wulgach_volume_end_write(struct wulgach_volume *volume, uint64_t number);
+
+/* Begins a sync of the whole file, or of len bytes from off on, and writes its number. An fdatasync is a sync too: it leaves out
+ * what no read of the file needs. */
+int32_t wulgach_volume_begin_sync(struct wulgach_volume *volume, uint64_t *number);
+int32_t wulgach_volume_begin_range_sync(struct wulgach_volume *volume, uint64_t off, uint64_t len, uint64_t *number);
+
+/* Ends sync number with success, or with an error: no later sync then makes safe what it had reached. -2 exactly if it doesn't run. */
+int32_t wulgach_volume_end_sync(struct wulgach_volume *volume, uint64_t number);
+int32_t wulgach_volume_fail_sync(struct wulgach_volume *volume, uint64_t number);
+
+/* Writes whether write number is safe: false too if no write has this number. */
+int32_t wulgach_volume_is_safe(struct wulgach_volume *volume, uint64_t number, bool *is_safe);
+
+/* Writes the file as a read shows it now: the first bytes with the writes over them that have ended. As many bytes as there is room
+ * for are written, and *len is how many there are. */
+int32_t wulgach_volume_contents(struct wulgach_volume *volume, uint8_t *bytes, size_t room, uint64_t *len);
+
+/* Writes the file as a crash may leave it, in the same way. The volume stays as it is, so that many crashes can be tried; for the
+ * time after one, put a new volume with what it left into the place.
+ *
+ * The choice says which. Any numbers are one, and count may be 0. A 0 ends a part: the first part is for the length, each
+ * later one for a unit, in their order. The numbers of a part name the writes that are left, one over the other; one that may
+ * not come next is passed over. After them follow the other writes, up to the last safe one. Every image that a crash may leave is left by some choice. */
+int32_t wulgach_volume_crash(struct wulgach_volume *volume, const uint64_t *choice, size_t count, uint8_t *bytes, size_t room, uint64_t *len);
+
+/* Frees the volume, and leaves the place empty. */
+int32_t wulgach_volume_free(struct wulgach_volume *volume);
+
+/* Choices and entries. These functions aren't part of what is proved. */
+
+/* Fills a choice with numbers up to last, the greatest that a write has, by a seed: the same one each time for the same seed. One
+ * in four ends a part. */
+static inline void wulgach_volume_choose(uint64_t seed, uint64_t last, uint64_t *choice, size_t count)
+{
+    for (size_t i = 0; i < count; i++) {
+        uint64_t bits = seed += 0x9e3779b97f4a7c15u;
+        bits = (bits ^ bits >> 30) * 0xbf58476d1ce4e5b9u;
+        bits = (bits ^ bits >> 27) * 0x94d049bb133111ebu;
+        bits ^= bits >> 31;
+        choice[i] = bits % 4 == 0 || last == 0 ? 0 : 1 + bits / 4 % last;
+    }
+}
 
 static inline void wulgach_entry(uint64_t entry[16], uint8_t code, uint64_t user_data, uint8_t flags, int32_t fd)
 {

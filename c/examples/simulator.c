@@ -1,10 +1,12 @@
-/* A simulator to start from: a core of wulgach over storage of its own.
+/* A simulator to start from: a core of wulgach over storage of its own, a volume that a power failure may tear.
  *
- * The application submits a chain (write, write, fsync) and two loose writes, all of blocks of 4,096 bytes. The simulator
- * is the dispatcher: it issues and finishes requests in an order that a seed chooses, among the orders that the core
- * allows. In some runs the chain's second write fails; some end with a crash, which loses any part of what no fsync made
- * safe. An fsync makes safe what had ended when it was issued: a write that ends while it runs isn't covered. What the
- * application was told is then compared with what is on the disk.
+ * On it runs a store with a log. A commit is a write of its record and an fsync, and the store acknowledges it when both
+ * completions have come, the write's first. The store submits both at once. In the right store the fsync is linked to the write, so
+ * that it is issued when that has ended. In the planted one it isn't: it may be issued while the write runs, and covers nothing of it.
+ *
+ * The simulator is the dispatcher: it issues and finishes requests in an order that a seed chooses, among those that the core allows.
+ * At some point the power fails. Of what may then be left, some images are tried: each acknowledged record must be in all of them.
+ * Beside it stands the generous rule, by which a write is safe if it had ended when the fsync ended: it finds nothing.
  *
  *   cc simulator.c $(pkg-config --cflags --libs wulgach) && ./a.out
  */
@@ -14,19 +16,19 @@
 
 #include "wulgach.h"
 
-enum { BLOCK = 4096, BLOCKS = 4, REQUESTS = 5, RUNS = 3000, ORDERS = 120 };
+enum { RECORD = 8, COMMITS = 4, REQUESTS = 2 * COMMITS, LOG = RECORD * COMMITS, RUNS = 1000, CRASHES = 8, CHOICE = 128 };
 
-/* What a read sees, what the fsync that runs covers, and what is left for sure after a crash. */
+/* The log on its volume. The number that the volume gave to each request that was issued, 0 if none; and what the generous rule
+ * takes for safe. */
 struct disk {
-    uint8_t now[BLOCKS][BLOCK];
-    uint8_t covered[BLOCKS][BLOCK];
-    uint8_t safe[BLOCKS][BLOCK];
+    struct wulgach_volume volume;
+    uint64_t numbers[REQUESTS];
+    bool has_ended[COMMITS], is_synced[COMMITS];
 };
 
-/* What all runs found. */
+/* What all runs of a store found. */
 struct findings {
-    unsigned orders[ORDERS][REQUESTS];
-    unsigned order_count, faults, cancelled, crashes, safe_lost, unsafe_lost;
+    unsigned acknowledged, cancelled, crashes, lost, lost_generously, first_run, first_crash;
 };
 
 static uint64_t rng;
@@ -39,15 +41,19 @@ static uint32_t below(uint32_t n)
     return (uint32_t)(rng >> 32) % n;
 }
 
-/* Makes one step. A core refuses none of these, so a refusal is a mistake in this program. */
+/* None of the calls here is refused unless memory is, so that a refusal ends the program. */
+static void must(int32_t result)
+{
+    if (result != 0) {
+        fprintf(stderr, "a call was refused: %d\n", result);
+        exit(1);
+    }
+}
+
 static struct wulgach_answer make(struct wulgach_core *core, const struct wulgach_step *step)
 {
     struct wulgach_answer answer;
-    int32_t result = wulgach_core_step(core, step, &answer);
-    if (result != 0) {
-        fprintf(stderr, "a step was refused: %d\n", result);
-        exit(1);
-    }
+    must(wulgach_core_step(core, step, &answer));
     return answer;
 }
 
@@ -56,24 +62,17 @@ static struct wulgach_answer simple(struct wulgach_core *core, uint32_t kind, ui
     return make(core, &(struct wulgach_step){.kind = kind, .word = word});
 }
 
-/* The application's side: the user data of a request is its place here. An entry's offset and length count blocks, and
- * byte i of its data is what block off + i is filled with. */
-static void submit(struct wulgach_core *core)
+/* The store's side: the write of commit i is request 2i and its fsync 2i + 1, by their user data too. */
+static void submit(struct wulgach_core *core, bool is_planted)
 {
     for (uint32_t i = 0; i < REQUESTS; i++) {
         struct wulgach_step fill = {.kind = WULGACH_FILL, .word = i};
-        uint8_t data = (uint8_t)('a' + i);
-        switch (i) {
-        case 0:
-        case 1:
-            wulgach_write(fill.entry, i, WULGACH_IO_LINK, 0, i, &data, 1);
-            break;
-        case 2:
+        uint8_t record[RECORD];
+        memset(record, 'a' + (int)(i / 2), RECORD);
+        if (i % 2 == 0)
+            wulgach_write(fill.entry, i, is_planted ? 0 : WULGACH_IO_LINK, 0, i / 2 * RECORD, record, RECORD);
+        else
             wulgach_fsync(fill.entry, i, 0, 0);
-            break;
-        default:
-            wulgach_write(fill.entry, i, 0, 0, i - 1, &data, 1);
-        }
         make(core, &fill);
         simple(core, WULGACH_INDEX, i);
     }
@@ -84,127 +83,138 @@ static void submit(struct wulgach_core *core)
     simple(core, WULGACH_END, 0);
 }
 
-/* Carries an operation out on the disk, and returns its result: the blocks moved, or 0. */
-static int32_t carry_out(struct disk *disk, const struct wulgach_operation *op)
-{
-    if (op->code == WULGACH_OP_FSYNC) {
-        memcpy(disk->safe, disk->covered, sizeof disk->safe);
-        return 0;
-    }
-    for (uint32_t i = 0; i < op->len; i++)
-        memset(disk->now[op->off + i], op->bytes[i], BLOCK);
-    return (int32_t)op->len;
-}
-
-/* Issues a request. Returns whether that ended it. */
+/* Issues a request, and begins on the volume what runs then. Returns whether that ended it. */
 static bool issue(struct wulgach_core *core, struct disk *disk, uint64_t number)
 {
     struct wulgach_operation op;
     struct wulgach_answer answer = make(core, &(struct wulgach_step){.kind = WULGACH_ISSUE, .number = number});
-    if (answer.kind == WULGACH_RUN && wulgach_core_running_op(core, number, &op) == 0 && op.code == WULGACH_OP_FSYNC)
-        memcpy(disk->covered, disk->now, sizeof disk->covered);
+    if (answer.kind == WULGACH_RUN && wulgach_core_running_op(core, number, &op) == 0) {
+        if (op.code == WULGACH_OP_FSYNC)
+            must(wulgach_volume_begin_sync(&disk->volume, &disk->numbers[number]));
+        else
+            must(wulgach_volume_begin_write(&disk->volume, op.off, op.bytes, op.len, &disk->numbers[number]));
+    }
     return answer.kind == WULGACH_ENDED;
 }
 
-/* The dispatcher's side: lets a request go on that the seed chooses. Returns whether one ended. */
-static bool go_on(struct wulgach_core *core, struct disk *disk, bool has_fault)
+/* Ends a running operation on the volume, and returns its result. */
+static int32_t carry_out(struct disk *disk, uint64_t number, const struct wulgach_operation *op)
+{
+    if (op->code == WULGACH_OP_FSYNC) {
+        must(wulgach_volume_end_sync(&disk->volume, disk->numbers[number]));
+        memcpy(disk->is_synced, disk->has_ended, sizeof disk->is_synced);
+        return 0;
+    }
+    must(wulgach_volume_end_write(&disk->volume, disk->numbers[number]));
+    disk->has_ended[number / 2] = true;
+    return (int32_t)op->len;
+}
+
+/* The dispatcher's side: lets a request go on that the seed chooses. Returns whether one ended. The write of a bad commit fails, and
+ * is left running on the volume: any part of it may be found. */
+static bool go_on(struct wulgach_core *core, struct disk *disk, uint64_t bad)
 {
     uint64_t number = below(REQUESTS);
     struct wulgach_operation op;
     if (wulgach_core_running_op(core, number, &op) != 0)
         return issue(core, disk, number);
-    int32_t res = has_fault && number == 1 ? -5 : carry_out(disk, &op);
+    int32_t res = number == 2 * bad ? -5 : carry_out(disk, number, &op);
     struct wulgach_bytes none = {{0}};
     struct wulgach_answer answer;
-    wulgach_core_finish(core, number, res, &none, &answer);
+    must(wulgach_core_finish(core, number, res, &none, &answer));
     return true;
 }
 
-/* Each block that isn't safe was written to the disk or not. */
-static void crash(struct disk *disk)
+/* Reaps all completions, and marks which commits the store has acknowledged. */
+static void acknowledge(struct wulgach_core *core, bool acknowledged[COMMITS], struct findings *found)
 {
-    for (int i = 0; i < BLOCKS; i++)
-        if (below(2) == 0)
-            memcpy(disk->now[i], disk->safe[i], BLOCK);
-    memcpy(disk->safe, disk->now, sizeof disk->safe);
-}
-
-static void note_order(struct findings *found, const unsigned order[REQUESTS])
-{
-    for (unsigned i = 0; i < found->order_count; i++)
-        if (memcmp(found->orders[i], order, sizeof found->orders[i]) == 0)
-            return;
-    memcpy(found->orders[found->order_count++], order, sizeof found->orders[0]);
-}
-
-/* Reaps all completions, and compares what they promise with the disk. */
-static void look(struct wulgach_core *core, const struct disk *disk, struct findings *found)
-{
-    unsigned order[REQUESTS], count = 0;
-    int32_t results[REQUESTS];
-    bool is_told[REQUESTS] = {false};
+    bool is_written[COMMITS] = {false};
     simple(core, WULGACH_LOAD_CQ_TAIL, 0);
     for (struct wulgach_answer a = simple(core, WULGACH_REAP, 0); a.kind == WULGACH_REAPED; a = simple(core, WULGACH_REAP, 0)) {
-        order[count++] = (unsigned)a.number;
-        results[a.number] = a.res;
-        is_told[a.number] = true;
+        uint64_t commit = a.number / 2;
+        found->cancelled += a.res == -125;
+        if (a.number % 2 == 0)
+            is_written[commit] = a.res == RECORD;
+        else if (a.res == 0 && is_written[commit])
+            acknowledged[commit] = true;
     }
     simple(core, WULGACH_STORE_CQ_HEAD, 0);
-    if (count == REQUESTS) {
-        note_order(found, order);
-        found->cancelled += results[2] == -125;
-    }
-    bool is_synced = is_told[2] && results[2] == 0;
-    for (unsigned i = 0; i < REQUESTS; i++) {
-        if (i == 2 || !is_told[i] || results[i] != 1)
-            continue;
-        bool is_there = disk->now[i < 2 ? i : i - 1][0] == 'a' + i;
-        if (!is_there && is_synced && i < 2)
-            found->safe_lost++;
-        else if (!is_there)
-            found->unsafe_lost++;
-    }
 }
 
-static int32_t run(uint64_t seed, struct findings *found)
+/* Whether the record of a commit is in the log. */
+static bool holds(const uint8_t log[LOG], uint64_t len, unsigned commit)
 {
-    rng = seed * 0x9e3779b97f4a7c15u | 1;
+    if (len < (commit + 1) * RECORD)
+        return false;
+    for (unsigned i = 0; i < RECORD; i++)
+        if (log[commit * RECORD + i] != 'a' + commit)
+            return false;
+    return true;
+}
+
+/* The power fails: tries some images that may be left, and looks for the acknowledged records in each. */
+static void crash(struct disk *disk, const bool acknowledged[COMMITS], unsigned run, struct findings *found)
+{
+    for (unsigned i = 1; i <= CRASHES; i++) {
+        uint64_t choice[CHOICE], len;
+        uint8_t log[LOG];
+        wulgach_volume_choose(run * CRASHES + i, REQUESTS, choice, CHOICE);
+        must(wulgach_volume_crash(&disk->volume, choice, CHOICE, log, LOG, &len));
+        for (unsigned commit = 0; commit < COMMITS; commit++) {
+            if (!acknowledged[commit] || holds(log, len, commit))
+                continue;
+            if (found->lost++ == 0) {
+                found->first_run = run;
+                found->first_crash = i;
+            }
+        }
+    }
+    for (unsigned commit = 0; commit < COMMITS; commit++) {
+        found->acknowledged += acknowledged[commit];
+        found->lost_generously += acknowledged[commit] && !disk->is_synced[commit];
+    }
+    found->crashes += CRASHES;
+}
+
+static void play(unsigned run, bool is_planted, struct findings *found)
+{
+    rng = run * 0x9e3779b97f4a7c15u | 1;
     for (int i = 0; i < 8; i++)
         below(1);
-    static struct disk disk;
-    memset(&disk, 0, sizeof disk);
+    struct disk disk = {.volume = {0}};
     struct wulgach_core core = {0};
-    int32_t result = wulgach_core_new(&core, &(struct wulgach_setup){.sq = 8, .files = 1});
-    if (result != 0)
-        return result;
-    bool has_fault = below(3) == 0, crashes = below(2) == 0;
-    uint32_t most = crashes ? below(REQUESTS) : REQUESTS;
-    submit(&core);
+    uint8_t nothing = 0;
+    must(wulgach_volume_new(&disk.volume, 1, &nothing, 0));
+    must(wulgach_core_new(&core, &(struct wulgach_setup){.sq = REQUESTS, .files = 1}));
+    uint64_t bad = below(2 * COMMITS);
+    uint32_t most = below(REQUESTS + 1);
+    submit(&core, is_planted);
     for (uint32_t ended = 0; ended < most;)
-        ended += go_on(&core, &disk, has_fault);
-    if (crashes) {
-        crash(&disk);
-        found->crashes++;
-    } else {
-        found->faults += has_fault;
-    }
-    look(&core, &disk, found);
-    return wulgach_core_free(&core);
+        ended += go_on(&core, &disk, bad);
+    bool acknowledged[COMMITS] = {false};
+    acknowledge(&core, acknowledged, found);
+    crash(&disk, acknowledged, run, found);
+    must(wulgach_core_free(&core));
+    must(wulgach_volume_free(&disk.volume));
+}
+
+static struct findings play_all(const char *name, bool is_planted)
+{
+    struct findings found = {0};
+    for (unsigned run = 1; run <= RUNS; run++)
+        play(run, is_planted, &found);
+    printf("%s: %d runs, %u commits acknowledged, %u fsyncs cancelled, %u crashes tried\n", name, RUNS, found.acknowledged, found.cancelled, found.crashes);
+    printf("  by the generous rule %u of them would be lost\n", found.lost_generously);
+    if (found.lost == 0)
+        printf("  none was lost in any crash\n");
+    else
+        printf("  lost, the first time in crash %u of run %u\n", found.first_crash, found.first_run);
+    return found;
 }
 
 int main(void)
 {
-    static struct findings found;
-    for (uint64_t seed = 1; seed <= RUNS; seed++) {
-        int32_t result = run(seed, &found);
-        if (result != 0) {
-            fprintf(stderr, "seed %d: error %d\n", (int)seed, result);
-            return 1;
-        }
-    }
-    printf("%d runs of write, write, fsync in a chain, beside two loose writes\n", RUNS);
-    printf("%u orders of completion, of 5! / 3! = 20 that are lawful\n", found.order_count);
-    printf("%u runs with a fault in the second write: the fsync was cancelled in %u\n", found.faults, found.cancelled);
-    printf("%u crashes: %u blocks lost that an fsync had made safe, %u that were only written\n", found.crashes, found.safe_lost, found.unsafe_lost);
-    return found.safe_lost == 0 ? 0 : 1;
+    struct findings right = play_all("the right store", false);
+    struct findings planted = play_all("the planted store", true);
+    return right.lost == 0 && planted.lost > 0 ? 0 : 1;
 }

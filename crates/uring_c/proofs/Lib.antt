@@ -1,2 +1,3 @@
 pub mod CoreBox
 pub mod MachineBox
+pub mod VolumeBox

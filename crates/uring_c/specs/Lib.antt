@@ -8,3 +8,4 @@ pub mod WhyForm
 pub mod SetUps
 pub mod Stepping
 pub mod ReadingForms
+pub mod VolumeForms

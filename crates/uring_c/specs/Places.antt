@@ -2,8 +2,10 @@
 use Rattle.std.specs.Prelude.{Option}
 use Rattle.uring_core.specs.Core.{Core}
 use Rattle.uring_machine.specs.Machine.{Machine}
+use Rattle.uring_volume.specs.Volume.{Volume}
 use Rattle.uring_c.specs.declared.core_place.CorePlace.{CorePlace}
 use Rattle.uring_c.specs.declared.machine_place.MachinePlace.{MachinePlace}
+use Rattle.uring_c.specs.declared.volume_place.VolumePlace.{VolumePlace}
 
 -- the core in a place, if there is one
 abbrev pub core_in : CorePlace → Option Core
@@ -12,3 +14,7 @@ core_in place = place.slot.core
 -- the machine in a place, if there is one
 abbrev pub machine_in : MachinePlace → Option Machine
 machine_in place = place.slot.machine
+
+-- the volume in a place, if there is one
+abbrev pub volume_in : VolumePlace → Option Volume
+volume_in place = place.slot.volume

@@ -18,4 +18,8 @@ mod set_up_exports;
 mod set_up_words;
 mod state_words;
 mod step_words;
+mod volume_calls;
+mod volume_exports;
+mod volume_place;
+mod volume_slot;
 mod why_words;

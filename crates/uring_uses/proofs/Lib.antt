@@ -3,3 +3,4 @@ pub mod Replaying
 pub mod Turns
 pub mod Broken
 pub mod Unreaped
+pub mod Committing

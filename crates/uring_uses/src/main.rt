@@ -1,4 +1,4 @@
-//! Four callers of the machine, each with a contract of its own: one step, a list of steps, a simulator with storage of its own, and settling. The program prints what they do.
+//! Four callers of the machine, each with a contract of its own: one step, a list of steps, a simulator with storage of its own, and settling. And one of a volume: a store with a log. The program prints what they do.
 #![tactic(auto)]
 
 mod disk;
@@ -7,6 +7,7 @@ mod lists;
 mod one_step;
 mod settling;
 mod simulator;
+mod store;
 mod submissions;
 
 use crate::disk::{BLOCKS, Disk};

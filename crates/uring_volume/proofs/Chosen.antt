@@ -74,7 +74,7 @@ issued_in_order (WriteIssued v ∷ earlier) l =
       | inr none ↦ none
     ])
 issued_in_order (WriteEnded n ∷ earlier) l = same_order (WriteEnded n ∷ earlier) earlier (issued earlier) (λ m k. refl) (issued_in_order earlier l)
-issued_in_order (SyncIssued n ∷ earlier) l = same_order (SyncIssued n ∷ earlier) earlier (issued earlier) (λ m k. refl) (issued_in_order earlier l)
+issued_in_order (SyncIssued n range ∷ earlier) l = same_order (SyncIssued n range ∷ earlier) earlier (issued earlier) (λ m k. refl) (issued_in_order earlier l)
 issued_in_order (SyncEnded n ∷ earlier) l = same_order (SyncEnded n ∷ earlier) earlier (issued earlier) (λ m k. refl) (issued_in_order earlier l)
 issued_in_order (SyncFailed n ∷ earlier) l = same_order (SyncFailed n ∷ earlier) earlier (issued earlier) (λ m k. refl) (issued_in_order earlier l)
 

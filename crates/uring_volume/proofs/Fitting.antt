@@ -70,7 +70,7 @@ append_in_order h (x ∷ xs) ys ox oy after apart = (
 
 pub record FitsIn (h : History) (rest order : List Write) : Type 0 where
   pub within : (w : Write) → IsIn w order → IsIn w rest
-  pub safe : (w : Write) → IsIn w rest → is_safe h w.number ≡ true → IsIn w order
+  pub safe : (w : Write) → IsIn w rest → is_safe h w ≡ true → IsIn w order
   pub closed : (m w : Write) → IsIn m rest → IsIn w order → is_before h m.number w.number ≡ true
       → IsIn m order
   pub in_order : IsInOrder h order
@@ -104,7 +104,7 @@ safe_fits h (w ∷ later) o =
       | inl some ↦ subst (λ order. FitsIn h (w ∷ later) order) (sym (cond-true (has_safe h (w ∷ later)) (w ∷ up_to_safe h later) [] some)) (safe_fits_with h w later o (safe_fits h later o.2))
       | inr none ↦ subst (λ order. FitsIn h (w ∷ later) order) (sym (cond-false (has_safe h (w ∷ later)) (w ∷ up_to_safe h later) [] none)) (record {
         within = λ x among. absurd among;
-        safe = λ x among safe. absurd (both_ways (is_safe h x.number) (not_in (λ y. is_safe h y.number) x (w ∷ later) none among) safe);
+        safe = λ x among safe. absurd (both_ways (is_safe h x) (not_in (λ y. is_safe h y) x (w ∷ later) none among) safe);
         closed = λ m x among kept before. absurd kept;
         in_order = tt;
       })
@@ -191,11 +191,11 @@ named_is h w (y ∷ ys) a (inr more) =
     }) more
 
 none_left : (h : History) (rest : List Write)
-    → ((w : Write) → IsIn w rest → is_safe h w.number ≡ true → ⊥)
+    → ((w : Write) → IsIn w rest → is_safe h w ≡ true → ⊥)
     → up_to_safe h rest ≡ []
 none_left h [] none = refl
 none_left h (w ∷ later) none =
-    cond-false (has_safe h (w ∷ later)) (w ∷ up_to_safe h later) [] (none_in (λ y. is_safe h y.number) (w ∷ later) (λ x among. false_from_ne_true (is_safe h x.number) (none x among)))
+    cond-false (has_safe h (w ∷ later)) (w ∷ up_to_safe h later) [] (none_in (λ y. is_safe h y) (w ∷ later) (λ x among. false_from_ne_true (is_safe h x) (none x among)))
 
 -- the numbers of these writes
 abbrev pub numbers : List Write → List ℕ

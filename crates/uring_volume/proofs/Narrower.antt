@@ -2,7 +2,8 @@
 use Rattle.std.proofs.Common.{◌≡◌, ◌==◌, ℕ, Bool, true, not, ◌&&◌, ◌||◌, List, [], ◌∷◌, ◌++◌, refl, sym, subst, ap, ◌∙◌, inl, inr}
 use Rattle.std.proofs.lemmas.Bool.{or_cases, or_left, or_right, or_from, and_right, not_from_true}
 use Rattle.uring_volume.specs.Writes.{Write}
-use Rattle.uring_volume.specs.Events.{History, writes, has_ended, is_before, is_covered, is_given_up, is_safe}
+use Rattle.uring_volume.specs.Events.{History, writes, has_ended, lies_in, meets, is_before, is_covered, is_reached, is_given_up, is_safe}
+use Rattle.uring_volume.specs.declared.event.SyncRange.{SyncRange}
 use Rattle.uring_volume.specs.declared.event.Event.TheVariants.{WriteIssued, WriteEnded, SyncIssued, SyncEnded, SyncFailed}
 use Rattle.uring_volume.specs.Images.{IsIn, IsInOrder, MayBeLeft, IsImage}
 use Rattle.uring_volume.specs.Laws.{SyncAddsNone, ChangesNone, FailedIsNeverSafe}
@@ -11,7 +12,7 @@ use Rattle.uring_volume.specs.Laws.{SyncAddsNone, ChangesNone, FailedIsNeverSafe
 pub record IsNoTighter (g h : History) : Type 0 where
   pub writes : writes g ≡ writes h
   pub before : (m n : ℕ) → is_before g m n ≡ is_before h m n
-  pub safe : (n : ℕ) → is_safe g n ≡ true → is_safe h n ≡ true
+  pub safe : (w : Write) → is_safe g w ≡ true → is_safe h w ≡ true
 
 order_in : (g h : History) (order : List Write) → IsNoTighter g h → IsInOrder h order
     → IsInOrder g order
@@ -22,7 +23,7 @@ left_in : (g h : History) (touches : Write → Bool) (order : List Write) → Is
     → MayBeLeft h touches order → MayBeLeft g touches order
 left_in g h touches order t l = record {
   issued = λ w among. (subst (λ ws. IsIn w ws) (sym t.writes) (l.issued w among).0, (l.issued w among).1);
-  safe = λ w among on safe. l.safe w (subst (λ ws. IsIn w ws) t.writes among) on (t.safe w.number safe);
+  safe = λ w among on safe. l.safe w (subst (λ ws. IsIn w ws) t.writes among) on (t.safe w safe);
   with_those_before = λ m w among on kept before. l.with_those_before m w (subst (λ ws. IsIn m ws) t.writes among) on kept (sym (t.before m.number w.number) ∙ before);
   in_order = order_in g h order t l.in_order;
 }
@@ -65,50 +66,58 @@ before_same (WriteIssued w ∷ later) earlier s m n =
     ∙ ap (λ b. w.number == n && has_ended (later ++ earlier) m || b) (before_same later earlier s m n)
 before_same (e ∷ later) earlier s m n = before_same later earlier s m n
 
-covered_same : (later earlier : History) (s t n : ℕ)
-    → is_covered (later ++ SyncEnded s ∷ earlier) t n ≡ is_covered (later ++ earlier) t n
-covered_same [] earlier s t n = refl
-covered_same (SyncIssued r ∷ later) earlier s t n =
-    ap (λ b. r == t && b || is_covered (later ++ SyncEnded s ∷ earlier) t n) (ended_same later earlier s n)
-    ∙ ap (λ b. r == t && has_ended (later ++ earlier) n || b) (covered_same later earlier s t n)
-covered_same (e ∷ later) earlier s t n = covered_same later earlier s t n
+covered_same : (later earlier : History) (s t : ℕ) (w : Write)
+    → is_covered (later ++ SyncEnded s ∷ earlier) t w ≡ is_covered (later ++ earlier) t w
+covered_same [] earlier s t w = refl
+covered_same (SyncIssued r range ∷ later) earlier s t w =
+    ap (λ b. r == t && b && lies_in range w || is_covered (later ++ SyncEnded s ∷ earlier) t w) (ended_same later earlier s w.number)
+    ∙ ap (λ b. r == t && has_ended (later ++ earlier) w.number && lies_in range w || b) (covered_same later earlier s t w)
+covered_same (e ∷ later) earlier s t w = covered_same later earlier s t w
 
-given_up_same : (later earlier : History) (s n : ℕ)
-    → is_given_up (later ++ SyncEnded s ∷ earlier) n ≡ is_given_up (later ++ earlier) n
-given_up_same [] earlier s n = refl
-given_up_same (SyncFailed t ∷ later) earlier s n =
-    ap (λ b. b || is_given_up (later ++ SyncEnded s ∷ earlier) n) (covered_same later earlier s t n)
-    ∙ ap (λ b. is_covered (later ++ earlier) t n || b) (given_up_same later earlier s n)
-given_up_same (e ∷ later) earlier s n = given_up_same later earlier s n
+reached_same : (later earlier : History) (s t : ℕ) (w : Write)
+    → is_reached (later ++ SyncEnded s ∷ earlier) t w ≡ is_reached (later ++ earlier) t w
+reached_same [] earlier s t w = refl
+reached_same (SyncIssued r range ∷ later) earlier s t w =
+    ap (λ b. r == t && b && meets range w || is_reached (later ++ SyncEnded s ∷ earlier) t w) (ended_same later earlier s w.number)
+    ∙ ap (λ b. r == t && has_ended (later ++ earlier) w.number && meets range w || b) (reached_same later earlier s t w)
+reached_same (e ∷ later) earlier s t w = reached_same later earlier s t w
 
--- whether a sync that ends at this moment makes write n safe
-abbrev makes_safe : History → ℕ → ℕ → Bool
-makes_safe h s n = is_covered h s n && not (is_given_up h n)
+given_up_same : (later earlier : History) (s : ℕ) (w : Write)
+    → is_given_up (later ++ SyncEnded s ∷ earlier) w ≡ is_given_up (later ++ earlier) w
+given_up_same [] earlier s w = refl
+given_up_same (SyncFailed t ∷ later) earlier s w =
+    ap (λ b. b || is_given_up (later ++ SyncEnded s ∷ earlier) w) (reached_same later earlier s t w)
+    ∙ ap (λ b. is_reached (later ++ earlier) t w || b) (given_up_same later earlier s w)
+given_up_same (e ∷ later) earlier s w = given_up_same later earlier s w
 
-makes_same : (later earlier : History) (s t n : ℕ)
-    → makes_safe (later ++ SyncEnded s ∷ earlier) t n ≡ makes_safe (later ++ earlier) t n
-makes_same later earlier s t n =
-    ap (λ b. b && not (is_given_up (later ++ SyncEnded s ∷ earlier) n)) (covered_same later earlier s t n)
-    ∙ ap (λ b. is_covered (later ++ earlier) t n && not b) (given_up_same later earlier s n)
+-- whether a sync that ends at this moment makes write w safe
+abbrev makes_safe : History → ℕ → Write → Bool
+makes_safe h s w = is_covered h s w && not (is_given_up h w)
 
-safe_stays : (later earlier : History) (s n : ℕ) → is_safe (later ++ earlier) n ≡ true
-    → is_safe (later ++ SyncEnded s ∷ earlier) n ≡ true
-safe_stays [] earlier s n e = or_right (makes_safe earlier s n) (is_safe earlier n) e
-safe_stays (SyncEnded t ∷ later) earlier s n e =
-    elim (or_cases (makes_safe (later ++ earlier) t n) (is_safe (later ++ earlier) n) e) [
+makes_same : (later earlier : History) (s t : ℕ) (w : Write)
+    → makes_safe (later ++ SyncEnded s ∷ earlier) t w ≡ makes_safe (later ++ earlier) t w
+makes_same later earlier s t w =
+    ap (λ b. b && not (is_given_up (later ++ SyncEnded s ∷ earlier) w)) (covered_same later earlier s t w)
+    ∙ ap (λ b. is_covered (later ++ earlier) t w && not b) (given_up_same later earlier s w)
+
+safe_stays : (later earlier : History) (s : ℕ) (w : Write) → is_safe (later ++ earlier) w ≡ true
+    → is_safe (later ++ SyncEnded s ∷ earlier) w ≡ true
+safe_stays [] earlier s w e = or_right (makes_safe earlier s w) (is_safe earlier w) e
+safe_stays (SyncEnded t ∷ later) earlier s w e =
+    elim (or_cases (makes_safe (later ++ earlier) t w) (is_safe (later ++ earlier) w) e) [
       | inl now ↦
-          or_left (makes_safe (later ++ SyncEnded s ∷ earlier) t n) (is_safe (later ++ SyncEnded s ∷ earlier) n) (makes_same later earlier s t n ∙ now)
+          or_left (makes_safe (later ++ SyncEnded s ∷ earlier) t w) (is_safe (later ++ SyncEnded s ∷ earlier) w) (makes_same later earlier s t w ∙ now)
       | inr was ↦
-          or_right (makes_safe (later ++ SyncEnded s ∷ earlier) t n) (is_safe (later ++ SyncEnded s ∷ earlier) n) (safe_stays later earlier s n was)
+          or_right (makes_safe (later ++ SyncEnded s ∷ earlier) t w) (is_safe (later ++ SyncEnded s ∷ earlier) w) (safe_stays later earlier s w was)
     ]
-safe_stays (e ∷ later) earlier s n h = safe_stays later earlier s n h
+safe_stays (e ∷ later) earlier s w h = safe_stays later earlier s w h
 
 pub sync_adds_none : SyncAddsNone
 sync_adds_none u first later earlier s now image =
     image_in (later ++ earlier) (later ++ SyncEnded s ∷ earlier) u first now (record {
       writes = sym (writes_same later earlier s);
       before = λ m n. sym (before_same later earlier s m n);
-      safe = λ n. safe_stays later earlier s n;
+      safe = λ w. safe_stays later earlier s w;
     }) image
 
 -- The events that change no image.
@@ -117,9 +126,9 @@ pub end_changes_none : (n : ℕ) → ChangesNone (WriteEnded n)
 end_changes_none n u first h now =
     (image_in h (WriteEnded n ∷ h) u first now (record { writes = refl; before = λ m k. refl; safe = λ k e. e }), image_in (WriteEnded n ∷ h) h u first now (record { writes = refl; before = λ m k. refl; safe = λ k e. e }))
 
-pub issue_changes_none : (s : ℕ) → ChangesNone (SyncIssued s)
-issue_changes_none s u first h now =
-    (image_in h (SyncIssued s ∷ h) u first now (record { writes = refl; before = λ m k. refl; safe = λ k e. e }), image_in (SyncIssued s ∷ h) h u first now (record { writes = refl; before = λ m k. refl; safe = λ k e. e }))
+pub issue_changes_none : (s : ℕ) (range : SyncRange) → ChangesNone (SyncIssued s range)
+issue_changes_none s range u first h now =
+    (image_in h (SyncIssued s range ∷ h) u first now (record { writes = refl; before = λ m k. refl; safe = λ k e. e }), image_in (SyncIssued s range ∷ h) h u first now (record { writes = refl; before = λ m k. refl; safe = λ k e. e }))
 
 pub failure_changes_none : (s : ℕ) → ChangesNone (SyncFailed s)
 failure_changes_none s u first h now =
@@ -127,17 +136,17 @@ failure_changes_none s u first h now =
 
 -- A sync that fails.
 
-given_up_stays : (later earlier : History) (s n : ℕ) → is_covered earlier s n ≡ true
-    → is_given_up (later ++ SyncFailed s ∷ earlier) n ≡ true
-given_up_stays [] earlier s n c = or_left (is_covered earlier s n) (is_given_up earlier n) c
-given_up_stays (SyncFailed t ∷ later) earlier s n c =
-    or_right (is_covered (later ++ SyncFailed s ∷ earlier) t n) (is_given_up (later ++ SyncFailed s ∷ earlier) n) (given_up_stays later earlier s n c)
-given_up_stays (e ∷ later) earlier s n c = given_up_stays later earlier s n c
+given_up_stays : (later earlier : History) (s : ℕ) (w : Write) → is_reached earlier s w ≡ true
+    → is_given_up (later ++ SyncFailed s ∷ earlier) w ≡ true
+given_up_stays [] earlier s w c = or_left (is_reached earlier s w) (is_given_up earlier w) c
+given_up_stays (SyncFailed t ∷ later) earlier s w c =
+    or_right (is_reached (later ++ SyncFailed s ∷ earlier) t w) (is_given_up (later ++ SyncFailed s ∷ earlier) w) (given_up_stays later earlier s w c)
+given_up_stays (e ∷ later) earlier s w c = given_up_stays later earlier s w c
 
 pub never_safe : FailedIsNeverSafe
-never_safe [] earlier s n c f = f
-never_safe (SyncEnded t ∷ later) earlier s n c f =
-    or_from (makes_safe (later ++ SyncFailed s ∷ earlier) t n) (is_safe (later ++ SyncFailed s ∷ earlier) n)
-    (and_right (is_covered (later ++ SyncFailed s ∷ earlier) t n) (not (is_given_up (later ++ SyncFailed s ∷ earlier) n)) (not_from_true (is_given_up (later ++ SyncFailed s ∷ earlier) n) (given_up_stays later earlier s n c)))
-    (never_safe later earlier s n c f)
-never_safe (e ∷ later) earlier s n c f = never_safe later earlier s n c f
+never_safe [] earlier s w c f = f
+never_safe (SyncEnded t ∷ later) earlier s w c f =
+    or_from (makes_safe (later ++ SyncFailed s ∷ earlier) t w) (is_safe (later ++ SyncFailed s ∷ earlier) w)
+    (and_right (is_covered (later ++ SyncFailed s ∷ earlier) t w) (not (is_given_up (later ++ SyncFailed s ∷ earlier) w)) (not_from_true (is_given_up (later ++ SyncFailed s ∷ earlier) w) (given_up_stays later earlier s w c)))
+    (never_safe later earlier s w c f)
+never_safe (e ∷ later) earlier s w c f = never_safe later earlier s w c f

@@ -4,6 +4,7 @@ use Rattle.std.specs.List.{list_any, filter}
 use Rattle.std.proofs.lemmas.Bool.{cases_Bool, both_ways, cond-true, cond-false, or_left, or_right, eqb-true, eq-eqb, not_from_true, false_from_ne_true}
 use Rattle.std.proofs.lemmas.List.Folds.{list_any-append}
 use Rattle.uring_volume.specs.Writes.{Write}
+use Rattle.uring_volume.specs.declared.event.SyncRange.{SyncRange}
 use Rattle.uring_volume.specs.declared.event.Event.{Event}
 use Rattle.uring_volume.specs.declared.event.Event.TheVariants.{WriteIssued, WriteEnded, SyncIssued, SyncEnded, SyncFailed}
 use Rattle.uring_volume.specs.Events.{History, writes, has_ended}
@@ -103,9 +104,9 @@ held_write v off bytes write_list sync_list held =
       syncs = held.syncs;
     }
 
-pub held_sync : (v : Volume) (write_list sync_list : List ℕ) → IsHeld v write_list sync_list
-    → IsHeld (with_sync v) write_list (sync_list ++ v.next ∷ [])
-held_sync v write_list sync_list held =
+pub held_sync : (v : Volume) (range : SyncRange) (write_list sync_list : List ℕ)
+    → IsHeld v write_list sync_list → IsHeld (with_sync range v) write_list (sync_list ++ v.next ∷ [])
+held_sync v range write_list sync_list held =
     let numbered = held.sound.numbered in
     record {
       sound = record {

@@ -38,15 +38,15 @@ any_at p (w ∷ later) (suc i) d within is =
 
 -- the last safe one of these stands at i
 pub up_to_last : (h : History) (rest : List Write) (i : ℕ) (d : Write) → i < length rest
-    → is_safe h (get_or rest i d).number ≡ true → has_safe h (drop (suc i) rest) ≡ false
+    → is_safe h (get_or rest i d) ≡ true → has_safe h (drop (suc i) rest) ≡ false
     → take (suc i) rest ≡ up_to_safe h rest
 up_to_last h [] i d within safe none = absurd (omega arith)
 up_to_last h (w ∷ later) zero d within safe none =
     ap (λ ws. w ∷ ws) (sym (none_safe h later none))
-    ∙ sym (cond-true (has_safe h (w ∷ later)) (w ∷ up_to_safe h later) [] (or_left (is_safe h w.number) (has_safe h later) safe))
+    ∙ sym (cond-true (has_safe h (w ∷ later)) (w ∷ up_to_safe h later) [] (or_left (is_safe h w) (has_safe h later) safe))
 up_to_last h (w ∷ later) (suc i) d within safe none =
     ap (λ ws. w ∷ ws) (up_to_last h later i d (omega arith) safe none)
-    ∙ sym (cond-true (has_safe h (w ∷ later)) (w ∷ up_to_safe h later) [] (or_right (is_safe h w.number) (has_safe h later) (any_at (λ v. is_safe h v.number) later i d (omega arith) safe)))
+    ∙ sym (cond-true (has_safe h (w ∷ later)) (w ∷ up_to_safe h later) [] (or_right (is_safe h w) (has_safe h later) (any_at (λ v. is_safe h v) later i d (omega arith) safe)))
 
 pub get-map : {X Y : Type 0} (f : X → Y) (xs : List X) (i : ℕ) (d : X)
     → get_or (map f xs) i (f d) ≡ f (get_or xs i d)
@@ -57,13 +57,13 @@ get-map f (x ∷ xs) (suc i) d = get-map f xs i d
 -- A search among the writes that references point to, at the reference x with index i.
 
 pub last_safe : {X : Type 0} (f : X → Write) (h : History) (xs : List X) (n i : ℕ) (x : X)
-    → n ≡ suc i → n ≤ length xs → x ≡ get_or xs i x → is_safe h (f x).number ≡ true
+    → n ≡ suc i → n ≤ length xs → x ≡ get_or xs i x → is_safe h (f x) ≡ true
     → has_safe h (drop n (map f xs)) ≡ false
     → take (i + 1) (map f xs) ≡ up_to_safe h (map f xs)
 last_safe f h xs n i x e within at safe none =
     ap (λ j. take j (map f xs)) (add-one i)
     ∙ up_to_last h (map f xs) i (f x) (omega (arith, length-map xs f))
-    (subst (λ (w : Write). is_safe h w.number ≡ true) (ap f at ∙ sym (get-map f xs i x)) safe)
+    (subst (λ (w : Write). is_safe h w ≡ true) (ap f at ∙ sym (get-map f xs i x)) safe)
     (subst (λ j. has_safe h (drop j (map f xs)) ≡ false) e none)
 
 pub one_less : {X : Type 0} (f : X → Write) (p : Write → Bool) (xs : List X) (n i : ℕ) (x : X)

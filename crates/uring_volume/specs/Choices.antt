@@ -28,7 +28,7 @@ waits_for_one h rest n = list_any (λ m. is_before h m.number n) rest
 
 -- whether one of these writes is safe
 abbrev pub has_safe : History → List Write → Bool
-has_safe h rest = list_any (λ w. is_safe h w.number) rest
+has_safe h rest = list_any (λ w. is_safe h w) rest
 
 -- these writes up to the last safe one
 abbrev pub up_to_safe : History → List Write → List Write

@@ -43,7 +43,7 @@ pub record MayBeLeft (h : History) (touches : Write → Bool) (order : List Writ
   -- each was issued and touches the place
   pub issued : (w : Write) → IsIn w order → IsIn w (writes h) × (touches w ≡ true)
   -- each safe one that touches it is left
-  pub safe : (w : Write) → IsIn w (writes h) → touches w ≡ true → is_safe h w.number ≡ true
+  pub safe : (w : Write) → IsIn w (writes h) → touches w ≡ true → is_safe h w ≡ true
       → IsIn w order
   -- with a write, each is left that is before it and touches the place
   pub with_those_before : (m w : Write) → IsIn m (writes h) → touches m ≡ true → IsIn w order

@@ -2,7 +2,7 @@
 use Rattle.std.specs.Prelude.{◌≡◌, ◌≢◌, ◌↔◌, ◌⊎◌, ℕ, ◌+◌, ◌*◌, ◌<◌, true, false, List, ◌∷◌, ◌++◌, length, slice_index}
 use Rattle.uring_volume.specs.Writes.{Write}
 use Rattle.uring_volume.specs.declared.event.Event.{Event}
-use Rattle.uring_volume.specs.Events.{History, writes, is_before, is_covered, is_safe}
+use Rattle.uring_volume.specs.Events.{History, writes, is_before, is_reached, is_safe}
 use Rattle.uring_volume.specs.declared.event.Event.TheVariants.{SyncEnded, SyncFailed}
 use Rattle.uring_volume.specs.Images.{IsIn, is_under, IsImage}
 use Rattle.uring_volume.specs.Choices.{IsLawful, IsChosen}
@@ -10,7 +10,7 @@ use Rattle.uring_volume.specs.Choices.{IsLawful, IsChosen}
 -- A write that is to be found after each crash: it is safe, and each other write of a byte of it had ended when it was issued.
 pub record IsKept (h : History) (w : Write) : Type 0 where
   pub issued : IsIn w (writes h)
-  pub safe : is_safe h w.number ≡ true
+  pub safe : is_safe h w ≡ true
   pub last : (m : Write) (k : ℕ) → IsIn m (writes h) → m ≢ w → is_under w k ≡ true
       → is_under m k ≡ true → is_before h m.number w.number ≡ true
 
@@ -35,10 +35,10 @@ abbrev pub ChangesNone : Event → Type 0
 ChangesNone e = (u : ℕ) (first : List ℕ) (h : History) (now : List ℕ)
     → IsImage u first (e ∷ h) now ↔ IsImage u first h now
 
--- a write that a failed sync covers, and that wasn't safe by then, never becomes safe
+-- a write that a failed sync reaches, and that wasn't safe by then, never becomes safe
 abbrev pub FailedIsNeverSafe : Type 0
-FailedIsNeverSafe = (later earlier : History) (s n : ℕ) → is_covered earlier s n ≡ true
-    → is_safe earlier n ≡ false → is_safe (later ++ SyncFailed s ∷ earlier) n ≡ false
+FailedIsNeverSafe = (later earlier : History) (s : ℕ) (w : Write) → is_reached earlier s w ≡ true
+    → is_safe earlier w ≡ false → is_safe (later ++ SyncFailed s ∷ earlier) w ≡ false
 
 -- an image of units of u * c bytes is an image of units of u bytes
 abbrev pub SmallerUnitsAllowIt : Type 0
@@ -47,7 +47,7 @@ SmallerUnitsAllowIt = (u c : ℕ) (first : List ℕ) (h : History) (now : List �
 
 -- A file at rest: each write is safe, and of two that write the same byte one had ended when the other was issued.
 pub record IsAtRest (h : History) : Type 0 where
-  pub safe : (w : Write) → IsIn w (writes h) → is_safe h w.number ≡ true
+  pub safe : (w : Write) → IsIn w (writes h) → is_safe h w ≡ true
   pub ordered : (m w : Write) (k : ℕ) → IsIn m (writes h) → IsIn w (writes h) → m ≢ w
       → is_under m k ≡ true → is_under w k ≡ true
       → (is_before h m.number w.number ≡ true) ⊎ (is_before h w.number m.number ≡ true)

@@ -2,6 +2,7 @@
 use Rattle.std.specs.Prelude.{◌≡◌, ℕ, ◌+◌, ◌<◌, Bool, true, false, not, ◌==◌, List, [], ◌∷◌, ◌++◌, length, slice_index}
 use Rattle.std.specs.List.{list_any, filter}
 use Rattle.uring_volume.specs.Writes.{Write}
+use Rattle.uring_volume.specs.declared.event.SyncRange.{SyncRange}
 use Rattle.uring_volume.specs.declared.event.Event.{Event}
 use Rattle.uring_volume.specs.declared.event.Event.TheVariants.{WriteIssued, WriteEnded, SyncIssued, SyncEnded, SyncFailed}
 use Rattle.uring_volume.specs.Events.{History, writes, has_ended}
@@ -36,7 +37,7 @@ running_writes (_ ∷ earlier) = running_writes earlier
 -- the syncs that run: they were issued, and have ended neither with success nor with an error
 abbrev pub running_syncs : History → List ℕ
 running_syncs [] = []
-running_syncs (SyncIssued s ∷ earlier) = running_syncs earlier ++ s ∷ []
+running_syncs (SyncIssued s range ∷ earlier) = running_syncs earlier ++ s ∷ []
 running_syncs (SyncEnded s ∷ earlier) = but s (running_syncs earlier)
 running_syncs (SyncFailed s ∷ earlier) = but s (running_syncs earlier)
 running_syncs (_ ∷ earlier) = running_syncs earlier
@@ -64,9 +65,10 @@ with_write off bytes v = record v {
   next = v.next + 1;
 }
 
--- a volume with a sync more, which gets the next number
-abbrev pub with_sync : Volume → Volume
-with_sync v = record v { history = SyncIssued v.next ∷ v.history; next = v.next + 1 }
+-- a volume with a sync of a range more, which gets the next number
+abbrev pub with_sync : SyncRange → Volume → Volume
+with_sync range v =
+    record v { history = SyncIssued v.next range ∷ v.history; next = v.next + 1 }
 
 -- The numbers so far lie from 1 up to the next one.
 pub record IsNumbered (next : ℕ) (h : History) : Type 0 where

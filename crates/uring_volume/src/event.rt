@@ -23,6 +23,16 @@ impl Model for Piece {
     ghost invariant = { λ p. p.off + length p.bytes.items < 2 ^ 63 };
 }
 
+/// The bytes of a file that a sync is of. An fdatasync is a sync like any other: it leaves out what no read of the file needs.
+#[derive(Debug, Clone, Copy, PartialEq, Drop)]
+pub enum SyncRange {
+    /// The whole file.
+    Whole,
+
+    /// So many bytes from an offset on.
+    Part { off: u64, len: u64 },
+}
+
 /// An event of a file. Writes and syncs are named by numbers.
 #[derive(Debug, Drop)]
 pub enum Event {
@@ -32,8 +42,8 @@ pub enum Event {
     /// The write of this number ended.
     WriteEnded(u64),
 
-    /// The sync of this number was issued.
-    SyncIssued(u64),
+    /// The sync of this number was issued, of a range.
+    SyncIssued(u64, SyncRange),
 
     /// The sync of this number ended with success.
     SyncEnded(u64),

@@ -1,6 +1,7 @@
 //! What holds of each image: laws of the definitions alone, each a function with no code, whose clauses say the law.
 
 ghost use Rattle.std.specs.Prelude.{ℕ};
+ghost use Rattle.uring_volume.specs.declared.event.SyncRange.{SyncRange};
 ghost use Rattle.uring_volume.specs.declared.event.Event.TheVariants.{WriteEnded, SyncIssued, SyncFailed};
 ghost use Rattle.uring_volume.specs.Laws.{SafeIsReadBack, SyncAddsNone, ChangesNone, FailedIsNeverSafe, SmallerUnitsAllowIt, RestHasOneImage, ChosenIsImage, ImageIsChosen};
 
@@ -17,11 +18,11 @@ pub fn sync_adds_none()
 /// Until the next write is issued or sync ends with success, nothing changes what a crash may leave: no end of a write, no issue of a sync and no failure of one.
 pub fn others_change_none()
     ensures write_ends { (n : ℕ) → ChangesNone (WriteEnded n) }
-    ensures sync_begins { (s : ℕ) → ChangesNone (SyncIssued s) }
+    ensures sync_begins { (s : ℕ) (range : SyncRange) → ChangesNone (SyncIssued s range) }
     ensures sync_fails { (s : ℕ) → ChangesNone (SyncFailed s) }
 {}
 
-/// What a failed sync covers, and wasn't safe by then, no later sync makes safe.
+/// What a failed sync reaches, and wasn't safe by then, no later sync makes safe.
 pub fn failed_is_never_safe()
     ensures { FailedIsNeverSafe }
 {}

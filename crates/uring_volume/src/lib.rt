@@ -9,6 +9,6 @@ mod show;
 mod standing;
 mod volume;
 
-pub use event::{Event, Piece};
-pub use standing::{is_before, is_covered, is_safe};
+pub use event::{Event, Piece, SyncRange};
+pub use standing::{is_before, is_covered, is_reached, is_safe};
 pub use volume::{BeginError, Volume};

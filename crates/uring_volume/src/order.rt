@@ -72,7 +72,7 @@ fn count_up_to_safe(events: &[Event], rest: &[&Piece]) -> usize
         ≡ up_to_safe (reverse events.now) (map (λ p. p.now) rest.now) }
 {
     for i in (0..rest.len()).rev() {
-        if is_safe(events, rest[i].number()) {
+        if is_safe(events, rest[i]) {
             return i + 1;
         }
     }

@@ -2,8 +2,9 @@
 
 ghost use Rattle.std.specs.Prelude.{◌≡◌, reverse};
 ghost use Rattle.uring_volume.specs.Events as spec;
+ghost use Rattle.uring_volume.specs.Choices.{issued, named, has_safe};
 
-use crate::event::Event;
+use crate::event::{Event, Piece, SyncRange};
 
 /// Whether write `m` is before write `n`: it had ended when that was issued. The events are in order, the oldest first; it looks at each once.
 pub fn is_before(events: &[Event], m: u64, n: u64) -> bool
@@ -29,16 +30,40 @@ pub fn is_before(events: &[Event], m: u64, n: u64) -> bool
     before
 }
 
-/// Whether sync `s` covers write `n`: the write had ended when the sync was issued (io_uring_enter(2), IORING_OP_FSYNC). The events are in order, the oldest first; it looks at each once.
-pub fn is_covered(events: &[Event], s: u64, n: u64) -> bool
-    ensures { result ≡ spec.is_covered (reverse events.now) s n }
+/// Whether all bytes of a write lie in the range of a sync.
+fn lies_in(range: SyncRange, piece: &Piece) -> bool
+    ensures { result ≡ spec.lies_in range piece.now }
 {
+    match range {
+        SyncRange::Whole => true,
+        SyncRange::Part { off, len } => off <= piece.off() && piece.end() - off <= len,
+    }
+}
+
+/// Whether a byte of a write lies in the range of a sync.
+fn meets(range: SyncRange, piece: &Piece) -> bool
+    ensures { result ≡ spec.meets range piece.now }
+{
+    match range {
+        SyncRange::Whole => true,
+        SyncRange::Part { off, len } => {
+            let start = off.max(piece.off());
+            start < piece.end() && start - off < len
+        }
+    }
+}
+
+/// Whether sync `s` covers a write: it had ended when the sync was issued (io_uring_enter(2), IORING_OP_FSYNC), and all of its bytes lie in the sync's range. The events are in order, the oldest first; it looks at each once.
+pub fn is_covered(events: &[Event], s: u64, piece: &Piece) -> bool
+    ensures { result ≡ spec.is_covered (reverse events.now) s piece.now }
+{
+    let n = piece.number();
     let mut ended = false;
     let mut covered = false;
     for event in events {
         match event {
-            Event::SyncIssued(number) => {
-                if *number == s && ended {
+            Event::SyncIssued(number, range) => {
+                if *number == s && ended && lies_in(*range, piece) {
                     covered = true;
                 }
             }
@@ -53,25 +78,65 @@ pub fn is_covered(events: &[Event], s: u64, n: u64) -> bool
     covered
 }
 
-/// Whether write `n` is safe: a sync that covers it has ended with success, and none that covers it had failed by then (fsync(2)). The events are in order, the oldest first; for each end of a sync it looks at those before it once more.
-pub fn is_safe(events: &[Event], n: u64) -> bool
-    ensures { result ≡ spec.is_safe (reverse events.now) n }
+/// Whether sync `s` reaches a write: it had ended when the sync was issued, and a byte of it lies in the sync's range. The events are in order, the oldest first; it looks at each once.
+pub fn is_reached(events: &[Event], s: u64, piece: &Piece) -> bool
+    ensures { result ≡ spec.is_reached (reverse events.now) s piece.now }
+{
+    let n = piece.number();
+    let mut ended = false;
+    let mut reached = false;
+    for event in events {
+        match event {
+            Event::SyncIssued(sync, range) => {
+                if *sync == s && ended && meets(*range, piece) {
+                    reached = true;
+                }
+            }
+            Event::WriteEnded(write) => {
+                if *write == n {
+                    ended = true;
+                }
+            }
+            _ => {}
+        }
+    }
+    reached
+}
+
+/// Whether a write is safe: a sync that covers it has ended with success, and none that reaches it had failed by then (fsync(2)). The events are in order, the oldest first; for each end of a sync it looks at those before it once more.
+pub fn is_safe(events: &[Event], piece: &Piece) -> bool
+    ensures { result ≡ spec.is_safe (reverse events.now) piece.now }
 {
     let mut given_up = false;
     let mut safe = false;
     for i in 0..events.len() {
         match &events[i] {
             Event::SyncEnded(s) => {
-                if is_covered(&events[..i], *s, n) && !given_up {
+                if is_covered(&events[..i], *s, piece) && !given_up {
                     safe = true;
                 }
             }
             Event::SyncFailed(s) => {
-                if is_covered(&events[..i], *s, n) {
+                if is_reached(&events[..i], *s, piece) {
                     given_up = true;
                 }
             }
             _ => {}
+        }
+    }
+    safe
+}
+
+/// Whether write `n` is safe: false too if there is none. The events are in order, the oldest first.
+pub fn is_number_safe(events: &[Event], n: u64) -> bool
+    ensures { result ≡ has_safe (reverse events.now) (named n (issued (reverse events.now))) }
+{
+    let mut safe = false;
+    for event in events {
+        if let Event::WriteIssued(piece) = event {
+            if piece.number() == n && is_safe(events, piece) {
+                safe = true;
+            }
         }
     }
     safe

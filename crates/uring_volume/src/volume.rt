@@ -6,8 +6,9 @@ ghost use Rattle.uring_volume.specs.declared.event.Event.TheVariants.{WriteEnded
 ghost use Rattle.uring_volume.specs.declared.volume.BeginError.TheVariants.{OutOfNumbers};
 
 use crate::crash::crash;
-use crate::event::{Event, Piece};
+use crate::event::{Event, Piece, SyncRange};
 use crate::show::shown;
+use crate::standing::is_number_safe;
 use std::alloc::{AllocError, Global};
 use std::marker::Model;
 
@@ -90,11 +91,11 @@ fn take_out(numbers: &mut Vec<u64>, n: u64) -> bool
 }
 
 impl Volume {
-    ghost use Rattle.uring_volume.specs.Volume.{with_event, with_write, with_sync, is_one_of, running_writes, running_syncs, IsShown};
+    ghost use Rattle.uring_volume.specs.Volume.{with_event, with_write, with_sync, is_one_of, running_writes, running_syncs, IsShown, IsSound};
     ghost use Rattle.std.specs.Prelude.{ℕ, List};
     ghost use Rattle.uring_volume.specs.Writes.{Write};
     ghost use Rattle.uring_volume.specs.Images.{IsImage};
-    ghost use Rattle.uring_volume.specs.Choices.{IsLeftBy, AreBelow};
+    ghost use Rattle.uring_volume.specs.Choices.{issued, named, has_safe, IsLeftBy, AreBelow};
     ghost use Rattle.uring_volume.specs.Laws.{IsKept, IsReadBack};
 
     /// A file with units of so many bytes and these first bytes, of which each is safe.
@@ -137,10 +138,10 @@ impl Volume {
         Ok(number)
     }
 
-    /// Begins a sync of the whole file, and gives it the next number. Memory is asked for here, for its end too; a refusal changes nothing.
-    pub fn begin_sync(&mut self) -> Result<u64, BeginError>
+    /// Begins a sync of a range, and gives it the next number. Memory is asked for here, for its end too; a refusal changes nothing.
+    pub fn begin_sync(&mut self, range: SyncRange) -> Result<u64, BeginError>
         ensures number { IfOk result (λ n. n ≡ self.old.next) }
-        ensures issued { OnOk result (self.new ≡ with_sync self.old) }
+        ensures issued { OnOk result (self.new ≡ with_sync range self.old) }
         ensures err { OnErr result (self.new ≡ self.old) }
         ensures numbers { (result ≡ Err OutOfNumbers) ↔ (self.old.next + 1 ≡ 2 ^ 64) }
     {
@@ -153,7 +154,7 @@ impl Volume {
             return Err(BeginError::OutOfMemory);
         }
         put(&mut self.syncs, number);
-        put(&mut self.events, Event::SyncIssued(number));
+        put(&mut self.events, Event::SyncIssued(number, range));
         self.next = number + 1;
         Ok(number)
     }
@@ -192,6 +193,20 @@ impl Volume {
             put(&mut self.events, Event::SyncFailed(s));
         }
         is_running
+    }
+
+    /// What holds of each volume, for the proofs of callers: a write has a number of its own, below the next one, and ends after it was issued.
+    pub fn is_sound(&self)
+        ensures { IsSound self.now }
+    {
+        let _bound = self.next;
+    }
+
+    /// Whether write `n` is safe: a sync that covers it has ended with success, and none that reaches it had failed by then. False too if no write has this number. It looks at all events, and for each end of a sync at those before it.
+    pub fn is_safe(&self, n: u64) -> bool
+        ensures { result ≡ has_safe self.now.history (named n (issued self.now.history)) }
+    {
+        is_number_safe(&self.events, n)
     }
 
     /// The bytes that a read of the whole file shows: the first ones with the writes over them that have ended, in the order of their ends.

@@ -1,60 +1,56 @@
-//! A simulator to start from: a core of wulgach over storage of its own.
+//! A simulator to start from: a core of wulgach over storage of its own, a volume that a power failure may tear.
 //!
-//! The application submits a chain (write, write, fsync) and two loose writes, all of blocks of 4,096 bytes. The simulator is the dispatcher: it issues and finishes requests in an order that a seed chooses, among the orders that the core allows. In some runs the chain's second write fails; some end with a crash, which loses any part of what no fsync made safe. An fsync makes safe what had ended when it was issued: a write that ends while it runs isn't covered. What the application was told is then compared with what is on the disk.
+//! On it runs a store with a log. A commit is a write of its record and an fsync, and the store acknowledges it when both completions have come, the write's first. The store submits both at once. In the right store the fsync is linked to the write, so that it is issued when that has ended. In the planted one it isn't: it may be issued while the write runs, and covers nothing of it.
+//!
+//! The simulator is the dispatcher: it issues and finishes requests in an order that a seed chooses, among those that the core allows. At some point the power fails. Of what may then be left, some images are tried: each acknowledged record must be in all of them. Beside it stands the generous rule, by which a write is safe if it had ended when the fsync ended: it finds nothing.
 //!
 //! The same program in C is `c/examples/simulator.c`, and prints the same.
 
-use std::collections::BTreeSet;
 use std::process::ExitCode;
-use wulgach::{flags, Answer, Core, Entry, Error, Operation, Setup, Step};
+use wulgach::{flags, Answer, Core, Entry, Error, Operation, Setup, Step, Volume};
 
-const BLOCK: usize = 4096;
-const BLOCKS: usize = 4;
-const REQUESTS: usize = 5;
-const RUNS: u64 = 3000;
+const RECORD: usize = 8;
+const COMMITS: usize = 4;
+const REQUESTS: usize = 2 * COMMITS;
+const RUNS: u64 = 1000;
+const CRASHES: u64 = 8;
+const CHOICE: usize = 128;
 
-/// What a read sees, what the fsync that runs covers, and what is left for sure after a crash.
+/// The log on its volume. The number that the volume gave to each request that was issued, 0 if none; and what the generous rule takes for safe.
 struct Disk {
-    now: Vec<[u8; BLOCK]>,
-    covered: Vec<[u8; BLOCK]>,
-    safe: Vec<[u8; BLOCK]>,
+    volume: Volume,
+    numbers: [u64; REQUESTS],
+    has_ended: [bool; COMMITS],
+    is_synced: [bool; COMMITS],
 }
 
 impl Disk {
-    fn new() -> Disk {
-        Disk {
-            now: vec![[0; BLOCK]; BLOCKS],
-            covered: vec![[0; BLOCK]; BLOCKS],
-            safe: vec![[0; BLOCK]; BLOCKS],
-        }
-    }
-
-    /// Carries an operation out, and returns its result: the blocks moved, or 0.
-    fn carry_out(&mut self, op: &Operation) -> i32 {
-        match op {
+    /// Begins a running operation on the volume.
+    fn begin(&mut self, number: u64, op: &Operation) -> Result<(), Error> {
+        self.numbers[number as usize] = match op {
             Operation::Write {
                 off, len, bytes, ..
-            } => {
-                for i in 0..*len as usize {
-                    self.now[*off as usize + i] = [bytes[i]; BLOCK];
-                }
+            } => self.volume.begin_write(*off, &bytes[..*len as usize])?,
+            _ => self.volume.begin_sync()?,
+        };
+        Ok(())
+    }
+
+    /// Ends a running operation on the volume, and returns its result.
+    fn carry_out(&mut self, number: u64, op: &Operation) -> i32 {
+        let on_volume = self.numbers[number as usize];
+        match op {
+            Operation::Write { len, .. } => {
+                self.volume.end_write(on_volume);
+                self.has_ended[number as usize / 2] = true;
                 *len as i32
             }
             _ => {
-                self.safe.clone_from(&self.covered);
+                self.volume.end_sync(on_volume);
+                self.is_synced = self.has_ended;
                 0
             }
         }
-    }
-
-    /// Each block that isn't safe was written to the disk or not.
-    fn crash(&mut self, rng: &mut Rng) {
-        for (now, safe) in self.now.iter_mut().zip(&self.safe) {
-            if rng.below(2) == 0 {
-                *now = *safe;
-            }
-        }
-        self.safe.clone_from(&self.now);
     }
 }
 
@@ -77,29 +73,36 @@ impl Rng {
     }
 }
 
-/// What all runs found.
+/// What all runs of a store found.
 #[derive(Default)]
 struct Findings {
-    orders: BTreeSet<Vec<u64>>,
-    faults: u32,
+    acknowledged: u32,
     cancelled: u32,
-    crashes: u32,
-    safe_lost: u32,
-    unsafe_lost: u32,
+    crashes: u64,
+    lost_generously: u32,
+    /// The first run and crash in which an acknowledged record was lost.
+    first_lost: Option<(u64, u64)>,
 }
 
-/// The application's side: the user data of a request is its place here. An entry's offset and length count blocks, and byte i of its data is what block `off + i` is filled with.
-fn submit(core: &mut Core) -> Result<(), Error> {
-    let entries = [
-        Entry::write(0, flags::IO_LINK, 0, 0, b"a"),
-        Entry::write(1, flags::IO_LINK, 0, 1, b"b"),
-        Entry::fsync(2, 0, 0),
-        Entry::write(3, 0, 0, 2, b"d"),
-        Entry::write(4, 0, 0, 3, b"e"),
-    ];
-    for (slot, entry) in (0..).zip(entries) {
-        core.step(Step::Fill { slot, entry })?;
-        core.step(Step::Index { word: slot })?;
+/// The store's side: the write of commit i is request 2i and its fsync 2i + 1, by their user data too.
+fn submit(core: &mut Core, is_planted: bool) -> Result<(), Error> {
+    let link = if is_planted { 0 } else { flags::IO_LINK };
+    for i in 0..REQUESTS as u32 {
+        let commit = i / 2;
+        let record = [b'a' + commit as u8; RECORD];
+        let entry = if i % 2 == 0 {
+            Entry::write(
+                i.into(),
+                link,
+                0,
+                u64::from(commit) * RECORD as u64,
+                &record,
+            )
+        } else {
+            Entry::fsync(i.into(), 0, 0)
+        };
+        core.step(Step::Fill { slot: i, entry })?;
+        core.step(Step::Index { word: i })?;
     }
     core.step(Step::StoreTail)?;
     core.step(Step::Begin {
@@ -112,108 +115,126 @@ fn submit(core: &mut Core) -> Result<(), Error> {
     Ok(())
 }
 
-/// Issues a request. Returns whether that ended it.
-fn issue(core: &mut Core, disk: &mut Disk, number: u64) -> Result<bool, Error> {
-    let answer = core.step(Step::Issue { number })?;
-    if let Some(Operation::Fsync { .. }) = core.running_op(number) {
-        disk.covered.clone_from(&disk.now);
-    }
-    Ok(matches!(answer, Answer::Ended { .. }))
-}
-
-/// The dispatcher's side: lets a request go on that the seed chooses. Returns whether one ended.
-fn go_on(core: &mut Core, disk: &mut Disk, rng: &mut Rng, has_fault: bool) -> Result<bool, Error> {
+/// The dispatcher's side: lets a request go on that the seed chooses. Returns whether one ended. The write of a bad commit fails, and is left running on the volume: any part of it may be found.
+fn go_on(core: &mut Core, disk: &mut Disk, rng: &mut Rng, bad: u64) -> Result<bool, Error> {
     let number = rng.below(REQUESTS as u32).into();
     let Some(op) = core.running_op(number) else {
-        return issue(core, disk, number);
+        let answer = core.step(Step::Issue { number })?;
+        if let Some(op) = core.running_op(number) {
+            disk.begin(number, &op)?;
+        }
+        return Ok(matches!(answer, Answer::Ended { .. }));
     };
-    let res = if has_fault && number == 1 {
+    let res = if number == 2 * bad {
         -5
     } else {
-        disk.carry_out(&op)
+        disk.carry_out(number, &op)
     };
     core.finish(number, res, [0; 64]);
     Ok(true)
 }
 
-/// Reaps all completions, and compares what they promise with the disk.
-fn look(core: &mut Core, disk: &Disk, found: &mut Findings) -> Result<(), Error> {
-    let mut order = Vec::new();
-    let mut results = [None; REQUESTS];
+/// Reaps all completions, and returns which commits the store has acknowledged.
+fn acknowledged(core: &mut Core, found: &mut Findings) -> Result<[bool; COMMITS], Error> {
+    let mut is_written = [false; COMMITS];
+    let mut is_acknowledged = [false; COMMITS];
     core.step(Step::LoadCqTail)?;
     while let Answer::Reaped(completion) = core.step(Step::Reap)? {
-        order.push(completion.user_data);
-        results[completion.user_data as usize] = Some(completion.res);
-    }
-    core.step(Step::StoreCqHead)?;
-    if order.len() == REQUESTS {
-        found.orders.insert(order);
-        found.cancelled += u32::from(results[2] == Some(-125));
-    }
-    for (i, block, value) in [(0, 0, b'a'), (1, 1, b'b'), (3, 2, b'd'), (4, 3, b'e')] {
-        if results[i] == Some(1) && disk.now[block][0] != value {
-            if results[2] == Some(0) && i < 2 {
-                found.safe_lost += 1;
-            } else {
-                found.unsafe_lost += 1;
-            }
+        let commit = completion.user_data as usize / 2;
+        found.cancelled += u32::from(completion.res == -125);
+        if completion.user_data % 2 == 0 {
+            is_written[commit] = completion.res == RECORD as i32;
+        } else if completion.res == 0 && is_written[commit] {
+            is_acknowledged[commit] = true;
         }
     }
+    core.step(Step::StoreCqHead)?;
+    Ok(is_acknowledged)
+}
+
+/// Whether the record of a commit is in the log.
+fn holds(log: &[u8], commit: usize) -> bool {
+    let record = log.get(commit * RECORD..(commit + 1) * RECORD);
+    record.is_some_and(|record| record.iter().all(|byte| *byte == b'a' + commit as u8))
+}
+
+/// The power fails: tries some images that may be left, and looks for the acknowledged records in each.
+fn crash(
+    disk: &Disk,
+    acknowledged: &[bool; COMMITS],
+    run: u64,
+    found: &mut Findings,
+) -> Result<(), Error> {
+    let commits = || (0..COMMITS).filter(|commit| acknowledged[*commit]);
+    for i in 1..=CRASHES {
+        let choice = Volume::choice(run * CRASHES + i, REQUESTS as u64, CHOICE);
+        let log = disk.volume.crash(&choice)?;
+        if commits().any(|commit| !holds(&log, commit)) {
+            found.first_lost.get_or_insert((run, i));
+        }
+    }
+    for commit in commits() {
+        found.acknowledged += 1;
+        found.lost_generously += u32::from(!disk.is_synced[commit]);
+    }
+    found.crashes += CRASHES;
     Ok(())
 }
 
-fn run(seed: u64, found: &mut Findings) -> Result<(), Error> {
-    let mut rng = Rng::new(seed);
-    let mut disk = Disk::new();
+fn play(run: u64, is_planted: bool, found: &mut Findings) -> Result<(), Error> {
+    let mut rng = Rng::new(run);
+    let mut disk = Disk {
+        volume: Volume::new(1, b"")?,
+        numbers: [0; REQUESTS],
+        has_ended: [false; COMMITS],
+        is_synced: [false; COMMITS],
+    };
     let mut core = Core::new(&Setup {
-        sq: 8,
+        sq: REQUESTS as u32,
         cq: None,
         files: 1,
         start: 0,
         stops: false,
     })?;
-    let has_fault = rng.below(3) == 0;
-    let crashes = rng.below(2) == 0;
-    let most = if crashes {
-        rng.below(REQUESTS as u32)
-    } else {
-        REQUESTS as u32
-    };
-    submit(&mut core)?;
+    let bad = rng.below(2 * COMMITS as u32).into();
+    let most = rng.below(REQUESTS as u32 + 1);
+    submit(&mut core, is_planted)?;
     let mut ended = 0;
     while ended < most {
-        ended += u32::from(go_on(&mut core, &mut disk, &mut rng, has_fault)?);
+        ended += u32::from(go_on(&mut core, &mut disk, &mut rng, bad)?);
     }
-    if crashes {
-        disk.crash(&mut rng);
-        found.crashes += 1;
-    } else {
-        found.faults += u32::from(has_fault);
+    let acknowledged = acknowledged(&mut core, found)?;
+    crash(&disk, &acknowledged, run, found)
+}
+
+fn play_all(name: &str, is_planted: bool) -> Result<Findings, Error> {
+    let mut found = Findings::default();
+    for run in 1..=RUNS {
+        play(run, is_planted, &mut found)?;
     }
-    look(&mut core, &disk, found)
+    println!(
+        "{name}: {RUNS} runs, {} commits acknowledged, {} fsyncs cancelled, {} crashes tried",
+        found.acknowledged, found.cancelled, found.crashes
+    );
+    println!(
+        "  by the generous rule {} of them would be lost",
+        found.lost_generously
+    );
+    match found.first_lost {
+        None => println!("  none was lost in any crash"),
+        Some((run, crash)) => println!("  lost, the first time in crash {crash} of run {run}"),
+    }
+    Ok(found)
 }
 
 fn main() -> Result<ExitCode, Error> {
-    let mut found = Findings::default();
-    for seed in 1..=RUNS {
-        run(seed, &mut found)?;
-    }
-    println!("{RUNS} runs of write, write, fsync in a chain, beside two loose writes");
-    println!(
-        "{} orders of completion, of 5! / 3! = 20 that are lawful",
-        found.orders.len()
-    );
-    println!(
-        "{} runs with a fault in the second write: the fsync was cancelled in {}",
-        found.faults, found.cancelled
-    );
-    println!(
-        "{} crashes: {} blocks lost that an fsync had made safe, {} that were only written",
-        found.crashes, found.safe_lost, found.unsafe_lost
-    );
-    Ok(if found.safe_lost == 0 {
-        ExitCode::SUCCESS
-    } else {
-        ExitCode::FAILURE
-    })
+    let right = play_all("the right store", false)?;
+    let planted = play_all("the planted store", true)?;
+    Ok(
+        if right.first_lost.is_none() && planted.first_lost.is_some() {
+            ExitCode::SUCCESS
+        } else {
+            ExitCode::FAILURE
+        },
+    )
 }

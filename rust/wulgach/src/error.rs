@@ -13,6 +13,15 @@ pub enum Error {
 
     /// A core was given `Step::Finish`: it is told how a request ended by `Core::finish`.
     FinishOfCore,
+
+    /// The units of a volume have no byte.
+    BadUnit,
+
+    /// A write would end above 2^63 - 1.
+    TooFar,
+
+    /// Each number up to 2^64 - 2 was given to a write or a sync of a volume.
+    NoNumber,
 }
 
 impl fmt::Display for Error {
@@ -21,6 +30,9 @@ impl fmt::Display for Error {
             Error::BadSetup => "a number of the set-up is out of its range",
             Error::NoMemory => "out of memory",
             Error::FinishOfCore => "a core is told of an end by `finish`",
+            Error::BadUnit => "a unit of no byte",
+            Error::TooFar => "a write past the last offset",
+            Error::NoNumber => "the numbers of writes and syncs are used up",
         })
     }
 }

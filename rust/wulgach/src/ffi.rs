@@ -2,7 +2,7 @@
 
 use std::ffi::c_void;
 
-/// A place for a core or a machine. All zero: empty.
+/// A place for a core, a machine or a volume. All zero: empty.
 #[repr(C)]
 #[derive(Debug)]
 pub struct Place {
@@ -152,4 +152,38 @@ extern "C" {
     pub fn wulgach_machine_nth_issuable(machine: *mut Place, index: u64, number: *mut u64) -> i32;
     pub fn wulgach_machine_why(machine: *mut Place, number: u64, why: *mut Why) -> i32;
     pub fn wulgach_machine_free(machine: *mut Place) -> i32;
+    pub fn wulgach_volume_new(volume: *mut Place, unit: u64, bytes: *const u8, len: usize) -> i32;
+    pub fn wulgach_volume_begin_write(
+        volume: *mut Place,
+        off: u64,
+        bytes: *const u8,
+        len: usize,
+        number: *mut u64,
+    ) -> i32;
+    pub fn wulgach_volume_end_write(volume: *mut Place, number: u64) -> i32;
+    pub fn wulgach_volume_begin_sync(volume: *mut Place, number: *mut u64) -> i32;
+    pub fn wulgach_volume_begin_range_sync(
+        volume: *mut Place,
+        off: u64,
+        len: u64,
+        number: *mut u64,
+    ) -> i32;
+    pub fn wulgach_volume_end_sync(volume: *mut Place, number: u64) -> i32;
+    pub fn wulgach_volume_fail_sync(volume: *mut Place, number: u64) -> i32;
+    pub fn wulgach_volume_is_safe(volume: *mut Place, number: u64, is_safe: *mut bool) -> i32;
+    pub fn wulgach_volume_contents(
+        volume: *mut Place,
+        bytes: *mut u8,
+        room: usize,
+        len: *mut u64,
+    ) -> i32;
+    pub fn wulgach_volume_crash(
+        volume: *mut Place,
+        choice: *const u64,
+        count: usize,
+        bytes: *mut u8,
+        room: usize,
+        len: *mut u64,
+    ) -> i32;
+    pub fn wulgach_volume_free(volume: *mut Place) -> i32;
 }

@@ -1,6 +1,6 @@
 //! The io_uring protocol of Linux as a core in user space, proved correct.
 //!
-//! A [`Core`] is a pair of rings and its requests, moved one [`Step`] at a time. The two sides of the rings, the application and the dispatcher (the kernel's side), make their steps in any order; each step has one [`Answer`]. A core carries nothing out: the caller says how a running request ended. A [`Machine`] is a core with files in memory.
+//! A [`Core`] is a pair of rings and its requests, moved one [`Step`] at a time. The two sides of the rings, the application and the dispatcher (the kernel's side), make their steps in any order; each step has one [`Answer`]. A core carries nothing out: the caller says how a running request ended. A [`Machine`] is a core with files in memory. A [`Volume`] is one file, and what a power failure may leave of it; it stands apart from both.
 //!
 //! # What is proved, and what isn't
 //!
@@ -19,6 +19,7 @@ mod machine;
 mod reading;
 mod setup;
 mod step;
+mod volume;
 mod why;
 
 pub use crate::answer::{Answer, Completion};
@@ -29,4 +30,5 @@ pub use crate::machine::Machine;
 pub use crate::reading::{Counts, FileState, Operation};
 pub use crate::setup::{Setup, SetupField};
 pub use crate::step::Step;
+pub use crate::volume::Volume;
 pub use crate::why::{Doom, Fault, Since, Why};

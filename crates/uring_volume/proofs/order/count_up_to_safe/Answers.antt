@@ -8,15 +8,15 @@ pub returns-then-is_safe-clause-value : goal.returns-then-is_safe-clause-value
 returns-then-is_safe-clause-value c =
     let next : c.loop-i.i ≡ suc (c.loop-i.i - 1) = omega arith in
     last_safe (λ p. p.now) (reverse c.args.events.now) c.args.rest.now c.loop-i.i (c.loop-i.i - 1) c.index-rest-i.result next c.loop-i.invariant.within c.index-rest-i.is
-    (ap (is_safe (reverse c.args.events.now)) (sym c.number.ensures) ∙ sym c.is_safe.ensures ∙ c.if-is_safe.true) c.loop-i.invariant.none
+    (sym c.is_safe.ensures ∙ c.if-is_safe.true) c.loop-i.invariant.none
 
 pub loop-i-preserved : goal.loop-i-preserved
 loop-i-preserved c = record {
   within = omega arith;
   none =
       let next : c.loop-i.i ≡ suc (c.loop-i.i - 1) = omega arith in
-      one_less (λ p. p.now) (λ w. is_safe (reverse c.args.events.now) w.number) c.args.rest.now c.loop-i.i (c.loop-i.i - 1) c.index-rest-i.result next c.loop-i.invariant.within c.index-rest-i.is
-      (ap (is_safe (reverse c.args.events.now)) (sym c.number.ensures) ∙ sym c.is_safe.ensures ∙ c.if-is_safe.false) c.loop-i.invariant.none;
+      one_less (λ p. p.now) (λ w. is_safe (reverse c.args.events.now) w) c.args.rest.now c.loop-i.i (c.loop-i.i - 1) c.index-rest-i.result next c.loop-i.invariant.within c.index-rest-i.is
+      (sym c.is_safe.ensures ∙ c.if-is_safe.false) c.loop-i.invariant.none;
 }
 
 pub returns-clause-value : goal.returns-clause-value

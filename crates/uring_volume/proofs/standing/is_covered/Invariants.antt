@@ -4,6 +4,7 @@ use Rattle.uring_volume.proofs.standing.is_covered.Given as goal
 
 abbrev pub invariant-loop-event : goal.invariant-loop-event
 invariant-loop-event l = record {
-  ended : l.ended ≡ has_ended (reverse (take l.event-index l.events)) l.n;
-  covered : l.covered ≡ is_covered (reverse (take l.event-index l.events)) l.s l.n;
+  number : l.n ≡ l.piece.number;
+  ended : l.ended ≡ has_ended (reverse (take l.event-index l.events)) l.piece.number;
+  covered : l.covered ≡ is_covered (reverse (take l.event-index l.events)) l.s l.piece;
 }

@@ -1,0 +1,162 @@
+//! The calls of a volume, made on the volume in a place. Each takes the volume out, and puts it back; its box doesn't move.
+ghost use Rattle.std.specs.Prelude.{◌≡◌, ◌↔◌, ◌+◌, ◌<◌, ◌^◌, [], Some, IsSome, IfOk, OnErr, IsSomeAnd, Err, length, if◌then◌else◌};
+ghost use Rattle.uring_volume.specs.Images.{IsImage};
+ghost use Rattle.uring_volume.specs.Choices.{issued, named, has_safe, IsLeftBy};
+ghost use Rattle.uring_volume.specs.Volume.{with_event, with_write, with_sync, is_one_of, running_writes, running_syncs, IsShown};
+ghost use Rattle.uring_volume.specs.declared.event.Event.TheVariants.{WriteEnded, SyncEnded, SyncFailed};
+ghost use Rattle.uring_volume.specs.declared.volume.BeginError.TheVariants.{OutOfNumbers};
+ghost use Rattle.uring_c.specs.Places.{volume_in};
+
+use crate::volume_place::VolumePlace;
+use std::alloc::{AllocError, Global};
+use uring_volume::{BeginError, SyncRange, Volume};
+
+/// A new volume, in a box. `AllocError`: out of memory.
+pub(crate) fn new_volume(
+    alloc: Global,
+    unit: u64,
+    first: &[u8],
+) -> Result<Box<Volume, Global>, AllocError>
+    requires { 0 < unit }
+    ensures { IfOk result (λ volume. volume.value
+        ≡ record { unit = unit; first = first.now; history = []; next = 1 }) }
+{
+    let bytes = first.to_vec(alloc)?;
+    Ok(Box::new(alloc, Volume::new(alloc, unit, bytes))?)
+}
+
+impl VolumePlace {
+    /// Begins a write.
+    pub(crate) fn begin_write(
+        &mut self,
+        alloc: Global,
+        off: u64,
+        bytes: Vec<u8>,
+    ) -> Result<u64, BeginError>
+        requires full { IsSome (volume_in self.old) }
+        requires end { off + length bytes.items < 2 ^ 63 }
+        ensures begun { IsSomeAnd (volume_in self.old)
+            (λ v. IfOk result
+            (λ n. (n ≡ v.next) × (volume_in self.new ≡ Some (with_write off bytes.items v)))) }
+        ensures kept { OnErr result (volume_in self.new ≡ volume_in self.old) }
+        ensures numbers { IsSomeAnd (volume_in self.old)
+            (λ v. (result ≡ Err OutOfNumbers) ↔ (v.next + 1 ≡ 2 ^ 64)) }
+    {
+        let Some(mut volume) = self.take(alloc) else {
+            unreachable!()
+        };
+        let begun = volume.begin_write(off, bytes);
+        self.put(volume);
+        begun
+    }
+
+    /// Begins a sync of a range.
+    pub(crate) fn begin_sync(&mut self, alloc: Global, range: SyncRange) -> Result<u64, BeginError>
+        requires { IsSome (volume_in self.old) }
+        ensures begun { IsSomeAnd (volume_in self.old)
+            (λ v. IfOk result
+            (λ n. (n ≡ v.next) × (volume_in self.new ≡ Some (with_sync range v)))) }
+        ensures kept { OnErr result (volume_in self.new ≡ volume_in self.old) }
+        ensures numbers { IsSomeAnd (volume_in self.old)
+            (λ v. (result ≡ Err OutOfNumbers) ↔ (v.next + 1 ≡ 2 ^ 64)) }
+    {
+        let Some(mut volume) = self.take(alloc) else {
+            unreachable!()
+        };
+        let begun = volume.begin_sync(range);
+        self.put(volume);
+        begun
+    }
+
+    /// Ends a running write. It returns whether a write of this number ran.
+    pub(crate) fn end_write(&mut self, alloc: Global, n: u64) -> bool
+        requires { IsSome (volume_in self.old) }
+        ensures { IsSomeAnd (volume_in self.old)
+            (λ v. (result ≡ is_one_of n (running_writes v.history))
+            × (volume_in self.new ≡ Some (if result then with_event (WriteEnded n) v else v))) }
+    {
+        let Some(mut volume) = self.take(alloc) else {
+            unreachable!()
+        };
+        let ran = volume.end_write(n);
+        self.put(volume);
+        ran
+    }
+
+    /// Ends a running sync with success. It returns whether a sync of this number ran.
+    pub(crate) fn end_sync(&mut self, alloc: Global, s: u64) -> bool
+        requires { IsSome (volume_in self.old) }
+        ensures { IsSomeAnd (volume_in self.old)
+            (λ v. (result ≡ is_one_of s (running_syncs v.history))
+            × (volume_in self.new ≡ Some (if result then with_event (SyncEnded s) v else v))) }
+    {
+        let Some(mut volume) = self.take(alloc) else {
+            unreachable!()
+        };
+        let ran = volume.end_sync(s);
+        self.put(volume);
+        ran
+    }
+
+    /// Ends a running sync with an error. It returns whether a sync of this number ran.
+    pub(crate) fn fail_sync(&mut self, alloc: Global, s: u64) -> bool
+        requires { IsSome (volume_in self.old) }
+        ensures { IsSomeAnd (volume_in self.old)
+            (λ v. (result ≡ is_one_of s (running_syncs v.history))
+            × (volume_in self.new ≡ Some (if result then with_event (SyncFailed s) v else v))) }
+    {
+        let Some(mut volume) = self.take(alloc) else {
+            unreachable!()
+        };
+        let ran = volume.fail_sync(s);
+        self.put(volume);
+        ran
+    }
+
+    /// Whether a write is safe.
+    pub(crate) fn is_safe(&mut self, alloc: Global, n: u64) -> bool
+        requires { IsSome (volume_in self.old) }
+        ensures kept { volume_in self.new ≡ volume_in self.old }
+        ensures safe { IsSomeAnd (volume_in self.old)
+            (λ v. result ≡ has_safe v.history (named n (issued v.history))) }
+    {
+        let Some(volume) = self.take(alloc) else {
+            unreachable!()
+        };
+        let is_safe = volume.is_safe(n);
+        self.put(volume);
+        is_safe
+    }
+
+    /// The bytes that a read of the whole file shows. `AllocError`: out of memory.
+    pub(crate) fn contents(&mut self, alloc: Global) -> Result<Vec<u8>, AllocError>
+        requires { IsSome (volume_in self.old) }
+        ensures kept { volume_in self.new ≡ volume_in self.old }
+        ensures shown { IsSomeAnd (volume_in self.old)
+            (λ v. IfOk result (λ now. IsShown v.first v.history now.items)) }
+    {
+        let Some(volume) = self.take(alloc) else {
+            unreachable!()
+        };
+        let now = volume.contents(alloc);
+        self.put(volume);
+        now
+    }
+
+    /// The bytes that a crash leaves, by a choice. `AllocError`: out of memory.
+    pub(crate) fn crash(&mut self, alloc: Global, choice: &[u64]) -> Result<Vec<u8>, AllocError>
+        requires { IsSome (volume_in self.old) }
+        ensures kept { volume_in self.new ≡ volume_in self.old }
+        ensures image { IsSomeAnd (volume_in self.old)
+            (λ v. IfOk result (λ now. IsImage v.unit v.first v.history now.items)) }
+        ensures left { IsSomeAnd (volume_in self.old)
+            (λ v. IfOk result (λ now. IsLeftBy v.unit v.first v.history choice.now now.items)) }
+    {
+        let Some(volume) = self.take(alloc) else {
+            unreachable!()
+        };
+        let now = volume.crash(alloc, choice);
+        self.put(volume);
+        now
+    }
+}

@@ -1,0 +1,315 @@
+//! The calls of a volume that C makes: `wulgach_volume_..` of the header.
+//!
+//! Each returns 0, or the negative of an error number: -9 (EBADF) exactly at an empty place.
+ghost use Rattle.std.specs.Prelude.{◌≡◌, ◌↔◌, ◌+◌, ◌≤◌, ◌^◌, [], Some, None, IsSome, IfSome, IfOk, IsSomeAnd, Err, pos, neg_ℤ, true, length};
+ghost use Rattle.uring_entry.specs.declared.errno.TheConstants.{EBADF, EFBIG, EINVAL, ENOENT, ENOMEM};
+ghost use Rattle.uring_volume.specs.Choices.{issued, named, has_safe};
+ghost use Rattle.uring_volume.specs.Volume.{with_event, with_write, with_sync, is_one_of, running_writes, running_syncs};
+ghost use Rattle.uring_volume.specs.declared.event.Event.TheVariants.{WriteEnded, SyncEnded, SyncFailed};
+ghost use Rattle.uring_volume.specs.declared.event.SyncRange.TheVariants.{Whole, Part};
+ghost use Rattle.uring_volume.specs.declared.volume.BeginError.TheVariants.{OutOfMemory, OutOfNumbers};
+ghost use Rattle.uring_c.specs.Places.{volume_in};
+ghost use Rattle.uring_c.specs.VolumeForms.{IsGiven, TellsContents, TellsCrash};
+
+use crate::volume_calls::new_volume;
+use crate::volume_place::VolumePlace;
+use std::alloc::Global;
+use uring_entry::errno;
+use uring_volume::{BeginError, SyncRange};
+
+/// The first offset at which no write ends.
+const LIMIT: u64 = 1 << 63;
+
+/// Tells C how a write or a sync began.
+fn tell(begun: Result<u64, BeginError>, number: &mut u64) -> i32
+    ensures begun { IfOk begun (λ n. (result ≡ pos 0) × (number.new ≡ n)) }
+    ensures memory { begun ≡ Err OutOfMemory
+        → (result ≡ neg_ℤ ENOMEM) × (number.new ≡ number.old) }
+    ensures spent { begun ≡ Err OutOfNumbers
+        → (result ≡ neg_ℤ EINVAL) × (number.new ≡ number.old) }
+{
+    match begun {
+        Ok(n) => {
+            *number = n;
+            0
+        }
+        Err(BeginError::OutOfMemory) => -errno::ENOMEM,
+        Err(BeginError::OutOfNumbers) => -errno::EINVAL,
+    }
+}
+
+/// Gives C as many of these bytes as it has room for, and returns how many there are.
+fn give(now: &[u8], bytes: &mut [u8]) -> u64
+    ensures { IsGiven now.now bytes.old bytes.new result }
+{
+    let count = now.len().min(bytes.len());
+    for k in 0..count {
+        bytes[k] = now[k];
+    }
+    now.len() as u64
+}
+
+/// Puts a new volume into a place, with units of so many bytes and these first bytes; what was there is freed. -22 (EINVAL) exactly if a unit has no byte; -12 (ENOMEM) if memory is refused. Then the place keeps what it had.
+#[unsafe(no_mangle)]
+pub extern "C" fn wulgach_volume_new(
+    alloc: Global,
+    place: &mut VolumePlace,
+    unit: u64,
+    first: &[u8],
+) -> i32
+    ensures refused { (result ≡ neg_ℤ EINVAL) ↔ (unit ≡ 0) }
+    ensures results { (result ≡ pos 0 → ⊥) → (result ≡ neg_ℤ EINVAL → ⊥) → result ≡ neg_ℤ ENOMEM }
+    ensures kept { (result ≡ pos 0 → ⊥) → volume_in place.new ≡ volume_in place.old }
+    ensures made { result ≡ pos 0
+        → volume_in place.new
+        ≡ Some (record { unit = unit; first = first.now; history = []; next = 1 }) }
+{
+    if unit == 0 {
+        return -errno::EINVAL;
+    }
+    let Ok(volume) = new_volume(alloc, unit, first) else {
+        return -errno::ENOMEM;
+    };
+    place.put(volume);
+    0
+}
+
+/// Begins a write of these bytes at an offset, and writes its number. -27 (EFBIG) exactly if it would end above 2^63 - 1; -22 (EINVAL) only if the numbers are used up; -12 (ENOMEM) if memory is refused. A refusal changes nothing.
+#[unsafe(no_mangle)]
+pub extern "C" fn wulgach_volume_begin_write(
+    alloc: Global,
+    place: &mut VolumePlace,
+    off: u64,
+    bytes: &[u8],
+    number: &mut u64,
+) -> i32
+    ensures empty { (result ≡ neg_ℤ EBADF) ↔ (volume_in place.old ≡ None) }
+    ensures too_far { (result ≡ neg_ℤ EFBIG)
+        ↔ (IsSome (volume_in place.old) × (2 ^ 63 ≤ off + length bytes.now)) }
+    ensures spent { result ≡ neg_ℤ EINVAL
+        → IsSomeAnd (volume_in place.old) (λ v. v.next + 1 ≡ 2 ^ 64) }
+    ensures results { (result ≡ pos 0 → ⊥) → (result ≡ neg_ℤ EBADF → ⊥)
+        → (result ≡ neg_ℤ EFBIG → ⊥) → (result ≡ neg_ℤ EINVAL → ⊥) → result ≡ neg_ℤ ENOMEM }
+    ensures kept { (result ≡ pos 0 → ⊥)
+        → (volume_in place.new ≡ volume_in place.old) × (number.new ≡ number.old) }
+    ensures made { result ≡ pos 0
+        → IsSomeAnd (volume_in place.old)
+        (λ v. (number.new ≡ v.next)
+        × (volume_in place.new ≡ Some (with_write off bytes.now v))) }
+{
+    if !place.is_full {
+        return -errno::EBADF;
+    }
+    let len = bytes.len() as u64;
+    if len >= LIMIT || off >= LIMIT - len {
+        return -errno::EFBIG;
+    }
+    let Ok(copy) = bytes.to_vec(alloc) else {
+        return -errno::ENOMEM;
+    };
+    tell(place.begin_write(alloc, off, copy), number)
+}
+
+/// Begins a sync of the whole file, and writes its number. -22 (EINVAL) only if the numbers are used up; -12 (ENOMEM) if memory is refused. A refusal changes nothing.
+#[unsafe(no_mangle)]
+pub extern "C" fn wulgach_volume_begin_sync(
+    alloc: Global,
+    place: &mut VolumePlace,
+    number: &mut u64,
+) -> i32
+    ensures empty { (result ≡ neg_ℤ EBADF) ↔ (volume_in place.old ≡ None) }
+    ensures spent { result ≡ neg_ℤ EINVAL
+        → IsSomeAnd (volume_in place.old) (λ v. v.next + 1 ≡ 2 ^ 64) }
+    ensures results { (result ≡ pos 0 → ⊥) → (result ≡ neg_ℤ EBADF → ⊥)
+        → (result ≡ neg_ℤ EINVAL → ⊥) → result ≡ neg_ℤ ENOMEM }
+    ensures kept { (result ≡ pos 0 → ⊥)
+        → (volume_in place.new ≡ volume_in place.old) × (number.new ≡ number.old) }
+    ensures made { result ≡ pos 0
+        → IsSomeAnd (volume_in place.old)
+        (λ v. (number.new ≡ v.next) × (volume_in place.new ≡ Some (with_sync Whole v))) }
+{
+    if !place.is_full {
+        return -errno::EBADF;
+    }
+    tell(place.begin_sync(alloc, SyncRange::Whole), number)
+}
+
+/// Begins a sync of so many bytes from an offset on, and writes its number. -22 (EINVAL) only if the numbers are used up; -12 (ENOMEM) if memory is refused. A refusal changes nothing.
+#[unsafe(no_mangle)]
+pub extern "C" fn wulgach_volume_begin_range_sync(
+    alloc: Global,
+    place: &mut VolumePlace,
+    off: u64,
+    len: u64,
+    number: &mut u64,
+) -> i32
+    ensures empty { (result ≡ neg_ℤ EBADF) ↔ (volume_in place.old ≡ None) }
+    ensures spent { result ≡ neg_ℤ EINVAL
+        → IsSomeAnd (volume_in place.old) (λ v. v.next + 1 ≡ 2 ^ 64) }
+    ensures results { (result ≡ pos 0 → ⊥) → (result ≡ neg_ℤ EBADF → ⊥)
+        → (result ≡ neg_ℤ EINVAL → ⊥) → result ≡ neg_ℤ ENOMEM }
+    ensures kept { (result ≡ pos 0 → ⊥)
+        → (volume_in place.new ≡ volume_in place.old) × (number.new ≡ number.old) }
+    ensures made { result ≡ pos 0
+        → IsSomeAnd (volume_in place.old)
+        (λ v. (number.new ≡ v.next) × (volume_in place.new ≡ Some (with_sync (Part off len) v))) }
+{
+    if !place.is_full {
+        return -errno::EBADF;
+    }
+    tell(place.begin_sync(alloc, SyncRange::Part { off, len }), number)
+}
+
+/// Ends a running write. -2 (ENOENT) exactly if no write of this number runs; then nothing changes.
+#[unsafe(no_mangle)]
+pub extern "C" fn wulgach_volume_end_write(alloc: Global, place: &mut VolumePlace, number: u64) -> i32
+    ensures empty { (result ≡ neg_ℤ EBADF) ↔ (volume_in place.old ≡ None) }
+    ensures results { (result ≡ pos 0 → ⊥) → (result ≡ neg_ℤ EBADF → ⊥) → result ≡ neg_ℤ ENOENT }
+    ensures kept { (result ≡ pos 0 → ⊥) → volume_in place.new ≡ volume_in place.old }
+    ensures ended { IfSome (volume_in place.old)
+        (λ v. (result ≡ pos 0) ↔ (is_one_of number (running_writes v.history) ≡ true)) }
+    ensures event { result ≡ pos 0
+        → IsSomeAnd (volume_in place.old)
+        (λ v. volume_in place.new ≡ Some (with_event (WriteEnded number) v)) }
+{
+    if !place.is_full {
+        return -errno::EBADF;
+    }
+    if place.end_write(alloc, number) {
+        0
+    } else {
+        -errno::ENOENT
+    }
+}
+
+/// Ends a running sync with success. -2 (ENOENT) exactly if no sync of this number runs; then nothing changes.
+#[unsafe(no_mangle)]
+pub extern "C" fn wulgach_volume_end_sync(alloc: Global, place: &mut VolumePlace, number: u64) -> i32
+    ensures empty { (result ≡ neg_ℤ EBADF) ↔ (volume_in place.old ≡ None) }
+    ensures results { (result ≡ pos 0 → ⊥) → (result ≡ neg_ℤ EBADF → ⊥) → result ≡ neg_ℤ ENOENT }
+    ensures kept { (result ≡ pos 0 → ⊥) → volume_in place.new ≡ volume_in place.old }
+    ensures ended { IfSome (volume_in place.old)
+        (λ v. (result ≡ pos 0) ↔ (is_one_of number (running_syncs v.history) ≡ true)) }
+    ensures event { result ≡ pos 0
+        → IsSomeAnd (volume_in place.old)
+        (λ v. volume_in place.new ≡ Some (with_event (SyncEnded number) v)) }
+{
+    if !place.is_full {
+        return -errno::EBADF;
+    }
+    if place.end_sync(alloc, number) {
+        0
+    } else {
+        -errno::ENOENT
+    }
+}
+
+/// Ends a running sync with an error. -2 (ENOENT) exactly if no sync of this number runs; then nothing changes.
+#[unsafe(no_mangle)]
+pub extern "C" fn wulgach_volume_fail_sync(alloc: Global, place: &mut VolumePlace, number: u64) -> i32
+    ensures empty { (result ≡ neg_ℤ EBADF) ↔ (volume_in place.old ≡ None) }
+    ensures results { (result ≡ pos 0 → ⊥) → (result ≡ neg_ℤ EBADF → ⊥) → result ≡ neg_ℤ ENOENT }
+    ensures kept { (result ≡ pos 0 → ⊥) → volume_in place.new ≡ volume_in place.old }
+    ensures ended { IfSome (volume_in place.old)
+        (λ v. (result ≡ pos 0) ↔ (is_one_of number (running_syncs v.history) ≡ true)) }
+    ensures event { result ≡ pos 0
+        → IsSomeAnd (volume_in place.old)
+        (λ v. volume_in place.new ≡ Some (with_event (SyncFailed number) v)) }
+{
+    if !place.is_full {
+        return -errno::EBADF;
+    }
+    if place.fail_sync(alloc, number) {
+        0
+    } else {
+        -errno::ENOENT
+    }
+}
+
+/// Writes whether a write is safe: false too if no write has this number.
+#[unsafe(no_mangle)]
+pub extern "C" fn wulgach_volume_is_safe(
+    alloc: Global,
+    place: &mut VolumePlace,
+    number: u64,
+    is_safe: &mut bool,
+) -> i32
+    ensures empty { (result ≡ neg_ℤ EBADF) ↔ (volume_in place.old ≡ None) }
+    ensures kept { volume_in place.new ≡ volume_in place.old }
+    ensures refused { volume_in place.old ≡ None → is_safe.new ≡ is_safe.old }
+    ensures safe { IfSome (volume_in place.old)
+        (λ v. (result ≡ pos 0)
+        × (is_safe.new ≡ has_safe v.history (named number (issued v.history)))) }
+{
+    if !place.is_full {
+        return -errno::EBADF;
+    }
+    *is_safe = place.is_safe(alloc, number);
+    0
+}
+
+/// Writes the bytes that a read of the whole file shows, as many as there is room for, and how many there are. -12 (ENOMEM) if memory is refused. A refusal writes nothing.
+#[unsafe(no_mangle)]
+pub extern "C" fn wulgach_volume_contents(
+    alloc: Global,
+    place: &mut VolumePlace,
+    bytes: &mut [u8],
+    len: &mut u64,
+) -> i32
+    ensures empty { (result ≡ neg_ℤ EBADF) ↔ (volume_in place.old ≡ None) }
+    ensures results { (result ≡ pos 0 → ⊥) → (result ≡ neg_ℤ EBADF → ⊥) → result ≡ neg_ℤ ENOMEM }
+    ensures kept { volume_in place.new ≡ volume_in place.old }
+    ensures refused { (result ≡ pos 0 → ⊥) → (bytes.new ≡ bytes.old) × (len.new ≡ len.old) }
+    ensures told { result ≡ pos 0
+        → IsSomeAnd (volume_in place.old) (λ v. TellsContents v bytes.old bytes.new len.new) }
+{
+    if !place.is_full {
+        return -errno::EBADF;
+    }
+    let Ok(now) = place.contents(alloc) else {
+        return -errno::ENOMEM;
+    };
+    *len = give(&now, bytes);
+    0
+}
+
+/// Writes the bytes that a crash leaves, by a choice, as many as there is room for, and how many there are. The volume stays as it is. -12 (ENOMEM) if memory is refused. A refusal writes nothing.
+#[unsafe(no_mangle)]
+pub extern "C" fn wulgach_volume_crash(
+    alloc: Global,
+    place: &mut VolumePlace,
+    choice: &[u64],
+    bytes: &mut [u8],
+    len: &mut u64,
+) -> i32
+    ensures empty { (result ≡ neg_ℤ EBADF) ↔ (volume_in place.old ≡ None) }
+    ensures results { (result ≡ pos 0 → ⊥) → (result ≡ neg_ℤ EBADF → ⊥) → result ≡ neg_ℤ ENOMEM }
+    ensures kept { volume_in place.new ≡ volume_in place.old }
+    ensures refused { (result ≡ pos 0 → ⊥) → (bytes.new ≡ bytes.old) × (len.new ≡ len.old) }
+    ensures told { result ≡ pos 0
+        → IsSomeAnd (volume_in place.old)
+        (λ v. TellsCrash v choice.now bytes.old bytes.new len.new) }
+{
+    if !place.is_full {
+        return -errno::EBADF;
+    }
+    let Ok(now) = place.crash(alloc, choice) else {
+        return -errno::ENOMEM;
+    };
+    *len = give(&now, bytes);
+    0
+}
+
+/// Frees the volume of a place, which is empty from then on.
+#[unsafe(no_mangle)]
+pub extern "C" fn wulgach_volume_free(alloc: Global, place: &mut VolumePlace) -> i32
+    ensures empty { (result ≡ neg_ℤ EBADF) ↔ (volume_in place.old ≡ None) }
+    ensures freed { volume_in place.new ≡ None }
+    ensures done { IsSome (volume_in place.old) → result ≡ pos 0 }
+{
+    if place.take(alloc).is_some() {
+        0
+    } else {
+        -errno::EBADF
+    }
+}

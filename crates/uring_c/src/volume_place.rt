@@ -1,0 +1,74 @@
+//! A C program's handle of a volume.
+ghost use Rattle.std.specs.Prelude.{◌≡◌, None, Some, is_some};
+
+use crate::volume_slot::VolumeSlot;
+use crate::parts::Parts;
+use std::alloc::Global;
+use std::mem;
+use uring_volume::Volume;
+
+/// Nothing, or a volume. `struct wulgach_volume` of the header: a struct of zeros is an empty place.
+#[repr(C)]
+pub struct VolumePlace {
+    pub slot: VolumeSlot,
+    pub is_full: bool,
+    ghost agrees: { is_some slot.volume ≡ is_full },
+}
+
+impl VolumePlace {
+    ghost use Rattle.uring_c.specs.Places.{volume_in};
+    ghost use Rattle.uring_c.specs.Boxes.{boxed};
+
+    /// A place with nothing in it.
+    pub(crate) fn empty(alloc: Global) -> VolumePlace
+        ensures { volume_in result ≡ None }
+    {
+        VolumePlace {
+            slot: VolumeSlot::none(alloc),
+            is_full: false,
+        }
+    }
+
+    /// A place with this volume.
+    pub(crate) fn full(volume: Box<Volume, Global>) -> VolumePlace
+        ensures { volume_in result ≡ Some volume.value }
+    {
+        VolumePlace {
+            slot: VolumeSlot::of_parts(Parts::of(volume)),
+            is_full: true,
+        }
+    }
+
+    /// The volume of a place, if there is one.
+    pub(crate) fn into_volume(self) -> Option<Box<Volume, Global>>
+        ensures { boxed result ≡ volume_in self }
+    {
+        let VolumePlace { slot, is_full } = self;
+        if is_full {
+            Some(slot.into_parts().into_box())
+        } else {
+            None
+        }
+    }
+
+    /// The volume of a place, which is empty from then on.
+    pub(crate) fn take(&mut self, alloc: Global) -> Option<Box<Volume, Global>>
+        ensures taken { boxed result ≡ volume_in self.old }
+        ensures empty { volume_in self.new ≡ None }
+    {
+        mem::replace(self, VolumePlace::empty(alloc)).into_volume()
+    }
+
+    /// Puts a volume into a place. What was there is freed.
+    pub(crate) fn put(&mut self, volume: Box<Volume, Global>)
+        ensures { volume_in self.new ≡ Some volume.value }
+    {
+        *self = VolumePlace::full(volume);
+    }
+}
+
+impl Drop for VolumePlace {
+    fn drop(self) {
+        drop(self.into_volume());
+    }
+}

@@ -1,0 +1,150 @@
+-- What a commit adds to a log: its record is kept, and what was kept before is.
+use Rattle.std.proofs.Common.{◌≡◌, ◌==◌, ◌<◌, ◌≤◌, ◌+◌, ℕ, Bool, true, false, not, ◌&&◌, ◌||◌, cond, List, [], ◌∷◌, ◌++◌, ◌⊎◌, length, refl, sym, subst, ap, ◌∙◌, inl, inr, arith}
+use Rattle.std.specs.List.{list_any}
+use Rattle.std.proofs.lemmas.List.Folds.{list_any-append}
+use Rattle.std.proofs.lemmas.Bool.{and_from, and_parts, and_left, and_right, or_from, or_left, or_right, or_parts, both_ways, false_from_ne_true, cond-true, leb-true, ltb-true, eq-eqb, not_from_false}
+use Rattle.uring_volume.specs.Writes.{Write}
+use Rattle.uring_volume.specs.declared.event.SyncRange.{SyncRange}
+use Rattle.uring_volume.specs.declared.event.SyncRange.TheVariants.{Whole}
+use Rattle.uring_volume.specs.declared.event.Event.TheVariants.{WriteIssued, WriteEnded, SyncIssued, SyncEnded, SyncFailed}
+use Rattle.uring_volume.specs.Events.{History, writes, has_ended, lies_in, meets, is_before, is_covered, is_reached, is_given_up, is_safe}
+use Rattle.uring_volume.specs.Images.{IsIn, is_under}
+use Rattle.uring_volume.specs.Laws.{IsKept}
+use Rattle.uring_volume.specs.Volume.{Volume, IsSound, is_one_of, running_writes, running_syncs, with_event, with_write, with_sync}
+use Rattle.uring_uses.specs.Stores.{EndsBy}
+
+-- a write that hasn't ended is reached by no sync
+
+not_reached : (h : History) (s : ℕ) (w : Write) → has_ended h w.number ≡ false
+    → is_reached h s w ≡ false
+not_reached [] s w none = refl
+not_reached (WriteEnded m ∷ earlier) s w none = not_reached earlier s w (or_parts (m == w.number) (has_ended earlier w.number) none).1
+not_reached (SyncIssued t range ∷ earlier) s w none =
+    or_from (t == s && has_ended earlier w.number && meets range w) (is_reached earlier s w)
+    (and_left (t == s && has_ended earlier w.number) (meets range w) (and_right (t == s) (has_ended earlier w.number) none))
+    (not_reached earlier s w none)
+not_reached (e ∷ earlier) s w none = not_reached earlier s w none
+
+not_given_up : (h : History) (w : Write) → has_ended h w.number ≡ false → is_given_up h w ≡ false
+not_given_up [] w none = refl
+not_given_up (WriteEnded m ∷ earlier) w none = not_given_up earlier w (or_parts (m == w.number) (has_ended earlier w.number) none).1
+not_given_up (SyncFailed s ∷ earlier) w none =
+    or_from (is_reached earlier s w) (is_given_up earlier w) (not_reached earlier s w none) (not_given_up earlier w none)
+not_given_up (e ∷ earlier) w none = not_given_up earlier w none
+
+-- the history of a log with a record more
+abbrev pub with_record : History → Write → ℕ → History
+with_record h w s = SyncEnded s ∷ SyncIssued s Whole ∷ WriteEnded w.number ∷ WriteIssued w ∷ h
+
+record_is_safe : (h : History) (w : Write) (s : ℕ) → has_ended h w.number ≡ false
+    → is_safe (with_record h w s) w ≡ true
+record_is_safe h w s none =
+    let same : (s == s) ≡ true = eq-eqb s s refl in
+    let ended : has_ended (WriteEnded w.number ∷ WriteIssued w ∷ h) w.number ≡ true = or_left (w.number == w.number) (has_ended h w.number) (eq-eqb w.number w.number refl) in
+    let covered : is_covered (SyncIssued s Whole ∷ WriteEnded w.number ∷ WriteIssued w ∷ h) s w ≡ true =
+    or_left (s == s && has_ended (WriteEnded w.number ∷ WriteIssued w ∷ h) w.number && true) (is_covered h s w)
+    (and_from (s == s && has_ended (WriteEnded w.number ∷ WriteIssued w ∷ h) w.number) true (and_from (s == s) (has_ended (WriteEnded w.number ∷ WriteIssued w ∷ h) w.number) same ended) refl) in
+    or_left (is_covered (SyncIssued s Whole ∷ WriteEnded w.number ∷ WriteIssued w ∷ h) s w && not (is_given_up h w)) (is_safe h w)
+    (and_from (is_covered (SyncIssued s Whole ∷ WriteEnded w.number ∷ WriteIssued w ∷ h) s w) (not (is_given_up h w)) covered (not_from_false (is_given_up h w) (not_given_up h w none)))
+
+-- a byte of a write lies before its end, and not before its offset
+under_parts : (w : Write) (k : ℕ) → is_under w k ≡ true
+    → (w.off ≤ k) × (k < w.off + length w.bytes)
+under_parts w k under =
+    let parts = and_parts _ _ under in
+    (leb-true w.off k parts.0, ltb-true k (w.off + length w.bytes) parts.1)
+
+pub record_is_kept : (h : History) (w : Write) (s : ℕ) → has_ended h w.number ≡ false
+    → EndsBy w.off h → IsKept (with_record h w s) w
+record_is_kept h w s none behind = record {
+  issued = inl refl;
+  safe = record_is_safe h w s none;
+  last = λ m k among differs under over. elim among [
+    | inl same ↦ absurd (differs same)
+    | inr old ↦
+        let own = under_parts w k under in
+        let its = under_parts m k over in
+        let before : m.off + length m.bytes ≤ w.off = behind m old in
+        absurd (omega (arith, own.0, its.1, before))
+  ];
+}
+
+pub kept_stays : (h : History) (w : Write) (s : ℕ) (v : Write) → EndsBy w.off h → IsKept h v
+    → IsKept (with_record h w s) v
+kept_stays h w s v behind kept = record {
+  issued = inr kept.issued;
+  safe = or_right (is_covered (SyncIssued s Whole ∷ WriteEnded w.number ∷ WriteIssued w ∷ h) s v && not (is_given_up h v)) (is_safe h v) kept.safe;
+  last = λ m k among differs under over. elim among [
+    | inl same ↦
+        let own = under_parts v k under in
+        let its = under_parts w k (subst (λ (x : Write). is_under x k ≡ true) same over) in
+        let before : v.off + length v.bytes ≤ w.off = behind v kept.issued in
+        absurd (omega (arith, own.1, its.0, before))
+    | inr old ↦ or_right (w.number == v.number && has_ended h m.number) (is_before h m.number v.number) (kept.last m k old differs under over)
+  ];
+}
+
+pub ends_later : (h : History) (w : Write) (s : ℕ) → EndsBy w.off h
+    → EndsBy (w.off + length w.bytes) (with_record h w s)
+ends_later h w s behind = λ m among. elim among [
+  | inl same ↦ subst (λ (x : Write). x.off + length x.bytes ≤ w.off + length w.bytes) (sym same) (omega arith)
+  | inr old ↦ let before : m.off + length m.bytes ≤ w.off = behind m old in omega arith
+]
+
+just_begun : (n : ℕ) (ns : List ℕ) → is_one_of n (ns ++ n ∷ []) ≡ true
+just_begun n ns =
+    list_any-append (λ m. m == n) ns (n ∷ [])
+    ∙ or_right (list_any (λ m. m == n) ns) ((n == n) || false) (or_left (n == n) false (eq-eqb n n refl))
+
+-- What the calls of a commit made of a log.
+pub record IsCommitted (old new : Volume) (end : ℕ) (bytes : List ℕ) (n : ℕ) : Type 0 where
+  pub s : ℕ
+  pub number : n ≡ old.next
+  pub history : new.history ≡ with_record old.history (record { number = n; off = end; bytes = bytes }) s
+
+pub committed : (v v1 v2 v3 v4 : Volume) (end : ℕ) (bytes : List ℕ) (n s : ℕ) (ran synced : Bool)
+    → v1 ≡ with_write end bytes v → n ≡ v.next
+    → ran ≡ is_one_of n (running_writes v1.history)
+    → v2 ≡ cond ran (with_event (WriteEnded n) v1) v1
+    → v3 ≡ with_sync Whole v2 → s ≡ v2.next
+    → synced ≡ is_one_of s (running_syncs v3.history)
+    → v4 ≡ cond synced (with_event (SyncEnded s) v3) v3
+    → IsCommitted v v4 end bytes n
+committed v v1 v2 v3 v4 end bytes n s ran synced e1 number r e2 e3 sync t e4 =
+    let own : running_writes v1.history ≡ running_writes v.history ++ n ∷ [] = ap (λ x. running_writes x.history) e1 ∙ ap (λ m. running_writes v.history ++ m ∷ []) (sym number) in
+    let is : ran ≡ true = r ∙ ap (is_one_of n) own ∙ just_begun n (running_writes v.history) in
+    let h2 : v2.history ≡ WriteEnded n ∷ v1.history = ap (λ x. x.history) (e2 ∙ cond-true ran (with_event (WriteEnded n) v1) v1 is) in
+    let h1 : v1.history ≡ WriteIssued (record { number = n; off = end; bytes = bytes }) ∷ v.history = ap (λ x. x.history) e1 ∙ ap (λ m. WriteIssued (record { number = m; off = end; bytes = bytes }) ∷ v.history) (sym number) in
+    let h3 : v3.history ≡ SyncIssued s Whole ∷ v2.history = ap (λ x. x.history) e3 ∙ ap (λ m. SyncIssued m Whole ∷ v2.history) (sym sync) in
+    let own3 : running_syncs v3.history ≡ running_syncs v2.history ++ s ∷ [] = ap running_syncs h3 in
+    let is3 : synced ≡ true = t ∙ ap (is_one_of s) own3 ∙ just_begun s (running_syncs v2.history) in
+    let h4 : v4.history ≡ SyncEnded s ∷ v3.history = ap (λ x. x.history) (e4 ∙ cond-true synced (with_event (SyncEnded s) v3) v3 is3) in
+    record {
+      s = s;
+      number = number;
+      history = h4 ∙ ap (λ h. SyncEnded s ∷ h) (h3 ∙ ap (λ h. SyncIssued s Whole ∷ h) (h2 ∙ ap (λ h. WriteEnded n ∷ h) h1));
+    }
+
+-- a write of the next number hasn't ended
+next_is_open : (v : Volume) (n : ℕ) → IsSound v → n ≡ v.next → has_ended v.history n ≡ false
+next_is_open v n sound same = false_from_ne_true (has_ended v.history n) (λ is.
+    let below : n < v.next = sound.numbered.ended n is in
+    omega arith)
+
+pub commit_keeps : (old new : Volume) (end : ℕ) (bytes : List ℕ) (n : ℕ) → IsSound old
+    → EndsBy end old.history → IsCommitted old new end bytes n
+    → IsKept new.history (record { number = n; off = end; bytes = bytes })
+commit_keeps old new end bytes n sound behind made =
+    subst (λ h. IsKept h (record { number = n; off = end; bytes = bytes })) (sym made.history)
+    (record_is_kept old.history (record { number = n; off = end; bytes = bytes }) made.s (next_is_open old n sound made.number) behind)
+
+pub commit_leaves : (old new : Volume) (end : ℕ) (bytes : List ℕ) (n : ℕ)
+    → EndsBy end old.history → IsCommitted old new end bytes n
+    → (w : Write) → IsKept old.history w → IsKept new.history w
+commit_leaves old new end bytes n behind made w kept =
+    subst (λ h. IsKept h w) (sym made.history) (kept_stays old.history (record { number = n; off = end; bytes = bytes }) made.s w behind kept)
+
+pub commit_ends : (old new : Volume) (end : ℕ) (bytes : List ℕ) (n : ℕ) → EndsBy end old.history
+    → IsCommitted old new end bytes n → EndsBy (end + length bytes) new.history
+commit_ends old new end bytes n behind made =
+    subst (λ h. EndsBy (end + length bytes) h) (sym made.history) (ends_later old.history (record { number = n; off = end; bytes = bytes }) made.s behind)

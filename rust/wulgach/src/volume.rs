@@ -1,0 +1,208 @@
+use crate::error::Error;
+use crate::ffi::{self, Place};
+use std::cell::UnsafeCell;
+use std::ops::Range;
+
+/// One file, and what a power failure may leave of it. You say when a write or a sync begins and when it ends.
+///
+/// A write is safe if it had ended when a sync began that has ended since with success, lies whole in the bytes that the sync is of, and no failed sync had reached it by then. That the write ended before the sync did isn't enough:
+///
+/// ```
+/// use wulgach::Volume;
+///
+/// # fn main() -> Result<(), wulgach::Error> {
+/// let mut volume = Volume::new(1, b"....")?;
+/// let one = volume.begin_write(0, b"aa")?;
+/// let two = volume.begin_write(2, b"bb")?;
+/// volume.end_write(one);
+/// let sync = volume.begin_sync()?;
+/// volume.end_write(two);
+/// volume.end_sync(sync);
+///
+/// assert_eq!(volume.contents()?, b"aabb");
+/// assert!(volume.is_safe(one) && !volume.is_safe(two));
+/// assert_eq!(volume.crash(&[])?, b"aa..");
+/// for seed in 0..100 {
+///     let left = volume.crash(&Volume::choice(seed, sync, 64))?;
+///     assert_eq!(left[..2], *b"aa");
+/// }
+/// # Ok(())
+/// # }
+/// ```
+///
+/// It stays on the thread that made it, since crossing isn't proved: it is neither `Send` nor `Sync`.
+#[derive(Debug)]
+pub struct Volume {
+    place: UnsafeCell<Place>,
+}
+
+/// What a call that begins or reads returned.
+fn done(result: i32) -> Result<(), Error> {
+    match result {
+        0 => Ok(()),
+        -22 => Err(Error::NoNumber),
+        -27 => Err(Error::TooFar),
+        _ => Err(Error::NoMemory),
+    }
+}
+
+impl Volume {
+    /// A volume whose units have so many bytes, and which begins with these bytes. They are safe. A crash leaves each unit by itself; 1 promises least.
+    pub fn new(unit: u64, first: &[u8]) -> Result<Volume, Error> {
+        let mut place = Place::empty();
+        // SAFETY: the place is empty, and the pointer is that of a slice of this length.
+        match unsafe { ffi::wulgach_volume_new(&mut place, unit, first.as_ptr(), first.len()) } {
+            0 => Ok(Volume {
+                place: UnsafeCell::new(place),
+            }),
+            -22 => Err(Error::BadUnit),
+            _ => Err(Error::NoMemory),
+        }
+    }
+
+    /// Begins a write of these bytes at an offset, and returns its number: 1 for the first write or sync, and one more for each.
+    pub fn begin_write(&mut self, off: u64, bytes: &[u8]) -> Result<u64, Error> {
+        let mut number = 0;
+        // SAFETY: the place is full from `new` on, and lent to this call alone; the slice is whole.
+        done(unsafe {
+            ffi::wulgach_volume_begin_write(
+                self.place.get_mut(),
+                off,
+                bytes.as_ptr(),
+                bytes.len(),
+                &mut number,
+            )
+        })?;
+        Ok(number)
+    }
+
+    /// Ends a write. Returns whether it ran. One that failed is best left running: then any part of it may be found.
+    pub fn end_write(&mut self, number: u64) -> bool {
+        // SAFETY: as in `begin_write`.
+        unsafe { ffi::wulgach_volume_end_write(self.place.get_mut(), number) == 0 }
+    }
+
+    /// Begins a sync of the whole file, and returns its number. An fdatasync is a sync too: it leaves out what no read of the file needs.
+    pub fn begin_sync(&mut self) -> Result<u64, Error> {
+        let mut number = 0;
+        // SAFETY: as in `begin_write`.
+        done(unsafe { ffi::wulgach_volume_begin_sync(self.place.get_mut(), &mut number) })?;
+        Ok(number)
+    }
+
+    /// Begins a sync of these bytes of the file, and returns its number. It covers the writes that lie in them whole.
+    ///
+    /// ```
+    /// # use wulgach::Volume;
+    /// # fn main() -> Result<(), wulgach::Error> {
+    /// let mut volume = Volume::new(1, b"....")?;
+    /// let (one, two) = (volume.begin_write(0, b"aa")?, volume.begin_write(1, b"bb")?);
+    /// volume.end_write(one);
+    /// volume.end_write(two);
+    /// let sync = volume.begin_range_sync(0..2)?;
+    /// volume.end_sync(sync);
+    /// assert!(volume.is_safe(one) && !volume.is_safe(two));
+    /// # Ok(())
+    /// # }
+    /// ```
+    pub fn begin_range_sync(&mut self, bytes: Range<u64>) -> Result<u64, Error> {
+        let mut number = 0;
+        let len = bytes.end.saturating_sub(bytes.start);
+        // SAFETY: as in `begin_write`.
+        done(unsafe {
+            ffi::wulgach_volume_begin_range_sync(
+                self.place.get_mut(),
+                bytes.start,
+                len,
+                &mut number,
+            )
+        })?;
+        Ok(number)
+    }
+
+    /// Ends a sync with success. Returns whether it ran.
+    pub fn end_sync(&mut self, number: u64) -> bool {
+        // SAFETY: as in `begin_write`.
+        unsafe { ffi::wulgach_volume_end_sync(self.place.get_mut(), number) == 0 }
+    }
+
+    /// Ends a sync with an error: no later sync then makes safe what it had reached. Returns whether it ran.
+    pub fn fail_sync(&mut self, number: u64) -> bool {
+        // SAFETY: as in `begin_write`.
+        unsafe { ffi::wulgach_volume_fail_sync(self.place.get_mut(), number) == 0 }
+    }
+
+    /// Whether a write is safe: false too if no write has this number.
+    pub fn is_safe(&self, number: u64) -> bool {
+        let mut is_safe = false;
+        // SAFETY: the place is full, no reference to it is handed out, and a volume is used by one thread.
+        unsafe { ffi::wulgach_volume_is_safe(self.place.get(), number, &mut is_safe) };
+        is_safe
+    }
+
+    /// The file as a read shows it: the first bytes with the writes over them that have ended.
+    pub fn contents(&self) -> Result<Vec<u8>, Error> {
+        // SAFETY: as in `is_safe`; the room is that of a slice.
+        read(|bytes, room, len| unsafe {
+            ffi::wulgach_volume_contents(self.place.get(), bytes, room, len)
+        })
+    }
+
+    /// The file as a crash may leave it. The volume stays as it is, so that many crashes can be tried; for the time after one, make a new volume of what it left.
+    ///
+    /// Any numbers are a choice. A 0 ends a part: the first part is for the length, each later one for a unit, in their order. The numbers of a part name the writes that are left, one over the other; one that may not come next is passed over. After them follow the other writes, up to the last safe one. Every image that a crash may leave is left by some choice.
+    pub fn crash(&self, choice: &[u64]) -> Result<Vec<u8>, Error> {
+        // SAFETY: as in `contents`; the choice is a slice.
+        read(|bytes, room, len| unsafe {
+            ffi::wulgach_volume_crash(
+                self.place.get(),
+                choice.as_ptr(),
+                choice.len(),
+                bytes,
+                room,
+                len,
+            )
+        })
+    }
+
+    /// A choice of `count` numbers up to `last`, the greatest that a write has, by a seed: the same each time for the same seed. One in four ends a part. It is that of `wulgach_volume_choose` of the header.
+    pub fn choice(seed: u64, last: u64, count: usize) -> Vec<u64> {
+        let mut seed = seed;
+        (0..count)
+            .map(|_| {
+                seed = seed.wrapping_add(0x9e37_79b9_7f4a_7c15);
+                let mut bits = seed;
+                bits = (bits ^ bits >> 30).wrapping_mul(0xbf58_476d_1ce4_e5b9);
+                bits = (bits ^ bits >> 27).wrapping_mul(0x94d0_49bb_1331_11eb);
+                bits ^= bits >> 31;
+                if bits % 4 == 0 || last == 0 {
+                    0
+                } else {
+                    1 + bits / 4 % last
+                }
+            })
+            .collect()
+    }
+}
+
+/// The bytes that a call gives: once to learn how many there are, and once with room for them.
+fn read(call: impl Fn(*mut u8, usize, *mut u64) -> i32) -> Result<Vec<u8>, Error> {
+    let mut bytes = vec![0; 256];
+    loop {
+        let mut len = 0;
+        done(call(bytes.as_mut_ptr(), bytes.len(), &mut len))?;
+        let len = usize::try_from(len).map_err(|_| Error::NoMemory)?;
+        if len <= bytes.len() {
+            bytes.truncate(len);
+            return Ok(bytes);
+        }
+        bytes.resize(len, 0);
+    }
+}
+
+impl Drop for Volume {
+    fn drop(&mut self) {
+        // SAFETY: the place is full, and isn't used again.
+        unsafe { ffi::wulgach_volume_free(self.place.get_mut()) };
+    }
+}

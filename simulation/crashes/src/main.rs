@@ -1,0 +1,201 @@
+//! Gives random histories of a file to the proved volume and to a model that was written apart from it, and compares: what calls return, what reads show, which writes are safe, and what crashes leave. Of small histories all images of the model are had from the volume, and whatever numbers leave is one of them.
+//!
+//!     crashes [FIRST_SEED [SEEDS]]
+//!
+//! At a difference it prints the seed and what was done, and ends with status 1.
+
+mod model;
+
+use model::{End, File};
+use std::process::ExitCode;
+use wulgach::Volume;
+
+/// How many images of a history are tried, and how many choices of numbers.
+const IMAGES: usize = 2000;
+const CHOICES: u64 = 20;
+
+struct Rng(u64);
+
+impl Rng {
+    fn below(&mut self, n: u64) -> u64 {
+        self.0 ^= self.0 << 13;
+        self.0 ^= self.0 >> 7;
+        self.0 ^= self.0 << 17;
+        (self.0 >> 16) % n
+    }
+}
+
+/// What was done, in words, and the first difference.
+struct Difference {
+    done: Vec<String>,
+    what: String,
+}
+
+struct Pair {
+    file: File,
+    volume: Volume,
+    done: Vec<String>,
+}
+
+impl Pair {
+    fn new(rng: &mut Rng) -> Pair {
+        let unit = 1 + rng.below(3);
+        let first = vec![b'.'; rng.below(5) as usize];
+        Pair {
+            file: File::new(unit, &first),
+            volume: Volume::new(unit, &first).expect("memory"),
+            done: vec![format!("units of {unit}, {} bytes first", first.len())],
+        }
+    }
+
+    fn same<T: PartialEq + std::fmt::Debug>(
+        &self,
+        what: &str,
+        model: T,
+        volume: T,
+    ) -> Result<(), Difference> {
+        if model == volume {
+            return Ok(());
+        }
+        Err(Difference {
+            done: self.done.clone(),
+            what: format!("{what}: {model:?} by the model, {volume:?} by the volume"),
+        })
+    }
+
+    fn write(&mut self, rng: &mut Rng) -> Result<(), Difference> {
+        let off = rng.below(6);
+        let bytes = vec![b'a' + self.file.writes.len() as u8; rng.below(5) as usize];
+        let volume = self.volume.begin_write(off, &bytes).expect("memory");
+        self.done
+            .push(format!("write {volume}: {} bytes at {off}", bytes.len()));
+        self.same("the number of a write", self.file.next, volume)?;
+        self.file.begin_write(off, bytes);
+        Ok(())
+    }
+
+    fn sync(&mut self, rng: &mut Rng) -> Result<(), Difference> {
+        let (from, to) = match rng.below(3) {
+            0 => (rng.below(6), 1 + rng.below(9)),
+            _ => (0, u64::MAX),
+        };
+        let volume = if to == u64::MAX {
+            self.volume.begin_sync()
+        } else {
+            self.volume.begin_range_sync(from..to.max(from))
+        };
+        let volume = volume.expect("memory");
+        self.done.push(format!("sync {volume}: {from} to {to}"));
+        self.same("the number of a sync", self.file.next, volume)?;
+        self.file.begin_sync(from, to.max(from));
+        Ok(())
+    }
+
+    /// Ends something by any number, also by one that doesn't run.
+    fn end(&mut self, rng: &mut Rng) -> Result<(), Difference> {
+        let number = rng.below(self.file.next + 1);
+        let (model, volume) = match rng.below(6) {
+            0..=2 => (self.file.end_write(number), self.volume.end_write(number)),
+            3..=4 => (
+                self.file.end_sync(number, End::Success),
+                self.volume.end_sync(number),
+            ),
+            _ => (
+                self.file.end_sync(number, End::Failure),
+                self.volume.fail_sync(number),
+            ),
+        };
+        self.done.push(format!("an end of {number}: {model}"));
+        self.same("an end", model, volume)
+    }
+
+    fn look(&self) -> Result<(), Difference> {
+        self.same(
+            "a read",
+            self.file.contents(),
+            self.volume.contents().expect("memory"),
+        )?;
+        for write in &self.file.writes {
+            self.same(
+                &format!("write {} is safe", write.number),
+                self.file.is_safe(write),
+                self.volume.is_safe(write.number),
+            )?;
+        }
+        Ok(())
+    }
+
+    /// Has the volume leave what choices leave by the model, and if there are few images, each of them. Returns how many images were tried.
+    fn crash(&self, rng: &mut Rng) -> Result<usize, Difference> {
+        let images = self.file.images(IMAGES);
+        for _ in 0..CHOICES {
+            let count = rng.below(24) as usize;
+            let choice = Volume::choice(rng.below(u64::MAX), self.file.next, count);
+            let left = self.volume.crash(&choice).expect("memory");
+            self.same(
+                &format!("a crash by {choice:?}"),
+                self.file.crash(&choice),
+                left.clone(),
+            )?;
+            if let Some(images) = &images {
+                self.same(
+                    &format!("{left:?} may be left"),
+                    images.contains_key(&left),
+                    true,
+                )?;
+            }
+        }
+        let Some(images) = images else { return Ok(0) };
+        for (image, choice) in &images {
+            let left = self.volume.crash(choice).expect("memory");
+            self.same(&format!("an image, by {choice:?}"), image, &left)?;
+        }
+        Ok(images.len())
+    }
+}
+
+fn play(seed: u64) -> Result<usize, Difference> {
+    let mut rng = Rng(seed.wrapping_mul(0x9e37_79b9_7f4a_7c15) | 1);
+    for _ in 0..8 {
+        rng.below(1);
+    }
+    let mut pair = Pair::new(&mut rng);
+    let mut tried = 0;
+    for _ in 0..4 + rng.below(16) {
+        match rng.below(8) {
+            0..=1 if pair.file.writes.len() < 5 => pair.write(&mut rng)?,
+            2 => pair.sync(&mut rng)?,
+            _ => pair.end(&mut rng)?,
+        }
+        pair.look()?;
+    }
+    tried += pair.crash(&mut rng)?;
+    Ok(tried)
+}
+
+fn main() -> ExitCode {
+    let words: Vec<u64> = std::env::args()
+        .skip(1)
+        .map_while(|word| word.parse().ok())
+        .collect();
+    let (first, count) = (
+        words.first().copied().unwrap_or(1),
+        words.get(1).copied().unwrap_or(2000),
+    );
+    let mut images = 0;
+    for seed in first..first + count {
+        match play(seed) {
+            Ok(tried) => images += tried,
+            Err(difference) => {
+                println!(
+                    "seed {seed}\n{}\n{}",
+                    difference.done.join("\n"),
+                    difference.what
+                );
+                return ExitCode::FAILURE;
+            }
+        }
+    }
+    println!("crashes: {count} histories from seed {first} on, with all {images} images of the small ones: no difference");
+    ExitCode::SUCCESS
+}
