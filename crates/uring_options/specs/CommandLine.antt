@@ -25,20 +25,22 @@ pub data Run : Type 0 where
   Checks : Run
   Plays : Run
 
--- an option of a command: its name, and the least and the most number that it takes, or none if it takes no value
+-- an option of a command: its name, and if it takes a number, the least and the most one
 abbrev pub CommandOption : Type 0
 CommandOption = Text × Option (ℕ × ℕ)
 
+-- an option that takes a number from low to high
 abbrev pub number : Text → ℕ → ℕ → CommandOption
 number id low high = (id, Some (low, high))
 
+-- an option that takes no value
 abbrev pub flag : Text → CommandOption
 flag id = (id, None)
 
 -- the four options of a set-up
 abbrev pub setup_options : List CommandOption
-setup_options =
-    number (codes "sq") 1 4096 ∷ number (codes "cq") 1 8192 ∷ number (codes "files") 1 64 ∷ number (codes "start") 0 4294967295 ∷ []
+setup_options = number (codes "sq") 1 4096 ∷ number (codes "cq") 1 8192
+    ∷ number (codes "files") 1 64 ∷ number (codes "start") 0 4294967295 ∷ []
 
 -- the further options of each command; calls of a play go on
 abbrev pub own_options : Run → List CommandOption
@@ -47,15 +49,16 @@ own_options Explains = flag (codes "stop") ∷ flag (codes "graph") ∷ flag (co
 own_options Checks = flag (codes "stop") ∷ flag (codes "all") ∷ flag (codes "apart") ∷ []
 own_options Plays = number (codes "workers") 1 8 ∷ flag (codes "shared") ∷ []
 
--- an option of this name that takes a number, as clap's parser checks it
+-- to clap, an option of this name that takes a number, which this parser checks
 abbrev pub option_rule : Text → ValueParser → Rule
 option_rule id parser =
     record (new_rule id) { long = Some id; value_names = 1; action = Some Set; parser = Some parser }
 
--- an option of this name that takes no value
+-- to clap, an option of this name that takes no value
 abbrev pub flag_rule : Text → Rule
 flag_rule id = record (new_rule id) { long = Some id; action = Some SetTrue }
 
+-- to clap, an option of this name, with its least and its most number, if it takes one
 abbrev pub rule_for : Text → Option (ℕ × ℕ) → Rule
 rule_for id None = flag_rule id
 rule_for id (Some range) = option_rule id (Signed (pos range.0) (pos range.1))
@@ -66,6 +69,7 @@ with_options_of app [] = app
 with_options_of app (option ∷ rest) =
     with_options_of (with_rule app (rule_for option.0 option.1)) rest
 
+-- the command's word
 abbrev pub name_of : Run → Text
 name_of Traces = codes "trace"
 name_of Explains = codes "explain"
@@ -77,10 +81,16 @@ abbrev pub app_for : Run → App
 app_for run =
     with_options_of (with_options_of (new_app (name_of run)) setup_options) (own_options run)
 
+-- the program with these commands, in their order
+abbrev pub with_commands_of : App → List Run → App
+with_commands_of app [] = app
+with_commands_of app (run ∷ rest) =
+    with_commands_of (with_subcommand app (app_for run).top) rest
+
 -- the program's command line, as clap sees a command
 abbrev pub uring : App
 uring =
-    with_subcommand (with_subcommand (with_subcommand (with_subcommand (new_app (codes "uring")) (app_for Traces).top) (app_for Explains).top) (app_for Checks).top) (app_for Plays).top
+    with_commands_of (new_app (codes "uring")) (Traces ∷ Explains ∷ Checks ∷ Plays ∷ [])
 
 -- the command, a trace without one
 abbrev pub run_of : Option (Text × List Row) → Run

@@ -43,6 +43,7 @@ TakesOption rows option = (one_of option.0 rows ≡ None)
     × (one_of option.0 rows ≡ Some (read_as (reading_of (parser_for option.1)) text))
     × Accepts ignore_case (parser_for option.1) text)
 
+-- the same of each of these options
 abbrev pub TakesOptions : List Row → List CommandOption → Type 0
 TakesOptions rows [] = Unit {0}
 TakesOptions rows (option ∷ rest) = TakesOption rows option × TakesOptions rows rest
@@ -64,5 +65,6 @@ Answers run rows (Err e) = IsSmallFor rows e
 abbrev pub TakesNamed : Option (Text × List Row) → Type 0
 TakesNamed named = TakesFor (run_of named) (command_rows named)
 
+-- and the rows have an outcome by that command
 abbrev pub AnswersNamed : Option (Text × List Row) → Result Options OptionsFault → Type 0
 AnswersNamed named = Answers (run_of named) (command_rows named)
