@@ -326,6 +326,25 @@ static void test_waiting(void)
     close_ring(&ring);
 }
 
+/* A transfer that is asked not to wait, or for nothing, doesn't. */
+static void test_not_waiting(void)
+{
+    struct ring ring;
+    int32_t results[2];
+    char text[8];
+    int ends[2];
+    check(pipe(ends) == 0);
+    make_ring(&ring, 4, 0, 0);
+    put_transfer(&ring, IORING_OP_READ, 0, 0, ends[0], text, 4, 0)->rw_flags = RWF_NOWAIT;
+    put_transfer(&ring, IORING_OP_READ, 1, 0, ends[0], text, 0, 0);
+    check(enter(&ring, 2, 0, 0) == 2);
+    reap_all(&ring, 2, results);
+    check(results[0] == -EAGAIN && results[1] == 0);
+    close(ends[0]);
+    close(ends[1]);
+    close_ring(&ring);
+}
+
 /* Each end lets what was refused before be asked for again: beside an older request that waits, two chains go on. */
 static void test_refusals(void)
 {
@@ -583,7 +602,7 @@ int main(int argc, char **argv)
     static const struct {
         const char *name;
         void (*run)(void);
-    } tests[] = {{"setup", test_setup}, {"calls", test_calls}, {"chain", test_chain}, {"skipped success", test_skipped_success}, {"faulty", test_faulty}, {"faulty link", test_faulty_link}, {"dropped word", test_dropped_word}, {"overflow", test_overflow}, {"overflow flag", test_overflow_flag}, {"head before end", test_head_before_end}, {"some reaped", test_some_reaped}, {"peek beside one", test_peek_beside_one}, {"files", test_files}, {"waiting", test_waiting}, {"refusals", test_refusals}, {"timeouts", test_timeouts}, {"virtual time", test_virtual_time}, {"two rings", test_two_rings}, {"threads", test_threads}, {"shared ring", test_shared_ring}, {"refused memory", test_refused_memory}};
+    } tests[] = {{"setup", test_setup}, {"calls", test_calls}, {"chain", test_chain}, {"skipped success", test_skipped_success}, {"faulty", test_faulty}, {"faulty link", test_faulty_link}, {"dropped word", test_dropped_word}, {"overflow", test_overflow}, {"overflow flag", test_overflow_flag}, {"head before end", test_head_before_end}, {"some reaped", test_some_reaped}, {"peek beside one", test_peek_beside_one}, {"files", test_files}, {"waiting", test_waiting}, {"not waiting", test_not_waiting}, {"refusals", test_refusals}, {"timeouts", test_timeouts}, {"virtual time", test_virtual_time}, {"two rings", test_two_rings}, {"threads", test_threads}, {"shared ring", test_shared_ring}, {"refused memory", test_refused_memory}};
     (void)argv;
     if (argc > 1) {
         test = "injection";

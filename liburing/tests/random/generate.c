@@ -149,6 +149,7 @@ static void choose_entry(struct program *program, struct action *action, struct 
         action->offset = (int32_t)below(300);
         action->sizes[0] = (uint8_t)below(200);
     }
+    action->is_impatient = action->object == PIPE_OUT && one_in(6);
     action->time = any_time();
     action->is_success = one_in(3);
     action->target = (uint16_t)(is_plain || index == 0 || one_in(6) ? MOST_ACTIONS : index - 1 - below(index < 12 ? index : 12));

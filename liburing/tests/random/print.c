@@ -31,6 +31,8 @@ static void print_entry(FILE *out, const struct action *action)
         fprintf(out, " of %s at %" PRId32, objects[action->object], action->offset);
         if (action->object == CELLS)
             fprintf(out, " of cell %u", action->cell);
+        if (action->is_impatient)
+            fputs(" without waiting", out);
         for (int i = 0; i < action->vectors; i++)
             fprintf(out, "%s%u", i ? "+" : ", bytes ", action->sizes[i]);
         break;

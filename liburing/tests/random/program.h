@@ -54,6 +54,7 @@ struct action {
     enum flaw flaw;
     uint8_t vectors;                /* how many; of a plain read or write one */
     uint8_t sizes[MOST_VECTORS];    /* the bytes of each */
+    bool is_impatient;              /* a read of the pipe is asked not to wait */
     int32_t offset;                 /* of LOG, -1 for the file's position; of CELLS, within the cell */
     uint16_t cell;                  /* the action whose cell it reads or writes */
     int64_t time;                   /* of a timeout, in nanoseconds */

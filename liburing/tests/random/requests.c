@@ -103,7 +103,7 @@ static bool is_pipe_read(const struct request *request)
 bool is_blocked(const struct model *model, const struct request *request)
 {
     const struct things *things = model->things;
-    if (!is_pipe_read(request) || request->is_cancelled || request->is_doomed)
+    if (!is_pipe_read(request) || request->action->is_impatient || length_of(request->action) == 0 || request->is_cancelled || request->is_doomed)
         return false;
     return things->read == things->written && !things->is_fed_out;
 }

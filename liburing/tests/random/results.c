@@ -121,6 +121,8 @@ static int32_t transfer(struct model *model, const struct request *request, uint
     uint8_t bytes[MOST_VECTORS * 256];
     if (is_no_file(model, action))
         return -EBADF;
+    if (action->is_impatient && model->things->read == model->things->written && !model->things->is_fed_out)
+        return length == 0 ? 0 : -EAGAIN;
     uint32_t moved = is_read(action) ? read_bytes(model, action, length, bytes) : length;
     if (action->flaw == BAD_DATA && moved > 0)
         return -EFAULT;
@@ -236,8 +238,9 @@ static bool has_result(struct model *model, const struct request *request, int f
         return res == (fault == FAULT_EIO ? -EIO : -ENOSPC);
     int32_t whole = result_of(model, request, fault == FAULT_SHORT ? length / 2 : length, false);
     bool is_pipe_read = request->action->object == PIPE_OUT && is_read(request->action) && whole > 0;
-    /* What comes late may have found less in its pipe. */
-    return res == whole || (is_pipe_read && model->is_late && res > 0 && res < whole);
+    /* What comes late may have found less in its pipe, or nothing. */
+    bool is_less = res > 0 ? res < whole : request->action->is_impatient && res == -EAGAIN;
+    return res == whole || (is_pipe_read && model->is_late && is_less);
 }
 
 static void carry_out_with(struct model *model, const struct request *request, int fault, int32_t res)
@@ -247,7 +250,9 @@ static void carry_out_with(struct model *model, const struct request *request, i
         return;
     if (fault == FAULT_SHORT)
         length /= 2;
-    if (request->action->object == PIPE_OUT && res >= 0)
+    if (request->action->object == PIPE_OUT && res < 0)
+        return;
+    if (request->action->object == PIPE_OUT)
         length = (uint32_t)res;
     result_of(model, request, length, true);
 }

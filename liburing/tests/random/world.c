@@ -98,6 +98,7 @@ static void write_transfer(struct world *world, struct io_uring_sqe *entry, unsi
     entry->len = is_vectored ? action->vectors : action->sizes[0];
     uint64_t start = action->object == CELLS ? action->cell * (uint64_t)CELL : 0;
     entry->off = action->object == PIPE_OUT || action->object == PIPE_IN ? 0 : start + (uint64_t)(int64_t)action->offset;
+    entry->rw_flags = action->is_impatient ? RWF_NOWAIT : 0;
     if (action->flaw == BAD_DATA)
         entry->addr = BAD_ADDRESS;
 }
