@@ -1,7 +1,8 @@
 /* A crash test of the store: a process commits some batches and dies right after the last one, with whatever of its ring
  * is still on the way. Then the log is opened again: what was acknowledged has to be there.
  *
- *   crash [COMMITS]      4 if it isn't given. Status 1: an acknowledged value is lost.
+ *   crash [COMMITS [RECORDS]]      4 commits of 3 records each, if they aren't given. Status 1: an acknowledged value is
+ *                                  lost.
  */
 #include "store.h"
 
@@ -11,7 +12,7 @@
 #include <sys/wait.h>
 #include <unistd.h>
 
-enum { PER_COMMIT = 3, MOST_COMMITS = 20 };
+static unsigned records = 3;    /* of a commit */
 
 static void value_of(char value[STORE_VALUE], unsigned key)
 {
@@ -26,10 +27,10 @@ static void work(const char *path, unsigned commits, int told)
     if (store_open(&store, path) < 0)
         _exit(2);
     for (unsigned commit = 0; commit < commits; commit++) {
-        for (unsigned i = 0; i < PER_COMMIT; i++) {
+        for (unsigned i = 0; i < records; i++) {
             char value[STORE_VALUE];
-            value_of(value, commit * PER_COMMIT + i);
-            store_put(&store, commit * PER_COMMIT + i, value);
+            value_of(value, commit * records + i);
+            store_put(&store, commit * records + i, value);
         }
         if (store_commit(&store) == 0 && write(told, &commit, sizeof commit) != sizeof commit)
             _exit(2);
@@ -41,7 +42,7 @@ static void work(const char *path, unsigned commits, int told)
 static unsigned count_lost(const struct store *store, unsigned commit)
 {
     unsigned lost = 0;
-    for (unsigned key = commit * PER_COMMIT; key < (commit + 1) * PER_COMMIT; key++) {
+    for (unsigned key = commit * records; key < (commit + 1) * records; key++) {
         char value[STORE_VALUE];
         value_of(value, key);
         const char *found = store_get(store, key);
@@ -69,9 +70,13 @@ static unsigned verify(const char *path, int told)
 int main(int argc, char **argv)
 {
     unsigned commits = argc > 1 ? (unsigned)atoi(argv[1]) : 4;
+    if (argc > 2)
+        records = (unsigned)atoi(argv[2]);
+    if (records < 1 || records > STORE_BATCH || commits > STORE_KEYS / records)
+        return 2;
     char path[] = "/tmp/store.XXXXXX";
     int file = mkstemp(path), told[2], status;
-    if (file < 0 || pipe(told) < 0 || commits > MOST_COMMITS)
+    if (file < 0 || pipe(told) < 0)
         return 2;
     close(file);
     pid_t worker = fork();

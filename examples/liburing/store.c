@@ -1,4 +1,4 @@
-/* The store. Compiled with -DPLANTED it has an ordering bug, which examples/liburing/README.md tells of. */
+/* The store. Compiled with -DPLANTED=1 or -DPLANTED=2 it has an ordering bug, which examples/liburing/README.md tells of. */
 #include "store.h"
 
 #include <errno.h>
@@ -70,7 +70,7 @@ static void prepare_commit(struct store *store)
     for (unsigned i = 0; i < store->batch_count; i++) {
         unsigned flags = IOSQE_IO_LINK | IOSQE_CQE_SKIP_SUCCESS;
 #ifdef PLANTED
-        if (i + 1 == store->batch_count)
+        if (i == (PLANTED == 1 ? store->batch_count - 1 : 0))
             flags = IOSQE_CQE_SKIP_SUCCESS;
 #endif
         struct io_uring_sqe *entry = io_uring_get_sqe(&store->ring);

@@ -92,15 +92,17 @@ def priorities(seed, depth, choices):
 
 
 class Policies:
-    """The policy of each seed: rolled, or by priorities whose depth is 1, 2 and 3 in turn."""
+    """The policy of each seed: rolled, by priorities whose depth is 1, 2 and 3 in turn, or (`both`) rolled for an odd seed and by priorities for an even one."""
 
     DEPTHS = 3
 
     def __init__(self, program, name):
         self.name = name
-        self.choices = count_choices(program) if name == "pct" else None
+        self.choices = count_choices(program) if name != "seed" else None
 
     def of(self, seed):
         if self.name == "pct":
             return priorities(seed, 1 + (seed - 1) % self.DEPTHS, self.choices)
+        if self.name == "both" and seed % 2 == 0:
+            return priorities(seed, 1 + (seed // 2 - 1) % self.DEPTHS, self.choices)
         return f"seed:{seed}"

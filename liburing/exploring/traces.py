@@ -61,10 +61,35 @@ def compare(options, program):
     return 0
 
 
+def to_judge(path):
+    """The words for `uring check`, the lines, and what it is to say. The first line has the options; it goes in as a remark, so that lines keep their numbers."""
+    with open(path, errors="replace") as file:
+        head, _, rest = file.read().partition("\n")
+    steps = sum(1 for line in rest.splitlines() if line and not line.startswith("#"))
+    return ["check", "--apart", *head.split()[1:]], f"# {head}\n{rest}", f"lawful: {steps} steps\n"
+
+
+def judge(options, program):
+    if IS_REPOSITORY:
+        subprocess.run([f"{TOP}/uring", "prove"], check=True)
+    for path in options.traces:
+        words, lines, wanted = to_judge(path)
+        done = subprocess.run([URING, *words], input=lines.encode(), stdout=subprocess.PIPE)
+        if done.stdout.decode() != wanted:
+            print(f"{path}: {done.stdout.decode()}")
+            return 1
+    print(f"{len(options.traces)} traces are lawful")
+    return 0
+
+
 def split(options, program):
     for number, path in enumerate(options.traces):
-        words, steps, answers = read_trace(path)
-        for end, text in ("", steps), (".stdout", answers), (".args", "\n".join(["trace", *words])):
-            with open(f"{options.folder}/trace_{number}{end}", "w") as file:
+        if options.judge:
+            words, steps, answers = to_judge(path)
+        else:
+            words, steps, answers = read_trace(path)
+            words = ["trace", *words]
+        for end, text in ("", steps), (".stdout", answers), (".args", "\n".join(words)):
+            with open(f"{options.folder}/{'judge' if options.judge else 'trace'}_{number}{end}", "w") as file:
                 file.write(text)
     return 0

@@ -36,15 +36,11 @@ static struct posted *posted_at(struct completions *completions, size_t index)
 void note_end(struct ring *ring, uint64_t user_data, int32_t res, int32_t told)
 {
     struct completions *completions = &ring->completions;
-    struct wulgach_counts counts;
-    demand(wulgach_core_counts(&ring->core, &counts) == 0, "the core has no counts");
-    if (counts.posted == completions->posted)
-        return;
-    completions->posted++;
-    *posted_at(completions, completions->count++) = (struct posted){user_data, res, told};
     struct wulgach_completion last;
-    bool is_there = counts.posted == completions->posted && wulgach_core_rest(&ring->core, completions->count - 1, &last) == 0;
-    demand(is_there && last.user_data == user_data && last.res == told, "the core posted something else");
+    if (wulgach_core_rest(&ring->core, completions->count, &last) != 0)
+        return;
+    demand(last.user_data == user_data && last.res == told, "the core posted something else");
+    *posted_at(completions, completions->count++) = (struct posted){user_data, res, told};
 }
 
 void show(struct ring *ring)

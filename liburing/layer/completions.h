@@ -18,7 +18,6 @@ struct completions {
     struct posted *queue;   /* the oldest first, from `first` on */
     size_t first, count, room;
     size_t shown;           /* how many of them stand in ring memory; the others have overflowed */
-    uint64_t posted;        /* how many were posted so far */
     uint32_t head;          /* the completion ring's head as the core knows it */
 };
 

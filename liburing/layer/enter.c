@@ -66,13 +66,10 @@ static void go_on_alone(struct ring *ring)
 /* Goes on for an application that looks whether there is anything: by one thing at least, if there is nothing yet. */
 static void go_on_for_peek(struct ring *ring)
 {
-    enum progress progress = count_ready(ring) == 0 ? go_on(ring, false) : MAY_RETURN;
-    if (policy() == LAZY)
-        while (progress == WENT_ON && count_ready(ring) == 0)
-            progress = go_on(ring, false);
-    else
-        while (progress == WENT_ON)
-            progress = go_on(ring, true);
+    bool is_lazy = policy() == LAZY, is_any = count_ready(ring) > 0;
+    enum progress progress = is_lazy && is_any ? MAY_RETURN : go_on(ring, is_any);
+    while (progress == WENT_ON && !(is_lazy && count_ready(ring) > 0))
+        progress = go_on(ring, !is_lazy);
     if (progress == STUCK && count_ready(ring) == 0)
         pass_time(ring);
 }

@@ -58,7 +58,7 @@ static bool is_well_formed(const struct io_uring_sqe *entry)
         return !entry->addr && !entry->ioprio && !(entry->fsync_flags & ~IORING_FSYNC_DATASYNC);
     case IORING_OP_TIMEOUT:
         /* Time is virtual: there is no clock to be absolute in, and no count of completions. */
-        return !entry->off && entry->len == 1 && !(entry->timeout_flags & ~IORING_TIMEOUT_ETIME_SUCCESS);
+        return !entry->off && entry->len == 1 && !entry->ioprio && !(entry->timeout_flags & ~IORING_TIMEOUT_ETIME_SUCCESS);
     case IORING_OP_ASYNC_CANCEL:
         return !entry->cancel_flags && !entry->off && !entry->len && !entry->ioprio;
     case IORING_OP_OPENAT:

@@ -61,10 +61,16 @@ struct pollfd poll_of(const struct request *request)
     return (struct pollfd){.fd = request->entry.fd, .events = is_read(request) ? POLLIN : POLLOUT};
 }
 
+/* One that is asked not to wait, or for nothing, doesn't wait. */
+static bool is_impatient(const struct request *request)
+{
+    return request->entry.rw_flags & RWF_NOWAIT || request->length == 0;
+}
+
 bool is_ready(const struct request *request)
 {
     struct pollfd at = poll_of(request);
-    return poll(&at, 1, 0) != 0;
+    return is_impatient(request) || poll(&at, 1, 0) != 0;
 }
 
 /* Cuts the vectors to half their bytes. */
@@ -85,14 +91,16 @@ static int32_t transfer(const struct request *request, off_t offset, int flags)
     return result_of(is_read(request) ? preadv2(fd, request->vectors, count, offset, flags) : pwritev2(fd, request->vectors, count, offset, flags));
 }
 
-/* Asked not to wait, a stream gives what it has. One that can't be asked so is polled before. */
+/* Asked not to wait, a stream gives what it has. One that can't be asked so is polled before. What the descriptor says of
+ * waiting doesn't matter, as in the kernel. */
 static int32_t transfer_on_stream(const struct request *request)
 {
     off_t offset = has_offsets(request) ? (off_t)request->entry.off : -1;
     int flags = request->entry.rw_flags, own = fcntl(request->entry.fd, F_GETFL);
-    if (flags & RWF_NOWAIT || (own >= 0 && own & O_NONBLOCK))
+    if (is_impatient(request))
         return transfer(request, offset, flags);
-    int32_t res = transfer(request, offset, flags | RWF_NOWAIT);
+    bool is_asked = own >= 0 && own & O_NONBLOCK;
+    int32_t res = transfer(request, offset, is_asked ? flags : flags | RWF_NOWAIT);
     if (res == -EAGAIN)
         return WOULD_WAIT;
     if (res != -EOPNOTSUPP)

@@ -23,7 +23,7 @@ int copy_behind(struct request *request);
 /* Whether it is a transfer that may have to wait: on what has no offset, as a pipe or an eventfd, or on a device. */
 bool is_stream(const struct request *request);
 
-/* Whether a transfer on a stream wouldn't have to wait now. */
+/* Whether a transfer on a stream wouldn't wait now. */
 bool is_ready(const struct request *request);
 
 /* The descriptor to poll and the events to poll it for. */

@@ -36,15 +36,26 @@ static bool can_finish(const struct request *request)
     return !is_timeout(request) && (!request->is_stream || is_ready(request));
 }
 
+/* The core isn't to be asked for a request again before another has ended. */
+static void note_refusal(struct ring *ring, struct request *request)
+{
+    request->is_refused = true;
+    ring->has_refusals = true;
+}
+
 /* Forgets refusals, since a request has ended. What a link puts behind an outstanding request stays refused, unless the
  * end was a failure: only that can let it end without the one before it. So a long chain is asked for once each. */
 static void forget_refusals(struct ring *ring, bool is_success)
 {
     struct request **rows = ring->requests.rows;
+    if (!ring->has_refusals)
+        return;
+    ring->has_refusals = false;
     for (size_t i = 0; i < ring->requests.count; i++) {
         bool is_behind = rows[i]->is_linked && i > 0 && rows[i - 1]->number + 1 == rows[i]->number;
         if (!is_behind || !is_success)
             rows[i]->is_refused = false;
+        ring->has_refusals |= rows[i]->is_refused;
     }
 }
 
@@ -55,6 +66,7 @@ static void end_of(struct ring *ring, struct request *request, int32_t res, int3
     bool is_cancel = request->mapping == CANCEL;
     note_end(ring, request->entry.user_data, res, told);
     ring->has_changed = true;
+    ring->running -= request->state == RUNS;
     end_request(&ring->requests, request);
     forget_refusals(ring, told == TOLD_SUCCESS && !is_cancel);
     show(ring);
@@ -82,7 +94,7 @@ static enum outcome finish_running(struct ring *ring, struct request *request)
         hear(ring, false);
         res = carry_out(request, injected(ring, request));
         if (res == WOULD_WAIT) {
-            request->is_refused = true;
+            note_refusal(ring, request);
             return IS_RUNNING;
         }
     }
@@ -96,6 +108,7 @@ static enum outcome finish_running(struct ring *ring, struct request *request)
 static void start(struct ring *ring, struct request *request)
 {
     request->state = RUNS;
+    ring->running++;
     if (is_timeout(request))
         request->expiry = add_times(ring->now, nanoseconds_of(request->time));
 }
@@ -106,7 +119,7 @@ static enum outcome issue_waiting(struct ring *ring, struct request *request)
     struct wulgach_answer answer = issue(ring, request->number);
     switch (answer.kind) {
     case WULGACH_NOT_READY:
-        request->is_refused = true;
+        note_refusal(ring, request);
         return IS_REFUSED;
     case WULGACH_ENDED:
         if (request->mapping == CANCEL && answer.res == -EALREADY)
@@ -136,13 +149,15 @@ static enum outcome go_on_with(struct ring *ring, struct request *request)
  * next. NULL if there is neither. */
 static struct request *first_in_order(struct ring *ring)
 {
-    for (size_t i = 0; i < ring->requests.count; i++) {
-        struct request *request = ring->requests.rows[i];
-        if (request->state == RUNS && can_finish(request))
-            return request;
-    }
+    const struct requests *requests = &ring->requests;
+    for (size_t i = 0; i < requests->count && ring->running > 0; i++)
+        if (requests->rows[i]->state == RUNS && can_finish(requests->rows[i]))
+            return requests->rows[i];
+    /* The least outstanding one runs or can be issued, so of one that waits the core needn't be asked. */
+    if (requests->count > 0 && requests->rows[0]->state == WAITS)
+        return requests->rows[0];
     uint64_t number;
-    return ring->requests.count > 0 && find_next(ring, &number) ? request_of(&ring->requests, number) : NULL;
+    return requests->count > 0 && find_next(ring, &number) ? request_of(requests, number) : NULL;
 }
 
 /* Lists what can be chosen: first what is first in order, then every other outstanding request, but one that waits for

@@ -7,14 +7,20 @@
 
 bool reserve_requests(struct requests *requests, size_t more)
 {
-    size_t need = requests->count + more;
+    size_t need = requests->count + more, gone = (size_t)(requests->rows - requests->at);
     if (need <= requests->room)
         return true;
-    struct request **rows = realloc(requests->rows, 2 * need * sizeof *rows);
-    if (!rows)
-        return false;
-    requests->rows = rows;
-    requests->room = 2 * need;
+    if (2 * need > requests->whole) {
+        struct request **at = realloc(requests->at, 2 * need * sizeof *at);
+        if (!at)
+            return false;
+        requests->at = at;
+        requests->whole = 2 * need;
+    }
+    if (gone > 0)
+        memmove(requests->at, requests->at + gone, requests->count * sizeof *requests->rows);
+    requests->rows = requests->at;
+    requests->room = requests->whole;
     return true;
 }
 
@@ -42,20 +48,22 @@ struct request *request_of(const struct requests *requests, uint64_t number)
     return requests->rows[place_of(requests, number)];
 }
 
-static void close_gap(struct requests *requests, size_t at, size_t count)
-{
-    requests->count -= count;
-    memmove(requests->rows + at, requests->rows + at + count, (requests->count - at) * sizeof *requests->rows);
-}
-
 void drop_requests(struct requests *requests, size_t count)
 {
-    close_gap(requests, 0, count);
+    requests->rows += count;
+    requests->count -= count;
+    requests->room -= count;
 }
 
 void end_request(struct requests *requests, struct request *request)
 {
-    close_gap(requests, place_of(requests, request->number), 1);
+    size_t at = place_of(requests, request->number);
+    if (at == 0) {
+        drop_requests(requests, 1);
+    } else {
+        requests->count--;
+        memmove(requests->rows + at, requests->rows + at + 1, (requests->count - at) * sizeof *requests->rows);
+    }
     free_request(request);
 }
 
@@ -75,6 +83,6 @@ void free_requests(struct requests *requests)
 {
     for (size_t i = 0; i < requests->count; i++)
         free_request(requests->rows[i]);
-    free(requests->rows);
+    free(requests->at);
     *requests = (struct requests){0};
 }

@@ -32,10 +32,12 @@ struct request {
     struct __kernel_timespec *time;
 };
 
-/* Requests by rising number. */
+/* Requests by rising number. The first are taken out by moving `rows` on. */
 struct requests {
     struct request **rows;
-    size_t count, room;
+    size_t count, room;             /* how many there are, and may be from `rows` on */
+    struct request **at;            /* the memory, */
+    size_t whole;                   /* and how many have room in it */
 };
 
 /* Makes sure that this many more can be added; false if memory was refused. */

@@ -36,6 +36,8 @@ struct ring {
     struct memory memory;
     struct wulgach_core core;
     struct requests requests;           /* accepted and not ended */
+    size_t running;                     /* how many of them were started */
+    bool has_refusals;                  /* one of them may be remembered as refused */
     struct requests staged;             /* staged and not accepted; a word that names no slot has an empty place */
     struct request **ways;              /* room for the ways of a choice: as many as there are requests */
     size_t ways_room;

@@ -254,6 +254,20 @@ static void test_some_reaped(void)
     close_ring(&ring);
 }
 
+/* In order, a submission that asks for no completion goes on too, beside one that is there already. */
+static void test_peek_beside_one(void)
+{
+    struct ring ring;
+    make_ring(&ring, 4, 0, 0);
+    for (unsigned i = 0; i < 4; i++) {
+        put(&ring, IORING_OP_NOP, i, 0);
+        check(enter(&ring, 1, 0, IORING_ENTER_GETEVENTS) == 1);
+        check(!is_in_order() || count_ready(&ring) == i + 1);
+    }
+    check(enter(&ring, 0, 4, IORING_ENTER_GETEVENTS) == 0);
+    close_ring(&ring);
+}
+
 static void test_files(void)
 {
     struct ring ring;
@@ -307,6 +321,25 @@ static void test_waiting(void)
     check(enter(&ring, 2, 0, 0) == 2);
     reap_all(&ring, 3, results);
     check(results[0] == -ECANCELED && results[1] == -EALREADY && results[2] == -ENOENT);
+    close(ends[0]);
+    close(ends[1]);
+    close_ring(&ring);
+}
+
+/* A transfer that is asked not to wait, or for nothing, doesn't. */
+static void test_not_waiting(void)
+{
+    struct ring ring;
+    int32_t results[2];
+    char text[8];
+    int ends[2];
+    check(pipe(ends) == 0);
+    make_ring(&ring, 4, 0, 0);
+    put_transfer(&ring, IORING_OP_READ, 0, 0, ends[0], text, 4, 0)->rw_flags = RWF_NOWAIT;
+    put_transfer(&ring, IORING_OP_READ, 1, 0, ends[0], text, 0, 0);
+    check(enter(&ring, 2, 0, 0) == 2);
+    reap_all(&ring, 2, results);
+    check(results[0] == -EAGAIN && results[1] == 0);
     close(ends[0]);
     close(ends[1]);
     close_ring(&ring);
@@ -372,6 +405,11 @@ static void test_timeouts(void)
     struct ring ring;
     struct __kernel_timespec hour = {3600, 0}, day = {86400, 0};
     make_ring(&ring, 4, 0, 0);
+    /* It has no priority. */
+    put_timeout(&ring, 2, &hour);
+    ring.entries[0].ioprio = 1;
+    check(enter(&ring, 1, 1, IORING_ENTER_GETEVENTS) == 1);
+    check(reap(&ring).res == -EINVAL);
     put_timeout(&ring, 0, &day);
     put_timeout(&ring, 1, &hour);
     check(enter(&ring, 2, 0, 0) == 2);
@@ -564,7 +602,7 @@ int main(int argc, char **argv)
     static const struct {
         const char *name;
         void (*run)(void);
-    } tests[] = {{"setup", test_setup}, {"calls", test_calls}, {"chain", test_chain}, {"skipped success", test_skipped_success}, {"faulty", test_faulty}, {"faulty link", test_faulty_link}, {"dropped word", test_dropped_word}, {"overflow", test_overflow}, {"overflow flag", test_overflow_flag}, {"head before end", test_head_before_end}, {"some reaped", test_some_reaped}, {"files", test_files}, {"waiting", test_waiting}, {"refusals", test_refusals}, {"timeouts", test_timeouts}, {"virtual time", test_virtual_time}, {"two rings", test_two_rings}, {"threads", test_threads}, {"shared ring", test_shared_ring}, {"refused memory", test_refused_memory}};
+    } tests[] = {{"setup", test_setup}, {"calls", test_calls}, {"chain", test_chain}, {"skipped success", test_skipped_success}, {"faulty", test_faulty}, {"faulty link", test_faulty_link}, {"dropped word", test_dropped_word}, {"overflow", test_overflow}, {"overflow flag", test_overflow_flag}, {"head before end", test_head_before_end}, {"some reaped", test_some_reaped}, {"peek beside one", test_peek_beside_one}, {"files", test_files}, {"waiting", test_waiting}, {"not waiting", test_not_waiting}, {"refusals", test_refusals}, {"timeouts", test_timeouts}, {"virtual time", test_virtual_time}, {"two rings", test_two_rings}, {"threads", test_threads}, {"shared ring", test_shared_ring}, {"refused memory", test_refused_memory}};
     (void)argv;
     if (argc > 1) {
         test = "injection";

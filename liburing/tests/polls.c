@@ -74,6 +74,25 @@ static void test_poll(void)
     close_ring(&ring);
 }
 
+/* Completions that have overflowed wait too: also if all in the ring are reaped, and the call didn't ask for them. */
+static void test_overflow(void)
+{
+    struct ring ring;
+    unsigned reaped = 0;
+    make_ring(&ring, 2, 2, 0);
+    for (int i = 0; i < 4; i++)
+        submit_nop(&ring);
+    while (reaped < 4) {
+        for (; count_ready(&ring) > 0; reaped++)
+            reap(&ring);
+        check(enter(&ring, 0, 0, 0) == 0);
+        check(reaped == 4 || is_readable(&ring, 0));
+        check(enter(&ring, 0, 0, IORING_ENTER_GETEVENTS) == 0);
+    }
+    check(!is_readable(&ring, 0));
+    close_ring(&ring);
+}
+
 static void test_epoll(void)
 {
     struct ring ring;
@@ -158,7 +177,7 @@ int main(void)
     static const struct {
         const char *name;
         void (*run)(void);
-    } tests[] = {{"refused", test_refused}, {"poll", test_poll}, {"epoll", test_epoll}, {"pipe", test_pipe}, {"threads", test_threads}, {"file limit", test_file_limit}};
+    } tests[] = {{"refused", test_refused}, {"poll", test_poll}, {"overflow", test_overflow}, {"epoll", test_epoll}, {"pipe", test_pipe}, {"threads", test_threads}, {"file limit", test_file_limit}};
     alarm(30);
     for (size_t i = 0; i < sizeof tests / sizeof *tests; i++) {
         test = tests[i].name;

@@ -1,0 +1,255 @@
+/* Makes a random program of a seed. */
+#define _GNU_SOURCE
+#include "program.h"
+
+#include <linux/io_uring.h>
+#include <stdio.h>
+#include <string.h>
+
+static uint64_t state;
+
+/* A generator of 64 bits whose state is a counter (splitmix64). */
+static uint64_t roll(void)
+{
+    uint64_t z = state += 0x9e3779b97f4a7c15u;
+    z = (z ^ z >> 30) * 0xbf58476d1ce4e5b9u;
+    z = (z ^ z >> 27) * 0x94d049bb133111ebu;
+    return z ^ z >> 31;
+}
+
+static uint32_t below(uint32_t count)
+{
+    return (uint32_t)((roll() >> 32) * count >> 32);
+}
+
+static bool one_in(uint32_t count)
+{
+    return below(count) == 0;
+}
+
+/* One of the places of a row of weights. */
+static unsigned weighed(const uint8_t *weights, unsigned count)
+{
+    unsigned sum = 0, at = 0;
+    for (unsigned i = 0; i < count; i++)
+        sum += weights[i];
+    for (unsigned left = below(sum); left >= weights[at]; at++)
+        left -= weights[at];
+    return at;
+}
+
+static uint8_t any_code(bool is_plain)
+{
+    static const uint8_t codes[] = {IORING_OP_NOP, IORING_OP_READ, IORING_OP_WRITE, IORING_OP_READV, IORING_OP_WRITEV, IORING_OP_FSYNC, IORING_OP_TIMEOUT, IORING_OP_ASYNC_CANCEL, IORING_OP_CLOSE, IORING_OP_FALLOCATE, IORING_OP_FADVISE, IORING_OP_SYNC_FILE_RANGE};
+    static const uint8_t weights[] = {14, 18, 18, 12, 12, 6, 9, 8, 2, 4, 1, 1}, plain[] = {16, 20, 22, 14, 14, 8, 0, 3, 0, 0, 0, 0};
+    return codes[weighed(is_plain ? plain : weights, sizeof codes)];
+}
+
+static bool is_transfer(uint8_t code)
+{
+    return code == IORING_OP_READ || code == IORING_OP_WRITE || code == IORING_OP_READV || code == IORING_OP_WRITEV;
+}
+
+static bool is_vectored(uint8_t code)
+{
+    return code == IORING_OP_READV || code == IORING_OP_WRITEV;
+}
+
+static enum object any_object(uint8_t code, bool is_plain, bool has_pipe)
+{
+    static const uint8_t weights[OBJECTS] = {40, 8, 35, 10, 0, 3, 3}, plain[OBJECTS] = {0, 0, 90, 0, 0, 0, 8};
+    enum object object = weighed(is_plain ? plain : weights, OBJECTS);
+    bool is_write = code == IORING_OP_WRITE || code == IORING_OP_WRITEV;
+    if (object == PIPE_OUT && !has_pipe)
+        return LOG;
+    return object == PIPE_OUT && is_write ? PIPE_IN : object;
+}
+
+/* What a cell's entry reads or writes is its own, or that of the entry before it, to which it is linked. */
+static void choose_place(struct action *action, const struct action *before)
+{
+    bool is_linked = before && before->flags & (IOSQE_IO_LINK | IOSQE_IO_HARDLINK) && !(before->flags & IOSQE_CQE_SKIP_SUCCESS) && before->object == CELLS;
+    if (is_linked && !one_in(3))
+        action->cell = before->cell;
+    action->offset = (int32_t)(action->object == CELLS ? below(20) : one_in(6) ? (uint32_t)-1 : below(300));
+}
+
+static void choose_sizes(struct action *action)
+{
+    uint32_t left = action->object == CELLS ? CELL - (uint32_t)action->offset : 4 * 40;
+    action->vectors = is_vectored(action->code) ? (uint8_t)below(MOST_VECTORS + 1) : 1;
+    for (int i = 0; i < action->vectors; i++) {
+        uint32_t size = one_in(12) ? 0 : 1 + below(40);
+        action->sizes[i] = (uint8_t)(size < left ? size : left);
+        left -= action->sizes[i];
+    }
+}
+
+static int64_t any_time(void)
+{
+    static const int64_t units[] = {1, 1000, 1000000, 1000000000, 3600000000000};
+    return (int64_t)below(4000) * units[below(5)] + (one_in(2) ? 0 : (int64_t)below(1000000000));
+}
+
+static uint8_t any_flags(const struct action *action, uint16_t index, bool is_plain, bool is_skipping)
+{
+    uint8_t flags = 0;
+    static const uint8_t links[] = {0, IOSQE_IO_LINK, IOSQE_IO_HARDLINK, IOSQE_IO_LINK | IOSQE_IO_HARDLINK}, weights[] = {55, 32, 11, 2};
+    flags |= links[weighed(weights, 4)];
+    if (one_in(14) && !(is_plain && is_skipping))
+        flags |= IOSQE_IO_DRAIN;
+    if (one_in(20))
+        flags |= IOSQE_ASYNC;
+    /* What ends unseen is to have no effect that others see. */
+    bool is_sync = action->code == IORING_OP_FSYNC && (action->object == LOG || action->object == CELLS);
+    bool is_quiet = action->code == IORING_OP_NOP || is_sync || (is_transfer(action->code) && action->object == CELLS && action->cell == index) || (action->code == IORING_OP_TIMEOUT && !action->is_success);
+    if (is_plain)
+        is_quiet = action->code == IORING_OP_NOP && !flags && is_skipping;
+    if (is_quiet && one_in(5))
+        flags |= IOSQE_CQE_SKIP_SUCCESS;
+    return flags;
+}
+
+static enum flaw any_flaw(const struct action *action, bool is_plain)
+{
+    if (!one_in(16))
+        return NO_FLAW;
+    enum flaw flaw = (enum flaw)(BAD_CODE + below(6));
+    bool has_pointer = (is_vectored(action->code) && action->vectors > 0) || action->code == IORING_OP_TIMEOUT;
+    /* A write of data that can't be read may lengthen its file all the same. */
+    bool has_data = action->code == IORING_OP_READ ? action->object <= CELLS : action->code == IORING_OP_WRITE && action->object == CELLS;
+    if ((flaw == BAD_POINTER && !has_pointer) || (flaw == BAD_TIME && action->code != IORING_OP_TIMEOUT) || (flaw == BAD_DATA && !has_data))
+        return BAD_CODE;
+    return is_plain && (flaw == BAD_FLAG || flaw == BAD_PRIORITY) ? BAD_CODE : flaw;
+}
+
+/* The program so far, as far as the next action asks. */
+struct progress {
+    const struct action *before[MOST_RINGS];    /* the last entry of each ring, if it isn't called since */
+    uint16_t published[MOST_RINGS];             /* since the last call */
+    bool is_skipping;
+};
+
+static void choose_entry(struct program *program, struct action *action, struct progress *progress)
+{
+    uint16_t index = program->count;
+    const struct action *before = progress->before[action->ring];
+    bool is_plain = program->is_plain;
+    action->kind = PUT;
+    action->cell = index;
+    action->code = any_code(is_plain);
+    action->object = any_object(action->code, is_plain, program->rings[action->ring].flags & IORING_SETUP_COOP_TASKRUN);
+    if (action->code == IORING_OP_CLOSE)
+        action->object = OTHER_LOG;
+    if (is_transfer(action->code)) {
+        choose_place(action, before);
+        choose_sizes(action);
+    }
+    if (action->code == IORING_OP_FALLOCATE) {
+        action->offset = (int32_t)below(300);
+        action->sizes[0] = (uint8_t)below(200);
+    }
+    action->is_impatient = action->object == PIPE_OUT && one_in(6);
+    action->time = any_time();
+    action->is_success = one_in(3);
+    action->target = (uint16_t)(is_plain || index == 0 || one_in(6) ? MOST_ACTIONS : index - 1 - below(index < 12 ? index : 12));
+    action->turn = one_in(5) ? (uint16_t)below(16) : 0;
+    action->flags = any_flags(action, index, is_plain, progress->is_skipping);
+    action->flaw = any_flaw(action, is_plain);
+    progress->before[action->ring] = action;
+    progress->published[action->ring]++;
+}
+
+static void choose_call(struct program *program, struct action *action, struct progress *progress)
+{
+    static const int64_t times[] = {0, 1, 1500, 999999999, 1000000000, 7200000000001, INT64_MAX};
+    action->kind = ENTER;
+    action->excess = (int16_t)(one_in(6) ? -(int)below(3) : one_in(12) ? 1 + (int)below(3) : 0);
+    action->is_getting = !one_in(3);
+    action->min_complete = (uint16_t)(one_in(4) ? 0 : one_in(12) ? 100 : 1 + below(4));
+    action->limit = one_in(2) ? -1 : one_in(2) ? any_time() : times[below(7)];
+    action->has_mask = one_in(6);
+    if (program->is_plain) {
+        action->excess = 0;
+        action->limit = -1;
+        action->has_mask = false;
+        action->min_complete = (uint16_t)(one_in(2) ? 0 : 1 + below(2));
+    }
+    progress->before[action->ring] = NULL;
+    progress->published[action->ring] = 0;
+}
+
+static void choose_action(struct program *program, struct progress *progress)
+{
+    static const enum action_kind kinds[] = {PUT, ENTER, REAP, PUT_WORD, FEED, END_FEED, FORK, REOPEN};
+    static const uint8_t weights[] = {60, 22, 12, 1, 4, 1, 1, 1}, plain[] = {60, 22, 12, 1, 0, 0, 0, 0};
+    struct action *action = &program->actions[program->count];
+    *action = (struct action){.ring = (uint8_t)below(program->ring_count), .count = (uint16_t)(1 + below(8)), .turn = (uint16_t)below(3)};
+    enum action_kind kind = kinds[weighed(program->is_plain ? plain : weights, 8)];
+    if ((kind == FORK || kind == REOPEN) && (program->is_threaded || !one_in(2)))
+        kind = REAP;
+    if (kind == PUT && progress->published[action->ring] >= program->rings[action->ring].entries)
+        kind = ENTER;
+    if (kind == PUT)
+        choose_entry(program, action, progress);
+    else if (kind == ENTER)
+        choose_call(program, action, progress);
+    else
+        action->kind = kind;
+    /* It ends the call, and so a chain. */
+    if (kind == PUT_WORD)
+        progress->before[action->ring] = NULL;
+    program->count++;
+}
+
+static void choose_ring(struct program *program, struct ring_options *ring)
+{
+    static const uint32_t flags[] = {IORING_SETUP_SUBMIT_ALL, IORING_SETUP_CLAMP, IORING_SETUP_SINGLE_ISSUER};
+    ring->entries = (uint16_t)(one_in(3) ? 1 + below(16) : 1u << below(5));
+    if (one_in(2))
+        ring->completions = (uint16_t)(2 * ring->entries + below(4) - (one_in(2) ? ring->entries : 0));
+    if (ring->completions && ring->completions < ring->entries)
+        ring->completions = 0;
+    ring->flags = (one_in(2) ? flags[0] : 0) | (one_in(8) ? flags[1] : 0) | (one_in(8) ? flags[2] : 0);
+    /* In the layer this one changes nothing: here it says that the ring's entries read and write pipes. */
+    if (!program->is_plain && one_in(3))
+        ring->flags |= IORING_SETUP_COOP_TASKRUN;
+    ring->is_polled = one_in(4);
+}
+
+static void choose_faults(struct program *program)
+{
+    bool is_seeded = strncmp(program->policy, "seed", 4) == 0;
+    if (program->is_plain || one_in(2))
+        return;
+    if (is_seeded && one_in(2)) {
+        program->fault_rate = (uint16_t)(2 + below(9));
+        return;
+    }
+    program->fault_count = (uint8_t)(1 + below(MOST_FAULTS));
+    for (int i = 0; i < program->fault_count; i++)
+        program->faults[i] = (struct fault){(uint8_t)below(program->ring_count), (uint8_t)(i * 8 + below(8)), (uint8_t)(1 + below(3))};
+}
+
+void generate(struct program *program, uint64_t seed)
+{
+    struct progress progress = {0};
+    memset(program, 0, sizeof *program);
+    state = seed * 0x2545f4914f6cdd1du + 1;
+    program->seed = seed;
+    program->is_plain = one_in(5);
+    if (one_in(3))
+        strcpy(program->policy, one_in(2) ? "lazy" : "order");
+    else
+        snprintf(program->policy, sizeof program->policy, "seed:%u", below(1000000));
+    program->is_ends = one_in(3);
+    program->ring_count = (uint8_t)(one_in(3) ? 1 + below(MOST_RINGS) : 1);
+    program->is_threaded = !program->is_plain && program->ring_count > 1 && one_in(2);
+    progress.is_skipping = one_in(2);
+    for (int i = 0; i < program->ring_count; i++)
+        choose_ring(program, &program->rings[i]);
+    choose_faults(program);
+    uint32_t count = 5 + below(one_in(4) ? MOST_ACTIONS - 5 : 45);
+    while (program->count < count)
+        choose_action(program, &progress);
+}

@@ -1,0 +1,133 @@
+/* What a ring of the layer may do, by the layer's own rules: a model of one ring and of what its requests read and write,
+ * written apart from the layer. It is told what the application does and sees, and ends the process with a message if
+ * that can't be. The rules are those of docs/PROTOCOL.md and docs/LIBURING.md.
+ *
+ * A completion tells that a request has ended, and in which order. A success that posts none tells nothing: such a
+ * request is taken for ended as soon as what is seen calls for it, and what it did is looked at then.
+ */
+#ifndef MODEL_H
+#define MODEL_H
+
+#include "program.h"
+
+#include <stddef.h>
+
+enum { GUARD = 8, MOST_BYTES = 1 << 15, BLANK = 0xee };
+
+/* The memory of an entry's vectors, with bytes around each that nobody may touch. */
+struct vectors {
+    uint8_t at[MOST_VECTORS][GUARD + CELL + GUARD];
+};
+
+/* What the requests of a ring read and write, as it should be. */
+struct things {
+    uint8_t log[MOST_BYTES];
+    uint32_t log_length, position;
+    uint8_t cells[MOST_ACTIONS * CELL];
+    uint8_t piped[MOST_BYTES];          /* all that was ever written to the pipe */
+    uint32_t written, read;
+    bool is_fed_out;                    /* its end for writing is closed */
+    bool is_closed;                     /* OTHER_LOG */
+    struct vectors data[MOST_ACTIONS];
+};
+
+struct request {
+    const struct action *action;
+    uint16_t index;                     /* the action's */
+    uint16_t group;
+    bool is_ended, is_doomed;
+    bool is_cancelled;                  /* a cancel found it running */
+    int64_t since;                      /* the virtual time at which it could start; negative: not yet */
+};
+
+/* A call, and what the application sees behind it. */
+struct call {
+    uint32_t to_submit, min_complete;
+    bool is_getting;
+    int64_t limit, deadline;            /* the deadline: in virtual time, or negative */
+    int64_t elapsed;                    /* really */
+    long result;
+    uint32_t accepted;                  /* by the model */
+    uint32_t ready_before, ready;       /* completions that can be reaped */
+    uint32_t tail_before, tail;
+    uint32_t flags, dropped, head, overflow;
+    bool is_fired;                      /* a timeout ended in it */
+    bool is_blocking;                   /* it left signals blocked */
+    bool is_polled, is_readable;        /* the descriptor polls, and is readable */
+};
+
+struct model {
+    const struct program *program;
+    unsigned ring;
+    unsigned layer_index;               /* its number among the rings that the process made */
+    bool is_kernel;
+    uint32_t sq_entries, cq_entries;
+    struct request requests[MOST_ACTIONS];
+    uint32_t count;
+    bool has_drain[MOST_ACTIONS], has_fault[MOST_ACTIONS];     /* of groups */
+    uint32_t group_count;
+    int32_t published[MOST_ACTIONS];    /* an action for each position, or negative: its word names no slot */
+    uint32_t published_count, taken, dropped;
+    int64_t now, slack;                 /* virtual time, and how much later it may be */
+    bool is_late;                       /* what is seen next may have ended before this call */
+    struct call *call;
+    struct things *things;
+    const struct vectors *data;         /* the application's */
+};
+
+/* ---- requests.c ---- */
+
+/* Ends the process: what is seen can't be. */
+_Noreturn void wrong(const struct model *model, const char *format, ...) __attribute__((format(printf, 2, 3)));
+
+/* Takes at most this many positions, as a call does. */
+void take(struct model *model, uint32_t to_submit);
+
+/* The next completion of the ring, in order. */
+void see(struct model *model, uint64_t user_data, int32_t res);
+
+/* Nothing can go on but timeouts and what waits for a pipe. */
+void expect_stuck(struct model *model, const char *what);
+
+/* How many requests are to post completions still. */
+uint32_t count_awaited(const struct model *model);
+
+/* Whether a read of the pipe is outstanding; or one that may have been started. */
+bool has_pipe_reads(const struct model *model, bool is_started);
+
+/* Whether a timeout runs. */
+bool has_timeouts(const struct model *model);
+
+/* Whether a request waits for its pipe, and whether it waits for no other request. */
+bool is_blocked(const struct model *model, const struct request *request);
+bool can_start(const struct model *model, const struct request *request);
+
+static inline uint64_t user_data_of(unsigned index)
+{
+    return (index + 1) * 0x0000000700000001u;
+}
+
+/* ---- results.c ---- */
+
+/* The request ends with this result, which is judged, and does what it does. Returns whether it is a success. */
+bool carry_out(struct model *model, const struct request *request, int32_t res);
+
+/* The result that is a success, of a request that posts none then. */
+int32_t success_of(const struct request *request);
+
+/* Byte `at` of what an action writes, and of what the application feeds. */
+uint8_t written_byte(unsigned index, uint32_t at);
+uint8_t fed_byte(uint32_t at);
+
+/* ---- calls.c ---- */
+
+/* What a call returned and shows. */
+void judge_call(struct model *model);
+
+/* A sum of times; one past the largest is the largest. */
+int64_t add_times(int64_t one, int64_t other);
+
+/* Moves virtual time on to a timeout's end. */
+void fire(struct model *model, const struct request *timeout);
+
+#endif

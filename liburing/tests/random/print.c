@@ -1,0 +1,134 @@
+/* Says a program in words, and tells the layer its policy and its faults. */
+#define _GNU_SOURCE
+#include "program.h"
+
+#include <inttypes.h>
+#include <linux/io_uring.h>
+#include <stdlib.h>
+#include <string.h>
+
+static const char *code_name(uint8_t code)
+{
+    static const char *const names[] = {
+        [IORING_OP_NOP] = "no-op", [IORING_OP_READV] = "readv", [IORING_OP_WRITEV] = "writev", [IORING_OP_FSYNC] = "fsync",
+        [IORING_OP_SYNC_FILE_RANGE] = "sync_file_range", [IORING_OP_TIMEOUT] = "timeout", [IORING_OP_ASYNC_CANCEL] = "cancel",
+        [IORING_OP_FALLOCATE] = "fallocate", [IORING_OP_CLOSE] = "close", [IORING_OP_READ] = "read", [IORING_OP_WRITE] = "write",
+        [IORING_OP_FADVISE] = "fadvise",
+    };
+    return code < sizeof names / sizeof *names && names[code] ? names[code] : "operation";
+}
+
+static void print_entry(FILE *out, const struct action *action)
+{
+    static const char *const objects[] = {"log", "other log", "cells", "pipe", "pipe", "zeros", "no file"};
+    static const char *const flaws[] = {"", ", bad code", ", bad flag", ", bad priority", ", bad pointer", ", bad time", ", bad data"};
+    fprintf(out, "put %s", code_name(action->code));
+    switch (action->code) {
+    case IORING_OP_READ:
+    case IORING_OP_WRITE:
+    case IORING_OP_READV:
+    case IORING_OP_WRITEV:
+        fprintf(out, " of %s at %" PRId32, objects[action->object], action->offset);
+        if (action->object == CELLS)
+            fprintf(out, " of cell %u", action->cell);
+        if (action->is_impatient)
+            fputs(" without waiting", out);
+        for (int i = 0; i < action->vectors; i++)
+            fprintf(out, "%s%u", i ? "+" : ", bytes ", action->sizes[i]);
+        break;
+    case IORING_OP_TIMEOUT:
+        fprintf(out, " of %" PRId64 " ns%s", action->time, action->is_success ? ", a success" : "");
+        break;
+    case IORING_OP_ASYNC_CANCEL:
+        fprintf(out, " of %u", action->target);
+        break;
+    case IORING_OP_NOP:
+        break;
+    default:
+        fprintf(out, " of %s", objects[action->object]);
+    }
+    fputs(flaws[action->flaw], out);
+    static const char letters[] = "FDLHAB S";
+    fputs(", flags ", out);
+    for (int bit = 1; bit < 7; bit++)
+        if (action->flags & 1 << bit)
+            fputc(bit == 6 ? 'S' : letters[bit], out);
+    if (action->turn)
+        fprintf(out, ", slot +%u", action->turn);
+}
+
+static void print_action(FILE *out, const struct action *action)
+{
+    switch (action->kind) {
+    case NOTHING:
+        break;
+    case PUT:
+        print_entry(out, action);
+        break;
+    case PUT_WORD:
+        fputs("put a word that names no slot", out);
+        break;
+    case ENTER:
+        fprintf(out, "enter, all and %d", action->excess);
+        if (action->is_getting)
+            fprintf(out, ", for %u", action->min_complete);
+        if (action->is_getting && action->limit >= 0)
+            fprintf(out, ", at most %" PRId64 " ns", action->limit);
+        if (action->has_mask)
+            fputs(", with a mask", out);
+        break;
+    case REAP:
+        fprintf(out, "reap %u", action->count);
+        break;
+    case FEED:
+        fprintf(out, "feed %u bytes", action->count);
+        break;
+    case END_FEED:
+        fputs("end the feed", out);
+        break;
+    case FORK:
+        fputs("fork", out);
+        break;
+    case REOPEN:
+        fputs("close, and open another", out);
+        break;
+    }
+}
+
+void print_program(FILE *out, const struct program *program)
+{
+    static const char *const kinds[] = {"", "EIO", "ENOSPC", "SHORT"};
+    fprintf(out, "seed %" PRIu64 ": policy %s, %s", program->seed, program->policy, program->is_ends ? "ends" : "events");
+    fprintf(out, "%s%s", program->is_plain ? ", plain" : "", program->is_threaded ? ", a thread for each ring" : "");
+    if (program->fault_rate)
+        fprintf(out, ", faults one in %u", program->fault_rate);
+    for (int i = 0; i < program->fault_count; i++)
+        fprintf(out, ", fault %u:%u=%s", program->faults[i].ring, program->faults[i].number, kinds[program->faults[i].kind]);
+    fputc('\n', out);
+    for (int i = 0; i < program->ring_count; i++) {
+        const struct ring_options *ring = &program->rings[i];
+        fprintf(out, "  ring %d: %u entries, %u completions, flags %#x%s\n", i, ring->entries, ring->completions, ring->flags, ring->is_polled ? ", polls" : "");
+    }
+    for (int i = 0; i < program->count; i++) {
+        if (program->actions[i].kind == NOTHING)
+            continue;
+        fprintf(out, "  %3d ring %u: ", i, program->actions[i].ring);
+        print_action(out, &program->actions[i]);
+        fputc('\n', out);
+    }
+}
+
+void set_environment(const struct program *program)
+{
+    static const char *const kinds[] = {"", "EIO", "ENOSPC", "SHORT"};
+    char text[128] = "";
+    setenv("WULGACH_POLICY", program->policy, 1);
+    setenv("WULGACH_CHOOSE", program->is_ends ? "ends" : "events", 1);
+    for (int i = 0; i < program->fault_count; i++) {
+        const struct fault *fault = &program->faults[i];
+        snprintf(text + strlen(text), sizeof text - strlen(text), "%s%u:%u=%s", i ? "," : "", fault->ring, fault->number, kinds[fault->kind]);
+    }
+    setenv("WULGACH_FAULTS", text, 1);
+    snprintf(text, sizeof text, "%u", program->fault_rate);
+    setenv("WULGACH_FAULT_RATE", program->fault_rate ? text : "", 1);
+}

@@ -1,0 +1,271 @@
+/* What an operation gives, and what it does to the files, to the pipe and to the application's memory. */
+#include "model.h"
+
+#include <errno.h>
+#include <inttypes.h>
+#include <linux/io_uring.h>
+#include <string.h>
+
+uint8_t written_byte(unsigned index, uint32_t at)
+{
+    return (uint8_t)(1 + (index * 37 + at * 11) % 200);
+}
+
+uint8_t fed_byte(uint32_t at)
+{
+    return (uint8_t)(1 + at * 7 % 251);
+}
+
+static bool is_read(const struct action *action)
+{
+    return action->code == IORING_OP_READ || action->code == IORING_OP_READV;
+}
+
+static bool is_write(const struct action *action)
+{
+    return action->code == IORING_OP_WRITE || action->code == IORING_OP_WRITEV;
+}
+
+static bool is_stream(const struct action *action)
+{
+    return action->object == PIPE_OUT || action->object == PIPE_IN || action->object == ZEROS;
+}
+
+/* ---- transfers ---- */
+
+/* Where a transfer's bytes stand in its file, and how many there are from there on. */
+struct place {
+    uint8_t *at;
+    uint32_t start, length;
+};
+
+static struct place place_of(struct model *model, const struct action *action)
+{
+    struct things *things = model->things;
+    if (action->object == CELLS) {
+        uint32_t start = action->cell * CELL + (uint32_t)action->offset;
+        return (struct place){things->cells, start, sizeof things->cells};
+    }
+    return (struct place){things->log, action->offset < 0 ? things->position : (uint32_t)action->offset, things->log_length};
+}
+
+/* The bytes that a read of at most so many gives, at most `most`. */
+static uint32_t read_bytes(struct model *model, const struct action *action, uint32_t length, uint8_t *bytes)
+{
+    struct things *things = model->things;
+    if (action->object == ZEROS) {
+        memset(bytes, 0, length);
+        return length;
+    }
+    if (action->object == PIPE_OUT) {
+        uint32_t there = things->written - things->read;
+        length = length < there ? length : there;
+        memcpy(bytes, things->piped + things->read, length);
+        return length;
+    }
+    struct place place = place_of(model, action);
+    uint32_t there = place.start < place.length ? place.length - place.start : 0;
+    length = length < there ? length : there;
+    memcpy(bytes, place.at + place.start, length);
+    return length;
+}
+
+/* Puts what was read where the application is to find it, and looks whether it is there. */
+static void deliver(struct model *model, const struct request *request, const uint8_t *bytes, uint32_t length)
+{
+    struct vectors *wanted = &model->things->data[request->index];
+    for (int i = 0; i < request->action->vectors && length > 0; i++) {
+        uint32_t size = request->action->sizes[i] < length ? request->action->sizes[i] : length;
+        memcpy(wanted->at[i] + GUARD, bytes, size);
+        bytes += size;
+        length -= size;
+    }
+    if (memcmp(wanted, &model->data[request->index], sizeof *wanted) != 0)
+        wrong(model, "entry %u has read something else", request->index);
+}
+
+static void move_on(struct model *model, const struct action *action, uint32_t moved)
+{
+    struct things *things = model->things;
+    if (action->object == PIPE_OUT)
+        things->read += moved;
+    if ((action->object == LOG || action->object == OTHER_LOG) && action->offset < 0)
+        things->position += moved;
+}
+
+static void write_bytes(struct model *model, const struct request *request, uint32_t length)
+{
+    const struct action *action = request->action;
+    struct things *things = model->things;
+    if (action->object == ZEROS || length == 0)
+        return;
+    struct place place = action->object == PIPE_IN ? (struct place){things->piped, things->written, 0} : place_of(model, action);
+    for (uint32_t at = 0; at < length; at++)
+        place.at[place.start + at] = written_byte(request->index, at);
+    if (action->object == PIPE_IN)
+        things->written += length;
+    else if (action->object != CELLS && things->log_length < place.start + length)
+        things->log_length = place.start + length;
+}
+
+static bool is_no_file(const struct model *model, const struct action *action)
+{
+    const struct things *things = model->things;
+    return action->object == NO_FILE || (action->object == OTHER_LOG && things->is_closed) || (action->object == PIPE_IN && things->is_fed_out);
+}
+
+/* A transfer of the first `length` of its bytes. If `is_done`, it is carried out, else only its result is said. */
+static int32_t transfer(struct model *model, const struct request *request, uint32_t length, bool is_done)
+{
+    const struct action *action = request->action;
+    uint8_t bytes[MOST_VECTORS * 256];
+    if (is_no_file(model, action))
+        return -EBADF;
+    if (action->is_impatient && model->things->read == model->things->written && !model->things->is_fed_out)
+        return length == 0 ? 0 : -EAGAIN;
+    uint32_t moved = is_read(action) ? read_bytes(model, action, length, bytes) : length;
+    if (action->flaw == BAD_DATA && moved > 0)
+        return -EFAULT;
+    if (!is_done)
+        return (int32_t)moved;
+    if (is_read(action))
+        deliver(model, request, bytes, moved);
+    else
+        write_bytes(model, request, moved);
+    move_on(model, action, moved);
+    return (int32_t)moved;
+}
+
+/* ---- all operations ---- */
+
+static int32_t call_file(struct model *model, const struct action *action, bool is_done)
+{
+    struct things *things = model->things;
+    if (is_no_file(model, action))
+        return -EBADF;
+    bool is_pipe = action->object == PIPE_OUT || action->object == PIPE_IN;
+    switch (action->code) {
+    case IORING_OP_CLOSE:
+        things->is_closed |= is_done;
+        return 0;
+    case IORING_OP_FSYNC:
+        return is_pipe || action->object == ZEROS ? -EINVAL : 0;
+    case IORING_OP_FADVISE:
+        return is_pipe ? -ESPIPE : 0;
+    case IORING_OP_SYNC_FILE_RANGE:
+        return is_pipe || action->object == ZEROS ? -ESPIPE : 0;
+    default:
+        break;
+    }
+    uint32_t end = (uint32_t)action->offset + action->sizes[0];
+    if (action->sizes[0] == 0)
+        return -EINVAL;
+    /* A descriptor for reading alone. */
+    if (is_pipe)
+        return action->object == PIPE_OUT ? -EBADF : -ESPIPE;
+    if (action->object == ZEROS)
+        return -ENODEV;
+    if (is_done && action->object != CELLS && things->log_length < end)
+        things->log_length = end;
+    return 0;
+}
+
+static int32_t result_of(struct model *model, const struct request *request, uint32_t length, bool is_done)
+{
+    switch (request->action->code) {
+    case IORING_OP_NOP:
+        return 0;
+    case IORING_OP_TIMEOUT:
+        return -ETIME;
+    case IORING_OP_READ:
+    case IORING_OP_WRITE:
+    case IORING_OP_READV:
+    case IORING_OP_WRITEV:
+        return transfer(model, request, length, is_done);
+    default:
+        return call_file(model, request->action, is_done);
+    }
+}
+
+int32_t success_of(const struct request *request)
+{
+    bool is_transfer = is_read(request->action) || is_write(request->action);
+    return is_transfer ? (int32_t)length_of(request->action) : 0;
+}
+
+static bool is_success(const struct request *request, int32_t res)
+{
+    if (request->action->code == IORING_OP_TIMEOUT)
+        return res == -ETIME && request->action->is_success;
+    return res >= 0 && res >= success_of(request);
+}
+
+/* ---- faults ---- */
+
+static bool can_have(const struct action *action, int fault)
+{
+    bool is_transfer = is_read(action) || is_write(action), is_fallocate = action->code == IORING_OP_FALLOCATE;
+    switch (fault) {
+    case FAULT_EIO:
+        return is_transfer || is_fallocate || action->code == IORING_OP_FSYNC;
+    case FAULT_ENOSPC:
+        return is_write(action) || is_fallocate;
+    case FAULT_SHORT:
+        return is_transfer && !is_stream(action) && length_of(action) > 1;
+    default:
+        return true;
+    }
+}
+
+/* The fault that the program's list has for a request. */
+static int listed_fault(const struct model *model, const struct request *request)
+{
+    const struct program *program = model->program;
+    long number = request - model->requests;
+    for (int i = 0; i < program->fault_count && !model->is_kernel; i++)
+        if (program->faults[i].ring == model->layer_index && program->faults[i].number == number && can_have(request->action, program->faults[i].kind))
+            return program->faults[i].kind;
+    return NO_FAULT;
+}
+
+/* Whether the result is that of the request with this fault. */
+static bool has_result(struct model *model, const struct request *request, int fault, int32_t res)
+{
+    uint32_t length = length_of(request->action);
+    if (!can_have(request->action, fault))
+        return false;
+    if (fault == FAULT_EIO || fault == FAULT_ENOSPC)
+        return res == (fault == FAULT_EIO ? -EIO : -ENOSPC);
+    int32_t whole = result_of(model, request, fault == FAULT_SHORT ? length / 2 : length, false);
+    bool is_pipe_read = request->action->object == PIPE_OUT && is_read(request->action) && whole > 0;
+    /* What comes late may have found less in its pipe, or nothing. */
+    bool is_less = res > 0 ? res < whole : request->action->is_impatient && res == -EAGAIN;
+    return res == whole || (is_pipe_read && model->is_late && is_less);
+}
+
+static void carry_out_with(struct model *model, const struct request *request, int fault, int32_t res)
+{
+    uint32_t length = length_of(request->action);
+    if (fault == FAULT_EIO || fault == FAULT_ENOSPC)
+        return;
+    if (fault == FAULT_SHORT)
+        length /= 2;
+    if (request->action->object == PIPE_OUT && res < 0)
+        return;
+    if (request->action->object == PIPE_OUT)
+        length = (uint32_t)res;
+    result_of(model, request, length, true);
+}
+
+bool carry_out(struct model *model, const struct request *request, int32_t res)
+{
+    if (is_blocked(model, request))
+        wrong(model, "entry %u reads of an empty pipe: %" PRId32, request->index, res);
+    int first = listed_fault(model, request), last = first == NO_FAULT && model->program->fault_rate && !model->is_kernel ? FAULT_SHORT : first;
+    for (int fault = first; fault <= last; fault++)
+        if (has_result(model, request, fault, res)) {
+            carry_out_with(model, request, fault, res);
+            return is_success(request, res);
+        }
+    wrong(model, "entry %u ends with %" PRId32 ", and is to end with %" PRId32, request->index, res, result_of(model, request, length_of(request->action), false));
+}
