@@ -17,7 +17,8 @@ struct posted {
 struct completions {
     struct posted *queue;   /* the oldest first, from `first` on */
     size_t first, count, room;
-    size_t shown;           /* how many of them stand in ring memory; the others have overflowed */
+    size_t shown;           /* how many of them stand in ring memory; the others have overflowed, or are to be shown */
+    bool is_behind;         /* some ended since ring memory was last brought up to date */
     uint32_t head;          /* the completion ring's head as the core knows it */
 };
 
@@ -32,13 +33,16 @@ void note_end(struct ring *ring, uint64_t user_data, int32_t res, int32_t told);
 /* Shows the application what the core's tail says. */
 void show(struct ring *ring);
 
+/* The same, if anything has ended since it was last done. */
+void show_ends(struct ring *ring);
+
 /* Tells the core what the application has reaped. With `is_flushing`, or if none has overflowed, the dispatcher loads
  * the head, so that completions that overflowed come into the ring. False, and nothing is reaped, if the application
  * has stored a head past the tail. */
 bool hear(struct ring *ring, bool is_flushing);
 
-/* How many completions the application can reap. */
-uint32_t count_ready(const struct ring *ring);
+/* How many completions the application can reap, all that have ended being shown. */
+uint32_t count_ready(struct ring *ring);
 
 void free_completions(struct completions *completions);
 

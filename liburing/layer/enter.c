@@ -74,7 +74,7 @@ static void go_on_for_peek(struct ring *ring)
         pass_time(ring);
 }
 
-static void say_stuck(const struct ring *ring, uint32_t min_complete)
+static void say_stuck(struct ring *ring, uint32_t min_complete)
 {
     fprintf(stderr, "wulgach: ring %u waits for %u completions, %u are there, and nothing can go on\n", (unsigned)ring->index, (unsigned)min_complete, (unsigned)count_ready(ring));
 }
@@ -88,7 +88,24 @@ static int refuse_head(struct ring *ring)
     return -EBADFD;
 }
 
-/* Goes on until enough completions are shown. */
+/* Nothing can go on: waits, unless enough completions are shown. Returns 1 if they are, 0 if something may go on, or the
+ * negative of an error number. */
+static int wait_for_more(struct ring *ring, const struct waiting *waiting, uint32_t enough, int64_t deadline)
+{
+    if (!hear(ring, true))
+        return refuse_head(ring);
+    if (count_ready(ring) >= enough)
+        return 1;
+    show_readiness(ring);
+    int result = wait_for_any(ring, deadline, &waiting->signals);
+    if (result == -EDEADLK)
+        say_stuck(ring, enough);
+    if (result < 0)
+        return result;
+    return hear(ring, true) ? 0 : refuse_head(ring);
+}
+
+/* Goes on until enough completions are shown. In order things go on until none can, whether or not it is enough. */
 static int go_on_until(struct ring *ring, const struct waiting *waiting)
 {
     int64_t deadline = waiting->limit < 0 ? -1 : add_times(ring->now, waiting->limit);
@@ -96,21 +113,15 @@ static int go_on_until(struct ring *ring, const struct waiting *waiting)
     if (enough > ring->memory.cq_entries)
         enough = ring->memory.cq_entries;
     for (;;) {
-        bool is_enough = count_ready(ring) >= enough;
-        if (is_enough && policy() == LAZY)
+        bool is_enough = policy() != IN_ORDER && count_ready(ring) >= enough;
+        enum progress progress = is_enough && policy() == LAZY ? MAY_RETURN : go_on(ring, is_enough);
+        if (progress == MAY_RETURN)
             return 0;
-        enum progress progress = go_on(ring, is_enough);
-        if (progress == MAY_RETURN || (progress == STUCK && is_enough))
-            return 0;
-        if (progress == STUCK)
-            show_readiness(ring);
-        int result = progress == STUCK ? wait_for_any(ring, deadline, &waiting->signals) : 0;
-        if (result == -EDEADLK)
-            say_stuck(ring, enough);
-        if (result < 0)
-            return result;
-        if (!hear(ring, true))
-            return refuse_head(ring);
+        if (progress == WENT_ON && hear(ring, false))
+            continue;
+        int result = progress == WENT_ON ? refuse_head(ring) : wait_for_more(ring, waiting, enough, deadline);
+        if (result != 0)
+            return result < 0 ? result : 0;
     }
 }
 

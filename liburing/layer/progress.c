@@ -69,7 +69,7 @@ static void end_of(struct ring *ring, struct request *request, int32_t res, int3
     ring->running -= request->state == RUNS;
     end_request(&ring->requests, request);
     forget_refusals(ring, told == TOLD_SUCCESS && !is_cancel);
-    show(ring);
+    ring->completions.is_behind = true;
 }
 
 /* A cancel found its request running. The kernel ends one that waits; here it ends so when it is next gone on with. */
@@ -91,6 +91,9 @@ static enum outcome finish_running(struct ring *ring, struct request *request)
 {
     int32_t res = -ECANCELED;
     if (!request->is_cancelled) {
+        /* Other threads are to see what has ended, however long this one takes. */
+        if (request->entry.opcode != IORING_OP_NOP)
+            show_ends(ring);
         hear(ring, false);
         res = carry_out(request, injected(ring, request));
         if (res == WOULD_WAIT) {
@@ -116,18 +119,19 @@ static void start(struct ring *ring, struct request *request)
 /* Issues a request that waits: it starts, or ends without being carried out, or the core refuses it. */
 static enum outcome issue_waiting(struct ring *ring, struct request *request)
 {
-    struct wulgach_answer answer = issue(ring, request->number);
-    switch (answer.kind) {
+    int32_t res;
+    uint32_t kind = issue(ring, request->number, &res);
+    switch (kind) {
     case WULGACH_NOT_READY:
         note_refusal(ring, request);
         return IS_REFUSED;
     case WULGACH_ENDED:
-        if (request->mapping == CANCEL && answer.res == -EALREADY)
+        if (request->mapping == CANCEL && res == -EALREADY)
             cancel_running(ring, request->entry.addr);
-        end_of(ring, request, request->mapping == REFUSED && answer.res == -EINVAL ? request->fault : answer.res, answer.res);
+        end_of(ring, request, request->mapping == REFUSED && res == -EINVAL ? request->fault : res, res);
         return HAS_ENDED;
     default:
-        demand(answer.kind == WULGACH_RUN, "the core doesn't issue a request");
+        demand(kind == WULGACH_RUN, "the core doesn't issue a request");
         start(ring, request);
         return IS_RUNNING;
     }

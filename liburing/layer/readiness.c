@@ -115,8 +115,8 @@ void show_readiness(struct ring *ring)
     if (ring->ready_fd < 0)
         return;
     watch_streams(ring, ring->called_fd);
-    bool has_overflowed = ring->completions.shown < ring->completions.count;
-    bool is_readable = count_ready(ring) > 0 || has_overflowed || can_go_on(ring) || can_pass_time(ring);
+    bool has_ready = count_ready(ring) > 0, has_overflowed = ring->completions.shown < ring->completions.count;
+    bool is_readable = has_ready || has_overflowed || can_go_on(ring) || can_pass_time(ring);
     if (is_readable == ring->is_readable)
         return;
     ring->is_readable = is_readable;

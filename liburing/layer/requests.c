@@ -5,6 +5,16 @@
 #include <stdlib.h>
 #include <string.h>
 
+struct request *make_request(struct requests *requests)
+{
+    struct request *request = requests->kept;
+    if (!request)
+        return calloc(1, sizeof *request);
+    requests->kept = request->next;
+    *request = (struct request){0};
+    return request;
+}
+
 bool reserve_requests(struct requests *requests, size_t more)
 {
     size_t need = requests->count + more, gone = (size_t)(requests->rows - requests->at);
@@ -55,6 +65,15 @@ void drop_requests(struct requests *requests, size_t count)
     requests->room -= count;
 }
 
+static void free_parts(const struct request *request)
+{
+    free(request->vectors);
+    free(request->path);
+    free(request->second_path);
+    free(request->how);
+    free(request->time);
+}
+
 void end_request(struct requests *requests, struct request *request)
 {
     size_t at = place_of(requests, request->number);
@@ -64,18 +83,16 @@ void end_request(struct requests *requests, struct request *request)
         requests->count--;
         memmove(requests->rows + at, requests->rows + at + 1, (requests->count - at) * sizeof *requests->rows);
     }
-    free_request(request);
+    free_parts(request);
+    request->next = requests->kept;
+    requests->kept = request;
 }
 
 void free_request(struct request *request)
 {
     if (!request)
         return;
-    free(request->vectors);
-    free(request->path);
-    free(request->second_path);
-    free(request->how);
-    free(request->time);
+    free_parts(request);
     free(request);
 }
 
@@ -83,6 +100,10 @@ void free_requests(struct requests *requests)
 {
     for (size_t i = 0; i < requests->count; i++)
         free_request(requests->rows[i]);
+    for (struct request *kept = requests->kept, *next; kept; kept = next) {
+        next = kept->next;
+        free(kept);
+    }
     free(requests->at);
     *requests = (struct requests){0};
 }

@@ -30,6 +30,7 @@ struct request {
     char *path, *second_path;
     struct open_how *how;
     struct __kernel_timespec *time;
+    struct request *next;           /* of those that are kept */
 };
 
 /* Requests by rising number. The first are taken out by moving `rows` on. */
@@ -38,7 +39,11 @@ struct requests {
     size_t count, room;             /* how many there are, and may be from `rows` on */
     struct request **at;            /* the memory, */
     size_t whole;                   /* and how many have room in it */
+    struct request *kept;           /* ended, and kept to be used again */
 };
+
+/* An empty request; NULL if memory was refused. */
+struct request *make_request(struct requests *requests);
 
 /* Makes sure that this many more can be added; false if memory was refused. */
 bool reserve_requests(struct requests *requests, size_t more);
@@ -52,7 +57,7 @@ struct request *request_of(const struct requests *requests, uint64_t number);
 /* Takes the first ones out, and frees nothing. */
 void drop_requests(struct requests *requests, size_t count);
 
-/* Takes a request out, and frees it. */
+/* Takes a request out, and keeps its memory. */
 void end_request(struct requests *requests, struct request *request);
 
 /* Frees a request, or nothing. */

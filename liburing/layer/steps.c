@@ -5,23 +5,26 @@
 
 #include <string.h>
 
-static struct wulgach_answer make(struct ring *ring, const struct wulgach_step *step)
+/* The fields of a step that its kind doesn't use hold anything. */
+static void make(struct ring *ring, const struct wulgach_step *step, struct wulgach_answer *answer)
 {
-    struct wulgach_answer answer;
-    demand(wulgach_core_step(&ring->core, step, &answer) == 0, "the core refuses a step");
-    trace_step(ring, step, &answer);
-    return answer;
+    demand(wulgach_core_step(&ring->core, step, answer) == 0, "the core refuses a step");
+    if (ring->trace || !ring->has_trace)
+        trace_step(ring, step, answer);
 }
 
-static struct wulgach_answer make_plain(struct ring *ring, uint32_t kind, uint32_t word)
+static void make_plain(struct ring *ring, uint32_t kind, uint32_t word, struct wulgach_answer *answer)
 {
-    struct wulgach_step step = {.kind = kind, .word = word};
-    return make(ring, &step);
+    struct wulgach_step step;
+    step.kind = kind;
+    step.word = word;
+    make(ring, &step, answer);
 }
 
 static uint32_t make_word(struct ring *ring, uint32_t kind, uint32_t expected)
 {
-    struct wulgach_answer answer = make_plain(ring, kind, 0);
+    struct wulgach_answer answer;
+    make_plain(ring, kind, 0, &answer);
     demand(answer.kind == expected, "the core answers a step in another way");
     return answer.word;
 }
@@ -51,14 +54,20 @@ static void write_token(uint64_t entry[16], const struct request *request)
 
 void fill_slot(struct ring *ring, uint32_t slot, const struct request *request)
 {
-    struct wulgach_step step = {.kind = WULGACH_FILL, .word = slot};
+    struct wulgach_step step;
+    struct wulgach_answer answer;
+    step.kind = WULGACH_FILL;
+    step.word = slot;
     write_token(step.entry, request);
-    demand(make(ring, &step).kind == WULGACH_FILLED, "the core doesn't fill a slot");
+    make(ring, &step, &answer);
+    demand(answer.kind == WULGACH_FILLED, "the core doesn't fill a slot");
 }
 
 void index_word(struct ring *ring, uint32_t word)
 {
-    demand(make_plain(ring, WULGACH_INDEX, word).kind == WULGACH_STAGED, "the core doesn't stage a word");
+    struct wulgach_answer answer;
+    make_plain(ring, WULGACH_INDEX, word, &answer);
+    demand(answer.kind == WULGACH_STAGED, "the core doesn't stage a word");
 }
 
 uint32_t store_tail(struct ring *ring)
@@ -76,11 +85,12 @@ uint32_t load_cq_tail(struct ring *ring)
     return make_word(ring, WULGACH_LOAD_CQ_TAIL, WULGACH_TAIL);
 }
 
-struct wulgach_answer reap_one(struct ring *ring)
+void reap_one(struct ring *ring, uint64_t user_data, int32_t res)
 {
-    struct wulgach_answer answer = make_plain(ring, WULGACH_REAP, 0);
+    struct wulgach_answer answer;
+    make_plain(ring, WULGACH_REAP, 0, &answer);
     demand(answer.kind == WULGACH_REAPED, "the core has no completion to reap");
-    return answer;
+    demand(answer.number == user_data && answer.res == res, "the core's completion isn't the one that was shown");
 }
 
 uint32_t store_cq_head(struct ring *ring)
@@ -90,7 +100,8 @@ uint32_t store_cq_head(struct ring *ring)
 
 bool begin_call(struct ring *ring, uint32_t count)
 {
-    struct wulgach_answer answer = make_plain(ring, WULGACH_BEGIN, count);
+    struct wulgach_answer answer;
+    make_plain(ring, WULGACH_BEGIN, count, &answer);
     if (answer.kind == WULGACH_AGAIN)
         return false;
     demand(answer.kind == WULGACH_CALL && answer.word == count, "the core doesn't open a call of what is staged");
@@ -99,44 +110,57 @@ bool begin_call(struct ring *ring, uint32_t count)
 
 bool take_position(struct ring *ring)
 {
-    struct wulgach_answer answer = make_plain(ring, WULGACH_TAKE, 0);
+    struct wulgach_answer answer;
+    make_plain(ring, WULGACH_TAKE, 0, &answer);
     demand(answer.kind == WULGACH_ENTRY || answer.kind == WULGACH_DROPPED, "the core doesn't take a position");
     return answer.kind == WULGACH_ENTRY;
 }
 
 struct wulgach_answer end_call(struct ring *ring)
 {
-    struct wulgach_answer answer = make_plain(ring, WULGACH_END, 0);
+    struct wulgach_answer answer;
+    make_plain(ring, WULGACH_END, 0, &answer);
     demand(answer.kind == WULGACH_TAKEN, "the core doesn't end a call");
     return answer;
 }
 
 void flush(struct ring *ring)
 {
-    demand(make_plain(ring, WULGACH_FLUSH, 0).kind == WULGACH_MOVED, "the core doesn't flush");
+    struct wulgach_answer answer;
+    make_plain(ring, WULGACH_FLUSH, 0, &answer);
+    demand(answer.kind == WULGACH_MOVED, "the core doesn't flush");
 }
 
 bool find_next(struct ring *ring, uint64_t *number)
 {
-    struct wulgach_answer answer = make_plain(ring, WULGACH_NEXT, 0);
+    struct wulgach_answer answer;
+    make_plain(ring, WULGACH_NEXT, 0, &answer);
     demand(answer.kind == WULGACH_NEXT_IS || answer.kind == WULGACH_NOTHING, "the core doesn't say what is next");
     *number = answer.number;
     return answer.kind == WULGACH_NEXT_IS;
 }
 
-struct wulgach_answer issue(struct ring *ring, uint64_t number)
+uint32_t issue(struct ring *ring, uint64_t number, int32_t *res)
 {
-    struct wulgach_step step = {.kind = WULGACH_ISSUE, .number = number};
-    return make(ring, &step);
+    struct wulgach_step step;
+    struct wulgach_answer answer;
+    step.kind = WULGACH_ISSUE;
+    step.number = number;
+    make(ring, &step, &answer);
+    *res = answer.res;
+    return answer.kind;
 }
 
 void finish(struct ring *ring, uint64_t number, int32_t told)
 {
     static const struct wulgach_bytes none = {{0}};
-    struct wulgach_step step = {.kind = WULGACH_FINISH, .number = number};
+    struct wulgach_step step;
     struct wulgach_answer answer;
+    step.kind = WULGACH_FINISH;
+    step.number = number;
     demand(wulgach_core_finish(&ring->core, number, told, &none, &answer) == 0, "the core refuses a finish");
-    trace_step(ring, &step, &answer);
+    if (ring->trace)
+        trace_step(ring, &step, &answer);
     demand(answer.kind == WULGACH_ENDED && answer.res == told, "the core doesn't end a running request");
 }
 

@@ -14,7 +14,8 @@ void index_word(struct ring *ring, uint32_t word);
 uint32_t store_tail(struct ring *ring);
 uint32_t load_head(struct ring *ring);
 uint32_t load_cq_tail(struct ring *ring);
-struct wulgach_answer reap_one(struct ring *ring);
+/* The completion that is reaped is this one. */
+void reap_one(struct ring *ring, uint64_t user_data, int32_t res);
 uint32_t store_cq_head(struct ring *ring);
 
 /* The dispatcher's side. */
@@ -23,7 +24,8 @@ bool take_position(struct ring *ring);                  /* false: the word names
 struct wulgach_answer end_call(struct ring *ring);
 void flush(struct ring *ring);
 bool find_next(struct ring *ring, uint64_t *number);    /* false: nothing can be issued */
-struct wulgach_answer issue(struct ring *ring, uint64_t number);
+/* The kind of the answer, and the result if the request ended. */
+uint32_t issue(struct ring *ring, uint64_t number, int32_t *res);
 void finish(struct ring *ring, uint64_t number, int32_t told);
 
 /* A question, and no step: whether a request can be issued now. */

@@ -11,9 +11,9 @@
 #include <stdlib.h>
 
 /* Reads the entry of a slot. NULL if memory was refused. */
-static struct request *read_entry(const struct ring *ring, uint32_t slot)
+static struct request *read_entry(struct ring *ring, uint32_t slot)
 {
-    struct request *request = calloc(1, sizeof *request);
+    struct request *request = make_request(&ring->requests);
     if (!request)
         return NULL;
     request->entry = ring->memory.entries[slot];

@@ -6,12 +6,14 @@
 #include "rings.h"
 #include "run.h"
 
+#include <errno.h>
 #include <signal.h>
 #include <stdio.h>
 #include <stdlib.h>
 #include <string.h>
 #include <sys/mman.h>
 #include <sys/wait.h>
+#include <time.h>
 #include <unistd.h>
 
 static char said[4096];
@@ -51,26 +53,45 @@ static void read_said(int file, int status)
     said[length > 0 ? length : 0] = '\0';
     if (WIFSIGNALED(status)) {
         size_t at = strlen(said);
-        snprintf(said + at, sizeof said - at, "%s\n", WTERMSIG(status) == SIGALRM ? "it hangs" : strsignal(WTERMSIG(status)));
+        snprintf(said + at, sizeof said - at, "%s\n", WTERMSIG(status) == SIGKILL ? "it hangs" : strsignal(WTERMSIG(status)));
     }
+}
+
+/* Waits for a child, and kills it if it takes longer: what loops in the layer has all signals blocked. */
+static int wait_for(pid_t child, unsigned seconds)
+{
+    const struct timespec limit = {seconds, 0};
+    sigset_t ended;
+    int status = -1;
+    sigemptyset(&ended);
+    sigaddset(&ended, SIGCHLD);
+    while (waitpid(child, &status, WNOHANG) == 0)
+        if (sigtimedwait(&ended, NULL, &limit) < 0 && errno == EAGAIN)
+            kill(child, SIGKILL);
+    return status;
 }
 
 static bool run_child(const struct program *program, bool is_kernel, unsigned seconds)
 {
-    int file = memfd_create("said", 0), status = -1;
+    int file = memfd_create("said", 0);
+    sigset_t ended, own;
+    sigemptyset(&ended);
+    sigaddset(&ended, SIGCHLD);
+    sigprocmask(SIG_BLOCK, &ended, &own);
     pid_t child = fork();
     if (child == 0) {
+        sigprocmask(SIG_SETMASK, &own, NULL);
         dup2(file, STDERR_FILENO);
-        alarm(seconds);
         set_environment(program);
         run_program(program, is_kernel, shared_outcome(is_kernel));
         _exit(0);
     }
-    bool is_ended = child > 0 && waitpid(child, &status, 0) == child;
-    if (!is_ended || status != 0)
+    int status = child > 0 ? wait_for(child, seconds) : -1;
+    if (status != 0)
         read_said(file, status);
+    sigprocmask(SIG_SETMASK, &own, NULL);
     close(file);
-    return is_ended && status == 0;
+    return status == 0;
 }
 
 /* Whether an entry has one completion or none in both, with the same result. */

@@ -16,7 +16,7 @@
 #include <stdlib.h>
 #include <string.h>
 
-enum { SECONDS = 20 };
+enum { SECONDS = 10 };
 
 static void print_again(const struct program *program, const char *name)
 {
