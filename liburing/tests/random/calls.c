@@ -51,6 +51,8 @@ void fire(struct model *model, const struct request *timeout)
         model->now = end_of(timeout);
     struct call *call = model->call;
     call->is_fired = true;
+    if (!model->is_late && call->min_complete == 0 && has_pipe_reads(model, true))
+        wrong(model, "timeout %u ends in a peek, though a pipe is waited for", timeout->index);
     if (!model->is_late && call->deadline >= 0 && is_before(model, call->deadline, end_of(timeout)))
         wrong(model, "timeout %u ends behind the call's limit", timeout->index);
 }

@@ -88,6 +88,9 @@ static void choose_sizes(struct action *action)
 static int64_t any_time(void)
 {
     static const int64_t units[] = {1, 1000, 1000000, 1000000000, 3600000000000};
+    /* Times that lie close to one another tell more of their order. */
+    if (one_in(2))
+        return (int64_t)(1 + below(9)) * 1000000000;
     return (int64_t)below(4000) * units[below(5)] + (one_in(2) ? 0 : (int64_t)below(1000000000));
 }
 

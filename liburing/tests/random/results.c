@@ -237,7 +237,7 @@ static bool has_result(struct model *model, const struct request *request, int f
     if (fault == FAULT_EIO || fault == FAULT_ENOSPC)
         return res == (fault == FAULT_EIO ? -EIO : -ENOSPC);
     int32_t whole = result_of(model, request, fault == FAULT_SHORT ? length / 2 : length, false);
-    bool is_pipe_read = request->action->object == PIPE_OUT && is_read(request->action) && whole > 0;
+    bool is_pipe_read = request->action->object == PIPE_OUT && is_read(request->action) && whole >= 0;
     /* What comes late may have found less in its pipe, or nothing. */
     bool is_less = res > 0 ? res < whole : request->action->is_impatient && res == -EAGAIN;
     return res == whole || (is_pipe_read && model->is_late && is_less);
