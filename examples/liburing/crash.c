@@ -67,13 +67,23 @@ static unsigned verify(const char *path, int told)
     return lost;
 }
 
+/* A number from 1 to `most`, or 0 if the word isn't one. */
+static unsigned number_of(const char *word, unsigned most)
+{
+    char *end;
+    unsigned long number = strtoul(word, &end, 10);
+    return *word >= '0' && *word <= '9' && *end == '\0' && number <= most ? (unsigned)number : 0;
+}
+
 int main(int argc, char **argv)
 {
-    unsigned commits = argc > 1 ? (unsigned)atoi(argv[1]) : 4;
     if (argc > 2)
-        records = (unsigned)atoi(argv[2]);
-    if (records < 1 || records > STORE_BATCH || commits > STORE_KEYS / records)
+        records = number_of(argv[2], STORE_BATCH);
+    unsigned most = records ? STORE_KEYS / records : 0, commits = argc > 1 ? number_of(argv[1], most) : 4;
+    if (argc > 3 || commits == 0) {
+        fprintf(stderr, "crash: 1 to %d records, and as many commits as the store has keys for\n", STORE_BATCH);
         return 2;
+    }
     char path[] = "/tmp/store.XXXXXX";
     int file = mkstemp(path), told[2], status;
     if (file < 0 || pipe(told) < 0)

@@ -39,6 +39,7 @@ class Orders:
 
 
 def every_order(options, program):
+    program.first_run("list:")
     orders, progress = Orders(), Progress(options)
     if options.left and os.path.exists(options.left):
         orders.read(options.left)

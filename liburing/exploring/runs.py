@@ -24,6 +24,20 @@ class Program:
     def run(self, policy, is_tracing=False, more=None):
         return Run(self, policy, is_tracing, more or {})
 
+    def first_run(self, policy):
+        """A run, which is to have set a ring up on the layer: else all that follows would say nothing."""
+        run = self.run(policy)
+        if not run.has_ring:
+            sys.stdout.buffer.write(run.output)
+            stop(f"{self.words[0]} set no ring up on the layer (status {run.status}): is it linked with it, or run by uring-run?")
+        return run
+
+
+def stop(message):
+    """Ends at words that can't be served."""
+    print(f"explore: {message}", file=sys.stderr)
+    sys.exit(2)
+
 
 class Run:
     """A run: its status, what it printed, its choices (number, way, of how many, in words) and its traces."""
@@ -40,7 +54,9 @@ class Run:
             else:
                 self.start(program, None)
             names = sorted(os.listdir(folder), key=lambda name: [int(it) for it in name.split(".")[1:]])
-            self.choices, self.is_duplicate = read_choices([f"{folder}/{name}" for name in names if name.startswith("choices.")])
+            records = [f"{folder}/{name}" for name in names if name.startswith("choices.")]
+            self.has_ring = bool(records)
+            self.choices, self.is_duplicate = read_choices([path for path in records if os.path.getsize(path)])
             self.traces = [open(f"{folder}/{name}", errors="replace").read() for name in names if name.startswith("trace.")]
 
     def start(self, program, place):
@@ -50,7 +66,7 @@ class Run:
         except subprocess.TimeoutExpired as late:
             self.status, self.output = "none: it took too long", late.stdout or b""
         except OSError as error:
-            sys.exit(f"explore: {program.words[0]}: {error.strerror}")
+            stop(f"{program.words[0]}: {error.strerror}")
 
     def fails(self):
         return self.status != 0
@@ -65,7 +81,7 @@ def read_choices(paths):
     if not paths:
         return [], False
     if len(paths) > 1:
-        sys.exit("explore: more than one process of the program chooses, and a list is one process's")
+        stop("more than one process of the program chooses, and a list is one process's")
     with open(paths[0]) as lines:
         found = [line.rstrip("\n").split(" ", 3) for line in lines if line.endswith("\n")]
     return [(int(words[0]), int(words[1]), int(words[2]), words[3]) for words in found if words != ["duplicate"]], ["duplicate"] in found
@@ -83,7 +99,7 @@ def list_of_ways(ways):
 
 def count_choices(program):
     """About how many choices a run makes: as many as the one in order, and 1 at least."""
-    return max(1, len(program.run("list:").choices))
+    return max(1, len(program.first_run("list:").choices))
 
 
 def priorities(seed, depth, choices):
@@ -98,7 +114,7 @@ class Policies:
 
     def __init__(self, program, name):
         self.name = name
-        self.choices = count_choices(program) if name != "seed" else None
+        self.choices = count_choices(program)
 
     def of(self, seed):
         if self.name == "pct":

@@ -1,10 +1,13 @@
 """Makes a failing run short, and prints a run as one reads it."""
 
 import os
+import re
 import shlex
 import sys
 
-from exploring.runs import Policies, list_of
+from exploring.runs import Policies, list_of, stop
+
+POLICY = re.compile(r"order|lazy|seed:\d+|pct:\d+:\d+(:\d+)?|list:(\d+(=\d+)?(,\d+(=\d+)?)*)?")
 
 
 def shortest(program, items):
@@ -26,8 +29,12 @@ def shortest(program, items):
 
 
 def shrink(options, program):
-    policy = options.seed if ":" in options.seed else Policies(program, options.policy).of(int(options.seed))
-    name = policy if ":" in options.seed else f"seed {options.seed}"
+    if options.seed.isdecimal():
+        policy, name = Policies(program, options.policy).of(int(options.seed)), f"seed {options.seed}"
+    elif POLICY.fullmatch(options.seed):
+        policy = name = options.seed
+    else:
+        stop(f"{options.seed}: a seed is wanted, or a policy as seed:7 or pct:7:2")
     run = program.run(policy)
     if not run.fails():
         print(f"{name} doesn't fail")
@@ -42,12 +49,15 @@ def shrink(options, program):
         if len(fewer) == len(items):
             break
         items = fewer
-    print(f"{name} made {before} choices; {len(items)} are enough:\n")
+    print(f"{name} made {before} choices; {len(items)} {'is' if len(items) == 1 else 'are'} enough:\n")
     return print_run(program, list_of(items))
 
 
 def show(options, program):
-    return print_run(program, options.list if options.list.startswith(("list:", "seed:", "pct:")) else "list:" + options.list)
+    policy = options.list if ":" in options.list or options.list in ("order", "lazy") else "list:" + options.list
+    if not POLICY.fullmatch(policy):
+        stop(f"{options.list}: a list of choices is wanted, as 3=1,7=2, or a policy")
+    return print_run(program, policy)
 
 
 def print_run(program, policy):

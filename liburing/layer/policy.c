@@ -4,8 +4,8 @@
  *                     choice's number, or AT=NUMBER for choice AT; items are separated by commas. A choice that isn't
  *                     listed is 0, which is what "order" would do; so is one that is beyond what there is to choose from.
  *   WULGACH_CHOOSE    events (the default): issuing and finishing a request are two choices; ends: they are one
- *   WULGACH_CHOICES   PREFIX: a process that chooses writes to PREFIX.PID a line for each choice: its number, which way,
- *                     of how many, and in words
+ *   WULGACH_CHOICES   PREFIX: a process that sets a ring up makes a file PREFIX.PID, and writes a line there for each
+ *                     choice: its number, which way, of how many, and in words
  *   WULGACH_DUPLICATE if it is set, the process ends where the core refuses the last listed choice, since a list without
  *                     it gives the same run. The last line of its choices is then the word duplicate
  */
@@ -175,12 +175,25 @@ uint32_t choose(uint64_t at, uint32_t count)
     return chosen < count ? chosen : 0;
 }
 
-static void open_record(void)
+/* The record of this process, opened to append: it may be there, since it has set a ring up. */
+static FILE *record_of_process(void)
 {
     char path[4096];
     snprintf(path, sizeof path, "%s.%d", getenv("WULGACH_CHOICES"), (int)getpid());
-    chosen_by.record = fopen(path, "we");
-    demand(chosen_by.record != NULL, "the file of WULGACH_CHOICES can't be written");
+    FILE *file = fopen(path, "ae");
+    demand(file != NULL, "the file of WULGACH_CHOICES can't be written");
+    return file;
+}
+
+void note_ring(void)
+{
+    if (chosen_by.is_recording)
+        fclose(record_of_process());
+}
+
+static void open_record(void)
+{
+    chosen_by.record = record_of_process();
     setlinebuf(chosen_by.record);
 }
 

@@ -33,6 +33,9 @@ uint32_t choose(uint64_t at, uint32_t count);
 /* The core doesn't allow what was chosen: it is to be chosen again. A list then says 0. */
 void refuse_choice(uint64_t at);
 
+/* A ring was set up: the record of choices is there from now on, if there is to be one. */
+void note_ring(void);
+
 /* Records a choice that was made: which of how many ways, and in words. */
 void record_choice(uint64_t at, uint32_t count, uint32_t chosen, const char *what);
 

@@ -74,6 +74,7 @@ static int fill_ring(struct ring *ring, struct wulgach_setup *setup, struct io_u
     int result = wulgach_core_new(&ring->core, setup);
     if (result < 0)
         return result;
+    note_ring();
     setup->sq = round_up(setup->sq);
     setup->cq = setup->has_cq ? round_up(setup->cq) : 2 * setup->sq;
     int fd = is_polled ? make_polled(ring) : make_file();
