@@ -157,12 +157,19 @@ pub extern "C" fn wulgach_volume_begin_range_sync(
     if !place.is_full {
         return -errno::EBADF;
     }
-    tell(place.begin_sync(alloc, SyncRange::Part { off, len }), number)
+    tell(
+        place.begin_sync(alloc, SyncRange::Part { off, len }),
+        number,
+    )
 }
 
 /// Ends a running write. -2 (ENOENT) exactly if no write of this number runs; then nothing changes.
 #[unsafe(no_mangle)]
-pub extern "C" fn wulgach_volume_end_write(alloc: Global, place: &mut VolumePlace, number: u64) -> i32
+pub extern "C" fn wulgach_volume_end_write(
+    alloc: Global,
+    place: &mut VolumePlace,
+    number: u64,
+) -> i32
     ensures empty { (result ≡ neg_ℤ EBADF) ↔ (volume_in place.old ≡ None) }
     ensures results { (result ≡ pos 0 → ⊥) → (result ≡ neg_ℤ EBADF → ⊥) → result ≡ neg_ℤ ENOENT }
     ensures kept { (result ≡ pos 0 → ⊥) → volume_in place.new ≡ volume_in place.old }
@@ -184,7 +191,11 @@ pub extern "C" fn wulgach_volume_end_write(alloc: Global, place: &mut VolumePlac
 
 /// Ends a running sync with success. -2 (ENOENT) exactly if no sync of this number runs; then nothing changes.
 #[unsafe(no_mangle)]
-pub extern "C" fn wulgach_volume_end_sync(alloc: Global, place: &mut VolumePlace, number: u64) -> i32
+pub extern "C" fn wulgach_volume_end_sync(
+    alloc: Global,
+    place: &mut VolumePlace,
+    number: u64,
+) -> i32
     ensures empty { (result ≡ neg_ℤ EBADF) ↔ (volume_in place.old ≡ None) }
     ensures results { (result ≡ pos 0 → ⊥) → (result ≡ neg_ℤ EBADF → ⊥) → result ≡ neg_ℤ ENOENT }
     ensures kept { (result ≡ pos 0 → ⊥) → volume_in place.new ≡ volume_in place.old }
@@ -206,7 +217,11 @@ pub extern "C" fn wulgach_volume_end_sync(alloc: Global, place: &mut VolumePlace
 
 /// Ends a running sync with an error. -2 (ENOENT) exactly if no sync of this number runs; then nothing changes.
 #[unsafe(no_mangle)]
-pub extern "C" fn wulgach_volume_fail_sync(alloc: Global, place: &mut VolumePlace, number: u64) -> i32
+pub extern "C" fn wulgach_volume_fail_sync(
+    alloc: Global,
+    place: &mut VolumePlace,
+    number: u64,
+) -> i32
     ensures empty { (result ≡ neg_ℤ EBADF) ↔ (volume_in place.old ≡ None) }
     ensures results { (result ≡ pos 0 → ⊥) → (result ≡ neg_ℤ EBADF → ⊥) → result ≡ neg_ℤ ENOENT }
     ensures kept { (result ≡ pos 0 → ⊥) → volume_in place.new ≡ volume_in place.old }

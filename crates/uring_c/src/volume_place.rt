@@ -1,8 +1,8 @@
 //! A C program's handle of a volume.
 ghost use Rattle.std.specs.Prelude.{◌≡◌, None, Some, is_some};
 
-use crate::volume_slot::VolumeSlot;
 use crate::parts::Parts;
+use crate::volume_slot::VolumeSlot;
 use std::alloc::Global;
 use std::mem;
 use uring_volume::Volume;

@@ -183,4 +183,3 @@ on-ok (Err u) P e h = cc
 pub ok-not_err : {E : Type 0} (x : Result (Unit {0}) E) → IsOk x → is_err x ≡ true → ⊥
 ok-not_err (Ok u) ok e = cc
 ok-not_err (Err u) ok e = absurd (false≢true ok)
-

@@ -141,7 +141,8 @@ impl Outstanding {
         let others = self.grouped.take_out(n, key, group, is_success);
         self.waiting.forget(n);
         self.waiting.relist_other(&self.grouped, others.head, n);
-        self.waiting.relist_range(&self.grouped, n, others.doomed_end);
+        self.waiting
+            .relist_range(&self.grouped, n, others.doomed_end);
         self.waiting.drop_before(self.grouped.window.first());
     }
 }

@@ -65,11 +65,7 @@ fn push_stop<M: TextMemory>(
 }
 
 /// Appends what may stand at a place.
-fn push_wanted<M: TextMemory>(
-    memory: &M,
-    text: &mut String,
-    place: Place,
-) -> Result<(), AllocError>
+fn push_wanted<M: TextMemory>(memory: &M, text: &mut String, place: Place) -> Result<(), AllocError>
     ensures bytes { OnOk result
         (string_bytes text.new
         ≡ string_bytes text.old ++ (codes ", wanted: " ++ place_text place)) }

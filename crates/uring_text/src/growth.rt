@@ -29,11 +29,7 @@ impl TextMemory for Global {
 }
 
 /// Appends a text, by this memory. If it grants whatever is asked for, there is no error.
-pub fn push_text<M: TextMemory>(
-    memory: &M,
-    text: &mut String,
-    more: &str,
-) -> Result<(), AllocError>
+pub fn push_text<M: TextMemory>(memory: &M, text: &mut String, more: &str) -> Result<(), AllocError>
     ensures bytes { OnOk result (string_bytes text.new ≡ string_bytes text.old ++ more.now) }
     ensures granted { ((n : ℕ) → M.grants memory.now n) → IsOk result }
 {
@@ -42,11 +38,7 @@ pub fn push_text<M: TextMemory>(
 }
 
 /// Appends bytes to a list, as `push_text` does to a text.
-pub fn push_bytes<M: Memory>(
-    memory: &M,
-    list: &mut Vec<u8>,
-    bytes: &[u8],
-) -> Result<(), AllocError>
+pub fn push_bytes<M: Memory>(memory: &M, list: &mut Vec<u8>, bytes: &[u8]) -> Result<(), AllocError>
     ensures items { OnOk result (list.new.items ≡ list.old.items ++ bytes.now) }
     ensures granted { ((n : ℕ) → M.grants memory.now n) → IsOk result }
 {

@@ -28,6 +28,4 @@ pub use reach::{Reach, entry_reach, kinds_reach};
 pub use streams::{Calls, read_once, write_all};
 pub use tokens::{is_name, split_tokens, split_tokens_in};
 pub use trace_fault::TraceFault;
-pub use visible::{
-    push_visible, push_visible_in, push_visible_line, push_visible_line_in,
-};
+pub use visible::{push_visible, push_visible_in, push_visible_line, push_visible_line_in};

@@ -38,7 +38,9 @@ impl Gate for Noting<'_> {
 /// Whether the gate was passed so often, and last shown this number, and file 0 of this length.
 fn was_shown(shown: &Shown, times: u64, number: u64, len: u64) -> bool {
     let passed = shown.times.load(Ordering::SeqCst) == times;
-    passed && shown.number.load(Ordering::SeqCst) == number && shown.len.load(Ordering::SeqCst) == len
+    passed
+        && shown.number.load(Ordering::SeqCst) == number
+        && shown.len.load(Ordering::SeqCst) == len
 }
 
 /// Whether two writes of two bytes each, one behind the other, are carried out, the gate being shown the file as the first left it.

@@ -28,5 +28,5 @@ invariant_of-self-2 c =
     let d = c.relist_range.ensures in
     record {
       listed = end-listed _ _ _ _ _ _ _ c.args.n c.take_out-others.result.head c.take_out-others.result.doomed_end c.first.result c.args.self.now.listed gone c.take_out-others.ensures.counts.end c.take_out-others.ensures.others
-    (keeps-both _ _ _ _ _ (keeps-both _ _ _ _ _ a b.keeps) d.keeps) (d.keeps.told c.args.n (b.keeps.told c.args.n own)) (d.keeps.told c.take_out-others.result.head (b.here own)) d.here c.drop_before.ensures.heads c.drop_before.ensures.doomed c.first.ensures.within c.first.ensures.before;
+          (keeps-both _ _ _ _ _ (keeps-both _ _ _ _ _ a b.keeps) d.keeps) (d.keeps.told c.args.n (b.keeps.told c.args.n own)) (d.keeps.told c.take_out-others.result.head (b.here own)) d.here c.drop_before.ensures.heads c.drop_before.ensures.doomed c.first.ensures.within c.first.ensures.before;
     }
