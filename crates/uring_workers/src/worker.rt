@@ -179,12 +179,7 @@ impl<G: Gate> Worker<G> {
 }
 
 /// Passes the gate with the job's number, and then carries the job out on these files.
-fn carry_out<M: Memory, G: Gate>(
-    memory: &M,
-    gate: &G,
-    files: &mut Files,
-    job: &Job,
-) -> Outcome
+fn carry_out<M: Memory, G: Gate>(memory: &M, gate: &G, files: &mut Files, job: &Job) -> Outcome
     requires { IsForFiles job.now.op }
     // The gate let it pass with the files as they were before.
     ensures passed { G.passes gate.now job.now.number files.old ≡ true }
