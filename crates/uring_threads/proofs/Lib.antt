@@ -19,6 +19,7 @@ mod WorkerFiles
 pub mod Turning
 mod Issuing
 mod Delivering
+mod Granting
 mod FullLanes
 mod Closing
 pub mod SameEnds

@@ -1,5 +1,5 @@
 //! Submission calls: the items of one call published, and the call that takes them.
-ghost use Rattle.std.specs.Prelude.{◌≡◌, ◌+◌, ◌*◌, ◌≤◌, [], length, replicate, false, true};
+ghost use Rattle.std.specs.Prelude.{◌≡◌, ℕ, ◌+◌, ◌*◌, ◌≤◌, [], length, replicate, false, true};
 ghost use Rattle.uring_laws.specs.Standing.{Stands, in_call};
 ghost use Rattle.uring_core.specs.StepAnswers.{is_spent};
 ghost use Rattle.uring_core.specs.World.{World};
@@ -14,6 +14,7 @@ ghost use Rattle.uring_threads.specs.declared.calls.Begun.TheVariants as begun;
 use crate::kept::Kept;
 use crate::put_items::put_items;
 use uring_core::{Answer, Step};
+use uring_memory::Memory;
 use uring_ports::Item;
 
 /// How a call was begun.
@@ -46,7 +47,7 @@ fn take_all(kept: &mut Kept, count: u32)
 }
 
 /// Begins a call of all positions that wait, takes them and closes it, and the application loads the head; if it doesn't open, nothing follows. Conditions: the ring isn't closed, so many positions wait, and the trace has room for three events and one for each position.
-pub fn begin_call(kept: &mut Kept, count: u32) -> Begun
+pub fn begin_call<M: Memory>(memory: &M, kept: &mut Kept, count: u32) -> Begun
     requires room { length kept.old.trace + count + 3 ≤ kept.old.room }
     requires not_closed { (now kept.old).is_closed ≡ false }
     requires stands { Stands (now kept.old).submission [] count }
@@ -57,8 +58,9 @@ pub fn begin_call(kept: &mut Kept, count: u32) -> Begun
     // It is given up only if the numbers of requests are spent.
     ensures spent { result ≡ begun.Spent → is_spent (now kept.old) count ≡ true }
     ensures length { length kept.new.trace ≤ length kept.old.trace + count + 3 }
+    ensures granted { ((n : ℕ) → M.grants memory.now n) → result ≡ begun.Again → ⊥ }
 {
-    match kept.step_reserved(Step::Begin { count }) {
+    match kept.step_reserved_in(memory, Step::Begin { count }) {
         Answer::Call(_) => {}
         Answer::Again => return Begun::Again,
         Answer::Spent => return Begun::Spent,
@@ -71,7 +73,7 @@ pub fn begin_call(kept: &mut Kept, count: u32) -> Begun
 }
 
 /// Puts the items of a call into the ring, publishes them and begins the call. Conditions: the ring isn't closed, nothing is staged and no position waits, there are at most as many items as the ring has entries, and the trace has room for four events and three for each item.
-pub fn take_call(kept: &mut Kept, items: &[Item]) -> Begun
+pub fn take_call<M: Memory>(memory: &M, kept: &mut Kept, items: &[Item]) -> Begun
     requires room { length kept.old.trace + 3 * length items.now + 4 ≤ kept.old.room }
     requires few { length items.now ≤ kept.old.setup.sq }
     requires not_closed { (now kept.old).is_closed ≡ false }
@@ -86,9 +88,10 @@ pub fn take_call(kept: &mut Kept, items: &[Item]) -> Begun
     // The call is given up only if the numbers of requests are spent.
     ensures spent { result ≡ begun.Spent → is_spent (now kept.old) (length items.now) ≡ true }
     ensures length { length kept.new.trace ≤ length kept.old.trace + 3 * length items.now + 4 }
+    ensures granted { ((n : ℕ) → M.grants memory.now n) → result ≡ begun.Again → ⊥ }
 {
     kept.is_lawful();
     put_items(kept, items);
     kept.step_reserved(Step::StoreTail);
-    begin_call(kept, items.len() as u32)
+    begin_call(memory, kept, items.len() as u32)
 }

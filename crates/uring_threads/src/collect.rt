@@ -1,5 +1,5 @@
 //! Results that came back from workers.
-ghost use Rattle.std.specs.Prelude.{◌≡◌, ℕ, ◌+◌, ◌<◌, ◌≤◌, ◌↔◌, [], ◌∷◌, ◌++◌, length, IsTrue, IfOk, OnOk, OnErr};
+ghost use Rattle.std.specs.Prelude.{◌≡◌, ℕ, ◌+◌, ◌<◌, ◌≤◌, ◌↔◌, [], ◌∷◌, ◌++◌, length, IsTrue, IsOk, IfOk, OnOk, OnErr};
 ghost use Rattle.uring_threads.specs.Delivered.{OnlyPosts};
 ghost use Rattle.uring_threads.specs.Dispatched.{HaveCarried, AreTakenIn};
 ghost use Rattle.uring_workers.specs.WorkLanes.{AreSameLanes, OnlyReceives, results_received, results_seen};
@@ -13,10 +13,15 @@ ghost use Rattle.uring_workers.specs.declared.job.JobResult.{JobResult};
 
 use crate::kept::Kept;
 use std::alloc::AllocError;
+use uring_memory::Memory;
 use uring_workers::{LANE_LENGTH, WorkLanes, place_of};
 
 /// Takes in results of all workers, worker 0's first, at most 64 of each, and returns how many. Conditions: there are 1 to 8 workers. `AllocError`: room for the next event was refused; what was taken in until then is recorded, and nothing more was taken.
-pub fn collect_all(kept: &mut Kept, lanes: &mut [WorkLanes]) -> Result<u64, AllocError>
+pub fn collect_all<M: Memory>(
+    memory: &M,
+    kept: &mut Kept,
+    lanes: &mut [WorkLanes],
+) -> Result<u64, AllocError>
     requires some { 0 < length lanes.old }
     requires few { length lanes.old ≤ 8 }
     requires carried { HaveCarried kept.old lanes.old }
@@ -31,16 +36,22 @@ pub fn collect_all(kept: &mut Kept, lanes: &mut [WorkLanes]) -> Result<u64, Allo
     ensures row { RecordsFinishes kept.old kept.new }
     ensures idle { IfOk result (λ count. count ≡ 0 → kept.new.trace ≡ kept.old.trace) }
     ensures err { OnErr result ((count : ℕ) × Appends kept.old kept.new (finishes_counted count)) }
+    ensures granted { ((n : ℕ) → M.grants memory.now n) → IsOk result }
 {
     let mut count = 0;
     for place in 0..lanes.len() {
-        count += collect_at(kept, lanes, place as u32)?;
+        count += collect_at(memory, kept, lanes, place as u32)?;
     }
     Ok(count)
 }
 
 /// Takes in results of the worker at this place, at most 64, and returns how many. Conditions: there is such a worker, and there are at most 8.
-fn collect_at(kept: &mut Kept, lanes: &mut [WorkLanes], place: u32) -> Result<u64, AllocError>
+fn collect_at<M: Memory>(
+    memory: &M,
+    kept: &mut Kept,
+    lanes: &mut [WorkLanes],
+    place: u32,
+) -> Result<u64, AllocError>
     requires place { place < length lanes.old }
     requires few { length lanes.old ≤ 8 }
     requires carried { HaveCarried kept.old lanes.old }
@@ -61,13 +72,15 @@ fn collect_at(kept: &mut Kept, lanes: &mut [WorkLanes], place: u32) -> Result<u6
     ensures seen { IfOk result (λ count. count < 64 → SeesNoMore kept.new lanes.new place) }
     ensures idle { IfOk result (λ count. count ≡ 0 → kept.new.trace ≡ kept.old.trace) }
     ensures err { OnErr result ((count : ℕ) × Appends kept.old kept.new (finishes_counted count)) }
+    ensures granted { ((n : ℕ) → M.grants memory.now n) → IsOk result }
 {
     let workers = lanes.len() as u32;
-    collect(kept, &mut lanes[place as usize], place, workers)
+    collect(memory, kept, &mut lanes[place as usize], place, workers)
 }
 
 /// Takes in the results of a worker that are seen, at most 64 of them, and returns how many. `AllocError`: room for the next event was refused; what was taken in until then is recorded, and nothing more was taken.
-pub fn collect(
+pub fn collect<M: Memory>(
+    memory: &M,
     kept: &mut Kept,
     lanes: &mut WorkLanes,
     place: u32,
@@ -81,9 +94,10 @@ pub fn collect(
     ensures err { OnErr result
         ((count : ℕ) × (count ≤ most_results) × Collects kept.old kept.new workers place count) }
     ensures lanes { OnlyReceives lanes.old lanes.new }
+    ensures granted { ((n : ℕ) → M.grants memory.now n) → IsOk result }
 {
     for count in 0..LANE_LENGTH {
-        if !collect_next(kept, lanes, place, workers)? {
+        if !collect_next(memory, kept, lanes, place, workers)? {
             return Ok(count as u64);
         }
     }
@@ -91,7 +105,8 @@ pub fn collect(
 }
 
 /// Takes in the next result of a worker, if one is seen, with room for it asked for first.
-fn collect_next(
+fn collect_next<M: Memory>(
+    memory: &M,
     kept: &mut Kept,
     lanes: &mut WorkLanes,
     place: u32,
@@ -104,11 +119,12 @@ fn collect_next(
         (λ more. CollectsNext kept.old kept.new workers place (results_seen lanes.new) more) }
     ensures err { OnErr result (Collects kept.old kept.new workers place 0) }
     ensures lanes { OnlyReceives lanes.old lanes.new }
+    ensures granted { ((n : ℕ) → M.grants memory.now n) → IsOk result }
 {
     if lanes.results.is_empty() {
         return Ok(false);
     }
-    kept.reserve(1)?;
+    kept.reserve(memory, 1)?;
     Ok(collect_one(kept, lanes, place, workers))
 }
 

@@ -1,5 +1,5 @@
 //! Completions that the dispatcher delivers: the application reaps them as they are handed to its port.
-ghost use Rattle.std.specs.Prelude.{◌≡◌, ◌+◌, ◌≤◌, length, replicate, IfOk, OnErr};
+ghost use Rattle.std.specs.Prelude.{◌≡◌, ℕ, ◌+◌, ◌≤◌, length, replicate, IsOk, IfOk, OnErr};
 ghost use Rattle.uring_core.specs.declared.step.Step.TheVariants as step;
 ghost use Rattle.uring_ports.specs.Seen.{HasLooked};
 ghost use Rattle.uring_threads.specs.Delivered.{KeepsAllBut, on_completions, with_reaped_all};
@@ -12,6 +12,7 @@ ghost use Rattle.uring_threads.specs.Tallies.{Appends, reaps_counted};
 use crate::kept::Kept;
 use std::alloc::AllocError;
 use uring_core::{Answer, Step};
+use uring_memory::Memory;
 use uring_ports::KernelPort;
 
 /// Reaps so many completions and hands each to the port. Conditions: the tail that the application last loaded shows so many, the port has room for them, and the trace for an event each.
@@ -48,7 +49,11 @@ fn reap_all<P: KernelPort>(kept: &mut Kept, port: &mut P, count: u64)
 /// Delivers completions that are posted and not reaped, as many as the port shows room for and the ring holds: flushes, loads the tail, reaps each, and stores the head. Returns how many. Without any it does nothing.
 ///
 /// `AllocError`: the trace had no room, and nothing was done.
-pub fn deliver<P: KernelPort>(kept: &mut Kept, port: &mut P) -> Result<u64, AllocError>
+pub fn deliver<M: Memory, P: KernelPort>(
+    memory: &M,
+    kept: &mut Kept,
+    port: &mut P,
+) -> Result<u64, AllocError>
     requires sizes { (P.sizes port.old).cq ≡ kept.old.setup.cq }
     requires delivered { IsDelivered (now kept.old).completions (P.delivered port.old) }
     ensures delivered { IsDelivered (now kept.new).completions (P.delivered port.new) }
@@ -78,6 +83,7 @@ pub fn deliver<P: KernelPort>(kept: &mut Kept, port: &mut P) -> Result<u64, Allo
     ensures pulled { P.pulled port.new ≡ P.pulled port.old }
     ensures calls { P.saw_calls port.new ≡ P.saw_calls port.old }
     ensures dropped { P.dropped port.new ≡ P.dropped port.old }
+    ensures granted { ((n : ℕ) → M.grants memory.now n) → IsOk result }
 {
     let size = u64::from(kept.setup().cq());
     let counts = kept.counts();
@@ -86,7 +92,7 @@ pub fn deliver<P: KernelPort>(kept: &mut Kept, port: &mut P) -> Result<u64, Allo
     if count == 0 {
         return Ok(0);
     }
-    kept.reserve(count as usize + 3)?;
+    kept.reserve(memory, count as usize + 3)?;
     kept.step_reserved(Step::Flush);
     kept.step_reserved(Step::LoadCqTail);
     reap_all(kept, port, count);

@@ -1,5 +1,5 @@
 //! Calls that the dispatcher takes in from its port, and the close mark.
-ghost use Rattle.std.specs.Prelude.{◌≡◌, ◌+◌, ◌*◌, ◌≤◌, List, length, IfOk, OnErr, vec_capacity};
+ghost use Rattle.std.specs.Prelude.{◌≡◌, ℕ, ◌+◌, ◌*◌, ◌≤◌, false, List, length, IsOk, IfOk, OnErr, vec_capacity};
 ghost use Rattle.uring_ports.specs.Ports.{Put, Pulls};
 ghost use Rattle.uring_core.specs.declared.step.Step.{Step};
 ghost use Rattle.uring_threads.specs.EventRows.{Records, RecordsIntake, IsAgain, IsPulled, IsTaken};
@@ -14,6 +14,7 @@ use crate::calls::{Begun, begin_call, take_call};
 use crate::kept::Kept;
 use std::alloc::AllocError;
 use uring_core::Step;
+use uring_memory::Memory;
 use uring_ports::{Item, KernelPort, Pulled};
 
 /// How the dispatcher stands with what it pulls.
@@ -53,7 +54,7 @@ impl Intake {
 }
 
 /// Begins the call that waits once more, if one does. `AllocError`: the trace had no room, and nothing was done.
-fn retry(kept: &mut Kept, intake: &mut Intake) -> Result<(), AllocError>
+fn retry<M: Memory>(memory: &M, kept: &mut Kept, intake: &mut Intake) -> Result<(), AllocError>
     requires tied { (put : Put) × Tied kept.old.setup.sq (now kept.old) put intake.old }
     ensures tied { (put : Put) → Tied kept.old.setup.sq (now kept.old) put intake.old
         → Tied kept.old.setup.sq (now kept.new) put intake.new }
@@ -62,16 +63,24 @@ fn retry(kept: &mut Kept, intake: &mut Intake) -> Result<(), AllocError>
     ensures row { (steps : List Step) × IsAgain intake.old steps
         × Records kept.old kept.new steps }
     ensures once { ClosesOnce kept.old intake.old → ClosesOnce kept.new intake.new }
+    ensures granted { ((n : ℕ) → M.grants memory.now n) → IsOk result }
+    ensures begun { ((n : ℕ) → M.grants memory.now n) → turns.awaits_memory intake.new ≡ false }
 {
     if let Intake::Waiting(count) = *intake {
-        kept.reserve(count as usize + 3)?;
-        *intake = Intake::after(count, begin_call(kept, count));
+        kept.reserve(memory, count as usize + 3)?;
+        *intake = Intake::after(count, begin_call(memory, kept, count));
     }
     Ok(())
 }
 
 /// Takes what was pulled: publishes and begins the call, or closes the ring. Returns how many items it took. Conditions: no call waits, these are the items of the call that was pulled, and the trace has room for a call of a whole ring.
-fn take_pulled(kept: &mut Kept, items: &[Item], intake: &mut Intake, pulled: Pulled) -> u64
+fn take_pulled<M: Memory>(
+    memory: &M,
+    kept: &mut Kept,
+    items: &[Item],
+    intake: &mut Intake,
+    pulled: Pulled,
+) -> u64
     requires room { length kept.old.trace + 3 * kept.old.setup.sq + 4 ≤ kept.old.room }
     requires ready { intake.old ≡ Ready }
     requires tied { (before : Put) × (after : Put)
@@ -86,11 +95,12 @@ fn take_pulled(kept: &mut Kept, items: &[Item], intake: &mut Intake, pulled: Pul
         × Records kept.old kept.new steps }
     ensures once { ClosesOnce kept.old intake.old → ClosesOnce kept.new intake.new }
     ensures none { result ≡ 0 → intake.new ≡ Ready → pulled ≡ Pulled.Nothing }
+    ensures begun { ((n : ℕ) → M.grants memory.now n) → turns.awaits_memory intake.new ≡ false }
 {
     kept.is_lawful();
     match pulled {
         Pulled::Call => {
-            let begun = take_call(kept, items);
+            let begun = take_call(memory, kept, items);
             *intake = Intake::after(items.len() as u32, begun);
             items.len() as u64
         }
@@ -104,7 +114,8 @@ fn take_pulled(kept: &mut Kept, items: &[Item], intake: &mut Intake, pulled: Pul
 }
 
 /// Pulls one call, or the close mark, or nothing: publishes and begins the call, or closes the ring. Returns how many items it pulled. `AllocError`: the trace had no room, and nothing was done.
-fn pull_call<P: KernelPort>(
+fn pull_call<M: Memory, P: KernelPort>(
+    memory: &M,
     kept: &mut Kept,
     port: &mut P,
     items: &mut Vec<Item>,
@@ -130,17 +141,20 @@ fn pull_call<P: KernelPort>(
     ensures delivered { P.delivered port.new ≡ P.delivered port.old }
     ensures room_looks { P.room_looks port.new ≡ P.room_looks port.old }
     ensures dropped { P.dropped port.new ≡ P.dropped port.old }
+    ensures granted { ((n : ℕ) → M.grants memory.now n) → IsOk result }
+    ensures begun { ((n : ℕ) → M.grants memory.now n) → turns.awaits_memory intake.new ≡ false }
 {
     let size = kept.setup().sq();
-    kept.reserve(3 * size as usize + 4)?;
+    kept.reserve(memory, 3 * size as usize + 4)?;
     let pulled = port.pull(items);
-    Ok(take_pulled(kept, items, intake, pulled))
+    Ok(take_pulled(memory, kept, items, intake, pulled))
 }
 
 /// Begins the call that waits once more, if one does, and pulls one call or the close mark, if none waits then. Returns how many items it pulled; they replace what `items` held.
 ///
 /// `AllocError`: the trace had no room, and nothing was done from there on.
-pub fn take_in<P: KernelPort>(
+pub fn take_in<M: Memory, P: KernelPort>(
+    memory: &M,
     kept: &mut Kept,
     port: &mut P,
     items: &mut Vec<Item>,
@@ -168,10 +182,14 @@ pub fn take_in<P: KernelPort>(
     ensures delivered { P.delivered port.new ≡ P.delivered port.old }
     ensures room_looks { P.room_looks port.new ≡ P.room_looks port.old }
     ensures dropped { P.dropped port.new ≡ P.dropped port.old }
+
+    // If the memory grants whatever is asked for, there is no error, and no call waits.
+    ensures granted { ((n : ℕ) → M.grants memory.now n) → IsOk result }
+    ensures begun { ((n : ℕ) → M.grants memory.now n) → turns.awaits_memory intake.new ≡ false }
 {
-    retry(kept, intake)?;
+    retry(memory, kept, intake)?;
     match *intake {
-        Intake::Ready => pull_call(kept, port, items, intake),
+        Intake::Ready => pull_call(memory, kept, port, items, intake),
         _ => Ok(0),
     }
 }

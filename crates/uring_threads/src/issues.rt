@@ -1,5 +1,5 @@
 //! Requests that the dispatcher issues.
-ghost use Rattle.std.specs.Prelude.{◌≡◌, ◌≤◌, ◌<◌, ℕ, ◌⊎◌, [], ◌∷◌, length, None, Some, IfSome, IfOk, OnErr};
+ghost use Rattle.std.specs.Prelude.{◌≡◌, ◌≤◌, ◌<◌, ℕ, ◌⊎◌, [], ◌∷◌, length, None, Some, IfSome, IsOk, IfOk, OnErr};
 ghost use Rattle.uring_entry.specs.Requests.{next_of};
 ghost use Rattle.uring_files.specs.Operations.{IsForFiles};
 ghost use Rattle.uring_core.specs.declared.step.Step.TheVariants as step;
@@ -15,6 +15,7 @@ use crate::kept::Kept;
 use std::alloc::AllocError;
 use uring_core::{Answer, Step};
 use uring_entry::Op;
+use uring_memory::Memory;
 use uring_workers::{Job, WorkLanes, all_show_room, place_of, send};
 
 /// Issues the request of this number: returns its operation if it runs, and nothing if it ended at once. Conditions: it is the next that can be issued, and the trace has room for an event.
@@ -61,7 +62,11 @@ fn issue_one(kept: &mut Kept, lanes: &mut [WorkLanes], number: u64)
 /// Issues requests, each the next that can be issued, until there is none or some worker's lane shows no room. Returns how many. Conditions: there are 1 to 8 workers.
 ///
 /// `AllocError`: the trace had no room for the next; those before it are issued and recorded.
-pub fn issue_all(kept: &mut Kept, lanes: &mut [WorkLanes]) -> Result<u64, AllocError>
+pub fn issue_all<M: Memory>(
+    memory: &M,
+    kept: &mut Kept,
+    lanes: &mut [WorkLanes],
+) -> Result<u64, AllocError>
     requires some { 0 < length lanes.old }
     requires few { length lanes.old ≤ 8 }
     requires carried { HaveCarried kept.old lanes.old }
@@ -74,12 +79,13 @@ pub fn issue_all(kept: &mut Kept, lanes: &mut [WorkLanes]) -> Result<u64, AllocE
         (λ count. (next_of (now kept.new).requests ≡ None) ⊎ SomeIsFull lanes.new) }
     ensures idle { IfOk result (λ count. count ≡ 0 → kept.new.trace ≡ kept.old.trace) }
     ensures err { OnErr result ((count : ℕ) × Appends kept.old kept.new (issues_counted count)) }
+    ensures granted { ((n : ℕ) → M.grants memory.now n) → IsOk result }
 {
     for count in 0..u64::MAX {
         if !all_show_room(lanes) {
             return Ok(count);
         }
-        kept.reserve(1)?;
+        kept.reserve(memory, 1)?;
         let Some(number) = kept.next() else {
             return Ok(count);
         };

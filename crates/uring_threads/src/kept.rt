@@ -1,5 +1,5 @@
 //! The dispatcher's core, and the trace of what was done with it.
-ghost use Rattle.std.specs.Prelude.{◌≡◌, ◌+◌, ◌^◌, ◌<◌, ◌≤◌, [], length, false, IfOk, IfSome, OnOk, OnErr, slice_get};
+ghost use Rattle.std.specs.Prelude.{◌≡◌, ℕ, ◌+◌, ◌^◌, ◌<◌, ◌≤◌, [], length, false, IsOk, IfOk, IfSome, OnOk, OnErr, slice_get};
 ghost use Rattle.uring_entry.specs.Completions.{unreaped};
 ghost use Rattle.uring_entry.specs.Requests.{operation_running, next_of};
 ghost use Rattle.uring_entry.specs.Setup.{IsWithinLimits};
@@ -8,12 +8,14 @@ ghost use Rattle.uring_files.specs.Operations.{IsForFiles};
 ghost use Rattle.uring_core.specs.Core.{IsCounts, IsFinished, IsNoFinish};
 ghost use Rattle.uring_core.specs.Histories.{IsLawfulApart, history_of};
 ghost use Rattle.uring_core.specs.StepAnswers.{CalledForApart};
+ghost use Rattle.uring_core.specs.declared.answer.Answer.TheVariants as answer;
 ghost use Rattle.uring_core.specs.declared.step.Step.TheVariants as step;
 
 use crate::take_result::take_result;
 use std::alloc::{AllocError, Global};
 use std::marker::Model;
 use uring_core::{Answer, Core, Counts, Cqe, Op, Outcome, Setup, Step};
+use uring_memory::Memory;
 
 /// A core with the trace of all its steps and their answers, the oldest first. The core always fits this trace: no step is left out, and none made up. Its calls don't stop behind an entry with a fault.
 #[derive(Drop)]
@@ -41,37 +43,58 @@ impl Model for Kept {
 impl Kept {
     ghost use Rattle.uring_threads.specs.Kept.{Grows, IsUnmoved, now};
 
-    /// A new core of this set-up, whose calls don't stop, with nothing recorded. `AllocError`: memory was refused.
-    pub fn new(alloc: Global, setup: &Setup) -> Result<Kept, AllocError>
+    /// A new core of this set-up, whose calls don't stop, with nothing recorded. `AllocError`: memory was refused; it wasn't if as many elements are granted as either ring's size.
+    pub fn new<M: Memory>(memory: &M, alloc: Global, setup: &Setup) -> Result<Kept, AllocError>
         requires { setup.now.stops ≡ false }
         ensures trace { IfOk result (λ kept. kept.trace ≡ []) }
         ensures setup { IfOk result (λ kept. kept.setup ≡ setup.now) }
+        ensures granted { (n : ℕ) → M.grants memory.now n → setup.now.sq ≤ n → setup.now.cq ≤ n
+            → IsOk result }
     {
         Ok(Kept {
-            core: Core::new(alloc, setup)?,
+            core: Core::new_in(memory, alloc, setup)?,
             trace: Vec::new(alloc),
         })
     }
 
-    /// Asks for room for so many further events. `AllocError`: there isn't so much, and memory was refused.
-    pub fn reserve(&mut self, count: usize) -> Result<(), AllocError>
+    /// The allocator that its memory comes from.
+    pub fn allocator(&self) -> Global {
+        self.core.allocator()
+    }
+
+    /// Asks for room for so many further events. `AllocError`: there isn't so much, and memory was refused; it wasn't if as many elements are granted as there are events then.
+    pub fn reserve<M: Memory>(&mut self, memory: &M, count: usize) -> Result<(), AllocError>
         ensures unmoved { IsUnmoved self.old self.new }
         ensures ok { OnOk result (length self.old.trace + count ≤ self.new.room) }
         ensures err { OnErr result (self.old.room < length self.old.trace + count) }
         ensures limit { self.new.room < 2 ^ 63 }
+        ensures granted { (n : ℕ) → M.grants memory.now n → length self.old.trace + count ≤ n
+            → IsOk result }
     {
-        self.trace.reserve(count)
+        memory.reserve(&mut self.trace, count)
     }
 
-    /// Makes one step on the core and records it. Conditions: room for it was asked for, and it is no `Finish`, which is a call of its own.
+    /// Makes one step on the core and records it. Conditions: room for it was asked for, and it is no `Finish`, which is a call of its own. Of these steps only `Begin` asks for memory.
     pub fn step_reserved(&mut self, step: Step) -> Answer
         requires room { length self.old.trace < self.old.room }
         requires step { IsNoFinish step }
         ensures grows { Grows self.old self.new (step, result) }
         ensures called { CalledForApart self.old.setup (now self.old) step result }
     {
+        let memory = self.allocator();
+        self.step_reserved_in(&memory, step)
+    }
+
+    /// As `step_reserved`, by this memory. If it grants whatever is asked for, the answer is never `Again`.
+    pub fn step_reserved_in<M: Memory>(&mut self, memory: &M, step: Step) -> Answer
+        requires room { length self.old.trace < self.old.room }
+        requires step { IsNoFinish step }
+        ensures grows { Grows self.old self.new (step, result) }
+        ensures called { CalledForApart self.old.setup (now self.old) step result }
+        ensures granted { ((n : ℕ) → M.grants memory.now n) → result ≡ answer.Again → ⊥ }
+    {
         let made = step;
-        let answer = self.core.step(step);
+        let answer = self.core.step_in(memory, step);
         let told = answer;
         self.trace.push_reserved((made, told));
         answer

@@ -1,5 +1,5 @@
 //! The dispatcher's end.
-ghost use Rattle.std.specs.Prelude.{◌≡◌, ◌↔◌, ◌+◌, ◌*◌, ◌<◌, ◌≤◌, ◌⊎◌, [], length, count_by, false, None, IsTrue, IfOk, IfErr, OnErr, OnOk, vec_capacity};
+ghost use Rattle.std.specs.Prelude.{◌≡◌, ℕ, ◌↔◌, ◌+◌, ◌*◌, ◌<◌, ◌≤◌, ◌⊎◌, [], length, count_by, false, None, IsTrue, IsOk, IfOk, IfErr, OnErr, OnOk, vec_capacity};
 ghost use Rattle.uring_entry.specs.Completions.{unreaped};
 ghost use Rattle.uring_entry.specs.Requests.{next_of};
 ghost use Rattle.uring_entry.specs.Setup.{IsWithinLimits};
@@ -24,6 +24,7 @@ use crate::turns::{Turn, make_turn};
 use std::alloc::{AllocError, Global};
 use std::marker::Model;
 use uring_entry::Cqe;
+use uring_memory::Memory;
 use uring_ports::{AppEnd, Item, KernelPort, Rests};
 use uring_workers::{LANE_LENGTH, WorkLanes};
 
@@ -138,7 +139,45 @@ impl<P: KernelPort> Kernel<P> {
         ensures pairing { self.new.pairing ≡ self.old.pairing }
         ensures sizes { self.new.sizes ≡ self.old.sizes }
     {
+        let memory = self.kept.allocator();
+        self.turn_in(&memory)
+    }
+
+    /// As `turn`, by this memory. If it grants whatever is asked for, there is no error.
+    pub fn turn_in<M: Memory>(&mut self, memory: &M) -> Result<Turn, AllocError>
+        ensures counts { IfOk result (λ turn. Counts self.old.kept self.new.kept turn) }
+        ensures begun { OnOk result (awaits_memory self.new.intake ≡ false) }
+        ensures pulls { IfOk result
+            (λ turn. PullsMost self.new.intake turn.popped self.old.saw_calls self.new.saw_calls) }
+        ensures none_left { IfOk result
+            (λ turn. (next_of (now self.new.kept).requests ≡ None) ⊎ SomeIsFull self.new.lanes) }
+        ensures next { IfOk result
+            (λ turn. count_by starts_request self.new.kept.trace < 64
+            → next_of (now self.new.kept).requests ≡ None) }
+        ensures all { IfOk result
+            (λ turn. length (now self.new.kept).completions.posted ≤ self.old.kept.setup.cq
+            → length self.new.reaped ≡ length (now self.new.kept).completions.posted) }
+        ensures most { IfOk result
+            (λ turn. DeliversMost (now self.new.kept).completions self.new.free
+            self.old.kept.setup.cq turn.delivered) }
+        ensures looked { OnOk result (HasLooked self.old.room_looks self.new.room_looks) }
+        ensures err { OnErr result ((t : Tally) × Appends self.old.kept self.new.kept t) }
+        ensures rows { RecordsTurn self.old.kept self.new.kept self.old.intake self.old.pulled
+            self.new.pulled result }
+        ensures few_results { TakesFewResults (length self.old.lanes) self.old.kept self.new.kept }
+        ensures stored { OnOk result
+            (self.new.dropped
+            ≡ with_word self.old.dropped (dropped (now self.new.kept).submission)) }
+        ensures not_stored { OnErr result (self.new.dropped ≡ self.old.dropped) }
+        ensures setup { self.new.kept.setup ≡ self.old.kept.setup }
+        ensures lanes { AreSameLanes self.old.lanes self.new.lanes }
+        ensures numbers { numbers_of_lanes self.new.lanes ≡ numbers_of_lanes self.old.lanes }
+        ensures pairing { self.new.pairing ≡ self.old.pairing }
+        ensures sizes { self.new.sizes ≡ self.old.sizes }
+        ensures granted { ((n : ℕ) → M.grants memory.now n) → IsOk result }
+    {
         make_turn(
+            memory,
             &mut self.kept,
             &mut self.port,
             &mut self.items,
@@ -166,7 +205,11 @@ impl<P: KernelPort> Kernel<P> {
     }
 
     /// Makes room in the trace for 64 results of each worker, and a list for all completions that may wait then. `AllocError`: the system is out of memory.
-    pub(crate) fn make_room(&mut self, alloc: Global) -> Result<Vec<Cqe>, AllocError>
+    pub(crate) fn make_room<M: Memory>(
+        &mut self,
+        memory: &M,
+        alloc: Global,
+    ) -> Result<Vec<Cqe>, AllocError>
         ensures same { IsSameKernel self.old self.new }
         ensures room { OnOk result
             (length self.old.kept.trace + 64 * length self.old.lanes ≤ self.new.kept.room) }
@@ -174,16 +217,21 @@ impl<P: KernelPort> Kernel<P> {
         ensures list { IfOk result
             (λ list. length (unreaped (now self.old.kept).completions) + 64 * length self.old.lanes
             ≤ vec_capacity list) }
+        ensures granted { (n : ℕ) → M.grants memory.now n
+            → length self.old.kept.trace + 64 * length self.old.lanes ≤ n
+            → length (unreaped (now self.old.kept).completions) + 64 * length self.old.lanes ≤ n
+            → IsOk result }
     {
         let results = LANE_LENGTH * self.lanes.len();
-        room_to_settle(alloc, &mut self.kept, results)
+        room_to_settle(memory, alloc, &mut self.kept, results)
     }
 
     /// Ends both ports of the pair, and hands out the trace, the lanes, and what the ports still held.
     ///
     /// `Err` says that the system is out of memory, which is asked for first: both ends come back unchanged.
-    pub(crate) fn settle_ports(
+    pub(crate) fn settle_ports<M: Memory>(
         self,
+        memory: &M,
         alloc: Global,
         app: AppEnd<P::App>,
     ) -> Result<(Kept, Vec<WorkLanes>, Rests), (AppEnd<P::App>, Kernel<P>)>
@@ -198,6 +246,8 @@ impl<P: KernelPort> Kernel<P> {
         ensures submitted { OnOk result
             (AreItems app.sizes.sq (items_of_calls app.submitted.calls)) }
         ensures unchanged { IfErr result (λ ends. (ends.0 ≡ app) × (ends.1 ≡ self)) }
+        ensures granted { (n : ℕ) → M.grants memory.now n → self.sizes.sq ≤ n → app.sizes.cq ≤ n
+            → IsOk result }
     {
         let Kernel {
             kept,
@@ -206,7 +256,7 @@ impl<P: KernelPort> Kernel<P> {
             lanes,
             items,
         } = self;
-        match app.settle(alloc, port) {
+        match app.settle_in(memory, alloc, port) {
             Ok(rests) => Ok((kept, lanes, rests)),
             Err((app, port)) => {
                 let kernel = Kernel {

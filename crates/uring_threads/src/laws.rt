@@ -3,7 +3,7 @@ ghost use Rattle.uring_entry.specs.Setup.{Setup};
 ghost use Rattle.uring_threads.specs.Settled.{ResultsRun, NoneWaits, Settles};
 ghost use Rattle.uring_threads.specs.Dealt.{DealtByFile, WorkersJoin, FilesByWorker};
 
-pub use crate::take_result::take_result;
+pub use crate::take_result::{take_result, take_result_in};
 
 /// Each operation has one worker, by its file alone. If each worker carries out its own operations on files that it alone has, they make a lawful history together, and each file is that of its worker.
 pub fn workers_join()

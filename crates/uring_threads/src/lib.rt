@@ -23,14 +23,15 @@ mod settle_work;
 mod worker_files;
 
 pub use kernel::Kernel;
-pub use opening::{LanesFault, check_ends, ends, lanes, words};
+pub use opening::{LanesFault, check_ends, ends, ends_in, lanes, lanes_in, words, words_in};
 pub use report::Report;
-pub use settle_ends::{NotSettled, settle};
+pub use settle_ends::{NotSettled, settle, settle_in};
 pub use turns::Turn;
 pub use uring_core::{Answer, Core, Counts, Cqe, Fault, Op, Outcome, Setup, Sqe, SqeFlags, Step};
+pub use uring_memory::Memory;
 pub use uring_ports::{
-    AppEnd, AppLanes, AppPort, CloseRefusal, Item, KernelLanes, KernelPort, Pulled, Rests,
-    SubmitRefusal, lane_ports, take_undelivered,
+    AppEnd, AppLanes, AppPort, CloseRefusal, Item, KernelLanes, KernelPort, LaneMemory, Pulled,
+    Rests, SubmitRefusal, lane_ports, lane_ports_in, take_undelivered,
 };
-pub use uring_words::{AppWords, KernelWords, word_ports};
+pub use uring_words::{AppWords, KernelWords, TableMemory, word_ports, word_ports_in};
 pub use uring_workers::{FileState, Files, Gate, Job, JobResult, Open, Worked, Worker};

@@ -1,5 +1,5 @@
 //! What is left once all ends of a set-up are settled.
-ghost use Rattle.std.specs.Prelude.{◌≡◌, ◌+◌, ◌*◌, ◌<◌, ◌≤◌, ◌++◌, [], length, IfOk, OnOk, vec_capacity};
+ghost use Rattle.std.specs.Prelude.{◌≡◌, ℕ, ◌+◌, ◌*◌, ◌<◌, ◌≤◌, ◌++◌, [], length, IsOk, IfOk, OnOk, vec_capacity};
 ghost use Rattle.uring_entry.specs.Completions.{unreaped};
 ghost use Rattle.uring_entry.specs.Setup.{IsWithinLimits};
 ghost use Rattle.uring_files.specs.Operations.{state_of, byte_of};
@@ -19,6 +19,7 @@ use std::marker::Model;
 use uring_core::{Answer, Counts, Cqe, Setup, Step};
 use uring_files::FileState;
 use uring_laws::reaped_begin_posted;
+use uring_memory::Memory;
 use uring_ports::{Item, Rests};
 use uring_workers::{Gate, WorkLanes, Worker};
 
@@ -161,7 +162,8 @@ impl<G: Gate> Report<G> {
 }
 
 /// Makes room in the trace for so many results, and an empty list with room for all completions that may wait then. `AllocError`: the system is out of memory.
-pub(crate) fn room_to_settle(
+pub(crate) fn room_to_settle<M: Memory>(
+    memory: &M,
     alloc: Global,
     kept: &mut Kept,
     results: usize,
@@ -171,19 +173,28 @@ pub(crate) fn room_to_settle(
     ensures empty { IfOk result (λ list. list.items ≡ []) }
     ensures list { IfOk result
         (λ list. length (unreaped (now kept.old).completions) + results ≤ vec_capacity list) }
+    ensures granted { (n : ℕ) → M.grants memory.now n → length kept.old.trace + results ≤ n
+        → length (unreaped (now kept.old).completions) + results ≤ n → IsOk result }
 {
-    kept.reserve(results)?;
-    list_for_waiting(alloc, kept, results)
+    kept.reserve(memory, results)?;
+    list_for_waiting(memory, alloc, kept, results)
 }
 
 /// An empty list with room for all completions that were posted and not reaped, and for so many more.
-fn list_for_waiting(alloc: Global, kept: &Kept, more: usize) -> Result<Vec<Cqe>, AllocError>
+fn list_for_waiting<M: Memory>(
+    memory: &M,
+    alloc: Global,
+    kept: &Kept,
+    more: usize,
+) -> Result<Vec<Cqe>, AllocError>
     ensures empty { IfOk result (λ list. list.items ≡ []) }
     ensures room { IfOk result
         (λ list. length (unreaped (now kept.now).completions) + more ≤ vec_capacity list) }
+    ensures granted { (n : ℕ) → M.grants memory.now n
+        → length (unreaped (now kept.now).completions) + more ≤ n → IsOk result }
 {
     let counts = kept.counts();
-    Vec::with_capacity(
+    memory.list(
         alloc,
         ((counts.posted - counts.reaped) as usize).saturating_add(more),
     )

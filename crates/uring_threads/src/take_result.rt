@@ -1,5 +1,5 @@
 //! The dispatcher's step on a result that came from a worker.
-ghost use Rattle.std.specs.Prelude.{◌≡◌, ◌++◌, ◌∷◌, [], ◌<◌, ◌≤◌, length, IfOk, IsOk, OnErr, vec_capacity};
+ghost use Rattle.std.specs.Prelude.{◌≡◌, ℕ, ◌+◌, ◌++◌, ◌∷◌, [], ◌<◌, ◌≤◌, length, IfOk, IsOk, OnErr, vec_capacity};
 ghost use Rattle.uring_core.specs.Core.{FitsApart, HasNoLessMemory, IsFinished};
 ghost use Rattle.uring_core.specs.Histories.{History, world};
 ghost use Rattle.uring_core.specs.declared.answer.Answer.TheVariants as answer;
@@ -7,6 +7,7 @@ ghost use Rattle.uring_core.specs.declared.step.Step.TheVariants as step;
 
 use std::alloc::AllocError;
 use uring_core::{Answer, Core, Outcome, Step};
+use uring_memory::Memory;
 
 /// Ends the request of this number with this outcome, and records that behind the trace: answers as `Core::finish`.
 ///
@@ -39,7 +40,39 @@ pub fn take_result(
         ((core.new ≡ core.old) × (trace.new.items ≡ trace.old.items)
         × (vec_capacity trace.new ≡ vec_capacity trace.old)) }
 {
-    trace.reserve(1)?;
+    let memory = core.allocator();
+    take_result_in(&memory, core, trace, number, outcome)
+}
+
+/// As `take_result`, by this memory. If it grants as many elements as the trace has then, there is no error.
+pub fn take_result_in<M: Memory>(
+    memory: &M,
+    core: &mut Core,
+    trace: &mut Vec<(Step, Answer)>,
+    number: u64,
+    outcome: Outcome,
+) -> Result<Answer, AllocError>
+    ensures setup { core.new.setup ≡ core.old.setup }
+    ensures recorded { IfOk result
+        (λ a. trace.new.items ≡ trace.old.items ++ (step.Finish number, a) ∷ []) }
+    ensures fits { IfOk result
+        (λ a. (h : History) → FitsApart core.old h
+        → FitsApart core.new ((step.Finish number, a) ∷ h)) }
+    ensures outcome { IfOk result
+        (λ a. (h : History) → FitsApart core.old h
+        → IsFinished (world core.old.setup h) number outcome a) }
+    ensures not_running { IfOk result
+        (λ a. a ≡ answer.NotRunning → (h : History) → FitsApart core.old h → FitsApart core.new h) }
+    ensures memory { HasNoLessMemory core.old core.new }
+    ensures room { vec_capacity trace.old ≤ vec_capacity trace.new }
+    ensures succeeds { length trace.old.items < vec_capacity trace.old → IsOk result }
+    ensures err { OnErr result
+        ((core.new ≡ core.old) × (trace.new.items ≡ trace.old.items)
+        × (vec_capacity trace.new ≡ vec_capacity trace.old)) }
+    ensures granted { (n : ℕ) → M.grants memory.now n → length trace.old.items + 1 ≤ n
+        → IsOk result }
+{
+    memory.reserve(trace, 1)?;
     let answer = core.finish(number, outcome);
     let told = answer;
     trace.push_reserved((Step::Finish { number }, told));

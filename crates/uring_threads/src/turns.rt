@@ -1,5 +1,5 @@
 //! A turn of the dispatcher.
-ghost use Rattle.std.specs.Prelude.{◌≡◌, ◌<◌, ◌≤◌, ◌⊎◌, length, false, None, IfOk, OnOk, OnErr, vec_capacity};
+ghost use Rattle.std.specs.Prelude.{◌≡◌, ℕ, ◌<◌, ◌≤◌, ◌⊎◌, length, false, None, IsOk, IfOk, OnOk, OnErr, vec_capacity};
 ghost use Rattle.uring_entry.specs.Requests.{next_of};
 ghost use Rattle.uring_entry.specs.Submission.{dropped};
 ghost use Rattle.uring_ports.specs.Dropped.{with_word};
@@ -17,6 +17,7 @@ use crate::intake::{Intake, take_in};
 use crate::issues::issue_all;
 use crate::kept::Kept;
 use std::alloc::AllocError;
+use uring_memory::Memory;
 use uring_ports::{Item, KernelPort};
 use uring_workers::WorkLanes;
 
@@ -39,7 +40,8 @@ pub struct Turn {
 /// One turn: takes in a call that waits and one that is pulled, or the close mark; then results of workers; issues what can be issued; and delivers what is posted. If it returns Ok it stores the dropped word last.
 ///
 /// `AllocError`: the system is out of memory, also if it was for a call that now waits. All events made until then are recorded, and nothing that was pulled or received is lost.
-pub fn make_turn<P: KernelPort>(
+pub fn make_turn<M: Memory, P: KernelPort>(
+    memory: &M,
     kept: &mut Kept,
     port: &mut P,
     items: &mut Vec<Item>,
@@ -97,11 +99,12 @@ pub fn make_turn<P: KernelPort>(
     ensures items { vec_capacity items.old ≤ vec_capacity items.new }
     ensures pairing { P.pairing port.new ≡ P.pairing port.old }
     ensures sizes { P.sizes port.new ≡ P.sizes port.old }
+    ensures granted { ((n : ℕ) → M.grants memory.now n) → IsOk result }
 {
-    let popped = take_in(kept, port, items, intake)?;
-    let finished = collect_all(kept, lanes)?;
-    let issued = issue_all(kept, lanes)?;
-    let delivered = deliver(kept, port)?;
+    let popped = take_in(memory, kept, port, items, intake)?;
+    let finished = collect_all(memory, kept, lanes)?;
+    let issued = issue_all(memory, kept, lanes)?;
+    let delivered = deliver(memory, kept, port)?;
     let turn = Turn {
         popped,
         issued,
@@ -120,6 +123,7 @@ fn tell_dropped<P: KernelPort>(
 ) -> Result<Turn, AllocError>
     ensures turn { IfOk result (λ made. made ≡ turn) }
     ensures begun { OnOk result (awaits_memory intake.now ≡ false) }
+    ensures ok { awaits_memory intake.now ≡ false → IsOk result }
     ensures stored { OnOk result
         (P.dropped port.new ≡ with_word (P.dropped port.old) (dropped (now kept.now).submission)) }
     ensures not_stored { OnErr result (P.dropped port.new ≡ P.dropped port.old) }

@@ -6,14 +6,14 @@ use Rattle.uring_threads.proofs.calls.take_call.Goals as goal
 use Rattle.uring_threads.specs.Kept.{now}
 
 pub begin_call-requires-clause-stands : goal.begin_call-requires-clause-stands
-begin_call-requires-clause-stands c =
+begin_call-requires-clause-stands g c =
     (published_now c.put_items.new.kept c.step_reserved.new.self (now c.args.kept.now) c.args.items.now c.step_reserved.result c.requires.stands c.put_items.ensures.world c.step_reserved.ensures.grows).1
 
 pub returns-clause-row : goal.returns-clause-row
-returns-clause-row c =
+returns-clause-row g c =
     put_recorded c.args.kept.now c.put_items.new.kept c.step_reserved.new.self c.begin_call.new.kept c.args.items.now c.begin_call.result c.step_reserved.result c.put_items.ensures.row c.step_reserved.ensures.grows c.begin_call.ensures.row
 
 pub returns-clause-spent : goal.returns-clause-spent
-returns-clause-spent c = λ given.
+returns-clause-spent g c = λ given.
     let at = (published_now c.put_items.new.kept c.step_reserved.new.self (now c.args.kept.now) c.args.items.now c.step_reserved.result c.requires.stands c.put_items.ensures.world c.step_reserved.ensures.grows).0 in
     ap (λ w. is_spent w (length c.args.items.now)) (sym at) ∙ c.begin_call.ensures.spent given

@@ -1,3 +1,4 @@
+use Rattle.std.proofs.lemmas.Bool.{false≢true}
 use Rattle.std.proofs.Common.{rules, ◌≡◌, ◌+◌, length, refl, subst, ◌∙◌, arith}
 use Rattle.uring_threads.specs.Kept.{now}
 use Rattle.uring_threads.specs.Tallies.{finishes_counted}
@@ -10,30 +11,30 @@ use Rattle.uring_threads.proofs.Turning.{lanes_then}
 use Rattle.uring_threads.proofs.collect.collect_all.Goals as goal
 
 pub returns-in_err-count-clause-err : goal.returns-in_err-count-clause-err
-returns-in_err-count-clause-err c =
+returns-in_err-count-clause-err g c =
     let later = c.in_err-count.ensures.err in
     on_err c.from_residual.result (c.loop-place.count + later.0, appends_then _ _ _ _ _ _ c.loop-place.invariant.tally later.1 refl)
 
 pub returns-in_err-count-clause-row : goal.returns-in_err-count-clause-row
-returns-in_err-count-clause-row c =
+returns-in_err-count-clause-row g c =
     finishes_then c.args.kept.now c.loop-place.kept c.collect_at.new.kept c.loop-place.invariant.row c.collect_at.ensures.row
 
 pub returns-clause-few : goal.returns-clause-few
-returns-clause-few c = few_in_all (length c.args.lanes.now) c.loop-place.place c.args.kept.now c.loop-place.kept c.loop-place.invariant.few
+returns-clause-few g c = few_in_all (length c.args.lanes.now) c.loop-place.place c.args.kept.now c.loop-place.kept c.loop-place.invariant.few
 
 pub returns-in_err-count-clause-few : goal.returns-in_err-count-clause-few
-returns-in_err-count-clause-few c =
+returns-in_err-count-clause-few g c =
     few_in_all (length c.args.lanes.now) (c.loop-place.place + 1) c.args.kept.now c.collect_at.new.kept
     (few_at c.args.lanes.now c.loop-place.lanes c.loop-place.place c.args.kept.now c.loop-place.kept c.collect_at.new.kept c.loop-place.invariant.lanes c.loop-place.invariant.few c.collect_at.ensures.few)
 
 pub returns-clause-seen : goal.returns-clause-seen
-returns-clause-seen c =
+returns-clause-seen g c =
     let end : c.loop-place.place ≡ length c.args.lanes.now = search (rules, arith) in
     seen_in_all c.args.lanes.now c.loop-place.lanes c.args.kept.now c.loop-place.kept c.loop-place.invariant.lanes
     (subst (λ n. SeenBefore (length c.args.lanes.now) n c.args.kept.now c.loop-place.kept c.loop-place.lanes) end c.loop-place.invariant.seen)
 
 pub loop-place-preserved : goal.loop-place-preserved
-loop-place-preserved c =
+loop-place-preserved g c =
     record {
       most = omega (arith, c.loop-place.invariant.most, c.in_ok-count.ensures.most);
       carried = c.collect_at.ensures.carried;
@@ -46,3 +47,6 @@ loop-place-preserved c =
           c.in_ok-count.ensures.own c.collect_at.ensures.none_comes c.collect_at.ensures.others c.in_ok-count.ensures.seen c.loop-place.invariant.seen;
       idle = λ none. c.in_ok-count.ensures.idle (omega (arith, none)) ∙ c.loop-place.invariant.idle (omega (arith, none));
     }
+
+pub returns-in_err-count-clause-granted : goal.returns-in_err-count-clause-granted
+returns-in_err-count-clause-granted g c = λ all. absurd (false≢true (c.in_err-count.ensures.granted all))

@@ -10,7 +10,7 @@ use Rattle.uring_threads.proofs.collect.collect_all.Given as goal
 
 -- at most 64 of each worker so far
 abbrev pub invariant-loop-place : goal.invariant-loop-place
-invariant-loop-place l = record {
+invariant-loop-place g l = record {
   most : l.count ≤ 64 * l.place;
   carried : HaveCarried l.kept l.lanes;
   lanes : AreSameLanes l.initial.lanes l.lanes;

@@ -6,25 +6,25 @@ use Rattle.uring_threads.proofs.FewResults.{few_collected, own_collected}
 use Rattle.uring_threads.proofs.collect.collect_at.Goals as goal
 
 pub returns-clause-carried : goal.returns-clause-carried
-returns-clause-carried c =
+returns-clause-carried g c =
     let p = some_collected c.collect.result c.args.kept.now c.collect.new.kept (length c.args.lanes.now) c.args.place (results_seen c.collect.new.lanes) c.collect.ensures.ok c.collect.ensures.err in
     carried_set c.args.kept.now c.collect.new.kept p.0 c.args.place c.args.lanes.now _ c.index-lanes-place.result c.requires.carried c.requires.place p.1 c.collect.ensures.lanes.jobs c.collect.ensures.taken
 
 pub returns-clause-few : goal.returns-clause-few
-returns-clause-few c = few_collected c.collect.result c.args.kept.now c.collect.new.kept (length c.args.lanes.now) c.args.place (results_seen c.collect.new.lanes) c.collect.ensures.ok c.collect.ensures.err
+returns-clause-few g c = few_collected c.collect.result c.args.kept.now c.collect.new.kept (length c.args.lanes.now) c.args.place (results_seen c.collect.new.lanes) c.collect.ensures.ok c.collect.ensures.err
 
 pub returns-clause-own : goal.returns-clause-own
-returns-clause-own c = own_collected c.collect.result c.args.kept.now c.collect.new.kept (length c.args.lanes.now) c.args.place (results_seen c.collect.new.lanes) c.collect.ensures.ok
+returns-clause-own g c = own_collected c.collect.result c.args.kept.now c.collect.new.kept (length c.args.lanes.now) c.args.place (results_seen c.collect.new.lanes) c.collect.ensures.ok
 
 pub returns-clause-row : goal.returns-clause-row
-returns-clause-row c =
+returns-clause-row g c =
     let p = some_collected c.collect.result c.args.kept.now c.collect.new.kept (length c.args.lanes.now) c.args.place (results_seen c.collect.new.lanes) c.collect.ensures.ok c.collect.ensures.err in
     p.1.row
 
 pub returns-clause-none_comes : goal.returns-clause-none_comes
-returns-clause-none_comes c =
+returns-clause-none_comes g c =
     let p = some_collected c.collect.result c.args.kept.now c.collect.new.kept (length c.args.lanes.now) c.args.place (results_seen c.collect.new.lanes) c.collect.ensures.ok c.collect.ensures.err in
     p.1.none_comes
 
 pub returns-clause-others : goal.returns-clause-others
-returns-clause-others c = λ k other d. get_or-set_other c.args.lanes.now c.args.place k _ d other
+returns-clause-others g c = λ k other d. get_or-set_other c.args.lanes.now c.args.place k _ d other

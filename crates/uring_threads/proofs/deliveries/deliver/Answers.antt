@@ -1,4 +1,5 @@
-use Rattle.std.proofs.Common.{arith}
+use Rattle.std.proofs.lemmas.Bool.{false≢true}
+use Rattle.std.proofs.Common.{◌+◌, length, arith}
 use Rattle.uring_threads.proofs.Delivering.{row_keeps, row_delivers, row_counts}
 use Rattle.uring_threads.proofs.Recording.{delivery_recorded}
 use Rattle.uring_threads.proofs.deliveries.deliver.Goals as goal
@@ -22,3 +23,6 @@ pub returns-clause-row : goal.returns-clause-row
 returns-clause-row g c =
     delivery_recorded c.args.kept.now c.reserve.new.self c.step_reserved.new.self c.step_reserved-2.new.self c.reap_all.new.kept c.step_reserved-3.new.self _ c.step_reserved.result c.step_reserved-2.result c.step_reserved-3.result (omega arith)
     c.reserve.ensures.unmoved c.step_reserved.ensures.grows c.step_reserved-2.ensures.grows c.reap_all.ensures.row c.step_reserved-3.ensures.grows
+
+pub returns-in_err-reserve-clause-granted : goal.returns-in_err-reserve-clause-granted
+returns-in_err-reserve-clause-granted g c = λ all. absurd (false≢true (c.in_err-reserve.ensures.granted (length c.args.kept.now.trace + (c.min-count.result + 3)) (all (length c.args.kept.now.trace + (c.min-count.result + 3))) (omega arith)))

@@ -1,4 +1,5 @@
-use Rattle.std.proofs.Common.{[], subst, sym, ap, ◌∙◌}
+use Rattle.std.proofs.lemmas.Bool.{false≢true}
+use Rattle.std.proofs.Common.{[], subst, sym, ap, ◌∙◌, arith, length, ◌+◌, ◌*◌}
 use Rattle.uring_entry.specs.Setup.{Setup}
 use Rattle.uring_threads.specs.Kept.{now}
 use Rattle.uring_threads.specs.Turns.{Tied, is_shut}
@@ -51,3 +52,6 @@ returns-clause-once g c = λ once. c.take_pulled.ensures.once (once_unmoved c.ar
 
 pub returns-clause-most : goal.returns-clause-most
 returns-clause-most g c = λ ready none. c.pull-pulled.ensures.looked (c.take_pulled.ensures.none none ready) (sym c.requires.tied.shut ∙ ap is_shut c.requires.ready)
+
+pub returns-in_err-reserve-clause-granted : goal.returns-in_err-reserve-clause-granted
+returns-in_err-reserve-clause-granted g c = λ all. absurd (false≢true (c.in_err-reserve.ensures.granted (length c.args.kept.now.trace + (3 * c.sq-size.result + 4)) (all (length c.args.kept.now.trace + (3 * c.sq-size.result + 4))) (omega arith)))

@@ -1,4 +1,6 @@
-use Rattle.std.proofs.Common.{[], inl, inr, refl, sym, subst, arith}
+use Rattle.uring_threads.proofs.Granting.{begun_waits_not, waits_not}
+use Rattle.std.proofs.lemmas.Bool.{false≢true}
+use Rattle.std.proofs.Common.{[], inl, inr, refl, sym, subst, arith, length, ◌+◌}
 use Rattle.uring_threads.specs.EventRows.{IsAgain, begin_row}
 use Rattle.uring_threads.specs.Kept.{now, IsUnmoved}
 use Rattle.uring_threads.specs.Turns.{ClosesOnce, Tied}
@@ -9,52 +11,62 @@ use Rattle.uring_threads.proofs.Tying.{again_completions, call_waits, completion
 use Rattle.uring_threads.proofs.intake.retry.Goals as goal
 
 pub begin_call-requires-clause-not_closed : goal.begin_call-requires-clause-not_closed
-begin_call-requires-clause-not_closed c = (call_waits c.args.kept.now c.reserve.new.self c.requires.tied.0 c.in-Waiting.count c.args.intake.now c.reserve.ensures.unmoved c.in-Waiting.is c.requires.tied.1).0
+begin_call-requires-clause-not_closed g c = (call_waits c.args.kept.now c.reserve.new.self c.requires.tied.0 c.in-Waiting.count c.args.intake.now c.reserve.ensures.unmoved c.in-Waiting.is c.requires.tied.1).0
 
 pub begin_call-requires-clause-stands : goal.begin_call-requires-clause-stands
-begin_call-requires-clause-stands c = (call_waits c.args.kept.now c.reserve.new.self c.requires.tied.0 c.in-Waiting.count c.args.intake.now c.reserve.ensures.unmoved c.in-Waiting.is c.requires.tied.1).1
+begin_call-requires-clause-stands g c = (call_waits c.args.kept.now c.reserve.new.self c.requires.tied.0 c.in-Waiting.count c.args.intake.now c.reserve.ensures.unmoved c.in-Waiting.is c.requires.tied.1).1
 
 pub returns-in_err-reserve-clause-tied : goal.returns-in_err-reserve-clause-tied
-returns-in_err-reserve-clause-tied c = λ put. tied_still c.args.kept.now c.reserve.new.self put c.args.intake.now c.reserve.ensures.unmoved
+returns-in_err-reserve-clause-tied g c = λ put. tied_still c.args.kept.now c.reserve.new.self put c.args.intake.now c.reserve.ensures.unmoved
 
 pub returns-in_err-reserve-clause-completions : goal.returns-in_err-reserve-clause-completions
-returns-in_err-reserve-clause-completions c = completions_behind c.args.kept.now c.reserve.new.self c.reserve.new.self c.reserve.ensures.unmoved refl
+returns-in_err-reserve-clause-completions g c = completions_behind c.args.kept.now c.reserve.new.self c.reserve.new.self c.reserve.ensures.unmoved refl
 
 pub returns-in_err-reserve-clause-taken : goal.returns-in_err-reserve-clause-taken
-returns-in_err-reserve-clause-taken c =
+returns-in_err-reserve-clause-taken g c =
     takes_nothing c.args.kept.now c.reserve.new.self c.reserve.ensures.unmoved
 
 pub returns-in_err-reserve-clause-once : goal.returns-in_err-reserve-clause-once
-returns-in_err-reserve-clause-once c =
+returns-in_err-reserve-clause-once g c =
     once_unmoved c.args.kept.now c.reserve.new.self c.args.intake.now c.reserve.ensures.unmoved
 
 pub returns-in_ok-reserve-clause-tied : goal.returns-in_ok-reserve-clause-tied
-returns-in_ok-reserve-clause-tied c = λ put tied.
+returns-in_ok-reserve-clause-tied g c = λ put tied.
     subst (Tied c.args.kept.now.setup.sq (now c.begin_call.new.kept) put) (sym c.after.ensures)
     (tied_again c.args.kept.now c.reserve.new.self c.begin_call.new.kept put c.in-Waiting.count c.args.intake.now c.begin_call.result c.reserve.ensures.unmoved c.in-Waiting.is c.begin_call.ensures.world c.begin_call.ensures.spent tied)
 
 pub returns-in_ok-reserve-clause-completions : goal.returns-in_ok-reserve-clause-completions
-returns-in_ok-reserve-clause-completions c = again_completions c.args.kept.now c.reserve.new.self c.begin_call.new.kept c.in-Waiting.count c.begin_call.result c.reserve.ensures.unmoved c.begin_call.ensures.world
+returns-in_ok-reserve-clause-completions g c = again_completions c.args.kept.now c.reserve.new.self c.begin_call.new.kept c.in-Waiting.count c.begin_call.result c.reserve.ensures.unmoved c.begin_call.ensures.world
 
 pub returns-in_ok-reserve-clause-taken : goal.returns-in_ok-reserve-clause-taken
-returns-in_ok-reserve-clause-taken c = takes_again c.args.kept.now c.begin_call.new.kept (appends_behind c.args.kept.now c.reserve.new.self c.begin_call.new.kept _ c.reserve.ensures.unmoved c.begin_call.ensures.tally)
+returns-in_ok-reserve-clause-taken g c = takes_again c.args.kept.now c.begin_call.new.kept (appends_behind c.args.kept.now c.reserve.new.self c.begin_call.new.kept _ c.reserve.ensures.unmoved c.begin_call.ensures.tally)
 
 pub returns-in_ok-reserve-clause-once : goal.returns-in_ok-reserve-clause-once
-returns-in_ok-reserve-clause-once c = λ once.
+returns-in_ok-reserve-clause-once g c = λ once.
     subst (ClosesOnce c.begin_call.new.kept) (sym c.after.ensures)
     (once_begun c.args.kept.now c.begin_call.new.kept _ c.args.intake.now c.in-Waiting.count c.begin_call.result
     (appends_behind c.args.kept.now c.reserve.new.self c.begin_call.new.kept _ c.reserve.ensures.unmoved c.begin_call.ensures.tally) refl (λ o. subst (ClosesOnce c.args.kept.now) c.in-Waiting.is o) once)
 
 pub returns-in_err-reserve-clause-row : goal.returns-in_err-reserve-clause-row
-returns-in_err-reserve-clause-row c =
+returns-in_err-reserve-clause-row g c =
     ([], subst (λ i. IsAgain i []) (sym c.in-Waiting.is) (inl refl), records_none c.args.kept.now c.reserve.new.self c.reserve.ensures.unmoved)
 
 pub returns-in_ok-reserve-clause-row : goal.returns-in_ok-reserve-clause-row
-returns-in_ok-reserve-clause-row c =
+returns-in_ok-reserve-clause-row g c =
     let row = begin_row c.in-Waiting.count c.begin_call.result in
     (row, subst (λ i. IsAgain i row) (sym c.in-Waiting.is) (inr (c.begin_call.result, refl)), records_then c.args.kept.now c.reserve.new.self c.begin_call.new.kept [] row (records_none c.args.kept.now c.reserve.new.self c.reserve.ensures.unmoved) c.begin_call.ensures.row)
 
 pub returns-in_default : goal.returns-in_default
-returns-in_default c =
+returns-in_default g c =
     let still : IsUnmoved c.args.kept.now c.args.kept.now = record { trace = refl; room = omega arith; setup = refl } in
-    record { tied = λ put t. t; completions = refl; taken = takes_nothing c.args.kept.now c.args.kept.now still; row = ([], none_again c.args.intake.now, records_none c.args.kept.now c.args.kept.now still); once = λ same. same }
+    record { tied = λ put t. t; completions = refl; taken = takes_nothing c.args.kept.now c.args.kept.now still; row = ([], none_again c.args.intake.now, records_none c.args.kept.now c.args.kept.now still); once = λ same. same; granted = λ all. refl; begun = λ all. waits_not c.args.intake.now c.in_default.not-Waiting }
+
+pub returns-in_err-reserve-clause-granted : goal.returns-in_err-reserve-clause-granted
+returns-in_err-reserve-clause-granted g c = λ all. absurd (false≢true (c.in_err-reserve.ensures.granted (length c.args.kept.now.trace + (c.in-Waiting.count + 3)) (all (length c.args.kept.now.trace + (c.in-Waiting.count + 3))) (omega arith)))
+
+pub returns-in_err-reserve-clause-begun : goal.returns-in_err-reserve-clause-begun
+returns-in_err-reserve-clause-begun g c = λ all. absurd (false≢true (c.in_err-reserve.ensures.granted (length c.args.kept.now.trace + (c.in-Waiting.count + 3)) (all (length c.args.kept.now.trace + (c.in-Waiting.count + 3))) (omega arith)))
+
+pub returns-in_ok-reserve-clause-begun : goal.returns-in_ok-reserve-clause-begun
+returns-in_ok-reserve-clause-begun g c = λ all.
+    rw c.after.ensures (begun_waits_not c.in-Waiting.count c.begin_call.result (c.begin_call.ensures.granted all))

@@ -1,3 +1,4 @@
+use Rattle.std.proofs.lemmas.Bool.{false≢true}
 use Rattle.std.proofs.Common.{◌∙◌, sym, subst}
 use Rattle.uring_entry.specs.Setup.{Setup}
 use Rattle.uring_threads.specs.EventRows.{IsPulled}
@@ -48,3 +49,9 @@ returns-in_default-clause-row g c = again_recorded c.args.kept.now c.retry.new.k
 
 pub returns-in-Ready-clause-once : goal.returns-in-Ready-clause-once
 returns-in-Ready-clause-once g c = λ once. c.pull_call.ensures.once (c.retry.ensures.once once)
+
+pub returns-in_err-retry-clause-granted : goal.returns-in_err-retry-clause-granted
+returns-in_err-retry-clause-granted g c = λ all. absurd (false≢true (c.in_err-retry.ensures.granted all))
+
+pub returns-in_err-retry-clause-begun : goal.returns-in_err-retry-clause-begun
+returns-in_err-retry-clause-begun g c = λ all. absurd (false≢true (c.in_err-retry.ensures.granted all))

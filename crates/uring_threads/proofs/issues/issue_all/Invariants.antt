@@ -9,7 +9,7 @@ use Rattle.uring_threads.proofs.issues.issue_all.Given as goal
 
 -- so many requests were issued, each with an event of its own
 abbrev pub invariant-loop-count : goal.invariant-loop-count
-invariant-loop-count l = record {
+invariant-loop-count g l = record {
   events : l.count ≤ length l.kept.trace;
   limit : l.count ≤ 2 ^ 63;
   carried : HaveCarried l.kept l.lanes;

@@ -1,3 +1,4 @@
+use Rattle.std.proofs.lemmas.Bool.{false≢true}
 use Rattle.std.proofs.Common.{◌≡◌, ◌<◌, ◌≤◌, zero, [], length, subst, sym, refl, ap, ◌∙◌}
 use Rattle.std.specs.Prelude.{OnOk, OnErr}
 use Rattle.uring_entry.specs.Setup.{Setup}
@@ -391,3 +392,18 @@ pub returns-clause-looked : goal.returns-clause-looked
 returns-clause-looked g c =
     let looks = subst (λ b. HasLooked b (g.P.KernelPort.room_looks c.deliver.new.port)) c.take_in.ensures.room_looks c.deliver.ensures.looked in
     on_ok c.tell_dropped.result (subst (λ a. HasLooked (g.P.KernelPort.room_looks c.args.port.now) a) (sym c.tell_dropped.ensures.room_looks) looks)
+
+pub returns-in_err-popped-clause-granted : goal.returns-in_err-popped-clause-granted
+returns-in_err-popped-clause-granted g c = λ all. absurd (false≢true (c.in_err-popped.ensures.granted all))
+
+pub returns-in_err-finished-clause-granted : goal.returns-in_err-finished-clause-granted
+returns-in_err-finished-clause-granted g c = λ all. absurd (false≢true (c.in_err-finished.ensures.granted all))
+
+pub returns-in_err-issued-clause-granted : goal.returns-in_err-issued-clause-granted
+returns-in_err-issued-clause-granted g c = λ all. absurd (false≢true (c.in_err-issued.ensures.granted all))
+
+pub returns-in_err-delivered-clause-granted : goal.returns-in_err-delivered-clause-granted
+returns-in_err-delivered-clause-granted g c = λ all. absurd (false≢true (c.in_err-delivered.ensures.granted all))
+
+pub returns-clause-granted : goal.returns-clause-granted
+returns-clause-granted g c = λ all. c.tell_dropped.ensures.ok (c.take_in.ensures.begun all)

@@ -1,25 +1,30 @@
 use Rattle.std.proofs.Common.{◌∙◌, ap, sym, subst, arith}
 use Rattle.uring_entry.specs.Setup.{Setup, IsWithinLimits}
-use Rattle.uring_core.specs.Core.{FitsApart}
+use Rattle.uring_core.specs.Core.{FitsApart, elements_for}
 use Rattle.uring_core.specs.Histories.{history_of, world}
 use Rattle.uring_core.specs.StepAnswers.{CalledForApart}
 use Rattle.uring_core.proofs.Following.{history_of-snoc}
-use Rattle.uring_threads.proofs.kept.Kept.step_reserved.Goals as goal
+use Rattle.uring_threads.proofs.kept.Kept.step_reserved_in.Goals as goal
 
 pub invariant_of-self : goal.invariant_of-self
-invariant_of-self c =
+invariant_of-self g c =
     let before = c.self.inside.trace.items in
-    let events = ap history_of c.push_reserved.ensures.items ∙ history_of-snoc before (c.args.step, c.step-answer.result) in (
-      subst IsWithinLimits (sym c.step-answer.ensures.setup) c.self.invariant.0,
-      subst (FitsApart c.step-answer.new.self) (sym events) (c.step-answer.ensures.fits (history_of before) c.self.invariant.1),
-      ap (λ (g : Setup). g.stops) c.step-answer.ensures.setup ∙ c.self.invariant.2,
+    let events = ap history_of c.push_reserved.ensures.items ∙ history_of-snoc before (c.args.step, c.step_in-answer.result) in (
+      subst IsWithinLimits (sym c.step_in-answer.ensures.setup) c.self.invariant.0,
+      subst (FitsApart c.step_in-answer.new.self) (sym events) (c.step_in-answer.ensures.fits (history_of before) c.self.invariant.1),
+      ap (λ (g : Setup). g.stops) c.step_in-answer.ensures.setup ∙ c.self.invariant.2,
     )
 
 pub returns-clause-grows : goal.returns-clause-grows
-returns-clause-grows c =
+returns-clause-grows g c =
     rw (← c.self.view_is) (record { trace = cc; room = omega arith; setup = cc })
 
 pub returns-clause-called : goal.returns-clause-called
-returns-clause-called c =
+returns-clause-called g c =
     let h = history_of c.self.inside.trace.items in
-    rw (← c.self.view_is) (subst (λ (g : Setup). CalledForApart g (world g h) c.args.step c.step-answer.result) c.step-answer.ensures.setup (c.step-answer.ensures.fits h c.self.invariant.1).lawful.0)
+    rw (← c.self.view_is) (subst (λ (g : Setup). CalledForApart g (world g h) c.args.step c.step_in-answer.result) c.step_in-answer.ensures.setup (c.step_in-answer.ensures.fits h c.self.invariant.1).lawful.0)
+
+pub returns-clause-granted : goal.returns-clause-granted
+returns-clause-granted g c = λ all.
+    let h = history_of c.self.inside.trace.items in
+    c.step_in-answer.ensures.granted h _ c.self.invariant.1 (all (elements_for c.self.inside.core (world c.self.inside.core.setup h) c.args.step)) (omega arith)

@@ -1,7 +1,11 @@
+use Rattle.std.proofs.Common.{◌≡◌, ◌≤◌, ap, subst, sym}
+use Rattle.std.proofs.lemmas.Bool.{false≢true}
+use Rattle.uring_ports.specs.Ports.{Sizes}
+use Rattle.uring_threads.specs.Kernel.{Kernel}
 use Rattle.uring_threads.proofs.Reporting.{TellsEnds, tells_ends}
 use Rattle.uring_threads.proofs.SameEnds.{lanes_to_settle, carried_to_settle}
-use Rattle.uring_threads.proofs.settle_ends.settle.Given.{Over}
-use Rattle.uring_threads.proofs.settle_ends.settle.Goals as goal
+use Rattle.uring_threads.proofs.settle_ends.settle_in.Given.{Over}
+use Rattle.uring_threads.proofs.settle_ends.settle_in.Goals as goal
 
 pub new-requires-clause-lanes : goal.new-requires-clause-lanes
 new-requires-clause-lanes g c =
@@ -38,3 +42,11 @@ returns-in-Ok-settle_ports-clause-closed g c = (told g c).closed
 
 pub returns-in-Ok-settle_ports-clause-reaped : goal.returns-in-Ok-settle_ports-clause-reaped
 returns-in-Ok-settle_ports-clause-reaped g c = (told g c).reaped
+
+pub returns-in_default-clause-granted : goal.returns-in_default-clause-granted
+returns-in_default-clause-granted g c = λ n grants sq cq events waiting. absurd (false≢true (c.in_default.ensures.granted n grants events waiting))
+
+pub returns-in-Err-clause-granted : goal.returns-in-Err-clause-granted
+returns-in-Err-clause-granted g c = λ n grants sq cq events waiting.
+    let sizes : c.make_room.new.self.sizes ≡ c.args.kernel.sizes = ap (λ (k : Kernel). k.sizes) c.in-Ok.ensures.same.others in
+    absurd (false≢true (c.in-Err.ensures.granted n grants (subst (λ (s : Sizes). s.sq ≤ n) (sym sizes) sq) (subst (λ (s : Sizes). s.cq ≤ n) c.requires.sizes cq)))

@@ -17,7 +17,7 @@ use Rattle.uring_threads.proofs.FullLanes.{hold_stays, short_stays, next_is_none
 use Rattle.uring_threads.proofs.Reporting.{lanes_back}
 use Rattle.uring_threads.proofs.SameEnds.{same_numbers}
 use Rattle.uring_threads.proofs.Turning.{left_same}
-use Rattle.uring_threads.proofs.kernel.Kernel.turn.Goals as goal
+use Rattle.uring_threads.proofs.kernel.Kernel.turn_in.Goals as goal
 
 pub make_turn-requires-clause-ties : goal.make_turn-requires-clause-ties
 make_turn-requires-clause-ties g c =
