@@ -50,7 +50,7 @@ invariant_of-self-2 c =
     let P : Groups → Type 0 = λ g. IsBeyond g.barriers (end_of c.args.self.now.window) in
     record {
       sound = end-sound_more _ _ _ _ c.args.n _ _ _ c.least_left-least.result c.args.self.now.sound ends c.least_left-least.ensures (λ e. absurd (omega (arith, e))) refl refl refl
-      (subst P (sym c.update.ensures.same) c.args.self.now.sound.beyond) (ap (λ (g : Groups). g.last) c.update.ensures.same ∙ c.requires.last);
+          (subst P (sym c.update.ensures.same) c.args.self.now.sound.beyond) (ap (λ (g : Groups). g.last) c.update.ensures.same ∙ c.requires.last);
     }
 
 pub returns-clause-shows : goal.returns-clause-shows
