@@ -13,7 +13,7 @@ use Rattle.uring_entry.proofs.BelowLemmas.{is_some_value}
 use Rattle.uring_dispatch.specs.declared.request.Request.{Request}
 use Rattle.uring_dispatch.specs.declared.group.Group.{Group}
 use Rattle.uring_dispatch.specs.Window.{Window, at, end_of, Changes}
-use Rattle.uring_dispatch.specs.Groups.{Groups, group_at, last_group, with_member, Exchanges, IsBeyond}
+use Rattle.uring_dispatch.specs.Groups.{Groups, group_at, last_group, with_member, IsBeyond}
 use Rattle.uring_dispatch.specs.Held.{IsKept, IsSound, AreHeld}
 use Rattle.uring_dispatch.specs.Accepts.{Accepts}
 use Rattle.uring_dispatch.proofs.GroupsKept.{only_key}

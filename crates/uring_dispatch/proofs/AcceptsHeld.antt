@@ -23,6 +23,7 @@ use Rattle.uring_dispatch.specs.declared.group.Group.{Group}
 use Rattle.uring_dispatch.specs.Window.{Window, at, end_of, one_if, Changes}
 use Rattle.uring_dispatch.specs.Groups.{Groups, group_at, last_group, with_member, Exchanges, IsBeyond}
 use Rattle.uring_dispatch.specs.Held.{IsSound, IsShown, IsShownGroup, AreHeld, op_of}
+use Rattle.uring_dispatch.proofs.Touches.{each-row, each-group, shown-same}
 use Rattle.uring_dispatch.proofs.Counting.{count_below-same}
 use Rattle.uring_dispatch.proofs.HeldLemmas.{some_none}
 use Rattle.uring_dispatch.specs.Accepts.{Accepts, new_request}
@@ -162,46 +163,36 @@ accept-held w v g h r entry request s a c is does free waits outstanding running
             | inl same ↦ some_none request _ e (ap (at v) same ∙ c.changes.here)
             | inr other ↦ a.ended m (sym (c.changes.others m other) ∙ e) (lt_of_le_of_ne (omega (arith, top)) (λ k. other (k ∙ sym top)))
           ];
-      shown = λ m x e.
-          elim (cases_eq m (end_of w)) [
-            | inl same ↦
-                let one : request ≡ x = same_Some _ _ (sym c.changes.here ∙ ap (at v) (sym same) ∙ e) in
-                let P : Request → Type 0 = λ z. IsShown (with_accepted r entry) n z in
-                let Q : ℕ → Type 0 = λ k. IsShown (with_accepted r entry) k x in
-                let here = entry_of-accepted_at r entry in
-                subst Q (sym (same ∙ top))
-                (subst P one
-                (record {
-                  entry = is ∙ sym here;
-                  op = does ∙ ap op_of (sym here);
-                  unended = fresh.ended;
-                  cancelled = free ∙ sym fresh.cancelled;
-                  running = waits ∙ sym fresh.started;
-                  sound = λ f. absurd (both_ways _ waits f);
-                }))
-            | inr other ↦
-                let old = a.shown m x (sym (c.changes.others m other) ∙ e) in
-                let there = entry_of-accepted_other r entry m (λ k. other (k ∙ sym top)) in
-                record {
-                  entry = old.entry ∙ sym there;
-                  op = old.op ∙ ap op_of (sym there);
-                  unended = old.unended;
-                  cancelled = old.cancelled;
-                  running = old.running;
-                  sound = λ f. ap is_faulty there ∙ old.sound f;
-                }
-          ];
-      groups = λ key x e.
-          elim (cases_eq key request.group) [
-            | inl same ↦
-                let one = same_Some _ _ (sym c.exchange.here ∙ ap (group_at h) (sym same) ∙ e) in
-                let P : Group → Type 0 = λ z. IsShownGroup (with_accepted r entry) z in
-                let Q : ℕ → Type 0 = λ k. IsShownGroup (with_accepted r entry) (with_member (last_group g.records g.last) k (is_drain entry) (is_faulty entry)) in
-                subst P one (subst Q (sym top) joined)
-            | inr other ↦
-                let old = sym (c.exchange.others key other) ∙ e in
-                elsewhere-shown r entry x (a.groups key x old) (closed-elsewhere w g r request.group key x (last_group g.records g.last) s a c.joins c.key c.kept old other) fresh.ended
-          ];
+      shown =
+          each-row w v (end_of w) (Some request) (λ k q. IsShown r k q) (λ k q. IsShown (with_accepted r entry) k q) c.changes
+          (λ x e.
+          let P : Request → Type 0 = λ z. IsShown (with_accepted r entry) (end_of w) z in
+          let Q : ℕ → Type 0 = λ k. IsShown (with_accepted r entry) k request in
+          let here = entry_of-accepted_at r entry in
+          subst P (same_Some _ _ e)
+          (subst Q (sym top)
+          (record {
+            entry = is ∙ sym here;
+            op = does ∙ ap op_of (sym here);
+            unended = fresh.ended;
+            cancelled = free ∙ sym fresh.cancelled;
+            running = waits ∙ sym fresh.started;
+            sound = λ f. absurd (both_ways _ waits f);
+          })))
+          (λ k q other e old.
+          shown-same r (with_accepted r entry) k q
+          (record { entry = entry_of-accepted_other r entry k (λ j. other (j ∙ sym top)); ended = refl; cancelled = refl; started = refl }) old)
+          a.shown;
+      groups =
+          each-group g h request.group (Some (with_member (last_group g.records g.last) (end_of w) (is_drain entry) (is_faulty entry)))
+          (λ k x. IsShownGroup r x) (λ k x. IsShownGroup (with_accepted r entry) x) c.exchange
+          (λ x e.
+          let P : Group → Type 0 = λ z. IsShownGroup (with_accepted r entry) z in
+          let Q : ℕ → Type 0 = λ k. IsShownGroup (with_accepted r entry) (with_member (last_group g.records g.last) k (is_drain entry) (is_faulty entry)) in
+          subst P (same_Some _ _ e) (subst Q (sym top) joined))
+          (λ k x other e old.
+          elsewhere-shown r entry x old (closed-elsewhere w g r request.group k x (last_group g.records g.last) s a c.joins c.key c.kept e other) fresh.ended)
+          a.groups;
       last = λ k e.
           let at_n : k ≡ n = omega arith in
           ap (is_last (with_accepted r entry)) at_n

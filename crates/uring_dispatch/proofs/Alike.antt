@@ -1,5 +1,5 @@
 -- The window and the groups where only how much more there is memory for differs, or nothing of what they say.
-use Rattle.std.proofs.Common.{◌≡◌, ℕ, ◌≤◌, List, Result, Ok, Err, true, not, Option, Some, None, is_some, refl, sym, ◌∙◌, ap, subst, arith}
+use Rattle.std.proofs.Common.{◌≡◌, ℕ, ◌≤◌, List, Result, Ok, Err, true, not, is_some, refl, sym, ◌∙◌, ap, subst, arith}
 use Rattle.std.specs.Prelude.{OnOk, OnErr}
 use Rattle.uring_entry.specs.Requests.{Requests}
 use Rattle.uring_dispatch.specs.declared.group.Barrier.{Barrier}

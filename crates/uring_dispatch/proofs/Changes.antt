@@ -1,15 +1,16 @@
 -- What a start and a choice leave of what is held.
-use Rattle.std.proofs.Common.{◌≡◌, ℕ, ◌+◌, ◌≤◌, [], ◌∷◌, length, false, ◌==◌, Some, None, is_some, refl, sym, ◌∙◌, ap, subst, arith, inl, inr}
+use Rattle.std.proofs.Common.{◌≡◌, ◌≢◌, ℕ, ◌+◌, ◌≤◌, [], ◌∷◌, length, false, ◌==◌, Some, None, is_some, refl, sym, ◌∙◌, ap, subst, arith, inl, inr}
 use Rattle.std.proofs.lemmas.Bool.{cases_eq, eq-eqb, ne_eqb}
 use Rattle.std.proofs.lemmas.Option.{same_Some}
 use Rattle.uring_entry.specs.Preparation.{is_faulty}
-use Rattle.uring_entry.specs.Requests.{Requests, entry_of, is_running, with_started, with_cancelled}
+use Rattle.uring_entry.specs.Requests.{Requests, entry_of, is_running, is_cancelled, has_started, with_started, with_cancelled}
 use Rattle.uring_entry.proofs.RequestLemmas.{is_running-started_same, is_running-started_other, added-same, added-other}
 use Rattle.uring_dispatch.specs.declared.request.Request.{Request}
 use Rattle.uring_dispatch.specs.Window.{Window, at, end_of, one_if, Changes, started, chosen, IsAsBefore}
 use Rattle.uring_dispatch.specs.Groups.{Groups, group_at, IsBeyond}
 use Rattle.uring_dispatch.specs.Held.{IsSound, IsShown, AreHeld}
 use Rattle.uring_dispatch.proofs.WindowFront.{at-past}
+use Rattle.uring_dispatch.proofs.Touches.{each-row, shown-same}
 use Rattle.uring_dispatch.proofs.Counting.{count_below-changed}
 use Rattle.uring_dispatch.proofs.HeldLemmas.{some_none, shown-within, running-some, vacant, linked, member}
 
@@ -67,106 +68,32 @@ gone w v n k q c e =
 pub choose-held : (w v : Window) (g : Groups) (r : Requests) (n : ℕ) (p : Request) → AreHeld w g r
     → at w n ≡ Some p → Changes w v n (Some (chosen p)) → IsAsBefore w v → v.running ≡ w.running
     → AreHeld v g (with_cancelled r (n ∷ []))
-choose-held w v g r n p h there c as_before runs_on = record {
-  count = h.count ∙ sym as_before.end;
-  outstanding = as_before.outstanding ∙ h.outstanding;
-  running = runs_on ∙ h.running;
-  ended = λ m e lt. h.ended m (gone w v n m (chosen p) c e) lt;
-  shown = λ m q is.
-      elim (cases_eq m n) [
-        | inl same ↦
-            let one : chosen p ≡ q = same_Some _ _ (sym c.here ∙ ap (at v) (sym same) ∙ is) in
-            let old = h.shown n p there in
-            let P : Request → Type 0 = λ z. IsShown (with_cancelled r (n ∷ [])) n z in
-            let Q : ℕ → Type 0 = λ k. IsShown (with_cancelled r (n ∷ [])) k q in
-            subst Q (sym same)
-            (subst P one
-            (record {
-              entry = old.entry;
-              op = old.op;
-              unended = old.unended;
-              cancelled = sym (added-same (λ j. j == n) r.cancelled n (eq-eqb n n refl));
-              running = old.running;
-              sound = old.sound;
-            }))
-        | inr other ↦
-            let old = h.shown m q (sym (c.others m other) ∙ is) in
-            record {
-              entry = old.entry;
-              op = old.op;
-              unended = old.unended;
-              cancelled = old.cancelled ∙ sym (added-other (λ j. j == m) r.cancelled n (ne_eqb n m (λ e. other (sym e))));
-              running = old.running;
-              sound = old.sound;
-            }
-      ];
-  groups = λ key q is.
-      let old = h.groups key q is in
-      record {
-        group = let i = old.group in record { some = i.some; accepted = i.accepted; begins = i.begins; joined = i.joined; ends = i.ends };
-        fault = old.fault;
-        drain = old.drain;
-        broken = old.broken;
-      };
-  last = h.last;
-  untouched = λ m past.
-      let old = h.untouched m past in
-      record {
-        started = old.started;
-        ended = old.ended;
-        cancelled = added-other (λ j. j == m) r.cancelled n (ne_eqb n m (λ e. absurd (below m past e))) ∙ old.cancelled;
-        cut = old.cut;
-      };
-}
-  where
-    below : (m : ℕ) → length r.accepted ≤ m → n ≡ m → ⊥
-    below m past e =
-        some_none p (at w n) (at-past w n (omega (arith, h.count))) there
-
--- a request starts
-pub start-held : (w v : Window) (g : Groups) (r : Requests) (n : ℕ) (p : Request) → IsSound w g
-    → AreHeld w g r → at w n ≡ Some p → p.is_running ≡ false → is_faulty (entry_of r n) ≡ false
-    → Changes w v n (Some (started p)) → IsAsBefore w v → v.running ≡ w.running + 1
-    → AreHeld v g (with_started r n)
-start-held w v g r n p s h there waits right c as_before more =
-    let inside = shown-within w g r n p s h there in
-    let shown = h.shown n p there in
+choose-held w v g r n p h there c as_before runs_on =
+    let s : Requests = with_cancelled r (n ∷ []) in
+    let still : (k : ℕ) → k ≢ n → is_cancelled s k ≡ is_cancelled r k =
+    λ k ne. added-other (λ j. j == k) r.cancelled n (ne_eqb n k (λ e. ne (sym e)))
+    in
     record {
       count = h.count ∙ sym as_before.end;
       outstanding = as_before.outstanding ∙ h.outstanding;
-      running =
-          let was : one_if (is_running r n) ≡ 0 = ap one_if (running-some w g r n p h there ∙ waits) in
-          let now : one_if (is_running (with_started r n) n) ≡ 1 = ap one_if (is_running-started_same r n shown.unended) in
-          let change = count_below-changed (is_running r) (is_running (with_started r n)) (length r.accepted) n inside (λ k ne. is_running-started_other r n k ne) in
-          omega (arith, h.running, change);
-      ended = λ m e lt. h.ended m (gone w v n m (started p) c e) lt;
-      shown = λ m q is.
-          elim (cases_eq m n) [
-            | inl same ↦
-                let one : started p ≡ q = same_Some _ _ (sym c.here ∙ ap (at v) (sym same) ∙ is) in
-                let P : Request → Type 0 = λ z. IsShown (with_started r n) n z in
-                let Q : ℕ → Type 0 = λ k. IsShown (with_started r n) k q in
-                subst Q (sym same)
-                (subst P one
-                (record {
-                  entry = shown.entry;
-                  op = shown.op;
-                  unended = shown.unended;
-                  cancelled = shown.cancelled;
-                  running = sym (added-same (λ j. j == n) r.started n (eq-eqb n n refl));
-                  sound = λ e. right;
-                }))
-            | inr other ↦
-                let old = h.shown m q (sym (c.others m other) ∙ is) in
-                record {
-                  entry = old.entry;
-                  op = old.op;
-                  unended = old.unended;
-                  cancelled = old.cancelled;
-                  running = old.running ∙ sym (added-other (λ j. j == m) r.started n (ne_eqb n m (λ e. other (sym e))));
-                  sound = old.sound;
-                }
-          ];
+      running = runs_on ∙ h.running;
+      ended = λ m e lt. h.ended m (gone w v n m (chosen p) c e) lt;
+      shown =
+          each-row w v n (Some (chosen p)) (λ k q. IsShown r k q) (λ k q. IsShown s k q) c
+          (λ q is.
+          let old = h.shown n p there in
+          let P : Request → Type 0 = λ z. IsShown s n z in
+          subst P (same_Some _ _ is)
+          (record {
+            entry = old.entry;
+            op = old.op;
+            unended = old.unended;
+            cancelled = sym (added-same (λ j. j == n) r.cancelled n (eq-eqb n n refl));
+            running = old.running;
+            sound = old.sound;
+          }))
+          (λ k q other e old. shown-same r s k q (record { entry = refl; ended = refl; cancelled = still k other; started = refl }) old)
+          h.shown;
       groups = λ key q is.
           let old = h.groups key q is in
           record {
@@ -178,10 +105,59 @@ start-held w v g r n p s h there waits right c as_before more =
       last = h.last;
       untouched = λ m past.
           let old = h.untouched m past in
+          record { started = old.started; ended = old.ended; cancelled = still m (λ e. absurd (below m past (sym e))) ∙ old.cancelled; cut = old.cut };
+    }
+  where
+    below : (m : ℕ) → length r.accepted ≤ m → n ≡ m → ⊥
+    below m past e =
+        some_none p (at w n) (at-past w n (omega (arith, h.count))) there
+
+-- a request starts
+pub start-held : (w v : Window) (g : Groups) (r : Requests) (n : ℕ) (p : Request) → IsSound w g
+    → AreHeld w g r → at w n ≡ Some p → p.is_running ≡ false → is_faulty (entry_of r n) ≡ false
+    → Changes w v n (Some (started p)) → IsAsBefore w v → v.running ≡ w.running + 1
+    → AreHeld v g (with_started r n)
+start-held w v g r n p sound h there waits right c as_before more =
+    let s : Requests = with_started r n in
+    let inside = shown-within w g r n p sound h there in
+    let shown = h.shown n p there in
+    let still : (k : ℕ) → k ≢ n → has_started s k ≡ has_started r k =
+    λ k ne. added-other (λ j. j == k) r.started n (ne_eqb n k (λ e. ne (sym e)))
+    in
+    record {
+      count = h.count ∙ sym as_before.end;
+      outstanding = as_before.outstanding ∙ h.outstanding;
+      running =
+          let was : one_if (is_running r n) ≡ 0 = ap one_if (running-some w g r n p h there ∙ waits) in
+          let now : one_if (is_running s n) ≡ 1 = ap one_if (is_running-started_same r n shown.unended) in
+          let change = count_below-changed (is_running r) (is_running s) (length r.accepted) n inside (λ k ne. is_running-started_other r n k ne) in
+          omega (arith, h.running, change);
+      ended = λ m e lt. h.ended m (gone w v n m (started p) c e) lt;
+      shown =
+          each-row w v n (Some (started p)) (λ k q. IsShown r k q) (λ k q. IsShown s k q) c
+          (λ q is.
+          let P : Request → Type 0 = λ z. IsShown s n z in
+          subst P (same_Some _ _ is)
+          (record {
+            entry = shown.entry;
+            op = shown.op;
+            unended = shown.unended;
+            cancelled = shown.cancelled;
+            running = sym (added-same (λ j. j == n) r.started n (eq-eqb n n refl));
+            sound = λ e. right;
+          }))
+          (λ k q other e old. shown-same r s k q (record { entry = refl; ended = refl; cancelled = refl; started = still k other }) old)
+          h.shown;
+      groups = λ key q is.
+          let old = h.groups key q is in
           record {
-            started = added-other (λ j. j == m) r.started n (ne_eqb n m (λ e. absurd (omega arith))) ∙ old.started;
-            ended = old.ended;
-            cancelled = old.cancelled;
-            cut = old.cut;
+            group = let i = old.group in record { some = i.some; accepted = i.accepted; begins = i.begins; joined = i.joined; ends = i.ends };
+            fault = old.fault;
+            drain = old.drain;
+            broken = old.broken;
           };
+      last = h.last;
+      untouched = λ m past.
+          let old = h.untouched m past in
+          record { started = still m (λ e. absurd (omega arith)) ∙ old.started; ended = old.ended; cancelled = old.cancelled; cut = old.cut };
     }

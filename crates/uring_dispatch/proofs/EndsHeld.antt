@@ -1,5 +1,5 @@
 -- When a request ends, what is held is what the lists say.
-use Rattle.std.proofs.Common.{◌≡◌, ◌≢◌, ℕ, ◌+◌, ◌<◌, ◌≤◌, ℤ, List, length, false, not, ◌&&◌, ltb, Option, Some, None, is_some, sym, ◌∙◌, ap, subst, arith, inl, inr}
+use Rattle.std.proofs.Common.{◌≡◌, ◌≢◌, ℕ, ◌+◌, ◌<◌, ◌≤◌, ℤ, List, length, false, not, ◌&&◌, ltb, Option, Some, None, is_some, refl, sym, ◌∙◌, ap, subst, arith, inl, inr}
 use Rattle.std.proofs.lemmas.Bool.{cases_eq, and_right}
 use Rattle.std.proofs.lemmas.Option.{same_Some}
 use Rattle.uring_entry.specs.Success.{is_success}
@@ -11,10 +11,11 @@ use Rattle.uring_dispatch.specs.declared.request.Request.{Request}
 use Rattle.uring_dispatch.specs.declared.group.Group.{Group}
 use Rattle.uring_dispatch.specs.Window.{Window, at, one_if}
 use Rattle.uring_dispatch.specs.Groups.{Groups, group_at}
-use Rattle.uring_dispatch.specs.Held.{IsSound, IsShownGroup, AreHeld, HasLost}
+use Rattle.uring_dispatch.specs.Held.{IsSound, IsShown, IsShownGroup, AreHeld, HasLost}
+use Rattle.uring_dispatch.proofs.Touches.{each-row, each-group, shown-same}
 use Rattle.uring_dispatch.proofs.Counting.{count_below-changed}
-use Rattle.uring_dispatch.proofs.HeldLemmas.{shown-within, outstanding-some, running-some, linked}
-use Rattle.uring_dispatch.proofs.EndLemmas.{kept-request, apart, Ends}
+use Rattle.uring_dispatch.proofs.HeldLemmas.{some_none, shown-within, outstanding-some, running-some, linked}
+use Rattle.uring_dispatch.proofs.EndLemmas.{apart, Ends}
 
 -- The lists.
 
@@ -103,24 +104,16 @@ end-held w v g h r n request q left res bytes s a e lost was closed shows =
             | inl same ↦ ap (has_ended (with_ended r n res bytes)) same ∙ has_ended-same r n res bytes
             | inr other ↦ has_ended-other r n res bytes m other ∙ a.ended m (sym (e.changes.others m other) ∙ gone) lt
           ];
-      shown = λ m p is.
-          let old = kept-request w v n m p e.changes is in
-          let shown = a.shown m p old.1 in
-          record {
-            entry = shown.entry;
-            op = shown.op;
-            unended = has_ended-other r n res bytes m old.0 ∙ shown.unended;
-            cancelled = shown.cancelled;
-            running = shown.running;
-            sound = shown.sound;
-          };
-      groups = λ key p is.
-          elim (cases_eq key request.group) [
-            | inl same ↦
-                shown-here r n res bytes q p (a.groups request.group q e.group) from to (a.shown n request e.there).unended
-                (shows.group p (sym e.exchange.here ∙ ap (group_at h) (sym same) ∙ is))
-            | inr other ↦ shown-elsewhere w g r n key request p res bytes s a e.there (sym (e.exchange.others key other) ∙ is) other
-          ];
+      shown =
+          each-row w v n None (λ k q. IsShown r k q) (λ k q. IsShown (with_ended r n res bytes) k q) e.changes (λ q is. some_none q None refl is)
+          (λ k q other is old.
+          shown-same r (with_ended r n res bytes) k q (record { entry = refl; ended = has_ended-other r n res bytes k other; cancelled = refl; started = refl }) old)
+          a.shown;
+      groups =
+          each-group g h request.group left (λ k p. IsShownGroup r p) (λ k p. IsShownGroup (with_ended r n res bytes) p) e.exchange
+          (λ p is. shown-here r n res bytes q p (a.groups request.group q e.group) from to (a.shown n request e.there).unended (shows.group p is))
+          (λ k p other is old. shown-elsewhere w g r n k request p res bytes s a e.there is other)
+          a.groups;
       last = λ k end. a.last k end ∙ ap (λ o. not (is_some o)) (was ∙ sym closed);
       untouched = λ m past.
           let old = a.untouched m past in

@@ -12,6 +12,7 @@ pub mod Finding
 pub mod EndLemmas
 pub mod EndsHeld
 pub mod Issues
+pub mod Touches
 pub mod Changes
 pub mod Choosing
 pub mod Accepts

@@ -9,7 +9,7 @@ use Rattle.uring_number_set.proofs.BlockLemmas.{holds-same}
 use Rattle.uring_dispatch.specs.declared.request.Request.{Request}
 use Rattle.uring_dispatch.specs.declared.group.Group.{Group}
 use Rattle.uring_dispatch.specs.declared.waiting.Waiting.{Waiting}
-use Rattle.uring_dispatch.specs.Window.{Window, at, end_of, Changes}
+use Rattle.uring_dispatch.specs.Window.{Window, at, end_of, Changes, started}
 use Rattle.uring_dispatch.specs.Groups.{Groups, group_at}
 use Rattle.uring_dispatch.specs.Held.{IsSound, IsNext}
 use Rattle.uring_dispatch.proofs.WindowFront.{at-past}
@@ -78,13 +78,21 @@ reach-put s t n b p =
     let stop = p.stop in
     record { start = omega arith; stop = omega arith; limit = p.limit }
 
-pub forgotten-keeps : (w : Window) (g : Groups) (s t : Waiting) (n : ℕ) → at w n ≡ None
+-- nor does one that was started
+pub started-listed : (w : Window) (g : Groups) (s t : Waiting) (n : ℕ) (q : Request)
+    → at w n ≡ Some (started q) → Puts s.heads t.heads n false → Puts s.doomed t.doomed n false
+    → IsListedAt w g t n
+started-listed w g s t n q runs a b = record {
+  head = a.here ∙ sym (ap (λ o. waits_at_head g o n) runs);
+  doomed = b.here ∙ sym (ap (λ o. waits_doomed g o n) runs);
+}
+
+pub forgotten-keeps : (w : Window) (g : Groups) (s t : Waiting) (n : ℕ) → IsListedAt w g t n
     → Puts s.heads t.heads n false → Puts s.doomed t.doomed n false → Keeps w g s t
-forgotten-keeps w g s t n gone a b = record {
+forgotten-keeps w g s t n own a b = record {
   told = λ k e.
       elim (cases_eq k n) [
-        | inl same ↦
-            let P : ℕ → Type 0 = λ j. IsListedAt w g t j in subst P (sym same) (forgotten-listed w g s t n gone a b)
+        | inl same ↦ let P : ℕ → Type 0 = λ j. IsListedAt w g t j in subst P (sym same) own
         | inr other ↦ record { head = a.others k other ∙ e.head; doomed = b.others k other ∙ e.doomed }
       ];
   heads = reach-put s.heads t.heads n false a;

@@ -165,11 +165,6 @@ first-of_all w g r n m request q s h there found drains first = record {
       (or_right _ _ (draining-held w g r n request q s h there found ∙ drains));
 }
 
-pub first-none : (w : Window) (g : Groups) (r : Requests) (n : ℕ) (request : Request) → IsSound w g
-    → AreHeld w g r → at w n ≡ Some request → ((k : ℕ) → at w k ≡ None) → IsFirstHolder r n n
-first-none w g r n request s h there none =
-    record { before = λ k low lt. gone-free w g r n k request s h there lt (none k); here = λ lt. absurd (omega arith) }
-
 -- an earlier group is the first that drains
 pub first-draining_is : (w : Window) (g : Groups) (r : Requests) (n : ℕ) (request : Request) (q b : Group)
     → IsSound w g → AreHeld w g r → at w n ≡ Some request → group_at g request.group ≡ Some q

@@ -18,7 +18,6 @@ use crate::group::{Group, earlier_of};
 use crate::grouped::Grouped;
 use crate::outstanding::Outstanding;
 use crate::request::Request;
-use crate::standing::{group_of, is_doomed_in};
 use crate::window::Window;
 use uring_entry::{Op, errno, succeeded};
 
@@ -59,12 +58,12 @@ impl Outstanding {
             → IssueCounts result (dispatch_of self.old.grouped.window self.old.grouped.groups room between)
             (dispatch_of self.new.grouped.window self.new.grouped.groups room between) }
     {
-        let group = group_of(&self.grouped.groups, &request);
+        let group = self.grouped.group_of(n, &request);
         let Some(op) = request.op else {
             self.end_by_key(n, key, &group, false);
             return Issued::Ended(-errno::EINVAL);
         };
-        if is_doomed_in(&request, &group, n) {
+        if self.grouped.is_doomed_in(n, &request, &group) {
             self.end_by_key(n, key, &group, false);
             return Issued::Ended(-errno::ECANCELED);
         }
@@ -75,8 +74,8 @@ impl Outstanding {
             let user_data = request.entry.addr();
             return Issued::Ended(self.cancel(n, user_data, all));
         }
-        self.grouped.start(n);
-        self.waiting.relist(&self.grouped, n);
+        self.grouped.start(n, key);
+        self.waiting.forget(n);
         Issued::Run(op)
     }
 
@@ -101,7 +100,7 @@ impl Outstanding {
         }
         let is_success = succeeded(&request.entry, res);
         let posts = Posts::of(&request.entry, is_success);
-        let group = group_of(&grouped.groups, request);
+        let group = grouped.group_of(n, request);
         self.end_by_key(n, key, &group, is_success);
         Some(posts)
     }
@@ -121,7 +120,7 @@ impl Outstanding {
             unreachable!()
         };
         let grouped = &self.grouped;
-        let group = group_of(&grouped.groups, grouped.window.by_key(key));
+        let group = grouped.group_of(n, grouped.window.by_key(key));
         self.end_by_key(n, key, &group, is_success);
     }
 

@@ -21,7 +21,7 @@ impl Grouped {
     ghost use Rattle.std.specs.Prelude.{◌≡◌, ℕ, [], ◌∷◌, ◌+◌, ◌^◌, ◌<◌, ◌≤◌, true, false, Some, None, is_some, IsOk, OnOk};
     ghost use Rattle.uring_entry.specs.Preparation.{is_faulty};
     ghost use Rattle.uring_entry.specs.Requests.{Requests, no_request, entry_of, with_accepted, with_cut, with_started, with_cancelled};
-    ghost use Rattle.uring_dispatch.specs.Window.{at, end_of, runs, started, chosen, Changes, IsAsBefore};
+    ghost use Rattle.uring_dispatch.specs.Window.{key_at, at, end_of, runs, started, chosen, Changes, IsAsBefore};
     ghost use Rattle.uring_dispatch.specs.Accepts.{Accepts, new_request};
     ghost use Rattle.uring_dispatch.specs.Grouped.{Shows, HasSameRecords};
 
@@ -91,8 +91,9 @@ impl Grouped {
         self.groups.close();
     }
 
-    /// Starts request `n`, which waits.
-    pub(crate) fn start(&mut self, n: u64)
+    /// Starts request `n`, which has this key and waits.
+    pub(crate) fn start(&mut self, n: u64, key: usize)
+        requires found { key_at self.old.window.first self.old.window.keys n ≡ Some key }
         requires there { is_some (at self.old.window n) ≡ true }
         requires waits { runs (at self.old.window n) ≡ false }
         ensures changes { (q : Request) → at self.old.window n ≡ Some q
@@ -103,7 +104,7 @@ impl Grouped {
         ensures same { IsAsBefore self.old.window self.new.window }
         ensures groups { self.new.groups ≡ self.old.groups }
     {
-        self.window.start(n);
+        self.window.start(n, key);
     }
 
     /// Notes that a cancel chose request `n`.

@@ -124,7 +124,7 @@ impl Groups {
     /// Lets go the group of this key, whose last member has ended.
     pub(crate) fn remove(&mut self, key: usize)
         requires there { is_some (group_at self.old key) ≡ true }
-        requires closed { self.old.last ≡ None }
+        requires last { self.old.last ≡ None }
         ensures changes { Exchanges self.old self.new key None }
         ensures beyond { (n : ℕ) → IsBeyond self.old.barriers n → IsBeyond self.new.barriers n }
         ensures last { self.new.last ≡ None }

@@ -1,7 +1,6 @@
 //! How an outstanding request stands: whether it is doomed, and whether it may start. io_uring_enter(2), IOSQE_IO_LINK, IOSQE_IO_HARDLINK, IOSQE_IO_DRAIN and IORING_OP_ASYNC_CANCEL. That a failure reaches all later members, that a fault dooms those before it too, and that a doomed request waits for nothing, are our own rules.
 
-ghost use Rattle.std.specs.Prelude.{◌≡◌, ◌||◌, true, Some, is_some, IfSome};
-ghost use Rattle.uring_entry.specs.Groups.{is_before};
+ghost use Rattle.std.specs.Prelude.{◌≡◌, true, Some, is_some, IfSome};
 ghost use Rattle.uring_entry.specs.Requests.{Requests, entry_of};
 ghost use Rattle.uring_entry.specs.Layout.{addr_of};
 ghost use Rattle.uring_entry.specs.Requests as spec;
@@ -11,41 +10,43 @@ ghost use Rattle.uring_dispatch.specs.Grouped.{Shows, IsGroupOf};
 
 use crate::group::{Group, is_before};
 use crate::grouped::Grouped;
-use crate::groups::Groups;
 use crate::request::Request;
 
-/// The group of a request.
-pub(crate) fn group_of(groups: &Groups, request: &Request) -> Group
-    requires { is_some (group_at groups.now request.now.group) ≡ true }
-    ensures { group_at groups.now request.now.group ≡ Some result }
-{
-    match groups.get(request.group) {
-        Some(group) => *group,
-        None => unreachable!(),
-    }
-}
-
-/// Whether request `n` of this group is doomed: it was chosen by a cancel, its group has a fault, or an earlier member with a soft link failed.
-pub(crate) fn is_doomed_in(request: &Request, group: &Group, n: u64) -> bool
-    ensures { result
-        ≡ ((is_some group.now.fault || is_before group.now.broken n) || request.now.is_cancelled) }
-{
-    if request.is_cancelled {
-        return true;
-    }
-    if group.fault.is_some() {
-        return true;
-    }
-    is_before(group.broken, n)
-}
-
 impl Grouped {
+    /// The group of request `n`.
+    pub(crate) fn group_of(&self, n: u64, request: &Request) -> Group
+        requires { at self.now.window n ≡ Some request.now }
+        ensures group { group_at self.now.groups request.now.group ≡ Some result }
+        ensures own { IsGroupOf self.now n result }
+    {
+        let Some(group) = self.groups.get(request.group) else {
+            unreachable!()
+        };
+        *group
+    }
+
     /// Whether request `n` is doomed.
     pub(crate) fn is_doomed(&self, n: u64, request: &Request) -> bool
         requires { at self.now.window n ≡ Some request.now }
         ensures { (r : Requests) → Shows self.now r → result ≡ spec.is_doomed r n }
     {
-        is_doomed_in(request, &group_of(&self.groups, request), n)
+        let group = self.group_of(n, request);
+        self.is_doomed_in(n, request, &group)
+    }
+
+    /// Whether request `n` of this group is doomed: it was chosen by a cancel, its group has a fault, or an earlier member with a soft link failed.
+    pub(crate) fn is_doomed_in(&self, n: u64, request: &Request, group: &Group) -> bool
+        requires there { at self.now.window n ≡ Some request.now }
+        requires group { IsGroupOf self.now n group.now }
+        ensures { (r : Requests) → Shows self.now r → result ≡ spec.is_doomed r n }
+    {
+        if request.is_cancelled {
+            return true;
+        }
+        if group.fault.is_some() {
+            return true;
+        }
+        is_before(group.broken, n)
     }
 
     /// Whether request `n` of this group may start: every earlier member of its group has ended, so has every earlier group that drains, and, if its own group drains, every earlier request.

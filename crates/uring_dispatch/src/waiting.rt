@@ -89,7 +89,7 @@ impl Waiting {
         self.doomed.put(n, standing.is_doomed);
     }
 
-    /// Tells of request `n`, which has ended, that it doesn't wait.
+    /// Tells of request `n`, which has ended or was started, that it doesn't wait.
     pub(crate) fn forget(&mut self, n: u64)
         requires { CanTell self.old n }
         ensures heads { Puts self.old.heads self.new.heads n false }

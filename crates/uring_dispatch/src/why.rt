@@ -10,7 +10,6 @@ ghost use Rattle.uring_dispatch.specs.Waits.{IsFirstHolder};
 
 use crate::grouped::Grouped;
 use crate::request::Request;
-use crate::standing::group_of;
 use uring_entry::{Doom, Since, Why, prepare};
 
 impl Grouped {
@@ -50,7 +49,7 @@ impl Grouped {
         if let Err(fault) = prepare(&request.entry) {
             return Doom::OwnFault(fault);
         }
-        let group = group_of(&self.groups, request);
+        let group = self.group_of(n, request);
         if let Some(m) = group.fault {
             return Doom::FaultOf(m);
         }
@@ -81,7 +80,7 @@ impl Grouped {
         ensures holds { (r : Requests) → Shows self.now r → IsFirstHolder r n result }
         ensures outstanding { result < n → is_some (at self.now.window result) ≡ true }
     {
-        let group = group_of(&self.groups, request);
+        let group = self.group_of(n, request);
         if group.drain.is_some() {
             return match self.window.least() {
                 Some(least) => least,
@@ -108,18 +107,18 @@ impl Grouped {
         if other.group == request.group {
             return Since::SameGroup;
         }
-        if self.drains(other) {
+        if self.drains(m, other) {
             Since::ItDrains
         } else {
             Since::OwnDrains
         }
     }
 
-    /// Whether the group of a request drains.
-    fn drains(&self, request: &Request) -> bool
-        requires { is_some (group_at self.now.groups request.now.group) ≡ true }
+    /// Whether the group of request `n` drains.
+    fn drains(&self, n: u64, request: &Request) -> bool
+        requires { at self.now.window n ≡ Some request.now }
         ensures { result ≡ is_some (drain_of (group_at self.now.groups request.now.group)) }
     {
-        group_of(&self.groups, request).drain.is_some()
+        self.group_of(n, request).drain.is_some()
     }
 }

@@ -193,18 +193,15 @@ impl Window {
         !self.keys.is_empty() && self.first < n
     }
 
-    /// Starts request `n`, which waits.
-    pub(crate) fn start(&mut self, n: u64)
-        requires there { is_some (at self.old n) ≡ true }
+    /// Starts request `n`, which has this key and waits.
+    pub(crate) fn start(&mut self, n: u64, key: usize)
+        requires found { key_at self.old.first self.old.keys n ≡ Some key }
         requires waits { runs (at self.old n) ≡ false }
         ensures changes { (q : Request) → at self.old n ≡ Some q
             → Changes self.old self.new n (Some (started q)) }
         ensures running { self.new.running ≡ self.old.running + 1 }
         ensures same { IsAsBefore self.old self.new }
     {
-        let Some(key) = key_of(self.first, &self.keys, n) else {
-            unreachable!()
-        };
         mark_running(&mut self.requests, key);
         self.running += 1;
     }

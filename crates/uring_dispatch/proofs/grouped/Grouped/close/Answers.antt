@@ -1,4 +1,4 @@
-use Rattle.std.proofs.Common.{ap, sym, subst}
+use Rattle.std.proofs.Common.{sym, subst}
 use Rattle.uring_entry.specs.Requests.{with_cut}
 use Rattle.uring_dispatch.specs.Groups.{Groups}
 use Rattle.uring_dispatch.specs.Held.{IsSound, AreHeld}

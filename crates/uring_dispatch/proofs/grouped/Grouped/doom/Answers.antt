@@ -1,36 +1,32 @@
-use Rattle.std.proofs.Common.{sym, ◌∙◌, ap, is_some}
+use Rattle.std.proofs.Common.{sym, ◌∙◌, ap}
 use Rattle.std.proofs.lemmas.Bool.{le-ltb}
 use Rattle.uring_entry.specs.Groups.{is_before}
 use Rattle.uring_entry.specs.Preparation.{fault_of}
 use Rattle.uring_dispatch.proofs.WhyHeld.{doom-own, doom-member, doom-failed, doom-else}
-use Rattle.uring_dispatch.proofs.HeldLemmas.{linked}
 use Rattle.uring_dispatch.proofs.grouped.Grouped.doom.Goals as goal
 
 pub returns-in-Err : goal.returns-in-Err
 returns-in-Err c = λ r h.
     sym (doom-own r c.args.n c.in-Err.fault (ap fault_of (sym (h.shown c.args.n c.args.request.now c.requires).entry) ∙ c.in-Err.ensures.faulty))
 
-pub group_of-group-requires : goal.group_of-group-requires
-group_of-group-requires c = let link = linked _ _ c.args.n c.args.request.now c.args.self.now.sound c.requires in ap is_some link.found
-
 pub returns-in-Some : goal.returns-in-Some
 returns-in-Some c = λ r h.
     sym
-    (doom-member _ _ r c.args.n c.args.request.now c.group_of-group.result c.in-Some.m c.args.self.now.sound h c.requires c.group_of-group.ensures
+    (doom-member _ _ r c.args.n c.args.request.now c.group_of-group.result c.in-Some.m c.args.self.now.sound h c.requires c.group_of-group.ensures.group
     (ap fault_of (sym (h.shown c.args.n c.args.request.now c.requires).entry) ∙ c.in_default.ensures.right.0)
     c.in-Some.is)
 
 pub returns-in-Some-broken : goal.returns-in-Some-broken
 returns-in-Some-broken c = λ r h.
     sym
-    (doom-failed _ _ r c.args.n c.args.request.now c.group_of-group.result c.in-Some-broken.m c.args.self.now.sound h c.requires c.group_of-group.ensures
+    (doom-failed _ _ r c.args.n c.args.request.now c.group_of-group.result c.in-Some-broken.m c.args.self.now.sound h c.requires c.group_of-group.ensures.group
     (ap fault_of (sym (h.shown c.args.n c.args.request.now c.requires).entry) ∙ c.in_default.ensures.right.0)
     c.in_default-fault.is c.in-Some-broken.is c.if-m-n.true)
 
 pub returns-in_default-broken : goal.returns-in_default-broken
 returns-in_default-broken c = λ r h.
     sym
-    (doom-else _ _ r c.args.n c.args.request.now c.group_of-group.result c.args.self.now.sound h c.requires c.group_of-group.ensures
+    (doom-else _ _ r c.args.n c.args.request.now c.group_of-group.result c.args.self.now.sound h c.requires c.group_of-group.ensures.group
     (ap fault_of (sym (h.shown c.args.n c.args.request.now c.requires).entry) ∙ c.in_default.ensures.right.0)
     c.in_default-fault.is
     (ap (λ o. is_before o c.args.n) c.in-Some-broken.is ∙ le-ltb c.in-Some-broken.m c.args.n c.if-m-n.false))
@@ -38,6 +34,6 @@ returns-in_default-broken c = λ r h.
 pub returns-in_default-broken-2 : goal.returns-in_default-broken-2
 returns-in_default-broken-2 c = λ r h.
     sym
-    (doom-else _ _ r c.args.n c.args.request.now c.group_of-group.result c.args.self.now.sound h c.requires c.group_of-group.ensures
+    (doom-else _ _ r c.args.n c.args.request.now c.group_of-group.result c.args.self.now.sound h c.requires c.group_of-group.ensures.group
     (ap fault_of (sym (h.shown c.args.n c.args.request.now c.requires).entry) ∙ c.in_default.ensures.right.0)
     c.in_default-fault.is (ap (λ o. is_before o c.args.n) c.in_default-broken.is))

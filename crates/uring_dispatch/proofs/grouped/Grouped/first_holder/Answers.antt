@@ -1,4 +1,4 @@
-use Rattle.std.proofs.Common.{◌≡◌, ◌≤◌, ◌∙◌, ap, sym, refl, is_some, Option, Some, None, false, arith, ℕ}
+use Rattle.std.proofs.Common.{◌≡◌, ◌≤◌, ◌∙◌, sym, refl, is_some, Option, Some, None, false, arith, ℕ}
 use Rattle.std.proofs.lemmas.Bool.{both_ways}
 use Rattle.uring_dispatch.specs.declared.group.Group.{Group}
 use Rattle.uring_dispatch.specs.Window.{Window}
@@ -7,7 +7,6 @@ use Rattle.uring_dispatch.specs.Groups.{Groups, group_at, drain_of, IsFirstDrain
 use Rattle.uring_dispatch.specs.Held.{AreHeld}
 use Rattle.uring_entry.proofs.GroupLemmas.{first_member-inside}
 use Rattle.uring_dispatch.proofs.WhyHeld.{first-of_all, first-draining_is, first-own}
-use Rattle.uring_dispatch.proofs.HeldLemmas.{linked}
 use Rattle.uring_dispatch.proofs.grouped.Grouped.first_holder.Goals as goal
 
 plain : (o : Option ℕ) → is_some o ≡ false → o ≡ None
@@ -24,27 +23,24 @@ first-behind w g r b from h f le key number d =
     let least = f.first key number d in
     omega (arith, member.0)
 
-pub group_of-group-requires : goal.group_of-group-requires
-group_of-group-requires c = let link = linked _ _ c.args.n c.args.request.now c.args.self.now.sound c.requires in ap is_some link.found
-
 pub returns-in-Some-clause-holds : goal.returns-in-Some-clause-holds
 returns-in-Some-clause-holds c = λ r h.
-    first-of_all _ _ r c.args.n c.in-Some.least c.args.request.now c.group_of-group.result c.args.self.now.sound h c.requires c.group_of-group.ensures
+    first-of_all _ _ r c.args.n c.in-Some.least c.args.request.now c.group_of-group.result c.args.self.now.sound h c.requires c.group_of-group.ensures.group
     (sym c.is_some.ensures ∙ c.if-is_some.true) c.in-Some.ensures
 
 pub returns-in-Some-first_draining-clause-holds : goal.returns-in-Some-first_draining-clause-holds
 returns-in-Some-first_draining-clause-holds c = λ r h.
-    first-draining_is _ _ r c.args.n c.args.request.now c.group_of-group.result c.in-Some-first_draining.first c.args.self.now.sound h c.requires c.group_of-group.ensures
+    first-draining_is _ _ r c.args.n c.args.request.now c.group_of-group.result c.in-Some-first_draining.first c.args.self.now.sound h c.requires c.group_of-group.ensures.group
     (plain c.group_of-group.result.drain (sym c.is_some.ensures ∙ c.if-is_some.false)) c.in-Some-first_draining.ensures c.if-first-group.true
 
 pub returns-in-Some-2-clause-holds : goal.returns-in-Some-2-clause-holds
 returns-in-Some-2-clause-holds c = λ r h.
-    first-own _ _ r c.args.n c.args.request.now c.group_of-group.result c.args.self.now.sound h c.requires c.group_of-group.ensures
+    first-own _ _ r c.args.n c.args.request.now c.group_of-group.result c.args.self.now.sound h c.requires c.group_of-group.ensures.group
     (plain c.group_of-group.result.drain (sym c.is_some.ensures ∙ c.if-is_some.false))
     (first-behind _ _ r c.in-Some-first_draining.first c.group_of-group.result.from h c.in-Some-first_draining.ensures c.if-first-group.false)
 
 pub returns-in-None-first_draining-clause-holds : goal.returns-in-None-first_draining-clause-holds
 returns-in-None-first_draining-clause-holds c = λ r h.
-    first-own _ _ r c.args.n c.args.request.now c.group_of-group.result c.args.self.now.sound h c.requires c.group_of-group.ensures
+    first-own _ _ r c.args.n c.args.request.now c.group_of-group.result c.args.self.now.sound h c.requires c.group_of-group.ensures.group
     (plain c.group_of-group.result.drain (sym c.is_some.ensures ∙ c.if-is_some.false))
     (λ key number d. absurd (c.in-None-first_draining.ensures key number d))

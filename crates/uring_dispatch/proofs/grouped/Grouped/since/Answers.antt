@@ -1,7 +1,6 @@
 use Rattle.std.proofs.Common.{sym, ◌∙◌, refl, ap, is_some}
 use Rattle.std.proofs.lemmas.Bool.{both_ways}
 use Rattle.uring_dispatch.proofs.WhyHeld.{since-is, joined-held, joined-apart, draining-kept}
-use Rattle.uring_dispatch.proofs.HeldLemmas.{linked}
 use Rattle.uring_dispatch.proofs.grouped.Grouped.since.Goals as goal
 
 pub unreachable-requires : goal.unreachable-requires
@@ -12,9 +11,6 @@ returns-then-other-request c = λ r h.
     since-is r c.args.n c.args.m _ _
     (joined-held _ _ r c.args.n c.args.m c.args.request.now c.in-Some.other.now c.args.self.now.sound h c.requires.there (sym c.in-Some.ensures) c.requires.earlier c.if-other-request.true)
     refl
-
-pub drains-requires : goal.drains-requires
-drains-requires c = let link = linked _ _ c.args.m c.in-Some.other.now c.args.self.now.sound (sym c.in-Some.ensures) in ap is_some link.found
 
 pub returns-then-drains : goal.returns-then-drains
 returns-then-drains c = λ r h.

@@ -7,13 +7,15 @@ forget-requires c = tell-outstanding _ _ _ c.args.n c.args.self.now.listed c.tak
 
 pub relist_other-requires : goal.relist_other-requires
 relist_other-requires c =
+    let own = forgotten-listed _ c.take_out-others.new.self.groups _ _ c.args.n c.take_out-others.ensures.gone.here c.forget.ensures.heads c.forget.ensures.doomed in
     tell-kept _ _ _ _ _ (tell-outstanding _ _ _ c.take_out-others.result.head c.args.self.now.listed c.take_out-others.ensures.head)
-    (forgotten-keeps _ c.take_out-others.new.self.groups _ _ c.args.n c.take_out-others.ensures.gone.here c.forget.ensures.heads c.forget.ensures.doomed)
+    (forgotten-keeps _ _ _ _ c.args.n own c.forget.ensures.heads c.forget.ensures.doomed)
 
 pub relist_range-requires : goal.relist_range-requires
 relist_range-requires c = λ k from to.
     let doomed = c.take_out-others.ensures.doomed in
-    let keeps = forgotten-keeps _ c.take_out-others.new.self.groups _ _ c.args.n c.take_out-others.ensures.gone.here c.forget.ensures.heads c.forget.ensures.doomed in
+    let own = forgotten-listed _ c.take_out-others.new.self.groups _ _ c.args.n c.take_out-others.ensures.gone.here c.forget.ensures.heads c.forget.ensures.doomed in
+    let keeps = forgotten-keeps _ _ _ _ c.args.n own c.forget.ensures.heads c.forget.ensures.doomed in
     tell-kept _ _ _ _ _ (tell-kept _ _ _ _ _ (tell-behind _ _ _ c.args.n k c.args.self.now.listed c.take_out-others.ensures.there from (omega arith)) keeps) c.relist_other.ensures.keeps
 
 pub invariant_of-self : goal.invariant_of-self
@@ -23,10 +25,11 @@ pub invariant_of-self-2 : goal.invariant_of-self-2
 invariant_of-self-2 c =
     let gone = c.take_out-others.ensures.gone in
     let own = forgotten-listed _ c.take_out-others.new.self.groups _ _ c.args.n gone.here c.forget.ensures.heads c.forget.ensures.doomed in
-    let a = forgotten-keeps _ c.take_out-others.new.self.groups _ _ c.args.n gone.here c.forget.ensures.heads c.forget.ensures.doomed in
+    let a = forgotten-keeps _ _ _ _ c.args.n own c.forget.ensures.heads c.forget.ensures.doomed in
     let b = c.relist_other.ensures in
     let d = c.relist_range.ensures in
     record {
-      listed = end-listed _ _ _ _ _ _ _ c.args.n c.take_out-others.result.head c.take_out-others.result.doomed_end c.first.result c.args.self.now.listed gone c.take_out-others.ensures.counts.end c.take_out-others.ensures.others
+      listed =
+          end-listed _ _ _ _ _ _ _ c.args.n c.take_out-others.result.head c.take_out-others.result.doomed_end c.first.result c.args.self.now.listed gone c.take_out-others.ensures.counts.end c.take_out-others.ensures.others
           (keeps-both _ _ _ _ _ (keeps-both _ _ _ _ _ a b.keeps) d.keeps) (d.keeps.told c.args.n (b.keeps.told c.args.n own)) (d.keeps.told c.take_out-others.result.head (b.here own)) d.here c.drop_before.ensures.heads c.drop_before.ensures.doomed c.first.ensures.within c.first.ensures.before;
     }

@@ -1,15 +1,12 @@
-use Rattle.std.proofs.Common.{◌≡◌, sym, ◌∙◌, ap, arith, refl, rules, Some, is_some}
+use Rattle.std.proofs.Common.{◌≡◌, sym, ◌∙◌, ap, arith, refl, rules, Some}
 use Rattle.std.specs.Int.{w32}
 use Rattle.std.proofs.lemmas.Int.{to_z-of_z}
-use Rattle.std.proofs.lemmas.Option.{same_Some}
 use Rattle.uring_entry.specs.Layout.{Sqe}
 use Rattle.uring_entry.specs.Success.{is_success}
 use Rattle.uring_dispatch.specs.Window.{at, runs, one_if}
 use Rattle.uring_dispatch.specs.IssueAndFinish.{posts_of}
-use Rattle.uring_dispatch.specs.Groups.{group_at}
-use Rattle.uring_dispatch.specs.declared.request.Request.{Request}
 use Rattle.uring_dispatch.proofs.WindowLemmas.{at-keyed}
-use Rattle.uring_dispatch.proofs.HeldLemmas.{linked, running-none, running-some}
+use Rattle.uring_dispatch.proofs.HeldLemmas.{running-none, running-some}
 use Rattle.uring_dispatch.proofs.Issues.{posted-none, posted-some}
 use Rattle.uring_dispatch.proofs.outstanding.Outstanding.end_running.Goals as goal
 
@@ -23,15 +20,7 @@ returns-then-not-request-clause-answer c = λ r h.
     posted-none r c.args.n c.args.res (running-some _ _ r c.args.n _ h there ∙ c.if-not-request.true)
 
 pub group_of-group-requires : goal.group_of-group-requires
-group_of-group-requires c =
-    let there = at-keyed _ c.args.n _ (sym c.in-Some.ensures.value) ∙ c.by_key-request.ensures in
-    let link = linked _ _ c.args.n _ c.args.self.now.grouped.sound there in
-    ap is_some link.found
-
-pub end_by_key-requires-clause-group : goal.end_by_key-requires-clause-group
-end_by_key-requires-clause-group c = λ q e.
-    let there = at-keyed _ c.args.n _ (sym c.in-Some.ensures.value) ∙ c.by_key-request.ensures in
-    ap (λ (z : Request). group_at c.args.self.now.grouped.groups z.group) (same_Some _ _ (sym e ∙ there)) ∙ c.group_of-group.ensures
+group_of-group-requires c = at-keyed _ c.args.n _ (sym c.in-Some.ensures.value) ∙ c.by_key-request.ensures
 
 pub returns-clause-answer : goal.returns-clause-answer
 returns-clause-answer c = λ r h.

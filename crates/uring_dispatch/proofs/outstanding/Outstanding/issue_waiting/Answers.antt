@@ -1,26 +1,16 @@
-use Rattle.std.proofs.Common.{◌≡◌, sym, ◌∙◌, ap, refl, Some, is_some, false, rules, arith}
+use Rattle.std.proofs.Common.{◌≡◌, sym, ◌∙◌, ap, refl, is_some, false, rules, arith}
 use Rattle.std.specs.Int.{w32}
 use Rattle.std.proofs.lemmas.Int.{to_z-of_z}
-use Rattle.std.proofs.lemmas.Option.{same_Some}
 use Rattle.uring_entry.specs.Layout.{addr_of}
 use Rattle.uring_entry.specs.Requests.{entry_of, no_bytes}
 use Rattle.uring_dispatch.specs.Window.{at, runs, one_if, started}
-use Rattle.uring_dispatch.specs.Groups.{Groups, group_at}
-use Rattle.uring_dispatch.specs.declared.request.Request.{Request}
-use Rattle.uring_dispatch.proofs.HeldLemmas.{linked, shown-within, doomed-held}
-use Rattle.uring_dispatch.proofs.WaitingLemmas.{tell-outstanding, restarted-listed}
+use Rattle.uring_dispatch.specs.Groups.{Groups}
+use Rattle.uring_dispatch.proofs.HeldLemmas.{shown-within}
+use Rattle.uring_dispatch.proofs.WaitingLemmas.{tell-outstanding, started-listed, forgotten-keeps, restarted-listed}
 use Rattle.uring_entry.proofs.RequestLemmas.{never_success}
 use Rattle.uring_dispatch.proofs.Choosing.{ends-failing}
 use Rattle.uring_dispatch.proofs.Issues.{op-none, op-some, issued-faulty, issued-doomed, issued-not_ready, issued-cancel, issued-run, is_cancel-operation}
 use Rattle.uring_dispatch.proofs.outstanding.Outstanding.issue_waiting.Goals as goal
-
-pub group_of-group-requires : goal.group_of-group-requires
-group_of-group-requires c =
-    let link = linked _ _ c.args.n c.args.request c.args.self.now.grouped.sound c.requires.there in ap is_some link.found
-
-pub end_by_key-requires-clause-group : goal.end_by_key-requires-clause-group
-end_by_key-requires-clause-group c = λ q e.
-    ap (λ (z : Request). group_at c.args.self.now.grouped.groups z.group) (same_Some _ _ (sym e ∙ c.requires.there)) ∙ c.group_of-group.ensures
 
 pub returns-in_default-clause-answer : goal.returns-in_default-clause-answer
 returns-in_default-clause-answer c = λ r h.
@@ -37,16 +27,11 @@ returns-in_default-clause-counts c = λ room between.
     let lost = c.end_by_key.ensures.counts in
     record { accepted = lost.end; outstanding = lost.outstanding; running = omega (arith, lost.runs); room = omega arith; between = refl }
 
-pub end_by_key-requires-then-is_doomed_in-clause-group : goal.end_by_key-requires-then-is_doomed_in-clause-group
-end_by_key-requires-then-is_doomed_in-clause-group c = λ q e.
-    ap (λ (z : Request). group_at c.args.self.now.grouped.groups z.group) (same_Some _ _ (sym e ∙ c.requires.there)) ∙ c.group_of-group.ensures
-
 pub returns-then-is_doomed_in-clause-answer : goal.returns-then-is_doomed_in-clause-answer
 returns-then-is_doomed_in-clause-answer c = λ r h.
     let shown = h.shown c.args.n c.args.request c.requires.there in
     let does = op-some (entry_of r c.args.n) c.in-Some.op (sym c.in-Some.is ∙ shown.op) in
-    let doomed = doomed-held _ _ r c.args.n c.args.request c.group_of-group.result c.args.self.now.grouped.sound h c.requires.there c.group_of-group.ensures in
-    issued-doomed r c.args.n (doomed ∙ sym c.is_doomed_in.ensures ∙ c.if-is_doomed_in.true) does.0
+    issued-doomed r c.args.n (sym (c.is_doomed_in.ensures r h) ∙ c.if-is_doomed_in.true) does.0
 
 pub returns-then-is_doomed_in-clause-shows : goal.returns-then-is_doomed_in-clause-shows
 returns-then-is_doomed_in-clause-shows c = λ r h.
@@ -58,23 +43,17 @@ returns-then-is_doomed_in-clause-counts c = λ room between.
     let lost = c.end_by_key-then-is_doomed_in.ensures.counts in
     record { accepted = lost.end; outstanding = lost.outstanding; running = omega (arith, lost.runs); room = omega arith; between = refl }
 
-pub is_ready-requires-clause-group : goal.is_ready-requires-clause-group
-is_ready-requires-clause-group c = λ q e.
-    ap (λ (z : Request). group_at c.args.self.now.grouped.groups z.group) (same_Some _ _ (sym e ∙ c.requires.there)) ∙ c.group_of-group.ensures
-
 pub returns-then-not-is_ready-clause-answer : goal.returns-then-not-is_ready-clause-answer
 returns-then-not-is_ready-clause-answer c = λ r h.
-    let doomed = doomed-held _ _ r c.args.n c.args.request c.group_of-group.result c.args.self.now.grouped.sound h c.requires.there c.group_of-group.ensures in
-    issued-not_ready r c.args.n (doomed ∙ sym c.is_doomed_in.ensures ∙ c.if-is_doomed_in.false) (sym (c.is_ready.ensures r h) ∙ c.if-not-is_ready.true)
+    issued-not_ready r c.args.n (sym (c.is_doomed_in.ensures r h) ∙ c.if-is_doomed_in.false) (sym (c.is_ready.ensures r h) ∙ c.if-not-is_ready.true)
 
 pub returns-in-Cancel-clause-answer : goal.returns-in-Cancel-clause-answer
 returns-in-Cancel-clause-answer c = λ r h.
     let shown = h.shown c.args.n c.args.request c.requires.there in
     let does = op-some (entry_of r c.args.n) c.in-Some.op (sym c.in-Some.is ∙ shown.op) in
     let asks = is_cancel-operation (entry_of r c.args.n) _ c.in-Cancel.all (sym does.1 ∙ c.in-Cancel.is) in
-    let doomed = doomed-held _ _ r c.args.n c.args.request c.group_of-group.result c.args.self.now.grouped.sound h c.requires.there c.group_of-group.ensures in
     rw (to_z-of_z w32 c.cancel.result (search rules))
-    (issued-cancel r c.args.n _ (doomed ∙ sym c.is_doomed_in.ensures ∙ c.if-is_doomed_in.false) (sym (c.is_ready.ensures r h) ∙ c.if-not-is_ready.false)
+    (issued-cancel r c.args.n _ (sym (c.is_doomed_in.ensures r h) ∙ c.if-is_doomed_in.false) (sym (c.is_ready.ensures r h) ∙ c.if-not-is_ready.false)
     asks.0 (c.cancel.ensures.answer r h (c.addr-user_data.ensures ∙ ap addr_of shown.entry) asks.1))
 
 pub returns-in-Cancel-clause-shows : goal.returns-in-Cancel-clause-shows
@@ -84,14 +63,17 @@ returns-in-Cancel-clause-shows c = λ r h.
     let asks = is_cancel-operation (entry_of r c.args.n) _ c.in-Cancel.all (sym does.1 ∙ c.in-Cancel.is) in
     rw (to_z-of_z w32 c.cancel.result (search rules)) (c.cancel.ensures.shows r h (c.addr-user_data.ensures ∙ ap addr_of shown.entry) asks.0 asks.1)
 
-pub relist-requires : goal.relist-requires
-relist-requires c = tell-outstanding _ _ _ c.args.n c.args.self.now.listed (ap is_some c.requires.there)
+pub forget-requires : goal.forget-requires
+forget-requires c = tell-outstanding _ _ _ c.args.n c.args.self.now.listed (ap is_some c.requires.there)
 
 pub invariant_of-self : goal.invariant_of-self
 invariant_of-self c =
     let changes = c.start.ensures.changes _ c.requires.there in
+    let own = started-listed _ c.start.new.self.groups _ _ c.args.n c.args.request changes.here c.forget.ensures.heads c.forget.ensures.doomed in
     record {
-      listed = restarted-listed _ _ _ _ _ _ c.args.n (started c.args.request) c.args.self.now.listed (ap is_some c.requires.there) changes c.start.ensures.same.end c.start.ensures.groups c.relist.ensures.keeps c.relist.ensures.here;
+      listed =
+          restarted-listed _ _ _ _ _ _ c.args.n (started c.args.request) c.args.self.now.listed (ap is_some c.requires.there) changes c.start.ensures.same.end c.start.ensures.groups
+          (forgotten-keeps _ _ _ _ c.args.n own c.forget.ensures.heads c.forget.ensures.doomed) own;
     }
 
 pub returns : goal.returns
@@ -102,12 +84,11 @@ returns c =
         last = ap (λ (g : Groups). g.last) c.start.ensures.groups ∙ c.requires.last;
         window = same.room;
         groups = ap (λ (g : Groups). g.room) c.start.ensures.groups;
-        memory = let keeps = c.relist.ensures.keeps in let heads = keeps.heads.limit in let doomed = keeps.doomed.limit in record { heads = omega arith; doomed = omega arith };
+        memory = let heads = c.forget.ensures.heads.limit in let doomed = c.forget.ensures.doomed.limit in record { heads = omega arith; doomed = omega arith };
       };
       answer = λ r h.
           let does = op-some (entry_of r c.args.n) c.in-Some.op (sym c.in-Some.is ∙ (h.shown c.args.n c.args.request c.requires.there).op) in
-          let doomed = doomed-held _ _ r c.args.n c.args.request c.group_of-group.result c.args.self.now.grouped.sound h c.requires.there c.group_of-group.ensures in
-          issued-run r c.args.n c.in-Some.op (doomed ∙ sym c.is_doomed_in.ensures ∙ c.if-is_doomed_in.false) (sym (c.is_ready.ensures r h) ∙ c.if-not-is_ready.false) does.1 c.in_default-op.not-Cancel;
+          issued-run r c.args.n c.in-Some.op (sym (c.is_doomed_in.ensures r h) ∙ c.if-is_doomed_in.false) (sym (c.is_ready.ensures r h) ∙ c.if-not-is_ready.false) does.1 c.in_default-op.not-Cancel;
       shows = λ r h.
           let does = op-some (entry_of r c.args.n) c.in-Some.op (sym c.in-Some.is ∙ (h.shown c.args.n c.args.request c.requires.there).op) in
           c.start.ensures.shows r h does.0;

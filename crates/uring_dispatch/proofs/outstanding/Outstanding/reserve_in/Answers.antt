@@ -1,8 +1,5 @@
-use Rattle.std.proofs.Common.{◌≡◌, ◌+◌, ◌≤◌, ◌∙◌, arith, refl}
+use Rattle.std.proofs.Common.{◌≡◌, ◌+◌, ◌≤◌, ◌∙◌, arith}
 use Rattle.std.proofs.lemmas.Bool.{false≢true}
-use Rattle.std.proofs.lemmas.Result.{on_ok_weaker}
-use Rattle.uring_number_set.specs.NumberSet.{stop_of}
-use Rattle.uring_dispatch.specs.Window.{end_of}
 use Rattle.uring_dispatch.proofs.Alike.{listed-alike, alike-records}
 use Rattle.uring_dispatch.proofs.AcceptsListed.{same-listed}
 use Rattle.uring_dispatch.proofs.Views.{reserved-room}

@@ -1,0 +1,16 @@
+use Rattle.std.proofs.Common.{ap, is_some, sym, ◌∙◌}
+use Rattle.std.proofs.lemmas.Bool.{both_ways}
+use Rattle.std.proofs.lemmas.Option.{same_Some}
+use Rattle.uring_dispatch.specs.Groups.{group_at}
+use Rattle.uring_dispatch.specs.declared.request.Request.{Request}
+use Rattle.uring_dispatch.proofs.HeldLemmas.{linked}
+use Rattle.uring_dispatch.proofs.grouped.Grouped.group_of.Goals as goal
+
+pub unreachable-requires : goal.unreachable-requires
+unreachable-requires c =
+    let link = linked _ _ c.args.n c.args.request.now c.args.self.now.sound c.requires in
+    both_ways _ (ap is_some (sym c.in_default.ensures)) (ap is_some link.found)
+
+pub returns-clause-own : goal.returns-clause-own
+returns-clause-own c = λ q e.
+    ap (λ (z : Request). group_at c.args.self.now.groups z.group) (same_Some _ _ (sym e ∙ c.requires)) ∙ sym c.in-Some.ensures
