@@ -127,17 +127,18 @@ fn run_strict(rt: &HostRuntime, setup: &Setup, is_echo: bool) -> Result<u8, Faul
     let mut input = StrictReader::new(rt.alloc(), rt.stdin())?;
     let mut output = Outlet::new(rt.stdout());
     let traced = trace(rt.alloc(), &mut input, &mut output, setup, is_echo);
+    let is_refused = input.is_refused();
     let told = tell_strict(rt, &input);
     drop(input);
+    if is_refused {
+        return Err(Fault::Trace(TraceFault::Memory));
+    }
     unless_closed(&output, traced)?;
     told
 }
 
 /// Tells the bad line that a strict trace met, if it met one, and returns the exit status.
 fn tell_strict<R: Read + Drop>(rt: &HostRuntime, input: &StrictReader<R>) -> Result<u8, Fault> {
-    if input.is_refused() {
-        return Err(Fault::Trace(TraceFault::Memory));
-    }
     let Some(note) = input.note() else {
         return Ok(DONE);
     };
