@@ -204,7 +204,7 @@ static struct findings play_all(const char *name, bool is_planted)
     for (unsigned run = 1; run <= RUNS; run++)
         play(run, is_planted, &found);
     printf("%s: %d runs, %u commits acknowledged, %u fsyncs cancelled, %u crashes tried\n", name, RUNS, found.acknowledged, found.cancelled, found.crashes);
-    printf("  by the generous rule %u of them would be lost\n", found.lost_generously);
+    printf("  the generous rule would lose %u of them\n", found.lost_generously);
     if (found.lost == 0)
         printf("  none was lost in any crash\n");
     else

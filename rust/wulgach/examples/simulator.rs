@@ -217,7 +217,7 @@ fn play_all(name: &str, is_planted: bool) -> Result<Findings, Error> {
         found.acknowledged, found.cancelled, found.crashes
     );
     println!(
-        "  by the generous rule {} of them would be lost",
+        "  the generous rule would lose {} of them",
         found.lost_generously
     );
     match found.first_lost {
