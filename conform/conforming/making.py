@@ -1,0 +1,91 @@
+"""Random scenarios from a seed, of what Linux keeps as the profile has it: what is known to differ is left out, and told by the scenarios that are written by hand.
+
+Left out are a bad word before others and a linked fault in a ring that stops; a fault in a group that drains; a drain in a ring that skips; a skip in a chain; and cancels of what a kernel holds back: a cancel names a hold of its own call or of an earlier one that nothing holds back and no other cancel names, or nobody.
+"""
+
+import random
+
+
+class Maker:
+    def __init__(self, seed):
+        self.rng = random.Random(seed)
+        self.lines, self.next, self.free_holds, self.held, self.staged = [], 1, [], [], 0
+        self.is_skipping = self.rng.random() < 0.3
+        self.has_drains = not self.is_skipping and self.rng.random() < 0.6
+        self.sq = self.rng.choice([1, 2, 4, 8])
+        self.cq = self.rng.choice([self.sq, 2 * self.sq])
+        self.has_drained = False
+
+    def name(self):
+        self.next += 1
+        return self.next - 1
+
+    def item(self, flags, is_linked, is_faulty_allowed):
+        """One item with these flags."""
+        user_data, rng = self.name(), self.rng
+        if rng.random() < 0.15:
+            flags += "A"
+        flags = flags or "-"
+        kind = rng.choice(["nop", "nop", "nop", "write", "read", "fsync", "hold", "cancel", "cancelall", "op" if is_faulty_allowed else "nop"])
+        if kind in ("cancel", "cancelall"):
+            name = rng.choice(self.free_holds + [999])
+            self.free_holds = [it for it in self.free_holds if it != name]
+            return f"{kind} {user_data} {flags} {name}"
+        if kind == "hold":
+            if "A" in flags:
+                return f"nop {user_data} {flags}"
+            self.held.append(user_data)
+            if not is_linked and not self.has_drained:
+                self.free_holds.append(user_data)
+            return f"hold {user_data} {flags}"
+        if kind == "op":
+            return f"op {rng.choice([200, 255])} {user_data} {flags}"
+        file = rng.choice([0, 0, 1, 9])
+        if kind == "write":
+            return f"write {user_data} {flags} {file} {rng.randrange(8)} {rng.choice(['61', '6162', '-'])}"
+        if kind == "read":
+            return f"read {user_data} {flags} {file} {rng.randrange(8)} {rng.randrange(5)}"
+        return f"fsync {user_data} {flags} {file}" if kind == "fsync" else f"nop {user_data} {flags}"
+
+    def group(self, room):
+        """The items of one group."""
+        rng = self.rng
+        count = min(room, rng.choice([1, 1, 1, 2, 3]))
+        drains = self.has_drains and rng.random() < 0.25
+        self.has_drained = self.has_drained or drains
+        has_fault = not drains and rng.random() < 0.1
+        items = []
+        for at in range(count):
+            is_last = at + 1 == count
+            flags = "" if is_last else rng.choice(["L", "L", "H"])
+            if drains and at == 0:
+                flags += "D"
+            if self.is_skipping and count == 1 and not has_fault and rng.random() < 0.4:
+                flags += "S"
+            items.append(self.item(flags, count > 1, has_fault))
+        return items
+
+    def call(self):
+        room = self.sq
+        while room and self.rng.random() < 0.75:
+            items = self.group(room)
+            self.lines += items
+            room -= len(items)
+        self.lines.append("")
+
+    def scenario(self):
+        self.lines = [f"# setup --sq {self.sq} --cq {self.cq}"]
+        for _ in range(self.rng.randrange(1, 6)):
+            self.call()
+            if self.held and self.rng.random() < 0.4:
+                user_data = self.held.pop(self.rng.randrange(len(self.held)))
+                if user_data in self.free_holds:
+                    self.free_holds.remove(user_data)
+                self.lines.append(f"release {user_data}")
+            if self.rng.random() < 0.15:
+                self.lines.append(self.rng.choice(["events", "head off", "head on"]))
+        return "\n".join(self.lines) + "\n"
+
+
+def random_scenario(seed):
+    return Maker(seed).scenario()

@@ -1,0 +1,60 @@
+"""Runs a scenario on this machine's ring, and judges what was seen."""
+
+import os
+import subprocess
+
+from conforming.fill import Fill, GaveUp
+from conforming.seen import Look, events_of
+from conforming.setup import Setup
+
+TOP = os.path.dirname(os.path.dirname(os.path.dirname(os.path.abspath(__file__))))
+RECORDER = f"{TOP}/conform/out/record"
+NO_RING = 77
+
+
+class NoRing(Exception):
+    pass
+
+
+class NoTrace(Exception):
+    """What stands in a scenario is none."""
+
+
+def record(scenario):
+    """What the recorder saw of a scenario."""
+    ran = subprocess.run([RECORDER], input=scenario, capture_output=True, text=True, timeout=60)
+    if ran.returncode == NO_RING:
+        raise NoRing(ran.stderr.strip())
+    if ran.returncode:
+        raise NoTrace(ran.stderr.strip())
+    return ran.stdout
+
+
+class Verdict:
+    """What became of a run: `lawful` with a trace, `unexplained` with the first completion that no history reaches, or `gave up`."""
+
+    def __init__(self, kind, trace="", why="", states=0):
+        self.kind, self.trace, self.why, self.states = kind, trace, why, states
+
+
+def explain(scenario, recorded):
+    """The verdict on what was recorded, by the search alone."""
+    setup = Setup(scenario)
+    fill = Fill(setup, events_of(scenario, recorded))
+    head = " ".join(["# setup", *setup.options, "--apart"]) + "\n"
+    try:
+        steps = fill.trace()
+    except GaveUp:
+        return Verdict("gave up", states=len(fill.been))
+    if steps is None:
+        at = fill.furthest
+        first = f"no history posts cqe {fill.completions[at][0]} {fill.completions[at][1]}, completion {at} from 0 on" if at < len(fill.completions) else "no history ends so: a request is left without its end, or a call's answer isn't called for"
+        return Verdict("unexplained", why=first, states=len(fill.been))
+    return Verdict("lawful", head + "\n".join(steps) + "\n", states=len(fill.been))
+
+
+def judged(uring, scenario, trace):
+    """What the proved checker says of a trace: nothing if it is lawful."""
+    options = [it for it in Setup(scenario).options]
+    ran = subprocess.run([*uring, "check", "--apart", *options], input="\n".join(it for it in trace.splitlines() if not it.startswith("#")) + "\n", capture_output=True, text=True)
+    return "" if ran.returncode == 0 else ran.stdout + ran.stderr

@@ -1,0 +1,75 @@
+"""What a recorder saw, as a list of events: a scenario's own statements with what the ring showed."""
+
+from conforming.requests import Entry
+
+
+class Call:
+    """A call that consumed these items: entries, or words that name no slot."""
+
+    def __init__(self, items, returned, head, dropped):
+        self.items, self.returned, self.head, self.dropped = items, returned, head, dropped
+
+    def entries(self):
+        return [it for it in self.items if isinstance(it, Entry)]
+
+
+class Look:
+    """A look at the completion ring: its tail, and the completions that were new."""
+
+    def __init__(self, tail):
+        self.tail, self.completions = tail, []
+
+
+class Events:
+    """A call that asked for events."""
+
+
+class Stored:
+    """The head was stored."""
+
+    def __init__(self, head):
+        self.head = head
+
+
+class Staged:
+    """An item was staged, at this position."""
+
+    def __init__(self, item, position):
+        self.item, self.position = item, position
+
+
+def is_item(words):
+    return words[0] in ("nop", "fsync", "read", "write", "cancel", "cancelall", "op", "hold", "bad")
+
+
+def item_of(words):
+    return int(words[1]) if words[0] == "bad" else Entry(words)
+
+
+def events_of(scenario, recorded):
+    """The events of a run, in order: each call has before it the items that were staged since the call before."""
+    lines = [it.split() for it in scenario.splitlines() if not it.startswith("#")]
+    staged = [(at, item_of(it)) for at, it in enumerate(lines) if it and is_item(it)]
+    # (which items were staged before each of the calls that the recorder tells)
+    calls = [at for at, it in enumerate(lines) if not it or it[0] == "call"]
+    events, told, taken, head = [], 0, 0, 0
+    for words in (it.split() for it in recorded.splitlines()):
+        if words[0] == "call":
+            until = calls[told] if told < len(calls) else len(lines)
+            told += 1
+            while taken < len(staged) and staged[taken][0] < until:
+                events.append(Staged(staged[taken][1], taken))
+                taken += 1
+            _, returned, now, dropped = map(int, words[1:])
+            if now != head or returned >= 0:
+                events.append(Call([it for _, it in staged[head:now]], returned, now, dropped))
+            head = now
+        elif words[0] == "tail":
+            events.append(Look(int(words[1])))
+        elif words[0] == "cqe":
+            events[-1].completions.append((int(words[1]), int(words[2])))
+        elif words[0] == "head":
+            events.append(Stored(int(words[1])))
+        elif words[0] == "events":
+            events.append(Events())
+    return events

@@ -1,0 +1,15 @@
+"""The options of a scenario's first line `# setup ..`, as the recorder reads them and as `uring check` takes them."""
+
+
+def power(number):
+    return 1 << max(0, number - 1).bit_length()
+
+
+class Setup:
+    def __init__(self, scenario):
+        first = scenario.splitlines()[0].split() if scenario.strip() else []
+        words = first[2:] if first[:2] == ["#", "setup"] else []
+        self.options, self.is_stop = words, "--stop" in words
+        value = {word: words[at + 1] for at, word in enumerate(words) if word != "--stop" and word.startswith("--") and at + 1 < len(words)}
+        self.sq = power(int(value.get("--sq", 4)))
+        self.cq = power(int(value["--cq"])) if "--cq" in value else 2 * self.sq
