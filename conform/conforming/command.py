@@ -7,7 +7,7 @@ import sys
 from collections import Counter
 
 from conforming import planted
-from conforming.differences import DIFFERENCES
+from conforming.differences import DIFFERENCES, untold
 from conforming.making import random_scenario
 from conforming.runs import RECORDER, TOP, NoRing, NoTrace, Verdict, explain, judged, record
 from conforming.scenarios import Scenario, scenarios
@@ -28,7 +28,8 @@ def build():
 
 def checker():
     """The proved program's words."""
-    return [os.environ["URING"]] if "URING" in os.environ else [f"{TOP}/uring"]
+    built = f"{TOP}/crates/uring_cli/out/uring_cli"
+    return [built if os.path.exists(built) else f"{TOP}/uring"]
 
 
 class Report:
@@ -114,6 +115,10 @@ def shorten_all(report):
 
 
 def conform(words):
+    with open(f"{TOP}/docs/PROTOCOL.md", encoding="utf-8") as page:
+        for name in untold(page.read()):
+            print(f"conform: docs/PROTOCOL.md doesn't have the sentence of: {name}", file=sys.stderr)
+            return 2
     build()
     report = Report(words)
     try:

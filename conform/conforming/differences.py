@@ -1,12 +1,17 @@
-"""Where Linux is known to differ from the profile: a name for each sentence of docs/PROTOCOL.md that tells it."""
+"""Where Linux is known to differ from the profile: a name for each, and the sentence of docs/PROTOCOL.md that tells it, word for word."""
 
 DIFFERENCES = {
-    "linked fault stops nothing": "There Linux 6.18 ends a call after the first faulty entry that has no link flag; after one that has, it goes on.",
+    "linked fault stops nothing": "There Linux 6.18 ends a call after the first faulty entry that has no link flag; after one that has, it goes on, also past the end of its chain.",
     "held back isn't found": "The kernel doesn't find a request that it still holds back: the cancel ends with -2, and the request runs later.",
-    "a read is cancelled twice": "Two cancels of one call both end with 0 for one read that waits.",
-    "behind a cancel isn't found": "The kernel's cancel finds nothing that stands behind it in its own call.",
+    "behind a cancel isn't found": "Nor does it find what stands behind it in its own call, which is accepted later there: the cancel ends with -2.",
+    "a read is cancelled twice": "A waiting read that one cancel has chosen is found by another of the same call: both end with 0, and two cancels of all both with 1.",
     "cancel of all leaves held back": "Of requests that the kernel holds back it ends with 0, and they run.",
-    "skipped failure leaves members out": "The members that its failure cancels post theirs: our own rule. The page and the kernel leave these out.",
-    "skipping head swallows a fault": "If the head of a chain has the skip flag, the completion of a faulty member is swallowed too.",
+    "skipped failure leaves members out": "The page and the kernel leave these out.",
+    "skipping head swallows a fault": "if the head of a chain has the skip flag, the completion of a faulty member is swallowed too, and nobody learns which entry was wrong.",
     "drain beside skipped success": "The kernel refuses a drain with -95 (EOPNOTSUPP) once a ring has used skipped success.",
 }
+
+
+def untold(page):
+    """The differences whose sentence doesn't stand in the page."""
+    return [name for name, sentence in DIFFERENCES.items() if sentence not in page]
