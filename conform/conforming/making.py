@@ -1,6 +1,6 @@
 """Random scenarios from a seed, of what Linux keeps as the profile has it: what is known to differ is left out, and told by the scenarios that are written by hand.
 
-Left out are a bad word before others and a linked fault in a ring that stops; a fault in a group that drains; a drain in a ring that skips; a skip in a chain; and cancels of what a kernel holds back: a cancel names a hold of its own call or of an earlier one that nothing holds back and no other cancel names, or nobody.
+Left out are a bad word before others and a linked fault in a ring that stops; a fault in a group that drains; a drain in a ring that skips; a skip in a chain; and cancels of what a kernel holds back: a cancel names a hold of its own call or of an earlier one that nothing holds back and no other cancel names, or nobody; one that a worker may carry out names nobody.
 """
 
 import random
@@ -28,7 +28,8 @@ class Maker:
         flags = flags or "-"
         kind = rng.choice(["nop", "nop", "nop", "write", "read", "fsync", "hold", "cancel", "cancelall", "op" if is_faulty_allowed else "nop"])
         if kind in ("cancel", "cancelall"):
-            name = rng.choice(self.free_holds + [999])
+            is_plain = not is_linked and "A" not in flags
+            name = rng.choice(self.free_holds + [999] if is_plain else [999])
             self.free_holds = [it for it in self.free_holds if it != name]
             return f"{kind} {user_data} {flags} {name}"
         if kind == "hold":
