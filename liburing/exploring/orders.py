@@ -5,7 +5,7 @@ import os
 import sys
 
 from exploring.runs import list_of_ways
-from exploring.side_by_side import Progress
+from exploring.side_by_side import MOST_AT_ONCE, Progress
 
 
 class Orders:
@@ -26,6 +26,12 @@ class Orders:
         if run.fails():
             self.failed += 1
             print(f"status {run.status} with {list_of_ways(made)}", flush=True)
+
+    def take(self, count):
+        """The lists that are to be run next."""
+        some = self.left[-count:]
+        del self.left[-count:]
+        return some
 
     def read(self, path):
         with open(path) as file:
@@ -58,17 +64,19 @@ def every_order(options, program):
 
 def run_all(options, program, orders, progress):
     """Runs lists until none is left, or as many were run as were asked for, or the time is up. What was begun is waited for."""
-    begun = {}
+    begun, count = {}, 0
     with concurrent.futures.ThreadPoolExecutor(options.jobs) as pool:
         while orders.left or begun:
-            is_over = orders.runs + len(begun) >= options.most or progress.is_over()
-            while orders.left and not is_over and len(begun) < options.jobs:
-                ways = orders.left.pop()
-                begun[pool.submit(program.run, list_of_ways(ways), more={"WULGACH_DUPLICATE": "cut"})] = ways
-                is_over = orders.runs + len(begun) >= options.most
+            while orders.left and len(begun) < options.jobs and orders.runs + count < options.most and not progress.is_over():
+                some = orders.take(min(MOST_AT_ONCE, options.most - orders.runs - count, 1 + len(orders.left) // (2 * options.jobs)))
+                count += len(some)
+                begun[pool.submit(program.run_all, [list_of_ways(ways) for ways in some], more={"WULGACH_DUPLICATE": "cut"})] = some
             if not begun:
                 return
             done, _ = concurrent.futures.wait(begun, return_when=concurrent.futures.FIRST_COMPLETED)
             for it in done:
-                orders.add(begun.pop(it), it.result())
-                progress.add(False, len(orders.left) + len(begun))
+                some = begun.pop(it)
+                count -= len(some)
+                for ways, run in zip(some, it.result()):
+                    orders.add(ways, run)
+                    progress.add(run, len(orders.left) + count)

@@ -13,11 +13,11 @@ def rates(options, program):
     print(f"{options.count} runs a policy, {choices} choices in order\n\n| Policy | Runs that fail | First | Runs a second |\n|---|---:|---:|---:|")
     for name, policy in policies:
         progress, first = Progress(options, options.count), None
-        for seed, run in in_turn(options.jobs, lambda seed: program.run(policy(seed)), range(1, options.count + 1)):
-            progress.add(run.fails())
+        for seed, run in in_turn(options.jobs, lambda some: program.run_all([policy(seed) for seed in some], is_recorded=False), range(1, options.count + 1)):
+            progress.add(run)
             if run.fails() and first is None:
                 first = seed
         progress.end()
-        print(f"| {name} | {progress.failed} | {first or ''} | {progress.runs / progress.seconds():.0f} |")
+        print(f"| {name} | {progress.failed} | {first or ''} | {progress.rate():.0f} |")
         sys.stdout.flush()
     return 0

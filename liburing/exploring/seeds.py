@@ -1,12 +1,10 @@
 """Runs under seeds, until one fails."""
 
 import json
-import os
-import shlex
-import stat
 import sys
 
-from exploring.runs import Policies, list_of
+from exploring.keeping import keep
+from exploring.runs import Policies
 from exploring.side_by_side import Progress, in_turn
 
 
@@ -14,8 +12,8 @@ def seeds(options, program):
     policies = Policies(program, options.policy)
     numbers = range(options.first, options.first + options.count)
     progress, failed = Progress(options, options.count), []
-    for seed, run in in_turn(options.jobs, lambda seed: program.run(policies.of(seed)), numbers):
-        progress.add(run.fails())
+    for seed, run in in_turn(options.jobs, lambda some: program.run_all([policies.of(seed) for seed in some], is_recorded=False), numbers):
+        progress.add(run)
         if run.fails():
             failed.append(told(options, program, seed, run))
             if not options.keep_going:
@@ -23,7 +21,7 @@ def seeds(options, program):
         if progress.is_over():
             break
     progress.end()
-    summary(options, policies, progress, failed)
+    summary(options, program, policies, progress, failed)
     if failed and not options.keep_going:
         sys.stdout.flush()
         sys.stdout.buffer.write(run.output)
@@ -35,39 +33,20 @@ def seeds(options, program):
 
 def told(options, program, seed, run):
     """Tells of a run that failed, and keeps it if that is asked for."""
-    print(f"seed {seed} fails: status {run.status}, {len(run.choices)} choices")
-    if options.jobs > 1 and not program.run(run.policy).fails():
+    print(f"seed {seed} fails: status {run.status}, {run.choice_count} choices")
+    if (options.jobs > 1 or options.keep) and not program.run(run.policy).fails():
         print(f"seed {seed} passes if it is run again: the program doesn't do the same in each run, or runs side by side disturb one another (--fresh gives each a folder of its own, --jobs 1 runs one at a time)")
     sys.stdout.flush()
     if options.keep:
         keep(f"{options.keep}/seed-{seed}", program, run)
-    return {"seed": seed, "policy": run.policy, "status": run.status, "choices": len(run.choices)}
+    return {"seed": seed, "policy": run.policy, "status": run.status, "choices": run.choice_count}
 
 
-def keep(folder, program, run):
-    """A folder from which the run is replayed by one command, ./replay."""
-    os.makedirs(folder, exist_ok=True)
-    traced = program.run(list_of(run.items()), is_tracing=True)
-    variables = {name: traced.environment[name] for name in ("WULGACH_POLICY", "WULGACH_CHOOSE")}
-    variables |= {name: os.environ[name] for name in ("WULGACH_FAULTS", "WULGACH_FAULT_RATE") if name in os.environ}
-    words = shlex.join([f"{name}={value}" for name, value in variables.items()]), shlex.join(program.words)
-    with open(f"{folder}/replay", "w") as file:
-        place = 'cd "$(mktemp -d)"' if program.is_fresh else f"cd {shlex.quote(os.getcwd())}"
-        file.write(f"#!/bin/sh\n# Replays a run of the layer: {run.policy}, status {run.status}.\n{place} || exit\nexec env {words[0]} {words[1]}\n")
-    os.chmod(f"{folder}/replay", os.stat(f"{folder}/replay").st_mode | stat.S_IXUSR | stat.S_IXGRP | stat.S_IXOTH)
-    with open(f"{folder}/output", "wb") as file:
-        file.write(run.output)
-    with open(f"{folder}/choices", "w") as file:
-        file.writelines(f"{at} {way} {count} {what}\n" for at, way, count, what in run.choices)
-    for index, trace in enumerate(traced.traces):
-        with open(f"{folder}/trace.{index}", "w") as file:
-            file.write(trace)
-
-
-def summary(options, policies, progress, failed):
+def summary(options, program, policies, progress, failed):
     if options.json:
+        found = {"program": options.words, "policy": policies.name, "start": program.start, "first": options.first, "runs": progress.runs, "seconds": round(progress.seconds(), 3), "rate": round(progress.rate(), 1), "orders": len(progress.orders), "failed": failed, "rules": program.rules()}
         with open(options.json, "w") as file:
-            json.dump({"program": options.words, "policy": policies.name, "first": options.first, "runs": progress.runs, "seconds": round(progress.seconds(), 3), "failed": failed}, file, indent=1)
+            json.dump(found, file, indent=1)
             file.write("\n")
 
 

@@ -11,6 +11,7 @@
  */
 #define _GNU_SOURCE
 #include "policy.h"
+#include "account.h"
 #include "fault.h"
 #include "priorities.h"
 
@@ -187,6 +188,7 @@ static FILE *record_of_process(void)
 
 void note_ring(void)
 {
+    note_made_ring();
     if (chosen_by.is_recording)
         fclose(record_of_process());
 }
@@ -201,19 +203,20 @@ static void __attribute__((format(printf, 1, 2))) record(const char *format, ...
 {
     if (!chosen_by.is_recording)
         return;
-    pthread_mutex_lock(&chosen_by.lock);
     if (!chosen_by.record)
         open_record();
     va_list arguments;
     va_start(arguments, format);
     vfprintf(chosen_by.record, format, arguments);
     va_end(arguments);
-    pthread_mutex_unlock(&chosen_by.lock);
 }
 
 void record_choice(uint64_t at, uint32_t count, uint32_t chosen, const char *what)
 {
+    pthread_mutex_lock(&chosen_by.lock);
+    note_choice(what);
     record("%" PRIu64 " %" PRIu32 " %" PRIu32 " %s\n", at, chosen, count, what);
+    pthread_mutex_unlock(&chosen_by.lock);
 }
 
 void refuse_choice(uint64_t at)
@@ -221,6 +224,7 @@ void refuse_choice(uint64_t at)
     if (chosen_by.policy != LISTED)
         return;
     if (chosen_by.is_cutting && at + 1 == chosen_by.listed_end) {
+        note_cut();
         record("duplicate\n");
         _exit(1);
     }
