@@ -4,6 +4,7 @@ import concurrent.futures
 import os
 import sys
 
+from exploring.coverage import print_rules
 from exploring.runs import list_of_ways
 from exploring.side_by_side import MOST_AT_ONCE, Progress
 
@@ -59,6 +60,9 @@ def every_order(options, program):
         sys.stdout.flush()
         for output in sorted(orders.outputs):
             sys.stdout.buffer.write(output)
+        sys.stdout.flush()
+    if options.coverage:
+        print_rules(program.rules())
     return 1 if orders.failed or orders.left else 0
 
 

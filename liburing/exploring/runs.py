@@ -9,6 +9,7 @@ import sys
 import tempfile
 import threading
 
+from exploring.coverage import added
 from exploring.serving import ACCOUNT_SIZE, ROOM, Lost, Server
 
 OF_RUN = struct.Struct("<5Q")
@@ -43,11 +44,7 @@ class Program:
 
     def rules(self):
         """How often each rule of the core was met so far."""
-        counts = {}
-        for hand in self.hands:
-            for name, count in hand.rules():
-                counts[name] = counts.get(name, 0) + count
-        return counts
+        return added(hand.rules() for hand in self.hands)
 
     def first_run(self, policy):
         """A run, which is to have set a ring up on the layer: else all that follows would say nothing."""
@@ -105,7 +102,7 @@ class Hand:
 
     def rules(self):
         with open(self.account, "rb") as file:
-            return list(read_rules(file.read()))
+            return dict(read_rules(file.read()))
 
     def variables(self, index, policy, is_tracing, is_recorded, more):
         variables = dict(WULGACH_POLICY=policy, WULGACH_CHOOSE=self.program.grain, WULGACH_SYNC=os.environ.get("WULGACH_SYNC", "skip"), **more)

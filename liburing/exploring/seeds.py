@@ -3,6 +3,7 @@
 import json
 import sys
 
+from exploring.coverage import added, print_rules
 from exploring.keeping import keep
 from exploring.runs import Policies
 from exploring.side_by_side import Progress, in_turn
@@ -25,9 +26,11 @@ def seeds(options, program):
     if failed and not options.keep_going:
         sys.stdout.flush()
         sys.stdout.buffer.write(run.output)
-        return 1
-    is_cut = progress.runs < options.count and not (failed and not options.keep_going)
-    print(f"{progress.runs} seeds from {options.first} on: {len(failed)} fail{', and then the time was up' if is_cut else ''}")
+        sys.stdout.flush()
+    else:
+        print(f"{progress.runs} seeds from {options.first} on: {len(failed)} fail{', and then the time was up' if progress.runs < options.count else ''}")
+    if options.coverage:
+        print_rules(program.rules())
     return 1 if failed else 0
 
 
@@ -66,4 +69,6 @@ def merged(options, program):
     for it in failed:
         print(f"seed {it['seed']} fails: status {it['status']}, {it['choices']} choices")
     print(f"{len(counted)} seeds in {len(parts)} parts: {len(failed)} fail")
+    if options.coverage:
+        print_rules(added(part["rules"] for part in parts))
     return 1 if failed else 0

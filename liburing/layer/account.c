@@ -23,10 +23,9 @@ static const char *const names[RULE_COUNT] = {
     [CANCEL_FINDS_NOBODY] = "cancel: finds nobody (-2)",
     [FAILS_BY_SOFT_LINK] = "chain: a member with a soft link fails",
     [FAILS_BY_HARD_LINK] = "chain: a member with a hard link fails",
-    [STARTS_BEHIND_FAILURE] = "chain: a member starts behind a failure",
     [DRAIN_STARTS] = "drain: a draining request starts",
     [SUCCESS_IS_SKIPPED] = "completion: a success is skipped",
-    [FAILURE_ISNT_SKIPPED] = "completion: a failure is posted, for all CQE_SKIP",
+    [FAILURE_ISNT_SKIPPED] = "completion: a failure isn't skipped",
     [COMPLETION_OVERFLOWS] = "completion: one overflows the ring",
     [OVERFLOW_MOVES] = "completion: one that overflowed moves into the ring",
     [WORD_IS_DROPPED] = "call: an index word names no slot",
@@ -94,10 +93,15 @@ void note_cut(void)
         shared->is_cut = 1;
 }
 
-void note_rule(enum rule rule)
+void note_rules(enum rule rule, uint64_t count)
 {
     if (account())
-        shared->rules[rule].count++;
+        shared->rules[rule].count += count;
+}
+
+void note_rule(enum rule rule)
+{
+    note_rules(rule, 1);
 }
 
 _Static_assert(sizeof(struct account) <= ACCOUNT_SIZE, "an account fits its file");

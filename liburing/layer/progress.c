@@ -9,6 +9,7 @@
 #include "operations.h"
 #include "policy.h"
 #include "priorities.h"
+#include "rules.h"
 #include "steps.h"
 #include "times.h"
 #include "trace.h"
@@ -63,6 +64,7 @@ static void forget_refusals(struct ring *ring, bool is_success)
 static void end_of(struct ring *ring, struct request *request, int32_t res, int32_t told)
 {
     trace_result(ring, request, res);
+    note_outcome(request, told);
     bool is_cancel = request->mapping == CANCEL;
     note_end(ring, request->entry.user_data, res, told);
     ring->has_changed = true;
@@ -120,6 +122,7 @@ static void start(struct ring *ring, struct request *request)
 static enum outcome issue_waiting(struct ring *ring, struct request *request)
 {
     int32_t res;
+    note_standing(ring, request);
     uint32_t kind = issue(ring, request->number, &res);
     switch (kind) {
     case WULGACH_NOT_READY:
