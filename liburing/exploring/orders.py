@@ -1,12 +1,12 @@
 """Runs every order of a short run."""
 
-import concurrent.futures
 import os
 import sys
 
 from exploring.coverage import print_rules
 from exploring.runs import list_of_ways
-from exploring.side_by_side import MOST_AT_ONCE, Progress
+from exploring.seeds import write_summary
+from exploring.side_by_side import MOST_AT_ONCE, Progress, pool_of
 
 
 class Orders:
@@ -47,10 +47,10 @@ class Orders:
 
 def every_order(options, program):
     program.first_run("list:")
-    orders, progress = Orders(), Progress(options)
+    orders, pool, progress = Orders(), pool_of(options, program), Progress(options)
     if options.left and os.path.exists(options.left):
         orders.read(options.left)
-    run_all(options, program, orders, progress)
+    run_all(options, pool, orders, progress)
     progress.end()
     if options.left:
         orders.write(options.left)
@@ -61,26 +61,28 @@ def every_order(options, program):
         for output in sorted(orders.outputs):
             sys.stdout.buffer.write(output)
         sys.stdout.flush()
+    write_summary(options, {"start": program.start, **progress.summary(), "outputs": len(orders.outputs), "left": len(orders.left), "failed": orders.failed, "rules": pool.rules})
     if options.coverage:
-        print_rules(program.rules())
+        print_rules(pool.rules)
+    pool.close()
     return 1 if orders.failed or orders.left else 0
 
 
-def run_all(options, program, orders, progress):
+def run_all(options, pool, orders, progress):
     """Runs lists until none is left, or as many were run as were asked for, or the time is up. What was begun is waited for."""
     begun, count = {}, 0
-    with concurrent.futures.ThreadPoolExecutor(options.jobs) as pool:
-        while orders.left or begun:
-            while orders.left and len(begun) < options.jobs and orders.runs + count < options.most and not progress.is_over():
-                some = orders.take(min(MOST_AT_ONCE, options.most - orders.runs - count, 1 + len(orders.left) // (2 * options.jobs)))
-                count += len(some)
-                begun[pool.submit(program.run_all, [list_of_ways(ways) for ways in some], more={"WULGACH_DUPLICATE": "cut"})] = some
-            if not begun:
-                return
-            done, _ = concurrent.futures.wait(begun, return_when=concurrent.futures.FIRST_COMPLETED)
-            for it in done:
-                some = begun.pop(it)
-                count -= len(some)
-                for ways, run in zip(some, it.result()):
-                    orders.add(ways, run)
-                    progress.add(run, len(orders.left) + count)
+    while orders.left or begun:
+        while orders.left and len(begun) < 2 * pool.jobs and orders.runs + count < options.most and not progress.is_over():
+            some = orders.take(min(MOST_AT_ONCE, options.most - orders.runs - count, 1 + len(orders.left) // (2 * pool.jobs)))
+            count += len(some)
+            future = pool.submit([list_of_ways(ways) for ways in some], is_recorded=True, more={"WULGACH_DUPLICATE": "cut"})
+            begun[future] = some
+        if not begun:
+            return
+        for future in pool.any_of(begun):
+            some = begun.pop(future)
+            count -= len(some)
+            runs, _ = pool.taken(future)
+            for ways, run in zip(some, runs):
+                orders.add(ways, run)
+                progress.add(run, len(orders.left) + count)

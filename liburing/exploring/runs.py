@@ -8,8 +8,9 @@ import subprocess
 import sys
 import tempfile
 import threading
+import time
+import types
 
-from exploring.coverage import added
 from exploring.serving import ACCOUNT_SIZE, ROOM, Lost, Server
 
 OF_RUN = struct.Struct("<5Q")
@@ -22,11 +23,23 @@ class Program:
         self.words, self.seconds, self.is_fresh = options.words, options.seconds, options.fresh
         self.grain = "ends" if options.ends else "events"
         self.start, self.wanted = None, options.start
-        self.own, self.lock, self.hands = threading.local(), threading.Lock(), []
+        self.folder, self.surroundings = None, {}
+        self.own, self.lock = threading.local(), threading.Lock()
         if self.is_fresh and self.words:
             # (the folder is another one then)
-            self.words = [shutil.which(self.words[0]) or self.words[0], *self.words[1:]]
-            self.words[0] = os.path.abspath(self.words[0])
+            self.words = [absolute(self.words[0]), *self.words[1:]]
+
+    def told(self):
+        """What a worker on another machine is told of it."""
+        kept = {name: value for name, value in os.environ.items() if name.startswith("WULGACH_") or name in ("LD_LIBRARY_PATH", "LD_PRELOAD")}
+        return dict(words=[absolute(self.words[0]), *self.words[1:]], seconds=self.seconds, fresh=self.is_fresh, ends=self.grain == "ends", start=self.wanted, folder=os.getcwd(), surroundings=kept)
+
+    @staticmethod
+    def of(told):
+        program = Program(types.SimpleNamespace(**told))
+        program.surroundings = told["surroundings"]
+        program.folder = told["folder"] if os.path.isdir(told["folder"]) else None
+        return program
 
     def run(self, policy, is_tracing=False, more=None):
         return self.run_all([policy], is_tracing, True, more)[0]
@@ -35,16 +48,19 @@ class Program:
         """Runs by each of these policies, one after the other: several at once only where runs are served."""
         return self.hand().run_all(policies, is_tracing, is_recorded, more or {})
 
+    def work(self, policies, is_tracing=False, is_recorded=False, more=None):
+        """The same, with the rules that were met, and the seconds that it took."""
+        begun, hand = time.monotonic(), self.hand()
+        before = hand.rules()
+        runs = hand.run_all(policies, is_tracing, is_recorded, more or {})
+        rules = {name: count - before.get(name, 0) for name, count in hand.rules().items()}
+        return runs, rules, time.monotonic() - begun
+
     def hand(self):
         if not hasattr(self.own, "hand"):
             with self.lock:
                 self.own.hand = Hand(self)
-                self.hands.append(self.own.hand)
         return self.own.hand
-
-    def rules(self):
-        """How often each rule of the core was met so far."""
-        return added(hand.rules() for hand in self.hands)
 
     def first_run(self, policy):
         """A run, which is to have set a ring up on the layer: else all that follows would say nothing."""
@@ -53,6 +69,10 @@ class Program:
             sys.stdout.buffer.write(run.output)
             stop(f"{self.words[0]} set no ring up on the layer (status {run.status}): is it linked with it, or run by uring-run?")
         return run
+
+
+def absolute(name):
+    return os.path.abspath(shutil.which(name) or name)
 
 
 def stop(message):
@@ -78,7 +98,7 @@ class Hand:
 
     def serve(self, when):
         try:
-            return Server(self.program, when, {"WULGACH_ACCOUNT": self.account})
+            return Server(self.program, when, {**self.program.surroundings, "WULGACH_ACCOUNT": self.account})
         except OSError as error:
             stop(f"{self.program.words[0]}: {error.strerror}")
 
@@ -133,7 +153,7 @@ class Hand:
         place = tempfile.mkdtemp(dir=ROOM) if self.program.is_fresh else None
         is_late, status = False, 0
         try:
-            done = subprocess.run(self.program.words, cwd=place, env={**os.environ, **variables, "WULGACH_ACCOUNT": self.account}, stdin=subprocess.DEVNULL, stdout=subprocess.PIPE, stderr=subprocess.STDOUT, timeout=self.program.seconds)
+            done = subprocess.run(self.program.words, cwd=place or self.program.folder, env={**os.environ, **self.program.surroundings, **variables, "WULGACH_ACCOUNT": self.account}, stdin=subprocess.DEVNULL, stdout=subprocess.PIPE, stderr=subprocess.STDOUT, timeout=self.program.seconds)
             status, output = done.returncode, done.stdout
         except subprocess.TimeoutExpired as late:
             is_late, output = True, late.stdout or b""

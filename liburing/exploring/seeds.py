@@ -6,14 +6,14 @@ import sys
 from exploring.coverage import added, print_rules
 from exploring.keeping import keep
 from exploring.runs import Policies
-from exploring.side_by_side import Progress, in_turn
+from exploring.side_by_side import Progress, in_turn, pool_of
 
 
 def seeds(options, program):
     policies = Policies(program, options.policy)
     numbers = range(options.first, options.first + options.count)
-    progress, failed = Progress(options, options.count), []
-    for seed, run in in_turn(options.jobs, lambda some: program.run_all([policies.of(seed) for seed in some], is_recorded=False), numbers):
+    pool, progress, failed = pool_of(options, program), Progress(options, options.count), []
+    for seed, run in in_turn(pool, policies.of, numbers):
         progress.add(run)
         if run.fails():
             failed.append(told(options, program, seed, run))
@@ -22,7 +22,7 @@ def seeds(options, program):
         if progress.is_over():
             break
     progress.end()
-    summary(options, program, policies, progress, failed)
+    write_summary(options, {"policy": policies.name, "start": program.start, "first": options.first, **progress.summary(), "failed": failed, "rules": pool.rules})
     if failed and not options.keep_going:
         sys.stdout.flush()
         sys.stdout.buffer.write(run.output)
@@ -30,7 +30,8 @@ def seeds(options, program):
     else:
         print(f"{progress.runs} seeds from {options.first} on: {len(failed)} fail{', and then the time was up' if progress.runs < options.count else ''}")
     if options.coverage:
-        print_rules(program.rules())
+        print_rules(pool.rules)
+    pool.close()
     return 1 if failed else 0
 
 
@@ -45,11 +46,10 @@ def told(options, program, seed, run):
     return {"seed": seed, "policy": run.policy, "status": run.status, "choices": run.choice_count}
 
 
-def summary(options, program, policies, progress, failed):
+def write_summary(options, found):
     if options.json:
-        found = {"program": options.words, "policy": policies.name, "start": program.start, "first": options.first, "runs": progress.runs, "seconds": round(progress.seconds(), 3), "rate": round(progress.rate(), 1), "orders": len(progress.orders), "failed": failed, "rules": program.rules()}
         with open(options.json, "w") as file:
-            json.dump(found, file, indent=1)
+            json.dump({"program": options.words, **found}, file, indent=1)
             file.write("\n")
 
 

@@ -8,8 +8,8 @@ import struct
 import subprocess
 import tempfile
 
-# Where runs lie: in memory, if there is such a place.
-ROOM = "/dev/shm" if os.access("/dev/shm", os.W_OK) else None
+# Where the folders of runs lie: where TMPDIR says, else in memory, if there is such a place.
+ROOM = os.environ.get("TMPDIR") or ("/dev/shm" if os.access("/dev/shm", os.W_OK) else None)
 # status, too late, rings, processes that chose, choices, order, cut, bytes printed
 TOLD = struct.Struct("<iI6Q")
 ACCOUNT_SIZE = 4096
@@ -32,7 +32,7 @@ class Server:
         with there:
             variables = {**os.environ, **surroundings, "WULGACH_SERVER": words}
             try:
-                self.process = subprocess.Popen(program.words, cwd=self.place, env=variables, stdin=subprocess.DEVNULL, stdout=self.output, stderr=self.output, pass_fds=[there.fileno(), self.output])
+                self.process = subprocess.Popen(program.words, cwd=self.place or program.folder, env=variables, stdin=subprocess.DEVNULL, stdout=self.output, stderr=self.output, pass_fds=[there.fileno(), self.output])
             except OSError:
                 self.remove_places()
                 raise

@@ -1,4 +1,4 @@
-"""Many runs at once, and how far they are."""
+"""Many runs at once, here or on a cluster, and how far they are."""
 
 import collections
 import concurrent.futures
@@ -6,38 +6,67 @@ import itertools
 import sys
 import time
 
+from exploring.coverage import added
+
 MOST_AT_ONCE, ENOUGH_SECONDS = 64, 0.05
 
 
-def in_turn(jobs, call, items):
-    """Calls with lists of items, so many calls at once, and gives each item and its result in the items' order. Lists grow until a call takes a moment. What was begun when the caller stops is waited for, and nothing else is begun."""
+class Here:
+    """Runs in this process's threads. `rules` are those that the runs met whose results were taken."""
+
+    def __init__(self, program, jobs):
+        self.program, self.jobs, self.rules = program, jobs, {}
+        self.executor = concurrent.futures.ThreadPoolExecutor(jobs)
+
+    def submit(self, policies, **how):
+        """Begins runs by these policies, one after the other; `taken` gives them."""
+        return self.executor.submit(self.program.work, policies, **how)
+
+    def any_of(self, futures):
+        """Those that are there, once any is."""
+        return concurrent.futures.wait(futures, return_when=concurrent.futures.FIRST_COMPLETED).done
+
+    def taken(self, future):
+        """The runs, and the seconds that they took."""
+        runs, rules, seconds = future.result()
+        self.rules = added([self.rules, rules])
+        return runs, seconds
+
+    def close(self):
+        self.executor.shutdown()
+
+
+def pool_of(options, program):
+    if options.cluster:
+        from exploring.cluster import Cluster
+
+        return Cluster(program, options.cluster)
+    return Here(program, options.jobs)
+
+
+def in_turn(pool, policy_of, items):
+    """Runs by the policy of each item, and gives item and run in the items' order. So many go to one hand at once as take a moment. When the caller stops, nothing else is begun."""
     items, size = iter(items), 1
+    begun = collections.deque()
 
-    def timed(some):
-        begun = time.monotonic()
-        return call(some), time.monotonic() - begun
+    def begin():
+        some = list(itertools.islice(items, size))
+        if some:
+            begun.append((some, pool.submit([policy_of(item) for item in some])))
 
-    with concurrent.futures.ThreadPoolExecutor(jobs) as pool:
-        begun = collections.deque()
-
-        def begin():
-            some = list(itertools.islice(items, size))
-            if some:
-                begun.append((some, pool.submit(timed, some)))
-
-        try:
-            for _ in range(2 * jobs):
-                begin()
-            while begun:
-                some, future = begun.popleft()
-                results, seconds = future.result()
-                if seconds < ENOUGH_SECONDS and len(some) == size < MOST_AT_ONCE:
-                    size *= 2
-                yield from zip(some, results)
-                begin()
-        finally:
-            for _, future in begun:
-                future.cancel()
+    try:
+        for _ in range(2 * pool.jobs):
+            begin()
+        while begun:
+            some, future = begun.popleft()
+            runs, seconds = pool.taken(future)
+            if seconds < ENOUGH_SECONDS and len(some) == size < MOST_AT_ONCE:
+                size *= 2
+            yield from zip(some, runs)
+            begin()
+    finally:
+        for _, future in begun:
+            future.cancel()
 
 
 class Progress:
@@ -84,3 +113,7 @@ class Progress:
     def end(self):
         if self.is_wanted and sys.stderr.isatty():
             print("\033[K", end="", file=sys.stderr, flush=True)
+
+    def summary(self):
+        """For the JSON that tells of the whole."""
+        return {"runs": self.runs, "seconds": round(self.seconds(), 3), "rate": round(self.rate(), 1), "orders": len(self.orders)}
