@@ -11,6 +11,7 @@ import threading
 import time
 import types
 
+from exploring.reducing import Outlook
 from exploring.serving import ACCOUNT_SIZE, ROOM, Lost, Server
 
 OF_RUN = struct.Struct("<5Q")
@@ -195,14 +196,19 @@ class Run:
         self.environment, self.policy, self.output = environment, environment["WULGACH_POLICY"], output
         self.status = "none: it took too long" if is_late else status
         self.has_ring = rings > 0
-        self.choices, self.traces = [], []
+        self.choices, self.record, self.traces = [], [], []
         if choosers > 1:
             stop("more than one process of the program chooses, and a list is one process's")
 
     def read_choices(self, path):
         with open(path) as lines:
-            found = [line.rstrip("\n").split(" ", 3) for line in lines if line.endswith("\n")]
-        self.choices = [(int(words[0]), int(words[1]), int(words[2]), words[3]) for words in found if words != ["duplicate"]]
+            self.record = [line.rstrip("\n") for line in lines if line.endswith("\n")]
+        found = [line.split(" ", 3) for line in self.record if line[0].isdecimal()]
+        self.choices = [(int(words[0]), int(words[1]), int(words[2]), words[3]) for words in found]
+
+    def outlook(self):
+        """What could go on at each choice, if that was recorded."""
+        return Outlook(line.split(" ") for line in self.record if line != "duplicate")
 
     def fails(self):
         return self.status != 0

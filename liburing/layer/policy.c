@@ -6,6 +6,7 @@
  *   WULGACH_CHOOSE    events (the default): issuing and finishing a request are two choices; ends: they are one
  *   WULGACH_CHOICES   PREFIX: a process that sets a ring up makes a file PREFIX.PID, and writes a line there for each
  *                     choice: its number, which way, of how many, and in words
+ *   WULGACH_WAYS      if it is set, what could go on at each choice stands there too (outlook.h)
  *   WULGACH_DUPLICATE if it is set, the process ends where the core refuses the last listed choice, since a list without
  *                     it gives the same run. The last line of its choices is then the word duplicate
  */
@@ -32,6 +33,7 @@ static struct {
     uint64_t listed_end;    /* behind the last choice that the list gives */
     bool is_cutting;        /* whether a run that repeats another is cut */
     bool is_recording;
+    bool is_recording_ways;
     FILE *record;
     uint64_t made;          /* how many choices were made */
     pthread_mutex_t lock;
@@ -129,6 +131,7 @@ static void read_environment(void)
     chosen_by.is_choosing_events = !grain || strcmp(grain, "events") == 0;
     chosen_by.is_cutting = getenv("WULGACH_DUPLICATE");
     chosen_by.is_recording = record && *record;
+    chosen_by.is_recording_ways = chosen_by.is_recording && getenv("WULGACH_WAYS");
 }
 
 void read_policy(void)
@@ -199,16 +202,36 @@ static void open_record(void)
     setlinebuf(chosen_by.record);
 }
 
-static void __attribute__((format(printf, 1, 2))) record(const char *format, ...)
+static void record_all(const char *format, va_list arguments)
 {
     if (!chosen_by.is_recording)
         return;
     if (!chosen_by.record)
         open_record();
+    vfprintf(chosen_by.record, format, arguments);
+}
+
+static void __attribute__((format(printf, 1, 2))) record(const char *format, ...)
+{
     va_list arguments;
     va_start(arguments, format);
-    vfprintf(chosen_by.record, format, arguments);
+    record_all(format, arguments);
     va_end(arguments);
+}
+
+bool is_recording_ways(void)
+{
+    return chosen_by.is_recording_ways;
+}
+
+void record_line(const char *format, ...)
+{
+    va_list arguments;
+    pthread_mutex_lock(&chosen_by.lock);
+    va_start(arguments, format);
+    record_all(format, arguments);
+    va_end(arguments);
+    pthread_mutex_unlock(&chosen_by.lock);
 }
 
 void record_choice(uint64_t at, uint32_t count, uint32_t chosen, const char *what)

@@ -7,6 +7,7 @@
 #include "fault.h"
 #include "injection.h"
 #include "operations.h"
+#include "outlook.h"
 #include "policy.h"
 #include "priorities.h"
 #include "rules.h"
@@ -65,6 +66,8 @@ static void end_of(struct ring *ring, struct request *request, int32_t res, int3
 {
     trace_result(ring, request, res);
     note_outcome(request, told);
+    if (told >= 0 && request->entry.flags & IOSQE_CQE_SKIP_SUCCESS)
+        record_silent_end(ring, request);
     bool is_cancel = request->mapping == CANCEL;
     note_end(ring, request->entry.user_data, res, told);
     ring->has_changed = true;
@@ -245,11 +248,13 @@ static enum progress choose_way(struct ring *ring, struct request **ways, uint32
 {
     uint32_t count = ways_count + may_return;
     if (count == 1) {
+        record_ways(ring, NULL, ways, 1, false);
         go_on_with(ring, ways[0]);
         ring->returns = 0;
         return WENT_ON;
     }
     uint64_t at = count_choice();
+    record_ways(ring, &at, ways, ways_count, may_return);
     for (;;) {
         bool is_drawn = policy() == BY_PRIORITY;
         uint32_t chosen = is_drawn ? choose_by_priority(ring, at, ways, ways_count, may_return) : choose(at, count);
@@ -290,5 +295,6 @@ bool can_go_on(struct ring *ring)
 
 void finish_timeout(struct ring *ring, struct request *timeout)
 {
+    record_time();
     finish_running(ring, timeout);
 }

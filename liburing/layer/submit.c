@@ -5,6 +5,7 @@
 #include "account.h"
 #include "fault.h"
 #include "operations.h"
+#include "outlook.h"
 #include "rules.h"
 #include "steps.h"
 #include "trace.h"
@@ -97,8 +98,10 @@ static int take_staged(struct ring *ring)
     note_accepted(ring, accepted);
     store_word(&ring->memory.sq->dropped, answer.dropped);
     store_word(&ring->memory.sq->head, answer.head);
-    for (size_t i = ring->requests.count - answer.word; i < ring->requests.count; i++)
+    for (size_t i = ring->requests.count - answer.word; i < ring->requests.count; i++) {
         trace_request(ring, ring->requests.rows[i]);
+        record_accepted(ring, ring->requests.rows[i]);
+    }
     return (int)answer.word;
 }
 
