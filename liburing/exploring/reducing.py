@@ -30,7 +30,7 @@ class Outlook:
                 self.requests[words[1], words[2]] = Request(*map(int, words[3:8]), words[8])
             elif words[0] == "silent":
                 self.silent.add((words[1], words[2]))
-            elif words[0] == "time":
+            elif words[0] == "break":
                 self.nodes.append(None)
             elif words[0] == "ways":
                 self.nodes.append(Node(None if words[1] == "-" else int(words[1]), [self.way(words[2], word) for word in words[3:]]))
@@ -77,9 +77,9 @@ def commute_effects(one, other):
 
 
 def commute(one, other):
+    """Whether one that is asleep stays so behind the other, which went on. A return that would be made elsewhere doesn't: nobody knows what the application calls then."""
     if "r" in (one.letter, other.letter):
-        way = other if one.letter == "r" else one
-        return way.letter == "i" and way.request.kind == "plain"
+        return other.letter == "r" and one.letter == "i" and one.request.kind == "plain"
     if (one.ring, one.number) == (other.ring, other.number):
         return False
     if "i" in (one.letter, other.letter):
@@ -99,7 +99,7 @@ def unfold(outlook, begun, asleep):
     left, asleep, is_begun = [], {key_of(way): way for way in asleep}, begun == 0
     for node in outlook.nodes:
         if not node:
-            asleep = {}
+            asleep = {} if is_begun else asleep
             continue
         if not is_begun and node.at != begun - 1:
             continue

@@ -25,7 +25,7 @@ class Program:
         self.grain = "ends" if options.ends else "events"
         self.start, self.wanted = None, options.start
         self.folder, self.surroundings = None, {}
-        self.own, self.lock = threading.local(), threading.Lock()
+        self.own, self.lock, self.hands = threading.local(), threading.Lock(), []
         if self.is_fresh and self.words:
             # (the folder is another one then)
             self.words = [absolute(self.words[0]), *self.words[1:]]
@@ -61,7 +61,14 @@ class Program:
         if not hasattr(self.own, "hand"):
             with self.lock:
                 self.own.hand = Hand(self)
+                self.hands.append(self.own.hand)
         return self.own.hand
+
+    def close(self):
+        """Ends what its hands keep, which they else do when this process ends."""
+        for hand in self.hands:
+            atexit.unregister(hand.close)
+            hand.close()
 
     def first_run(self, policy):
         """A run, which is to have set a ring up on the layer: else all that follows would say nothing."""

@@ -78,8 +78,8 @@ void record_ways(struct ring *ring, const uint64_t *at, struct request **ways, u
     record_line(may_return ? " r\n" : "\n");
 }
 
-void record_time(void)
+void record_break(void)
 {
     if (is_recording_ways())
-        record_line("time\n");
+        record_line("break\n");
 }

@@ -8,7 +8,8 @@
  *   ways AT RING WAY..  what can go on at choice AT, or at none (-), since there is one way: `i3` starts request 3, `e3` ends
  *                       it without starting it, `f3` finishes it, `b3` does both, `r` returns, and `x` can't go on
  *   silent RING NUMBER  a request has ended without a completion
- *   time                time passes, since nothing can go on
+ *   break               time passes; or a peek begins that finds nothing, and returns once anything has gone on. What could
+ *                       go on before means something else behind it
  */
 #ifndef OUTLOOK_H
 #define OUTLOOK_H
@@ -22,6 +23,6 @@ void record_ways(struct ring *ring, const uint64_t *at, struct request **ways, u
 
 void record_silent_end(const struct ring *ring, const struct request *request);
 
-void record_time(void);
+void record_break(void);
 
 #endif

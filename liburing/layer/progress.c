@@ -295,6 +295,6 @@ bool can_go_on(struct ring *ring)
 
 void finish_timeout(struct ring *ring, struct request *timeout)
 {
-    record_time();
+    record_break();
     finish_running(ring, timeout);
 }
