@@ -51,11 +51,13 @@ class Orders:
         if found["reduced"] != self.is_reduced:
             stop(f"{path} is left by a call {'with' if self.is_reduced else 'without'} --whole")
         self.runs, self.failed, self.repeated = found["runs"], found["failed"], found["repeated"]
+        self.outputs = {output.encode("latin-1"): count for output, count in found["outputs"].items()}
         self.left = [(ways, [Way(*way[:3], Request(*way[3]) if way[3] else None, way[4]) for way in asleep]) for ways, asleep in found["left"]]
 
     def write(self, path):
         with open(path, "w") as file:
-            json.dump({"reduced": self.is_reduced, "runs": self.runs, "failed": self.failed, "repeated": self.repeated, "left": self.left}, file)
+            outputs = {output.decode("latin-1"): count for output, count in self.outputs.items()}
+            json.dump({"reduced": self.is_reduced, "runs": self.runs, "failed": self.failed, "repeated": self.repeated, "outputs": outputs, "left": self.left}, file)
             file.write("\n")
 
 
