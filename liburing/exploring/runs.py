@@ -1,28 +1,74 @@
 """One run of a program on the layer, and the policies that it is run by."""
 
+import atexit
 import os
 import shutil
+import struct
 import subprocess
 import sys
 import tempfile
+import threading
+import time
+import types
 
-# Where a run's record lies while it is read: in memory, if there is such a place.
-ROOM = "/dev/shm" if os.access("/dev/shm", os.W_OK) else None
+from exploring.reducing import Outlook
+from exploring.serving import ACCOUNT_SIZE, ROOM, Lost, Server
+
+OF_RUN = struct.Struct("<5Q")
 
 
 class Program:
-    """What is run: its words, for how many seconds at most, by which choices, and whether each run gets a folder of its own."""
+    """What is run: its words, for how many seconds at most, by which choices, whether each run gets a folder of its own, and where runs begin."""
 
     def __init__(self, options):
         self.words, self.seconds, self.is_fresh = options.words, options.seconds, options.fresh
         self.grain = "ends" if options.ends else "events"
+        self.start, self.wanted = None, options.start
+        self.folder, self.surroundings = None, {}
+        self.own, self.lock, self.hands = threading.local(), threading.Lock(), []
         if self.is_fresh and self.words:
             # (the folder is another one then)
-            self.words = [shutil.which(self.words[0]) or self.words[0], *self.words[1:]]
-            self.words[0] = os.path.abspath(self.words[0])
+            self.words = [absolute(self.words[0]), *self.words[1:]]
+
+    def told(self):
+        """What a worker on another machine is told of it."""
+        kept = {name: value for name, value in os.environ.items() if name.startswith("WULGACH_") or name in ("LD_LIBRARY_PATH", "LD_PRELOAD")}
+        return dict(words=[absolute(self.words[0]), *self.words[1:]], seconds=self.seconds, fresh=self.is_fresh, ends=self.grain == "ends", start=self.wanted, folder=os.getcwd(), surroundings=kept)
+
+    @staticmethod
+    def of(told):
+        program = Program(types.SimpleNamespace(**told))
+        program.surroundings = told["surroundings"]
+        program.folder = told["folder"] if os.path.isdir(told["folder"]) else None
+        return program
 
     def run(self, policy, is_tracing=False, more=None):
-        return Run(self, policy, is_tracing, more or {})
+        return self.run_all([policy], is_tracing, True, more)[0]
+
+    def run_all(self, policies, is_tracing=False, is_recorded=True, more=None):
+        """Runs by each of these policies, one after the other: several at once only where runs are served."""
+        return self.hand().run_all(policies, is_tracing, is_recorded, more or {})
+
+    def work(self, policies, is_tracing=False, is_recorded=False, more=None):
+        """The same, with the rules that were met, and the seconds that it took."""
+        begun, hand = time.monotonic(), self.hand()
+        before = hand.rules()
+        runs = hand.run_all(policies, is_tracing, is_recorded, more or {})
+        rules = {name: count - before.get(name, 0) for name, count in hand.rules().items()}
+        return runs, rules, time.monotonic() - begun
+
+    def hand(self):
+        if not hasattr(self.own, "hand"):
+            with self.lock:
+                self.own.hand = Hand(self)
+                self.hands.append(self.own.hand)
+        return self.own.hand
+
+    def close(self):
+        """Ends what its hands keep, which they else do when this process ends."""
+        for hand in self.hands:
+            atexit.unregister(hand.close)
+            hand.close()
 
     def first_run(self, policy):
         """A run, which is to have set a ring up on the layer: else all that follows would say nothing."""
@@ -33,40 +79,143 @@ class Program:
         return run
 
 
+def absolute(name):
+    return os.path.abspath(shutil.which(name) or name)
+
+
 def stop(message):
     """Ends at words that can't be served."""
     print(f"explore: {message}", file=sys.stderr)
     sys.exit(2)
 
 
-class Run:
-    """A run: its status, what it printed, its choices (number, way, of how many, in words) and its traces."""
+class Hand:
+    """What runs a program in one thread: an account, room for records, and a server where runs begin by a fork."""
 
-    def __init__(self, program, policy, is_tracing, more):
-        self.policy = policy
-        with tempfile.TemporaryDirectory(dir=ROOM) as folder:
-            self.environment = dict(WULGACH_POLICY=policy, WULGACH_CHOOSE=program.grain, WULGACH_CHOICES=f"{folder}/choices", **more)
-            if is_tracing:
-                self.environment["WULGACH_TRACE"] = f"{folder}/trace"
-            if program.is_fresh:
-                with tempfile.TemporaryDirectory() as place:
-                    self.start(program, place)
-            else:
-                self.start(program, None)
-            names = sorted(os.listdir(folder), key=lambda name: [int(it) for it in name.split(".")[1:]])
-            records = [f"{folder}/{name}" for name in names if name.startswith("choices.")]
-            self.has_ring = bool(records)
-            self.choices, self.is_duplicate = read_choices([path for path in records if os.path.getsize(path)])
-            self.traces = [open(f"{folder}/{name}", errors="replace").read() for name in names if name.startswith("trace.")]
+    def __init__(self, program):
+        self.program, self.server = program, None
+        self.room = tempfile.mkdtemp(dir=ROOM)
+        atexit.register(self.close)
+        self.account = f"{self.room}/account"
+        with open(self.account, "wb") as file:
+            file.write(bytes(ACCOUNT_SIZE))
+        if program.start is None:
+            program.start = self.settle_start()
+        elif program.start != "new":
+            self.server = self.serve(program.start)
 
-    def start(self, program, place):
+    def serve(self, when):
         try:
-            done = subprocess.run(program.words, cwd=place, env={**os.environ, **self.environment}, stdin=subprocess.DEVNULL, stdout=subprocess.PIPE, stderr=subprocess.STDOUT, timeout=program.seconds)
-            self.status, self.output = done.returncode, done.stdout
-        except subprocess.TimeoutExpired as late:
-            self.status, self.output = "none: it took too long", late.stdout or b""
+            return Server(self.program, when, {**self.program.surroundings, "WULGACH_ACCOUNT": self.account})
         except OSError as error:
-            stop(f"{program.words[0]}: {error.strerror}")
+            stop(f"{self.program.words[0]}: {error.strerror}")
+
+    def settle_start(self):
+        """Where runs begin: at the first set-up where each has a folder of its own and nothing else stands against it, else before main, else by a new process."""
+        wanted = {"auto": ["ring", "main"] if self.program.is_fresh else ["main"], "ring": ["ring", "main"], "main": ["main"], "new": []}[self.program.wanted]
+        for when in wanted:
+            server = self.serve(when)
+            if not server.reason:
+                self.server = server
+                return when
+            if when == "ring" or self.program.wanted != "auto":
+                where = "at the first set-up of a ring" if when == "ring" else "before main"
+                print(f"explore: runs don't begin by a fork {where}: {server.reason}", file=sys.stderr)
+        return "new"
+
+    def close(self):
+        if self.server:
+            self.server.close()
+        shutil.rmtree(self.room, ignore_errors=True)
+
+    def rules(self):
+        with open(self.account, "rb") as file:
+            return dict(read_rules(file.read()))
+
+    def variables(self, index, policy, is_tracing, is_recorded, more):
+        variables = dict(WULGACH_POLICY=policy, WULGACH_CHOOSE=self.program.grain, WULGACH_SYNC=os.environ.get("WULGACH_SYNC", "skip"), **more)
+        if is_recorded:
+            variables["WULGACH_CHOICES"] = f"{self.room}/{index}-choices"
+        if is_tracing:
+            variables["WULGACH_TRACE"] = f"{self.room}/{index}-trace"
+        return variables
+
+    def run_all(self, policies, is_tracing, is_recorded, more):
+        asked = [self.variables(index, policy, is_tracing, is_recorded, more) for index, policy in enumerate(policies)]
+        if self.server:
+            try:
+                told = list(self.server.run_all(asked))
+            except Lost:
+                stop(f"{self.program.words[0]}: the process that forks runs has ended (--start new begins each by a new process)")
+        else:
+            told = [self.run_new(variables) for variables in asked]
+        runs = [Run(variables, *it) for variables, it in zip(asked, told)]
+        if is_tracing or is_recorded:
+            self.read_records(runs)
+        return runs
+
+    def run_new(self, variables):
+        """A run that is a new process; what is told of it is what a server tells."""
+        with open(self.account, "r+b") as file:
+            file.write(bytes(OF_RUN.size))
+        place = tempfile.mkdtemp(dir=ROOM) if self.program.is_fresh else None
+        is_late, status = False, 0
+        try:
+            done = subprocess.run(self.program.words, cwd=place or self.program.folder, env={**os.environ, **self.program.surroundings, **variables, "WULGACH_ACCOUNT": self.account}, stdin=subprocess.DEVNULL, stdout=subprocess.PIPE, stderr=subprocess.STDOUT, timeout=self.program.seconds)
+            status, output = done.returncode, done.stdout
+        except subprocess.TimeoutExpired as late:
+            is_late, output = True, late.stdout or b""
+        except OSError as error:
+            stop(f"{self.program.words[0]}: {error.strerror}")
+        finally:
+            if place:
+                shutil.rmtree(place, ignore_errors=True)
+        with open(self.account, "rb") as file:
+            return [status, is_late, *OF_RUN.unpack(file.read(OF_RUN.size))], output
+
+    def read_records(self, runs):
+        """Gives each run its choices and traces, which lie in files that its number begins."""
+        names = [name for name in os.listdir(self.room) if name != "account"]
+        for name in sorted(names, key=lambda name: [int(it) for it in name.split("-")[1].split(".")[1:]]):
+            index, kind = name.split("-")
+            run, path = runs[int(index)], f"{self.room}/{name}"
+            if kind.startswith("trace."):
+                with open(path, errors="replace") as file:
+                    run.traces.append(file.read())
+            elif os.path.getsize(path):
+                run.read_choices(path)
+            os.unlink(path)
+
+
+def read_rules(account):
+    """The rules in an account, each with its name and how often it was met."""
+    for at in range(64, len(account) - 63, 64):
+        name, count = struct.unpack_from("<56sQ", account, at)
+        if name.rstrip(b"\0"):
+            yield name.rstrip(b"\0").decode(), count
+
+
+class Run:
+    """A run: its status, what it printed, how many choices it made and in which order, whether it only repeats another and was cut; and where they were recorded, its choices (number, way, of how many, in words) and its traces."""
+
+    def __init__(self, environment, told, output):
+        status, is_late, rings, choosers, self.choice_count, self.order, self.is_duplicate = told
+        self.environment, self.policy, self.output = environment, environment["WULGACH_POLICY"], output
+        self.status = "none: it took too long" if is_late else status
+        self.has_ring = rings > 0
+        self.choices, self.record, self.traces = [], [], []
+        if choosers > 1:
+            stop("more than one process of the program chooses, and a list is one process's")
+
+    def read_choices(self, path):
+        with open(path) as lines:
+            self.record = [line.rstrip("\n") for line in lines if line.endswith("\n")]
+        found = [line.split(" ", 3) for line in self.record if line[0].isdecimal()]
+        self.choices = [(int(words[0]), int(words[1]), int(words[2]), words[3]) for words in found]
+
+    def outlook(self):
+        """What could go on at each choice, if that was recorded."""
+        return Outlook(line.split(" ") for line in self.record if line != "duplicate")
 
     def fails(self):
         return self.status != 0
@@ -74,17 +223,6 @@ class Run:
     def items(self):
         """The choices that aren't what the policy in order does."""
         return [(at, way) for at, way, _, _ in self.choices if way]
-
-
-def read_choices(paths):
-    """The choices, and whether the run was cut since it only repeats another."""
-    if not paths:
-        return [], False
-    if len(paths) > 1:
-        stop("more than one process of the program chooses, and a list is one process's")
-    with open(paths[0]) as lines:
-        found = [line.rstrip("\n").split(" ", 3) for line in lines if line.endswith("\n")]
-    return [(int(words[0]), int(words[1]), int(words[2]), words[3]) for words in found if words != ["duplicate"]], ["duplicate"] in found
 
 
 def list_of(items):

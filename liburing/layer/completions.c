@@ -4,6 +4,7 @@
  * result in the place of the token's.
  */
 #include "completions.h"
+#include "account.h"
 #include "fault.h"
 #include "ring.h"
 #include "steps.h"
@@ -62,8 +63,11 @@ void show(struct ring *ring)
         store_word(&memory->cq->tail, tail);
     }
     uint32_t flags = 0;
-    if (completions->shown < completions->count)
+    if (completions->shown < completions->count) {
         flags |= IORING_SQ_CQ_OVERFLOW;
+        if (!(load_word(&memory->sq->flags) & IORING_SQ_CQ_OVERFLOW))
+            note_rule(COMPLETION_OVERFLOWS);
+    }
     /* Makes a peek that finds nothing call: so requests go on, and a descriptor that polls is readable no more. */
     if (ring->requests.count > 0 || ring->is_readable)
         flags |= IORING_SQ_TASKRUN;

@@ -5,6 +5,7 @@
 #include "enter.h"
 #include "copying.h"
 #include "descriptors.h"
+#include "outlook.h"
 #include "policy.h"
 #include "progress.h"
 #include "readiness.h"
@@ -67,6 +68,8 @@ static void go_on_alone(struct ring *ring)
 static void go_on_for_peek(struct ring *ring)
 {
     bool is_lazy = policy() == LAZY, is_any = count_ready(ring) > 0;
+    if (!is_any)
+        record_break();
     enum progress progress = is_lazy && is_any ? MAY_RETURN : go_on(ring, is_any);
     while (progress == WENT_ON && !(is_lazy && count_ready(ring) > 0))
         progress = go_on(ring, !is_lazy);

@@ -2,6 +2,7 @@
 #define _GNU_SOURCE
 #include "operations.h"
 #include "descriptors.h"
+#include "syncing.h"
 
 #include <errno.h>
 #include <fcntl.h>
@@ -127,7 +128,7 @@ static int32_t close_file(const struct request *request)
 static int32_t synchronize(const struct request *request)
 {
     int fd = request->entry.fd;
-    return result_of(request->entry.fsync_flags & IORING_FSYNC_DATASYNC ? fdatasync(fd) : fsync(fd));
+    return result_of(sync_descriptor(fd, request->entry.fsync_flags & IORING_FSYNC_DATASYNC));
 }
 
 static void *address_of(const struct request *request)

@@ -6,11 +6,13 @@
  *   WULGACH_CHOOSE    events (the default): issuing and finishing a request are two choices; ends: they are one
  *   WULGACH_CHOICES   PREFIX: a process that sets a ring up makes a file PREFIX.PID, and writes a line there for each
  *                     choice: its number, which way, of how many, and in words
+ *   WULGACH_WAYS      if it is set, what could go on at each choice stands there too (outlook.h)
  *   WULGACH_DUPLICATE if it is set, the process ends where the core refuses the last listed choice, since a list without
  *                     it gives the same run. The last line of its choices is then the word duplicate
  */
 #define _GNU_SOURCE
 #include "policy.h"
+#include "account.h"
 #include "fault.h"
 #include "priorities.h"
 
@@ -31,6 +33,7 @@ static struct {
     uint64_t listed_end;    /* behind the last choice that the list gives */
     bool is_cutting;        /* whether a run that repeats another is cut */
     bool is_recording;
+    bool is_recording_ways;
     FILE *record;
     uint64_t made;          /* how many choices were made */
     pthread_mutex_t lock;
@@ -128,6 +131,7 @@ static void read_environment(void)
     chosen_by.is_choosing_events = !grain || strcmp(grain, "events") == 0;
     chosen_by.is_cutting = getenv("WULGACH_DUPLICATE");
     chosen_by.is_recording = record && *record;
+    chosen_by.is_recording_ways = chosen_by.is_recording && getenv("WULGACH_WAYS");
 }
 
 void read_policy(void)
@@ -187,6 +191,7 @@ static FILE *record_of_process(void)
 
 void note_ring(void)
 {
+    note_made_ring();
     if (chosen_by.is_recording)
         fclose(record_of_process());
 }
@@ -197,23 +202,44 @@ static void open_record(void)
     setlinebuf(chosen_by.record);
 }
 
-static void __attribute__((format(printf, 1, 2))) record(const char *format, ...)
+static void record_all(const char *format, va_list arguments)
 {
     if (!chosen_by.is_recording)
         return;
-    pthread_mutex_lock(&chosen_by.lock);
     if (!chosen_by.record)
         open_record();
+    vfprintf(chosen_by.record, format, arguments);
+}
+
+static void __attribute__((format(printf, 1, 2))) record(const char *format, ...)
+{
     va_list arguments;
     va_start(arguments, format);
-    vfprintf(chosen_by.record, format, arguments);
+    record_all(format, arguments);
+    va_end(arguments);
+}
+
+bool is_recording_ways(void)
+{
+    return chosen_by.is_recording_ways;
+}
+
+void record_line(const char *format, ...)
+{
+    va_list arguments;
+    pthread_mutex_lock(&chosen_by.lock);
+    va_start(arguments, format);
+    record_all(format, arguments);
     va_end(arguments);
     pthread_mutex_unlock(&chosen_by.lock);
 }
 
 void record_choice(uint64_t at, uint32_t count, uint32_t chosen, const char *what)
 {
+    pthread_mutex_lock(&chosen_by.lock);
+    note_choice(what);
     record("%" PRIu64 " %" PRIu32 " %" PRIu32 " %s\n", at, chosen, count, what);
+    pthread_mutex_unlock(&chosen_by.lock);
 }
 
 void refuse_choice(uint64_t at)
@@ -221,6 +247,7 @@ void refuse_choice(uint64_t at)
     if (chosen_by.policy != LISTED)
         return;
     if (chosen_by.is_cutting && at + 1 == chosen_by.listed_end) {
+        note_cut();
         record("duplicate\n");
         _exit(1);
     }

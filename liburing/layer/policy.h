@@ -39,6 +39,10 @@ void note_ring(void);
 /* Records a choice that was made: which of how many ways, and in words. */
 void record_choice(uint64_t at, uint32_t count, uint32_t chosen, const char *what);
 
+/* Whether what could go on at each choice is recorded (outlook.h), and a line of that, or a part of one. */
+bool is_recording_ways(void);
+void record_line(const char *format, ...) __attribute__((format(printf, 1, 2)));
+
 /* Keep others from choosing and recording: over a fork, and while priorities are looked at. */
 void lock_choices(void);
 void unlock_choices(void);

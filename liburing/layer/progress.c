@@ -7,8 +7,10 @@
 #include "fault.h"
 #include "injection.h"
 #include "operations.h"
+#include "outlook.h"
 #include "policy.h"
 #include "priorities.h"
+#include "rules.h"
 #include "steps.h"
 #include "times.h"
 #include "trace.h"
@@ -63,6 +65,9 @@ static void forget_refusals(struct ring *ring, bool is_success)
 static void end_of(struct ring *ring, struct request *request, int32_t res, int32_t told)
 {
     trace_result(ring, request, res);
+    note_outcome(request, told);
+    if (told >= 0 && request->entry.flags & IOSQE_CQE_SKIP_SUCCESS)
+        record_silent_end(ring, request);
     bool is_cancel = request->mapping == CANCEL;
     note_end(ring, request->entry.user_data, res, told);
     ring->has_changed = true;
@@ -120,6 +125,7 @@ static void start(struct ring *ring, struct request *request)
 static enum outcome issue_waiting(struct ring *ring, struct request *request)
 {
     int32_t res;
+    note_standing(ring, request);
     uint32_t kind = issue(ring, request->number, &res);
     switch (kind) {
     case WULGACH_NOT_READY:
@@ -242,11 +248,13 @@ static enum progress choose_way(struct ring *ring, struct request **ways, uint32
 {
     uint32_t count = ways_count + may_return;
     if (count == 1) {
+        record_ways(ring, NULL, ways, 1, false);
         go_on_with(ring, ways[0]);
         ring->returns = 0;
         return WENT_ON;
     }
     uint64_t at = count_choice();
+    record_ways(ring, &at, ways, ways_count, may_return);
     for (;;) {
         bool is_drawn = policy() == BY_PRIORITY;
         uint32_t chosen = is_drawn ? choose_by_priority(ring, at, ways, ways_count, may_return) : choose(at, count);
@@ -287,5 +295,6 @@ bool can_go_on(struct ring *ring)
 
 void finish_timeout(struct ring *ring, struct request *timeout)
 {
+    record_break();
     finish_running(ring, timeout);
 }

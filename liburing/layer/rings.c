@@ -8,6 +8,7 @@
 #include "policy.h"
 #include "readiness.h"
 #include "ring.h"
+#include "server.h"
 #include "trace.h"
 
 #include <errno.h>
@@ -120,6 +121,7 @@ int setup(uint32_t entries, struct io_uring_params *params, bool is_polled)
 {
     struct io_uring_params own;
     struct ring *ring;
+    serve_at_set_up();
     read_policy();
     read_injection();
     if (copy_in(&own, (uintptr_t)params, sizeof own) < 0)

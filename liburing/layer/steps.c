@@ -1,5 +1,6 @@
 /* Makes steps on a ring's core, and traces them. */
 #include "steps.h"
+#include "account.h"
 #include "fault.h"
 #include "trace.h"
 
@@ -129,6 +130,7 @@ void flush(struct ring *ring)
     struct wulgach_answer answer;
     make_plain(ring, WULGACH_FLUSH, 0, &answer);
     demand(answer.kind == WULGACH_MOVED, "the core doesn't flush");
+    note_rules(OVERFLOW_MOVES, answer.number);
 }
 
 bool find_next(struct ring *ring, uint64_t *number)

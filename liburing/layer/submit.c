@@ -2,8 +2,11 @@
  * one call. If memory is refused, what is staged stays so, and the next call goes on with it.
  */
 #include "submit.h"
+#include "account.h"
 #include "fault.h"
 #include "operations.h"
+#include "outlook.h"
+#include "rules.h"
 #include "steps.h"
 #include "trace.h"
 
@@ -57,8 +60,10 @@ static bool stage_up_to(struct ring *ring, uint32_t count)
         struct request *row;
         if (!stage(ring, word, &row))
             return false;
-        if (ends_call(ring, row))
+        if (ends_call(ring, row)) {
+            note_rule(row ? CALL_STOPS : WORD_IS_DROPPED);
             break;
+        }
     }
     return true;
 }
@@ -90,10 +95,13 @@ static int take_staged(struct ring *ring)
     ring->has_changed = true;
     struct wulgach_answer answer = end_call(ring);
     demand(answer.word == ring->accepted - accepted, "the core accepts another number of requests");
+    note_accepted(ring, accepted);
     store_word(&ring->memory.sq->dropped, answer.dropped);
     store_word(&ring->memory.sq->head, answer.head);
-    for (size_t i = ring->requests.count - answer.word; i < ring->requests.count; i++)
+    for (size_t i = ring->requests.count - answer.word; i < ring->requests.count; i++) {
         trace_request(ring, ring->requests.rows[i]);
+        record_accepted(ring, ring->requests.rows[i]);
+    }
     return (int)answer.word;
 }
 

@@ -1,0 +1,126 @@
+"""Which things that could go on commute, and so which runs only repeat others.
+
+A way is a letter, a ring and a request's number, as `liburing/layer/outlook.h` tells it: `i` starts a request, `e` ends it unstarted, `f` finishes it, `b` starts and finishes it, and `r` returns to the application. Two ways commute if each can still go on behind the other, does the same there, and the application can't tell in which order they went. What isn't known to commute is taken not to.
+"""
+
+import collections
+
+READS, WRITES, NOTHING = (22, 1), (23, 2), (0, 3)
+SKIP_SUCCESS = 64
+
+Request = collections.namedtuple("Request", "code flags address offset length kind")
+Way = collections.namedtuple("Way", "letter ring number request is_silent")
+RETURN = Way("r", 0, 0, None, False)
+
+
+class Node:
+    """A moment at which something went on: the choice's number, or None if there was one way; the ways, of which those that can't go on are None; and which of them it was."""
+
+    def __init__(self, at, ways):
+        self.at, self.ways, self.chosen = at, ways, None if at is not None else 0
+
+
+class Outlook:
+    """What a run's record says of what could go on."""
+
+    def __init__(self, lines):
+        self.requests, self.silent, self.nodes, by_choice = {}, set(), [], {}
+        for words in lines:
+            if words[0] == "request":
+                self.requests[words[1], words[2]] = Request(*map(int, words[3:8]), words[8])
+            elif words[0] == "silent":
+                self.silent.add((words[1], words[2]))
+            elif words[0] == "break":
+                self.nodes.append(None)
+            elif words[0] == "ways":
+                self.nodes.append(Node(None if words[1] == "-" else int(words[1]), [self.way(words[2], word) for word in words[3:]]))
+                by_choice[self.nodes[-1].at] = self.nodes[-1]
+            elif int(words[0]) in by_choice:
+                by_choice[int(words[0])].chosen = int(words[1])
+
+    def way(self, ring, word):
+        if word[0] == "x":
+            return None
+        return RETURN if word == "r" else Way(word[0], ring, word[1:], self.requests[ring, word[1:]], False)
+
+    def chosen(self, node):
+        """What went on at a node, with what it turned out to be."""
+        way = node.ways[node.chosen]
+        return way._replace(is_silent=way.letter in "fb" and (way.ring, way.number) in self.silent)
+
+
+def overlap(one, length, other, other_length):
+    return one < other + other_length and other < one + length
+
+
+def shares_memory(one, other):
+    """Whether a read fills bytes that the other reads or fills. Of vectors nobody says where they lie."""
+    if one.code not in READS and other.code not in READS:
+        return False
+    return not one.address or not other.address or overlap(one.address, one.length, other.address, other.length)
+
+
+def shares_bytes(one, other):
+    """Whether two transfers meet in a file, which is taken to be one file. A read before a write's end sees whether the file is long enough."""
+    if one.code in READS and other.code in READS:
+        return False
+    if one.code in WRITES and other.code in WRITES:
+        return overlap(one.offset, one.length, other.offset, other.length)
+    read, write = (one, other) if one.code in READS else (other, one)
+    return read.offset < write.offset + write.length
+
+
+def commute_effects(one, other):
+    if one.code in NOTHING or other.code in NOTHING:
+        return True
+    return not shares_memory(one, other) and not shares_bytes(one, other)
+
+
+def commute(one, other):
+    """Whether one that is asleep stays so behind the other, which went on. A return that would be made elsewhere doesn't: nobody knows what the application calls then."""
+    if "r" in (one.letter, other.letter):
+        return other.letter == "r" and one.letter == "i" and one.request.kind == "plain"
+    if (one.ring, one.number) == (other.ring, other.number):
+        return False
+    if "i" in (one.letter, other.letter):
+        return all(way.letter == "i" or way.request.kind == "plain" for way in (one, other))
+    if not (one.is_silent or other.is_silent) or "other" in (one.request.kind, other.request.kind):
+        return False
+    return commute_effects(one.request, other.request)
+
+
+def key_of(way):
+    return way[:3]
+
+
+def unfold(outlook, begun, asleep):
+    """Looks through a run that began with so many choices, of which the last stands beside ways that were tried before (`asleep`). Gives the choices' lists that are left, each with the ways that are asleep there, and whether the run came to do what another one does."""
+    made = [node.chosen for node in outlook.nodes if node and node.at is not None]
+    left, asleep, is_begun = [], {key_of(way): way for way in asleep}, begun == 0
+    for node in outlook.nodes:
+        if not node:
+            asleep = {} if is_begun else asleep
+            continue
+        if not is_begun and node.at != begun - 1:
+            continue
+        if node.chosen is None:
+            break
+        way = outlook.chosen(node)
+        if is_begun and node.at is not None:
+            left += others_of(node, way, asleep, made)
+        if is_begun and key_of(way) in asleep:
+            return left, True
+        is_begun = True
+        asleep = {key: other for key, other in asleep.items() if commute(other, way)}
+    return left, False
+
+
+def others_of(node, way, asleep, made):
+    """The other ways of a choice that aren't asleep, each with those that are tried before it."""
+    before, left = dict(asleep), []
+    before.setdefault(key_of(way), way)
+    for number, other in enumerate(node.ways):
+        if number != node.chosen and other and key_of(other) not in asleep:
+            left.append((made[: node.at] + [number], list(before.values())))
+            before[key_of(other)] = other
+    return left

@@ -1,0 +1,165 @@
+/* Looks at what a fork shares with its parent: threads, children, timers, memory, descriptors. */
+#define _GNU_SOURCE
+#include "alone.h"
+#include "fault.h"
+
+#include <dirent.h>
+#include <fcntl.h>
+#include <stdio.h>
+#include <stdlib.h>
+#include <string.h>
+#include <sys/stat.h>
+#include <sys/time.h>
+#include <sys/wait.h>
+#include <unistd.h>
+
+/* Files that a run opens again, each where its parent's stands. */
+struct opened {
+    int descriptor, flags;
+    bool is_closed_on_exec;
+    off_t at;
+    char path[4096];
+};
+
+static struct opened *files;
+static size_t file_count, file_room;
+static char reason[160];
+
+static const char *because(const char *format, int number)
+{
+    snprintf(reason, sizeof reason, format, number);
+    return reason;
+}
+
+static bool has_threads_or_none(void)
+{
+    DIR *folder = opendir("/proc/self/task");
+    int count = 0;
+    while (folder && readdir(folder))
+        count++;
+    if (folder)
+        closedir(folder);
+    return count != 3;  /* with . and .. */
+}
+
+static bool has_children(void)
+{
+    siginfo_t info;
+    return waitid(P_ALL, 0, &info, WEXITED | WSTOPPED | WNOHANG | WNOWAIT) == 0;
+}
+
+static bool has_timers(void)
+{
+    static const int kinds[] = {ITIMER_REAL, ITIMER_VIRTUAL, ITIMER_PROF};
+    for (size_t i = 0; i < sizeof kinds / sizeof *kinds; i++) {
+        struct itimerval timer;
+        if (getitimer((__itimer_which_t)kinds[i], &timer) < 0 || timer.it_value.tv_sec || timer.it_value.tv_usec)
+            return true;
+    }
+    FILE *timers = fopen("/proc/self/timers", "re");
+    bool is_any = timers && fgetc(timers) != EOF;
+    if (timers)
+        fclose(timers);
+    return is_any;
+}
+
+/* Whether memory is mapped that a fork would share. */
+static bool shares_memory(void)
+{
+    FILE *maps = fopen("/proc/self/maps", "re");
+    char line[4400], access[5];
+    bool is_shared = !maps;
+    while (maps && !is_shared && fgets(line, sizeof line, maps))
+        is_shared = sscanf(line, "%*s %4s", access) != 1 || (access[1] == 'w' && access[3] == 's');
+    if (maps)
+        fclose(maps);
+    return is_shared;
+}
+
+static bool lies_in(const char *path, const char *folder)
+{
+    size_t length = folder ? strlen(folder) : 0;
+    return folder && strncmp(path, folder, length) == 0 && path[length] == '/';
+}
+
+/* Remembers a file that a run is to open again. */
+static bool remember(int descriptor, const char *path, int flags)
+{
+    if (file_count == file_room) {
+        struct opened *more = realloc(files, (2 * file_room + 8) * sizeof *files);
+        if (!more)
+            return false;
+        files = more;
+        file_room = 2 * file_room + 8;
+    }
+    struct opened *file = &files[file_count++];
+    *file = (struct opened){.descriptor = descriptor, .flags = flags & ~(O_CREAT | O_EXCL | O_TRUNC), .at = lseek(descriptor, 0, SEEK_CUR)};
+    file->is_closed_on_exec = fcntl(descriptor, F_GETFD) & FD_CLOEXEC;
+    snprintf(file->path, sizeof file->path, "%s", path);
+    return file->at >= 0;
+}
+
+static const char *look_at(int descriptor, const char *folder)
+{
+    char name[64], path[4096];
+    struct stat about;
+    snprintf(name, sizeof name, "/proc/self/fd/%d", descriptor);
+    ssize_t length = readlink(name, path, sizeof path - 1);
+    int flags = fcntl(descriptor, F_GETFL);
+    if (length < 0 || flags < 0 || fstat(descriptor, &about) < 0)
+        return because("descriptor %d can't be looked at", descriptor);
+    path[length] = '\0';
+    if (S_ISDIR(about.st_mode) || S_ISCHR(about.st_mode) || (flags & O_PATH))
+        return NULL;
+    if (!S_ISREG(about.st_mode))
+        return because("descriptor %d is no file", descriptor);
+    if ((flags & O_ACCMODE) != O_RDONLY && !lies_in(path, folder))
+        return because(folder ? "descriptor %d writes to a file outside of the run's folder" : "descriptor %d writes to a file, and runs have no folder of their own (--fresh)", descriptor);
+    if (about.st_nlink == 0)
+        return because("descriptor %d is a file that has been removed", descriptor);
+    return remember(descriptor, path, flags) ? NULL : because("descriptor %d can't be opened again", descriptor);
+}
+
+/* The streams 0, 1 and 2 are explore's; descriptors from 700 on are the server's. */
+enum { FIRST_OWN = 700 };
+
+static const char *look_at_descriptors(const char *folder)
+{
+    const char *found = NULL;
+    DIR *open_ones = opendir("/proc/self/fd");
+    if (!open_ones)
+        return "its descriptors can't be listed";
+    for (struct dirent *entry; !found && (entry = readdir(open_ones));) {
+        int descriptor = atoi(entry->d_name);
+        if (entry->d_name[0] != '.' && descriptor > 2 && descriptor < FIRST_OWN && descriptor != dirfd(open_ones))
+            found = look_at(descriptor, folder);
+    }
+    closedir(open_ones);
+    return found;
+}
+
+const char *why_not_alone(const char *folder, bool is_early)
+{
+    if (has_threads_or_none())
+        return "the process has more than one thread";
+    if (has_children())
+        return "the process has children";
+    if (is_early)
+        return NULL;
+    if (has_timers())
+        return "the process has set a timer";
+    if (shares_memory())
+        return "the process has mapped memory that a fork would share";
+    return look_at_descriptors(folder);
+}
+
+void reopen_files(void)
+{
+    for (size_t i = 0; i < file_count; i++) {
+        const struct opened *file = &files[i];
+        int made = open(file->path, file->flags | (file->is_closed_on_exec ? O_CLOEXEC : 0));
+        demand(made >= 0 && lseek(made, file->at, SEEK_SET) == file->at, "a file can't be opened again for a run");
+        demand(dup3(made, file->descriptor, file->is_closed_on_exec ? O_CLOEXEC : 0) >= 0, "a file can't be opened again for a run");
+        close(made);
+    }
+}

@@ -1,0 +1,85 @@
+/* Writes what could go on. */
+#define _GNU_SOURCE
+#include "outlook.h"
+#include "operations.h"
+#include "policy.h"
+#include "steps.h"
+
+#include <fcntl.h>
+#include <inttypes.h>
+
+/* Whether all that an operation does is to move bytes at its offset, in a file that it neither appends to nor has a place in;
+ * or it syncs a file or does nothing. */
+static bool is_plain(const struct request *request)
+{
+    const struct io_uring_sqe *entry = &request->entry;
+    if (request->mapping != TOKEN || request->is_stream || entry->flags & IOSQE_FIXED_FILE)
+        return false;
+    switch (entry->opcode) {
+    case IORING_OP_NOP:
+    case IORING_OP_FSYNC:
+        return true;
+    case IORING_OP_READ:
+    case IORING_OP_WRITE:
+    case IORING_OP_READV:
+    case IORING_OP_WRITEV: {
+        int flags = fcntl(entry->fd, F_GETFL);
+        return entry->off != UINT64_MAX && !entry->rw_flags && flags >= 0 && !(flags & O_APPEND);
+    }
+    default:
+        return false;
+    }
+}
+
+static uint64_t length_of(const struct request *request)
+{
+    return request->vectors ? request->length : request->entry.len;
+}
+
+void record_accepted(const struct ring *ring, const struct request *request)
+{
+    const struct io_uring_sqe *entry = &request->entry;
+    if (!is_recording_ways())
+        return;
+    uint64_t address = request->vectors ? 0 : entry->addr;
+    record_line("request %" PRIu32 " %" PRIu64 " %u %u %" PRIu64 " %" PRIu64 " %" PRIu64 " %s\n", ring->index, request->number, (unsigned)entry->opcode, (unsigned)entry->flags, address, (uint64_t)entry->off, length_of(request), is_plain(request) ? "plain" : "other");
+}
+
+void record_silent_end(const struct ring *ring, const struct request *request)
+{
+    if (is_recording_ways())
+        record_line("silent %" PRIu32 " %" PRIu64 "\n", ring->index, request->number);
+}
+
+/* The letter of a way. */
+static char letter_of(struct ring *ring, const struct request *way)
+{
+    struct wulgach_why why;
+    if (way->state == RUNS)
+        return 'f';
+    if (!can_issue(ring, way->number))
+        return 'x';
+    bool is_doomed = wulgach_core_why(&ring->core, way->number, &why) == 0 && why.kind == WULGACH_DOOMED;
+    if (is_doomed || way->mapping != TOKEN)
+        return 'e';
+    return is_choosing_events() ? 'i' : 'b';
+}
+
+void record_ways(struct ring *ring, const uint64_t *at, struct request **ways, uint32_t ways_count, bool may_return)
+{
+    if (!is_recording_ways())
+        return;
+    if (at)
+        record_line("ways %" PRIu64 " %" PRIu32, *at, ring->index);
+    else
+        record_line("ways - %" PRIu32, ring->index);
+    for (uint32_t i = 0; i < ways_count; i++)
+        record_line(" %c%" PRIu64, letter_of(ring, ways[i]), ways[i]->number);
+    record_line(may_return ? " r\n" : "\n");
+}
+
+void record_break(void)
+{
+    if (is_recording_ways())
+        record_line("break\n");
+}

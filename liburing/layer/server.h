@@ -1,0 +1,27 @@
+/* Serves runs to `explore`: the program is started once, and each run is a fork of it, made before main or at the first
+ * set-up of a ring. So a run costs no new process image, and, at a set-up, nothing of what the program did before.
+ *
+ *   WULGACH_SERVER    SOCKET:OUTPUT:main or SOCKET:OUTPUT:ring, and :fresh behind it if each run is to find the working
+ *                     folder as it was at the fork. SOCKET is a descriptor of a stream to `explore`, OUTPUT one of a file that
+ *                     takes what the program prints.
+ *
+ * The server says 'ok PID', or 'no', and why a fork wouldn't be the same as a new process. Then it is asked for runs: a length
+ * of 32 bits and so many bytes, which are the seconds that the run may take and variables as NAME=VALUE, each with a zero behind
+ * it. It answers each with a struct told_run and what the run printed.
+ */
+#ifndef SERVER_H
+#define SERVER_H
+
+#include <stdint.h>
+
+struct told_run {
+    int32_t status;         /* as of a shell, or the negative of the signal that ended it */
+    uint32_t is_late;       /* it took too long, and was ended */
+    uint64_t rings, choosers, choices, order, is_cut;   /* its account */
+    uint64_t printed;       /* bytes that follow */
+};
+
+/* A ring is about to be set up: serves here, if this is where runs begin. Returns in each run. */
+void serve_at_set_up(void);
+
+#endif

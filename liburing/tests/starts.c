@@ -1,0 +1,91 @@
+/* What runs must not take from one another, however they begin. It does something before it sets its ring up, which the word
+ * says, and then writes to its file, reads another and prints what both are: the same in each run.
+ *
+ *   plain       opens a file for writing and one for reading, and reads part of it
+ *   threads, children, timer, shared, pipe, outside
+ *               the same, and what stands against a fork at the set-up
+ *   hang, die   the same, and never ends, or dies by a signal
+ */
+#include <fcntl.h>
+#include <liburing.h>
+#include <pthread.h>
+#include <signal.h>
+#include <stdio.h>
+#include <stdlib.h>
+#include <string.h>
+#include <sys/mman.h>
+#include <sys/wait.h>
+#include <unistd.h>
+
+static void demand(int is_so, const char *what)
+{
+    if (!is_so) {
+        perror(what);
+        exit(3);
+    }
+}
+
+static void *sleep_on(void *nothing)
+{
+    pause();
+    return nothing;
+}
+
+static void do_before(const char *word)
+{
+    pthread_t thread;
+    int ends[2];
+    if (strcmp(word, "threads") == 0)
+        demand(pthread_create(&thread, NULL, sleep_on, NULL) == 0, "a thread");
+    else if (strcmp(word, "children") == 0 && fork() == 0)
+        _exit(0);
+    else if (strcmp(word, "timer") == 0)
+        alarm(1000);
+    else if (strcmp(word, "shared") == 0)
+        demand(mmap(NULL, 4096, PROT_READ | PROT_WRITE, MAP_SHARED | MAP_ANONYMOUS, -1, 0) != MAP_FAILED, "memory");
+    else if (strcmp(word, "pipe") == 0)
+        demand(pipe(ends) == 0, "a pipe");
+    else if (strcmp(word, "outside") == 0)
+        demand(open("/dev/shm", O_TMPFILE | O_RDWR, 0600) >= 0, "a file");
+}
+
+/* Three loose requests; the order in which they end is printed. */
+static void run_three(int file, int other)
+{
+    static char bytes[3];
+    struct io_uring ring;
+    struct io_uring_cqe *completion;
+    demand(io_uring_queue_init(4, &ring, 0) == 0, "a ring");
+    io_uring_prep_write(io_uring_get_sqe(&ring), file, "xyz", 3, -1);
+    io_uring_prep_read(io_uring_get_sqe(&ring), other, bytes, 3, -1);
+    io_uring_prep_nop(io_uring_get_sqe(&ring));
+    for (int i = 0; i < 3; i++)
+        ring.sq.sqes[i].user_data = (unsigned)i + 1;
+    io_uring_submit_and_wait(&ring, 3);
+    for (int i = 0; i < 3; i++) {
+        demand(io_uring_wait_cqe(&ring, &completion) == 0, "a completion");
+        printf("%u: %d\n", (unsigned)completion->user_data, completion->res);
+        io_uring_cqe_seen(&ring, completion);
+    }
+    printf("read %.3s\n", bytes);
+}
+
+int main(int argc, char **argv)
+{
+    const char *word = argc > 1 ? argv[1] : "plain";
+    char bytes[8] = "";
+    int file = open("written", O_RDWR | O_CREAT | O_APPEND, 0600), other = open("read", O_RDWR | O_CREAT, 0600);
+    demand(file >= 0 && other >= 0 && write(file, "abc", 3) == 3 && write(other, "0123456789", 10) == 10, "files");
+    close(other);
+    other = open("read", O_RDONLY);
+    demand(read(other, bytes, 2) == 2, "a read");
+    printf("before\n");
+    do_before(word);
+    run_three(file, other);
+    if (strcmp(word, "hang") == 0)
+        pause();
+    if (strcmp(word, "die") == 0)
+        raise(SIGTERM);
+    printf("%d bytes are written, and the next is %d\n", (int)lseek(file, 0, SEEK_END), (int)lseek(other, 0, SEEK_CUR));
+    return 0;
+}
