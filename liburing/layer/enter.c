@@ -59,7 +59,7 @@ static void go_on_alone(struct ring *ring)
 {
     if (policy() == LAZY)
         return;
-    while (go_on(ring, true) == WENT_ON)
+    while (go_on(ring, ring->eventfd < 0) == WENT_ON)
         ;
 }
 
@@ -128,6 +128,9 @@ static int go_on_until(struct ring *ring, const struct waiting *waiting)
 static int enter_ring(struct ring *ring, uint32_t to_submit, uint32_t flags, const struct waiting *waiting)
 {
     bool is_getting = flags & IORING_ENTER_GETEVENTS;
+    if (ring->is_disabled)
+        return -EBADFD;
+    ring->call_number++;
     if (!hear(ring, is_getting))
         return refuse_head(ring);
     int submitted = submit(ring, to_submit);

@@ -4,13 +4,15 @@
  */
 #define _GNU_SOURCE
 #include "progress.h"
+#include "cancels.h"
 #include "fault.h"
 #include "injection.h"
 #include "operations.h"
 #include "policy.h"
+#include "polls.h"
 #include "priorities.h"
 #include "steps.h"
-#include "times.h"
+#include "timeouts.h"
 #include "trace.h"
 
 #include <errno.h>
@@ -21,19 +23,16 @@
  * failure's number is what `uring trace` gives for an fsync of a descriptor that no file has. */
 enum { TOLD_SUCCESS = 0, TOLD_FAILURE = -EBADF };
 
-bool is_timeout(const struct request *request)
-{
-    return request->entry.opcode == IORING_OP_TIMEOUT;
-}
-
 /* Whether a running request can be finished without waiting. */
-static bool can_finish(const struct request *request)
+static bool can_finish(const struct ring *ring, const struct request *request)
 {
     if (request->is_refused)
         return false;
     if (request->is_cancelled)
         return true;
-    return !is_timeout(request) && (!request->is_stream || is_ready(request));
+    if (is_timeout(request))
+        return has_counted(ring, request);
+    return (!request->is_stream || is_ready(request));
 }
 
 /* The core isn't to be asked for a request again before another has ended. */
@@ -64,7 +63,8 @@ static void end_of(struct ring *ring, struct request *request, int32_t res, int3
 {
     trace_result(ring, request, res);
     bool is_cancel = request->mapping == CANCEL;
-    note_end(ring, request->entry.user_data, res, told);
+    ring->posted += note_end(ring, request, res, told) && !is_timeout(request);
+    disarm_linked_timeout(ring, request);
     ring->has_changed = true;
     ring->running -= request->state == RUNS;
     end_request(&ring->requests, request);
@@ -73,15 +73,35 @@ static void end_of(struct ring *ring, struct request *request, int32_t res, int3
 }
 
 /* A cancel found its request running. The kernel ends one that waits; here it ends so when it is next gone on with. */
-static void cancel_running(struct ring *ring, uint64_t target)
+static bool cancel_running(struct ring *ring, uint64_t target)
 {
     for (size_t i = 0; i < ring->requests.count; i++) {
         struct request *request = ring->requests.rows[i];
         if (request->state == RUNS && request->entry.user_data == target) {
-            request->is_cancelled = request->is_stream || is_timeout(request);
-            return;
+            if (is_cancellable(request))
+                cancel_request(request);
+            return request->is_cancelled;
         }
     }
+    return false;
+}
+
+/* What the application sees of a cancel that found its request running and waiting: a success, as the kernel's. The core
+ * calls it a failure: where a link or a skipped success stands on that, it is seen as one. */
+static int32_t shown_of_cancel(struct ring *ring, const struct request *cancel, int32_t res)
+{
+    bool is_found = res == -EALREADY && cancel_running(ring, cancel->entry.addr);
+    return is_found && !(cancel->entry.flags & (IOSQE_IO_LINK | IOSQE_IO_HARDLINK | IOSQE_CQE_SKIP_SUCCESS)) ? 0 : res;
+}
+
+/* What the application sees of a request that the core ends without letting it start. */
+static int32_t shown_of(struct ring *ring, const struct request *request, int32_t res)
+{
+    if (request->mapping == CANCEL)
+        return shown_of_cancel(ring, request, res);
+    if (request->mapping == REFUSED && res == -EINVAL)
+        return request->fault;
+    return request->has_fired && res == -ECANCELED ? -ETIME : res;
 }
 
 enum outcome { IS_REFUSED, IS_RUNNING, HAS_ENDED };
@@ -95,7 +115,7 @@ static enum outcome finish_running(struct ring *ring, struct request *request)
         if (request->entry.opcode != IORING_OP_NOP)
             show_ends(ring);
         hear(ring, false);
-        res = carry_out(request, injected(ring, request));
+        res = carry_out(ring, request, injected(ring, request));
         if (res == WOULD_WAIT) {
             note_refusal(ring, request);
             return IS_RUNNING;
@@ -112,8 +132,13 @@ static void start(struct ring *ring, struct request *request)
 {
     request->state = RUNS;
     ring->running++;
+    if (!request->is_assigned)
+        assign(ring, request);
     if (is_timeout(request))
-        request->expiry = add_times(ring->now, nanoseconds_of(request->time));
+        start_timeout(ring, request);
+    if (is_poll(request) && request->started == 0)
+        request->started = start_poll(request);
+    arm_linked_timeout(ring, request);
 }
 
 /* Issues a request that waits: it starts, or ends without being carried out, or the core refuses it. */
@@ -126,9 +151,7 @@ static enum outcome issue_waiting(struct ring *ring, struct request *request)
         note_refusal(ring, request);
         return IS_REFUSED;
     case WULGACH_ENDED:
-        if (request->mapping == CANCEL && res == -EALREADY)
-            cancel_running(ring, request->entry.addr);
-        end_of(ring, request, request->mapping == REFUSED && res == -EINVAL ? request->fault : res, res);
+        end_of(ring, request, shown_of(ring, request, res), res);
         return HAS_ENDED;
     default:
         demand(kind == WULGACH_RUN, "the core doesn't issue a request");
@@ -144,7 +167,7 @@ static enum outcome go_on_with(struct ring *ring, struct request *request)
         return finish_running(ring, request);
     enum outcome outcome = issue_waiting(ring, request);
     bool is_one_choice = policy() == IN_ORDER || policy() == LAZY || !is_choosing_events();
-    if (outcome == IS_RUNNING && is_one_choice && can_finish(request))
+    if (outcome == IS_RUNNING && is_one_choice && can_finish(ring, request))
         return finish_running(ring, request);
     return outcome;
 }
@@ -155,7 +178,7 @@ static struct request *first_in_order(struct ring *ring)
 {
     const struct requests *requests = &ring->requests;
     for (size_t i = 0; i < requests->count && ring->running > 0; i++)
-        if (requests->rows[i]->state == RUNS && can_finish(requests->rows[i]))
+        if (requests->rows[i]->state == RUNS && can_finish(ring, requests->rows[i]))
             return requests->rows[i];
     /* The least outstanding one runs or can be issued, so of one that waits the core needn't be asked. */
     if (requests->count > 0 && requests->rows[0]->state == WAITS)
@@ -173,7 +196,7 @@ static uint32_t list_ways(const struct ring *ring, struct request *first, struct
     ways[count++] = first;
     for (size_t i = 0; i < ring->requests.count; i++) {
         struct request *request = ring->requests.rows[i];
-        if (request != first && (request->state == WAITS || can_finish(request)))
+        if (request != first && (request->state == WAITS || can_finish(ring, request)))
             ways[count++] = request;
     }
     return count;

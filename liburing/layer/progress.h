@@ -13,9 +13,6 @@ enum progress {
 /* Goes on by one choice. Returning is a choice only if `may_return`. */
 enum progress go_on(struct ring *ring, bool may_return);
 
-/* Whether a request is a timeout. It ends when time says so, and goes on by no choice. */
-bool is_timeout(const struct request *request);
-
 /* Whether a request can go on without waiting. */
 bool can_go_on(struct ring *ring);
 

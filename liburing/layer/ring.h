@@ -4,9 +4,12 @@
 #ifndef RING_H
 #define RING_H
 
+#include "buffers.h"
 #include "completions.h"
+#include "files.h"
 #include "memory.h"
 #include "requests.h"
+#include "restrictions.h"
 #include "wulgach.h"
 
 #include <linux/io_uring.h>
@@ -42,6 +45,14 @@ struct ring {
     struct request **ways;              /* room for the ways of a choice: as many as there are requests */
     size_t ways_room;
     uint32_t returns;                   /* how often in a row the choice was to return */
+    uint64_t posted;                    /* how many completions a timeout with a count has counted so far */
+    struct files files;                 /* registered */
+    struct buffers buffers;
+    int eventfd;                        /* registered: one of the layer's own; or negative */
+    bool is_eventfd_async;              /* it is told only of what ends behind the call that submitted it */
+    uint64_t call_number;               /* how many calls of enter were made */
+    bool is_disabled;                   /* until it is enabled */
+    struct restrictions restrictions;
     uint64_t accepted;                  /* how many requests were accepted so far */
     struct completions completions;     /* posted and not reaped */
     int64_t now;                        /* virtual time in nanoseconds */

@@ -4,6 +4,7 @@
 #include "copying.h"
 #include "descriptors.h"
 #include "enter.h"
+#include "eventfds.h"
 #include "injection.h"
 #include "policy.h"
 #include "readiness.h"
@@ -19,10 +20,11 @@
 
 enum { MOST_SQ_ENTRIES = 4096, MOST_CQ_ENTRIES = 8192 };
 
-/* IOPOLL, COOP_TASKRUN, TASKRUN_FLAG and SINGLE_ISSUER change nothing. */
+/* IOPOLL, COOP_TASKRUN, TASKRUN_FLAG, DEFER_TASKRUN and SINGLE_ISSUER change nothing. */
 enum {
     SERVED_SETUP = IORING_SETUP_IOPOLL | IORING_SETUP_CQSIZE | IORING_SETUP_CLAMP | IORING_SETUP_SUBMIT_ALL |
-                   IORING_SETUP_COOP_TASKRUN | IORING_SETUP_TASKRUN_FLAG | IORING_SETUP_SINGLE_ISSUER
+                   IORING_SETUP_COOP_TASKRUN | IORING_SETUP_TASKRUN_FLAG | IORING_SETUP_SINGLE_ISSUER |
+                   IORING_SETUP_DEFER_TASKRUN | IORING_SETUP_R_DISABLED | IORING_SETUP_SQE128 | IORING_SETUP_CQE32
 };
 
 enum {
@@ -47,6 +49,9 @@ void free_ring(struct ring *ring)
     free_completions(&ring->completions);
     free_memory(&ring->memory);
     free_polled(ring);
+    unregister_files(ring);
+    unregister_buffers(ring);
+    unregister_eventfd(ring, 0, 0);
     free(ring->ways);
     close_trace(ring);
     pthread_mutex_destroy(&ring->lock);
@@ -65,6 +70,9 @@ static int read_sizes(struct wulgach_setup *setup, uint32_t entries, const struc
     for (size_t i = 0; i < sizeof params->resv / sizeof *params->resv; i++)
         if (params->resv[i])
             return -EINVAL;
+    bool is_deferred = params->flags & IORING_SETUP_DEFER_TASKRUN;
+    if (is_deferred && !(params->flags & IORING_SETUP_SINGLE_ISSUER))
+        return -EINVAL;
     return params->flags & ~(uint32_t)SERVED_SETUP ? -EINVAL : 0;
 }
 
@@ -103,6 +111,8 @@ static int make_ring(struct ring **made, uint32_t entries, struct io_uring_param
         return -ENOMEM;
     pthread_mutex_init(&ring->lock, NULL);
     ring->ready_fd = -1;
+    ring->eventfd = -1;
+    ring->is_disabled = params->flags & IORING_SETUP_R_DISABLED;
     ring->fd = fill_ring(ring, &sizes, params, is_polled);
     if (ring->fd < 0) {
         result = ring->fd;

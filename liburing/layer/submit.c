@@ -10,15 +10,25 @@
 #include <errno.h>
 #include <stdlib.h>
 
+static void refuse_entry(struct request *request, int32_t fault)
+{
+    request->mapping = REFUSED;
+    request->fault = fault;
+}
+
 /* Reads the entry of a slot. NULL if memory was refused. */
 static struct request *read_entry(struct ring *ring, uint32_t slot)
 {
     struct request *request = make_request(&ring->requests);
     if (!request)
         return NULL;
-    request->entry = ring->memory.entries[slot];
-    request->mapping = mapping_of(&request->entry);
-    if (copy_behind(request) == 0)
+    request->entry = *entry_at(&ring->memory, slot);
+    request->token = request->entry.user_data;
+    request->call = ring->call_number;
+    request->mapping = mapping_of(&request->entry, ring->staged.count > 0 ? ring->staged.rows[ring->staged.count - 1] : NULL);
+    if (!allows_entry(ring, &request->entry))
+        refuse_entry(request, -EACCES);
+    if (request->fault < 0 || copy_behind(request) == 0)
         return request;
     free_request(request);
     return NULL;
@@ -73,7 +83,8 @@ static void accept_one(struct ring *ring, struct request *request, const struct 
     request->number = ring->accepted++;
     request->is_linked = before && before->entry.flags & (IOSQE_IO_LINK | IOSQE_IO_HARDLINK);
     request->chain = request->is_linked ? before->chain : request->number;
-    request->is_stream = request->mapping == TOKEN && is_stream(request);
+    if (!request->is_linked && !(request->entry.flags & IOSQE_IO_DRAIN))
+        assign(ring, request);
     add_request(&ring->requests, request);
 }
 
