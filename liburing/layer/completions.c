@@ -82,6 +82,8 @@ void show(struct ring *ring)
     /* Makes a peek that finds nothing call: so requests go on, and a descriptor that polls is readable no more. */
     if (ring->requests.count > 0 || ring->is_readable)
         flags |= IORING_SQ_TASKRUN;
+    if (ring->flags & IORING_SETUP_SQPOLL)
+        flags |= IORING_SQ_NEED_WAKEUP;
     store_word(&memory->sq->flags, flags);
 }
 

@@ -125,6 +125,16 @@ static int go_on_until(struct ring *ring, const struct waiting *waiting)
     }
 }
 
+/* What the thread that takes entries would take: all that is published, with faults among them. */
+static int submit_published(struct ring *ring, uint32_t to_submit)
+{
+    int submitted;
+    do
+        submitted = submit(ring, UINT32_MAX);
+    while (submitted > 0);
+    return submitted < 0 ? submitted : (int)to_submit;
+}
+
 static int enter_ring(struct ring *ring, uint32_t to_submit, uint32_t flags, const struct waiting *waiting)
 {
     bool is_getting = flags & IORING_ENTER_GETEVENTS;
@@ -133,7 +143,7 @@ static int enter_ring(struct ring *ring, uint32_t to_submit, uint32_t flags, con
     ring->call_number++;
     if (!hear(ring, is_getting))
         return refuse_head(ring);
-    int submitted = submit(ring, to_submit);
+    int submitted = ring->flags & IORING_SETUP_SQPOLL ? submit_published(ring, to_submit) : submit(ring, to_submit);
     int result = 0;
     /* The kernel doesn't wait if it couldn't submit all. */
     if (submitted < 0 || !is_getting || (uint32_t)submitted != to_submit)

@@ -3,6 +3,7 @@
 #include "operations.h"
 #include "cancels.h"
 #include "copying.h"
+#include "groups.h"
 #include "polls.h"
 #include "sockets.h"
 #include "timeouts.h"
@@ -16,8 +17,8 @@
 #include <sys/epoll.h>
 #include <sys/socket.h>
 
-/* Flags of an entry that aren't served: provided buffers, and the bit that has no name. */
-enum { REFUSED_FLAGS = IOSQE_BUFFER_SELECT | 128 };
+/* The flag that has no name. */
+enum { REFUSED_FLAGS = 128 };
 
 enum { MOST_VECTORS = 1024, HIGHEST_PRIORITY_CLASS = 3, PRIORITY_CLASS_SHIFT = 13 };
 
@@ -46,6 +47,8 @@ bool is_served_code(uint8_t code)
     case IORING_OP_MKDIRAT:
     case IORING_OP_SYMLINKAT:
     case IORING_OP_LINKAT:
+    case IORING_OP_PROVIDE_BUFFERS:
+    case IORING_OP_MSG_RING:
     case IORING_OP_READ_FIXED:
     case IORING_OP_WRITE_FIXED:
     case IORING_OP_POLL_ADD:
@@ -114,6 +117,12 @@ static bool is_well_formed(const struct io_uring_sqe *entry)
         return !entry->ioprio && !entry->off && !entry->addr && !entry->len && !entry->rw_flags && !entry->buf_index && !(entry->file_index && entry->fd);
     case IORING_OP_FILES_UPDATE:
         return !entry->ioprio && !entry->rw_flags && !entry->splice_fd_in && entry->len && !(entry->flags & IOSQE_FIXED_FILE);
+    case IORING_OP_PROVIDE_BUFFERS:
+    case IORING_OP_REMOVE_BUFFERS:
+        return is_well_formed_provision(entry);
+    case IORING_OP_MSG_RING:
+        /* Registered files aren't sent. */
+        return !entry->ioprio && !entry->buf_index && !entry->rw_flags && !entry->addr && !entry->addr3 && !entry->file_index;
     case IORING_OP_SHUTDOWN:
         return !entry->ioprio && !entry->off && !entry->addr && !entry->rw_flags && !entry->buf_index && !entry->splice_fd_in;
     case IORING_OP_SOCKET:
@@ -215,6 +224,21 @@ static int copy_attribute(struct request *request)
     return result == 0 && is_set ? copy_value(request, entry->addr2, entry->len, XATTR_SIZE_MAX) : result;
 }
 
+bool can_select(const struct io_uring_sqe *entry)
+{
+    return entry->opcode == IORING_OP_READ || entry->opcode == IORING_OP_READV || entry->opcode == IORING_OP_RECV || entry->opcode == IORING_OP_RECVMSG;
+}
+
+/* One that takes a provided buffer has a single vector, whose length is at most what it wants. */
+static int copy_wanted(struct request *request, int result)
+{
+    bool is_selecting = request->entry.flags & IOSQE_BUFFER_SELECT;
+    if (result < 0 || !is_selecting)
+        return result;
+    request->wanted = request->length;
+    return request->vector_count == 1 ? 0 : -EINVAL;
+}
+
 static int copy_of_token(struct request *request)
 {
     switch (request->entry.opcode) {
@@ -269,7 +293,7 @@ int copy_behind(struct request *request)
 {
     if (request->mapping == CANCEL)
         return 0;
-    int result = request->mapping == REFUSED ? -EINVAL : copy_of_token(request);
+    int result = request->mapping == REFUSED ? -EINVAL : copy_wanted(request, copy_of_token(request));
     if (result == -ENOMEM)
         return result;
     if (result < 0)

@@ -28,6 +28,8 @@ const char *operation_name(uint8_t code)
         [IORING_OP_SYMLINKAT] = "symlinkat",
         [IORING_OP_LINKAT] = "linkat",
         [IORING_OP_REMOVE_BUFFERS] = "remove_buffers",
+        [IORING_OP_PROVIDE_BUFFERS] = "provide_buffers",
+        [IORING_OP_MSG_RING] = "msg_ring",
         [IORING_OP_READ_FIXED] = "read_fixed",
         [IORING_OP_WRITE_FIXED] = "write_fixed",
         [IORING_OP_POLL_ADD] = "poll_add",

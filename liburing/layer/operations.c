@@ -3,7 +3,9 @@
 #include "operations.h"
 #include "cancels.h"
 #include "descriptors.h"
+#include "extras.h"
 #include "files.h"
+#include "groups.h"
 #include "paths.h"
 #include "polls.h"
 #include "ring.h"
@@ -67,6 +69,31 @@ bool is_stream(const struct request *request)
     return S_ISCHR(status.st_mode) || !has_offsets(request);
 }
 
+bool goes_on(const struct request *request)
+{
+    switch (request->entry.opcode) {
+    case IORING_OP_POLL_ADD:
+        return request->entry.len & IORING_POLL_ADD_MULTI;
+    case IORING_OP_ACCEPT:
+        return request->entry.ioprio & IORING_ACCEPT_MULTISHOT;
+    case IORING_OP_RECV:
+        return request->entry.ioprio & IORING_RECV_MULTISHOT;
+    default:
+        return false;
+    }
+}
+
+bool goes_on_behind(const struct request *request, int32_t res)
+{
+    return goes_on(request) && (request->entry.opcode == IORING_OP_ACCEPT ? res >= 0 : res > 0);
+}
+
+/* Whether it takes a provided buffer when it is carried out. */
+static bool is_selecting(const struct request *request)
+{
+    return request->entry.flags & IOSQE_BUFFER_SELECT;
+}
+
 struct pollfd poll_of(const struct request *request)
 {
     if (is_poll(request))
@@ -84,9 +111,10 @@ static bool is_impatient(const struct request *request)
         return true;
     if (request->entry.opcode == IORING_OP_CONNECT)
         return !request->done;
+    /* A splice looks for its faults before it waits. */
     if (is_splice(request))
-        return request->entry.len == 0;
-    return is_transfer(request) && (request->entry.rw_flags & RWF_NOWAIT || request->length == 0);
+        return !request->done;
+    return is_transfer(request) && (request->entry.rw_flags & RWF_NOWAIT || (request->length == 0 && !is_selecting(request)));
 }
 
 bool is_ready(const struct request *request)
@@ -187,8 +215,11 @@ static int32_t call_system(struct ring *ring, struct request *request)
     case IORING_OP_LINK_TIMEOUT:
         return request->has_fired ? -ETIME : -ECANCELED;
     case IORING_OP_REMOVE_BUFFERS:
-        /* Providing buffers isn't served, so there are none. */
-        return -ENOENT;
+        return remove_buffers(ring, entry);
+    case IORING_OP_PROVIDE_BUFFERS:
+        return provide_buffers(ring, entry);
+    case IORING_OP_MSG_RING:
+        return send_message(ring, entry->fd, entry->off, (int32_t)entry->len);
     case IORING_OP_FALLOCATE:
         return result_of(fallocate(request->fd, (int)entry->len, (off_t)entry->off, (off_t)entry->addr));
     case IORING_OP_CLOSE:
@@ -225,8 +256,10 @@ static int32_t call_or_wait(struct ring *ring, struct request *request)
 {
     if (is_poll(request))
         return take_events(request);
-    if (is_splice(request))
+    if (is_splice(request)) {
+        request->done = 1;
         return call_splice(request);
+    }
     return is_of_sockets(request->entry.opcode) ? call_socket(ring, request) : call_system(ring, request);
 }
 
@@ -244,6 +277,25 @@ bool can_have(const struct request *request, enum injection fault)
         return is_transfer(request) && !request->is_stream && request->length > 1;
     }
     return false;
+}
+
+/* Carries out what takes a buffer: one is taken if the operation succeeds, and not if a socket has no more to give. */
+static int32_t call_with_buffer(struct ring *ring, struct request *request)
+{
+    struct provided buffer;
+    if (!find_provided(ring, request->entry.buf_group, &buffer))
+        return -ENOBUFS;
+    uint64_t asked = request->wanted;
+    *request->vectors = (struct iovec){(void *)(uintptr_t)buffer.address, asked && asked < buffer.length ? asked : buffer.length};
+    request->length = request->vectors->iov_len;
+    request->done = 0;
+    request->flags = 0;
+    int32_t res = call_or_wait(ring, request);
+    if (res > 0 || (res == 0 && is_transfer(request))) {
+        take_provided(ring, request->entry.buf_group);
+        request->flags = IORING_CQE_F_BUFFER | (uint32_t)buffer.id << IORING_CQE_BUFFER_SHIFT;
+    }
+    return res;
 }
 
 /* Takes back the signal that a file grew too large, which the kernel sends to a worker of its own. All are blocked. */
@@ -267,7 +319,7 @@ int32_t carry_out(struct ring *ring, struct request *request, enum injection fau
         return -ENOSPC;
     if (fault == FAULT_SHORT)
         shorten(request);
-    int32_t res = call_or_wait(ring, request);
+    int32_t res = is_selecting(request) ? call_with_buffer(ring, request) : call_or_wait(ring, request);
     if (res == -EFBIG)
         take_back_signal();
     return res;

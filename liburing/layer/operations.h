@@ -17,6 +17,9 @@ bool is_served_code(uint8_t code);
 /* What the core is to be told of an entry; `before` is the one before it in its call, or NULL. */
 enum mapping mapping_of(const struct io_uring_sqe *entry, const struct request *before);
 
+/* Whether an operation may take a provided buffer. */
+bool can_select(const struct io_uring_sqe *entry);
+
 /* Copies what the entry points to. An entry that points to what can't be read is refused. Returns 0 or -ENOMEM. */
 int copy_behind(struct request *request);
 
@@ -29,6 +32,11 @@ bool is_splice(const struct request *request);
 /* Whether it may have to wait for a descriptor: a transfer on what has no offset, as a pipe or an eventfd, or on a device,
  * a poll, a splice, or a call of sockets. */
 bool is_stream(const struct request *request);
+
+/* Whether a request can end with more than one completion: a poll, an accept or a receive that goes on; and whether it does
+ * behind this result. */
+bool goes_on(const struct request *request);
+bool goes_on_behind(const struct request *request, int32_t res);
 
 /* Whether one that may have to wait wouldn't wait now. */
 bool is_ready(const struct request *request);

@@ -14,11 +14,6 @@ bool is_poll(const struct request *request)
     return request->entry.opcode == IORING_OP_POLL_ADD;
 }
 
-bool goes_on(const struct request *request)
-{
-    return is_poll(request) && request->entry.len & IORING_POLL_ADD_MULTI;
-}
-
 bool is_well_formed_poll(const struct io_uring_sqe *entry)
 {
     return !entry->ioprio && !entry->buf_index && !entry->off && !entry->addr && !(entry->len & ~IORING_POLL_ADD_MULTI) &&

@@ -5,6 +5,7 @@
 #define _GNU_SOURCE
 #include "progress.h"
 #include "cancels.h"
+#include "extras.h"
 #include "fault.h"
 #include "injection.h"
 #include "operations.h"
@@ -24,7 +25,7 @@
 enum { TOLD_SUCCESS = 0, TOLD_FAILURE = -EBADF };
 
 /* Whether a running request can be finished without waiting. */
-static bool can_finish(const struct ring *ring, const struct request *request)
+static bool can_finish(struct ring *ring, const struct request *request)
 {
     if (request->is_refused)
         return false;
@@ -32,7 +33,9 @@ static bool can_finish(const struct ring *ring, const struct request *request)
         return true;
     if (is_timeout(request))
         return has_counted(ring, request);
-    return (!request->is_stream || is_ready(request));
+    if (goes_on(request) && !can_post_extra(ring))
+        return false;
+    return !request->is_stream || is_ready(request);
 }
 
 /* The core isn't to be asked for a request again before another has ended. */
@@ -104,6 +107,11 @@ static int32_t shown_of(struct ring *ring, const struct request *request, int32_
     return request->has_fired && res == -ECANCELED ? -ETIME : res;
 }
 
+void end_extra(struct ring *ring, struct request *request, int32_t res)
+{
+    end_of(ring, request, res, TOLD_SUCCESS);
+}
+
 enum outcome { IS_REFUSED, IS_RUNNING, HAS_ENDED };
 
 /* Finishes a running request. It goes on running if it would have to wait. */
@@ -118,6 +126,10 @@ static enum outcome finish_running(struct ring *ring, struct request *request)
         res = carry_out(ring, request, injected(ring, request));
         if (res == WOULD_WAIT) {
             note_refusal(ring, request);
+            return IS_RUNNING;
+        }
+        if (goes_on_behind(request, res)) {
+            post_extra(ring, request->entry.user_data, res, request->flags | IORING_CQE_F_MORE);
             return IS_RUNNING;
         }
     }
@@ -190,7 +202,7 @@ static struct request *first_in_order(struct ring *ring)
 /* Lists what can be chosen: first what is first in order, then every other outstanding request, but one that waits for
  * a stream or for time. What the core has refused is listed too: so a choice has the same number, and the same way in
  * it the same place, whether or not others were tried before. */
-static uint32_t list_ways(const struct ring *ring, struct request *first, struct request **ways)
+static uint32_t list_ways(struct ring *ring, struct request *first, struct request **ways)
 {
     uint32_t count = 0;
     ways[count++] = first;
@@ -294,6 +306,7 @@ static enum progress go_on_by_choice(struct ring *ring, struct request *first, b
 
 enum progress go_on(struct ring *ring, bool may_return)
 {
+    post_messages(ring);
     struct request *first = first_in_order(ring);
     if (!first)
         return STUCK;
@@ -306,6 +319,17 @@ enum progress go_on(struct ring *ring, bool may_return)
 bool can_go_on(struct ring *ring)
 {
     return first_in_order(ring) != NULL;
+}
+
+void end_cancelled(struct ring *ring)
+{
+    for (size_t i = 0; i < ring->requests.count;) {
+        struct request *request = ring->requests.rows[i];
+        if (request->state == RUNS && request->is_cancelled)
+            finish_running(ring, request);
+        else
+            i++;
+    }
 }
 
 void finish_timeout(struct ring *ring, struct request *timeout)

@@ -16,6 +16,12 @@ enum progress go_on(struct ring *ring, bool may_return);
 /* Whether a request can go on without waiting. */
 bool can_go_on(struct ring *ring);
 
+/* A no-op of the layer's own has ended on the core: the application sees this result. */
+void end_extra(struct ring *ring, struct request *request, int32_t res);
+
+/* Ends the running requests that were cancelled. */
+void end_cancelled(struct ring *ring);
+
 /* Ends a running timeout. */
 void finish_timeout(struct ring *ring, struct request *timeout);
 

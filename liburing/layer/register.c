@@ -1,9 +1,12 @@
 /* io_uring_register(2): the probe of operations, registered files, buffers and an eventfd, and restrictions. */
+#include "cancels.h"
 #include "copying.h"
 #include "descriptors.h"
 #include "enter.h"
 #include "eventfds.h"
+#include "groups.h"
 #include "operations.h"
+#include "progress.h"
 #include "ring.h"
 
 #include <errno.h>
@@ -79,6 +82,23 @@ static int update_files_at(struct ring *ring, uint64_t at, uint32_t count)
     return asked.resv ? -EINVAL : update_files(ring, asked.offset, asked.fds, count);
 }
 
+/* A cancel that returns once what it found has ended. */
+static int cancel_at_once(struct ring *ring, uint64_t at, uint32_t count)
+{
+    struct io_uring_sync_cancel_reg asked;
+    if (count != 1)
+        return -EINVAL;
+    if (copy_in(&asked, at, sizeof asked) < 0)
+        return -EFAULT;
+    struct request cancel = {.entry = {.opcode = IORING_OP_ASYNC_CANCEL, .addr = asked.addr, .fd = asked.fd, .cancel_flags = asked.flags}};
+    if (asked.pad[0] || asked.pad[1] || asked.pad[2] || asked.pad[3] || !is_well_formed_cancel(&cancel.entry))
+        return -EINVAL;
+    int result = act_on_others(ring, &cancel);
+    end_cancelled(ring);
+    show(ring);
+    return result;
+}
+
 static int call_registered(struct ring *ring, uint32_t code, uint64_t at, uint32_t count)
 {
     switch (code) {
@@ -109,6 +129,12 @@ static int call_registered(struct ring *ring, uint32_t code, uint64_t at, uint32
         return register_eventfd(ring, at, count, code == IORING_REGISTER_EVENTFD_ASYNC);
     case IORING_UNREGISTER_EVENTFD:
         return unregister_eventfd(ring, at, count);
+    case IORING_REGISTER_PBUF_RING:
+        return register_buffer_ring(ring, at, count);
+    case IORING_UNREGISTER_PBUF_RING:
+        return unregister_buffer_ring(ring, at, count);
+    case IORING_REGISTER_SYNC_CANCEL:
+        return cancel_at_once(ring, at, count);
     case IORING_REGISTER_RESTRICTIONS:
         return register_restrictions(ring, at, count);
     case IORING_REGISTER_ENABLE_RINGS:

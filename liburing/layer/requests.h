@@ -27,6 +27,7 @@ struct request {
     int second_fd;
     bool is_assigned;               /* these are known: when it is accepted, or, behind a link or a drain, when it starts */
     bool is_stream;                 /* it may have to wait for a descriptor: a transfer on what has no offset or on a device, a poll, a call of sockets */
+    uint64_t wanted;                /* of one that takes a provided buffer: how many bytes at most, or 0 */
     uint64_t done;                  /* the bytes that a transfer of sockets has moved so far */
     int32_t started;                /* what its start found out: an error number that it ends with, or 0 */
     uint32_t flags;                 /* those of its completion */

@@ -6,6 +6,7 @@
 
 #include "buffers.h"
 #include "completions.h"
+#include "extras.h"
 #include "files.h"
 #include "memory.h"
 #include "requests.h"
@@ -48,6 +49,9 @@ struct ring {
     uint64_t posted;                    /* how many completions a timeout with a count has counted so far */
     struct files files;                 /* registered */
     struct buffers buffers;
+    struct group *groups;               /* of provided buffers */
+    struct inbox inbox;
+    uint32_t own_positions;             /* how many positions of the core's submission ring were the layer's own */
     int eventfd;                        /* registered: one of the layer's own; or negative */
     bool is_eventfd_async;              /* it is told only of what ends behind the call that submitted it */
     uint64_t call_number;               /* how many calls of enter were made */

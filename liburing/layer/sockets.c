@@ -16,7 +16,7 @@
 #include <unistd.h>
 
 /* The flag of the kernel's header that begins a send or a receive behind a look at the descriptor: it changes nothing. */
-enum { SERVED_SEND_FLAGS = IORING_RECVSEND_POLL_FIRST, MOST_VECTORS_OF_MESSAGE = 1024 };
+enum { SERVED_FLAGS = IORING_RECVSEND_POLL_FIRST, MOST_VECTORS_OF_MESSAGE = 1024 };
 
 static int32_t result_of(long result)
 {
@@ -74,11 +74,15 @@ static int copy_message(struct request *request)
     if (message->msg_iovlen > MOST_VECTORS_OF_MESSAGE)
         return -EMSGSIZE;
     size_t size = message->msg_iovlen * sizeof *request->vectors;
-    request->vectors = malloc(size ? size : 1);
+    request->vectors = malloc(size + sizeof *request->vectors);
     if (!request->vectors)
         return -ENOMEM;
     if (copy_in(request->vectors, (uintptr_t)message->msg_iov, size) < 0)
         return -EFAULT;
+    if (request->entry.flags & IOSQE_BUFFER_SELECT && message->msg_iovlen == 0) {
+        *request->vectors = (struct iovec){0};
+        message->msg_iovlen = 1;
+    }
     request->vector_count = (uint32_t)message->msg_iovlen;
     for (uint32_t i = 0; i < request->vector_count; i++)
         request->length += request->vectors[i].iov_len;
@@ -95,20 +99,39 @@ static int copy_address(struct request *request)
     return request->value ? copy_in(request->value, request->entry.addr, size) : -ENOMEM;
 }
 
+/* A receive that goes on takes a buffer each time. */
+static bool is_well_formed_multishot(const struct io_uring_sqe *entry)
+{
+    if (!(entry->ioprio & IORING_RECV_MULTISHOT))
+        return true;
+    return entry->flags & IOSQE_BUFFER_SELECT && !(entry->msg_flags & MSG_WAITALL) && !entry->len;
+}
+
+static bool is_well_formed_accept(const struct io_uring_sqe *entry)
+{
+    bool is_multishot = entry->ioprio & IORING_ACCEPT_MULTISHOT;
+    if (entry->ioprio & ~IORING_ACCEPT_MULTISHOT || entry->len || entry->buf_index || entry->accept_flags & ~(uint32_t)(SOCK_CLOEXEC | SOCK_NONBLOCK))
+        return false;
+    if (is_multishot && (entry->flags & IOSQE_CQE_SKIP_SUCCESS || (entry->file_index && entry->file_index != IORING_FILE_INDEX_ALLOC)))
+        return false;
+    return !(entry->file_index && entry->accept_flags & SOCK_CLOEXEC);
+}
+
 int copy_of_socket(struct request *request)
 {
     const struct io_uring_sqe *entry = &request->entry;
     switch (entry->opcode) {
-    case IORING_OP_SEND:
     case IORING_OP_RECV:
-        return entry->ioprio & ~SERVED_SEND_FLAGS || entry->addr2 || entry->file_index ? -EINVAL : make_message(request);
+        return entry->ioprio & ~(SERVED_FLAGS | IORING_RECV_MULTISHOT) || entry->addr2 || entry->file_index || !is_well_formed_multishot(entry) ? -EINVAL : make_message(request);
+    case IORING_OP_SEND:
+        return entry->ioprio & ~SERVED_FLAGS || entry->addr2 || entry->file_index ? -EINVAL : make_message(request);
     case IORING_OP_SENDMSG:
     case IORING_OP_RECVMSG:
-        return entry->ioprio & ~SERVED_SEND_FLAGS || entry->addr2 || entry->file_index ? -EINVAL : copy_message(request);
+        return entry->ioprio & ~SERVED_FLAGS || entry->addr2 || entry->file_index ? -EINVAL : copy_message(request);
     case IORING_OP_CONNECT:
         return entry->ioprio || entry->len || entry->buf_index || entry->rw_flags || entry->splice_fd_in ? -EINVAL : copy_address(request);
     default:
-        return entry->ioprio || entry->len || entry->buf_index || (entry->file_index && entry->accept_flags & SOCK_CLOEXEC) ? -EINVAL : 0;
+        return is_well_formed_accept(entry) ? 0 : -EINVAL;
     }
 }
 

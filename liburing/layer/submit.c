@@ -28,6 +28,8 @@ static struct request *read_entry(struct ring *ring, uint32_t slot)
     request->mapping = mapping_of(&request->entry, ring->staged.count > 0 ? ring->staged.rows[ring->staged.count - 1] : NULL);
     if (!allows_entry(ring, &request->entry))
         refuse_entry(request, -EACCES);
+    else if (request->entry.flags & IOSQE_BUFFER_SELECT && is_served_code(request->entry.opcode) && !can_select(&request->entry))
+        refuse_entry(request, -EOPNOTSUPP);
     if (request->fault < 0 || copy_behind(request) == 0)
         return request;
     free_request(request);
@@ -61,7 +63,7 @@ static bool stage(struct ring *ring, uint32_t word, struct request **row)
 static bool stage_up_to(struct ring *ring, uint32_t count)
 {
     struct memory *memory = &ring->memory;
-    uint32_t head = load_head(ring);
+    uint32_t head = load_head(ring) - ring->own_positions;
     for (uint32_t i = (uint32_t)ring->staged.count; i < count; i++) {
         uint32_t word = load_word(&memory->array[(head + i) & (memory->sq_entries - 1)]);
         struct request *row;
@@ -102,14 +104,13 @@ static int take_staged(struct ring *ring)
     struct wulgach_answer answer = end_call(ring);
     demand(answer.word == ring->accepted - accepted, "the core accepts another number of requests");
     store_word(&ring->memory.sq->dropped, answer.dropped);
-    store_word(&ring->memory.sq->head, answer.head);
+    store_word(&ring->memory.sq->head, answer.head - ring->own_positions);
     for (size_t i = ring->requests.count - answer.word; i < ring->requests.count; i++)
         trace_request(ring, ring->requests.rows[i]);
     return (int)answer.word;
 }
 
-/* Makes room for this many more requests in all that grows with them, so that nothing behind the call has to fail. */
-static bool reserve_all(struct ring *ring, uint32_t count)
+bool reserve_all(struct ring *ring, uint32_t count)
 {
     if (!reserve_requests(&ring->staged, count) || !reserve_requests(&ring->requests, count) || !reserve_completions(&ring->completions, ring->requests.count + count))
         return false;

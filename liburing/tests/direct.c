@@ -21,10 +21,10 @@ static bool is_at_rest(const struct ring *ring)
 
 static void test_setup(void)
 {
-    struct io_uring_params none = {0}, sqpoll = {.flags = IORING_SETUP_SQPOLL}, small = {.flags = IORING_SETUP_CQSIZE, .cq_entries = 4}, reserved = {.resv = {0, 1}};
+    struct io_uring_params none = {0}, apart = {.flags = IORING_SETUP_SQ_AFF}, small = {.flags = IORING_SETUP_CQSIZE, .cq_entries = 4}, reserved = {.resv = {0, 1}};
     check(set_up(0, &none) == -EINVAL);
     check(set_up(4097, &none) == -EINVAL);
-    check(set_up(8, &sqpoll) == -EINVAL);
+    check(set_up(8, &apart) == -EINVAL);
     check(set_up(8, &small) == -EINVAL);
     check(set_up(8, &reserved) == -EINVAL);
     check(set_up(8, NULL) == -EFAULT);
