@@ -17,8 +17,7 @@
 
 enum { MOST_BUFFERS = 1 << 14, LARGEST_BUFFER = 1 << 30 };
 
-/* Whether all the pages of a buffer are there. A kernel that can't be asked says yes. */
-static bool is_there(const struct iovec *buffer)
+bool is_there(const struct iovec *buffer)
 {
     uintptr_t page = (uintptr_t)sysconf(_SC_PAGESIZE), at = (uintptr_t)buffer->iov_base, start = at / page * page;
     if (at + buffer->iov_len < at)

@@ -19,6 +19,9 @@ int register_no_buffers(struct ring *ring, uint32_t count);
 int unregister_buffers(struct ring *ring);
 int update_buffers(struct ring *ring, uint32_t offset, uint64_t vectors, uint32_t count);
 
+/* Whether all the pages of a buffer are there. A kernel that can't be asked says yes. */
+bool is_there(const struct iovec *buffer);
+
 /* Whether these bytes lie in the buffer of an index: 0 or -EFAULT. */
 int check_buffer(const struct ring *ring, uint32_t index, const struct iovec *bytes);
 

@@ -8,6 +8,7 @@
 #include "policy.h"
 #include "progress.h"
 #include "readiness.h"
+#include "restrictions.h"
 #include "ring.h"
 #include "submit.h"
 #include "times.h"
@@ -140,7 +141,10 @@ static int enter_ring(struct ring *ring, uint32_t to_submit, uint32_t flags, con
     bool is_getting = flags & IORING_ENTER_GETEVENTS;
     if (ring->is_disabled)
         return -EBADFD;
+    if (is_of_another(ring))
+        return -EEXIST;
     ring->call_number++;
+    ring->moment++;
     if (!hear(ring, is_getting))
         return refuse_head(ring);
     int submitted = ring->flags & IORING_SETUP_SQPOLL ? submit_published(ring, to_submit) : submit(ring, to_submit);

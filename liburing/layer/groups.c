@@ -125,6 +125,9 @@ int register_buffer_ring(struct ring *ring, uint64_t at, uint32_t count)
     bool is_power = asked.ring_entries && !(asked.ring_entries & (asked.ring_entries - 1));
     if (asked.ring_addr % page || !is_power || asked.ring_entries > MOST_IN_RING)
         return -EINVAL;
+    struct iovec cells = {(void *)(uintptr_t)asked.ring_addr, asked.ring_entries * sizeof(struct io_uring_buf)};
+    if (!is_there(&cells))
+        return -EFAULT;
     struct group *group = find_group(ring, asked.bgid);
     if (group && (group->ring || group->count > 0))
         return -EEXIST;

@@ -105,7 +105,7 @@ struct pollfd poll_of(const struct request *request)
 }
 
 /* One that is asked not to wait, or for nothing, doesn't wait. */
-static bool is_impatient(const struct request *request)
+bool is_impatient(const struct request *request)
 {
     if (request->started < 0)
         return true;
@@ -177,7 +177,7 @@ static int32_t open_socket(struct ring *ring, const struct request *request)
 static int32_t put_files(struct ring *ring, const struct request *request)
 {
     const struct io_uring_sqe *entry = &request->entry;
-    if (entry->off == IORING_FILE_INDEX_ALLOC)
+    if ((uint32_t)entry->off == IORING_FILE_INDEX_ALLOC)
         return place_files(ring, entry->addr, entry->len);
     return update_files(ring, (uint32_t)entry->off, entry->addr, entry->len);
 }
@@ -283,13 +283,13 @@ bool can_have(const struct request *request, enum injection fault)
 static int32_t call_with_buffer(struct ring *ring, struct request *request)
 {
     struct provided buffer;
+    request->flags = 0;
     if (!find_provided(ring, request->entry.buf_group, &buffer))
         return -ENOBUFS;
     uint64_t asked = request->wanted;
     *request->vectors = (struct iovec){(void *)(uintptr_t)buffer.address, asked && asked < buffer.length ? asked : buffer.length};
     request->length = request->vectors->iov_len;
     request->done = 0;
-    request->flags = 0;
     int32_t res = call_or_wait(ring, request);
     if (res > 0 || (res == 0 && is_transfer(request))) {
         take_provided(ring, request->entry.buf_group);

@@ -38,6 +38,9 @@ bool is_stream(const struct request *request);
 bool goes_on(const struct request *request);
 bool goes_on_behind(const struct request *request, int32_t res);
 
+/* Whether it doesn't wait whatever its descriptor is: it is asked not to, or for nothing. */
+bool is_impatient(const struct request *request);
+
 /* Whether one that may have to wait wouldn't wait now. */
 bool is_ready(const struct request *request);
 

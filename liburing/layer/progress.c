@@ -13,6 +13,7 @@
 #include "polls.h"
 #include "priorities.h"
 #include "steps.h"
+#include "streams.h"
 #include "timeouts.h"
 #include "trace.h"
 
@@ -25,7 +26,7 @@
 enum { TOLD_SUCCESS = 0, TOLD_FAILURE = -EBADF };
 
 /* Whether a running request can be finished without waiting. */
-static bool can_finish(struct ring *ring, const struct request *request)
+static bool can_finish(struct ring *ring, struct request *request)
 {
     if (request->is_refused)
         return false;
@@ -35,7 +36,7 @@ static bool can_finish(struct ring *ring, const struct request *request)
         return has_counted(ring, request);
     if (goes_on(request) && !can_post_extra(ring))
         return false;
-    return !request->is_stream || is_ready(request);
+    return !request->is_stream || is_found_ready(ring, request);
 }
 
 /* The core isn't to be asked for a request again before another has ended. */
@@ -124,6 +125,8 @@ static enum outcome finish_running(struct ring *ring, struct request *request)
             show_ends(ring);
         hear(ring, false);
         res = carry_out(ring, request, injected(ring, request));
+        if (request->entry.opcode != IORING_OP_NOP && !is_poll(request))
+            ring->moment++;
         if (res == WOULD_WAIT) {
             note_refusal(ring, request);
             return IS_RUNNING;

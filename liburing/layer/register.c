@@ -151,7 +151,7 @@ int register_at(int fd, uint32_t code, void *argument, uint32_t count)
     struct ring *ring = lock_ring(fd);
     if (!ring)
         return -EOPNOTSUPP;
-    int result = allows_call(ring, code) ? call_registered(ring, code, (uintptr_t)argument, count) : -EACCES;
+    int result = is_of_another(ring) ? -EEXIST : allows_call(ring, code) ? call_registered(ring, code, (uintptr_t)argument, count) : -EACCES;
     unlock_ring(ring);
     return result;
 }

@@ -15,7 +15,7 @@ struct request *make_request(struct requests *requests)
     else
         requests->kept = request->next;
     if (request)
-        *request = (struct request){.epoll = -1};
+        *request = (struct request){.epoll = -1, .looked_at = UINT64_MAX};
     return request;
 }
 

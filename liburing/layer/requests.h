@@ -17,6 +17,8 @@ struct request {
     struct io_uring_sqe entry;      /* as the application wrote it */
     enum mapping mapping;           /* what the core was told of it */
     enum state state;
+    uint64_t looked_at;             /* of one that may have to wait: the moment at which its descriptor was last looked at, */
+    bool is_found_ready;            /* and whether it was ready */
     bool is_refused;                /* not ready when it was last asked for, and nothing has ended since */
     int32_t fault;                  /* of a refused entry: what it ends with */
     bool is_linked;                 /* a link puts it behind the one before it */

@@ -1,9 +1,11 @@
 /* Restrictions are taken once, while the ring is disabled, and hold from when it is enabled. */
+#define _GNU_SOURCE
 #include "restrictions.h"
 #include "copying.h"
 #include "ring.h"
 
 #include <errno.h>
+#include <unistd.h>
 
 enum { MOST_RESTRICTIONS = 128, BITS = 64 };
 
@@ -52,6 +54,17 @@ int register_restrictions(struct ring *ring, uint64_t list, uint32_t count)
     return 0;
 }
 
+void note_issuer(struct ring *ring)
+{
+    if (ring->flags & IORING_SETUP_DEFER_TASKRUN && !ring->is_disabled)
+        ring->issuer = gettid();
+}
+
+bool is_of_another(const struct ring *ring)
+{
+    return ring->issuer && ring->issuer != gettid();
+}
+
 int enable_ring(struct ring *ring, uint64_t argument, uint32_t count)
 {
     if (argument || count)
@@ -59,6 +72,7 @@ int enable_ring(struct ring *ring, uint64_t argument, uint32_t count)
     if (!ring->is_disabled)
         return -EBADFD;
     ring->is_disabled = false;
+    note_issuer(ring);
     return 0;
 }
 

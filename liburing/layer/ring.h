@@ -20,6 +20,13 @@
 #include <stdio.h>
 #include <sys/types.h>
 
+/* A descriptor that a ring's descriptor polls for, and the sum of the numbers of the requests that wait for it. */
+struct watched {
+    int fd;
+    uint32_t events;
+    uint64_t number;
+};
+
 struct ring {
     struct ring *next;                  /* the rings of this process, the newest first */
     dev_t device;                       /* the memfd's device and inode: how a descriptor is known as this ring's */
@@ -29,7 +36,7 @@ struct ring {
     int called_fd;                      /* the one of the last call */
     int ready_fd;                       /* an eventfd, if the descriptor polls; or negative: the descriptor is memory */
     bool is_readable;                   /* the eventfd is set */
-    struct pollfd *watched;             /* the streams that the descriptor polls for */
+    struct watched *watched;            /* the streams that the descriptor polls for */
     size_t watched_count;
     uint32_t index;                     /* its number among the process's rings, from 0 */
     uint32_t flags;                     /* IORING_SETUP_.. */
@@ -40,6 +47,7 @@ struct ring {
     struct memory memory;
     struct wulgach_core core;
     struct requests requests;           /* accepted and not ended */
+    uint64_t moment;                    /* counts what can make a descriptor ready: within one, each is looked at once */
     size_t running;                     /* how many of them were started */
     bool has_refusals;                  /* one of them may be remembered as refused */
     struct requests staged;             /* staged and not accepted; a word that names no slot has an empty place */
@@ -55,6 +63,7 @@ struct ring {
     int eventfd;                        /* registered: one of the layer's own; or negative */
     bool is_eventfd_async;              /* it is told only of what ends behind the call that submitted it */
     uint64_t call_number;               /* how many calls of enter were made */
+    pid_t issuer;                       /* of SINGLE_ISSUER: the one thread that may call, or 0 */
     bool is_disabled;                   /* until it is enabled */
     struct restrictions restrictions;
     uint64_t accepted;                  /* how many requests were accepted so far */

@@ -135,6 +135,7 @@ static int make_ring(struct ring **made, uint32_t entries, struct io_uring_param
     }
     ring->process = getpid();
     ring->flags = params->flags;
+    note_issuer(ring);
     params->features = FEATURES;
     show(ring);
     *made = ring;
