@@ -134,6 +134,7 @@ static bool is_well_formed(const struct io_uring_sqe *entry)
     case IORING_OP_RECV:
     case IORING_OP_SENDMSG:
     case IORING_OP_RECVMSG:
+    case IORING_OP_ACCEPT:
         /* Their priority has flags, which are looked at with what they point to. */
         return true;
     default:
