@@ -131,7 +131,8 @@ static enum outcome finish_running(struct ring *ring, struct request *request)
             note_refusal(ring, request);
             return IS_RUNNING;
         }
-        if (goes_on_behind(request, res)) {
+        /* One whose completion finds the ring full ends with it. */
+        if (goes_on_behind(request, res) && ring->completions.count < ring->memory.cq_entries) {
             post_extra(ring, request->entry.user_data, res, request->flags | IORING_CQE_F_MORE);
             return IS_RUNNING;
         }
