@@ -72,7 +72,8 @@ static bool fits(const struct key *key, const struct request *request)
         return true;
     if (!(key->flags & IORING_ASYNC_CANCEL_FD))
         return request->entry.user_data == key->user_data;
-    return key->file ? request->file == key->file : !request->file && request->is_assigned && request->fd == key->fd;
+    bool is_registered = request->entry.flags & IOSQE_FIXED_FILE;
+    return key->file ? is_registered && request->file == key->file : !is_registered && request->is_assigned && request->entry.fd == key->fd;
 }
 
 /* Cancels what fits: all of them, or the oldest. Returns how many there were. */

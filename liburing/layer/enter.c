@@ -10,6 +10,7 @@
 #include "readiness.h"
 #include "restrictions.h"
 #include "ring.h"
+#include "streams.h"
 #include "submit.h"
 #include "times.h"
 #include "trace.h"
@@ -156,6 +157,7 @@ static int enter_ring(struct ring *ring, uint32_t to_submit, uint32_t flags, con
         go_on_for_peek(ring);
     else
         result = go_on_until(ring, waiting);
+    hold_files(ring);
     show_readiness(ring);
     show(ring);
     return submitted != 0 ? submitted : result;

@@ -54,6 +54,12 @@ static int make_file_of(struct file **made, int fd)
     return 0;
 }
 
+struct file *hold_file(int fd)
+{
+    struct file *file;
+    return make_file_of(&file, fd) < 0 ? NULL : file;
+}
+
 static void free_slots(struct files *files)
 {
     for (uint32_t i = 0; i < files->count; i++)

@@ -38,6 +38,9 @@ int remove_file(struct ring *ring, uint32_t slot);
 /* The file of an index, one use more; NULL if there is none. */
 struct file *use_file(struct ring *ring, uint32_t index);
 
+/* A file of a descriptor that stays the application's; NULL if there is none to be had. */
+struct file *hold_file(int fd);
+
 /* One use less. Nothing, of NULL. */
 void release_file(struct file *file);
 

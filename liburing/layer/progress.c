@@ -12,6 +12,7 @@
 #include "policy.h"
 #include "polls.h"
 #include "priorities.h"
+#include "readiness.h"
 #include "steps.h"
 #include "streams.h"
 #include "timeouts.h"
@@ -69,6 +70,8 @@ static void end_of(struct ring *ring, struct request *request, int32_t res, int3
     bool is_cancel = request->mapping == CANCEL;
     ring->posted += note_end(ring, request, res, told) && !is_timeout(request);
     disarm_linked_timeout(ring, request);
+    if (request->file)
+        unwatch(ring, request->file->fd);
     ring->has_changed = true;
     ring->running -= request->state == RUNS;
     end_request(&ring->requests, request);

@@ -111,6 +111,17 @@ static void watch_changes(int fd, const struct watched *before, size_t before_co
     }
 }
 
+/* An epoll instance keeps a descriptor that is closed while its file is open elsewhere. */
+void unwatch(struct ring *ring, int fd)
+{
+    struct watched key = {.fd = fd};
+    struct watched *watched = ring->watched_count ? bsearch(&key, ring->watched, ring->watched_count, sizeof key, by_descriptor) : NULL;
+    if (!watched)
+        return;
+    watch(ring->called_fd, EPOLL_CTL_DEL, watched);
+    watched->number = UINT64_MAX;
+}
+
 /* Puts the streams that are waited for in the place of those that were. If memory is refused, the next call tries. */
 static void watch_streams(struct ring *ring, int fd)
 {

@@ -1,5 +1,6 @@
 /* Descriptors are looked at by one call for all, once between two things that can change them. */
 #include "streams.h"
+#include "files.h"
 #include "operations.h"
 
 #include <poll.h>
@@ -48,4 +49,16 @@ bool is_found_ready(struct ring *ring, struct request *request)
     if (request->looked_at != ring->moment && (ring->running < 2 || !look_at_all(ring)))
         note(ring, request, is_ready(request));
     return request->is_found_ready;
+}
+
+void hold_files(struct ring *ring)
+{
+    for (size_t i = 0; ring->running > 0 && i < ring->requests.count; i++) {
+        struct request *request = ring->requests.rows[i];
+        if (request->state != RUNS || !request->is_stream || request->file || request->epoll >= 0)
+            continue;
+        request->file = hold_file(request->fd);
+        if (request->file)
+            request->fd = request->file->fd;
+    }
 }

@@ -7,4 +7,8 @@
 /* Whether a running request wouldn't wait, as of this moment. */
 bool is_found_ready(struct ring *ring, struct request *request);
 
+/* Keeps the files of the running requests that wait, as the kernel does, whatever the application closes. If descriptors are
+ * used up, one that can't be kept is taken as it stands. */
+void hold_files(struct ring *ring);
+
 #endif
