@@ -5,6 +5,7 @@
  */
 #include "completions.h"
 #include "account.h"
+#include "eventfds.h"
 #include "fault.h"
 #include "ring.h"
 #include "steps.h"
@@ -34,14 +35,22 @@ static struct posted *posted_at(struct completions *completions, size_t index)
     return &completions->queue[completions->first + index];
 }
 
-void note_end(struct ring *ring, uint64_t user_data, int32_t res, int32_t told)
+bool note_end(struct ring *ring, const struct request *request, int32_t res, int32_t told)
 {
     struct completions *completions = &ring->completions;
     struct wulgach_completion last;
     if (wulgach_core_rest(&ring->core, completions->count, &last) != 0)
-        return;
-    demand(last.user_data == user_data && last.res == told, "the core posted something else");
-    *posted_at(completions, completions->count++) = (struct posted){user_data, res, told};
+        return false;
+    demand(last.user_data == request->token && last.res == told, "the core posted something else");
+    *posted_at(completions, completions->count++) = (struct posted){
+        .user_data = request->entry.user_data,
+        .res = res,
+        .flags = request->flags,
+        .token = request->token,
+        .told = told,
+        .is_async = request->call != ring->call_number,
+    };
+    return true;
 }
 
 void show(struct ring *ring)
@@ -51,16 +60,22 @@ void show(struct ring *ring)
     completions->is_behind = false;
     if (completions->shown < completions->count) {
         uint32_t tail = load_cq_tail(ring);
+        bool is_told = false;
         demand(tail - completions->head <= completions->count, "the core shows more than it posted");
         while (completions->shown < tail - completions->head) {
             uint32_t at = completions->head + (uint32_t)completions->shown;
             const struct posted *posted = posted_at(completions, completions->shown++);
-            struct io_uring_cqe *cell = &memory->completions[at & (memory->cq_entries - 1)];
+            struct io_uring_cqe *cell = completion_at(memory, at);
             cell->user_data = posted->user_data;
             cell->res = posted->res;
-            cell->flags = 0;
+            cell->flags = posted->flags;
+            if (memory->completion_cells > 1)
+                cell[1] = (struct io_uring_cqe){0};
+            is_told |= posted->is_async || !ring->is_eventfd_async;
         }
         store_word(&memory->cq->tail, tail);
+        if (is_told)
+            tell_eventfd(ring);
     }
     uint32_t flags = 0;
     if (completions->shown < completions->count) {
@@ -71,6 +86,8 @@ void show(struct ring *ring)
     /* Makes a peek that finds nothing call: so requests go on, and a descriptor that polls is readable no more. */
     if (ring->requests.count > 0 || ring->is_readable)
         flags |= IORING_SQ_TASKRUN;
+    if (ring->flags & IORING_SETUP_SQPOLL)
+        flags |= IORING_SQ_NEED_WAKEUP;
     store_word(&memory->sq->flags, flags);
 }
 
@@ -86,7 +103,7 @@ static void reap(struct ring *ring, uint32_t count)
     struct completions *completions = &ring->completions;
     for (uint32_t i = 0; i < count; i++) {
         const struct posted *posted = posted_at(completions, 0);
-        reap_one(ring, posted->user_data, posted->told);
+        reap_one(ring, posted->token, posted->told);
         completions->first++;
         completions->count--;
         completions->shown--;

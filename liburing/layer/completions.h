@@ -9,9 +9,12 @@
 #include <stdint.h>
 
 struct posted {
-    uint64_t user_data;
-    int32_t res;            /* the real result, for the application */
-    int32_t told;           /* the core's: 0 or an error number */
+    uint64_t user_data;     /* for the application, */
+    int32_t res;            /* with the real result */
+    uint32_t flags;
+    uint64_t token;         /* the core's user data, */
+    int32_t told;           /* and its result: 0 or an error number */
+    bool is_async;          /* it ended behind the call that submitted it */
 };
 
 struct completions {
@@ -27,8 +30,10 @@ struct ring;
 /* Makes sure that this many more can be posted; false if memory was refused. */
 bool reserve_completions(struct completions *completions, size_t more);
 
-/* A request ended: queues its completion if the core posted one. */
-void note_end(struct ring *ring, uint64_t user_data, int32_t res, int32_t told);
+struct request;
+
+/* A request ended: queues its completion if the core posted one, and says whether it did. */
+bool note_end(struct ring *ring, const struct request *request, int32_t res, int32_t told);
 
 /* Shows the application what the core's tail says. */
 void show(struct ring *ring);

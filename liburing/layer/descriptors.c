@@ -139,25 +139,52 @@ static struct ring *find_ring(int fd)
     return ring;
 }
 
-struct ring *lock_ring(int fd)
+struct ring *hold_ring(int fd)
 {
     pthread_mutex_lock(&rings_lock);
     struct ring *ring = find_ring(fd);
     if (ring)
         ring->calls++;
     pthread_mutex_unlock(&rings_lock);
+    return ring;
+}
+
+void release_ring(struct ring *ring)
+{
+    pthread_mutex_lock(&rings_lock);
+    ring->calls--;
+    pthread_mutex_unlock(&rings_lock);
+}
+
+struct ring *lock_ring(int fd)
+{
+    struct ring *ring = hold_ring(fd);
     if (ring)
         pthread_mutex_lock(&ring->lock);
     return ring;
+}
+
+/* A message that comes while the lock is held is posted by who holds it; one that comes between its last look and its
+ * unlocking, by who looks again. What has to wait for a drain is posted behind that. */
+void visit_ring(struct ring *ring)
+{
+    bool is_left = false;
+    while (!is_left && has_messages(ring) && pthread_mutex_trylock(&ring->lock) == 0) {
+        post_messages(ring);
+        is_left = has_messages(ring);
+        show_ends(ring);
+        show_readiness(ring);
+        wake_sleepers(ring);
+        pthread_mutex_unlock(&ring->lock);
+    }
 }
 
 void unlock_ring(struct ring *ring)
 {
     wake_sleepers(ring);
     pthread_mutex_unlock(&ring->lock);
-    pthread_mutex_lock(&rings_lock);
-    ring->calls--;
-    pthread_mutex_unlock(&rings_lock);
+    visit_ring(ring);
+    release_ring(ring);
 }
 
 bool is_ring(int fd)

@@ -12,6 +12,14 @@ void add_ring(struct ring *ring);
 struct ring *lock_ring(int fd);
 void unlock_ring(struct ring *ring);
 
+/* The ring of a descriptor, which isn't locked; NULL if it is none of this process's. It lives at least until it is
+ * released. */
+struct ring *hold_ring(int fd);
+void release_ring(struct ring *ring);
+
+/* Posts the messages that wait for a ring, unless another thread has it: that one does. */
+void visit_ring(struct ring *ring);
+
 /* Whether a descriptor is a ring's. */
 bool is_ring(int fd);
 

@@ -9,7 +9,9 @@
 #include "policy.h"
 #include "progress.h"
 #include "readiness.h"
+#include "restrictions.h"
 #include "ring.h"
+#include "streams.h"
 #include "submit.h"
 #include "times.h"
 #include "trace.h"
@@ -60,7 +62,7 @@ static void go_on_alone(struct ring *ring)
 {
     if (policy() == LAZY)
         return;
-    while (go_on(ring, true) == WENT_ON)
+    while (go_on(ring, ring->eventfd < 0) == WENT_ON)
         ;
 }
 
@@ -128,12 +130,28 @@ static int go_on_until(struct ring *ring, const struct waiting *waiting)
     }
 }
 
+/* What the thread that takes entries would take: all that is published, with faults among them. */
+static int submit_published(struct ring *ring, uint32_t to_submit)
+{
+    int submitted;
+    do
+        submitted = submit(ring, UINT32_MAX);
+    while (submitted > 0);
+    return submitted < 0 ? submitted : (int)to_submit;
+}
+
 static int enter_ring(struct ring *ring, uint32_t to_submit, uint32_t flags, const struct waiting *waiting)
 {
     bool is_getting = flags & IORING_ENTER_GETEVENTS;
+    if (ring->is_disabled)
+        return -EBADFD;
+    if (is_of_another(ring))
+        return -EEXIST;
+    ring->call_number++;
+    ring->moment++;
     if (!hear(ring, is_getting))
         return refuse_head(ring);
-    int submitted = submit(ring, to_submit);
+    int submitted = ring->flags & IORING_SETUP_SQPOLL ? submit_published(ring, to_submit) : submit(ring, to_submit);
     int result = 0;
     /* The kernel doesn't wait if it couldn't submit all. */
     if (submitted < 0 || !is_getting || (uint32_t)submitted != to_submit)
@@ -142,6 +160,7 @@ static int enter_ring(struct ring *ring, uint32_t to_submit, uint32_t flags, con
         go_on_for_peek(ring);
     else
         result = go_on_until(ring, waiting);
+    hold_files(ring);
     show_readiness(ring);
     show(ring);
     return submitted != 0 ? submitted : result;

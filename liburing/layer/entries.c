@@ -1,15 +1,24 @@
 /* What an entry becomes: which are served, what the core is told of them, and what is copied when they are submitted. */
 #define _GNU_SOURCE
 #include "operations.h"
+#include "cancels.h"
 #include "copying.h"
+#include "groups.h"
+#include "polls.h"
+#include "sockets.h"
+#include "timeouts.h"
 
 #include <errno.h>
+#include <fcntl.h>
+#include <linux/limits.h>
 #include <linux/openat2.h>
 #include <stdlib.h>
 #include <string.h>
+#include <sys/epoll.h>
+#include <sys/socket.h>
 
-/* Flags of an entry that aren't served: registered files, provided buffers, and the bit that has no name. */
-enum { REFUSED_FLAGS = IOSQE_FIXED_FILE | IOSQE_BUFFER_SELECT | 128 };
+/* The flag that has no name. */
+enum { REFUSED_FLAGS = 128 };
 
 enum { MOST_VECTORS = 1024, HIGHEST_PRIORITY_CLASS = 3, PRIORITY_CLASS_SHIFT = 13 };
 
@@ -38,10 +47,41 @@ bool is_served_code(uint8_t code)
     case IORING_OP_MKDIRAT:
     case IORING_OP_SYMLINKAT:
     case IORING_OP_LINKAT:
+    case IORING_OP_PROVIDE_BUFFERS:
+    case IORING_OP_MSG_RING:
+    case IORING_OP_READ_FIXED:
+    case IORING_OP_WRITE_FIXED:
+    case IORING_OP_POLL_ADD:
+    case IORING_OP_POLL_REMOVE:
+    case IORING_OP_SENDMSG:
+    case IORING_OP_RECVMSG:
+    case IORING_OP_TIMEOUT_REMOVE:
+    case IORING_OP_ACCEPT:
+    case IORING_OP_LINK_TIMEOUT:
+    case IORING_OP_CONNECT:
+    case IORING_OP_FILES_UPDATE:
+    case IORING_OP_SEND:
+    case IORING_OP_RECV:
+    case IORING_OP_EPOLL_CTL:
+    case IORING_OP_SPLICE:
+    case IORING_OP_TEE:
+    case IORING_OP_SHUTDOWN:
+    case IORING_OP_SOCKET:
+    case IORING_OP_FSETXATTR:
+    case IORING_OP_SETXATTR:
+    case IORING_OP_FGETXATTR:
+    case IORING_OP_GETXATTR:
         return true;
     default:
         return false;
     }
+}
+
+/* Without a flag of its own, a tee has no offsets. */
+static bool is_well_formed_splice(const struct io_uring_sqe *entry)
+{
+    enum { SERVED = SPLICE_F_MOVE | SPLICE_F_NONBLOCK | SPLICE_F_MORE | SPLICE_F_GIFT };
+    return !(entry->splice_flags & ~(SERVED | SPLICE_F_FD_IN_FIXED)) && !(entry->opcode == IORING_OP_TEE && (entry->splice_off_in || entry->off));
 }
 
 /* Faults of single operations that the kernel finds when the entry is submitted. */
@@ -49,7 +89,9 @@ static bool is_well_formed(const struct io_uring_sqe *entry)
 {
     switch (entry->opcode) {
     case IORING_OP_READ:
+    case IORING_OP_READ_FIXED:
     case IORING_OP_WRITE:
+    case IORING_OP_WRITE_FIXED:
         return entry->ioprio >> PRIORITY_CLASS_SHIFT <= HIGHEST_PRIORITY_CLASS;
     case IORING_OP_READV:
     case IORING_OP_WRITEV:
@@ -57,25 +99,61 @@ static bool is_well_formed(const struct io_uring_sqe *entry)
     case IORING_OP_FSYNC:
         return !entry->addr && !entry->ioprio && !(entry->fsync_flags & ~IORING_FSYNC_DATASYNC);
     case IORING_OP_TIMEOUT:
-        /* Time is virtual: there is no clock to be absolute in, and no count of completions. */
-        return !entry->off && entry->len == 1 && !entry->ioprio && !(entry->timeout_flags & ~IORING_TIMEOUT_ETIME_SUCCESS);
+    case IORING_OP_LINK_TIMEOUT:
+        return is_well_formed_timeout(entry);
+    case IORING_OP_TIMEOUT_REMOVE:
+        return is_well_formed_timeout_removal(entry);
     case IORING_OP_ASYNC_CANCEL:
-        return !entry->cancel_flags && !entry->off && !entry->len && !entry->ioprio;
+        return is_well_formed_cancel(entry);
+    case IORING_OP_POLL_ADD:
+        return is_well_formed_poll(entry);
+    case IORING_OP_POLL_REMOVE:
+        return is_well_formed_removal(entry);
     case IORING_OP_OPENAT:
+        return !entry->ioprio && !entry->buf_index && !(entry->file_index && entry->open_flags & O_CLOEXEC);
     case IORING_OP_OPENAT2:
+        return !entry->ioprio && !entry->buf_index;
     case IORING_OP_CLOSE:
-        /* Registered files aren't served. */
-        return !entry->file_index && !entry->ioprio;
+        return !entry->ioprio && !entry->off && !entry->addr && !entry->len && !entry->rw_flags && !entry->buf_index && !(entry->file_index && entry->fd);
+    case IORING_OP_FILES_UPDATE:
+        return !entry->ioprio && !entry->rw_flags && !entry->splice_fd_in && entry->len && !(entry->flags & IOSQE_FIXED_FILE);
+    case IORING_OP_PROVIDE_BUFFERS:
+    case IORING_OP_REMOVE_BUFFERS:
+        return is_well_formed_provision(entry);
+    case IORING_OP_MSG_RING:
+        /* Registered files aren't sent. */
+        return !entry->ioprio && !entry->buf_index && !entry->rw_flags && !entry->addr && !entry->addr3 && !entry->file_index;
+    case IORING_OP_SHUTDOWN:
+        return !entry->ioprio && !entry->off && !entry->addr && !entry->rw_flags && !entry->buf_index && !entry->splice_fd_in;
+    case IORING_OP_SOCKET:
+        return !entry->ioprio && !entry->addr && !entry->rw_flags && !entry->buf_index && !(entry->file_index && entry->off & SOCK_CLOEXEC);
+    case IORING_OP_SPLICE:
+    case IORING_OP_TEE:
+        return is_well_formed_splice(entry);
+    case IORING_OP_SEND:
+    case IORING_OP_RECV:
+    case IORING_OP_SENDMSG:
+    case IORING_OP_RECVMSG:
+    case IORING_OP_ACCEPT:
+        /* Their priority has flags, which are looked at with what they point to. */
+        return true;
     default:
         return !entry->ioprio;
     }
 }
 
-enum mapping mapping_of(const struct io_uring_sqe *entry)
+/* A linked timeout wants a request before it that it limits. */
+static bool has_its_place(const struct io_uring_sqe *entry, const struct request *before)
 {
-    if (entry->flags & REFUSED_FLAGS || entry->personality || !is_served_code(entry->opcode) || !is_well_formed(entry))
+    bool is_behind = before && before->entry.flags & (IOSQE_IO_LINK | IOSQE_IO_HARDLINK) && before->entry.opcode != IORING_OP_LINK_TIMEOUT;
+    return entry->opcode != IORING_OP_LINK_TIMEOUT || is_behind;
+}
+
+enum mapping mapping_of(const struct io_uring_sqe *entry, const struct request *before)
+{
+    if (entry->flags & REFUSED_FLAGS || entry->personality || !is_served_code(entry->opcode) || !is_well_formed(entry) || !has_its_place(entry, before))
         return REFUSED;
-    return entry->opcode == IORING_OP_ASYNC_CANCEL ? CANCEL : TOKEN;
+    return is_plain_cancel(entry) ? CANCEL : TOKEN;
 }
 
 /* Copies what stands at an address into memory of its own. */
@@ -94,6 +172,7 @@ static int copy_vectors(struct request *request)
         return result;
     for (uint32_t i = 0; i < request->entry.len; i++)
         request->length += request->vectors[i].iov_len;
+    request->vector_count = request->entry.len;
     return 0;
 }
 
@@ -105,6 +184,7 @@ static int make_vector(struct request *request)
         return -ENOMEM;
     *request->vectors = (struct iovec){(void *)(uintptr_t)request->entry.addr, request->entry.len};
     request->length = request->entry.len;
+    request->vector_count = 1;
     return 0;
 }
 
@@ -122,10 +202,42 @@ static int copy_how(struct request *request)
 }
 
 /* Time is virtual: one that is negative is a fault, as it is in the kernel. */
-static int copy_time(struct request *request)
+static int copy_time(struct request *request, uint64_t from)
 {
-    int result = copy_of((void **)&request->time, request->entry.addr, sizeof *request->time);
+    int result = copy_of((void **)&request->time, from, sizeof *request->time);
     return result < 0 ? result : request->time->tv_sec < 0 || request->time->tv_nsec < 0 ? -EINVAL : 0;
+}
+
+/* Bytes that an operation reads, of which there are no more than it says. */
+static int copy_value(struct request *request, uint64_t from, size_t size, size_t most)
+{
+    return size > most ? -E2BIG : size == 0 ? 0 : copy_of(&request->value, from, size);
+}
+
+static int copy_attribute(struct request *request)
+{
+    const struct io_uring_sqe *entry = &request->entry;
+    bool has_path = entry->opcode == IORING_OP_SETXATTR || entry->opcode == IORING_OP_GETXATTR;
+    bool is_set = entry->opcode == IORING_OP_SETXATTR || entry->opcode == IORING_OP_FSETXATTR;
+    int result = copy_path(&request->second_path, entry->addr);
+    if (result == 0 && has_path)
+        result = copy_path(&request->path, entry->addr3);
+    return result == 0 && is_set ? copy_value(request, entry->addr2, entry->len, XATTR_SIZE_MAX) : result;
+}
+
+bool can_select(const struct io_uring_sqe *entry)
+{
+    return entry->opcode == IORING_OP_READ || entry->opcode == IORING_OP_READV || entry->opcode == IORING_OP_RECV || entry->opcode == IORING_OP_RECVMSG;
+}
+
+/* One that takes a provided buffer has a single vector, whose length is at most what it wants. */
+static int copy_wanted(struct request *request, int result)
+{
+    bool is_selecting = request->entry.flags & IOSQE_BUFFER_SELECT;
+    if (result < 0 || !is_selecting)
+        return result;
+    request->wanted = request->length;
+    return request->vector_count == 1 ? 0 : -EINVAL;
 }
 
 static int copy_of_token(struct request *request)
@@ -135,7 +247,9 @@ static int copy_of_token(struct request *request)
     case IORING_OP_WRITEV:
         return copy_vectors(request);
     case IORING_OP_READ:
+    case IORING_OP_READ_FIXED:
     case IORING_OP_WRITE:
+    case IORING_OP_WRITE_FIXED:
         return make_vector(request);
     case IORING_OP_STATX:
         /* With AT_EMPTY_PATH it may have none. */
@@ -153,7 +267,24 @@ static int copy_of_token(struct request *request)
     case IORING_OP_LINKAT:
         return copy_paths(request);
     case IORING_OP_TIMEOUT:
-        return copy_time(request);
+    case IORING_OP_LINK_TIMEOUT:
+        return copy_time(request, request->entry.addr);
+    case IORING_OP_TIMEOUT_REMOVE:
+        return request->entry.timeout_flags ? copy_time(request, request->entry.addr2) : 0;
+    case IORING_OP_EPOLL_CTL:
+        return request->entry.len == EPOLL_CTL_DEL ? 0 : copy_of(&request->value, request->entry.addr, sizeof(struct epoll_event));
+    case IORING_OP_FSETXATTR:
+    case IORING_OP_SETXATTR:
+    case IORING_OP_FGETXATTR:
+    case IORING_OP_GETXATTR:
+        return copy_attribute(request);
+    case IORING_OP_SEND:
+    case IORING_OP_RECV:
+    case IORING_OP_SENDMSG:
+    case IORING_OP_RECVMSG:
+    case IORING_OP_ACCEPT:
+    case IORING_OP_CONNECT:
+        return copy_of_socket(request);
     default:
         return 0;
     }
@@ -163,7 +294,7 @@ int copy_behind(struct request *request)
 {
     if (request->mapping == CANCEL)
         return 0;
-    int result = request->mapping == REFUSED ? -EINVAL : copy_of_token(request);
+    int result = request->mapping == REFUSED ? -EINVAL : copy_wanted(request, copy_of_token(request));
     if (result == -ENOMEM)
         return result;
     if (result < 0)

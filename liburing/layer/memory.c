@@ -81,8 +81,10 @@ int make_memory(struct memory *memory, int fd, uint32_t sq_entries, uint32_t cq_
     memory->sq_entries = sq_entries;
     memory->cq_entries = cq_entries;
     memory->sq_size = BEHIND_WORDS + sq_entries * sizeof(uint32_t);
-    memory->cq_size = BEHIND_WORDS + cq_entries * sizeof(struct io_uring_cqe);
-    memory->entries_size = sq_entries * sizeof(struct io_uring_sqe);
+    memory->entry_cells = params->flags & IORING_SETUP_SQE128 ? 2 : 1;
+    memory->completion_cells = params->flags & IORING_SETUP_CQE32 ? 2 : 1;
+    memory->cq_size = BEHIND_WORDS + cq_entries * memory->completion_cells * sizeof(struct io_uring_cqe);
+    memory->entries_size = sq_entries * memory->entry_cells * sizeof(struct io_uring_sqe);
     int result = fd < 0 ? 0 : lengthen(fd, IORING_OFF_SQES + memory->entries_size);
     if (result == 0)
         result = map_all(memory, fd);

@@ -23,6 +23,7 @@ struct memory {
     uint32_t *array;                    /* the index words, sq_entries of them */
     struct io_uring_cqe *completions;   /* cq_entries of them */
     struct io_uring_sqe *entries;       /* the entry table, of sq_entries slots */
+    uint32_t entry_cells, completion_cells; /* how many cells an entry and a completion take: 1, or 2 where they are large */
     uint32_t sq_entries, cq_entries;    /* as the layer made them: the application can write to the words */
     size_t sq_size, cq_size, entries_size;  /* of the three mappings, in bytes */
 };
@@ -43,6 +44,17 @@ void free_memory(struct memory *memory);
 static inline uint32_t load_word(const uint32_t *word)
 {
     return __atomic_load_n(word, __ATOMIC_ACQUIRE);
+}
+
+/* The entry of a slot, and the completion of an index: of large ones the first half. */
+static inline struct io_uring_sqe *entry_at(const struct memory *memory, uint32_t slot)
+{
+    return &memory->entries[slot * memory->entry_cells];
+}
+
+static inline struct io_uring_cqe *completion_at(const struct memory *memory, uint32_t index)
+{
+    return &memory->completions[(index & (memory->cq_entries - 1)) * memory->completion_cells];
 }
 
 static inline void store_word(uint32_t *word, uint32_t value)

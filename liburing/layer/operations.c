@@ -1,40 +1,51 @@
 /* Carries operations out, each by one system call, when its request is finished. */
 #define _GNU_SOURCE
 #include "operations.h"
+#include "cancels.h"
 #include "descriptors.h"
+#include "extras.h"
+#include "files.h"
+#include "groups.h"
+#include "paths.h"
+#include "polls.h"
+#include "ring.h"
+#include "sockets.h"
+#include "splices.h"
+#include "timeouts.h"
 #include "syncing.h"
 
 #include <errno.h>
 #include <fcntl.h>
-#include <inttypes.h>
-#include <linux/openat2.h>
 #include <poll.h>
 #include <signal.h>
 #include <string.h>
+#include <sys/epoll.h>
 #include <sys/mman.h>
+#include <sys/socket.h>
 #include <sys/stat.h>
-#include <sys/syscall.h>
 #include <sys/uio.h>
 #include <unistd.h>
 
 static bool is_read(const struct request *request)
 {
-    return request->entry.opcode == IORING_OP_READ || request->entry.opcode == IORING_OP_READV;
+    uint8_t code = request->entry.opcode;
+    return code == IORING_OP_READ || code == IORING_OP_READV || code == IORING_OP_READ_FIXED;
 }
 
 static bool is_write(const struct request *request)
 {
-    return request->entry.opcode == IORING_OP_WRITE || request->entry.opcode == IORING_OP_WRITEV;
+    uint8_t code = request->entry.opcode;
+    return code == IORING_OP_WRITE || code == IORING_OP_WRITEV || code == IORING_OP_WRITE_FIXED;
 }
 
-static bool is_transfer(const struct request *request)
+bool is_transfer(const struct request *request)
 {
     return is_read(request) || is_write(request);
 }
 
-static uint32_t count_vectors(const struct request *request)
+bool is_splice(const struct request *request)
 {
-    return request->entry.opcode == IORING_OP_READ || request->entry.opcode == IORING_OP_WRITE ? 1 : request->entry.len;
+    return request->entry.opcode == IORING_OP_SPLICE || request->entry.opcode == IORING_OP_TEE;
 }
 
 static int32_t result_of(long result)
@@ -45,27 +56,66 @@ static int32_t result_of(long result)
 /* Whether a transfer's descriptor has offsets: a transfer of no vectors says so, and does nothing else. */
 static bool has_offsets(const struct request *request)
 {
-    int fd = request->entry.fd;
+    int fd = request->fd;
     return (is_read(request) ? preadv(fd, NULL, 0, 0) : pwritev(fd, NULL, 0, 0)) >= 0 || errno != ESPIPE;
 }
 
 bool is_stream(const struct request *request)
 {
     struct stat status;
-    if (!is_transfer(request) || fstat(request->entry.fd, &status) < 0)
+    if (is_of_sockets(request->entry.opcode) || is_poll(request) || is_splice(request))
+        return true;
+    if (!is_transfer(request) || fstat(request->fd, &status) < 0)
         return false;
     return S_ISCHR(status.st_mode) || !has_offsets(request);
 }
 
+bool goes_on(const struct request *request)
+{
+    switch (request->entry.opcode) {
+    case IORING_OP_POLL_ADD:
+        return request->entry.len & IORING_POLL_ADD_MULTI;
+    case IORING_OP_ACCEPT:
+        return request->entry.ioprio & IORING_ACCEPT_MULTISHOT;
+    case IORING_OP_RECV:
+        return request->entry.ioprio & IORING_RECV_MULTISHOT;
+    default:
+        return false;
+    }
+}
+
+bool goes_on_behind(const struct request *request, int32_t res)
+{
+    return goes_on(request) && (request->entry.opcode == IORING_OP_ACCEPT ? res >= 0 : res > 0);
+}
+
+/* Whether it takes a provided buffer when it is carried out. */
+static bool is_selecting(const struct request *request)
+{
+    return request->entry.flags & IOSQE_BUFFER_SELECT;
+}
+
 struct pollfd poll_of(const struct request *request)
 {
-    return (struct pollfd){.fd = request->entry.fd, .events = is_read(request) ? POLLIN : POLLOUT};
+    if (is_poll(request))
+        return poll_of_poll(request);
+    if (is_splice(request))
+        return poll_of_splice(request);
+    short events = is_of_sockets(request->entry.opcode) ? events_of_socket(request) : is_read(request) ? POLLIN : POLLOUT;
+    return (struct pollfd){.fd = request->fd, .events = events};
 }
 
 /* One that is asked not to wait, or for nothing, doesn't wait. */
-static bool is_impatient(const struct request *request)
+bool is_impatient(const struct request *request)
 {
-    return request->entry.rw_flags & RWF_NOWAIT || request->length == 0;
+    if (request->started < 0)
+        return true;
+    if (request->entry.opcode == IORING_OP_CONNECT)
+        return !request->done;
+    /* A splice looks for its faults before it waits. */
+    if (is_splice(request))
+        return !request->done;
+    return is_transfer(request) && (request->entry.rw_flags & RWF_NOWAIT || (request->length == 0 && !is_selecting(request)));
 }
 
 bool is_ready(const struct request *request)
@@ -78,7 +128,7 @@ bool is_ready(const struct request *request)
 static void shorten(struct request *request)
 {
     uint64_t left = request->length / 2;
-    for (uint32_t i = 0; i < count_vectors(request); i++) {
+    for (uint32_t i = 0; i < request->vector_count; i++) {
         struct iovec *vector = &request->vectors[i];
         if (vector->iov_len > left)
             vector->iov_len = left;
@@ -88,7 +138,7 @@ static void shorten(struct request *request)
 
 static int32_t transfer(const struct request *request, off_t offset, int flags)
 {
-    int count = (int)count_vectors(request), fd = request->entry.fd;
+    int count = (int)request->vector_count, fd = request->fd;
     return result_of(is_read(request) ? preadv2(fd, request->vectors, count, offset, flags) : pwritev2(fd, request->vectors, count, offset, flags));
 }
 
@@ -97,7 +147,7 @@ static int32_t transfer(const struct request *request, off_t offset, int flags)
 static int32_t transfer_on_stream(const struct request *request)
 {
     off_t offset = has_offsets(request) ? (off_t)request->entry.off : -1;
-    int flags = request->entry.rw_flags, own = fcntl(request->entry.fd, F_GETFL);
+    int flags = request->entry.rw_flags, own = fcntl(request->fd, F_GETFL);
     if (is_impatient(request))
         return transfer(request, offset, flags);
     bool is_asked = own >= 0 && own & O_NONBLOCK;
@@ -109,25 +159,33 @@ static int32_t transfer_on_stream(const struct request *request)
     return is_ready(request) ? transfer(request, offset, flags) : WOULD_WAIT;
 }
 
-static int32_t open_path(const struct request *request)
+static int32_t close_file(struct ring *ring, const struct request *request)
 {
-    const struct io_uring_sqe *entry = &request->entry;
-    if (entry->opcode == IORING_OP_OPENAT)
-        return result_of(openat(entry->fd, request->path, (int)entry->open_flags, entry->len));
-    if (!request->how)
-        return -EINVAL;
-    return result_of(syscall(SYS_openat2, entry->fd, request->path, request->how, sizeof *request->how));
-}
-
-static int32_t close_file(const struct request *request)
-{
+    if (request->entry.file_index)
+        return remove_file(ring, request->entry.file_index - 1);
     /* A ring doesn't close a ring. */
     return is_ring(request->entry.fd) ? -EBADF : result_of(close(request->entry.fd));
 }
 
+static int32_t open_socket(struct ring *ring, const struct request *request)
+{
+    const struct io_uring_sqe *entry = &request->entry;
+    int32_t fd = result_of(socket(entry->fd, (int)entry->off, (int)entry->len));
+    return fd >= 0 && entry->file_index ? install_file(ring, fd, entry->file_index) : fd;
+}
+
+/* Puts descriptors into the table, where the entry says or where there is room. */
+static int32_t put_files(struct ring *ring, const struct request *request)
+{
+    const struct io_uring_sqe *entry = &request->entry;
+    if ((uint32_t)entry->off == IORING_FILE_INDEX_ALLOC)
+        return place_files(ring, entry->addr, entry->len);
+    return update_files(ring, (uint32_t)entry->off, entry->addr, entry->len);
+}
+
 static int32_t synchronize(const struct request *request)
 {
-    int fd = request->entry.fd;
+    int fd = request->fd;
     return result_of(sync_descriptor(fd, request->entry.fsync_flags & IORING_FSYNC_DATASYNC));
 }
 
@@ -136,29 +194,7 @@ static void *address_of(const struct request *request)
     return (void *)(uintptr_t)request->entry.addr;
 }
 
-static int32_t call_on_path(const struct request *request)
-{
-    const struct io_uring_sqe *entry = &request->entry;
-    const char *path = request->path, *second = request->second_path;
-    switch (entry->opcode) {
-    case IORING_OP_STATX:
-        return result_of(syscall(SYS_statx, entry->fd, path, entry->statx_flags, entry->len, entry->addr2));
-    case IORING_OP_RENAMEAT:
-        return result_of(syscall(SYS_renameat2, entry->fd, path, (int)entry->len, second, entry->rename_flags));
-    case IORING_OP_UNLINKAT:
-        return result_of(syscall(SYS_unlinkat, entry->fd, path, entry->unlink_flags));
-    case IORING_OP_MKDIRAT:
-        return result_of(syscall(SYS_mkdirat, entry->fd, path, entry->len));
-    case IORING_OP_SYMLINKAT:
-        return result_of(syscall(SYS_symlinkat, path, entry->fd, second));
-    case IORING_OP_LINKAT:
-        return result_of(syscall(SYS_linkat, entry->fd, path, (int)entry->len, second, entry->hardlink_flags));
-    default:
-        return open_path(request);
-    }
-}
-
-static int32_t call_system(struct request *request)
+static int32_t call_system(struct ring *ring, struct request *request)
 {
     const struct io_uring_sqe *entry = &request->entry;
     switch (entry->opcode) {
@@ -166,30 +202,66 @@ static int32_t call_system(struct request *request)
         return 0;
     case IORING_OP_READ:
     case IORING_OP_READV:
+    case IORING_OP_READ_FIXED:
     case IORING_OP_WRITE:
     case IORING_OP_WRITEV:
+    case IORING_OP_WRITE_FIXED:
         return request->is_stream ? transfer_on_stream(request) : transfer(request, (off_t)entry->off, entry->rw_flags);
     case IORING_OP_FSYNC:
         return synchronize(request);
     case IORING_OP_SYNC_FILE_RANGE:
-        return result_of(sync_file_range(entry->fd, (off_t)entry->off, entry->len, entry->sync_range_flags));
+        return result_of(sync_file_range(request->fd, (off_t)entry->off, entry->len, entry->sync_range_flags));
     case IORING_OP_TIMEOUT:
-        return -ETIME;
+        return has_counted(ring, request) ? 0 : -ETIME;
+    case IORING_OP_LINK_TIMEOUT:
+        return request->has_fired ? -ETIME : -ECANCELED;
     case IORING_OP_REMOVE_BUFFERS:
-        /* Providing buffers isn't served, so there are none. */
-        return -ENOENT;
+        return remove_buffers(ring, entry);
+    case IORING_OP_PROVIDE_BUFFERS:
+        return provide_buffers(ring, entry);
+    case IORING_OP_MSG_RING:
+        return send_message(ring, entry->fd, entry->off, (int32_t)entry->len);
     case IORING_OP_FALLOCATE:
-        return result_of(fallocate(entry->fd, (int)entry->len, (off_t)entry->off, (off_t)entry->addr));
+        return result_of(fallocate(request->fd, (int)entry->len, (off_t)entry->off, (off_t)entry->addr));
     case IORING_OP_CLOSE:
-        return close_file(request);
+        return close_file(ring, request);
     case IORING_OP_FADVISE:
         /* This one returns the error number. */
-        return -posix_fadvise(entry->fd, (off_t)entry->off, entry->len, (int)entry->fadvise_advice);
+        return -posix_fadvise(request->fd, (off_t)entry->off, entry->len, (int)entry->fadvise_advice);
     case IORING_OP_MADVISE:
         return result_of(madvise(address_of(request), entry->len, (int)entry->fadvise_advice));
+    case IORING_OP_SHUTDOWN:
+        return result_of(shutdown(request->fd, (int)entry->len));
+    case IORING_OP_SOCKET:
+        return open_socket(ring, request);
+    case IORING_OP_EPOLL_CTL:
+        return result_of(epoll_ctl(entry->fd, (int)entry->len, (int)entry->off, request->value));
+    case IORING_OP_FILES_UPDATE:
+        return put_files(ring, request);
+    case IORING_OP_FSETXATTR:
+    case IORING_OP_SETXATTR:
+    case IORING_OP_FGETXATTR:
+    case IORING_OP_GETXATTR:
+        return call_on_attribute(request);
+    case IORING_OP_ASYNC_CANCEL:
+    case IORING_OP_POLL_REMOVE:
+    case IORING_OP_TIMEOUT_REMOVE:
+        return act_on_others(ring, request);
     default:
-        return call_on_path(request);
+        return call_on_path(ring, request);
     }
+}
+
+/* Operations that may have to wait, and others. */
+static int32_t call_or_wait(struct ring *ring, struct request *request)
+{
+    if (is_poll(request))
+        return take_events(request);
+    if (is_splice(request)) {
+        request->done = 1;
+        return call_splice(request);
+    }
+    return is_of_sockets(request->entry.opcode) ? call_socket(ring, request) : call_system(ring, request);
 }
 
 bool can_have(const struct request *request, enum injection fault)
@@ -208,6 +280,25 @@ bool can_have(const struct request *request, enum injection fault)
     return false;
 }
 
+/* Carries out what takes a buffer: one is taken if the operation succeeds, and not if a socket has no more to give. */
+static int32_t call_with_buffer(struct ring *ring, struct request *request)
+{
+    struct provided buffer;
+    request->flags = 0;
+    if (!find_provided(ring, request->entry.buf_group, &buffer))
+        return -ENOBUFS;
+    uint64_t asked = request->wanted;
+    *request->vectors = (struct iovec){(void *)(uintptr_t)buffer.address, asked && asked < buffer.length ? asked : buffer.length};
+    request->length = request->vectors->iov_len;
+    request->done = 0;
+    int32_t res = call_or_wait(ring, request);
+    if (res > 0 || (res == 0 && is_transfer(request))) {
+        take_provided(ring, request->entry.buf_group);
+        request->flags = IORING_CQE_F_BUFFER | (uint32_t)buffer.id << IORING_CQE_BUFFER_SHIFT;
+    }
+    return res;
+}
+
 /* Takes back the signal that a file grew too large, which the kernel sends to a worker of its own. All are blocked. */
 static void take_back_signal(void)
 {
@@ -219,15 +310,17 @@ static void take_back_signal(void)
         ;
 }
 
-int32_t carry_out(struct request *request, enum injection fault)
+int32_t carry_out(struct ring *ring, struct request *request, enum injection fault)
 {
+    if (request->started < 0)
+        return request->started;
     if (fault == FAULT_EIO)
         return -EIO;
     if (fault == FAULT_ENOSPC)
         return -ENOSPC;
     if (fault == FAULT_SHORT)
         shorten(request);
-    int32_t res = call_system(request);
+    int32_t res = is_selecting(request) ? call_with_buffer(ring, request) : call_or_wait(ring, request);
     if (res == -EFBIG)
         take_back_signal();
     return res;
@@ -237,51 +330,11 @@ bool is_success(const struct request *request, int32_t res)
 {
     if (res == -ETIME)
         return request->entry.opcode == IORING_OP_TIMEOUT && request->entry.timeout_flags & IORING_TIMEOUT_ETIME_SUCCESS;
+    if (is_linked_timeout(request))
+        return !request->is_cancelled;
+    if (is_of_sockets(request->entry.opcode))
+        return is_socket_success(request, res);
+    if (is_splice(request))
+        return res >= 0 && (uint32_t)res == request->entry.len;
     return res >= 0 && (!is_transfer(request) || (uint64_t)res == request->length);
-}
-
-const char *operation_name(uint8_t code)
-{
-    static const char *const names[] = {
-        [IORING_OP_NOP] = "no-op",
-        [IORING_OP_READV] = "readv",
-        [IORING_OP_WRITEV] = "writev",
-        [IORING_OP_FSYNC] = "fsync",
-        [IORING_OP_SYNC_FILE_RANGE] = "sync_file_range",
-        [IORING_OP_TIMEOUT] = "timeout",
-        [IORING_OP_ASYNC_CANCEL] = "cancel",
-        [IORING_OP_FALLOCATE] = "fallocate",
-        [IORING_OP_OPENAT] = "openat",
-        [IORING_OP_CLOSE] = "close",
-        [IORING_OP_STATX] = "statx",
-        [IORING_OP_READ] = "read",
-        [IORING_OP_WRITE] = "write",
-        [IORING_OP_FADVISE] = "fadvise",
-        [IORING_OP_MADVISE] = "madvise",
-        [IORING_OP_OPENAT2] = "openat2",
-        [IORING_OP_RENAMEAT] = "renameat",
-        [IORING_OP_UNLINKAT] = "unlinkat",
-        [IORING_OP_MKDIRAT] = "mkdirat",
-        [IORING_OP_SYMLINKAT] = "symlinkat",
-        [IORING_OP_LINKAT] = "linkat",
-        [IORING_OP_REMOVE_BUFFERS] = "remove_buffers",
-    };
-    return code < sizeof names / sizeof *names && names[code] ? names[code] : "operation";
-}
-
-void print_operation(FILE *out, const struct request *request)
-{
-    const struct io_uring_sqe *entry = &request->entry;
-    fprintf(out, "%s", operation_name(entry->opcode));
-    if (request->mapping == REFUSED)
-        fprintf(out, " (code %u), refused", entry->opcode);
-    else if (is_transfer(request))
-        fprintf(out, " of %" PRIu64 " bytes at %" PRId64 ", descriptor %" PRId32, request->length, (int64_t)entry->off, entry->fd);
-    else if (entry->opcode == IORING_OP_FSYNC || entry->opcode == IORING_OP_CLOSE || entry->opcode == IORING_OP_FALLOCATE)
-        fprintf(out, " of descriptor %" PRId32, entry->fd);
-    else if (request->mapping == CANCEL)
-        fprintf(out, " of user data %" PRIu64, (uint64_t)entry->addr);
-    else if (request->path)
-        fprintf(out, " of %s", request->path);
-    fprintf(out, ", user data %" PRIu64, (uint64_t)entry->user_data);
 }

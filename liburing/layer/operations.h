@@ -14,16 +14,34 @@ enum { WOULD_WAIT = -512 };
 /* Whether an operation is served at all, as a probe asks. */
 bool is_served_code(uint8_t code);
 
-/* What the core is to be told of an entry. */
-enum mapping mapping_of(const struct io_uring_sqe *entry);
+/* What the core is to be told of an entry; `before` is the one before it in its call, or NULL. */
+enum mapping mapping_of(const struct io_uring_sqe *entry, const struct request *before);
+
+/* Whether an operation may take a provided buffer. */
+bool can_select(const struct io_uring_sqe *entry);
 
 /* Copies what the entry points to. An entry that points to what can't be read is refused. Returns 0 or -ENOMEM. */
 int copy_behind(struct request *request);
 
-/* Whether it is a transfer that may have to wait: on what has no offset, as a pipe or an eventfd, or on a device. */
+/* Finds out what a request is carried out on: its file, its buffer, and whether it may have to wait. */
+void assign(struct ring *ring, struct request *request);
+
+bool is_transfer(const struct request *request);
+bool is_splice(const struct request *request);
+
+/* Whether it may have to wait for a descriptor: a transfer on what has no offset, as a pipe or an eventfd, or on a device,
+ * a poll, a splice, or a call of sockets. */
 bool is_stream(const struct request *request);
 
-/* Whether a transfer on a stream wouldn't wait now. */
+/* Whether a request can end with more than one completion: a poll, an accept or a receive that goes on; and whether it does
+ * behind this result. */
+bool goes_on(const struct request *request);
+bool goes_on_behind(const struct request *request, int32_t res);
+
+/* Whether it doesn't wait whatever its descriptor is: it is asked not to, or for nothing. */
+bool is_impatient(const struct request *request);
+
+/* Whether one that may have to wait wouldn't wait now. */
 bool is_ready(const struct request *request);
 
 /* The descriptor to poll and the events to poll it for. */
@@ -33,7 +51,7 @@ struct pollfd poll_of(const struct request *request);
 bool can_have(const struct request *request, enum injection fault);
 
 /* Carries the operation out, and returns its result, or WOULD_WAIT. */
-int32_t carry_out(struct request *request, enum injection fault);
+int32_t carry_out(struct ring *ring, struct request *request, enum injection fault);
 
 /* Whether a result is a success, as links see it. */
 bool is_success(const struct request *request, int32_t res);

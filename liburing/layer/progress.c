@@ -4,15 +4,20 @@
  */
 #define _GNU_SOURCE
 #include "progress.h"
+#include "cancels.h"
+#include "extras.h"
 #include "fault.h"
 #include "injection.h"
 #include "operations.h"
 #include "outlook.h"
 #include "policy.h"
+#include "polls.h"
 #include "priorities.h"
+#include "readiness.h"
 #include "rules.h"
 #include "steps.h"
-#include "times.h"
+#include "streams.h"
+#include "timeouts.h"
 #include "trace.h"
 
 #include <errno.h>
@@ -23,19 +28,18 @@
  * failure's number is what `uring trace` gives for an fsync of a descriptor that no file has. */
 enum { TOLD_SUCCESS = 0, TOLD_FAILURE = -EBADF };
 
-bool is_timeout(const struct request *request)
-{
-    return request->entry.opcode == IORING_OP_TIMEOUT;
-}
-
 /* Whether a running request can be finished without waiting. */
-static bool can_finish(const struct request *request)
+static bool can_finish(struct ring *ring, struct request *request)
 {
     if (request->is_refused)
         return false;
     if (request->is_cancelled)
         return true;
-    return !is_timeout(request) && (!request->is_stream || is_ready(request));
+    if (is_timeout(request))
+        return has_counted(ring, request);
+    if (goes_on(request) && !can_post_extra(ring))
+        return false;
+    return !request->is_stream || is_found_ready(ring, request);
 }
 
 /* The core isn't to be asked for a request again before another has ended. */
@@ -69,7 +73,10 @@ static void end_of(struct ring *ring, struct request *request, int32_t res, int3
     if (told >= 0 && request->entry.flags & IOSQE_CQE_SKIP_SUCCESS)
         record_silent_end(ring, request);
     bool is_cancel = request->mapping == CANCEL;
-    note_end(ring, request->entry.user_data, res, told);
+    ring->posted += note_end(ring, request, res, told) && !is_timeout(request);
+    disarm_linked_timeout(ring, request);
+    if (request->file)
+        unwatch(ring, request->file->fd);
     ring->has_changed = true;
     ring->running -= request->state == RUNS;
     end_request(&ring->requests, request);
@@ -78,15 +85,40 @@ static void end_of(struct ring *ring, struct request *request, int32_t res, int3
 }
 
 /* A cancel found its request running. The kernel ends one that waits; here it ends so when it is next gone on with. */
-static void cancel_running(struct ring *ring, uint64_t target)
+static bool cancel_running(struct ring *ring, uint64_t target)
 {
     for (size_t i = 0; i < ring->requests.count; i++) {
         struct request *request = ring->requests.rows[i];
         if (request->state == RUNS && request->entry.user_data == target) {
-            request->is_cancelled = request->is_stream || is_timeout(request);
-            return;
+            if (is_cancellable(request))
+                cancel_request(request);
+            return request->is_cancelled;
         }
     }
+    return false;
+}
+
+/* What the application sees of a cancel that found its request running and waiting: a success, as the kernel's. The core
+ * calls it a failure: where a link or a skipped success stands on that, it is seen as one. */
+static int32_t shown_of_cancel(struct ring *ring, const struct request *cancel, int32_t res)
+{
+    bool is_found = res == -EALREADY && cancel_running(ring, cancel->entry.addr);
+    return is_found && !(cancel->entry.flags & (IOSQE_IO_LINK | IOSQE_IO_HARDLINK | IOSQE_CQE_SKIP_SUCCESS)) ? 0 : res;
+}
+
+/* What the application sees of a request that the core ends without letting it start. */
+static int32_t shown_of(struct ring *ring, const struct request *request, int32_t res)
+{
+    if (request->mapping == CANCEL)
+        return shown_of_cancel(ring, request, res);
+    if (request->mapping == REFUSED && res == -EINVAL)
+        return request->fault;
+    return request->has_fired && res == -ECANCELED ? -ETIME : res;
+}
+
+void end_extra(struct ring *ring, struct request *request, int32_t res)
+{
+    end_of(ring, request, res, TOLD_SUCCESS);
 }
 
 enum outcome { IS_REFUSED, IS_RUNNING, HAS_ENDED };
@@ -100,9 +132,16 @@ static enum outcome finish_running(struct ring *ring, struct request *request)
         if (request->entry.opcode != IORING_OP_NOP)
             show_ends(ring);
         hear(ring, false);
-        res = carry_out(request, injected(ring, request));
+        res = carry_out(ring, request, injected(ring, request));
+        if (request->entry.opcode != IORING_OP_NOP && !is_poll(request))
+            ring->moment++;
         if (res == WOULD_WAIT) {
             note_refusal(ring, request);
+            return IS_RUNNING;
+        }
+        /* One whose completion finds the ring full ends with it. */
+        if (goes_on_behind(request, res) && ring->completions.count < ring->memory.cq_entries) {
+            post_extra(ring, request->entry.user_data, res, request->flags | IORING_CQE_F_MORE);
             return IS_RUNNING;
         }
     }
@@ -117,8 +156,13 @@ static void start(struct ring *ring, struct request *request)
 {
     request->state = RUNS;
     ring->running++;
+    if (!request->is_assigned)
+        assign(ring, request);
     if (is_timeout(request))
-        request->expiry = add_times(ring->now, nanoseconds_of(request->time));
+        start_timeout(ring, request);
+    if (is_poll(request) && request->started == 0)
+        request->started = start_poll(request);
+    arm_linked_timeout(ring, request);
 }
 
 /* Issues a request that waits: it starts, or ends without being carried out, or the core refuses it. */
@@ -132,9 +176,7 @@ static enum outcome issue_waiting(struct ring *ring, struct request *request)
         note_refusal(ring, request);
         return IS_REFUSED;
     case WULGACH_ENDED:
-        if (request->mapping == CANCEL && res == -EALREADY)
-            cancel_running(ring, request->entry.addr);
-        end_of(ring, request, request->mapping == REFUSED && res == -EINVAL ? request->fault : res, res);
+        end_of(ring, request, shown_of(ring, request, res), res);
         return HAS_ENDED;
     default:
         demand(kind == WULGACH_RUN, "the core doesn't issue a request");
@@ -150,7 +192,7 @@ static enum outcome go_on_with(struct ring *ring, struct request *request)
         return finish_running(ring, request);
     enum outcome outcome = issue_waiting(ring, request);
     bool is_one_choice = policy() == IN_ORDER || policy() == LAZY || !is_choosing_events();
-    if (outcome == IS_RUNNING && is_one_choice && can_finish(request))
+    if (outcome == IS_RUNNING && is_one_choice && can_finish(ring, request))
         return finish_running(ring, request);
     return outcome;
 }
@@ -161,7 +203,7 @@ static struct request *first_in_order(struct ring *ring)
 {
     const struct requests *requests = &ring->requests;
     for (size_t i = 0; i < requests->count && ring->running > 0; i++)
-        if (requests->rows[i]->state == RUNS && can_finish(requests->rows[i]))
+        if (requests->rows[i]->state == RUNS && can_finish(ring, requests->rows[i]))
             return requests->rows[i];
     /* The least outstanding one runs or can be issued, so of one that waits the core needn't be asked. */
     if (requests->count > 0 && requests->rows[0]->state == WAITS)
@@ -173,13 +215,13 @@ static struct request *first_in_order(struct ring *ring)
 /* Lists what can be chosen: first what is first in order, then every other outstanding request, but one that waits for
  * a stream or for time. What the core has refused is listed too: so a choice has the same number, and the same way in
  * it the same place, whether or not others were tried before. */
-static uint32_t list_ways(const struct ring *ring, struct request *first, struct request **ways)
+static uint32_t list_ways(struct ring *ring, struct request *first, struct request **ways)
 {
     uint32_t count = 0;
     ways[count++] = first;
     for (size_t i = 0; i < ring->requests.count; i++) {
         struct request *request = ring->requests.rows[i];
-        if (request != first && (request->state == WAITS || can_finish(request)))
+        if (request != first && (request->state == WAITS || can_finish(ring, request)))
             ways[count++] = request;
     }
     return count;
@@ -279,6 +321,7 @@ static enum progress go_on_by_choice(struct ring *ring, struct request *first, b
 
 enum progress go_on(struct ring *ring, bool may_return)
 {
+    post_messages(ring);
     struct request *first = first_in_order(ring);
     if (!first)
         return STUCK;
@@ -291,6 +334,17 @@ enum progress go_on(struct ring *ring, bool may_return)
 bool can_go_on(struct ring *ring)
 {
     return first_in_order(ring) != NULL;
+}
+
+void end_cancelled(struct ring *ring)
+{
+    for (size_t i = 0; i < ring->requests.count;) {
+        struct request *request = ring->requests.rows[i];
+        if (request->state == RUNS && request->is_cancelled)
+            finish_running(ring, request);
+        else
+            i++;
+    }
 }
 
 void finish_timeout(struct ring *ring, struct request *timeout)

@@ -13,11 +13,14 @@ enum progress {
 /* Goes on by one choice. Returning is a choice only if `may_return`. */
 enum progress go_on(struct ring *ring, bool may_return);
 
-/* Whether a request is a timeout. It ends when time says so, and goes on by no choice. */
-bool is_timeout(const struct request *request);
-
 /* Whether a request can go on without waiting. */
 bool can_go_on(struct ring *ring);
+
+/* A no-op of the layer's own has ended on the core: the application sees this result. */
+void end_extra(struct ring *ring, struct request *request, int32_t res);
+
+/* Ends the running requests that were cancelled. */
+void end_cancelled(struct ring *ring);
 
 /* Ends a running timeout. */
 void finish_timeout(struct ring *ring, struct request *timeout);

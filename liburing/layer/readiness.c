@@ -59,32 +59,67 @@ bool is_polled_by(const struct ring *ring, int fd)
     return epoll_ctl(fd, EPOLL_CTL_MOD, ring->ready_fd, &event) == 0;
 }
 
-/* Lists the descriptors of the running requests that wait for streams, each once. */
-static size_t list_watched(const struct ring *ring, struct pollfd *watched)
+static int by_descriptor(const void *one, const void *other)
 {
-    size_t count = 0;
+    const struct watched *first = one, *second = other;
+    return (first->fd > second->fd) - (first->fd < second->fd);
+}
+
+/* Lists the descriptors of the running requests that wait for streams by rising number, each once. */
+static size_t list_watched(const struct ring *ring, struct watched *watched)
+{
+    size_t count = 0, kept = 0;
     for (size_t i = 0; i < ring->requests.count; i++) {
         const struct request *request = ring->requests.rows[i];
         if (request->state != RUNS || !request->is_stream)
             continue;
         struct pollfd polled = poll_of(request);
-        size_t at = 0;
-        while (at < count && watched[at].fd != polled.fd)
-            at++;
-        if (at == count)
-            watched[count++] = polled;
-        else
-            watched[at].events |= polled.events;
+        watched[count++] = (struct watched){.fd = polled.fd, .events = (uint16_t)polled.events, .number = request->number};
     }
-    return count;
+    qsort(watched, count, sizeof *watched, by_descriptor);
+    for (size_t i = 0; i < count; i++) {
+        if (kept == 0 || watched[kept - 1].fd != watched[i].fd) {
+            watched[kept++] = watched[i];
+        } else {
+            watched[kept - 1].events |= watched[i].events;
+            watched[kept - 1].number += watched[i].number;
+        }
+    }
+    return kept;
 }
 
-static void watch(int fd, int change, const struct pollfd *polled)
+static int watch(int fd, int change, const struct watched *watched)
 {
-    struct epoll_event event = {.events = polled->events & POLLOUT ? EPOLLOUT : 0};
-    if (polled->events & POLLIN)
-        event.events |= EPOLLIN;
-    epoll_ctl(fd, change, polled->fd, &event);
+    struct epoll_event event = {.events = watched->events};
+    return epoll_ctl(fd, change, watched->fd, &event);
+}
+
+/* Changes what is watched from one list to another. A number that others wait for may be another file's by now. */
+static void watch_changes(int fd, const struct watched *before, size_t before_count, const struct watched *after, size_t after_count)
+{
+    size_t i = 0, j = 0;
+    while (i < before_count || j < after_count) {
+        if (j == after_count || (i < before_count && before[i].fd < after[j].fd)) {
+            watch(fd, EPOLL_CTL_DEL, &before[i++]);
+        } else if (i == before_count || after[j].fd < before[i].fd) {
+            watch(fd, EPOLL_CTL_ADD, &after[j++]);
+        } else {
+            if ((before[i].events != after[j].events || before[i].number != after[j].number) && watch(fd, EPOLL_CTL_MOD, &after[j]) < 0)
+                watch(fd, EPOLL_CTL_ADD, &after[j]);
+            i++, j++;
+        }
+    }
+}
+
+/* An epoll instance keeps a descriptor that is closed while its file is open elsewhere. */
+void unwatch(struct ring *ring, int fd)
+{
+    struct watched key = {.fd = fd};
+    struct watched *watched = ring->watched_count ? bsearch(&key, ring->watched, ring->watched_count, sizeof key, by_descriptor) : NULL;
+    if (!watched)
+        return;
+    watch(ring->called_fd, EPOLL_CTL_DEL, watched);
+    watched->number = UINT64_MAX;
 }
 
 /* Puts the streams that are waited for in the place of those that were. If memory is refused, the next call tries. */
@@ -92,7 +127,7 @@ static void watch_streams(struct ring *ring, int fd)
 {
     if (ring->requests.count == 0 && ring->watched_count == 0)
         return;
-    struct pollfd *watched = calloc(ring->requests.count + 1, sizeof *watched);
+    struct watched *watched = calloc(ring->requests.count + 1, sizeof *watched);
     if (!watched)
         return;
     size_t count = list_watched(ring, watched);
@@ -100,10 +135,7 @@ static void watch_streams(struct ring *ring, int fd)
         free(watched);
         return;
     }
-    for (size_t i = 0; i < ring->watched_count; i++)
-        watch(fd, EPOLL_CTL_DEL, &ring->watched[i]);
-    for (size_t i = 0; i < count; i++)
-        watch(fd, EPOLL_CTL_ADD, &watched[i]);
+    watch_changes(fd, ring->watched, ring->watched_count, watched, count);
     free(ring->watched);
     ring->watched = watched;
     ring->watched_count = count;

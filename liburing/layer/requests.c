@@ -1,17 +1,21 @@
 /* The side table of requests: an array of pointers, by rising number. */
 #include "requests.h"
 #include "fault.h"
+#include "files.h"
 
 #include <stdlib.h>
 #include <string.h>
+#include <unistd.h>
 
 struct request *make_request(struct requests *requests)
 {
     struct request *request = requests->kept;
     if (!request)
-        return calloc(1, sizeof *request);
-    requests->kept = request->next;
-    *request = (struct request){0};
+        request = malloc(sizeof *request);
+    else
+        requests->kept = request->next;
+    if (request)
+        *request = (struct request){.epoll = -1, .looked_at = UINT64_MAX};
     return request;
 }
 
@@ -70,8 +74,13 @@ static void free_parts(const struct request *request)
     free(request->vectors);
     free(request->path);
     free(request->second_path);
+    free(request->value);
     free(request->how);
     free(request->time);
+    if (request->epoll >= 0)
+        close(request->epoll);
+    release_file(request->file);
+    release_file(request->second_file);
 }
 
 void end_request(struct requests *requests, struct request *request)

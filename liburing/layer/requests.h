@@ -17,17 +17,36 @@ struct request {
     struct io_uring_sqe entry;      /* as the application wrote it */
     enum mapping mapping;           /* what the core was told of it */
     enum state state;
+    uint64_t looked_at;             /* of one that may have to wait: the moment at which its descriptor was last looked at, */
+    bool is_found_ready;            /* and whether it was ready */
     bool is_refused;                /* not ready when it was last asked for, and nothing has ended since */
     int32_t fault;                  /* of a refused entry: what it ends with */
     bool is_linked;                 /* a link puts it behind the one before it */
     uint64_t chain;                 /* the number of its chain's first member: its own, if it is loose */
-    bool is_stream;                 /* a transfer that may have to wait: on what has no offset, or a device */
+    struct file *file;              /* the registered file that it is carried out on, if it is one */
+    int fd;                         /* the descriptor that it is carried out on */
+    struct file *second_file;       /* of a splice: where it reads */
+    int second_fd;
+    bool is_assigned;               /* these are known: when it is accepted, or, behind a link or a drain, when it starts */
+    bool is_stream;                 /* it may have to wait for a descriptor: a transfer on what has no offset or on a device, a poll, a call of sockets */
+    uint64_t wanted;                /* of one that takes a provided buffer: how many bytes at most, or 0 */
+    uint64_t done;                  /* the bytes that a transfer of sockets has moved so far */
+    int32_t started;                /* what its start found out: an error number that it ends with, or 0 */
+    uint32_t flags;                 /* those of its completion */
+    uint64_t token;                 /* the user data that the core has */
+    uint64_t call;                  /* the number of the call that submitted it */
     bool is_cancelled;              /* a cancel found it running */
-    int64_t expiry;                /* a timeout's, in virtual time */
+    bool is_armed;                  /* a linked timeout: the request before it has started */
+    bool has_fired;                 /* and was cancelled by it */
+    int64_t expiry;                 /* a timeout's, in virtual time */
+    uint64_t enough;                /* of a timeout with a count: how many completions the ring has posted by then */
+    int epoll;                      /* what tells of the events of a poll that goes on; or negative */
     /* What the entry points to, copied when it is submitted: the application may reuse it at once. */
     struct iovec *vectors;
+    uint32_t vector_count;
     uint64_t length;                /* the bytes of a transfer's vectors */
     char *path, *second_path;
+    void *value;                    /* of an extended attribute, an address, or a message */
     struct open_how *how;
     struct __kernel_timespec *time;
     struct request *next;           /* of those that are kept */

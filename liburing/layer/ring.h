@@ -4,9 +4,13 @@
 #ifndef RING_H
 #define RING_H
 
+#include "buffers.h"
 #include "completions.h"
+#include "extras.h"
+#include "files.h"
 #include "memory.h"
 #include "requests.h"
+#include "restrictions.h"
 #include "wulgach.h"
 
 #include <linux/io_uring.h>
@@ -15,6 +19,13 @@
 #include <stdbool.h>
 #include <stdio.h>
 #include <sys/types.h>
+
+/* A descriptor that a ring's descriptor polls for, and the sum of the numbers of the requests that wait for it. */
+struct watched {
+    int fd;
+    uint32_t events;
+    uint64_t number;
+};
 
 struct ring {
     struct ring *next;                  /* the rings of this process, the newest first */
@@ -25,7 +36,7 @@ struct ring {
     int called_fd;                      /* the one of the last call */
     int ready_fd;                       /* an eventfd, if the descriptor polls; or negative: the descriptor is memory */
     bool is_readable;                   /* the eventfd is set */
-    struct pollfd *watched;             /* the streams that the descriptor polls for */
+    struct watched *watched;            /* the streams that the descriptor polls for */
     size_t watched_count;
     uint32_t index;                     /* its number among the process's rings, from 0 */
     uint32_t flags;                     /* IORING_SETUP_.. */
@@ -36,12 +47,25 @@ struct ring {
     struct memory memory;
     struct wulgach_core core;
     struct requests requests;           /* accepted and not ended */
+    uint64_t moment;                    /* counts what can make a descriptor ready: within one, each is looked at once */
     size_t running;                     /* how many of them were started */
     bool has_refusals;                  /* one of them may be remembered as refused */
     struct requests staged;             /* staged and not accepted; a word that names no slot has an empty place */
     struct request **ways;              /* room for the ways of a choice: as many as there are requests */
     size_t ways_room;
     uint32_t returns;                   /* how often in a row the choice was to return */
+    uint64_t posted;                    /* how many completions a timeout with a count has counted so far */
+    struct files files;                 /* registered */
+    struct buffers buffers;
+    struct group *groups;               /* of provided buffers */
+    struct inbox inbox;
+    uint32_t own_positions;             /* how many positions of the core's submission ring were the layer's own */
+    int eventfd;                        /* registered: one of the layer's own; or negative */
+    bool is_eventfd_async;              /* it is told only of what ends behind the call that submitted it */
+    uint64_t call_number;               /* how many calls of enter were made */
+    pid_t issuer;                       /* of SINGLE_ISSUER: the one thread that may call, or 0 */
+    bool is_disabled;                   /* until it is enabled */
+    struct restrictions restrictions;
     uint64_t accepted;                  /* how many requests were accepted so far */
     struct completions completions;     /* posted and not reaped */
     int64_t now;                        /* virtual time in nanoseconds */

@@ -4,6 +4,8 @@
 #include "copying.h"
 #include "descriptors.h"
 #include "enter.h"
+#include "eventfds.h"
+#include "groups.h"
 #include "injection.h"
 #include "policy.h"
 #include "readiness.h"
@@ -12,24 +14,29 @@
 #include "trace.h"
 
 #include <errno.h>
+#include <fcntl.h>
 #include <stdlib.h>
 #include <string.h>
 #include <sys/mman.h>
 #include <sys/stat.h>
+#include <sys/sysinfo.h>
 #include <unistd.h>
 
 enum { MOST_SQ_ENTRIES = 4096, MOST_CQ_ENTRIES = 8192 };
 
-/* IOPOLL, COOP_TASKRUN, TASKRUN_FLAG and SINGLE_ISSUER change nothing. */
+/* SQPOLL: the thread that takes entries sleeps whenever the application looks, and so a submission wakes it by a call,
+ * in which they are taken. ATTACH_WQ, SQ_AFF, IOPOLL, COOP_TASKRUN, TASKRUN_FLAG, DEFER_TASKRUN and SINGLE_ISSUER change nothing. */
 enum {
     SERVED_SETUP = IORING_SETUP_IOPOLL | IORING_SETUP_CQSIZE | IORING_SETUP_CLAMP | IORING_SETUP_SUBMIT_ALL |
-                   IORING_SETUP_COOP_TASKRUN | IORING_SETUP_TASKRUN_FLAG | IORING_SETUP_SINGLE_ISSUER
+                   IORING_SETUP_COOP_TASKRUN | IORING_SETUP_TASKRUN_FLAG | IORING_SETUP_SINGLE_ISSUER |
+                   IORING_SETUP_DEFER_TASKRUN | IORING_SETUP_R_DISABLED | IORING_SETUP_SQE128 | IORING_SETUP_CQE32 |
+                   IORING_SETUP_SQPOLL | IORING_SETUP_SQ_AFF | IORING_SETUP_ATTACH_WQ
 };
 
 enum {
     FEATURES = IORING_FEAT_NODROP | IORING_FEAT_SUBMIT_STABLE | IORING_FEAT_RW_CUR_POS | IORING_FEAT_CUR_PERSONALITY |
                IORING_FEAT_FAST_POLL | IORING_FEAT_EXT_ARG | IORING_FEAT_NATIVE_WORKERS | IORING_FEAT_CQE_SKIP |
-               IORING_FEAT_LINKED_FILE
+               IORING_FEAT_LINKED_FILE | IORING_FEAT_SQPOLL_NONFIXED
 };
 
 static uint32_t round_up(uint32_t size)
@@ -48,6 +55,11 @@ void free_ring(struct ring *ring)
     free_completions(&ring->completions);
     free_memory(&ring->memory);
     free_polled(ring);
+    unregister_files(ring);
+    unregister_buffers(ring);
+    free_groups(ring);
+    free_inbox(&ring->inbox);
+    unregister_eventfd(ring, 0, 0);
     free(ring->ways);
     close_trace(ring);
     pthread_mutex_destroy(&ring->lock);
@@ -66,6 +78,15 @@ static int read_sizes(struct wulgach_setup *setup, uint32_t entries, const struc
     for (size_t i = 0; i < sizeof params->resv / sizeof *params->resv; i++)
         if (params->resv[i])
             return -EINVAL;
+    bool is_deferred = params->flags & IORING_SETUP_DEFER_TASKRUN, has_thread = params->flags & IORING_SETUP_SQPOLL;
+    if (is_deferred && (has_thread || !(params->flags & IORING_SETUP_SINGLE_ISSUER)))
+        return -EINVAL;
+    if (has_thread ? params->flags & (IORING_SETUP_COOP_TASKRUN | IORING_SETUP_TASKRUN_FLAG) : params->flags & IORING_SETUP_SQ_AFF)
+        return -EINVAL;
+    if (has_thread && params->flags & IORING_SETUP_SQ_AFF && params->sq_thread_cpu >= (uint32_t)get_nprocs_conf())
+        return -EINVAL;
+    if (params->flags & IORING_SETUP_ATTACH_WQ && !is_ring((int)params->wq_fd))
+        return fcntl((int)params->wq_fd, F_GETFD) < 0 ? -EBADF : -EINVAL;
     return params->flags & ~(uint32_t)SERVED_SETUP ? -EINVAL : 0;
 }
 
@@ -103,7 +124,10 @@ static int make_ring(struct ring **made, uint32_t entries, struct io_uring_param
     if (!ring)
         return -ENOMEM;
     pthread_mutex_init(&ring->lock, NULL);
+    pthread_mutex_init(&ring->inbox.lock, NULL);
     ring->ready_fd = -1;
+    ring->eventfd = -1;
+    ring->is_disabled = params->flags & IORING_SETUP_R_DISABLED;
     ring->fd = fill_ring(ring, &sizes, params, is_polled);
     if (ring->fd < 0) {
         result = ring->fd;
@@ -112,7 +136,9 @@ static int make_ring(struct ring **made, uint32_t entries, struct io_uring_param
     }
     ring->process = getpid();
     ring->flags = params->flags;
+    note_issuer(ring);
     params->features = FEATURES;
+    show(ring);
     *made = ring;
     return 0;
 }

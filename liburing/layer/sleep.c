@@ -95,6 +95,7 @@ int sleep_until(struct ring *ring, int64_t until, const sigset_t *signals)
     leave(ring, &self);
     free(polled);
     add_slept(ring, start);
+    ring->moment++;
     if (result == 0 && !is_nap && ring->now < until)
         ring->now = until;
     return result < 0 ? result : 0;

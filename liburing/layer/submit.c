@@ -13,15 +13,27 @@
 #include <errno.h>
 #include <stdlib.h>
 
+static void refuse_entry(struct request *request, int32_t fault)
+{
+    request->mapping = REFUSED;
+    request->fault = fault;
+}
+
 /* Reads the entry of a slot. NULL if memory was refused. */
 static struct request *read_entry(struct ring *ring, uint32_t slot)
 {
     struct request *request = make_request(&ring->requests);
     if (!request)
         return NULL;
-    request->entry = ring->memory.entries[slot];
-    request->mapping = mapping_of(&request->entry);
-    if (copy_behind(request) == 0)
+    request->entry = *entry_at(&ring->memory, slot);
+    request->token = request->entry.user_data;
+    request->call = ring->call_number;
+    request->mapping = mapping_of(&request->entry, ring->staged.count > 0 ? ring->staged.rows[ring->staged.count - 1] : NULL);
+    if (!allows_entry(ring, &request->entry))
+        refuse_entry(request, -EACCES);
+    else if (request->entry.flags & IOSQE_BUFFER_SELECT && is_served_code(request->entry.opcode) && !can_select(&request->entry))
+        refuse_entry(request, -EOPNOTSUPP);
+    if (request->fault < 0 || copy_behind(request) == 0)
         return request;
     free_request(request);
     return NULL;
@@ -54,7 +66,7 @@ static bool stage(struct ring *ring, uint32_t word, struct request **row)
 static bool stage_up_to(struct ring *ring, uint32_t count)
 {
     struct memory *memory = &ring->memory;
-    uint32_t head = load_head(ring);
+    uint32_t head = load_head(ring) - ring->own_positions;
     for (uint32_t i = (uint32_t)ring->staged.count; i < count; i++) {
         uint32_t word = load_word(&memory->array[(head + i) & (memory->sq_entries - 1)]);
         struct request *row;
@@ -78,7 +90,8 @@ static void accept_one(struct ring *ring, struct request *request, const struct 
     request->number = ring->accepted++;
     request->is_linked = before && before->entry.flags & (IOSQE_IO_LINK | IOSQE_IO_HARDLINK);
     request->chain = request->is_linked ? before->chain : request->number;
-    request->is_stream = request->mapping == TOKEN && is_stream(request);
+    if (!request->is_linked && !(request->entry.flags & IOSQE_IO_DRAIN))
+        assign(ring, request);
     add_request(&ring->requests, request);
 }
 
@@ -97,7 +110,7 @@ static int take_staged(struct ring *ring)
     demand(answer.word == ring->accepted - accepted, "the core accepts another number of requests");
     note_accepted(ring, accepted);
     store_word(&ring->memory.sq->dropped, answer.dropped);
-    store_word(&ring->memory.sq->head, answer.head);
+    store_word(&ring->memory.sq->head, answer.head - ring->own_positions);
     for (size_t i = ring->requests.count - answer.word; i < ring->requests.count; i++) {
         trace_request(ring, ring->requests.rows[i]);
         record_accepted(ring, ring->requests.rows[i]);
@@ -105,8 +118,7 @@ static int take_staged(struct ring *ring)
     return (int)answer.word;
 }
 
-/* Makes room for this many more requests in all that grows with them, so that nothing behind the call has to fail. */
-static bool reserve_all(struct ring *ring, uint32_t count)
+bool reserve_all(struct ring *ring, uint32_t count)
 {
     if (!reserve_requests(&ring->staged, count) || !reserve_requests(&ring->requests, count) || !reserve_completions(&ring->completions, ring->requests.count + count))
         return false;

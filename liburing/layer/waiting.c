@@ -3,6 +3,7 @@
 #include "waiting.h"
 #include "progress.h"
 #include "sleep.h"
+#include "timeouts.h"
 
 #include <errno.h>
 
@@ -12,7 +13,8 @@ static struct request *next_timeout(const struct ring *ring)
     struct request *next = NULL;
     for (size_t i = 0; i < ring->requests.count; i++) {
         struct request *request = ring->requests.rows[i];
-        if (request->state == RUNS && is_timeout(request) && (!next || request->expiry < next->expiry))
+        bool is_running = is_linked_timeout(request) ? request->is_armed : is_timeout(request) && request->state == RUNS;
+        if (is_running && (!next || request->expiry < next->expiry))
             next = request;
     }
     return next;
@@ -27,7 +29,10 @@ static void move_time(struct ring *ring, int64_t time)
 static void fire(struct ring *ring, struct request *timeout)
 {
     move_time(ring, timeout->expiry);
-    finish_timeout(ring, timeout);
+    if (is_linked_timeout(timeout))
+        fire_linked_timeout(ring, timeout);
+    else
+        finish_timeout(ring, timeout);
 }
 
 /* Whether a transfer on a stream waits. */

@@ -39,11 +39,12 @@ void say(const char *message, const char *of)
     (void)written;
 }
 
-/* A ring that polls its submissions in the kernel may be filled without any call, which nobody here would see. */
+/* A ring whose submissions a thread of the kernel polls may be filled without any call, which nobody here would see: it is
+ * told that the thread sleeps. */
 static void tell_of_setup(const struct io_uring_params *params, long result)
 {
-    if (result == -EINVAL && params && params->flags & IORING_SETUP_SQPOLL)
-        say("a ring with SQPOLL was asked for, which isn't served: the call ends with -22", "");
+    if (result >= 0 && params && params->flags & IORING_SETUP_SQPOLL)
+        say("a ring with SQPOLL was asked for: its entries are taken in calls alone, and a program that only looks at memory waits for ever", "");
 }
 
 static void answer(int number, siginfo_t *info, void *context)

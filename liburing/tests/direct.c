@@ -21,10 +21,10 @@ static bool is_at_rest(const struct ring *ring)
 
 static void test_setup(void)
 {
-    struct io_uring_params none = {0}, sqpoll = {.flags = IORING_SETUP_SQPOLL}, small = {.flags = IORING_SETUP_CQSIZE, .cq_entries = 4}, reserved = {.resv = {0, 1}};
+    struct io_uring_params none = {0}, apart = {.flags = IORING_SETUP_SQ_AFF}, small = {.flags = IORING_SETUP_CQSIZE, .cq_entries = 4}, reserved = {.resv = {0, 1}};
     check(set_up(0, &none) == -EINVAL);
     check(set_up(4097, &none) == -EINVAL);
-    check(set_up(8, &sqpoll) == -EINVAL);
+    check(set_up(8, &apart) == -EINVAL);
     check(set_up(8, &small) == -EINVAL);
     check(set_up(8, &reserved) == -EINVAL);
     check(set_up(8, NULL) == -EFAULT);
@@ -58,7 +58,7 @@ static void test_calls(void)
     check(register_at(ring.fd, IORING_REGISTER_BUFFERS, NULL, 0) == -EINVAL);
     struct io_uring_probe *probe = calloc(1, sizeof *probe + 256 * sizeof *probe->ops);
     check(register_at(ring.fd, IORING_REGISTER_PROBE, probe, 256) == 0);
-    check(probe->ops[IORING_OP_READ].flags == IO_URING_OP_SUPPORTED && probe->ops[IORING_OP_SENDMSG].flags == 0);
+    check(probe->ops[IORING_OP_READ].flags == IO_URING_OP_SUPPORTED && probe->ops[IORING_OP_SENDMSG].flags == IO_URING_OP_SUPPORTED && probe->ops[IORING_OP_URING_CMD].flags == 0);
     check(register_at(ring.fd, IORING_REGISTER_PROBE, probe, 256) == -EINVAL);
     free(probe);
     check(wulgach_syscall(SYS_getpid) == getpid());
@@ -114,7 +114,7 @@ static void test_faulty(void)
     int32_t results[4];
     make_ring(&ring, 4, 0, 0);
     put(&ring, IORING_OP_NOP, 0, 0);
-    put(&ring, IORING_OP_SENDMSG, 1, 0);
+    put(&ring, IORING_OP_URING_CMD, 1, 0);
     put(&ring, IORING_OP_NOP, 2, 0);
     check(enter(&ring, 3, 0, 0) == 2);
     check(enter(&ring, 1, 0, 0) == 1);
@@ -123,7 +123,7 @@ static void test_faulty(void)
     close_ring(&ring);
     make_ring(&ring, 4, 0, IORING_SETUP_SUBMIT_ALL);
     put(&ring, IORING_OP_NOP, 0, IOSQE_IO_LINK);
-    put(&ring, IORING_OP_NOP, 1, IOSQE_FIXED_FILE);
+    put(&ring, IORING_OP_NOP, 1, 128);
     put(&ring, IORING_OP_NOP, 2, 0);
     check(enter(&ring, 3, 0, 0) == 3);
     reap_all(&ring, 3, results);
@@ -140,7 +140,7 @@ static void test_faulty_link(void)
         int32_t results[3];
         make_ring(&ring, 4, 0, 0);
         put(&ring, IORING_OP_NOP, 0, 0);
-        put(&ring, IORING_OP_SENDMSG, 1, links[i]);
+        put(&ring, IORING_OP_URING_CMD, 1, links[i]);
         put(&ring, IORING_OP_NOP, 2, 0);
         check(enter(&ring, 3, 0, 0) == 3);
         reap_all(&ring, 3, results);
@@ -320,7 +320,16 @@ static void test_waiting(void)
     put(&ring, IORING_OP_ASYNC_CANCEL, 2, IOSQE_IO_DRAIN)->addr = 99;
     check(enter(&ring, 2, 0, 0) == 2);
     reap_all(&ring, 3, results);
-    check(results[0] == -ECANCELED && results[1] == -EALREADY && results[2] == -ENOENT);
+    check(results[0] == -ECANCELED && results[1] == 0 && results[2] == -ENOENT);
+    /* To a link it is a failure. */
+    put_transfer(&ring, IORING_OP_READ, 0, 0, ends[0], text, 4, 0);
+    check(enter(&ring, 1, 0, 0) == 1);
+    check(enter_for(&ring, 1, 1000) == -ETIME);
+    put(&ring, IORING_OP_ASYNC_CANCEL, 1, IOSQE_IO_LINK);
+    put(&ring, IORING_OP_NOP, 2, 0);
+    check(enter(&ring, 2, 0, 0) == 2);
+    reap_all(&ring, 3, results);
+    check(results[0] == -ECANCELED && results[1] == -EALREADY && results[2] == -ECANCELED);
     close(ends[0]);
     close(ends[1]);
     close_ring(&ring);

@@ -223,13 +223,19 @@ static void cancel(struct model *model, const struct request *cancel, int32_t re
         wrong(model, "cancel %u ends with %" PRId32 ", and %s", cancel->index, res, target ? "has a target" : "has no target");
     bool is_closed = target->action->object == PIPE_IN && model->things->is_fed_out;
     bool is_waiting_kind = (is_stream(target) && !is_closed) || is_timeout(target);
+    /* One that runs and waits is seen as a success, unless a link or a skipped success stands on the core's answer. */
+    bool is_shown = is_waiting_kind && !(cancel->action->flags & (IOSQE_IO_LINK | IOSQE_IO_HARDLINK | IOSQE_CQE_SKIP_SUCCESS));
+    /* In order, all that comes before and may start has been started. */
+    bool has_started = is_in_order(model) && target < cancel && can_start(model, target);
+    if (res == 0 && has_started && !is_shown)
+        wrong(model, "cancel %u finds entry %u before it was started", cancel->index, target->index);
     if (res == 0) {
-        /* In order, all that comes before and may start has been started. */
-        if (is_in_order(model) && target < cancel && can_start(model, target))
-            wrong(model, "cancel %u finds entry %u before it was started", cancel->index, target->index);
-        target->is_doomed = true;
+        target->is_doomed = !has_started;
+        target->is_cancelled = has_started;
         return;
     }
+    if (is_shown)
+        wrong(model, "cancel %u ends with %" PRId32 ", and entry %u waits", cancel->index, res, target->index);
     force_before(model, target);
     if (is_in_order(model) && (!is_waiting_kind || target > cancel))
         wrong(model, "cancel %u finds entry %u running", cancel->index, target->index);

@@ -1,0 +1,170 @@
+/* The core knows one cancel, by user data. All others are no-ops to it, and looked for here: a request that runs, or that
+ * the core would let start, is marked, and ends with -125 when it is next gone on with. As in the kernel, one that waits
+ * behind a link or a drain isn't found.
+ */
+#define _GNU_SOURCE
+#include "cancels.h"
+#include "files.h"
+#include "polls.h"
+#include "ring.h"
+#include "steps.h"
+#include "timeouts.h"
+
+#include <errno.h>
+#include <fcntl.h>
+
+enum {
+    BY_FD = IORING_ASYNC_CANCEL_FD | IORING_ASYNC_CANCEL_FD_FIXED,
+    SERVED_CANCEL = IORING_ASYNC_CANCEL_ALL | IORING_ASYNC_CANCEL_ANY | BY_FD
+};
+
+bool is_well_formed_cancel(const struct io_uring_sqe *entry)
+{
+    uint32_t flags = entry->cancel_flags;
+    if (entry->ioprio || entry->off || entry->len || entry->splice_fd_in || flags & ~(uint32_t)SERVED_CANCEL)
+        return false;
+    return !(flags & IORING_ASYNC_CANCEL_FD && flags & IORING_ASYNC_CANCEL_ANY);
+}
+
+bool is_plain_cancel(const struct io_uring_sqe *entry)
+{
+    return entry->opcode == IORING_OP_ASYNC_CANCEL && !entry->cancel_flags;
+}
+
+bool is_well_formed_timeout_removal(const struct io_uring_sqe *entry)
+{
+    enum { UPDATES = IORING_TIMEOUT_UPDATE | IORING_LINK_TIMEOUT_UPDATE };
+    uint32_t flags = entry->timeout_flags;
+    if (entry->ioprio || entry->buf_index || entry->len || entry->splice_fd_in)
+        return false;
+    return flags & UPDATES ? !(flags & ~(uint32_t)(UPDATES | IORING_TIMEOUT_ABS | IORING_TIMEOUT_CLOCK_MASK)) : flags == 0;
+}
+
+bool is_cancellable(const struct request *request)
+{
+    return request->is_stream || request->entry.opcode == IORING_OP_TIMEOUT;
+}
+
+void cancel_request(struct request *request)
+{
+    request->is_cancelled = true;
+    request->is_refused = false;
+}
+
+/* Whether a request can be found at all. */
+static bool can_be_found(struct ring *ring, const struct request *request)
+{
+    if (request->mapping != TOKEN || request->is_cancelled)
+        return false;
+    return request->state == RUNS ? is_cancellable(request) : can_issue(ring, request->number);
+}
+
+struct key {
+    uint64_t user_data;
+    uint32_t flags;
+    int fd;
+    const struct file *file;
+};
+
+static bool fits(const struct key *key, const struct request *request)
+{
+    if (key->flags & IORING_ASYNC_CANCEL_ANY)
+        return true;
+    if (!(key->flags & IORING_ASYNC_CANCEL_FD))
+        return request->entry.user_data == key->user_data;
+    bool is_registered = request->entry.flags & IOSQE_FIXED_FILE;
+    return key->file ? is_registered && request->file == key->file : !is_registered && request->is_assigned && request->entry.fd == key->fd;
+}
+
+/* Cancels what fits: all of them, or the oldest. Returns how many there were. */
+static int32_t cancel_all(struct ring *ring, const struct key *key, const struct request *canceller)
+{
+    int32_t count = 0;
+    bool is_one = !(key->flags & (IORING_ASYNC_CANCEL_ALL | IORING_ASYNC_CANCEL_ANY));
+    for (size_t i = 0; i < ring->requests.count && !(is_one && count > 0); i++) {
+        struct request *request = ring->requests.rows[i];
+        if (request != canceller && fits(key, request) && can_be_found(ring, request)) {
+            cancel_request(request);
+            count++;
+        }
+    }
+    return is_one ? (count > 0 ? 0 : -ENOENT) : count;
+}
+
+static int32_t cancel_by(struct ring *ring, const struct request *canceller)
+{
+    const struct io_uring_sqe *entry = &canceller->entry;
+    struct key key = {.user_data = entry->addr, .flags = entry->cancel_flags, .fd = entry->fd};
+    struct file *file = NULL;
+    if (key.flags & IORING_ASYNC_CANCEL_FD) {
+        bool is_fixed = key.flags & IORING_ASYNC_CANCEL_FD_FIXED || entry->flags & IOSQE_FIXED_FILE;
+        file = is_fixed ? use_file(ring, (uint32_t)entry->fd) : NULL;
+        if (is_fixed ? !file : fcntl(entry->fd, F_GETFD) < 0)
+            return -EBADF;
+        key.file = file;
+    }
+    int32_t res = cancel_all(ring, &key, canceller);
+    release_file(file);
+    return res;
+}
+
+/* The oldest request of an operation and a user data that can be found. */
+static struct request *find_request(struct ring *ring, uint8_t code, uint64_t user_data)
+{
+    for (size_t i = 0; i < ring->requests.count; i++) {
+        struct request *request = ring->requests.rows[i];
+        if (request->entry.opcode == code && request->entry.user_data == user_data && can_be_found(ring, request))
+            return request;
+    }
+    return NULL;
+}
+
+static int32_t change_poll(struct request *poll, const struct io_uring_sqe *change)
+{
+    if (change->len & IORING_POLL_UPDATE_EVENTS) {
+        poll->entry.poll32_events = change->poll32_events;
+        poll->entry.len = change->len & IORING_POLL_ADD_MULTI;
+    }
+    if (change->len & IORING_POLL_UPDATE_USER_DATA)
+        poll->entry.user_data = change->off;
+    poll->is_refused = false;
+    return poll->state == RUNS ? start_poll(poll) : 0;
+}
+
+static int32_t remove_poll(struct ring *ring, const struct io_uring_sqe *removal)
+{
+    struct request *poll = find_request(ring, IORING_OP_POLL_ADD, removal->addr);
+    if (!poll)
+        return -ENOENT;
+    if (removal->len & (IORING_POLL_UPDATE_EVENTS | IORING_POLL_UPDATE_USER_DATA))
+        return change_poll(poll, removal);
+    cancel_request(poll);
+    return 0;
+}
+
+static int32_t remove_timeout(struct ring *ring, const struct request *removal)
+{
+    const struct io_uring_sqe *entry = &removal->entry;
+    if (entry->timeout_flags & IORING_LINK_TIMEOUT_UPDATE)
+        return change_linked_timeout(ring, removal);
+    struct request *timeout = find_request(ring, IORING_OP_TIMEOUT, entry->addr);
+    if (!timeout)
+        return -ENOENT;
+    if (!(entry->timeout_flags & IORING_TIMEOUT_UPDATE)) {
+        cancel_request(timeout);
+        return 0;
+    }
+    return change_timeout(ring, timeout, removal);
+}
+
+int32_t act_on_others(struct ring *ring, const struct request *request)
+{
+    switch (request->entry.opcode) {
+    case IORING_OP_POLL_REMOVE:
+        return remove_poll(ring, &request->entry);
+    case IORING_OP_TIMEOUT_REMOVE:
+        return remove_timeout(ring, request);
+    default:
+        return cancel_by(ring, request);
+    }
+}

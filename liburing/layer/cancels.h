@@ -1,0 +1,25 @@
+/* Requests that act on others: cancels by more than user data, removals and changes of polls and timeouts. */
+#ifndef CANCELS_H
+#define CANCELS_H
+
+#include "requests.h"
+
+struct ring;
+
+/* Whether an entry is one that the kernel takes. */
+bool is_well_formed_cancel(const struct io_uring_sqe *entry);
+bool is_well_formed_timeout_removal(const struct io_uring_sqe *entry);
+
+/* The core's own cancel: it has no flags. */
+bool is_plain_cancel(const struct io_uring_sqe *entry);
+
+/* Whether a running request ends if it is cancelled: else it doesn't wait for anything. */
+bool is_cancellable(const struct request *request);
+
+/* A cancel found this request running. It ends when it is next gone on with. */
+void cancel_request(struct request *request);
+
+/* Carries out a cancel, a removal of a poll or one of a timeout. */
+int32_t act_on_others(struct ring *ring, const struct request *request);
+
+#endif

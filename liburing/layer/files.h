@@ -1,0 +1,47 @@
+/* Registered files: a table of descriptors of the layer's own, by index. */
+#ifndef FILES_H
+#define FILES_H
+
+#include <stdbool.h>
+#include <stdint.h>
+
+/* A registered file. It is closed once no slot and no request has it. */
+struct file {
+    int fd;
+    uint32_t uses;
+};
+
+struct files {
+    struct file **slots;            /* NULL: there is no table. An empty slot is NULL */
+    uint32_t count;
+    uint32_t from, end;             /* the slots that are taken for a file that asks for any, */
+    uint32_t next;                  /* and where the search begins */
+};
+
+struct ring;
+
+/* The calls of io_uring_register(2). Each returns 0 or the number of files updated, or the negative of an error number. */
+int register_files(struct ring *ring, uint64_t fds, uint32_t count);
+int register_no_files(struct ring *ring, uint32_t count);
+int unregister_files(struct ring *ring);
+int update_files(struct ring *ring, uint32_t offset, uint64_t fds, uint32_t count);
+int register_range(struct ring *ring, uint64_t range, uint32_t count);
+
+/* Puts each of these descriptors into a slot that is free, and tells which ones in their place. */
+int place_files(struct ring *ring, uint64_t fds, uint32_t count);
+
+/* Takes a descriptor over as a registered file: slot + 1, or IORING_FILE_INDEX_ALLOC. Returns 0, or the slot if any was
+ * asked for, or the negative of an error number: then the descriptor is closed. */
+int install_file(struct ring *ring, int fd, uint32_t file_index);
+int remove_file(struct ring *ring, uint32_t slot);
+
+/* The file of an index, one use more; NULL if there is none. */
+struct file *use_file(struct ring *ring, uint32_t index);
+
+/* A file of a descriptor that stays the application's; NULL if there is none to be had. */
+struct file *hold_file(int fd);
+
+/* One use less. Nothing, of NULL. */
+void release_file(struct file *file);
+
+#endif

@@ -1,0 +1,66 @@
+/* A poll that goes on tells of each event once: so the kernel is asked by an epoll instance, which tells of edges. One that
+ * ends with its first event asks the descriptor itself.
+ */
+#define _GNU_SOURCE
+#include "polls.h"
+#include "operations.h"
+
+#include <errno.h>
+#include <sys/epoll.h>
+#include <unistd.h>
+
+bool is_poll(const struct request *request)
+{
+    return request->entry.opcode == IORING_OP_POLL_ADD;
+}
+
+bool is_well_formed_poll(const struct io_uring_sqe *entry)
+{
+    return !entry->ioprio && !entry->buf_index && !entry->off && !entry->addr && !(entry->len & ~IORING_POLL_ADD_MULTI) &&
+           !(entry->len & IORING_POLL_ADD_MULTI && entry->flags & IOSQE_CQE_SKIP_SUCCESS);
+}
+
+bool is_well_formed_removal(const struct io_uring_sqe *entry)
+{
+    enum { UPDATES = IORING_POLL_UPDATE_EVENTS | IORING_POLL_UPDATE_USER_DATA };
+    uint32_t asked = entry->len;
+    if (entry->ioprio || entry->buf_index || entry->splice_fd_in || asked & ~(uint32_t)(UPDATES | IORING_POLL_ADD_MULTI) || asked == IORING_POLL_ADD_MULTI)
+        return false;
+    return (asked & IORING_POLL_UPDATE_USER_DATA || !entry->off) && (asked & IORING_POLL_UPDATE_EVENTS || !entry->poll32_events);
+}
+
+static short events_of(const struct request *request)
+{
+    return (short)request->entry.poll32_events;
+}
+
+int start_poll(struct request *request)
+{
+    struct epoll_event event = {.events = (uint16_t)events_of(request) | EPOLLET};
+    if (!goes_on(request))
+        return 0;
+    if (request->epoll >= 0)
+        close(request->epoll);
+    request->epoll = epoll_create1(EPOLL_CLOEXEC);
+    if (request->epoll < 0)
+        return -errno;
+    return epoll_ctl(request->epoll, EPOLL_CTL_ADD, request->fd, &event) < 0 ? -errno : 0;
+}
+
+struct pollfd poll_of_poll(const struct request *request)
+{
+    if (request->epoll >= 0)
+        return (struct pollfd){.fd = request->epoll, .events = POLLIN};
+    return (struct pollfd){.fd = request->fd, .events = events_of(request)};
+}
+
+int32_t take_events(struct request *request)
+{
+    struct epoll_event event;
+    struct pollfd at = {.fd = request->fd, .events = events_of(request)};
+    if (request->epoll >= 0)
+        return epoll_wait(request->epoll, &event, 1, 0) == 1 ? (int32_t)(event.events & 0xffff) : WOULD_WAIT;
+    if (poll(&at, 1, 0) == 0)
+        return WOULD_WAIT;
+    return at.revents & POLLNVAL ? -EBADF : at.revents;
+}

@@ -1,0 +1,29 @@
+/* What a ring that was made disabled lets its application do, once it is enabled. */
+#ifndef RESTRICTIONS_H
+#define RESTRICTIONS_H
+
+#include <linux/io_uring.h>
+#include <stdbool.h>
+#include <stdint.h>
+
+struct restrictions {
+    bool are_registered;
+    uint64_t codes, calls;          /* a bit for each operation, and for each code of io_uring_register(2) */
+    uint8_t allowed, required;      /* flags of entries */
+};
+
+struct ring;
+
+/* The calls of io_uring_register(2). Each returns 0 or the negative of an error number. */
+int register_restrictions(struct ring *ring, uint64_t list, uint32_t count);
+int enable_ring(struct ring *ring, uint64_t argument, uint32_t count);
+
+/* Of a ring with DEFER_TASKRUN, whether another thread calls than the one that set it up, or enabled it. */
+void note_issuer(struct ring *ring);
+bool is_of_another(const struct ring *ring);
+
+/* Whether an enabled ring may be asked for this: 0 or -EACCES. */
+bool allows_entry(const struct ring *ring, const struct io_uring_sqe *entry);
+bool allows_call(const struct ring *ring, uint32_t code);
+
+#endif

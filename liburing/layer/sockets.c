@@ -1,0 +1,254 @@
+/* Sockets: each call is made so that it doesn't wait, and again once the descriptor is ready. What a socket says of
+ * waiting itself is kept to, as the kernel does: a call on one that isn't to wait ends with -EAGAIN.
+ */
+#define _GNU_SOURCE
+#include "sockets.h"
+#include "copying.h"
+#include "files.h"
+#include "operations.h"
+#include "ring.h"
+
+#include <errno.h>
+#include <fcntl.h>
+#include <stdlib.h>
+#include <string.h>
+#include <sys/socket.h>
+#include <unistd.h>
+
+/* The flag of the kernel's header that begins a send or a receive behind a look at the descriptor: it changes nothing. */
+enum { SERVED_FLAGS = IORING_RECVSEND_POLL_FIRST, MOST_VECTORS_OF_MESSAGE = 1024 };
+
+static int32_t result_of(long result)
+{
+    return result < 0 ? -errno : (int32_t)result;
+}
+
+bool is_of_sockets(uint8_t code)
+{
+    switch (code) {
+    case IORING_OP_SEND:
+    case IORING_OP_RECV:
+    case IORING_OP_SENDMSG:
+    case IORING_OP_RECVMSG:
+    case IORING_OP_ACCEPT:
+    case IORING_OP_CONNECT:
+        return true;
+    default:
+        return false;
+    }
+}
+
+static bool is_sending(const struct request *request)
+{
+    return request->entry.opcode == IORING_OP_SEND || request->entry.opcode == IORING_OP_SENDMSG;
+}
+
+short events_of_socket(const struct request *request)
+{
+    return is_sending(request) || request->entry.opcode == IORING_OP_CONNECT ? POLLOUT : POLLIN;
+}
+
+/* One buffer becomes a message of a single vector. */
+static int make_message(struct request *request)
+{
+    struct msghdr *message = calloc(1, sizeof *message);
+    request->value = message;
+    request->vectors = malloc(sizeof *request->vectors);
+    if (!message || !request->vectors)
+        return -ENOMEM;
+    *request->vectors = (struct iovec){(void *)(uintptr_t)request->entry.addr, request->entry.len};
+    request->length = request->entry.len;
+    message->msg_iov = request->vectors;
+    message->msg_iovlen = request->vector_count = 1;
+    return 0;
+}
+
+static int copy_message(struct request *request)
+{
+    struct msghdr *message = calloc(1, sizeof *message);
+    request->value = message;
+    if (!message)
+        return -ENOMEM;
+    if (copy_in(message, request->entry.addr, sizeof *message) < 0)
+        return -EFAULT;
+    if (message->msg_iovlen > MOST_VECTORS_OF_MESSAGE)
+        return -EMSGSIZE;
+    size_t size = message->msg_iovlen * sizeof *request->vectors;
+    request->vectors = malloc(size + sizeof *request->vectors);
+    if (!request->vectors)
+        return -ENOMEM;
+    if (copy_in(request->vectors, (uintptr_t)message->msg_iov, size) < 0)
+        return -EFAULT;
+    if (request->entry.flags & IOSQE_BUFFER_SELECT && message->msg_iovlen == 0) {
+        *request->vectors = (struct iovec){0};
+        message->msg_iovlen = 1;
+    }
+    request->vector_count = (uint32_t)message->msg_iovlen;
+    for (uint32_t i = 0; i < request->vector_count; i++)
+        request->length += request->vectors[i].iov_len;
+    message->msg_iov = request->vectors;
+    return 0;
+}
+
+static int copy_address(struct request *request)
+{
+    size_t size = request->entry.off;
+    if (size > sizeof(struct sockaddr_storage))
+        return -EINVAL;
+    request->value = calloc(1, sizeof(struct sockaddr_storage));
+    return request->value ? copy_in(request->value, request->entry.addr, size) : -ENOMEM;
+}
+
+/* A receive that goes on takes a buffer each time. */
+static bool is_well_formed_multishot(const struct io_uring_sqe *entry)
+{
+    if (!(entry->ioprio & IORING_RECV_MULTISHOT))
+        return true;
+    return entry->flags & IOSQE_BUFFER_SELECT && !(entry->msg_flags & MSG_WAITALL) && !entry->len;
+}
+
+static bool is_well_formed_accept(const struct io_uring_sqe *entry)
+{
+    bool is_multishot = entry->ioprio & IORING_ACCEPT_MULTISHOT;
+    if (entry->ioprio & ~IORING_ACCEPT_MULTISHOT || entry->len || entry->buf_index || entry->accept_flags & ~(uint32_t)(SOCK_CLOEXEC | SOCK_NONBLOCK))
+        return false;
+    if (is_multishot && (entry->flags & IOSQE_CQE_SKIP_SUCCESS || (entry->file_index && entry->file_index != IORING_FILE_INDEX_ALLOC)))
+        return false;
+    return !(entry->file_index && entry->accept_flags & SOCK_CLOEXEC);
+}
+
+int copy_of_socket(struct request *request)
+{
+    const struct io_uring_sqe *entry = &request->entry;
+    switch (entry->opcode) {
+    case IORING_OP_RECV:
+        return entry->ioprio & ~(SERVED_FLAGS | IORING_RECV_MULTISHOT) || entry->addr2 || entry->file_index || !is_well_formed_multishot(entry) ? -EINVAL : make_message(request);
+    case IORING_OP_SEND:
+        return entry->ioprio & ~SERVED_FLAGS || entry->addr2 || entry->file_index ? -EINVAL : make_message(request);
+    case IORING_OP_SENDMSG:
+    case IORING_OP_RECVMSG:
+        return entry->ioprio & ~SERVED_FLAGS || entry->addr2 || entry->file_index ? -EINVAL : copy_message(request);
+    case IORING_OP_CONNECT:
+        return entry->ioprio || entry->len || entry->buf_index || entry->rw_flags || entry->splice_fd_in ? -EINVAL : copy_address(request);
+    default:
+        return is_well_formed_accept(entry) ? 0 : -EINVAL;
+    }
+}
+
+static bool is_not_to_wait(const struct request *request)
+{
+    int flags = fcntl(request->fd, F_GETFL);
+    return flags >= 0 && flags & O_NONBLOCK;
+}
+
+/* Moves the vectors on by what was moved. */
+static void advance(struct request *request, uint64_t moved)
+{
+    request->done += moved;
+    for (uint32_t i = 0; i < request->vector_count && moved > 0; i++) {
+        struct iovec *vector = &request->vectors[i];
+        size_t part = moved < vector->iov_len ? moved : vector->iov_len;
+        vector->iov_base = (char *)vector->iov_base + part;
+        vector->iov_len -= part;
+        moved -= part;
+    }
+}
+
+/* What the kernel tells of a message that was received: sizes and flags, where the application's stands. */
+static int tell_message(const struct request *request)
+{
+    const struct msghdr *message = request->value;
+    uint64_t at = request->entry.addr;
+    if (copy_out(at + offsetof(struct msghdr, msg_namelen), &message->msg_namelen, sizeof message->msg_namelen) < 0 ||
+        copy_out(at + offsetof(struct msghdr, msg_controllen), &message->msg_controllen, sizeof message->msg_controllen) < 0)
+        return -EFAULT;
+    return copy_out(at + offsetof(struct msghdr, msg_flags), &message->msg_flags, sizeof message->msg_flags);
+}
+
+static int32_t move_message(struct request *request)
+{
+    int flags = (int)request->entry.msg_flags | MSG_DONTWAIT;
+    if (is_sending(request))
+        return result_of(sendmsg(request->fd, request->value, flags | MSG_NOSIGNAL));
+    int32_t res = result_of(recvmsg(request->fd, request->value, flags));
+    if (res >= 0 && request->entry.opcode == IORING_OP_RECVMSG && tell_message(request) < 0)
+        return -EFAULT;
+    return res;
+}
+
+/* With MSG_WAITALL it goes on until all is moved, an error, or the stream's end. */
+static int32_t move_all(struct request *request)
+{
+    bool is_whole = request->entry.msg_flags & MSG_WAITALL;
+    int32_t res = move_message(request);
+    if (res == -EAGAIN && !(request->entry.msg_flags & MSG_DONTWAIT) && !is_not_to_wait(request))
+        return WOULD_WAIT;
+    if (res < 0)
+        return request->done > 0 ? (int32_t)request->done : res;
+    advance(request, (uint64_t)res);
+    int type = 0;
+    socklen_t size = sizeof type;
+    bool is_stream = getsockopt(request->fd, SOL_SOCKET, SO_TYPE, &type, &size) == 0 && (type == SOCK_STREAM || type == SOCK_SEQPACKET);
+    return is_whole && is_stream && res > 0 && request->done < request->length ? WOULD_WAIT : (int32_t)request->done;
+}
+
+static int32_t accept_one_socket(struct ring *ring, const struct request *request)
+{
+    const struct io_uring_sqe *entry = &request->entry;
+    struct pollfd at = poll_of(request);
+    if (poll(&at, 1, 0) == 0)
+        return is_not_to_wait(request) ? -EAGAIN : WOULD_WAIT;
+    int fd = accept4(request->fd, (struct sockaddr *)(uintptr_t)entry->addr, (socklen_t *)(uintptr_t)entry->addr2, (int)entry->accept_flags);
+    if (fd < 0)
+        return errno == EAGAIN && !is_not_to_wait(request) ? WOULD_WAIT : -errno;
+    return entry->file_index ? install_file(ring, fd, entry->file_index) : fd;
+}
+
+/* The descriptor is told not to wait for the moment of the call. */
+static int32_t begin_connect(const struct request *request)
+{
+    int flags = fcntl(request->fd, F_GETFL);
+    if (flags >= 0 && !(flags & O_NONBLOCK))
+        fcntl(request->fd, F_SETFL, flags | O_NONBLOCK);
+    int32_t res = result_of(connect(request->fd, request->value, (socklen_t)request->entry.off));
+    if (flags >= 0 && !(flags & O_NONBLOCK))
+        fcntl(request->fd, F_SETFL, flags);
+    return res;
+}
+
+static int32_t connect_socket(struct request *request)
+{
+    int error = 0;
+    socklen_t size = sizeof error;
+    struct pollfd at = poll_of(request);
+    if (!request->done) {
+        int32_t res = begin_connect(request);
+        if (res != -EINPROGRESS && res != -EAGAIN)
+            return res;
+        request->done = res == -EINPROGRESS;
+        return WOULD_WAIT;
+    }
+    if (poll(&at, 1, 0) == 0)
+        return WOULD_WAIT;
+    return getsockopt(request->fd, SOL_SOCKET, SO_ERROR, &error, &size) < 0 ? -errno : -error;
+}
+
+int32_t call_socket(struct ring *ring, struct request *request)
+{
+    switch (request->entry.opcode) {
+    case IORING_OP_ACCEPT:
+        return accept_one_socket(ring, request);
+    case IORING_OP_CONNECT:
+        return connect_socket(request);
+    default:
+        return move_all(request);
+    }
+}
+
+bool is_socket_success(const struct request *request, int32_t res)
+{
+    bool is_whole = request->entry.msg_flags & MSG_WAITALL && request->value && request->entry.opcode != IORING_OP_CONNECT;
+    const struct msghdr *message = request->value;
+    bool is_cut = request->entry.opcode == IORING_OP_RECVMSG && res >= 0 && message->msg_flags & (MSG_TRUNC | MSG_CTRUNC);
+    return res >= 0 && (!is_whole || ((uint64_t)res == request->length && !is_cut));
+}

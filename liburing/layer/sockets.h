@@ -1,0 +1,22 @@
+/* Sockets, splices and messages: operations on descriptors that may have to wait. */
+#ifndef SOCKETS_H
+#define SOCKETS_H
+
+#include "requests.h"
+
+struct ring;
+
+/* Whether an operation is one of these, and what is waited for on its descriptor. */
+bool is_of_sockets(uint8_t code);
+short events_of_socket(const struct request *request);
+
+/* What the entry points to. Returns 0, -EFAULT, -EINVAL or -ENOMEM. */
+int copy_of_socket(struct request *request);
+
+/* Carries the operation out: its result, or WOULD_WAIT. */
+int32_t call_socket(struct ring *ring, struct request *request);
+
+/* Whether a result is a success, as links see it. */
+bool is_socket_success(const struct request *request, int32_t res);
+
+#endif

@@ -1,0 +1,12 @@
+/* Splices and tees. */
+#ifndef SPLICES_H
+#define SPLICES_H
+
+#include "requests.h"
+
+#include <poll.h>
+
+struct pollfd poll_of_splice(const struct request *request);
+int32_t call_splice(const struct request *request);
+
+#endif

@@ -1,0 +1,34 @@
+/* Timeouts: when they end, those with a count, and those that are linked behind a request. */
+#ifndef TIMEOUTS_H
+#define TIMEOUTS_H
+
+#include "requests.h"
+
+struct ring;
+
+/* Whether a request is a timeout. It ends when time says so, or a count, and goes on by no choice. */
+bool is_timeout(const struct request *request);
+bool is_linked_timeout(const struct request *request);
+
+bool is_well_formed_timeout(const struct io_uring_sqe *entry);
+
+/* A timeout has started: time runs. */
+void start_timeout(struct ring *ring, struct request *timeout);
+
+/* A request has started: time runs for a timeout that is linked behind it. */
+void arm_linked_timeout(struct ring *ring, struct request *request);
+
+/* A request ends: no time runs any more for a timeout that is linked behind it. */
+void disarm_linked_timeout(struct ring *ring, const struct request *request);
+
+/* Whether as many completions were posted as a timeout counts. */
+bool has_counted(const struct ring *ring, const struct request *timeout);
+
+/* The time of a linked timeout is over: the request before it is cancelled. */
+void fire_linked_timeout(struct ring *ring, struct request *timeout);
+
+/* Sets the time of a running timeout, or of a linked one. Returns 0 or the negative of an error number. */
+int32_t change_timeout(struct ring *ring, struct request *timeout, const struct request *change);
+int32_t change_linked_timeout(struct ring *ring, const struct request *change);
+
+#endif

@@ -1,0 +1,63 @@
+/* What the tests of what engines use share: single requests, and completions with their flags. */
+#ifndef ENGINES_H
+#define ENGINES_H
+
+#include "ring.h"
+
+static inline struct io_uring_sqe *put_plain(struct ring *ring, uint8_t code, uint64_t user_data, int fd)
+{
+    struct io_uring_sqe *entry = put(ring, code, user_data, 0);
+    entry->fd = fd;
+    return entry;
+}
+
+/* Submits this many entries, whose user data are 0, 1 and so on, waits for all, and returns the result of the last. */
+static inline int32_t result_of_one(struct ring *ring, uint32_t count)
+{
+    int32_t results[16];
+    check(enter(ring, count, 0, 0) == (long)count);
+    check(enter(ring, 0, count, IORING_ENTER_GETEVENTS) == 0);
+    check(count_ready(ring) == count);
+    for (uint32_t i = 0; i < count; i++) {
+        struct completion found = reap(ring);
+        results[found.user_data] = found.res;
+    }
+    return results[count - 1];
+}
+
+/* The next completion, with its flags. */
+struct seen {
+    uint64_t user_data;
+    int32_t res;
+    uint32_t flags;
+};
+
+static inline struct seen next_of(struct ring *ring)
+{
+    while (count_ready(ring) == 0)
+        check(enter(ring, 0, 1, IORING_ENTER_GETEVENTS) == 0);
+    unsigned *head = cq_word(ring, ring->params.cq_off.head);
+    const struct io_uring_cqe *cells = (const void *)(ring->cq + ring->params.cq_off.cqes);
+    const struct io_uring_cqe *cell = &cells[*head & (ring->params.cq_entries - 1)];
+    struct seen found = {cell->user_data, cell->res, cell->flags};
+    __atomic_store_n(head, *head + 1, __ATOMIC_RELEASE);
+    return found;
+}
+
+struct named {
+    const char *name;
+    void (*run)(void);
+};
+
+/* Runs all tests, or the one that is named. */
+static inline int run_tests(const struct named *tests, size_t count, const char *name)
+{
+    for (size_t i = 0; i < count; i++) {
+        test = tests[i].name;
+        if (!name || strcmp(name, test) == 0)
+            tests[i].run();
+    }
+    return 0;
+}
+
+#endif

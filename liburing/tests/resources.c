@@ -1,0 +1,223 @@
+/* Tests of what is registered, by direct calls: files and direct descriptors, buffers, provided buffers, eventfds,
+ * restrictions; and of rings with SQPOLL. All hold under every policy, which the environment says.
+ *
+ *   resources [NAME]         with a name: that test alone
+ */
+#define _GNU_SOURCE
+#include "engines.h"
+
+#include <sys/eventfd.h>
+#include <sys/socket.h>
+#include <sys/uio.h>
+
+static void test_files(void)
+{
+    struct ring ring;
+    char text[8] = "";
+    int first = make_file(), second = make_file(), list[3] = {first, -1, -1}, fds[2] = {second, -2};
+    make_ring(&ring, 8, 0, 0);
+    check(register_at(ring.fd, IORING_UNREGISTER_FILES, NULL, 0) == -ENXIO);
+    check(register_at(ring.fd, IORING_REGISTER_FILES, list, 0) == -EINVAL);
+    check(register_at(ring.fd, IORING_REGISTER_FILES, list, 1u << 21) == -EMFILE);
+    check(register_at(ring.fd, IORING_REGISTER_FILES, NULL, 3) == -EFAULT);
+    check(register_at(ring.fd, IORING_REGISTER_FILES, list, 3) == 0);
+    check(register_at(ring.fd, IORING_REGISTER_FILES, list, 3) == -EBUSY);
+    /* The registered file stays when its descriptor is closed. */
+    check(pwrite(first, "first", 5, 0) == 5);
+    close(first);
+    put_transfer(&ring, IORING_OP_READ, 0, IOSQE_FIXED_FILE, 0, text, 5, 0);
+    check(result_of_one(&ring, 1) == 5 && memcmp(text, "first", 5) == 0);
+    put_transfer(&ring, IORING_OP_READ, 0, IOSQE_FIXED_FILE, 1, text, 5, 0);
+    check(result_of_one(&ring, 1) == -EBADF);
+    put_transfer(&ring, IORING_OP_READ, 0, IOSQE_FIXED_FILE, 3, text, 5, 0);
+    check(result_of_one(&ring, 1) == -EBADF);
+    struct io_uring_files_update update = {.offset = 1, .fds = (uintptr_t)fds};
+    check(register_at(ring.fd, IORING_REGISTER_FILES_UPDATE, &update, 2) == 2);
+    put_transfer(&ring, IORING_OP_WRITE, 0, IOSQE_FIXED_FILE, 1, "second", 6, 0);
+    check(result_of_one(&ring, 1) == 6);
+    check(pread(second, text, 6, 0) == 6 && memcmp(text, "second", 6) == 0);
+    update.offset = 2;
+    check(register_at(ring.fd, IORING_REGISTER_FILES_UPDATE, &update, 2) == -EINVAL);
+    fds[0] = ring.fd;
+    check(register_at(ring.fd, IORING_REGISTER_FILES_UPDATE, &update, 1) == -EBADF);
+    check(register_at(ring.fd, IORING_UNREGISTER_FILES, NULL, 0) == 0);
+    close(second);
+    close_ring(&ring);
+}
+
+/* A chain that opens a file into a slot, writes to it there, and closes it; then slots that are given out. */
+static void test_direct_descriptors(void)
+{
+    struct ring ring;
+    struct io_uring_rsrc_register sparse = {.nr = 2, .flags = IORING_RSRC_REGISTER_SPARSE};
+    char path[] = "/tmp/engines-XXXXXX";
+    int fd = mkstemp(path);
+    check(fd >= 0);
+    make_ring(&ring, 8, 0, 0);
+    check(register_at(ring.fd, IORING_REGISTER_FILES2, &sparse, 1) == -EINVAL);
+    check(register_at(ring.fd, IORING_REGISTER_FILES2, &sparse, sizeof sparse) == 0);
+    struct io_uring_sqe *open_entry = put(&ring, IORING_OP_OPENAT, 0, IOSQE_IO_LINK);
+    *open_entry = (struct io_uring_sqe){.opcode = IORING_OP_OPENAT, .flags = IOSQE_IO_LINK, .fd = AT_FDCWD, .addr = (uintptr_t)path, .open_flags = O_RDWR, .file_index = 1};
+    put_transfer(&ring, IORING_OP_WRITE, 1, IOSQE_FIXED_FILE | IOSQE_IO_LINK, 0, "direct", 6, 0);
+    put(&ring, IORING_OP_CLOSE, 2, 0)->file_index = 1;
+    check(result_of_one(&ring, 3) == 0);
+    char text[6];
+    check(pread(fd, text, 6, 0) == 6 && memcmp(text, "direct", 6) == 0);
+    for (int i = 0; i < 3; i++) {
+        struct io_uring_sqe *entry = put_plain(&ring, IORING_OP_SOCKET, 0, AF_UNIX);
+        entry->off = SOCK_STREAM;
+        entry->file_index = IORING_FILE_INDEX_ALLOC;
+        check(result_of_one(&ring, 1) == (i < 2 ? i : -ENFILE));
+    }
+    put(&ring, IORING_OP_CLOSE, 0, 0)->file_index = 3;
+    check(result_of_one(&ring, 1) == -EINVAL);
+    unlink(path);
+    close(fd);
+    close_ring(&ring);
+}
+
+static void test_buffers(void)
+{
+    struct ring ring;
+    static char memory[8192];
+    struct iovec vectors[2] = {{memory, 4096}, {NULL, 0}}, bad = {(void *)8, 4096};
+    int fd = make_file();
+    make_ring(&ring, 8, 0, 0);
+    check(register_at(ring.fd, IORING_UNREGISTER_BUFFERS, NULL, 0) == -ENXIO);
+    check(register_at(ring.fd, IORING_REGISTER_BUFFERS, &bad, 1) == -EFAULT);
+    check(register_at(ring.fd, IORING_REGISTER_BUFFERS, vectors, 2) == 0);
+    check(register_at(ring.fd, IORING_REGISTER_BUFFERS, vectors, 2) == -EBUSY);
+    memcpy(memory + 100, "fixed", 5);
+    put_transfer(&ring, IORING_OP_WRITE_FIXED, 0, 0, fd, memory + 100, 5, 0);
+    check(result_of_one(&ring, 1) == 5);
+    put_transfer(&ring, IORING_OP_READ_FIXED, 0, 0, fd, memory + 4091, 5, 0);
+    check(result_of_one(&ring, 1) == 5 && memcmp(memory + 4091, "fixed", 5) == 0);
+    put_transfer(&ring, IORING_OP_READ_FIXED, 0, 0, fd, memory + 4092, 5, 0);
+    check(result_of_one(&ring, 1) == -EFAULT);
+    put_transfer(&ring, IORING_OP_READ_FIXED, 0, 0, fd, memory, 5, 0)->buf_index = 1;
+    check(result_of_one(&ring, 1) == -EFAULT);
+    check(register_at(ring.fd, IORING_UNREGISTER_BUFFERS, NULL, 0) == 0);
+    put_transfer(&ring, IORING_OP_READ_FIXED, 0, 0, fd, memory, 5, 0);
+    check(result_of_one(&ring, 1) == -EFAULT);
+    close(fd);
+    close_ring(&ring);
+}
+
+/* Buffers of a list and of a ring in memory: each is taken once, and its number is told. */
+static void test_provided(void)
+{
+    struct ring ring;
+    static char memory[4][16];
+    struct io_uring_buf_ring *cells = mmap(NULL, 4096, PROT_READ | PROT_WRITE, MAP_PRIVATE | MAP_ANONYMOUS, -1, 0);
+    struct io_uring_buf_reg asked = {.ring_addr = (uintptr_t)cells, .ring_entries = 4, .bgid = 2};
+    int fd = make_file();
+    check(pwrite(fd, "0123456789", 10, 0) == 10);
+    make_ring(&ring, 8, 0, 0);
+    struct io_uring_sqe *provide = put_plain(&ring, IORING_OP_PROVIDE_BUFFERS, 0, 2);
+    provide->addr = (uintptr_t)memory;
+    provide->len = 4;
+    provide->off = 7;
+    provide->buf_group = 1;
+    check(result_of_one(&ring, 1) == 0);
+    check(register_at(ring.fd, IORING_REGISTER_PBUF_RING, &asked, 1) == 0);
+    check(register_at(ring.fd, IORING_REGISTER_PBUF_RING, &asked, 1) == -EEXIST);
+    cells->bufs[0] = (struct io_uring_buf){.addr = (uintptr_t)memory[3], .len = 8, .bid = 30};
+    __atomic_store_n(&cells->tail, 1, __ATOMIC_RELEASE);
+    static const struct {
+        uint16_t group, id;
+        uint32_t asked;
+        int32_t res;
+    } rows[] = {{1, 7, 10, 4}, {1, 8, 3, 3}, {1, 0, 3, -ENOBUFS}, {2, 30, 10, 8}, {2, 0, 10, -ENOBUFS}, {3, 0, 10, -ENOBUFS}};
+    for (size_t i = 0; i < sizeof rows / sizeof *rows; i++) {
+        put_transfer(&ring, IORING_OP_READ, 5, IOSQE_BUFFER_SELECT, fd, NULL, rows[i].asked, 0)->buf_group = rows[i].group;
+        check(enter(&ring, 1, 0, 0) == 1);
+        struct seen found = next_of(&ring);
+        check(found.res == rows[i].res);
+        check(found.flags == (found.res < 0 ? 0 : IORING_CQE_F_BUFFER | (uint32_t)rows[i].id << IORING_CQE_BUFFER_SHIFT));
+    }
+    check(memcmp(memory[3], "01234567", 8) == 0);
+    put_plain(&ring, IORING_OP_REMOVE_BUFFERS, 0, 1)->buf_group = 3;
+    check(result_of_one(&ring, 1) == -ENOENT);
+    check(register_at(ring.fd, IORING_UNREGISTER_PBUF_RING, &asked, 1) == 0);
+    check(register_at(ring.fd, IORING_UNREGISTER_PBUF_RING, &asked, 1) == -ENOENT);
+    put(&ring, IORING_OP_NOP, 0, IOSQE_BUFFER_SELECT);
+    check(result_of_one(&ring, 1) == -EOPNOTSUPP);
+    munmap(cells, 4096);
+    close(fd);
+    close_ring(&ring);
+}
+
+static void test_eventfd(void)
+{
+    struct ring ring;
+    uint64_t count = 0;
+    int fd = eventfd(0, EFD_NONBLOCK), file = make_file();
+    make_ring(&ring, 8, 0, 0);
+    check(register_at(ring.fd, IORING_UNREGISTER_EVENTFD, NULL, 0) == -ENXIO);
+    check(register_at(ring.fd, IORING_REGISTER_EVENTFD, &file, 1) == -EINVAL);
+    check(register_at(ring.fd, IORING_REGISTER_EVENTFD, &fd, 1) == 0);
+    check(register_at(ring.fd, IORING_REGISTER_EVENTFD, &fd, 1) == -EBUSY);
+    check(read(fd, &count, sizeof count) < 0);
+    put(&ring, IORING_OP_NOP, 0, 0);
+    check(result_of_one(&ring, 1) == 0);
+    check(read(fd, &count, sizeof count) == sizeof count && count >= 1);
+    *cq_word(&ring, ring.params.cq_off.flags) = IORING_CQ_EVENTFD_DISABLED;
+    put(&ring, IORING_OP_NOP, 0, 0);
+    check(result_of_one(&ring, 1) == 0);
+    check(read(fd, &count, sizeof count) < 0);
+    check(register_at(ring.fd, IORING_UNREGISTER_EVENTFD, NULL, 0) == 0);
+    close(fd);
+    close(file);
+    close_ring(&ring);
+}
+
+static void test_restrictions(void)
+{
+    struct ring ring;
+    struct io_uring_restriction rows[2] = {{.opcode = IORING_RESTRICTION_SQE_OP, .sqe_op = IORING_OP_NOP}, {.opcode = IORING_RESTRICTION_REGISTER_OP, .register_op = IORING_REGISTER_PROBE}};
+    int fd = make_file();
+    make_ring(&ring, 8, 0, IORING_SETUP_R_DISABLED);
+    check(enter(&ring, 0, 0, IORING_ENTER_GETEVENTS) == -EBADFD);
+    check(register_at(ring.fd, IORING_REGISTER_RESTRICTIONS, rows, 2) == 0);
+    check(register_at(ring.fd, IORING_REGISTER_RESTRICTIONS, rows, 2) == -EBUSY);
+    check(register_at(ring.fd, IORING_REGISTER_ENABLE_RINGS, NULL, 0) == 0);
+    check(register_at(ring.fd, IORING_REGISTER_ENABLE_RINGS, NULL, 0) == -EACCES);
+    check(register_at(ring.fd, IORING_REGISTER_FILES, &fd, 1) == -EACCES);
+    put(&ring, IORING_OP_NOP, 0, 0);
+    check(result_of_one(&ring, 1) == 0);
+    put_plain(&ring, IORING_OP_FSYNC, 0, fd);
+    check(result_of_one(&ring, 1) == -EACCES);
+    put(&ring, IORING_OP_NOP, 0, IOSQE_ASYNC);
+    check(result_of_one(&ring, 1) == -EACCES);
+    close(fd);
+    close_ring(&ring);
+}
+
+/* A ring whose thread takes entries: it sleeps, and a call wakes it. */
+static void test_sqpoll(void)
+{
+    struct ring ring;
+    int32_t results[2];
+    make_ring(&ring, 8, 0, IORING_SETUP_SQPOLL);
+    check(flags_of(&ring) & IORING_SQ_NEED_WAKEUP);
+    put(&ring, IORING_OP_NOP, 0, 0);
+    put(&ring, IORING_OP_NOP, 1, 0);
+    check(enter(&ring, 2, 2, IORING_ENTER_GETEVENTS | IORING_ENTER_SQ_WAKEUP) == 2);
+    reap_all(&ring, 2, results);
+    check(results[0] == 0 && results[1] == 0 && flags_of(&ring) & IORING_SQ_NEED_WAKEUP);
+    close_ring(&ring);
+}
+
+int main(int count, char **words)
+{
+    static const struct named tests[] = {
+        {"files", test_files},
+        {"direct descriptors", test_direct_descriptors},
+        {"buffers", test_buffers},
+        {"provided", test_provided},
+        {"eventfd", test_eventfd},
+        {"restrictions", test_restrictions},
+        {"sqpoll", test_sqpoll},
+    };
+    return run_tests(tests, sizeof tests / sizeof *tests, count > 1 ? words[1] : NULL);
+}

@@ -1,0 +1,320 @@
+/* Tests of what waits, by direct calls: linked timeouts and those with a count, cancels by flags, polls, sockets, splices,
+ * and messages between rings. All hold under every policy, which the environment says.
+ *
+ *   waits [NAME]             with a name: that test alone
+ */
+#define _GNU_SOURCE
+#include "engines.h"
+
+#include <poll.h>
+#include <sys/socket.h>
+#include <sys/uio.h>
+
+static void make_pair(int *ends)
+{
+    check(socketpair(AF_UNIX, SOCK_STREAM, 0, ends) == 0);
+}
+
+/* A read that nobody feeds is limited by a timeout: the chain behind them is cancelled. One that is fed isn't, and the chain
+ * goes on. */
+static void test_linked_timeout(void)
+{
+    struct ring ring;
+    int32_t results[3];
+    char text[4];
+    int ends[2];
+    struct __kernel_timespec second = {.tv_sec = 1};
+    check(pipe(ends) == 0);
+    make_ring(&ring, 8, 0, 0);
+    for (int is_fed = 0; is_fed < 2; is_fed++) {
+        if (is_fed)
+            check(write(ends[1], "four", 4) == 4);
+        put_transfer(&ring, IORING_OP_READ, 0, IOSQE_IO_LINK, ends[0], text, 4, 0);
+        put_transfer(&ring, IORING_OP_LINK_TIMEOUT, 1, IOSQE_IO_LINK, -1, &second, 1, 0);
+        put(&ring, IORING_OP_NOP, 2, 0);
+        check(enter(&ring, 3, 0, 0) == 3);
+        reap_all(&ring, 3, results);
+        check(results[0] == (is_fed ? 4 : -ECANCELED));
+        check(results[1] == (is_fed ? -ECANCELED : -ETIME));
+        check(results[2] == (is_fed ? 0 : -ECANCELED));
+    }
+    put_transfer(&ring, IORING_OP_LINK_TIMEOUT, 0, 0, -1, &second, 1, 0);
+    check(result_of_one(&ring, 1) == -EINVAL);
+    close(ends[0]);
+    close(ends[1]);
+    close_ring(&ring);
+}
+
+/* A timeout ends with 0 once as many completions were posted as it counts; one is removed; one is changed. */
+static void test_timeouts(void)
+{
+    struct ring ring;
+    struct __kernel_timespec hour = {.tv_sec = 3600}, instant = {.tv_nsec = 1};
+    make_ring(&ring, 8, 0, 0);
+    put_transfer(&ring, IORING_OP_TIMEOUT, 0, 0, -1, &hour, 1, 2);
+    check(enter(&ring, 1, 0, 0) == 1);
+    check(enter_for(&ring, 1, 1000) == -ETIME);
+    put(&ring, IORING_OP_NOP, 1, 0);
+    put(&ring, IORING_OP_NOP, 2, 0);
+    check(enter(&ring, 2, 0, 0) == 2);
+    int32_t results[4];
+    reap_all(&ring, 3, results);
+    check(results[0] == 0);
+    put_transfer(&ring, IORING_OP_TIMEOUT, 0, 0, -1, &hour, 1, 0);
+    check(enter(&ring, 1, 0, 0) == 1);
+    check(enter_for(&ring, 1, 1000) == -ETIME);
+    put(&ring, IORING_OP_TIMEOUT_REMOVE, 1, 0)->addr = 77;
+    put(&ring, IORING_OP_TIMEOUT_REMOVE, 2, 0)->addr = 0;
+    check(enter(&ring, 2, 0, 0) == 2);
+    reap_all(&ring, 3, results);
+    check(results[0] == -ECANCELED && results[1] == -ENOENT && results[2] == 0);
+    put_transfer(&ring, IORING_OP_TIMEOUT, 0, 0, -1, &hour, 1, 0);
+    check(enter(&ring, 1, 0, 0) == 1);
+    check(enter_for(&ring, 1, 1000) == -ETIME);
+    struct io_uring_sqe *change = put(&ring, IORING_OP_TIMEOUT_REMOVE, 1, 0);
+    change->timeout_flags = IORING_TIMEOUT_UPDATE;
+    change->addr2 = (uintptr_t)&instant;
+    check(enter(&ring, 1, 0, 0) == 1);
+    check(enter_for(&ring, 2, 1000000) == 0);
+    reap_all(&ring, 2, results);
+    check(results[0] == -ETIME && results[1] == 0);
+    close_ring(&ring);
+}
+
+static void test_cancels(void)
+{
+    struct ring ring;
+    int32_t results[8];
+    int ends[2];
+    check(pipe(ends) == 0);
+    make_ring(&ring, 8, 0, 0);
+    put_plain(&ring, IORING_OP_ASYNC_CANCEL, 0, ends[0])->cancel_flags = IORING_ASYNC_CANCEL_FD;
+    check(result_of_one(&ring, 1) == -ENOENT);
+    put_plain(&ring, IORING_OP_ASYNC_CANCEL, 0, -1)->cancel_flags = IORING_ASYNC_CANCEL_FD;
+    check(result_of_one(&ring, 1) == -EBADF);
+    for (int i = 0; i < 3; i++)
+        put_plain(&ring, IORING_OP_POLL_ADD, (uint64_t)i, ends[0])->poll32_events = POLLIN;
+    check(enter(&ring, 3, 0, 0) == 3);
+    check(enter_for(&ring, 1, 1000) == -ETIME);
+    put_plain(&ring, IORING_OP_ASYNC_CANCEL, 3, ends[0])->cancel_flags = IORING_ASYNC_CANCEL_FD;
+    check(enter(&ring, 1, 0, 0) == 1);
+    reap_all(&ring, 2, results);
+    check(results[0] == -ECANCELED && results[3] == 0);
+    put_plain(&ring, IORING_OP_ASYNC_CANCEL, 3, ends[0])->cancel_flags = IORING_ASYNC_CANCEL_FD | IORING_ASYNC_CANCEL_ALL;
+    check(enter(&ring, 1, 0, 0) == 1);
+    reap_all(&ring, 3, results);
+    check(results[1] == -ECANCELED && results[2] == -ECANCELED && results[3] == 2);
+    put_plain(&ring, IORING_OP_POLL_ADD, 1, ends[0])->poll32_events = POLLIN;
+    check(enter(&ring, 1, 0, 0) == 1);
+    check(enter_for(&ring, 1, 1000) == -ETIME);
+    struct io_uring_sync_cancel_reg now = {.flags = IORING_ASYNC_CANCEL_ANY, .timeout = {-1, -1}};
+    check(register_at(ring.fd, IORING_REGISTER_SYNC_CANCEL, &now, 1) == 1);
+    check(count_ready(&ring) == 1 && reap(&ring).res == -ECANCELED);
+    close(ends[0]);
+    close(ends[1]);
+    close_ring(&ring);
+}
+
+static void test_polls(void)
+{
+    struct ring ring;
+    int32_t results[4];
+    int ends[2];
+    char byte;
+    check(pipe(ends) == 0);
+    make_ring(&ring, 8, 0, 0);
+    put_plain(&ring, IORING_OP_POLL_ADD, 0, ends[1])->poll32_events = POLLOUT;
+    check(result_of_one(&ring, 1) == POLLOUT);
+    put_plain(&ring, IORING_OP_POLL_ADD, 0, -1)->poll32_events = POLLOUT;
+    check(result_of_one(&ring, 1) == -EBADF);
+    /* One that goes on tells of each event once, and ends where it is removed. */
+    struct io_uring_sqe *poll_entry = put_plain(&ring, IORING_OP_POLL_ADD, 1, ends[0]);
+    poll_entry->poll32_events = POLLIN;
+    poll_entry->len = IORING_POLL_ADD_MULTI;
+    check(enter(&ring, 1, 0, 0) == 1);
+    for (int i = 0; i < 3; i++) {
+        check(enter_for(&ring, 1, 1000) == -ETIME);
+        check(write(ends[1], "b", 1) == 1);
+        struct seen found = next_of(&ring);
+        check(found.user_data == 1 && found.res == POLLIN && found.flags == IORING_CQE_F_MORE);
+        check(read(ends[0], &byte, 1) == 1);
+    }
+    put(&ring, IORING_OP_POLL_REMOVE, 2, 0)->addr = 99;
+    put(&ring, IORING_OP_POLL_REMOVE, 3, 0)->addr = 1;
+    check(enter(&ring, 2, 0, 0) == 2);
+    reap_all(&ring, 3, results);
+    check(results[1] == -ECANCELED && results[2] == -ENOENT && results[3] == 0);
+    close(ends[0]);
+    close(ends[1]);
+    close_ring(&ring);
+}
+
+static void test_sockets(void)
+{
+    struct ring ring;
+    struct sockaddr_un {
+        sa_family_t family;
+        char path[16];
+    } address = {AF_UNIX, "\0engines"};
+    char text[8] = "";
+    int listener = socket(AF_UNIX, SOCK_STREAM, 0), caller = socket(AF_UNIX, SOCK_STREAM, 0);
+    memcpy(address.path + 8, &(pid_t){getpid()}, sizeof(pid_t));
+    check(bind(listener, (void *)&address, sizeof address) == 0 && listen(listener, 4) == 0);
+    make_ring(&ring, 8, 0, 0);
+    put_plain(&ring, IORING_OP_ACCEPT, 0, listener);
+    struct io_uring_sqe *entry = put_plain(&ring, IORING_OP_CONNECT, 1, caller);
+    entry->addr = (uintptr_t)&address;
+    entry->off = sizeof address;
+    int32_t results[4];
+    check(enter(&ring, 2, 0, 0) == 2);
+    reap_all(&ring, 2, results);
+    check(results[0] >= 0 && results[1] == 0);
+    int callee = results[0];
+    put_transfer(&ring, IORING_OP_RECV, 0, 0, callee, text, 8, 0);
+    check(enter(&ring, 1, 0, 0) == 1);
+    check(enter_for(&ring, 1, 1000) == -ETIME);
+    struct iovec vector = {"message", 7};
+    struct msghdr message = {.msg_iov = &vector, .msg_iovlen = 1};
+    put_transfer(&ring, IORING_OP_SENDMSG, 1, 0, caller, &message, 1, 0);
+    check(enter(&ring, 1, 0, 0) == 1);
+    reap_all(&ring, 2, results);
+    check(results[0] == 7 && results[1] == 7 && memcmp(text, "message", 7) == 0);
+    put_transfer(&ring, IORING_OP_SHUTDOWN, 0, 0, caller, NULL, SHUT_WR, 0);
+    check(result_of_one(&ring, 1) == 0);
+    put_transfer(&ring, IORING_OP_RECV, 0, 0, callee, text, 8, 0);
+    check(result_of_one(&ring, 1) == 0);
+    put_transfer(&ring, IORING_OP_SEND, 0, 0, make_file(), text, 8, 0);
+    check(result_of_one(&ring, 1) == -ENOTSOCK);
+    close(listener);
+    close(caller);
+    close(callee);
+    close_ring(&ring);
+}
+
+/* A receive that goes on takes a buffer for each piece, and ends with the stream. */
+static void test_multishot_receive(void)
+{
+    struct ring ring;
+    static char memory[2][16];
+    int ends[2];
+    make_pair(ends);
+    make_ring(&ring, 8, 0, 0);
+    struct io_uring_sqe *provide = put_plain(&ring, IORING_OP_PROVIDE_BUFFERS, 0, 2);
+    provide->addr = (uintptr_t)memory;
+    provide->len = 16;
+    check(result_of_one(&ring, 1) == 0);
+    struct io_uring_sqe *entry = put(&ring, IORING_OP_RECV, 1, IOSQE_BUFFER_SELECT);
+    entry->fd = ends[0];
+    entry->ioprio = IORING_RECV_MULTISHOT;
+    check(enter(&ring, 1, 0, 0) == 1);
+    for (uint32_t i = 0; i < 2; i++) {
+        check(enter_for(&ring, 1, 1000) == -ETIME);
+        check(send(ends[1], "piece", 5, 0) == 5);
+        struct seen found = next_of(&ring);
+        check(found.res == 5 && found.flags == (IORING_CQE_F_MORE | IORING_CQE_F_BUFFER | i << IORING_CQE_BUFFER_SHIFT));
+    }
+    check(send(ends[1], "piece", 5, 0) == 5);
+    struct seen last = next_of(&ring);
+    check(last.res == -ENOBUFS && last.flags == 0);
+    close(ends[0]);
+    close(ends[1]);
+    close_ring(&ring);
+}
+
+/* An accept that goes on puts each socket where there is room, and ends if there is none. */
+static void test_multishot_accept(void)
+{
+    struct ring ring;
+    struct sockaddr_un {
+        sa_family_t family;
+        char path[16];
+    } address = {AF_UNIX, "\0accepts"};
+    struct io_uring_rsrc_register sparse = {.nr = 2, .flags = IORING_RSRC_REGISTER_SPARSE};
+    int listener = socket(AF_UNIX, SOCK_STREAM, 0), callers[3];
+    memcpy(address.path + 8, &(pid_t){getpid()}, sizeof(pid_t));
+    check(bind(listener, (void *)&address, sizeof address) == 0 && listen(listener, 4) == 0);
+    make_ring(&ring, 8, 0, 0);
+    check(register_at(ring.fd, IORING_REGISTER_FILES2, &sparse, sizeof sparse) == 0);
+    struct io_uring_sqe *entry = put_plain(&ring, IORING_OP_ACCEPT, 1, listener);
+    entry->ioprio = IORING_ACCEPT_MULTISHOT;
+    entry->file_index = IORING_FILE_INDEX_ALLOC;
+    check(enter(&ring, 1, 0, 0) == 1);
+    for (int i = 0; i < 3; i++) {
+        callers[i] = socket(AF_UNIX, SOCK_STREAM, 0);
+        check(connect(callers[i], (void *)&address, sizeof address) == 0);
+        struct seen found = next_of(&ring);
+        check(found.res == (i < 2 ? i : -ENFILE) && found.flags == (i < 2 ? IORING_CQE_F_MORE : 0));
+    }
+    for (int i = 0; i < 3; i++)
+        close(callers[i]);
+    close(listener);
+    close_ring(&ring);
+}
+
+static void test_splice(void)
+{
+    struct ring ring;
+    char text[8];
+    int first[2], second[2];
+    check(pipe(first) == 0 && pipe(second) == 0);
+    make_ring(&ring, 8, 0, 0);
+    for (int i = 0; i < 2; i++) {
+        struct io_uring_sqe *entry = put_plain(&ring, i == 0 ? IORING_OP_TEE : IORING_OP_SPLICE, 0, second[1]);
+        entry->splice_fd_in = first[0];
+        entry->len = 5;
+        if (i == 1)
+            entry->off = entry->splice_off_in = (uint64_t)-1;
+        check(enter(&ring, 1, 0, 0) == 1);
+        if (i == 0) {
+            check(enter_for(&ring, 1, 1000) == -ETIME);
+            check(write(first[1], "piped", 5) == 5);
+        }
+        check(next_of(&ring).res == 5);
+        check(read(second[0], text, 8) == 5 && memcmp(text, "piped", 5) == 0);
+    }
+    struct io_uring_sqe *bad = put_plain(&ring, IORING_OP_SPLICE, 0, second[1]);
+    bad->splice_fd_in = first[0];
+    bad->len = 5;
+    check(result_of_one(&ring, 1) == -ESPIPE);
+    for (int i = 0; i < 2; i++) {
+        close(first[i]);
+        close(second[i]);
+    }
+    close_ring(&ring);
+}
+
+static void test_messages(void)
+{
+    struct ring ring, other;
+    make_ring(&ring, 8, 0, 0);
+    make_ring(&other, 8, 0, 0);
+    struct io_uring_sqe *entry = put_plain(&ring, IORING_OP_MSG_RING, 0, other.fd);
+    entry->len = 77;
+    entry->off = 5;
+    check(result_of_one(&ring, 1) == 0);
+    struct seen found = next_of(&other);
+    check(found.user_data == 5 && found.res == 77 && found.flags == 0);
+    /* The other ring takes entries as before. */
+    put(&other, IORING_OP_NOP, 0, 0);
+    check(result_of_one(&other, 1) == 0);
+    put_plain(&ring, IORING_OP_MSG_RING, 0, make_file());
+    check(result_of_one(&ring, 1) == -EBADFD);
+    close_ring(&ring);
+    close_ring(&other);
+}
+
+int main(int count, char **words)
+{
+    static const struct named tests[] = {
+        {"linked timeout", test_linked_timeout},
+        {"timeouts", test_timeouts},
+        {"cancels", test_cancels},
+        {"polls", test_polls},
+        {"sockets", test_sockets},
+        {"multishot receive", test_multishot_receive},
+        {"multishot accept", test_multishot_accept},
+        {"splice", test_splice},
+        {"messages", test_messages},
+    };
+    return run_tests(tests, sizeof tests / sizeof *tests, count > 1 ? words[1] : NULL);
+}
