@@ -11,8 +11,8 @@
 #include "ring.h"
 #include "sockets.h"
 #include "splices.h"
-#include "timeouts.h"
 #include "syncing.h"
+#include "timeouts.h"
 
 #include <errno.h>
 #include <fcntl.h>
