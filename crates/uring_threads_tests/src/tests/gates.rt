@@ -54,19 +54,34 @@ fn goes_through<K: KernelPort>(ends: &mut Ends<K, Noting>, shown: &Shown) -> boo
     submitted && before && one && two
 }
 
-/// Whether it goes so at new ends of one worker.
-fn is_shown<K: Ports>(alloc: Global) -> Result<bool, Fail> {
+/// New ends of one worker, with a gate that notes here what it is shown.
+fn noting_ends<'a, K: Ports>(
+    alloc: Global,
+    shown: &'a Shown,
+) -> Result<Ends<K, Noting<'a>>, Fail> {
     let setup = Setup::new(4, Some(4), 1, 0)?;
+    let gates = vec![in alloc; Noting(shown)]?;
+    Ok(K::ends(alloc, &setup, gates)?)
+}
+
+/// Whether it goes so at these ends.
+fn is_shown_at_new_ends<K: Ports>(alloc: Global, shown: &Shown) -> Result<bool, Fail> {
+    let mut ends = noting_ends::<K>(alloc, shown)?;
+    let right = goes_through(&mut ends, shown);
+    drop(ends);
+    Ok(right)
+}
+
+/// The same with nothing noted yet.
+fn is_shown<K: Ports>(alloc: Global) -> Result<bool, Fail> {
     let shown = Shown {
         times: AtomicU64::new(0),
         number: AtomicU64::new(99),
         len: AtomicU64::new(99),
     };
-    let gates = vec![in alloc; Noting(&shown)]?;
-    let mut ends = K::ends(alloc, &setup, gates)?;
-    let right = goes_through(&mut ends, &shown);
-    drop(ends);
-    Ok(right)
+    let right = is_shown_at_new_ends::<K>(alloc, &shown);
+    drop(shown);
+    right
 }
 
 #[test]

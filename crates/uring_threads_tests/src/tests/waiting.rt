@@ -31,30 +31,40 @@ fn are_served<K: KernelPort>(ends: &mut Ends<K, Open>, count: usize, delivered: 
 }
 
 /// Whether calls are taken in behind four completions that fill the ring, with one and then three that wait.
-fn are_taken_in<K: Ports>(alloc: Global) -> Result<bool, Fail> {
+fn are_taken_in<K: KernelPort>(ends: &mut Ends<K, Open>) -> bool {
+    are_served(ends, 4, 4)
+        && are_served(ends, 1, 0)
+        && are_served(ends, 2, 0)
+        && are_served(ends, 3, 0)
+}
+
+/// The same at new ends.
+fn are_taken_in_at_new_ends<K: Ports>(alloc: Global) -> Result<bool, Fail> {
     let mut ends = new_ends::<K>(alloc, 2, 1)?;
-    let right = are_served(&mut ends, 4, 4)
-        && are_served(&mut ends, 1, 0)
-        && are_served(&mut ends, 2, 0)
-        && are_served(&mut ends, 3, 0);
+    let right = are_taken_in(&mut ends);
     drop(ends);
     Ok(right)
 }
 
 /// Whether a turn that takes a call in also takes in the result of the call before it.
-fn are_taken_beside<K: Ports>(alloc: Global) -> Result<bool, Fail> {
-    let mut ends = new_ends::<K>(alloc, 2, 1)?;
+fn are_taken_beside<K: KernelPort>(ends: &mut Ends<K, Open>) -> bool {
     let first = ends.submit(&[nop(1)]) && ends.turn() == Some(turn(1, 1, 0, 0));
-    let done = first && are_done(&mut ends, 1);
-    let right = done && ends.submit(&[nop(2)]) && ends.turn() == Some(turn(1, 1, 1, 1));
+    let done = first && are_done(ends, 1);
+    done && ends.submit(&[nop(2)]) && ends.turn() == Some(turn(1, 1, 1, 1))
+}
+
+/// The same at new ends.
+fn are_taken_beside_at_new_ends<K: Ports>(alloc: Global) -> Result<bool, Fail> {
+    let mut ends = new_ends::<K>(alloc, 2, 1)?;
+    let right = are_taken_beside(&mut ends);
     drop(ends);
     Ok(right)
 }
 
 #[test]
 fn results_are_taken_in_beside_a_call(rt: HostRuntime) -> Result<(), Fail> {
-    let lanes = are_taken_beside::<KernelLanes>(rt.alloc())?;
-    let words = are_taken_beside::<KernelWords>(rt.alloc())?;
+    let lanes = are_taken_beside_at_new_ends::<KernelLanes>(rt.alloc())?;
+    let words = are_taken_beside_at_new_ends::<KernelWords>(rt.alloc())?;
     assert!(rt; lanes, "over lanes");
     assert!(rt; words, "over words");
     Ok(())
@@ -62,8 +72,8 @@ fn results_are_taken_in_beside_a_call(rt: HostRuntime) -> Result<(), Fail> {
 
 #[test]
 fn calls_are_taken_in_while_completions_wait(rt: HostRuntime) -> Result<(), Fail> {
-    let lanes = are_taken_in::<KernelLanes>(rt.alloc())?;
-    let words = are_taken_in::<KernelWords>(rt.alloc())?;
+    let lanes = are_taken_in_at_new_ends::<KernelLanes>(rt.alloc())?;
+    let words = are_taken_in_at_new_ends::<KernelWords>(rt.alloc())?;
     assert!(rt; lanes, "over lanes");
     assert!(rt; words, "over words");
     Ok(())

@@ -1,4 +1,5 @@
 use Rattle.std.proofs.lemmas.Bool.{false≢true}
+use Rattle.std.proofs.lemmas.Result.{IfOk-from_err}
 use Rattle.std.proofs.Common.{rules, ◌≡◌, ◌+◌, length, refl, subst, ◌∙◌, arith}
 use Rattle.uring_threads.specs.Kept.{now}
 use Rattle.uring_threads.specs.Tallies.{finishes_counted}
@@ -50,3 +51,42 @@ loop-place-preserved g c =
 
 pub returns-in_err-count-clause-granted : goal.returns-in_err-count-clause-granted
 returns-in_err-count-clause-granted g c = λ all. absurd (false≢true (c.in_err-count.ensures.granted all))
+
+pub collect_at-requires-clause-carried : goal.collect_at-requires-clause-carried
+collect_at-requires-clause-carried g c = c.loop-place.invariant.carried
+
+pub returns-in_err-count-clause-carried : goal.returns-in_err-count-clause-carried
+returns-in_err-count-clause-carried g c = c.collect_at.ensures.carried
+
+pub returns-in_err-count-clause-lanes : goal.returns-in_err-count-clause-lanes
+returns-in_err-count-clause-lanes g c = lanes_then c.args.lanes.now c.loop-place.lanes c.collect_at.new.lanes c.loop-place.invariant.lanes c.collect_at.ensures.lanes
+
+pub returns-in_err-count-clause-posts : goal.returns-in_err-count-clause-posts
+returns-in_err-count-clause-posts g c = posts_then (now c.args.kept.now) (now c.loop-place.kept) (now c.collect_at.new.kept) c.loop-place.invariant.posts c.collect_at.ensures.posts
+
+pub returns-in_err-count-clause-seen : goal.returns-in_err-count-clause-seen
+returns-in_err-count-clause-seen g c = IfOk-from_err c.from_residual.result _ c.from_residual.ensures.0
+
+pub returns-in_err-count-clause-tally : goal.returns-in_err-count-clause-tally
+returns-in_err-count-clause-tally g c = IfOk-from_err c.from_residual.result _ c.from_residual.ensures.0
+
+pub returns-in_err-count-clause-idle : goal.returns-in_err-count-clause-idle
+returns-in_err-count-clause-idle g c = IfOk-from_err c.from_residual.result _ c.from_residual.ensures.0
+
+pub returns-clause-carried : goal.returns-clause-carried
+returns-clause-carried g c = c.loop-place.invariant.carried
+
+pub returns-clause-lanes : goal.returns-clause-lanes
+returns-clause-lanes g c = c.loop-place.invariant.lanes
+
+pub returns-clause-posts : goal.returns-clause-posts
+returns-clause-posts g c = c.loop-place.invariant.posts
+
+pub returns-clause-tally : goal.returns-clause-tally
+returns-clause-tally g c = c.loop-place.invariant.tally
+
+pub returns-clause-row : goal.returns-clause-row
+returns-clause-row g c = c.loop-place.invariant.row
+
+pub returns-clause-idle : goal.returns-clause-idle
+returns-clause-idle g c = c.loop-place.invariant.idle

@@ -1,4 +1,5 @@
 use Rattle.std.proofs.Common.{length}
+use Rattle.std.proofs.lemmas.Result.{IfOk-weaker, on_err_weaker}
 use Rattle.std.proofs.lemmas.List.{get_or-set_other}
 use Rattle.uring_workers.specs.WorkLanes.{results_seen}
 use Rattle.uring_threads.proofs.Carrying.{some_collected, carried_set}
@@ -28,3 +29,23 @@ returns-clause-none_comes g c =
 
 pub returns-clause-others : goal.returns-clause-others
 returns-clause-others g c = λ k other d. get_or-set_other c.args.lanes.now c.args.place k _ d other
+
+pub returns-clause-posts : goal.returns-clause-posts
+returns-clause-posts g c =
+    let p = some_collected c.collect.result c.args.kept.now c.collect.new.kept (length c.args.lanes.now) c.args.place (results_seen c.collect.new.lanes) c.collect.ensures.ok c.collect.ensures.err in
+    p.1.posts
+
+pub returns-clause-tally : goal.returns-clause-tally
+returns-clause-tally g c = IfOk-weaker c.collect.result _ _ (λ count seen. seen.collected.tally) c.collect.ensures.ok
+
+pub returns-clause-most : goal.returns-clause-most
+returns-clause-most g c = IfOk-weaker c.collect.result _ _ (λ count seen. seen.most) c.collect.ensures.ok
+
+pub returns-clause-idle : goal.returns-clause-idle
+returns-clause-idle g c = IfOk-weaker c.collect.result _ _ (λ count seen. seen.collected.idle) c.collect.ensures.ok
+
+pub returns-clause-err : goal.returns-clause-err
+returns-clause-err g c = on_err_weaker c.collect.result (λ taken. (taken.0, taken.2.tally)) c.collect.ensures.err
+
+pub returns-clause-granted : goal.returns-clause-granted
+returns-clause-granted g c = c.collect.ensures.granted

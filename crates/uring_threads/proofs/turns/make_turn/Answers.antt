@@ -1,6 +1,7 @@
 use Rattle.std.proofs.lemmas.Bool.{false≢true}
-use Rattle.std.proofs.Common.{◌≡◌, ◌<◌, ◌≤◌, zero, [], length, subst, sym, refl, ap, ◌∙◌}
-use Rattle.std.specs.Prelude.{OnOk, OnErr}
+use Rattle.std.proofs.Common.{◌≡◌, ◌<◌, ◌≤◌, zero, [], length, subst, sym, refl, ap, ◌∙◌, arith}
+use Rattle.std.specs.Prelude.{◌⊎◌, None, OnOk, OnErr}
+use Rattle.uring_entry.specs.Requests.{next_of}
 use Rattle.uring_entry.specs.Setup.{Setup}
 use Rattle.uring_entry.specs.Submission.{dropped}
 use Rattle.uring_ports.specs.Dropped.{with_word}
@@ -18,6 +19,7 @@ use Rattle.uring_threads.proofs.FewResults.{few_of_none, few_behind, few_before}
 use Rattle.uring_threads.proofs.Recording.{finishes_many, issues_many, records_none, records_nothing, turn_recorded}
 use Rattle.uring_threads.proofs.TraceSteps.{appends_none}
 use Rattle.uring_threads.proofs.Turning.{ties_taken, ties_posted, ties_worked, ties_unmoved, ties_delivered, counts_all, some_then, lanes_then}
+use Rattle.uring_workers.specs.WorkLanes.{SomeIsFull}
 use Rattle.uring_threads.proofs.turns.make_turn.Goals as goal
 
 pub returns-in_err-popped-clause-ties : goal.returns-in_err-popped-clause-ties
@@ -407,3 +409,40 @@ returns-in_err-delivered-clause-granted g c = λ all. absurd (false≢true (c.in
 
 pub returns-clause-granted : goal.returns-clause-granted
 returns-clause-granted g c = λ all. c.tell_dropped.ensures.ok (c.take_in.ensures.begun all)
+
+pub returns-in_err-popped-clause-none_left : goal.returns-in_err-popped-clause-none_left
+returns-in_err-popped-clause-none_left g c = IfOk-from_err c.from_residual.result _ c.from_residual.ensures.0
+
+pub returns-in_err-popped-clause-all : goal.returns-in_err-popped-clause-all
+returns-in_err-popped-clause-all g c = IfOk-from_err c.from_residual.result _ c.from_residual.ensures.0
+
+pub returns-in_err-finished-clause-none_left : goal.returns-in_err-finished-clause-none_left
+returns-in_err-finished-clause-none_left g c = IfOk-from_err c.from_residual-in_err-finished.result _ c.from_residual-in_err-finished.ensures.0
+
+pub returns-in_err-finished-clause-all : goal.returns-in_err-finished-clause-all
+returns-in_err-finished-clause-all g c = IfOk-from_err c.from_residual-in_err-finished.result _ c.from_residual-in_err-finished.ensures.0
+
+pub returns-in_err-issued-clause-none_left : goal.returns-in_err-issued-clause-none_left
+returns-in_err-issued-clause-none_left g c = IfOk-from_err c.from_residual-in_err-issued.result _ c.from_residual-in_err-issued.ensures.0
+
+pub returns-in_err-issued-clause-all : goal.returns-in_err-issued-clause-all
+returns-in_err-issued-clause-all g c = IfOk-from_err c.from_residual-in_err-issued.result _ c.from_residual-in_err-issued.ensures.0
+
+pub returns-in_err-delivered-clause-none_left : goal.returns-in_err-delivered-clause-none_left
+returns-in_err-delivered-clause-none_left g c = IfOk-from_err c.from_residual-in_err-delivered.result _ c.from_residual-in_err-delivered.ensures.0
+
+pub returns-in_err-delivered-clause-all : goal.returns-in_err-delivered-clause-all
+returns-in_err-delivered-clause-all g c = IfOk-from_err c.from_residual-in_err-delivered.result _ c.from_residual-in_err-delivered.ensures.0
+
+pub returns-clause-none_left : goal.returns-clause-none_left
+returns-clause-none_left g c =
+    let left = subst (λ r. (next_of r ≡ None) ⊎ SomeIsFull c.issue_all.new.lanes) (sym c.deliver.ensures.keeps.requests) c.in_ok-issued.ensures.none_left in
+    IfOk-weaker c.tell_dropped.result _ _ (λ made same. left) c.tell_dropped.ensures.turn
+
+pub returns-clause-all : goal.returns-clause-all
+returns-clause-all g c =
+    let setup = c.in_ok-issued.ensures.tally.setup ∙ c.in_ok-finished.ensures.tally.setup ∙ c.in_ok-popped.ensures.taken.appends.setup in
+    let posted = c.deliver.ensures.keeps.posted in
+    IfOk-weaker c.tell_dropped.result _ _
+    (λ made same few. ap length c.tell_dropped.ensures.delivered ∙ c.in_ok-delivered.ensures.all (omega (arith, few, ap length posted, ap (λ (s : Setup). s.cq) setup)) ∙ ap length (sym posted))
+    c.tell_dropped.ensures.turn

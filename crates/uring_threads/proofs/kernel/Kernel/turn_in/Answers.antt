@@ -123,3 +123,6 @@ returns-clause-pulls g c =
 pub returns-clause-looked : goal.returns-clause-looked
 returns-clause-looked g c =
     subst (λ (k : Kernel). OnOk c.make_turn.result (HasLooked k.room_looks (g.P.KernelPort.room_looks c.make_turn.new.port))) c.self.view_is c.make_turn.ensures.looked
+
+pub returns-clause-granted : goal.returns-clause-granted
+returns-clause-granted g c = c.make_turn.ensures.granted
