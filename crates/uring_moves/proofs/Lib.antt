@@ -9,5 +9,8 @@ pub mod Reaping
 pub mod MovesLead
 -- What is so of each moment:
 pub mod SoundMoments
+pub mod Prompting
 -- The laws:
 pub mod OutcomeLaws
+-- The definitions, computed on small cases:
+mod WorkedMoves

@@ -125,29 +125,29 @@ call_comes g w files call within c =
 
 -- An issue and a finish.
 
-can_then : (can : Bool) (x y : Moment) → can ≡ true → x ≡ y → (if can then Some x else None) ≡ Some y
+pub can_then : (can : Bool) (x y : Moment) → can ≡ true → x ≡ y → (if can then Some x else None) ≡ Some y
 can_then true x y is same = ap (λ z. Some z) same
 can_then false x y is same = absurd cc
 
-issuable_so : (outstanding running doomed ready : Bool) → outstanding ≡ true → running ≡ false
+pub issuable_so : (outstanding running doomed ready : Bool) → outstanding ≡ true → running ≡ false
     → (doomed || ready) ≡ true → (outstanding && not running && (doomed || ready)) ≡ true
 issuable_so true false doomed ready e f h = h
 issuable_so true true doomed ready e f h = absurd cc
 issuable_so false running doomed ready e f h = absurd cc
 
-or_first : (a b : Bool) → a ≡ true → (a || b) ≡ true
+pub or_first : (a b : Bool) → a ≡ true → (a || b) ≡ true
 or_first true b e = refl
 or_first false b e = absurd cc
 
-or_second : (a b : Bool) → b ≡ true → (a || b) ≡ true
+pub or_second : (a b : Bool) → b ≡ true → (a || b) ≡ true
 or_second true b e = refl
 or_second false b e = e
 
-if_so : (b : Bool) (x y : Moment) → b ≡ true → (if b then x else y) ≡ x
+pub if_so : (b : Bool) (x y : Moment) → b ≡ true → (if b then x else y) ≡ x
 if_so true x y e = refl
 if_so false x y e = absurd cc
 
-if_not : (b : Bool) (x y : Moment) → b ≡ false → (if b then x else y) ≡ y
+pub if_not : (b : Bool) (x y : Moment) → b ≡ false → (if b then x else y) ≡ y
 if_not false x y e = refl
 if_not true x y e = absurd cc
 
