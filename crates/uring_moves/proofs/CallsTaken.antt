@@ -1,8 +1,6 @@
 -- A ring that stands empty takes a whole call: from a world, the world after the call, which some lawful history makes.
 -- By the laws of single steps, with the answers that are called for: first the items, then the tail, Begin, each Take, End and LoadHead.
-use Rattle.std.proofs.Common.{◌≡◌, ℕ, ◌+◌, ◌-◌, ◌^◌, ◌<◌, ◌≤◌, Bool, true, false, zero, suc, nat_lt, min, List, [], ◌∷◌, ◌++◌, length, take, drop, map, Option, Some, None, is_some, if◌then◌else◌, refl, sym, subst, ap, ap₂, ◌∙◌, inl, inr, arith}
-use Rattle.std.specs.Prelude.{All}
-use Rattle.std.proofs.lemmas.Bool.{le-ltb}
+use Rattle.std.proofs.Common.{◌≡◌, ℕ, ◌+◌, ◌≤◌, Bool, true, false, zero, suc, List, [], ◌∷◌, ◌++◌, length, Option, Some, None, is_some, if◌then◌else◌, refl, sym, subst, ap, ◌∙◌, inl, arith}
 use Rattle.std.proofs.lemmas.List.{length_push}
 use Rattle.uring_entry.specs.Setup.{Setup}
 use Rattle.uring_entry.specs.Layout.{Sqe}
@@ -15,7 +13,7 @@ use Rattle.uring_core.specs.declared.step.Step.TheVariants as step
 use Rattle.uring_core.specs.declared.answer.Answer.{Answer}
 use Rattle.uring_core.specs.declared.answer.Answer.TheVariants as answer
 use Rattle.uring_laws.specs.Standing.{Stands, with_items, in_call, after_call}
-use Rattle.uring_laws.proofs.Standing.{slot_filled, word_staged, tail_publishes, items_keep, call_opens, position_taken, call_closes}
+use Rattle.uring_laws.proofs.Standing.{slot_filled, word_staged, tail_publishes, call_opens, position_taken, call_closes}
 use Rattle.uring_moves.proofs.Reaching.{Reaches, step_on, as_well}
 
 -- The items.

@@ -1,9 +1,9 @@
 -- Lists of items and of places: which entries they have, how many are dropped, and how calls are cut.
-use Rattle.std.proofs.Common.{◌≡◌, ℕ, ◌+◌, ◌≤◌, Bool, true, false, List, [], ◌∷◌, ◌++◌, length, take, drop, map, sum, flat_map, Option, Some, None, cond, refl, sym, subst, ap, ap₂, ◌∙◌, arith, append-nil}
-use Rattle.std.specs.Prelude.{count_by, is_none}
-use Rattle.std.specs.List.{filter_map, cons_option}
-use Rattle.std.proofs.Math.Seq.{take-add, drop-append_seam, take-length, take-append_seam}
-use Rattle.std.proofs.lemmas.List.{length-append, length-map, map-append, drop-map, take-map}
+use Rattle.std.proofs.Common.{◌≡◌, ℕ, ◌+◌, ◌≤◌, Bool, List, [], ◌∷◌, ◌++◌, length, take, drop, map, sum, Option, Some, None, cond, refl, sym, ap, ap₂, ◌∙◌, arith, append-nil}
+use Rattle.std.specs.Prelude.{is_none}
+use Rattle.std.specs.List.{cons_option}
+use Rattle.std.proofs.Math.Seq.{drop-append_seam, take-length}
+use Rattle.std.proofs.lemmas.List.{drop-map, take-map}
 use Rattle.std.proofs.lemmas.List.Concat.{length-flat_map}
 use Rattle.std.proofs.lemmas.List.Sums.{sum-map, sum_by-cons}
 use Rattle.std.proofs.lemmas.Grind.{flat_map-append}

@@ -1,16 +1,16 @@
 -- A lawful history that refuses no memory makes moves: each event is a move, or changes nothing of a moment.
 -- By cases on `Change`: the close of a call is an accepting, an issue and a finish that isn't refused are moves, and all else is silent.
-use Rattle.std.proofs.Common.{◌≡◌, ℕ, ◌+◌, ◌≤◌, ℤ, Bool, true, false, not, ◌&&◌, ◌||◌, nat_lt, List, [], ◌∷◌, ◌++◌, length, take, drop, map, sum, Option, Some, None, if◌then◌else◌, refl, sym, subst, ap, ap₂, ◌∙◌, arith, append_assoc, append-nil}
+use Rattle.std.proofs.Common.{◌≡◌, ℕ, ◌+◌, ◌≤◌, ℤ, Bool, true, false, not, ◌&&◌, ◌||◌, nat_lt, List, [], ◌∷◌, ◌++◌, length, take, drop, map, Option, Some, None, if◌then◌else◌, refl, sym, subst, ap, ap₂, ◌∙◌, arith, append_assoc}
 use Rattle.std.specs.Option.{option_and_then}
 use Rattle.std.proofs.Math.Seq.{take-add}
 use Rattle.std.proofs.lemmas.Bool.{lt-ltb, and_parts}
 use Rattle.std.proofs.lemmas.List.{length-map, length-take-le, map-append, drop-map, take-map, take-append-le, length-drop}
 use Rattle.std.proofs.lemmas.List.Sums.{sum_by_push}
 use Rattle.uring_entry.specs.Setup.{Setup}
-use Rattle.uring_entry.specs.Layout.{Sqe, Cqe}
+use Rattle.uring_entry.specs.Layout.{Sqe}
 use Rattle.uring_entry.specs.Preparation.{is_cancel, operation_of}
-use Rattle.uring_entry.specs.Submission.{Submission, Call, Place, taken, entries_from, places_from, Published, published_items, place_of}
-use Rattle.uring_entry.specs.Requests.{Requests, entry_of, is_outstanding, is_running, is_doomed, is_ready, is_issuable, doomed_result, cancel_result, no_bytes, with_call, with_ended}
+use Rattle.uring_entry.specs.Submission.{Submission, Call, taken, entries_from, places_from, Published, published_items, place_of}
+use Rattle.uring_entry.specs.Requests.{Requests, entry_of, is_outstanding, is_running, is_doomed, is_ready, is_issuable, doomed_result, cancel_result, no_bytes, with_call}
 use Rattle.uring_entry.specs.declared.operation.Outcome.{Outcome}
 use Rattle.uring_files.specs.Contents.{FileContents, empty_files}
 use Rattle.uring_files.specs.Operations.{after, result_of}
@@ -25,11 +25,10 @@ use Rattle.uring_core.specs.declared.answer.Answer.TheVariants as answer
 use Rattle.uring_core.proofs.Changes.{Change, refuses, stores, takes, drops, closes, runs, dooms, cancels, finishes, change_of}
 use Rattle.uring_core.proofs.FileHistory.{files_kept, files_ended}
 use Rattle.uring_core.proofs.Sound.{IsSound, sound_of}
-use Rattle.uring_core.proofs.SoundRings.{open_taken, open_count}
-use Rattle.uring_core.proofs.SoundRequests.{IsSoundRequests}
+use Rattle.uring_core.proofs.SoundRings.{open_count}
 use Rattle.uring_laws.proofs.WholeLaws.{lawful_apart}
 use Rattle.uring_machine.specs.Machine.{IsUnrefused, finish_answer}
-use Rattle.uring_moves.specs.Moments.{Moment, starting, issued, finished, started, ended_at_once, is_finishable, moved, after_moves}
+use Rattle.uring_moves.specs.Moments.{Moment, starting, issued, finished, ended_at_once, is_finishable, moved, after_moves}
 use Rattle.uring_moves.specs.Outcomes.{items_in, entries_in, RefusesNone}
 use Rattle.uring_moves.specs.declared.move_of_calls.Move.{Move}
 use Rattle.uring_moves.specs.declared.move_of_calls.Move.TheVariants as move

@@ -1,12 +1,12 @@
 -- Each list of moves is made by some lawful history: from a world that shows the moment, move by move.
-use Rattle.std.proofs.Common.{◌≡◌, ℕ, ◌+◌, ◌-◌, ◌^◌, ◌≤◌, ℤ, Bool, true, false, not, ◌&&◌, ◌||◌, nat_lt, List, [], ◌∷◌, ◌++◌, length, map, Option, Some, None, if◌then◌else◌, refl, sym, subst, ap, ap₂, ◌∙◌, inl, inr, arith, append_assoc, append-nil}
+use Rattle.std.proofs.Common.{◌≡◌, ℕ, ◌+◌, ◌-◌, ◌^◌, ◌≤◌, ℤ, Bool, true, false, not, ◌&&◌, ◌||◌, nat_lt, List, [], ◌∷◌, ◌++◌, length, map, Some, None, if◌then◌else◌, refl, sym, subst, ap, ◌∙◌, arith, append_assoc}
 use Rattle.std.specs.Prelude.{All, unwrap_or}
 use Rattle.std.specs.Option.{option_and_then}
 use Rattle.std.proofs.lemmas.Bool.{and_parts, le-ltb}
 use Rattle.std.proofs.lemmas.List.{length-append, length-map, map-append}
 use Rattle.std.proofs.lemmas.List.Elements.{All-head, All-tail}
 use Rattle.uring_entry.specs.Setup.{Setup}
-use Rattle.uring_entry.specs.Layout.{Sqe, Cqe}
+use Rattle.uring_entry.specs.Layout.{Sqe}
 use Rattle.uring_entry.specs.Preparation.{is_cancel, operation_of}
 use Rattle.uring_entry.specs.Success.{posts_completion}
 use Rattle.uring_entry.specs.Submission.{Submission, taken, entries_from, Published, with_entry, bad_word, published_items}
@@ -16,20 +16,20 @@ use Rattle.uring_entry.specs.declared.operation.Outcome.{Outcome}
 use Rattle.uring_files.specs.Contents.{FileContents}
 use Rattle.uring_files.specs.Operations.{after, result_of}
 use Rattle.uring_core.specs.World.{World, happens}
-use Rattle.uring_core.specs.StepAnswers.{issue_answer, is_spent}
+use Rattle.uring_core.specs.StepAnswers.{issue_answer}
 use Rattle.uring_core.specs.declared.step.Step.TheVariants as step
 use Rattle.uring_core.specs.declared.answer.Answer.{Answer}
 use Rattle.uring_core.specs.declared.answer.Answer.TheVariants as answer
 use Rattle.uring_laws.specs.Standing.{Stands, with_item, with_items, after_call}
-use Rattle.uring_laws.proofs.Standing.{items_keep, items_published}
-use Rattle.uring_moves.specs.Moments.{Moment, posted_with, started, ended_at_once, issued, finished, is_finishable, moved, after_moves}
+use Rattle.uring_laws.proofs.Standing.{items_published}
+use Rattle.uring_moves.specs.Moments.{Moment, posted_with, started, ended_at_once, issued, finished, is_finishable, after_moves}
 use Rattle.uring_moves.specs.Outcomes.{items_in, entries_in}
 use Rattle.uring_moves.specs.Laws.{GoesThrough}
 use Rattle.uring_moves.specs.declared.move_of_calls.Move.{Move}
 use Rattle.uring_moves.specs.declared.move_of_calls.Move.TheVariants as move
-use Rattle.uring_moves.proofs.ItemLists.{item, items_behind, items_more, few_entries, length_items}
-use Rattle.uring_moves.proofs.Reaching.{Reaches, step_on, finish_on, ends_as_called, as_well}
-use Rattle.uring_moves.proofs.CallsTaken.{with_call_published, CallIsTaken, call_is_taken}
+use Rattle.uring_moves.proofs.ItemLists.{item, items_behind, items_more, few_entries}
+use Rattle.uring_moves.proofs.Reaching.{Reaches, step_on, finish_on, ends_as_called}
+use Rattle.uring_moves.proofs.CallsTaken.{with_call_published, call_is_taken}
 
 -- the moment that a world shows, with these files and with these calls left
 abbrev pub moment_of : World → List FileContents → List (List Sqe) → Moment
@@ -70,16 +70,18 @@ call_made g goes w files done call b goes_in room =
     let w2 : World = with_call_published g w call in
     let now : published_items w2.submission ≡ items_in done ++ call = items_published w.submission g.sq call b.stands.fresh goes_in.few goes_in.are_items ∙ ap (λ xs. xs ++ call) b.published in
     let same_calls : w2.submission.calls ≡ w.submission.calls = calls_keep w.submission 0 call in
-    let reached : taken w2.submission ≡ length (items_in done) = omega (arith, t.waits.waiting, ap length now, length-append (items_in done) call, length-map w2.submission.published item) in
-    (record {
-      reaches = t.reaches;
-      stands = t.stands;
-      is_open = b.is_open;
-      published = now ∙ sym (items_more done call);
-      cut = ap (λ xs. xs ++ length call ∷ []) (same_calls ∙ b.cut) ∙ sym (map-append length done (call ∷ []));
-      none_reaped = b.none_reaped;
-      none_stored = b.none_stored;
-    }, items_behind w2.submission (items_in done) call now reached) where
+    let reached : taken w2.submission ≡ length (items_in done) = omega (arith, t.waits.waiting, ap length now, length-append (items_in done) call, length-map w2.submission.published item) in (
+      record {
+        reaches = t.reaches;
+        stands = t.stands;
+        is_open = b.is_open;
+        published = now ∙ sym (items_more done call);
+        cut = ap (λ xs. xs ++ length call ∷ []) (same_calls ∙ b.cut) ∙ sym (map-append length done (call ∷ []));
+        none_reaped = b.none_reaped;
+        none_stored = b.none_stored;
+      },
+      items_behind w2.submission (items_in done) call now reached,
+    ) where
       calls_keep : (l : Submission) (slot : ℕ) (items : List Published) → (with_items l slot items).calls ≡ l.calls
       calls_keep l slot [] = refl
       calls_keep l slot (with_entry entry ∷ later) = calls_keep (with_item l slot (with_entry entry)) (slot + 1) later

@@ -1,20 +1,18 @@
 -- The laws of `laws.rt`: from `history_comes`, and from `moves_made` with all completions reaped behind it.
-use Rattle.std.proofs.Common.{◌≡◌, ℕ, ◌+◌, ◌-◌, ◌%◌, ◌^◌, ◌≤◌, List, [], ◌∷◌, ◌++◌, length, take, drop, map, sum, Option, Some, refl, sym, subst, ap, ap₂, ◌∙◌, arith, append-nil}
+use Rattle.std.proofs.Common.{◌≡◌, ℕ, ◌%◌, ◌^◌, ◌≤◌, List, [], ◌∷◌, ◌++◌, length, take, drop, map, sum, refl, sym, ap, ap₂, ◌∙◌, arith, append-nil}
 use Rattle.std.proofs.Math.Seq.{take-length, take-append_seam, drop-append_seam}
 use Rattle.std.proofs.lemmas.List.{take-map}
 use Rattle.std.proofs.lemmas.Nat.{pow_pos}
 use Rattle.std.specs.Int.{IsPowerOfTwo}
 use Rattle.uring_entry.specs.Setup.{Setup}
-use Rattle.uring_entry.specs.Layout.{Sqe}
-use Rattle.uring_entry.specs.Submission.{Submission, taken, dropped, dropped_in, Published, published_items}
-use Rattle.uring_entry.specs.Requests.{Requests, outstanding_in}
-use Rattle.uring_entry.specs.Completions.{Completions}
+use Rattle.uring_entry.specs.Submission.{Submission, taken, dropped, Published, published_items}
+use Rattle.uring_entry.specs.Requests.{outstanding_in}
 use Rattle.uring_files.specs.Contents.{FileContents, empty_files}
 use Rattle.uring_core.specs.World.{World, at_first}
 use Rattle.uring_core.specs.CalledFor.{files_of}
-use Rattle.uring_core.specs.Histories.{History, world}
+use Rattle.uring_core.specs.Histories.{world}
 use Rattle.uring_moves.specs.Moments.{Moment, starting, after_moves}
-use Rattle.uring_moves.specs.Outcomes.{CallsOutcome, ComesTo, IsOutcomeOf, IsMovedTo, items_in, entries_in, bad_in}
+use Rattle.uring_moves.specs.Outcomes.{CallsOutcome, ComesTo, items_in, entries_in, bad_in}
 use Rattle.uring_moves.specs.Laws.{HistoriesAreMoves, MovesAreHistories, IsPlayed}
 use Rattle.uring_moves.proofs.ItemLists.{item, dropped_back, length_items}
 use Rattle.uring_moves.proofs.MovesMade.{moment_of, Between, moves_made}

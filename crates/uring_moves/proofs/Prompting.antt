@@ -1,27 +1,25 @@
 -- The law `prompt_moves_lead`: moves are followed by prompt ones, which start each request only where the others finish it.
 -- What runs stays ready and is never doomed, so that it may start as late. Which requests were started is read of a cancel alone.
-use Rattle.std.proofs.Common.{◌≡◌, ℕ, ◌+◌, ◌-◌, ◌<◌, ◌≤◌, ℤ, Bool, true, false, not, ◌&&◌, ◌||◌, ◌==◌, nat_lt, List, [], ◌∷◌, ◌++◌, length, get_or, Option, Some, None, if◌then◌else◌, refl, sym, subst, ap, ap₂, ◌∙◌, ◌⊎◌, inl, inr, arith, append-nil}
+use Rattle.std.proofs.Common.{◌≡◌, ℕ, ◌+◌, ◌-◌, ◌<◌, ℤ, Bool, true, false, not, ◌&&◌, ◌||◌, ◌==◌, nat_lt, List, [], ◌∷◌, ◌++◌, length, get_or, Option, Some, None, if◌then◌else◌, refl, sym, subst, ap, ap₂, ◌∙◌, ◌⊎◌, inl, inr, arith}
 use Rattle.std.specs.Prelude.{All, unwrap_or}
 use Rattle.std.specs.List.{list_any}
 use Rattle.std.specs.Option.{option_and_then}
-use Rattle.std.proofs.lemmas.Bool.{and_parts, both_ways, cases_Bool, cases_lt, eqb-true, eq-eqb, false_from_ne_true, lt-ltb}
+use Rattle.std.proofs.lemmas.Bool.{and_parts, both_ways, cases_Bool, cases_lt, eqb-true, eq-eqb, false_from_ne_true}
 use Rattle.std.proofs.lemmas.List.{get_or_append_left, get_or-append-add}
 use Rattle.std.proofs.Math.ListN.{get_or-eq_default}
 use Rattle.std.proofs.lemmas.List.Elements.{All-head, All-tail}
 use Rattle.uring_entry.specs.Setup.{Setup}
-use Rattle.uring_entry.specs.Layout.{Sqe, Cqe, zero_entry}
+use Rattle.uring_entry.specs.Layout.{Sqe, zero_entry}
 use Rattle.uring_entry.specs.Preparation.{is_cancel, operation_of}
 use Rattle.uring_entry.specs.Success.{is_success}
-use Rattle.uring_entry.specs.Requests.{Requests, entry_of, has_started, has_ended, is_outstanding, is_running, is_doomed, is_behind_failure, some_member, is_joined, is_draining, is_drain, is_ready, is_issuable, waits_for, holds_back, chosen_by, choices_of, doomed_result, cancel_result, no_bytes, with_call, with_started, with_ended, with_issued_end}
-use Rattle.uring_entry.proofs.BelowLemmas.{some_below-same, some_below-none}
+use Rattle.uring_entry.specs.Requests.{Requests, entry_of, has_started, has_ended, is_outstanding, is_running, is_doomed, is_behind_failure, some_member, is_joined, is_draining, is_drain, is_ready, is_issuable, waits_for, holds_back, chosen_by, choices_of, doomed_result, no_bytes, with_call, with_started, with_ended}
+use Rattle.uring_entry.proofs.BelowLemmas.{some_below-none}
 use Rattle.uring_entry.proofs.RequestLemmas.{is_ready-inside, list_any-push}
-use Rattle.uring_files.specs.Contents.{FileContents}
 use Rattle.uring_files.specs.Operations.{result_of}
 use Rattle.uring_core.proofs.ListCounts.{any_new, any_kept}
 use Rattle.uring_core.proofs.Groups.{join_kept, member_kept}
-use Rattle.uring_core.proofs.SoundRequests.{IsSoundRequests}
 use Rattle.uring_moves.specs.Moments.{Moment, starting, started, ended_at_once, issued, finished, is_finishable, accepted, moved, after_moves}
-use Rattle.uring_moves.specs.Outcomes.{IsOver, LeadsTo}
+use Rattle.uring_moves.specs.Outcomes.{IsOver}
 use Rattle.uring_moves.specs.Prompt.{IsPrompt, ArePrompt, NoneCancels, PromptMovesLead}
 use Rattle.uring_moves.specs.declared.move_of_calls.Move.{Move}
 use Rattle.uring_moves.specs.declared.move_of_calls.Move.TheVariants as move
@@ -235,13 +233,13 @@ finish_followed g calls m next n f calm can is =
     } where
       only : (k : ℕ) → (has_started (started f.there n).requests k ≡ true) × (not (has_ended f.there.requests k) ≡ true) → move.Finish n ≡ move.Finish k
       only k e = elim (any_new (λ j. j == k) f.there.requests.started n e.0) [
-        inl old ↦ absurd (both_ways (is_running f.there.requests k) (f.idle k) (both (has_started f.there.requests k) (not (has_ended f.there.requests k)) old e.1))
+        | inl old ↦ absurd (both_ways (is_running f.there.requests k) (f.idle k) (both (has_started f.there.requests k) (not (has_ended f.there.requests k)) old e.1))
         | inr new ↦ ap (λ j. move.Finish j) (eqb-true n k new)
       ]
 
       still : (k : ℕ) → (has_started (started f.there n).requests k ≡ true) × (not (has_ended (finished (started f.there n) n).requests k) ≡ true) → ⊥
       still k e = elim (any_new (λ j. j == k) f.there.requests.started n e.0) [
-        inl old ↦ both_ways (has_ended (finished (started f.there n) n).requests k) (not_so _ e.1) (any_kept (λ x. x.number == k) f.there.requests.ended _ (over old (has_ended f.there.requests k) refl))
+        | inl old ↦ both_ways (has_ended (finished (started f.there n) n).requests k) (not_so _ e.1) (any_kept (λ x. x.number == k) f.there.requests.ended _ (over old (has_ended f.there.requests k) refl))
         | inr new ↦ both_ways (has_ended (finished (started f.there n) n).requests k) (not_so _ e.1) (list_any-push (λ x. x.number == k) f.there.requests.ended _ ∙ or_second (has_ended f.there.requests k) (n == k) new)
       ] where
         over : has_started f.there.requests k ≡ true → (ended : Bool) → has_ended f.there.requests k ≡ ended → has_ended f.there.requests k ≡ true
@@ -255,13 +253,13 @@ no_cancel_there : (xs ys : List Sqe) → ((n : ℕ) → is_cancel (get_or xs n z
     → is_cancel (get_or (xs ++ ys) n zero_entry) ≡ false
 no_cancel_there xs ys none also n =
     elim (cases_lt n (length xs)) [
-      inl low ↦ ap is_cancel (get_or_append_left xs ys zero_entry n low) ∙ none n
+      | inl low ↦ ap is_cancel (get_or_append_left xs ys zero_entry n low) ∙ none n
       | inr high ↦ (let j : n ≡ length xs + (n - length xs) = omega (arith, high) in
-      ap (λ k. is_cancel (get_or (xs ++ ys) k zero_entry)) j ∙ ap is_cancel (get_or-append-add xs ys (n - length xs) zero_entry) ∙ by_place (n - length xs))
+          ap (λ k. is_cancel (get_or (xs ++ ys) k zero_entry)) j ∙ ap is_cancel (get_or-append-add xs ys (n - length xs) zero_entry) ∙ by_place (n - length xs))
     ] where
       by_place : (k : ℕ) → is_cancel (get_or ys k zero_entry) ≡ false
       by_place k = elim (cases_lt k (length ys)) [
-        inl low ↦ also k zero_entry low
+        | inl low ↦ also k zero_entry low
         | inr high ↦ ap is_cancel (get_or-eq_default ys zero_entry high)
       ]
 
@@ -271,7 +269,7 @@ ran_before : (r : Requests) (n : ℕ) (res : ℤ) (bytes chosen : List ℕ) (k :
     → is_running r k ≡ true
 ran_before r n res bytes chosen k running =
     elim (cases_Bool (is_running r k)) [
-      inl ran ↦ ran
+      | inl ran ↦ ran
       | inr idle ↦ absurd (both_ways (is_running (with_ended (record r { cancelled = chosen }) n res bytes) k) (idle_ended r n res bytes chosen k idle) running)
     ]
 
@@ -293,8 +291,8 @@ accept_calm m next calm e = by_left m.left refl e where
       (record {
         sound = one_sound m move.Accept (record m { requests = with_call r call; left = later }) (ap (accepted m) is) calm.sound;
         ready = λ n running.
-        (let within : n < length r.accepted = calm.sound.sound.started_accepted n (and_parts (has_started r n) (not (has_ended r n)) running).0 in
-        ready_ended r (with_call r call) n (λ k ended. ended) (λ k low. waits_called r call n k calm.sound.sound.cut_at_end within low) (calm.ready n running));
+            (let within : n < length r.accepted = calm.sound.sound.started_accepted n (and_parts (has_started r n) (not (has_ended r n)) running).0 in
+            ready_ended r (with_call r call) n (λ k ended. ended) (λ k low. waits_called r call n k calm.sound.sound.cut_at_end within low) (calm.ready n running));
         none_cancels = no_cancel_there r.accepted call calm.none_cancels (All-head (All (λ e. is_cancel e ≡ false)) call later will);
         none_will = All-tail (All (λ e. is_cancel e ≡ false)) call later will;
       })
@@ -307,7 +305,7 @@ issue_calm m next n calm can is = subst IsCalm is (by_doom (is_doomed m.requests
 
   runs : is_ready m.requests n ≡ true → (k : ℕ) → (has_started (with_started m.requests n) k ≡ true) × (not (has_ended m.requests k) ≡ true) → is_ready m.requests k ≡ true
   runs now k e = elim (any_new (λ j. j == k) m.requests.started n e.0) [
-    inl old ↦ calm.ready k (both (has_started m.requests k) (not (has_ended m.requests k)) old e.1)
+    | inl old ↦ calm.ready k (both (has_started m.requests k) (not (has_ended m.requests k)) old e.1)
     | inr new ↦ subst (λ j. is_ready m.requests j ≡ true) (eqb-true n k new) now
   ]
 
@@ -391,12 +389,14 @@ prompt_moves_lead g calls posted files none to =
       followed = record { moves = []; there = starting g calls; leads = refl; prompt = tt; idle = λ n. refl; starts = []; is = refl };
     } in
     let f = (all_followed g calls to.moves (starting g calls) to.last begun to.leads).followed in
-    let over : IsOver (as_if f.there f.starts) = subst IsOver f.is to.over in
-    (record {
-      moves = f.moves;
-      last = f.there;
-      leads = f.leads;
-      over = record { none_left = over.none_left; none_outstanding = over.none_outstanding };
-      posts = ap (λ (x : Moment). x.posted) (sym f.is) ∙ to.posts;
-      leaves = ap (λ (x : Moment). x.files) (sym f.is) ∙ to.leaves;
-    }, f.prompt)
+    let over : IsOver (as_if f.there f.starts) = subst IsOver f.is to.over in (
+      record {
+        moves = f.moves;
+        last = f.there;
+        leads = f.leads;
+        over = record { none_left = over.none_left; none_outstanding = over.none_outstanding };
+        posts = ap (λ (x : Moment). x.posted) (sym f.is) ∙ to.posts;
+        leaves = ap (λ (x : Moment). x.files) (sym f.is) ∙ to.leaves;
+      },
+      f.prompt,
+    )

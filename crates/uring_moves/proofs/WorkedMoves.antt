@@ -1,6 +1,6 @@
 -- Worked moves, on which the definitions are computed: two no-ops, loose and in a chain.
 -- Each line holds by computing alone: no lemma is used. Nothing cites this file.
-use Rattle.std.proofs.Common.{◌≡◌, ℕ, ◌+◌, ◌*◌, ◌^◌, List, [], ◌∷◌, Option, Some, None, map, replicate, refl, false}
+use Rattle.std.proofs.Common.{◌≡◌, ℕ, ◌*◌, ◌^◌, List, [], ◌∷◌, Option, Some, None, map, replicate, refl, false}
 use Rattle.std.specs.Option.{option_map}
 use Rattle.uring_entry.specs.Setup.{Setup}
 use Rattle.uring_entry.specs.Layout.{Sqe}

@@ -3,7 +3,7 @@ use Rattle.std.specs.Prelude.{◌≡◌, ◌-◌, ◌^◌, ◌≤◌, ℕ, false
 use Rattle.uring_entry.specs.Setup.{Setup, IsWithinLimits}
 use Rattle.uring_entry.specs.Submission.{Published, IsItem}
 use Rattle.uring_core.specs.Histories.{world}
-use Rattle.uring_moves.specs.Outcomes.{CallsOutcome, IsOutcomeOf, ComesTo, IsMovedTo, items_in}
+use Rattle.uring_moves.specs.Outcomes.{CallsOutcome, IsOutcomeOf, IsMovedTo, items_in}
 
 -- each outcome of calls is one that moves give them
 abbrev pub HistoriesAreMoves : Setup → Type 0

@@ -1,12 +1,11 @@
 -- What calls may come to: the outcomes that lawful histories give them, and those that moves give them.
-use Rattle.std.specs.Prelude.{◌≡◌, ℕ, ◌%◌, ◌^◌, ◌≤◌, ◌<◌, Bool, true, false, List, [], ◌∷◌, length, map, flat_map, count_by, All, Option, Some, None}
+use Rattle.std.specs.Prelude.{◌≡◌, ℕ, ◌%◌, ◌^◌, Bool, true, false, List, [], ◌∷◌, length, map, flat_map, count_by, Option, Some, None}
 use Rattle.std.specs.List.{filter_map}
-use Rattle.uring_entry.specs.Setup.{Setup, IsWithinLimits}
+use Rattle.uring_entry.specs.Setup.{Setup}
 use Rattle.uring_entry.specs.Layout.{Sqe, Cqe}
-use Rattle.uring_entry.specs.Submission.{Published, with_entry, bad_word, IsItem, published_items, dropped}
+use Rattle.uring_entry.specs.Submission.{Published, with_entry, bad_word, published_items, dropped}
 use Rattle.uring_entry.specs.Requests.{outstanding_in}
 use Rattle.uring_files.specs.Contents.{FileContents}
-use Rattle.uring_core.specs.World.{World}
 use Rattle.uring_core.specs.CalledFor.{IsLawful, files_of}
 use Rattle.uring_core.specs.Histories.{History, world}
 use Rattle.uring_machine.specs.Machine.{IsUnrefused}
