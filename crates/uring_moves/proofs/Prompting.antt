@@ -58,8 +58,6 @@ ended_as_if m s n res other =
     })
     (none_chosen (with_starts m.requests s) n res other ∙ sym (none_chosen m.requests n res other))
 
--- What stays ready.
-
 ready_ended : (r q : Requests) (n : ℕ)
     → ((k : ℕ) → has_ended r k ≡ true → has_ended q k ≡ true)
     → ((k : ℕ) → k < n → waits_for q n k ≡ waits_for r n k)
@@ -341,8 +339,6 @@ finish_calm m next n calm can is =
       none_cancels = calm.none_cancels;
       none_will = calm.none_will;
     })
-
--- All moves.
 
 record IsFollowedCalmly (g : Setup) (calls : List (List Sqe)) (m : Moment) : Type 0 where
   calm : IsCalm m
