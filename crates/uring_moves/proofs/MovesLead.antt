@@ -1,0 +1,228 @@
+-- A lawful history that refuses no memory makes moves: each event is a move, or changes nothing of a moment.
+-- By cases on `Change`: the close of a call is an accepting, an issue and a finish that isn't refused are moves, and all else is silent.
+use Rattle.std.proofs.Common.{◌≡◌, ℕ, ◌+◌, ◌≤◌, ℤ, Bool, true, false, not, ◌&&◌, ◌||◌, nat_lt, List, [], ◌∷◌, ◌++◌, length, take, drop, map, Option, Some, None, if◌then◌else◌, refl, sym, subst, ap, ap₂, ◌∙◌, arith, append_assoc}
+use Rattle.std.specs.Option.{option_and_then}
+use Rattle.std.proofs.Math.Seq.{take-add}
+use Rattle.std.proofs.lemmas.Bool.{lt-ltb, and_parts}
+use Rattle.std.proofs.lemmas.List.{length-map, length-take-le, map-append, drop-map, take-map, take-append-le, length-drop}
+use Rattle.std.proofs.lemmas.List.Sums.{sum_by_push}
+use Rattle.uring_entry.specs.Setup.{Setup}
+use Rattle.uring_entry.specs.Layout.{Sqe}
+use Rattle.uring_entry.specs.Preparation.{is_cancel, operation_of}
+use Rattle.uring_entry.specs.Submission.{Submission, Call, taken, entries_from, places_from, Published, published_items, place_of}
+use Rattle.uring_entry.specs.Requests.{Requests, entry_of, is_outstanding, is_running, is_doomed, is_ready, is_issuable, doomed_result, cancel_result, no_bytes, with_call}
+use Rattle.uring_entry.specs.declared.operation.Outcome.{Outcome}
+use Rattle.uring_files.specs.Contents.{FileContents, empty_files}
+use Rattle.uring_files.specs.Operations.{after, result_of}
+use Rattle.uring_core.specs.World.{World, happens, taking_of, taking_entry_of, ending_of}
+use Rattle.uring_core.specs.CalledFor.{IsLawful, files_of}
+use Rattle.uring_core.specs.Core.{IsNoFinish}
+use Rattle.uring_core.specs.Histories.{History, world}
+use Rattle.uring_core.specs.declared.step.Step.{Step}
+use Rattle.uring_core.specs.declared.step.Step.TheVariants as step
+use Rattle.uring_core.specs.declared.answer.Answer.{Answer}
+use Rattle.uring_core.specs.declared.answer.Answer.TheVariants as answer
+use Rattle.uring_core.proofs.Changes.{Change, refuses, stores, takes, drops, closes, runs, dooms, cancels, finishes, change_of}
+use Rattle.uring_core.proofs.FileHistory.{files_kept, files_ended}
+use Rattle.uring_core.proofs.Sound.{IsSound, sound_of}
+use Rattle.uring_core.proofs.SoundRings.{open_count}
+use Rattle.uring_laws.proofs.WholeLaws.{lawful_apart}
+use Rattle.uring_machine.specs.Machine.{IsUnrefused, finish_answer}
+use Rattle.uring_moves.specs.Moments.{Moment, starting, issued, finished, ended_at_once, is_finishable, moved, after_moves}
+use Rattle.uring_moves.specs.Outcomes.{items_in, entries_in, RefusesNone}
+use Rattle.uring_moves.specs.declared.move_of_calls.Move.{Move}
+use Rattle.uring_moves.specs.declared.move_of_calls.Move.TheVariants as move
+use Rattle.uring_moves.proofs.ItemLists.{item, entries_back, items_more}
+use Rattle.uring_moves.proofs.MovesMade.{moment_of, posted_by_end}
+
+-- A world is come to by moves: these calls were taken, whatever calls are left.
+pub record IsCome (g : Setup) (w : World) (files : List FileContents) : Type 0 where
+  pub calls : List (List Published)
+  pub moves : List Move
+  pub cut : map length calls ≡ w.submission.calls
+  pub items : items_in calls ≡ take (taken w.submission) (published_items w.submission)
+  pub leads : (rest : List (List Sqe))
+      → after_moves (starting g (map entries_in calls ++ rest)) moves ≡ Some (moment_of w files rest)
+
+-- One move more.
+
+just : (o : Option Moment) → option_and_then (λ n. Some n) o ≡ o
+just None = refl
+just (Some m) = refl
+
+behind : (first : Option Moment) (later : List Move) (m : Move)
+    → ((y : Moment) → after_moves y (later ++ m ∷ []) ≡ option_and_then (λ z. moved z m) (after_moves y later))
+    → option_and_then (λ y. after_moves y (later ++ m ∷ [])) first
+    ≡ option_and_then (λ z. moved z m) (option_and_then (λ y. after_moves y later) first)
+behind None later m next = refl
+behind (Some y) later m next = next y
+
+pub one_move_more : (moves : List Move) (x : Moment) (m : Move)
+    → after_moves x (moves ++ m ∷ []) ≡ option_and_then (λ z. moved z m) (after_moves x moves)
+one_move_more [] x m = just (moved x m)
+one_move_more (first ∷ later) x m =
+    behind (moved x first) later m (λ y. one_move_more later y m)
+
+comes_on : (g : Setup) (w v : World) (files files' : List FileContents) (m : Move) → IsCome g w files
+    → v.submission ≡ w.submission
+    → ((rest : List (List Sqe)) → moved (moment_of w files rest) m ≡ Some (moment_of v files' rest))
+    → IsCome g v files'
+comes_on g w v files files' m c same leads = record {
+  calls = c.calls;
+  moves = c.moves ++ m ∷ [];
+  cut = c.cut ∙ ap (λ (l : Submission). l.calls) (sym same);
+  items = c.items ∙ ap (λ (l : Submission). take (taken l) (published_items l)) (sym same);
+  leads = λ rest. one_move_more c.moves (starting g (map entries_in c.calls ++ rest)) m ∙ (ap (option_and_then (λ z. moved z m)) (c.leads rest) ∙ leads rest);
+}
+
+-- What changes nothing of a moment.
+
+still : (g : Setup) (w v : World) (files : List FileContents) → v.requests ≡ w.requests
+    → v.completions.posted ≡ w.completions.posted → v.submission.calls ≡ w.submission.calls
+    → take (taken v.submission) (published_items v.submission)
+    ≡ take (taken w.submission) (published_items w.submission)
+    → IsCome g w files → IsCome g v files
+still g w v files requests posted calls items c = record {
+  calls = c.calls;
+  moves = c.moves;
+  cut = c.cut ∙ sym calls;
+  items = c.items ∙ sym items;
+  leads = λ rest. c.leads rest ∙ ap₂ (λ r p. Some (record { requests = r; posted = p; files = files; left = rest })) (sym requests) (sym posted);
+}
+
+-- A call.
+
+abbrev new_call : World → ℕ → List Published
+new_call w count = map item (places_from w.submission count)
+
+call_comes : (g : Setup) (w : World) (files : List FileContents) (call : Call)
+    → taken w.submission + call.count ≤ length w.submission.published → IsCome g w files
+    → IsCome g (ending_of w (Some call)) files
+call_comes g w files call within c =
+    let l : Submission = w.submission in
+    let new : List Published = new_call w call.count in
+    let v : World = ending_of w (Some call) in
+    let many : length new ≡ call.count = length-map (places_from l call.count) item ∙ length-take-le call.count (drop (taken l) l.published) (omega (arith, length-drop (taken l) l.published)) in
+    let these : new ≡ take call.count (drop (taken l) (published_items l)) = sym (take-map item call.count (drop (taken l) l.published)) ∙ ap (take call.count) (sym (drop-map item (taken l) l.published)) in
+    let entries : entries_in new ≡ entries_from l call.count = entries_back (places_from l call.count) in
+    record {
+      calls = c.calls ++ new ∷ [];
+      moves = c.moves ++ move.Accept ∷ [];
+      cut = map-append length c.calls (new ∷ []) ∙ ap₂ (λ xs n. xs ++ n ∷ []) c.cut many;
+      items =
+          items_more c.calls new
+          ∙ ap₂ (λ xs ys. xs ++ ys) c.items these
+          ∙ sym (take-add (taken l) call.count (published_items l))
+          ∙ ap (λ n. take n (published_items l)) (sym (sum_by_push (λ x. x) l.calls call.count));
+      leads =
+          λ rest.
+          ap (λ xs. after_moves (starting g xs) (c.moves ++ move.Accept ∷ [])) (ap (λ xs. xs ++ rest) (map-append entries_in c.calls (new ∷ [])) ∙ append_assoc (map entries_in c.calls) (entries_in new ∷ []) rest)
+          ∙ one_move_more c.moves (starting g (map entries_in c.calls ++ entries_in new ∷ rest)) move.Accept
+          ∙ ap (option_and_then (λ z. moved z move.Accept)) (c.leads (entries_in new ∷ rest))
+          ∙ ap (λ es. Some (record { requests = with_call w.requests es; posted = w.completions.posted; files = files; left = rest })) entries;
+    }
+
+-- An issue and a finish.
+
+pub can_then : (can : Bool) (x y : Moment) → can ≡ true → x ≡ y → (if can then Some x else None) ≡ Some y
+can_then true x y is same = ap (λ z. Some z) same
+can_then false x y is same = absurd cc
+
+pub issuable_so : (outstanding running doomed ready : Bool) → outstanding ≡ true → running ≡ false
+    → (doomed || ready) ≡ true → (outstanding && not running && (doomed || ready)) ≡ true
+issuable_so true false doomed ready e f h = h
+issuable_so true true doomed ready e f h = absurd cc
+issuable_so false running doomed ready e f h = absurd cc
+
+pub or_first : (a b : Bool) → a ≡ true → (a || b) ≡ true
+or_first true b e = refl
+or_first false b e = absurd cc
+
+pub or_second : (a b : Bool) → b ≡ true → (a || b) ≡ true
+or_second true b e = refl
+or_second false b e = e
+
+pub if_so : (b : Bool) (x y : Moment) → b ≡ true → (if b then x else y) ≡ x
+if_so true x y e = refl
+if_so false x y e = absurd cc
+
+pub if_not : (b : Bool) (x y : Moment) → b ≡ false → (if b then x else y) ≡ y
+if_not false x y e = refl
+if_not true x y e = absurd cc
+
+-- the moment of a request that ended as it was issued
+at_once : (g : Setup) (w : World) (n : ℕ) (res : ℤ) (files : List FileContents) (rest : List (List Sqe))
+    → ended_at_once (moment_of w files rest) n res
+    ≡ moment_of (happens g w (step.Issue n) (answer.Ended res no_bytes)) files rest
+at_once g w n res files rest =
+    let v : World = happens g w (step.Issue n) (answer.Ended res no_bytes) in
+    ap (λ posted. record { requests = v.requests; posted = posted; files = files; left = rest }) (sym (posted_by_end g.cq w.completions (entry_of w.requests n) res no_bytes))
+
+-- the world after a finish that refuses no memory
+finish_comes : (g : Setup) (w : World) (n : ℕ) → is_running w.requests n ≡ true → IsSound g w
+    → IsCome g w (files_of g w)
+    → IsCome g (happens g w (step.Finish n) (finish_answer (files_of g w) w.requests n)) (files_of g (happens g w (step.Finish n) (finish_answer (files_of g w) w.requests n)))
+finish_comes g w n running sound c =
+    let r : Requests = w.requests in
+    let o : Outcome = result_of (files_of g w) (operation_of (entry_of r n)) in
+    let a : Answer = answer.Ended o.res o.bytes in
+    let v : World = happens g w (step.Finish n) a in
+    let files : List FileContents = after (files_of g w) (operation_of (entry_of r n)) o.res in
+    let left : files_of g v ≡ files = files_ended r n o.res o.bytes (empty_files g.files) in
+    let accepted : nat_lt n (length r.accepted) ≡ true = lt-ltb n (length r.accepted) (sound.requests.started_accepted n (and_parts _ _ running).0) in
+    let there : IsCome g v files = comes_on g w v (files_of g w) files (move.Finish n) c refl (λ rest. can_then (is_finishable r n) (finished (moment_of w (files_of g w) rest) n) (moment_of v files rest) (and_both accepted running)
+    (ap (λ posted. record { requests = v.requests; posted = posted; files = files; left = rest }) (sym (posted_by_end g.cq w.completions (entry_of r n) o.res o.bytes)))) in
+    subst (λ x. IsCome g (happens g w (step.Finish n) x) (files_of g (happens g w (step.Finish n) x))) (ap (λ b. if b then a else answer.NotRunning) (sym running)) (subst (IsCome g v) (sym left) there) where
+      and_both : {x y : Bool} → x ≡ true → y ≡ true → (x && y) ≡ true
+      and_both {x} {y} e f = ap₂ (λ p q. p && q) e f
+
+comes : (g : Setup) (w : World) (s : Step) (a : Answer) → Change g w s a → IsSound g w
+    → IsUnrefused g w s a → (IsNoFinish s → files_of g (happens g w s a) ≡ files_of g w)
+    → IsCome g w (files_of g w) → IsCome g (happens g w s a) (files_of g (happens g w s a))
+comes g w s a (refuses _ _ same silent) sound unrefused kept c =
+    subst (λ v. IsCome g v (files_of g v)) (sym (same w)) c
+comes g w s a (stores tail) sound unrefused kept c =
+    let l : Submission = w.submission in
+    still g w (happens g w step.StoreTail (answer.Tail tail)) (files_of g w) refl refl refl
+    (ap (take (taken l)) (map-append item l.published (map (place_of g.sq l.content) l.fresh)) ∙ take-append-le (taken l) (map item l.published) (map item (map (place_of g.sq l.content) l.fresh)) (omega (arith, sound.submission.call_published, length-map l.published item)))
+    c
+comes g w s a (takes entry call place opened left at valid) sound unrefused kept c =
+    subst (λ o. IsCome g (taking_entry_of g w entry o) (files_of g (taking_entry_of g w entry o))) (sym opened) (still g w (taking_entry_of g w entry (Some call)) (files_of g w) refl refl refl refl c)
+comes g w s a (drops call place opened left at invalid) sound unrefused kept c =
+    subst (λ o. IsCome g (taking_of w o) (files_of g (taking_of w o))) (sym opened) (still g w (taking_of w (Some call)) (files_of g w) refl refl refl refl c)
+comes g w s a (closes accepted missed head call opened all counted) sound unrefused kept c =
+    let within : taken w.submission + call.count ≤ length w.submission.published = omega (arith, sound.submission.call_published, ap open_count opened) in
+    let there : IsCome g (ending_of w w.submission.call) (files_of g w) = subst (λ o. IsCome g (ending_of w o) (files_of g w)) (sym opened) (call_comes g w (files_of g w) call within c) in
+    subst (IsCome g (ending_of w w.submission.call)) (sym (kept tt)) there
+comes g w s a (runs n outstanding idle spared ready no_cancel) sound unrefused kept c =
+    let r : Requests = w.requests in
+    let v : World = happens g w (step.Issue n) answer.Run in
+    subst (IsCome g v) (sym (kept tt)) (comes_on g w v (files_of g w) (files_of g w) (move.Issue n) c refl (λ rest. can_then (is_issuable r n) (issued (moment_of w (files_of g w) rest) n) (moment_of v (files_of g w) rest) (issuable_so (is_outstanding r n) (is_running r n) (is_doomed r n) (is_ready r n) outstanding idle (or_second (is_doomed r n) (is_ready r n) ready))
+    (if_not (is_doomed r n) _ _ spared ∙ if_not (is_cancel (entry_of r n)) _ _ no_cancel)))
+comes g w s a (dooms n outstanding idle doomed) sound unrefused kept c =
+    let r : Requests = w.requests in
+    let v : World = happens g w (step.Issue n) (answer.Ended (doomed_result r n) no_bytes) in
+    subst (IsCome g v) (sym (kept tt)) (comes_on g w v (files_of g w) (files_of g w) (move.Issue n) c refl (λ rest. can_then (is_issuable r n) (issued (moment_of w (files_of g w) rest) n) (moment_of v (files_of g w) rest) (issuable_so (is_outstanding r n) (is_running r n) (is_doomed r n) (is_ready r n) outstanding idle (or_first (is_doomed r n) (is_ready r n) doomed))
+    (if_so (is_doomed r n) _ _ doomed ∙ at_once g w n (doomed_result r n) (files_of g w) rest)))
+comes g w s a (cancels n outstanding idle spared ready cancel) sound unrefused kept c =
+    let r : Requests = w.requests in
+    let v : World = happens g w (step.Issue n) (answer.Ended (cancel_result r n) no_bytes) in
+    subst (IsCome g v) (sym (kept tt)) (comes_on g w v (files_of g w) (files_of g w) (move.Issue n) c refl (λ rest. can_then (is_issuable r n) (issued (moment_of w (files_of g w) rest) n) (moment_of v (files_of g w) rest) (issuable_so (is_outstanding r n) (is_running r n) (is_doomed r n) (is_ready r n) outstanding idle (or_second (is_doomed r n) (is_ready r n) ready))
+    (if_not (is_doomed r n) _ _ spared ∙ (if_so (is_cancel (entry_of r n)) _ _ cancel ∙ at_once g w n (cancel_result r n) (files_of g w) rest))))
+comes g w s a (finishes n res bytes running) sound unrefused kept c =
+    subst (λ x. IsCome g (happens g w (step.Finish n) x) (files_of g (happens g w (step.Finish n) x))) (sym unrefused) (finish_comes g w n running sound c)
+comes g w s a _ sound unrefused kept c = still g w _ (files_of g w) refl refl refl refl c
+
+-- each lawful history that refuses no memory is come to by moves
+pub history_comes : (g : Setup) (h : History) → IsLawful g h → RefusesNone g h
+    → IsCome g (world g h) (files_of g (world g h))
+history_comes g [] lawful unrefused = record {
+  calls = [];
+  moves = [];
+  cut = refl;
+  items = refl;
+  leads = λ rest. refl;
+}
+history_comes g ((s, a) ∷ before) lawful unrefused =
+    let apart = lawful_apart g ((s, a) ∷ before) lawful in
+    comes g (world g before) s a (change_of g (world g before) s a apart.0) (sound_of g before apart.1) unrefused.0 (files_kept g s a before apart) (history_comes g before lawful.1 unrefused.1)

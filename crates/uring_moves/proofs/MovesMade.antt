@@ -1,0 +1,246 @@
+-- Each list of moves is made by some lawful history: from a world that shows the moment, move by move.
+use Rattle.std.proofs.Common.{◌≡◌, ℕ, ◌+◌, ◌-◌, ◌^◌, ◌≤◌, ℤ, Bool, true, false, not, ◌&&◌, ◌||◌, nat_lt, List, [], ◌∷◌, ◌++◌, length, map, Some, None, if◌then◌else◌, refl, sym, subst, ap, ◌∙◌, arith, append_assoc}
+use Rattle.std.specs.Prelude.{All, unwrap_or}
+use Rattle.std.specs.Option.{option_and_then}
+use Rattle.std.proofs.lemmas.Bool.{and_parts, le-ltb}
+use Rattle.std.proofs.lemmas.List.{length-append, length-map, map-append}
+use Rattle.std.proofs.lemmas.List.Elements.{All-head, All-tail}
+use Rattle.uring_entry.specs.Setup.{Setup}
+use Rattle.uring_entry.specs.Layout.{Sqe}
+use Rattle.uring_entry.specs.Preparation.{is_cancel, operation_of}
+use Rattle.uring_entry.specs.Success.{posts_completion}
+use Rattle.uring_entry.specs.Submission.{Submission, taken, entries_from, Published, with_entry, bad_word, published_items}
+use Rattle.uring_entry.specs.Requests.{Requests, entry_of, is_outstanding, is_running, is_doomed, is_ready, is_issuable, doomed_result, cancel_result, no_bytes, with_call}
+use Rattle.uring_entry.specs.Completions.{Completions, with_end, with_posted, completion_for}
+use Rattle.uring_entry.specs.declared.operation.Outcome.{Outcome}
+use Rattle.uring_files.specs.Contents.{FileContents}
+use Rattle.uring_files.specs.Operations.{after, result_of}
+use Rattle.uring_core.specs.World.{World, happens}
+use Rattle.uring_core.specs.StepAnswers.{issue_answer}
+use Rattle.uring_core.specs.declared.step.Step.TheVariants as step
+use Rattle.uring_core.specs.declared.answer.Answer.{Answer}
+use Rattle.uring_core.specs.declared.answer.Answer.TheVariants as answer
+use Rattle.uring_laws.specs.Standing.{Stands, with_item, with_items, after_call}
+use Rattle.uring_laws.proofs.Standing.{items_published}
+use Rattle.uring_moves.specs.Moments.{Moment, posted_with, started, ended_at_once, issued, finished, is_finishable, after_moves}
+use Rattle.uring_moves.specs.Outcomes.{items_in, entries_in}
+use Rattle.uring_moves.specs.Laws.{GoesThrough}
+use Rattle.uring_moves.specs.declared.move_of_calls.Move.{Move}
+use Rattle.uring_moves.specs.declared.move_of_calls.Move.TheVariants as move
+use Rattle.uring_moves.proofs.ItemLists.{item, items_behind, items_more, few_entries}
+use Rattle.uring_moves.proofs.Reaching.{Reaches, step_on, finish_on, ends_as_called}
+use Rattle.uring_moves.proofs.CallsTaken.{with_call_published, call_is_taken}
+
+-- the moment that a world shows, with these files and with these calls left
+abbrev pub moment_of : World → List FileContents → List (List Sqe) → Moment
+moment_of w files left = record {
+  requests = w.requests;
+  posted = w.completions.posted;
+  files = files;
+  left = left;
+}
+
+-- what an end posts
+pub posted_by_end : (size : ℕ) (l : Completions) (entry : Sqe) (res : ℤ) (bytes : List ℕ)
+    → (with_end size l entry res bytes).posted ≡ posted_with l.posted entry res bytes
+posted_by_end size l entry res bytes = by_test (posts_completion entry res) where
+  by_test : (posts : Bool) → (if posts then with_posted size l (completion_for entry res bytes) else l).posted ≡ (if posts then l.posted ++ completion_for entry res bytes ∷ [] else l.posted)
+  by_test true = refl
+  by_test false = refl
+
+-- A world between calls, in which these calls were taken: nothing was reaped.
+pub record Between (g : Setup) (w : World) (files : List FileContents) (done : List (List Published)) : Type 0 where
+  pub reaches : Reaches g w files
+  pub stands : Stands w.submission [] 0
+  pub is_open : w.is_closed ≡ false
+  pub published : published_items w.submission ≡ items_in done
+  pub cut : w.submission.calls ≡ map length done
+  pub none_reaped : w.completions.reaped ≡ []
+  pub none_stored : w.completions.head ≡ 0
+
+-- A call.
+
+call_made : (g : Setup) → g.stops ≡ false → (w : World) (files : List FileContents) (done : List (List Published)) (call : List Published)
+    → Between g w files done → GoesThrough g.sq call
+    → length w.requests.accepted + length call ≤ 2 ^ 63 - 1
+    → Between g (after_call (with_call_published g w call) (length call)) files (done ++ call ∷ [])
+    × (entries_from (with_call_published g w call).submission (length call) ≡ entries_in call)
+call_made g goes w files done call b goes_in room =
+    let t = call_is_taken g goes w files call b.reaches b.stands b.is_open (le-ltb (2 ^ 63 - 1) (length w.requests.accepted + length call) room) goes_in.few in
+    let w2 : World = with_call_published g w call in
+    let now : published_items w2.submission ≡ items_in done ++ call = items_published w.submission g.sq call b.stands.fresh goes_in.few goes_in.are_items ∙ ap (λ xs. xs ++ call) b.published in
+    let same_calls : w2.submission.calls ≡ w.submission.calls = calls_keep w.submission 0 call in
+    let reached : taken w2.submission ≡ length (items_in done) = omega (arith, t.waits.waiting, ap length now, length-append (items_in done) call, length-map w2.submission.published item) in (
+      record {
+        reaches = t.reaches;
+        stands = t.stands;
+        is_open = b.is_open;
+        published = now ∙ sym (items_more done call);
+        cut = ap (λ xs. xs ++ length call ∷ []) (same_calls ∙ b.cut) ∙ sym (map-append length done (call ∷ []));
+        none_reaped = b.none_reaped;
+        none_stored = b.none_stored;
+      },
+      items_behind w2.submission (items_in done) call now reached,
+    ) where
+      calls_keep : (l : Submission) (slot : ℕ) (items : List Published) → (with_items l slot items).calls ≡ l.calls
+      calls_keep l slot [] = refl
+      calls_keep l slot (with_entry entry ∷ later) = calls_keep (with_item l slot (with_entry entry)) (slot + 1) later
+      calls_keep l slot (bad_word word ∷ later) = calls_keep (with_item l slot (bad_word word)) (slot + 1) later
+
+-- An issue and a finish: they leave the submission ring and what was reaped as it is.
+
+record Aside (w v : World) : Type 0 where
+  submission : v.submission ≡ w.submission
+  closed : v.is_closed ≡ w.is_closed
+  accepted : v.requests.accepted ≡ w.requests.accepted
+  reaped : v.completions.reaped ≡ w.completions.reaped
+  stored : v.completions.head ≡ w.completions.head
+
+between_still : (g : Setup) (w v : World) (files files' : List FileContents) (done : List (List Published))
+    → Between g w files done → Aside w v → Reaches g v files' → Between g v files' done
+between_still g w v files files' done b aside there = record {
+  reaches = there;
+  stands = subst (λ l. Stands l [] 0) (sym aside.submission) b.stands;
+  is_open = aside.closed ∙ b.is_open;
+  published = ap published_items aside.submission ∙ b.published;
+  cut = ap (λ (l : Submission). l.calls) aside.submission ∙ b.cut;
+  none_reaped = aside.reaped ∙ b.none_reaped;
+  none_stored = aside.stored ∙ b.none_stored;
+}
+
+end_reaps_none : (size : ℕ) (l : Completions) (entry : Sqe) (res : ℤ) (bytes : List ℕ)
+    → (with_end size l entry res bytes).reaped ≡ l.reaped
+end_reaps_none size l entry res bytes = by_test (posts_completion entry res) where
+  by_test : (posts : Bool) → (if posts then with_posted size l (completion_for entry res bytes) else l).reaped ≡ l.reaped
+  by_test true = refl
+  by_test false = refl
+
+end_stores_none : (size : ℕ) (l : Completions) (entry : Sqe) (res : ℤ) (bytes : List ℕ)
+    → (with_end size l entry res bytes).head ≡ l.head
+end_stores_none size l entry res bytes = by_test (posts_completion entry res) where
+  by_test : (posts : Bool) → (if posts then with_posted size l (completion_for entry res bytes) else l).head ≡ l.head
+  by_test true = refl
+  by_test false = refl
+
+record IssueMade (g : Setup) (w : World) (n : ℕ) (files : List FileContents) (left : List (List Sqe)) (a : Answer) (next : Moment) : Type 0 where
+  not_again : a ≡ answer.Again → ⊥
+  shows : moment_of (happens g w (step.Issue n) a) files left ≡ next
+  aside : Aside w (happens g w (step.Issue n) a)
+
+ends_at_once : (g : Setup) (w : World) (n : ℕ) (files : List FileContents) (left : List (List Sqe)) (res : ℤ)
+    → IssueMade g w n files left (answer.Ended res no_bytes) (ended_at_once (moment_of w files left) n res)
+ends_at_once g w n files left res =
+    let v : World = happens g w (step.Issue n) (answer.Ended res no_bytes) in
+    record {
+      not_again = λ e. cc;
+      shows = ap (λ posted. record { requests = v.requests; posted = posted; files = files; left = left }) (posted_by_end g.cq w.completions (entry_of w.requests n) res no_bytes);
+      aside = record {
+        submission = refl;
+        closed = refl;
+        accepted = refl;
+        reaped = end_reaps_none g.cq w.completions (entry_of w.requests n) res no_bytes;
+        stored = end_stores_none g.cq w.completions (entry_of w.requests n) res no_bytes;
+      };
+    }
+
+issue_made : (g : Setup) (w : World) (n : ℕ) (files : List FileContents) (left : List (List Sqe)) (outstanding running doomed ready cancel : Bool)
+    → (outstanding && not running && (doomed || ready)) ≡ true
+    → IssueMade g w n files left
+    (if not outstanding then answer.Unknown else (if running then answer.Running else (if doomed then answer.Ended (doomed_result w.requests n) no_bytes else (if not ready then answer.NotReady else (if cancel then answer.Ended (cancel_result w.requests n) no_bytes else answer.Run)))))
+    (if doomed then ended_at_once (moment_of w files left) n (doomed_result w.requests n) else (if cancel then ended_at_once (moment_of w files left) n (cancel_result w.requests n) else started (moment_of w files left) n))
+issue_made g w n files left true false true ready cancel can =
+    ends_at_once g w n files left (doomed_result w.requests n)
+issue_made g w n files left true false false true true can =
+    ends_at_once g w n files left (cancel_result w.requests n)
+issue_made g w n files left true false false true false can = record {
+  not_again = λ e. cc;
+  shows = refl;
+  aside = record { submission = refl; closed = refl; accepted = refl; reaped = refl; stored = refl };
+}
+issue_made g w n files left true false false false cancel can = absurd cc
+issue_made g w n files left true true doomed ready cancel can = absurd cc
+issue_made g w n files left false running doomed ready cancel can = absurd cc
+
+-- All moves.
+
+-- a history that shows the last moment, in which these calls were taken and those are left
+pub record Made (g : Setup) (calls : List (List Published)) (last : Moment) : Type 0 where
+  pub there : World
+  pub files : List FileContents
+  pub done : List (List Published)
+  pub rest : List (List Published)
+  pub between : Between g there files done
+  pub shows : moment_of there files (map entries_in rest) ≡ last
+  pub split : done ++ rest ≡ calls
+
+-- these moves are made, wherever they lead from
+abbrev AreMade : Setup → List (List Published) → Moment → List Move → Type 0
+AreMade g calls last moves =
+    (w : World) (files : List FileContents) (done rest : List (List Published)) → done ++ rest ≡ calls
+    → Between g w files done → All (GoesThrough g.sq) rest
+    → length w.requests.accepted + length (items_in rest) ≤ 2 ^ 63 - 1
+    → after_moves (moment_of w files (map entries_in rest)) moves ≡ Some last → Made g calls last
+
+accept_made : (g : Setup) → g.stops ≡ false → (calls : List (List Published)) (last : Moment) (later : List Move)
+    → AreMade g calls last later → AreMade g calls last (move.Accept ∷ later)
+accept_made g goes calls last later next w files done [] split b fit room leads = absurd cc
+accept_made g goes calls last later next w files done (call ∷ rest) split b fit room leads =
+    let many : length (items_in (call ∷ rest)) ≡ length call + length (items_in rest) = length-append call (items_in rest) in
+    let made = call_made g goes w files done call b (All-head (GoesThrough g.sq) call rest fit) (omega (arith, room, many)) in
+    let w2 : World = with_call_published g w call in
+    let v : World = after_call w2 (length call) in
+    let same : length (entries_from w2.submission (length call)) ≡ length (entries_in call) = ap length made.1 in
+    let longer : length v.requests.accepted ≡ length w.requests.accepted + length (entries_from w2.submission (length call)) = length-append w.requests.accepted (entries_from w2.submission (length call)) in
+    next v files (done ++ call ∷ []) rest (append_assoc done (call ∷ []) rest ∙ split) made.0 (All-tail (GoesThrough g.sq) call rest fit) (omega (arith, room, many, same, longer, few_entries call))
+    (subst (λ es. after_moves (record { requests = with_call w.requests es; posted = w.completions.posted; files = files; left = map entries_in rest }) later ≡ Some last) (sym made.1) leads)
+
+issue_step : (g : Setup) (calls : List (List Published)) (last : Moment) (n : ℕ) (later : List Move)
+    → AreMade g calls last later → AreMade g calls last (move.Issue n ∷ later)
+issue_step g calls last n later next w files done rest split b fit room leads = by_test (is_issuable w.requests n) refl leads where
+  by_test : (can : Bool) → is_issuable w.requests n ≡ can → option_and_then (λ m. after_moves m later) (if can then Some (issued (moment_of w files (map entries_in rest)) n) else None) ≡ Some last → Made g calls last
+  by_test false is leads = absurd cc
+  by_test true is leads =
+      let r : Requests = w.requests in
+      let a : Answer = issue_answer w n in
+      let v : World = happens g w (step.Issue n) a in
+      let m = issue_made g w n files (map entries_in rest) (is_outstanding r n) (is_running r n) (is_doomed r n) (is_ready r n) (is_cancel (entry_of r n)) is in
+      next v files done rest split (between_still g w v files files done b m.aside (step_on g w files (step.Issue n) a b.reaches tt refl m.not_again)) fit
+      (subst (λ xs. length xs + length (items_in rest) ≤ 2 ^ 63 - 1) (sym m.aside.accepted) room)
+      (subst (λ x. after_moves x later ≡ Some last) (sym m.shows) leads)
+
+finish_step : (g : Setup) (calls : List (List Published)) (last : Moment) (n : ℕ) (later : List Move)
+    → AreMade g calls last later → AreMade g calls last (move.Finish n ∷ later)
+finish_step g calls last n later next w files done rest split b fit room leads = by_test (is_finishable w.requests n) refl leads where
+  by_test : (can : Bool) → is_finishable w.requests n ≡ can → option_and_then (λ m. after_moves m later) (if can then Some (finished (moment_of w files (map entries_in rest)) n) else None) ≡ Some last → Made g calls last
+  by_test false is leads = absurd cc
+  by_test true is leads =
+      let running : is_running w.requests n ≡ true = (and_parts (nat_lt n (length w.requests.accepted)) (is_running w.requests n) is).1 in
+      let o : Outcome = result_of files (operation_of (entry_of w.requests n)) in
+      let v : World = happens g w (step.Finish n) (ends_as_called files w n) in
+      let files' : List FileContents = after files (operation_of (entry_of w.requests n)) o.res in
+      let aside : Aside w v = record {
+        submission = refl;
+        closed = refl;
+        accepted = refl;
+        reaped = end_reaps_none g.cq w.completions (entry_of w.requests n) o.res o.bytes;
+        stored = end_stores_none g.cq w.completions (entry_of w.requests n) o.res o.bytes;
+      } in
+      let shows : moment_of v files' (map entries_in rest) ≡ finished (moment_of w files (map entries_in rest)) n =
+      ap (λ posted. record { requests = v.requests; posted = posted; files = files'; left = map entries_in rest }) (posted_by_end g.cq w.completions (entry_of w.requests n) o.res o.bytes) in
+      next v files' done rest split (between_still g w v files files' done b aside (finish_on g w files n b.reaches running)) fit room
+      (subst (λ x. after_moves x later ≡ Some last) (sym shows) leads)
+
+pub moves_made : (g : Setup) → g.stops ≡ false → (calls : List (List Published)) (last : Moment) (moves : List Move)
+    → AreMade g calls last moves
+moves_made g goes calls last [] = λ w files done rest split b fit room leads. record {
+  there = w;
+  files = files;
+  done = done;
+  rest = rest;
+  between = b;
+  shows = ap (λ o. unwrap_or o last) leads;
+  split = split;
+}
+moves_made g goes calls last (move.Accept ∷ later) = accept_made g goes calls last later (moves_made g goes calls last later)
+moves_made g goes calls last (move.Issue n ∷ later) = issue_step g calls last n later (moves_made g goes calls last later)
+moves_made g goes calls last (move.Finish n ∷ later) = finish_step g calls last n later (moves_made g goes calls last later)

@@ -1,0 +1,4 @@
+pub mod Moments
+pub mod Outcomes
+pub mod Laws
+pub mod Prompt

@@ -1,0 +1,20 @@
+//! Lawful histories and moves give calls the same outcomes: laws of the definitions alone.
+
+ghost use Rattle.uring_entry.specs.Setup.{Setup};
+ghost use Rattle.uring_moves.specs.Laws.{HistoriesAreMoves, MovesAreHistories};
+ghost use Rattle.uring_moves.specs.Prompt.{PromptMovesLead};
+
+/// Each outcome that a lawful history gives calls is one that moves give them: exactly the accepting of a call, and each issue and finish that isn't refused, is a move, and no other step changes anything of it.
+pub fn histories_are_moves()
+    ensures { (g : Setup) → HistoriesAreMoves g }
+{}
+
+/// Each outcome that moves give calls is that of a lawful history, in which all completions were reaped, if the ring takes each call in whole.
+pub fn moves_are_histories()
+    ensures { (g : Setup) → MovesAreHistories g }
+{}
+
+/// If no entry is a cancel, each outcome that moves give calls is given by prompt ones, which finish next whatever starts: only a cancel tells whether a request runs that could have ended.
+pub fn prompt_moves_lead()
+    ensures { PromptMovesLead }
+{}
