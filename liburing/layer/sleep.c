@@ -3,6 +3,7 @@
  */
 #define _GNU_SOURCE
 #include "sleep.h"
+#include "descriptors.h"
 #include "operations.h"
 #include "times.h"
 
@@ -70,6 +71,8 @@ static int poll_unlocked(struct ring *ring, struct pollfd *polled, nfds_t count,
 {
     struct timespec time = {limit / 1000000000, limit % 1000000000};
     pthread_mutex_unlock(&ring->lock);
+    /* A message that came before that is posted, and wakes this thread. */
+    visit_ring(ring);
     int result = ppoll(polled, count, limit < 0 ? NULL : &time, signals);
     if (result < 0)
         result = -errno;

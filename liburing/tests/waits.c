@@ -7,6 +7,7 @@
 #include "engines.h"
 
 #include <poll.h>
+#include <pthread.h>
 #include <sys/socket.h>
 #include <sys/uio.h>
 
@@ -303,6 +304,52 @@ static void test_messages(void)
     close_ring(&other);
 }
 
+/* Two threads with a ring each send messages to each other's, and wait for all of them. */
+struct side {
+    struct ring ring;
+    int other_fd;
+};
+
+enum { MANY_MESSAGES = 300 };
+
+static void *exchange(void *argument)
+{
+    struct side *side = argument;
+    unsigned sent = 0, ended = 0, received = 0;
+    int64_t sum = 0;
+    while (ended + received < 2 * MANY_MESSAGES) {
+        if (sent < MANY_MESSAGES) {
+            struct io_uring_sqe *entry = put_plain(&side->ring, IORING_OP_MSG_RING, 1, side->other_fd);
+            entry->len = sent++;
+            entry->off = 2;
+            check(enter(&side->ring, 1, 0, 0) == 1);
+        }
+        if (sent == MANY_MESSAGES || count_ready(&side->ring) > 0) {
+            struct seen found = next_of(&side->ring);
+            check(found.user_data == 2 || found.res == 0);
+            sum += found.res;
+            found.user_data == 1 ? ended++ : received++;
+        }
+    }
+    check(ended == MANY_MESSAGES && sum == MANY_MESSAGES * (MANY_MESSAGES - 1) / 2);
+    return NULL;
+}
+
+static void test_messages_of_threads(void)
+{
+    struct side sides[2];
+    pthread_t other;
+    make_ring(&sides[0].ring, 8, 1024, 0);
+    make_ring(&sides[1].ring, 8, 1024, 0);
+    sides[0].other_fd = sides[1].ring.fd;
+    sides[1].other_fd = sides[0].ring.fd;
+    check(pthread_create(&other, NULL, exchange, &sides[1]) == 0);
+    exchange(&sides[0]);
+    pthread_join(other, NULL);
+    close_ring(&sides[0].ring);
+    close_ring(&sides[1].ring);
+}
+
 int main(int count, char **words)
 {
     static const struct named tests[] = {
@@ -315,6 +362,7 @@ int main(int count, char **words)
         {"multishot accept", test_multishot_accept},
         {"splice", test_splice},
         {"messages", test_messages},
+        {"messages of threads", test_messages_of_threads},
     };
     return run_tests(tests, sizeof tests / sizeof *tests, count > 1 ? words[1] : NULL);
 }
