@@ -1,3 +1,4 @@
 pub mod CoreBox
 pub mod MachineBox
 pub mod VolumeBox
+pub mod Refusals
