@@ -2,3 +2,4 @@ pub mod CoreBox
 pub mod MachineBox
 pub mod VolumeBox
 pub mod Refusals
+pub mod Holding

@@ -32,11 +32,11 @@ use Rattle.std.specs.contracts.alloc.Global as Heap
 use Rattle.std.proofs.ResultValues.{and_tt}
 use Rattle.std.proofs.alloc.Calls.{α, handle_tells}
 use Rattle.uring_c.proofs.CoreBox.{E}
-use Rattle.uring_c.specs.contracts.core_slot.CoreSlot as Slot
-use Rattle.uring_c.specs.contracts.core_slot.CoreSlot.none as F
-use Rattle.uring_c.specs.contracts.core_slot.CoreSlot.none.Key.{name as #self}
-use Rattle.uring_c.proofs.core_slot.CoreSlot.none.Statement as stated
-use Rattle.uring_c.proofs.core_slot.CoreSlot.none.Code as code
+use Rattle.uring_c.specs.contracts.slot.Slot as Slot
+use Rattle.uring_c.specs.contracts.slot.Slot.none as F
+use Rattle.uring_c.specs.contracts.slot.Slot.none.Key.{name as #self}
+use Rattle.uring_c.proofs.slot.Slot.none.Statement as stated
+use Rattle.uring_c.proofs.slot.Slot.none.Code as code
 
 abbrev stayed : Stays (F.ended).signature.params (F.ended).kept
 stayed = (stay_dropped (plain (λ _. Heap.the_row)) yes, tt)
@@ -50,7 +50,7 @@ module _ {M : Type 1} {𝓤 : Ura M} (𝓛 : Logic 𝓤) (at_mem : Memory → SP
       let Post = (walk_of 𝓛 F.ended stayed (F.clauses 𝓛 at_mem run)).post z in
       let a = z.0.3.0 in
       let To = type_at (F.signature).result tt in
-      let made : To.Denot = record { at = null_ptr; alloc = a; core = None } in
+      let made : To.Denot = record { at = null_ptr; alloc = a; held = None } in
       qed 𝓛 ((‵ ftrue ⊛ ‵ (fsep ((Heap.the_row).own_val a z.0.4.0) ftrue)) ∷ raw (emp 𝓤) ∷ []) ∵ split ! $ drop ! $ fsplit ! $
       handle_tells E.al ! a z.0.4.0 (λ hv ea fa. move ! (1 ∷ 2 ∷ []) $ drop ! $ drop ! $
       let w : Val = vstruct (vcons vnull (vcons hv vnil)) in
