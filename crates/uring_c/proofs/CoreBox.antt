@@ -1,4 +1,4 @@
--- A slot and its parts own what a box at the same types owns.
+-- The parts of a core's box own what the box owns.
 use mathlib.Core.List.{[]}
 use mir.Syntax.{impl, tnil, dnil}
 use denote.Signature.{Slot, plain}
@@ -8,7 +8,6 @@ use Rattle.std.specs.contracts.alloc.Global as Heap
 use Rattle.std.specs.contracts.impls.GlobalAllocator.TheImpl.{ghosts, dict}
 use Rattle.uring_core.proofs.cores.Core.TheLaws as core
 use Rattle.uring_c.specs.Slots.{core_row}
-use Rattle.uring_c.specs.contracts.core_slot.CoreSlot as CoreSlot
 use Rattle.uring_c.specs.contracts.parts.Parts as Parts
 
 abbrev pub E : Bx
@@ -16,6 +15,3 @@ E = record { row = core_row; laws = core.the_row_laws; al = record { row = Heap.
 
 abbrev pub FromParts : Slot 0
 FromParts = plain (λ _. Parts.the_row core_row Heap.the_row ghosts)
-
-abbrev pub FromSlot : Slot 0
-FromSlot = plain (λ _. CoreSlot.the_row)

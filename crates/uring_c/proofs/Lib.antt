@@ -1,3 +1,5 @@
 pub mod CoreBox
 pub mod MachineBox
 pub mod VolumeBox
+pub mod Refusals
+pub mod Holding

@@ -1,4 +1,4 @@
--- A slot and its parts own what a box at the same types owns.
+-- The parts of a volume's box own what the box owns.
 use mathlib.Core.List.{[]}
 use mir.Syntax.{impl, tnil, dnil}
 use denote.Signature.{Slot, plain}
@@ -8,7 +8,6 @@ use Rattle.std.specs.contracts.alloc.Global as Heap
 use Rattle.std.specs.contracts.impls.GlobalAllocator.TheImpl.{ghosts, dict}
 use Rattle.uring_volume.proofs.volume.Volume.TheLaws as volume
 use Rattle.uring_c.specs.Slots.{volume_row}
-use Rattle.uring_c.specs.contracts.volume_slot.VolumeSlot as VolumeSlot
 use Rattle.uring_c.specs.contracts.parts.Parts as Parts
 
 abbrev pub E : Bx
@@ -16,6 +15,3 @@ E = record { row = volume_row; laws = volume.the_row_laws; al = record { row = H
 
 abbrev pub FromParts : Slot 0
 FromParts = plain (λ _. Parts.the_row volume_row Heap.the_row ghosts)
-
-abbrev pub FromSlot : Slot 0
-FromSlot = plain (λ _. VolumeSlot.the_row)

@@ -1,5 +1,5 @@
 -- The words that tell an answer. Our own rule: kinds count the answers in the order of `Answer`, from 0, and a word that an answer hasn't is 0.
-use Rattle.std.specs.Prelude.{ℕ, ℤ, pos, List, replicate}
+use Rattle.std.specs.Prelude.{◌≡◌, ℕ, ℤ, pos, List, replicate}
 use Rattle.uring_core.specs.declared.answer.Answer.{Answer}
 use Rattle.uring_core.specs.declared.answer.Answer.TheVariants as answer
 use Rattle.uring_c.specs.declared.answer_words.AnswerWords.{AnswerWords}
@@ -35,6 +35,10 @@ kind_of (answer.Reaped completion) = 25
 kind_of answer.Nothing = 26
 kind_of answer.Shut = 27
 kind_of (answer.Next number) = 28
+
+-- these words tell that memory was refused to a Begin
+abbrev pub IsAgain : AnswerWords → Type 0
+IsAgain w = w.kind ≡ kind_of answer.Again
 
 -- the tail, the head, the length of the call that is open, or how many entries were accepted
 abbrev pub word_of : Answer → ℕ

@@ -2,8 +2,9 @@
 use base.Fml.{Fml, ftrue}
 use denote.RattleType.{RattleType}
 use denote.RawPtr.{Ptr}
-use Rattle.std.specs.Prelude.{Option, Some, None}
-use Rattle.std.specs.Coded.{Coded, coded_option}
+use Rattle.std.specs.Prelude.{Option, Some, None, ◌⊎◌}
+use mathlib.Core.Logic.{inl, inr}
+use Rattle.std.specs.Coded.{Coded, coded_option, coded⊎}
 use Rattle.std.specs.Box.Ownership.{box_owns}
 use Rattle.std.specs.Global.{Global}
 use Rattle.std.specs.contracts.impls.GlobalAllocator.TheImpl.{ghosts}
@@ -21,17 +22,43 @@ machine_row = Machine.the_row
 abbrev pub volume_row : RattleType
 volume_row = Volume.the_row
 
--- nothing, or a block with a value of this type and the right to free it
-abbrev pub slot_owns : (R : RattleType) → Global → Ptr → Option R.Denot → Fml
-slot_owns R alloc at None = ftrue
-slot_owns R alloc at (Some value) = box_owns (ghosts.dealloc_token alloc) R at value
+-- a core, a machine or a volume
+abbrev pub Held : Type 0
+Held = core_row.Denot ⊎ (machine_row.Denot ⊎ volume_row.Denot)
+
+abbrev pub a_core : core_row.Denot → Held
+a_core core = inl core
+
+abbrev pub a_machine : machine_row.Denot → Held
+a_machine machine = inr (inl machine)
+
+abbrev pub a_volume : volume_row.Denot → Held
+a_volume volume = inr (inr volume)
+
+-- the core in a slot, the machine and the volume, if there is one
+abbrev pub core_of : Option Held → Option core_row.Denot
+core_of (Some (inl core)) = Some core
+core_of _ = None
+
+abbrev pub machine_of : Option Held → Option machine_row.Denot
+machine_of (Some (inr (inl machine))) = Some machine
+machine_of _ = None
+
+abbrev pub volume_of : Option Held → Option volume_row.Denot
+volume_of (Some (inr (inr volume))) = Some volume
+volume_of _ = None
+
+-- a block with a value of this type, and the right to free it
+abbrev pub block_owns : (R : RattleType) → Global → Ptr → R.Denot → Fml
+block_owns R alloc at value = box_owns (ghosts.dealloc_token alloc) R at value
+
+-- nothing, or such a block
+abbrev pub slot_owns : Global → Ptr → Option Held → Fml
+slot_owns alloc at None = ftrue
+slot_owns alloc at (Some (inl core)) = block_owns core_row alloc at core
+slot_owns alloc at (Some (inr (inl machine))) = block_owns machine_row alloc at machine
+slot_owns alloc at (Some (inr (inr volume))) = block_owns volume_row alloc at volume
 
 -- how the logic stores what is in a slot
-abbrev pub core_coded : Coded (Option core_row.Denot)
-core_coded = coded_option core_row.coded
-
-abbrev pub machine_coded : Coded (Option machine_row.Denot)
-machine_coded = coded_option machine_row.coded
-
-abbrev pub volume_coded : Coded (Option volume_row.Denot)
-volume_coded = coded_option volume_row.coded
+abbrev pub held_coded : Coded (Option Held)
+held_coded = coded_option (coded⊎ core_row.coded (coded⊎ machine_row.coded volume_row.coded))

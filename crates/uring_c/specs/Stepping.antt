@@ -1,15 +1,17 @@
 -- What a call makes of what a place holds.
 use Rattle.std.specs.Prelude.{◌≡◌, ℕ, ◌∷◌, Option, IsSomeAnd}
 use Rattle.uring_entry.specs.declared.operation.Outcome.{Outcome}
-use Rattle.uring_core.specs.CalledFor.{CalledFor}
+use Rattle.uring_entry.specs.Setup.{Setup}
+use Rattle.uring_core.specs.CalledFor.{CalledFor, files_of}
 use Rattle.uring_core.specs.Core.{Core, FitsApart, IsFinished, IsShortOfMemory, HasNoLessMemory}
+use Rattle.uring_core.specs.World.{World}
 use Rattle.uring_core.specs.Histories.{History, world}
-use Rattle.uring_machine.specs.Machine.{Machine, Fits}
+use Rattle.uring_machine.specs.Machine.{Machine, Fits, finish_answer}
 use Rattle.uring_core.specs.declared.answer.Answer.{Answer}
 use Rattle.uring_core.specs.declared.answer.Answer.TheVariants as answer
 use Rattle.uring_core.specs.declared.step.Step.{Step}
 use Rattle.uring_core.specs.declared.step.Step.TheVariants as step
-use Rattle.uring_c.specs.AnswerForm.{words_of}
+use Rattle.uring_c.specs.AnswerForm.{words_of, IsAgain}
 use Rattle.uring_c.specs.declared.answer_words.AnswerWords.{AnswerWords}
 
 -- A core has made this step, and answered so: it fits every history that it did, followed by both.
@@ -37,6 +39,12 @@ pub record Stepped (s : Step) (a : Answer) (old new : Machine) : Type 0 where
   pub again : (h : History) → Fits old h → a ≡ answer.Again
       → IsShortOfMemory old.core (world old.core.setup h) s
   pub memory : HasNoLessMemory old.core new.core
+
+-- these words tell an answer to this step that refuses no memory: a Finish ends as its operation calls for, and no other step is answered Again
+abbrev pub TellUnrefused : Setup → World → Step → AnswerWords → Type 0
+TellUnrefused g w (step.Finish n) words =
+    words ≡ words_of (finish_answer (files_of g w) w.requests n)
+TellUnrefused g w s words = IsAgain words → ⊥
 
 -- The core of a place has made this step, and these words tell its answer.
 pub record TellsStepApart (s : Step) (old new : Option Core) (words : AnswerWords) : Type 0 where

@@ -1,37 +1,50 @@
 //! The calls of a core, made on the core in a place. Each takes the core out, and puts it back; its box doesn't move.
-ghost use Rattle.std.specs.Prelude.{◌≡◌, [], IsSome, IfOk, IsSomeAnd, slice_get, length};
+ghost use Rattle.std.specs.Prelude.{◌≡◌, ℕ, ◌≤◌, [], IsSome, IfOk, IsOk, IsSomeAnd, slice_get, length};
 ghost use Rattle.uring_entry.specs.Completions.{unreaped};
 ghost use Rattle.uring_entry.specs.Requests.{least_of, operation_running};
 ghost use Rattle.uring_entry.specs.Why.{why_of};
 ghost use Rattle.uring_dispatch.specs.Issuable.{issuables_of, issuable_from};
-ghost use Rattle.uring_core.specs.Core.{FitsApart, IsCounts, IsNoFinish};
+ghost use Rattle.uring_core.specs.Core.{FitsApart, IsCounts, IsNoFinish, elements_for};
 ghost use Rattle.uring_core.specs.Histories.{History, world};
+ghost use Rattle.uring_core.specs.declared.answer.Answer.TheVariants as answer;
 ghost use Rattle.uring_c.specs.Places.{core_in};
 ghost use Rattle.uring_c.specs.Stepping.{SteppedApart, FinishedApart};
 
+use crate::box_memory::BoxMemory;
 use crate::core_place::CorePlace;
 use std::alloc::{AllocError, Global};
 use uring_machine::{Answer, Core, Counts, Cqe, Op, Outcome, Setup, Step, Why};
+use uring_memory::Memory;
 
-/// A new core, in a box. `AllocError`: out of memory.
-pub(crate) fn new_core(alloc: Global, setup: &Setup) -> Result<Box<Core, Global>, AllocError>
-    ensures { IfOk result (λ core. (core.value.setup ≡ setup.now) × FitsApart core.value []) }
+/// A new core, in a box, by this memory. `AllocError`: out of memory. It doesn't come if the memory grants as many elements as either ring's size, and the box.
+pub(crate) fn new_core<M: BoxMemory>(
+    memory: &M,
+    alloc: Global,
+    setup: &Setup,
+) -> Result<Box<Core, Global>, AllocError>
+    ensures new { IfOk result (λ core. (core.value.setup ≡ setup.now) × FitsApart core.value []) }
+    ensures granted { (n : ℕ) → M.grants memory.now n → setup.now.sq ≤ n → setup.now.cq ≤ n
+        → 1 ≤ n → IsOk result }
 {
-    Ok(Box::new(alloc, Core::new(alloc, setup)?)?)
+    let core = Core::new_in(memory, alloc, setup)?;
+    memory.boxed(alloc, core)
 }
 
 impl CorePlace {
-    /// Makes one step.
-    pub(crate) fn step(&mut self, alloc: Global, step: Step) -> Answer
+    /// Makes one step, by this memory.
+    pub(crate) fn step_in<M: Memory>(&mut self, memory: &M, alloc: Global, step: Step) -> Answer
         requires full { IsSome (core_in self.old) }
         requires no_finish { IsNoFinish step }
-        ensures { IsSomeAnd (core_in self.old)
+        ensures made { IsSomeAnd (core_in self.old)
             (λ old. IsSomeAnd (core_in self.new) (SteppedApart step result old)) }
+        ensures granted { IsSomeAnd (core_in self.old)
+            (λ core. (h : History) (n : ℕ) → FitsApart core h → M.grants memory.now n
+            → elements_for core (world core.setup h) step ≤ n → result ≡ answer.Again → ⊥) }
     {
         let Some(mut core) = self.take(alloc) else {
             unreachable!()
         };
-        let answer = core.step(step);
+        let answer = core.step_in(memory, step);
         self.put(core);
         answer
     }

@@ -19,7 +19,7 @@ ghost use Rattle.uring_c.specs.Stepping.{TellsStepApart, TellsFinish};
 
 use crate::answer_words::{AnswerWords, answer_words};
 use crate::completion_words::{CompletionWords, OutcomeBytes, completion_words};
-use crate::core_calls::new_core;
+use crate::core_memory::{core_new_in, core_step_in};
 use crate::core_place::CorePlace;
 use crate::count_words::{CountWords, count_words};
 use crate::operation_words::{OperationWords, operation_words};
@@ -40,14 +40,7 @@ pub extern "C" fn wulgach_core_new(alloc: Global, place: &mut CorePlace, setup: 
         → IsSomeAnd (core_in place.new)
         (λ core. IsAskedFor (without_files setup.now) core.setup × FitsApart core []) }
 {
-    let Some(setup) = setup.without_files().set_up() else {
-        return -errno::EINVAL;
-    };
-    let Ok(core) = new_core(alloc, &setup) else {
-        return -errno::ENOMEM;
-    };
-    place.put(core);
-    0
+    core_new_in(&alloc, alloc, place, setup)
 }
 
 /// Makes one step, and writes its answer. -22 (EINVAL) exactly if the words give no step of a core. A refusal changes nothing.
@@ -68,14 +61,7 @@ pub extern "C" fn wulgach_core_step(
         (λ s. (result ≡ pos 0)
         × TellsStepApart s (core_in place.old) (core_in place.new) answer.new) }
 {
-    if !place.is_full {
-        return -errno::EBADF;
-    }
-    let Some(step) = step.core_step() else {
-        return -errno::EINVAL;
-    };
-    *answer = answer_words(&place.step(alloc, step));
-    0
+    core_step_in(&alloc, alloc, place, step, answer)
 }
 
 /// Ends the running request of this number with an outcome from outside, and writes the answer.

@@ -1,8 +1,9 @@
 //! A C program's handle of a core.
 ghost use Rattle.std.specs.Prelude.{◌≡◌, None, Some, is_some};
+ghost use Rattle.uring_c.specs.Slots.{core_of};
 
-use crate::core_slot::CoreSlot;
 use crate::parts::Parts;
+use crate::slot::Slot;
 use std::alloc::Global;
 use std::mem;
 use uring_machine::Core;
@@ -10,9 +11,9 @@ use uring_machine::Core;
 /// Nothing, or a core. `struct wulgach_core` of the header: a struct of zeros is an empty place.
 #[repr(C)]
 pub struct CorePlace {
-    pub slot: CoreSlot,
+    pub slot: Slot,
     pub is_full: bool,
-    ghost agrees: { is_some slot.core ≡ is_full },
+    ghost agrees: { is_some (core_of slot.held) ≡ is_full },
 }
 
 impl CorePlace {
@@ -24,7 +25,7 @@ impl CorePlace {
         ensures { core_in result ≡ None }
     {
         CorePlace {
-            slot: CoreSlot::none(alloc),
+            slot: Slot::none(alloc),
             is_full: false,
         }
     }
@@ -34,7 +35,7 @@ impl CorePlace {
         ensures { core_in result ≡ Some core.value }
     {
         CorePlace {
-            slot: CoreSlot::of_parts(Parts::of(core)),
+            slot: Slot::of_core(Parts::of(core)),
             is_full: true,
         }
     }
@@ -45,7 +46,7 @@ impl CorePlace {
     {
         let CorePlace { slot, is_full } = self;
         if is_full {
-            Some(slot.into_parts().into_box())
+            Some(slot.into_core().into_box())
         } else {
             None
         }

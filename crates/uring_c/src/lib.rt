@@ -2,24 +2,26 @@
 #![tactic(auto)]
 
 mod answer_words;
+mod box_memory;
 mod completion_words;
 mod core_calls;
 mod core_exports;
+mod core_memory;
 mod core_place;
-mod core_slot;
 mod count_words;
 mod machine_calls;
 mod machine_exports;
+mod machine_memory;
 mod machine_place;
-mod machine_slot;
 mod operation_words;
 mod parts;
 mod set_up_exports;
 mod set_up_words;
+mod slot;
 mod state_words;
 mod step_words;
 mod volume_calls;
 mod volume_exports;
+mod volume_memory;
 mod volume_place;
-mod volume_slot;
 mod why_words;

@@ -1,5 +1,5 @@
 //! The calls of a machine, made on the machine in a place. Each takes the machine out, and puts it back; its box doesn't move.
-ghost use Rattle.std.specs.Prelude.{◌≡◌, [], IsSome, IfOk, IsSomeAnd, slice_get, length};
+ghost use Rattle.std.specs.Prelude.{◌≡◌, ℕ, ◌≤◌, [], IsSome, IfOk, IsOk, IsSomeAnd, slice_get, length};
 ghost use Rattle.uring_entry.specs.Completions.{unreaped};
 ghost use Rattle.uring_entry.specs.Requests.{least_of, operation_running};
 ghost use Rattle.uring_entry.specs.Why.{why_of};
@@ -7,34 +7,47 @@ ghost use Rattle.uring_dispatch.specs.Issuable.{issuables_of, issuable_from};
 ghost use Rattle.uring_core.specs.Core.{IsCounts};
 ghost use Rattle.uring_core.specs.CalledFor.{files_of};
 ghost use Rattle.uring_core.specs.Histories.{History, world};
-ghost use Rattle.uring_machine.specs.Machine.{Fits};
+ghost use Rattle.uring_machine.specs.Machine.{Fits, IsUnrefused, elements_for_step};
 ghost use Rattle.uring_files.specs.Operations.{state_of, byte_of};
 ghost use Rattle.uring_c.specs.Places.{machine_in};
 ghost use Rattle.uring_c.specs.Stepping.{Stepped};
 
+use crate::box_memory::BoxMemory;
 use crate::machine_place::MachinePlace;
 use std::alloc::{AllocError, Global};
 use uring_machine::{Answer, Counts, Cqe, FileState, Machine, Op, Setup, Step, Why};
+use uring_memory::Memory;
 
-/// A new machine, in a box. `AllocError`: out of memory.
-pub(crate) fn new_machine(alloc: Global, setup: &Setup) -> Result<Box<Machine, Global>, AllocError>
-    ensures { IfOk result
+/// A new machine, in a box, by this memory. `AllocError`: out of memory. It doesn't come if the memory grants as many elements as either ring's size, and as there are files.
+pub(crate) fn new_machine<M: BoxMemory>(
+    memory: &M,
+    alloc: Global,
+    setup: &Setup,
+) -> Result<Box<Machine, Global>, AllocError>
+    ensures new { IfOk result
         (λ machine. (machine.value.core.setup ≡ setup.now) × Fits machine.value []) }
+    ensures granted { (n : ℕ) → M.grants memory.now n → setup.now.sq ≤ n → setup.now.cq ≤ n
+        → setup.now.files ≤ n → 1 ≤ n → IsOk result }
 {
-    Ok(Box::new(alloc, Machine::new(alloc, setup)?)?)
+    let machine = Machine::new_in(memory, alloc, setup)?;
+    memory.boxed(alloc, machine)
 }
 
 impl MachinePlace {
-    /// Makes one step.
-    pub(crate) fn step(&mut self, alloc: Global, step: Step) -> Answer
+    /// Makes one step, by this memory.
+    pub(crate) fn step_in<M: Memory>(&mut self, memory: &M, alloc: Global, step: Step) -> Answer
         requires { IsSome (machine_in self.old) }
-        ensures { IsSomeAnd (machine_in self.old)
+        ensures made { IsSomeAnd (machine_in self.old)
             (λ old. IsSomeAnd (machine_in self.new) (Stepped step result old)) }
+        ensures granted { IsSomeAnd (machine_in self.old)
+            (λ machine. (h : History) (n : ℕ) → Fits machine h → M.grants memory.now n
+            → elements_for_step machine.core (world machine.core.setup h) step ≤ n
+            → IsUnrefused machine.core.setup (world machine.core.setup h) step result) }
     {
         let Some(mut machine) = self.take(alloc) else {
             unreachable!()
         };
-        let answer = machine.step(step);
+        let answer = machine.step_in(memory, step);
         self.put(machine);
         answer
     }

@@ -20,10 +20,10 @@ ghost use Rattle.uring_c.specs.StepForm.{step_of};
 ghost use Rattle.uring_c.specs.WhyForm.{words_of_why};
 ghost use Rattle.uring_c.specs.Stepping.{TellsStep};
 
-use crate::answer_words::{AnswerWords, answer_words};
+use crate::answer_words::AnswerWords;
 use crate::completion_words::{CompletionWords, completion_words};
 use crate::count_words::{CountWords, count_words};
-use crate::machine_calls::new_machine;
+use crate::machine_memory::{machine_new_in, machine_step_in};
 use crate::machine_place::MachinePlace;
 use crate::operation_words::{OperationWords, operation_words};
 use crate::set_up_words::SetupWords;
@@ -47,14 +47,7 @@ pub extern "C" fn wulgach_machine_new(
         → IsSomeAnd (machine_in place.new)
         (λ machine. IsAskedFor setup.now machine.core.setup × Fits machine []) }
 {
-    let Some(setup) = setup.set_up() else {
-        return -errno::EINVAL;
-    };
-    let Ok(machine) = new_machine(alloc, &setup) else {
-        return -errno::ENOMEM;
-    };
-    place.put(machine);
-    0
+    machine_new_in(&alloc, alloc, place, setup)
 }
 
 /// Makes one step, and writes its answer. -22 (EINVAL) exactly if the words give no step. A refusal changes nothing.
@@ -75,14 +68,7 @@ pub extern "C" fn wulgach_machine_step(
         (λ s. (result ≡ pos 0)
         × TellsStep s (machine_in place.old) (machine_in place.new) answer.new) }
 {
-    if !place.is_full {
-        return -errno::EBADF;
-    }
-    let Some(step) = step.step() else {
-        return -errno::EINVAL;
-    };
-    *answer = answer_words(&place.step(alloc, step));
-    0
+    machine_step_in(&alloc, alloc, place, step, answer)
 }
 
 /// Writes how far a machine has come.

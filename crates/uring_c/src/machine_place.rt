@@ -1,8 +1,9 @@
 //! A C program's handle of a machine.
 ghost use Rattle.std.specs.Prelude.{◌≡◌, None, Some, is_some};
+ghost use Rattle.uring_c.specs.Slots.{machine_of};
 
-use crate::machine_slot::MachineSlot;
 use crate::parts::Parts;
+use crate::slot::Slot;
 use std::alloc::Global;
 use std::mem;
 use uring_machine::Machine;
@@ -10,9 +11,9 @@ use uring_machine::Machine;
 /// Nothing, or a machine. `struct wulgach_machine` of the header: a struct of zeros is an empty place.
 #[repr(C)]
 pub struct MachinePlace {
-    pub slot: MachineSlot,
+    pub slot: Slot,
     pub is_full: bool,
-    ghost agrees: { is_some slot.machine ≡ is_full },
+    ghost agrees: { is_some (machine_of slot.held) ≡ is_full },
 }
 
 impl MachinePlace {
@@ -24,7 +25,7 @@ impl MachinePlace {
         ensures { machine_in result ≡ None }
     {
         MachinePlace {
-            slot: MachineSlot::none(alloc),
+            slot: Slot::none(alloc),
             is_full: false,
         }
     }
@@ -34,7 +35,7 @@ impl MachinePlace {
         ensures { machine_in result ≡ Some machine.value }
     {
         MachinePlace {
-            slot: MachineSlot::of_parts(Parts::of(machine)),
+            slot: Slot::of_machine(Parts::of(machine)),
             is_full: true,
         }
     }
@@ -45,7 +46,7 @@ impl MachinePlace {
     {
         let MachinePlace { slot, is_full } = self;
         if is_full {
-            Some(slot.into_parts().into_box())
+            Some(slot.into_machine().into_box())
         } else {
             None
         }

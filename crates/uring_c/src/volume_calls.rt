@@ -1,5 +1,5 @@
 //! The calls of a volume, made on the volume in a place. Each takes the volume out, and puts it back; its box doesn't move.
-ghost use Rattle.std.specs.Prelude.{◌≡◌, ◌↔◌, ◌+◌, ◌<◌, ◌^◌, [], Some, IsSome, IfOk, OnErr, IsSomeAnd, Err, length, if◌then◌else◌};
+ghost use Rattle.std.specs.Prelude.{◌≡◌, ◌↔◌, ℕ, ◌+◌, ◌<◌, ◌≤◌, ◌^◌, [], Some, IsSome, IfOk, IsOk, OnErr, IsSomeAnd, Err, length, if◌then◌else◌};
 ghost use Rattle.uring_volume.specs.Images.{IsImage};
 ghost use Rattle.uring_volume.specs.Choices.{issued, named, has_safe, IsLeftBy};
 ghost use Rattle.uring_volume.specs.Volume.{with_event, with_write, with_sync, is_one_of, running_writes, running_syncs, IsShown};
@@ -7,22 +7,40 @@ ghost use Rattle.uring_volume.specs.declared.event.Event.TheVariants.{WriteEnded
 ghost use Rattle.uring_volume.specs.declared.volume.BeginError.TheVariants.{OutOfNumbers};
 ghost use Rattle.uring_c.specs.Places.{volume_in};
 
+use crate::box_memory::BoxMemory;
 use crate::volume_place::VolumePlace;
 use std::alloc::{AllocError, Global};
+use uring_memory::Memory;
 use uring_volume::{BeginError, SyncRange, Volume};
 
-/// A new volume, in a box. `AllocError`: out of memory.
-pub(crate) fn new_volume(
+/// A new volume, in a box, by this memory. `AllocError`: out of memory. It doesn't come if the memory grants as many elements as there are bytes, and the box.
+pub(crate) fn new_volume<M: BoxMemory>(
+    memory: &M,
     alloc: Global,
     unit: u64,
     first: &[u8],
 ) -> Result<Box<Volume, Global>, AllocError>
     requires { 0 < unit }
-    ensures { IfOk result (λ volume. volume.value
+    ensures new { IfOk result (λ volume. volume.value
         ≡ record { unit = unit; first = first.now; history = []; next = 1 }) }
+    ensures granted { (n : ℕ) → M.grants memory.now n → length first.now ≤ n → 1 ≤ n → IsOk result }
 {
-    let bytes = first.to_vec(alloc)?;
-    Ok(Box::new(alloc, Volume::new(alloc, unit, bytes))?)
+    let bytes = copied(memory, alloc, first)?;
+    memory.boxed(alloc, Volume::new(alloc, unit, bytes))
+}
+
+/// A list of these bytes, by this memory. `AllocError`: out of memory.
+pub(crate) fn copied<M: Memory>(
+    memory: &M,
+    alloc: Global,
+    bytes: &[u8],
+) -> Result<Vec<u8>, AllocError>
+    ensures bytes { IfOk result (λ list. list.items ≡ bytes.now) }
+    ensures granted { (n : ℕ) → M.grants memory.now n → length bytes.now ≤ n → IsOk result }
+{
+    let mut list = memory.list(alloc, bytes.len())?;
+    list.extend_from_slice(bytes)?;
+    Ok(list)
 }
 
 impl VolumePlace {

@@ -11,7 +11,7 @@ ghost use Rattle.uring_volume.specs.declared.volume.BeginError.TheVariants.{OutO
 ghost use Rattle.uring_c.specs.Places.{volume_in};
 ghost use Rattle.uring_c.specs.VolumeForms.{IsGiven, TellsContents, TellsCrash};
 
-use crate::volume_calls::new_volume;
+use crate::volume_memory::volume_new_in;
 use crate::volume_place::VolumePlace;
 use std::alloc::Global;
 use uring_entry::errno;
@@ -64,14 +64,7 @@ pub extern "C" fn wulgach_volume_new(
         → volume_in place.new
         ≡ Some (record { unit = unit; first = first.now; history = []; next = 1 }) }
 {
-    if unit == 0 {
-        return -errno::EINVAL;
-    }
-    let Ok(volume) = new_volume(alloc, unit, first) else {
-        return -errno::ENOMEM;
-    };
-    place.put(volume);
-    0
+    volume_new_in(&alloc, alloc, place, unit, first)
 }
 
 /// Begins a write of these bytes at an offset, and writes its number. -27 (EFBIG) exactly if it would end above 2^63 - 1; -22 (EINVAL) only if the numbers are used up; -12 (ENOMEM) if memory is refused. A refusal changes nothing.

@@ -1,8 +1,9 @@
 //! A C program's handle of a volume.
 ghost use Rattle.std.specs.Prelude.{◌≡◌, None, Some, is_some};
+ghost use Rattle.uring_c.specs.Slots.{volume_of};
 
 use crate::parts::Parts;
-use crate::volume_slot::VolumeSlot;
+use crate::slot::Slot;
 use std::alloc::Global;
 use std::mem;
 use uring_volume::Volume;
@@ -10,9 +11,9 @@ use uring_volume::Volume;
 /// Nothing, or a volume. `struct wulgach_volume` of the header: a struct of zeros is an empty place.
 #[repr(C)]
 pub struct VolumePlace {
-    pub slot: VolumeSlot,
+    pub slot: Slot,
     pub is_full: bool,
-    ghost agrees: { is_some slot.volume ≡ is_full },
+    ghost agrees: { is_some (volume_of slot.held) ≡ is_full },
 }
 
 impl VolumePlace {
@@ -24,7 +25,7 @@ impl VolumePlace {
         ensures { volume_in result ≡ None }
     {
         VolumePlace {
-            slot: VolumeSlot::none(alloc),
+            slot: Slot::none(alloc),
             is_full: false,
         }
     }
@@ -34,7 +35,7 @@ impl VolumePlace {
         ensures { volume_in result ≡ Some volume.value }
     {
         VolumePlace {
-            slot: VolumeSlot::of_parts(Parts::of(volume)),
+            slot: Slot::of_volume(Parts::of(volume)),
             is_full: true,
         }
     }
@@ -45,7 +46,7 @@ impl VolumePlace {
     {
         let VolumePlace { slot, is_full } = self;
         if is_full {
-            Some(slot.into_parts().into_box())
+            Some(slot.into_volume().into_box())
         } else {
             None
         }

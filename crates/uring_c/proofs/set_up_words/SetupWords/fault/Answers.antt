@@ -1,4 +1,4 @@
-use Rattle.std.proofs.Common.{◌≡◌, ℕ, Option, Bool, false, ap, subst, refl}
+use Rattle.std.proofs.Common.{ℕ, Option, Bool, false, subst, refl}
 use Rattle.uring_entry.specs.Setup.{Setup, IsSetupFor}
 use Rattle.uring_c.proofs.set_up_words.SetupWords.fault.Goals as goal
 

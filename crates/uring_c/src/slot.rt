@@ -1,0 +1,103 @@
+//! What lies behind a C program's handle.
+ghost use Rattle.std.specs.Prelude.{◌≡◌, Option, Some, None, IsSome};
+ghost use Rattle.uring_c.specs.Slots.{Held, slot_owns, held_coded, a_core, a_machine, a_volume, core_of, machine_of, volume_of};
+
+use crate::parts::Parts;
+use std::alloc::Global;
+use std::marker::Model;
+use uring_machine::{Core, Machine};
+use uring_volume::Volume;
+
+/// Nothing, or a pointer to a core, a machine or a volume in a block of its own.
+#[repr(C)]
+#[derive(Drop)]
+pub struct Slot {
+    at: *mut u8,
+    alloc: Global,
+    pub ghost held: { Option Held } by { held_coded },
+}
+
+impl Model for Slot {
+    ghost also_owns = { λ s. slot_owns s.alloc s.at s.held };
+}
+
+impl Slot {
+    /// A slot with nothing in it.
+    pub(crate) fn none(alloc: Global) -> Slot
+        ensures { result.held ≡ None }
+    {
+        Slot {
+            at: std::ptr::null_mut(),
+            alloc,
+        }
+    }
+
+    /// The slot of the parts of a core's box.
+    pub(crate) fn of_core(parts: Parts<Core, Global>) -> Slot
+        ensures { result.held ≡ Some (a_core parts.value) }
+    {
+        let Parts { ptr, alloc } = parts;
+        Slot {
+            at: ptr as *mut u8,
+            alloc,
+        }
+    }
+
+    /// The slot of the parts of a machine's box.
+    pub(crate) fn of_machine(parts: Parts<Machine, Global>) -> Slot
+        ensures { result.held ≡ Some (a_machine parts.value) }
+    {
+        let Parts { ptr, alloc } = parts;
+        Slot {
+            at: ptr as *mut u8,
+            alloc,
+        }
+    }
+
+    /// The slot of the parts of a volume's box.
+    pub(crate) fn of_volume(parts: Parts<Volume, Global>) -> Slot
+        ensures { result.held ≡ Some (a_volume parts.value) }
+    {
+        let Parts { ptr, alloc } = parts;
+        Slot {
+            at: ptr as *mut u8,
+            alloc,
+        }
+    }
+
+    /// The parts of the box of the core in a slot. Condition: there is one.
+    pub(crate) fn into_core(self) -> Parts<Core, Global>
+        requires { IsSome (core_of self.held) }
+        ensures { Some result.value ≡ core_of self.held }
+    {
+        let Slot { at, alloc } = self;
+        Parts {
+            ptr: at as *mut Core,
+            alloc,
+        }
+    }
+
+    /// The parts of the box of the machine in a slot. Condition: there is one.
+    pub(crate) fn into_machine(self) -> Parts<Machine, Global>
+        requires { IsSome (machine_of self.held) }
+        ensures { Some result.value ≡ machine_of self.held }
+    {
+        let Slot { at, alloc } = self;
+        Parts {
+            ptr: at as *mut Machine,
+            alloc,
+        }
+    }
+
+    /// The parts of the box of the volume in a slot. Condition: there is one.
+    pub(crate) fn into_volume(self) -> Parts<Volume, Global>
+        requires { IsSome (volume_of self.held) }
+        ensures { Some result.value ≡ volume_of self.held }
+    {
+        let Slot { at, alloc } = self;
+        Parts {
+            ptr: at as *mut Volume,
+            alloc,
+        }
+    }
+}
