@@ -208,6 +208,13 @@ impl Machine {
         self.core.counts()
     }
 
+    /// The core alone, which can be asked what stands and not moved.
+    pub fn core(&self) -> &Core
+        ensures { result.now ≡ self.now.core }
+    {
+        &self.core
+    }
+
     /// The operation of the request of this number: `Some` exactly if it is running. It can be carried out on files.
     pub fn running_op(&self, number: u64) -> Option<Op>
         ensures value { (h : History) → Fits self.now h

@@ -4,7 +4,7 @@ ghost use Rattle.std.specs.Prelude.{◌≡◌, drop, length, IfSome, slice_get};
 ghost use Rattle.uring_entry.specs.Setup.{IsWithinLimits};
 ghost use Rattle.uring_entry.specs.Submission.{dropped};
 ghost use Rattle.uring_entry.specs.Completions.{unreaped};
-ghost use Rattle.uring_entry.specs.Requests.{least_of, operation_running, next_of};
+ghost use Rattle.uring_entry.specs.Requests.{entry_outstanding, least_of, operation_running, next_of};
 ghost use Rattle.uring_entry.specs.Why.{why_of};
 ghost use Rattle.uring_dispatch.specs.Cancels.{found_by};
 ghost use Rattle.uring_dispatch.specs.Issuable.{issuables_of, issuable_from};
@@ -16,7 +16,7 @@ ghost use Rattle.uring_core.specs.StepAnswers.{begin_answer};
 use super::{Core, Counts};
 use crate::answer::Answer;
 use uring_dispatch::{Dispatch, Found};
-use uring_entry::{Cqe, Op, Setup, Why};
+use uring_entry::{Cqe, Op, Setup, Sqe, Why};
 
 impl Core {
     /// What a Begin of this many positions, any number, is answered if memory is there: the answer of `Step::Begin`, unless that is `Again`. It is no step, and so not part of a history.
@@ -44,6 +44,14 @@ impl Core {
         ensures asks { IfSome result IsForFiles }
     {
         self.dispatch.running_op(number)
+    }
+
+    /// The entry of the request of this number, any number: `Some` exactly if it is outstanding. It is no step, and so not part of a history.
+    pub fn entry(&self, number: u64) -> Option<Sqe>
+        ensures { (h : History) → FitsApart self.now h
+            → result ≡ entry_outstanding (world self.now.setup h).requests number }
+    {
+        self.dispatch.entry(number)
     }
 
     /// The least request that can be issued: what `Step::Next` is answered. It is no step, and so not part of a history.
