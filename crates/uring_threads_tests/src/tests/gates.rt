@@ -55,10 +55,7 @@ fn goes_through<K: KernelPort>(ends: &mut Ends<K, Noting>, shown: &Shown) -> boo
 }
 
 /// New ends of one worker, with a gate that notes here what it is shown.
-fn noting_ends<'a, K: Ports>(
-    alloc: Global,
-    shown: &'a Shown,
-) -> Result<Ends<K, Noting<'a>>, Fail> {
+fn noting_ends<'a, K: Ports>(alloc: Global, shown: &'a Shown) -> Result<Ends<K, Noting<'a>>, Fail> {
     let setup = Setup::new(4, Some(4), 1, 0)?;
     let gates = vec![in alloc; Noting(shown)]?;
     Ok(K::ends(alloc, &setup, gates)?)
