@@ -1,0 +1,17 @@
+//! A run as data and as a page: what a trace shows as JSON, and the same in one HTML file that draws it.
+#![tactic(auto)]
+
+mod changes;
+mod checked;
+mod entries;
+mod json_text;
+mod recorder;
+mod requests;
+mod submission;
+mod viewer;
+mod watching;
+
+pub use checked::check_page;
+pub use uring_check::Verdict;
+pub use uring_text::TraceFault;
+pub use watching::{Form, page};
