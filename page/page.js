@@ -116,7 +116,7 @@ function tellChange(change) {
     case "overflow": return `${name}: its completion waits in the overflow list`;
     case "reaped": return `${name}: its completion is reaped`;
     case "safe": return `${name}: what it wrote is safe`;
-    default: return `${name} ${change.is === "ready" || change.is === "runs" ? "" : "is held: "}${change.why}`;
+    default: return `${name}: ${change.why}`;
   }
 }
 

@@ -220,7 +220,7 @@ impl Changes {
             return Ok(());
         }
         match request.entry.opcode() {
-            opcode::WRITE => self.writes.push(number),
+            opcode::WRITE => Ok(self.writes.push(number)?),
             opcode::FSYNC => self.make_safe(text, &request.entry, request.issued),
             _ => Ok(()),
         }

@@ -7,7 +7,7 @@ use std::alloc::Global;
 use std::io::{Read, Write};
 use uring_check::{Verdict, check};
 use uring_machine::Setup;
-use uring_text::{Calls, TraceFault, read_once};
+use uring_text::{Calls, TraceFault, is_name, read_once};
 use uring_trace::Explainer;
 
 /// Most bytes that are read at once.
@@ -130,14 +130,14 @@ fn record_line(
     line: &[u8],
 ) -> Result<bool, TraceFault> {
     let (step, answer) = split_record(line);
-    if answer == b"again" || answer == b"ended -12" {
+    if is_name(answer, "again") || is_name(answer, "ended -12") {
         keep_all(recorder, step);
         let told = Told {
             text: answer,
             note: b"",
         };
         recorder.end_line(explainer.machine(), told)?;
-        return Ok(answer == b"again");
+        return Ok(is_name(answer, "again"));
     }
     explain_line(alloc, explainer, recorder, step)?;
     Ok(true)

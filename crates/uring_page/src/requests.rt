@@ -49,14 +49,16 @@ impl Requests {
     /// Adds the request that this call accepted next. `is_first`: it is the first of its call.
     pub(crate) fn add(&mut self, entry: Sqe, call: u64, is_first: bool) -> Result<(), AllocError> {
         let chain = self.next_chain(is_first);
-        self.all.push(Request {
-            entry,
-            call,
-            chain,
-            why: Why::NeverAccepted,
-            issued: None,
-            ended: None,
-        })
+        Ok(
+            self.all.push(Request {
+                entry,
+                call,
+                chain,
+                why: Why::NeverAccepted,
+                issued: None,
+                ended: None,
+            })?,
+        )
     }
 
     /// The first member of the chain of the next request: a chain ends with its call, and behind an entry without a link.

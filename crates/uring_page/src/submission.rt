@@ -2,6 +2,7 @@
 
 use std::alloc::{AllocError, Global};
 use uring_machine::{Setup, Sqe, Step};
+use uring_text::is_name;
 
 /// The entries that an open call took, and what they are taken from. It is read off the steps and their answers.
 #[derive(Drop)]
@@ -37,17 +38,17 @@ impl Submission {
     /// Takes in a step with its answer.
     pub(crate) fn take_in(&mut self, step: &Step, answer: &[u8]) -> Result<(), AllocError> {
         match step {
-            Step::Fill { slot, entry } if answer == b"ok" => {
+            Step::Fill { slot, entry } if is_name(answer, "ok") => {
                 self.fill(*slot, *entry);
                 Ok(())
             }
-            Step::Index { word } if answer == b"ok" => self.staged.push(*word),
+            Step::Index { word } if is_name(answer, "ok") => Ok(self.staged.push(*word)?),
             Step::Begin { .. } if answer.starts_with(b"call ") => {
                 self.begin();
                 Ok(())
             }
             Step::Take if answer.starts_with(b"entry ") => self.take(),
-            Step::Take if answer == b"dropped" => {
+            Step::Take if is_name(answer, "dropped") => {
                 self.taken = self.taken.saturating_add(1);
                 Ok(())
             }
@@ -83,7 +84,7 @@ impl Submission {
         let entry = self.next_entry();
         self.taken = self.taken.saturating_add(1);
         match entry {
-            Some(entry) => self.entries.push(entry),
+            Some(entry) => Ok(self.entries.push(entry)?),
             None => Ok(()),
         }
     }

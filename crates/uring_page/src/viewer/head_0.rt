@@ -27,12 +27,12 @@ header p { display: inline-block; margin: 0 0 0 .8rem; color: var(--soft); }
 #keys { color: var(--soft); font-size: .8rem; }
 #legend { display: flex; flex-wrap: wrap; gap: .3rem 1rem; list-style: none; margin: 0; padding: 0; font-size: .8rem; }
 #legend svg { width: 26px; height: 12px; vertical-align: -1px; margin-right: .3rem; }
-#chart { position: relative; overflow: auto; flex: 1 1 40%; min-height: 140px; border: 1px solid var(--faint); }
+#chart { position: relative; overflow: auto; flex: none; min-height: 100px; max-height: 55vh; border: 1px solid var(--faint); }
 #chart:focus { outline: 2px solid var(--ring); }
 #space { position: relative; }
 #lanes { position: sticky; left: 0; top: 0; display: block; }
 #rings { border: 1px solid var(--faint); height: 96px; width: 100%; flex: none; }
-#told { display: grid; grid-template-columns: 1.3fr .9fr 1.1fr 1.7fr; gap: 1rem; flex: 0 1 30%; overflow: auto; min-height: 150px; }
+#told { display: grid; grid-template-columns: 1.3fr .9fr 1.1fr 1.7fr; gap: 1rem; flex: 1 1 30%; overflow: auto; min-height: 150px; }
 #told ul, #told ol { margin: 0; padding: 0; list-style: none; }
 #told dl { display: grid; grid-template-columns: auto 1fr; gap: 0 .7rem; margin: 0; } #told dd { margin: 0; }
 #lines li { white-space: pre; cursor: pointer; font: 12px/1.45 ui-monospace, monospace; overflow: hidden; text-overflow: ellipsis; }
@@ -51,7 +51,7 @@ svg text { fill: var(--ink); font: 11px system-ui, sans-serif; } svg text.soft {
 .tail { fill: none; stroke: var(--ring); stroke-width: 1.6; } .head { fill: none; stroke: var(--waits); stroke-width: 1.6; stroke-dasharray: 4 2; }
 .panel { fill: var(--back); }
 @media print {
-  body { height: auto; display: block; } #tools, #keys { display: none; } #chart { overflow: visible; border: 0; height: auto !important; } #lanes { position: static; } #told { display: block; overflow: visible; }
+  body { height: auto; display: block; } #tools, #keys { display: none; } #chart { overflow: visible; border: 0; height: auto !important; max-height: none; } #lanes { position: static; } #told { display: block; overflow: visible; }
   :root { --back: #ffffff; --ink: #000000; }
 }
 </style>

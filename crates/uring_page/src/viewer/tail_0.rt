@@ -200,9 +200,10 @@ function sight(view) {
 
 function drawLanes(view) {
   const { run, rows, step, here, lanes } = view;
+  view.chart.style.height = `${rows.length * ROW + 20}px`;
   const seen = sight(view);
   view.space.style.width = `${LABEL + run.size * step + 20}px`;
-  view.space.style.height = `${Math.max(rows.length * ROW, seen.height)}px`;
+  view.space.style.height = `${rows.length * ROW}px`;
   lanes.setAttribute("width", seen.width);
   lanes.setAttribute("height", seen.height);
   lanes.replaceChildren(...arrowHeads());
