@@ -29,8 +29,6 @@ class Browser:
         self.back, to_write = os.pipe()
         words = [found(), "--headless=new", "--no-sandbox", "--disable-gpu", "--hide-scrollbars", "--no-first-run", "--disable-dev-shm-usage",
                  "--remote-debugging-pipe", f"--user-data-dir={self.home}", f"--window-size={size[0]},{size[1]}", "about:blank"]
-        if dark:
-            words.insert(1, "--blink-settings=preferredColorScheme=0")
 
         def wire():
             os.dup2(to_read, 3)

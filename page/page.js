@@ -46,13 +46,23 @@ function choose(place, row) {
   tell();
 }
 
-// Moves what is seen so far that the chosen line is in it, and the row, or the request that the line changes.
+// The place in a sorted list of its first number from this one on.
+function firstFrom(list, number) {
+  let [low, high] = [0, list.length];
+  while (low < high) {
+    const middle = (low + high) >> 1;
+    if (list[middle] < number) low = middle + 1; else high = middle;
+  }
+  return low;
+}
+
+// Moves what is seen so far that the chosen line is in it, and the row, or the request that this line or the next one changes.
 function show(row) {
   const { chart, step, here, run } = view;
   const x = here * step, wide = chart.clientWidth - LABEL;
   if (x < chart.scrollLeft || x + step > chart.scrollLeft + wide) chart.scrollLeft = Math.max(0, x - wide / 2);
-  const change = ((run.lines[here] || {}).changes || [])[0];
-  const wanted = row ?? (change && view.rowOf.get(change.request));
+  const near = run.changed[firstFrom(run.changed, here)] ?? run.changed[run.changed.length - 1];
+  const wanted = row ?? (near === undefined ? undefined : view.rowOf.get(run.lines[near].changes[0].request));
   if (wanted === undefined) return;
   const y = wanted * ROW;
   if (y < chart.scrollTop || y + ROW > chart.scrollTop + chart.clientHeight) chart.scrollTop = Math.max(0, y - chart.clientHeight / 2);
@@ -155,7 +165,7 @@ function lines() {
 // The next line behind the chosen one that changes something, or the one before it.
 function nearest(isOn) {
   const { changed } = view.run;
-  const found = isOn ? changed.find(place => place > view.here) : changed.findLast(place => place < view.here);
+  const found = isOn ? changed[firstFrom(changed, view.here + 1)] : changed[firstFrom(changed, view.here) - 1];
   return found ?? view.here;
 }
 

@@ -4,72 +4,41 @@ use crate::json_text::last_number;
 use crate::recorder::{Recorder, Told};
 use crate::watching::{Form, watch_byte, write_form};
 use std::alloc::Global;
-use std::io::{Read, Write};
-use uring_check::{Verdict, check};
+use std::io::Write;
 use uring_machine::Setup;
-use uring_text::{Calls, TraceFault, is_name, read_once};
+use uring_text::{TraceFault, is_name};
 use uring_trace::Explainer;
 
-/// Most bytes that are read at once.
-const CHUNK: usize = 512;
-
-/// Reads all of `reader`, a recorded trace, checks it as `check` does, and writes to `writer` what its lines show up to the first that is wrong or bad, and of that what the check tells: as JSON, or as a page. Returns the verdict.
+/// Writes to `writer` what the lines of a recorded trace show, of which `report` is what `uring_check::check` wrote without going on behind a fault: up to the first that is wrong or bad, and of that what the report tells. As JSON, or as a page.
 ///
 /// A call that was answered `again` is shown as a line that changes nothing. A write that ended for want of memory is the last line that is shown, since what is made behind it has other files.
 ///
-/// - `Read`: a read failed, or 2^64 - 1 reads were made. Nothing is written.
 /// - `Write`: a write failed or took no byte, or 2^64 - 1 writes were made. What is written is cut short.
 /// - `Memory`: memory was refused. Nothing is written.
-pub fn check_page<R: Read, W: Write>(
+pub fn recorded_page<W: Write>(
     alloc: Global,
-    reader: &mut R,
+    trace: &[u8],
+    report: &[u8],
     writer: &mut W,
     setup: &Setup,
     form: Form,
-) -> Result<Verdict, TraceFault> {
-    let bytes = read_all(alloc, reader)?;
-    let mut report = Vec::new(alloc);
-    let mut left = bytes.as_slice();
-    let verdict = check(alloc, &mut left, &mut report, setup, false, false)?;
+) -> Result<(), TraceFault> {
     let mut recorder = Recorder::new(alloc, setup)?;
-    let last = last_line(verdict, report.as_slice());
-    record_lines(
-        alloc,
-        setup,
-        &mut recorder,
-        bytes.as_slice(),
-        last,
-        report.as_slice(),
-    )?;
-    let written = write_form(&mut recorder, writer, form);
+    let recorded = record_lines(alloc, setup, &mut recorder, trace, report);
+    let written = match recorded {
+        Ok(()) => write_form(&mut recorder, writer, form),
+        Err(fault) => Err(fault),
+    };
     drop(recorder);
-    drop(report);
-    drop(bytes);
-    written?;
-    Ok(verdict)
-}
-
-/// All that a reader has.
-fn read_all<R: Read>(alloc: Global, reader: &mut R) -> Result<Vec<u8>, TraceFault> {
-    let mut bytes = Vec::new(alloc);
-    let mut reads = Calls::new();
-    let mut chunk = [0; CHUNK];
-    while !reads.are_over() {
-        match read_once(reader, &mut chunk, &mut reads) {
-            Ok(0) => return Ok(bytes),
-            Ok(count) => bytes.extend_from_slice(&chunk[..count])?,
-            Err(_) => {}
-        }
-    }
-    drop(bytes);
-    Err(TraceFault::Read)
+    written
 }
 
 /// The number of the line that isn't lawful, as the report tells it.
-fn last_line(verdict: Verdict, report: &[u8]) -> u64 {
-    match verdict {
-        Verdict::Lawful => u64::MAX,
-        _ => last_number(first_words(report)),
+fn last_line(report: &[u8]) -> u64 {
+    if report.starts_with(b"line ") {
+        last_number(first_words(report))
+    } else {
+        u64::MAX
     }
 }
 
@@ -79,19 +48,19 @@ fn first_words(report: &[u8]) -> &[u8] {
     report.get(..end).unwrap_or_default()
 }
 
-/// Records the lines up to that of this number.
+/// Records the lines up to that which the report tells of.
 fn record_lines(
     alloc: Global,
     setup: &Setup,
     recorder: &mut Recorder,
-    bytes: &[u8],
-    last: u64,
+    trace: &[u8],
     report: &[u8],
 ) -> Result<(), TraceFault> {
+    let last = last_line(report);
     let mut explainer = Explainer::new(alloc, setup)?;
     let mut number: u64 = 1;
-    let mut rest = bytes;
-    for _ in 0..bytes.len() {
+    let mut rest = trace;
+    for _ in 0..trace.len() {
         let Some((line, behind)) = next_line(rest) else {
             break;
         };

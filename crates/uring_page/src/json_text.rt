@@ -61,7 +61,7 @@ pub(crate) fn last_number(text: &[u8]) -> u64 {
         number = match byte {
             b'0'..=b'9' => number
                 .saturating_mul(10)
-                .saturating_add(u64::from(*byte - b'0')),
+                .saturating_add(u64::from(byte.wrapping_sub(b'0'))),
             _ => 0,
         };
     }

@@ -11,7 +11,6 @@ mod submission;
 mod viewer;
 mod watching;
 
-pub use checked::check_page;
-pub use uring_check::Verdict;
+pub use checked::recorded_page;
 pub use uring_text::TraceFault;
 pub use watching::{Form, page};

@@ -11,6 +11,9 @@ use uring_machine::{Found, Machine, Setup, Step};
 use uring_text::KeptLine;
 use uring_trace::read_step;
 
+/// How many index words there are.
+const WORDS: u64 = 4_294_967_296;
+
 /// What is told of a line.
 #[derive(Clone, Copy)]
 pub(crate) struct Told<'a> {
@@ -194,8 +197,8 @@ impl Recorder {
         if now == put {
             return Ok(());
         }
-        let tail = self.setup.start().wrapping_add(now as u32);
-        push_count(&mut self.text, "cq_tail", u64::from(tail))
+        let tail = u64::from(self.setup.start()).wrapping_add(now) % WORDS;
+        push_count(&mut self.text, "cq_tail", tail)
     }
 
     /// Appends how the file of a request stands that a finish has ended.

@@ -242,8 +242,8 @@ function drawRow(view, lanes, row, y, x, first, last, arrows) {
     if (span.until <= first || span.from >= last) continue;
     drawSpan(view, lane, request, span, y, x);
   }
-  if (request.until >= first && request.until < last) drawEnd(lane, request, y, x, view.step);
-  for (const mark of request.marks) if (mark.place >= first && mark.place < last) drawMark(lane, mark, y, x, view.step);
+  if (request.until >= first && request.until < last) drawEnd(view, lane, request, y, x);
+  for (const mark of request.marks) if (mark.place >= first && mark.place < last) drawMark(view, lane, mark, y, x);
   for (const arrow of request.arrows || []) if (arrow.place >= first && arrow.place < last) arrows.add(arrow);
 }
 
@@ -263,22 +263,28 @@ function short(text, room) {
   return text.length <= most ? text : `${text.slice(0, most - 1)}…`;
 }
 
-function drawEnd(lane, request, y, x, step) {
+function drawEnd(view, lane, request, y, x) {
+  const { run, step } = view;
   const at = x(request.until) + Math.min(step, 6) / 2;
-  put(lane, "line", { class: "end", x1: at, x2: at, y1: y + 2, y2: y + 22, "data-place": request.until });
+  const end = put(lane, "line", { class: "end", x1: at, x2: at, y1: y + 2, y2: y + 22, "data-place": request.until });
+  put(end, "title", {}, `request ${request.request} ended with ${request.result}\n${tellLine(run.lines[request.until])}`);
   if (step >= 8) put(lane, "text", { x: at + 3, y: y + 11 }, String(request.result));
 }
 
-function drawMark(lane, mark, y, x, step) {
-  const at = x(mark.place) + step / 2;
-  if (mark.is === "safe") put(lane, "path", { class: "safe", d: `M${at - 4} ${y + 16}l3 4l6 -9`, "data-is": "safe" });
-  else put(lane, "circle", { class: "reaped", cx: at, cy: y + 17, r: 3, "data-is": "reaped" });
+function drawMark(view, lane, mark, y, x) {
+  const at = x(mark.place) + view.step / 2;
+  const drawn = mark.is === "safe" ? put(lane, "path", { class: "safe", d: `M${at - 4} ${y + 16}l3 4l6 -9`, "data-is": "safe" }) : put(lane, "circle", { class: "reaped", cx: at, cy: y + 17, r: 3, "data-is": "reaped" });
+  put(drawn, "title", {}, `${mark.is}\n${tellLine(view.run.lines[mark.place])}`);
+}
+
+// A line with its answer and reason.
+function tellLine(line) {
+  return `line ${line.line}: ${line.text}${line.answer === undefined ? "" : ` = ${line.answer}`}${line.reason ? `  # ${line.reason}` : ""}`;
 }
 
 function tellSpan(run, request, span) {
-  const line = run.lines[span.from];
   const until = span.until < run.size ? `to line ${run.lines[span.until].line}` : "to the end";
-  return `request ${request.request}, user data ${request.user_data}: ${span.why || (STATES.find(state => state[0] === span.is) || [0, span.is])[1]}\nfrom line ${line.line}, ${line.text} = ${line.answer ?? ""}${line.reason ? `  # ${line.reason}` : ""}, ${until}`;
+  return `request ${request.request}, user data ${request.user_data}: ${span.why || (STATES.find(state => state[0] === span.is) || [0, span.is])[1]}\nfrom ${tellLine(run.lines[span.from])}\n${until}`;
 }
 
 function drawLabel(view, lanes, row, y) {
@@ -300,7 +306,7 @@ function drawArrow(view, lanes, arrow, x, y, first, last) {
   const at = x(arrow.place) + Math.min(view.step / 2, 8), y1 = y(from) + 12, y2 = y(to) + (to > from ? 3 : 19);
   const bend = arrow.kind === "link" ? 0 : 10;
   const path = put(lanes, "path", { class: `arrow arrow-${arrow.kind}`, d: `M${at} ${y1}C${at + bend} ${y1} ${at + bend} ${y2} ${at} ${y2}`, "marker-end": `url(#head-${arrow.kind})`, "data-kind": arrow.kind, "data-from": arrow.from, "data-to": arrow.to });
-  put(path, "title", {}, `${arrow.kind}: from request ${arrow.from} to request ${arrow.to}, line ${view.run.lines[arrow.place].line}`);
+  put(path, "title", {}, `${arrow.kind}: from request ${arrow.from} to request ${arrow.to}\n${tellLine(view.run.lines[arrow.place])}`);
 }
 
 function arrowHeads() {
@@ -318,10 +324,4 @@ function drawRings(view) {
   rings.replaceChildren();
   if (!run.size) return;
   const first = Math.max(0, Math.floor(seen.left / step)), last = Math.min(run.size, Math.ceil((seen.left + seen.width) / step) + 1);
-  const x = place => LABEL + place * step - seen.left;
-  put(rings, "rect", { class: "here-line", x: x(here), y: 0, width: step, height: high });
-  ["sq", "cq"].forEach((ring, at) => {
-    const [head, tail] = [run.words[`${ring}_head`], run.words[`${ring}_tail`]];
-    const low = head[first], most = Math.max(tail[last - 1], low + 1);
-    const y = word => at * 48 + 42 - (word - low) / (most - low) * 34;
 "###;
