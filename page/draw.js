@@ -83,7 +83,7 @@ function drawSpan(view, lane, request, span, y, x) {
 }
 
 function short(text, room) {
-  const most = Math.floor(room / 6);
+  const most = Math.floor(room / 6.4);
   return text.length <= most ? text : `${text.slice(0, most - 1)}…`;
 }
 

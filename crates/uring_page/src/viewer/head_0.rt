@@ -47,7 +47,7 @@ svg text { fill: var(--ink); font: 11px system-ui, sans-serif; } svg text.soft {
 .call { fill: var(--faint); opacity: .45; } .chain { fill: none; stroke: var(--soft); stroke-width: 2; }
 .grid { stroke: var(--faint); stroke-width: .5; } .chosen { fill: none; stroke: var(--ink); stroke-width: 1.2; }
 .here-line { fill: var(--here); opacity: .8; } .wrong-line { fill: var(--wrong); opacity: .35; } .bad-line { fill: var(--wrong); opacity: .2; }
-.arrow { fill: none; stroke-width: 1.4; } .arrow-group { stroke: var(--waits); } .arrow-drain { stroke: var(--ring); stroke-dasharray: 5 2; } .arrow-cancel { stroke: var(--doomed); stroke-dasharray: 2 2; } .arrow-doom { stroke: var(--doomed); } .arrow-link { stroke: var(--soft); }
+.arrow { fill: none; stroke-width: 1.8; } .arrow-group { stroke: var(--waits); } .arrow-drain { stroke: var(--ring); stroke-dasharray: 5 2; } .arrow-cancel { stroke: var(--doomed); stroke-dasharray: 2 2; } .arrow-doom { stroke: var(--doomed); } .arrow-link { stroke: var(--soft); }
 .tail { fill: none; stroke: var(--ring); stroke-width: 1.6; } .head { fill: none; stroke: var(--waits); stroke-width: 1.6; stroke-dasharray: 4 2; }
 .panel { fill: var(--back); }
 @media print {
