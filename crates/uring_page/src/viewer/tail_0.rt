@@ -4,11 +4,9 @@
 pub(crate) const PIECE: &str = r###"</script>
 <script>
 "use strict";
-// The data of a run as the page goes through them: for each request the spans of its states, for each line the counts behind it. Lines are known by their places, from 0 on.
 const data = JSON.parse(document.getElementById("data").textContent);
 const COUNTS = ["accepted", "ended", "running", "posted", "reaped", "overflow"];
 
-// What an arrow tells, by the reason.
 function arrowOf(change) {
   const why = change.why || "";
   if (why.includes("drains")) return "drain";
@@ -101,7 +99,6 @@ function readRun(run) {
   return { ...run, size, requests, counts, words, files, arrows, changed, wrong };
 }
 
-// The rows of the lanes: a heading for each call, and its requests; what is folded is one row of each call.
 function rowsOf(run, wanted, folded, here) {
   const rows = [];
   let call = -1, kept = 0;
@@ -120,13 +117,11 @@ function rowsOf(run, wanted, folded, here) {
   return folded ? joinFolds(rows) : rows;
 }
 
-// Whether a call has a request that is shown although what has ended is folded.
 function isLive(run, call, here, wanted) {
   if (!run.last) run.last = lastOfCalls(run, wanted);
   return run.last.get(call) > here;
 }
 
-// The line at which the last request of each call is done.
 function lastOfCalls(run, wanted) {
   const last = new Map();
   for (const request of run.requests) {
@@ -136,7 +131,6 @@ function lastOfCalls(run, wanted) {
   return last;
 }
 
-// Folds that follow one another are one row.
 function joinFolds(rows) {
   const joined = [];
   for (const row of rows) {
@@ -147,7 +141,6 @@ function joinFolds(rows) {
   return joined;
 }
 
-// The words for a request: what it asks for.
 function wordsOf(request) {
   const parts = [request.operation];
   if (request.target !== undefined) parts.push(`of ${request.target}`);
@@ -156,7 +149,6 @@ function wordsOf(request) {
   return parts.join(" ");
 }
 
-// How each file stands behind a line, newest entry of each.
 function filesAt(run, here) {
   const found = new Map();
   for (const file of run.files) {
@@ -166,7 +158,6 @@ function filesAt(run, here) {
   return [...found.values()].sort((one, other) => one.file - other.file);
 }
 
-// The state of a request behind a line.
 function stateAt(request, here) {
   if (here < request.from) return null;
   const span = request.spans.findLast(span => span.from <= here);
@@ -174,10 +165,8 @@ function stateAt(request, here) {
   if (request.done <= here) return { is: request.marks.some(mark => mark.is === "reaped" && mark.place <= here) ? "reaped" : "ended", why: "" };
   return { is: here >= request.until ? "ended" : "accepted", why: "" };
 }
-// The lanes and the rings, drawn as they are seen: rows and lines out of sight have no elements.
 const ROW = 24, LABEL = 232, SVG = "http://www.w3.org/2000/svg";
 const STATES = [["waits", "waits"], ["ready", "may start"], ["doomed", "doomed"], ["runs", "runs"], ["ring", "completion in the ring"], ["overflow", "completion in the overflow list"]];
-// A shape for each state too, for eyes that don't tell the colours apart.
 const LETTERS = { waits: "W", ready: "M", doomed: "X", runs: "R", ring: "C", overflow: "O" };
 
 function make(name, marks, text) {
@@ -191,7 +180,6 @@ function put(parent, name, marks, text) {
   return parent.appendChild(make(name, marks, text));
 }
 
-// What is seen: so many pixels of lanes from these on.
 function sight(view) {
   const box = view.chart;
   if (view.isPrinted) return { left: 0, top: 0, width: Math.min(LABEL + view.run.size * view.step + 20, 8000), height: Math.min(view.rows.length, 400) * ROW };
@@ -220,7 +208,6 @@ function drawLanes(view) {
   if (here >= first && here < last) put(lanes, "rect", { class: "chosen", x: Math.max(x(here), LABEL - 4), y: 1, width: step, height: seen.height - 2, "pointer-events": "none" });
 }
 
-// The line that is chosen, those that are wrong or bad, and a grid.
 function drawLines(view, lanes, x, first, last, seen) {
   const { run, step, here } = view;
   put(lanes, "rect", { class: "here-line", x: x(here), y: 0, width: step, height: seen.height });
@@ -247,7 +234,6 @@ function drawRow(view, lanes, row, y, x, first, last, arrows) {
   for (const arrow of request.arrows || []) if (arrow.place >= first && arrow.place < last) arrows.add(arrow);
 }
 
-// A state of a request: above how it stands, below its completion.
 function drawSpan(view, lane, request, span, y, x) {
   const isBelow = span.is === "ring" || span.is === "overflow";
   const from = Math.max(x(span.from), -10), width = Math.min(x(span.until), sight(view).width + 10) - from;
@@ -277,7 +263,6 @@ function drawMark(view, lane, mark, y, x) {
   put(drawn, "title", {}, `${mark.is}\n${tellLine(view.run.lines[mark.place])}`);
 }
 
-// A line with its answer and reason.
 function tellLine(line) {
   return `line ${line.line}: ${line.text}${line.answer === undefined ? "" : ` = ${line.answer}`}${line.reason ? `  # ${line.reason}` : ""}`;
 }
@@ -317,11 +302,29 @@ function arrowHeads() {
   });
 }
 
-// Heads and tails of both rings over the lines that are seen, one ring above the other.
 function drawRings(view) {
   const { run, step, rings, here } = view;
   const seen = sight(view), high = 96;
   rings.replaceChildren();
   if (!run.size) return;
   const first = Math.max(0, Math.floor(seen.left / step)), last = Math.min(run.size, Math.ceil((seen.left + seen.width) / step) + 1);
+  const x = place => LABEL + place * step - seen.left;
+  put(rings, "rect", { class: "here-line", x: x(here), y: 0, width: step, height: high });
+  ["sq", "cq"].forEach((ring, at) => {
+    const [head, tail] = [run.words[`${ring}_head`], run.words[`${ring}_tail`]];
+    const low = head[first], most = Math.max(tail[last - 1], low + 1);
+    const y = word => at * 48 + 42 - (word - low) / (most - low) * 34;
+    drawWord(rings, "tail", tail, first, last, x, y);
+    drawWord(rings, "head", head, first, last, x, y);
+  });
+  put(rings, "rect", { class: "panel", x: 0, y: 0, width: LABEL - 4, height: high });
+  const word = name => run.words[name][here] % 2 ** 32;
+  ["sq", "cq"].forEach((ring, at) => {
+    put(rings, "text", { x: 6, y: at * 48 + 20 }, `${ring === "sq" ? "submission" : "completion"} ring`);
+    put(rings, "text", { class: "soft", x: 6, y: at * 48 + 36, "data-ring": ring }, `head ${word(`${ring}_head`)} (- - -), tail ${word(`${ring}_tail`)} (—)`);
+  });
+}
+
+function drawWord(rings, name, words, first, last, x, y) {
+  let path = `M${x(first)} ${y(words[first])}`;
 "###;

@@ -1,29 +1,9 @@
 //! A piece of the page, which `page/embed` puts here.
 
 /// The piece.
-pub(crate) const PIECE: &str = r###"  const x = place => LABEL + place * step - seen.left;
-  put(rings, "rect", { class: "here-line", x: x(here), y: 0, width: step, height: high });
-  ["sq", "cq"].forEach((ring, at) => {
-    const [head, tail] = [run.words[`${ring}_head`], run.words[`${ring}_tail`]];
-    const low = head[first], most = Math.max(tail[last - 1], low + 1);
-    const y = word => at * 48 + 42 - (word - low) / (most - low) * 34;
-    drawWord(rings, "tail", tail, first, last, x, y);
-    drawWord(rings, "head", head, first, last, x, y);
-  });
-  put(rings, "rect", { class: "panel", x: 0, y: 0, width: LABEL - 4, height: high });
-  const word = name => run.words[name][here] % 2 ** 32;
-  ["sq", "cq"].forEach((ring, at) => {
-    put(rings, "text", { x: 6, y: at * 48 + 20 }, `${ring === "sq" ? "submission" : "completion"} ring`);
-    put(rings, "text", { class: "soft", x: 6, y: at * 48 + 36, "data-ring": ring }, `head ${word(`${ring}_head`)} (- - -), tail ${word(`${ring}_tail`)} (—)`);
-  });
-}
-
-function drawWord(rings, name, words, first, last, x, y) {
-  let path = `M${x(first)} ${y(words[first])}`;
-  for (let place = first + 1; place < last; place += 1) if (words[place] !== words[place - 1]) path += `H${x(place)}V${y(words[place])}`;
+pub(crate) const PIECE: &str = r###"  for (let place = first + 1; place < last; place += 1) if (words[place] !== words[place - 1]) path += `H${x(place)}V${y(words[place])}`;
   put(rings, "path", { class: name, d: `${path}H${x(last)}` });
 }
-// What the page does: the line that is chosen, keys, filter and folds, and what is told of the line.
 const get = id => document.getElementById(id);
 const view = { run: readRun(data), here: 0, step: 16, rows: [], rowOf: new Map(), hasArrows: true, isPrinted: false, chart: get("chart"), space: get("space"), lanes: get("lanes"), rings: get("rings") };
 window.view = view;
@@ -39,7 +19,6 @@ function node(name, text, className) {
   return element;
 }
 
-// The rows anew, by filter and folds.
 function arrange() {
   const words = get("filter").value.split(/[\s,]+/).filter(word => word);
   view.run.last = undefined;
@@ -60,7 +39,6 @@ function drawSoon() {
   requestAnimationFrame(() => { isAwaited = false; draw(); });
 }
 
-// Chooses a line, shows it and tells of it.
 function choose(place, row) {
   const { run } = view;
   view.here = Math.max(0, Math.min(run.size - 1, place));
@@ -71,7 +49,6 @@ function choose(place, row) {
   tell();
 }
 
-// The place in a sorted list of its first number from this one on.
 function firstFrom(list, number) {
   let [low, high] = [0, list.length];
   while (low < high) {
@@ -81,7 +58,6 @@ function firstFrom(list, number) {
   return low;
 }
 
-// Moves what is seen so far that the chosen line is in it, and the row, or the request that this line or the next one changes.
 function show(row) {
   const { chart, step, here, run } = view;
   const x = here * step, wide = chart.clientWidth - LABEL;
@@ -111,7 +87,6 @@ function ends(ring) {
   return `head ${word("head")}, tail ${word("tail")}`;
 }
 
-// Which writes of a file are safe behind the chosen line, and which are not.
 function safeOf(file) {
   const { run, here } = view;
   const writes = run.requests.filter(one => one.operation === "write" && one.file === file && one.until <= here && one.result > 0);
@@ -125,7 +100,6 @@ function pairs(id, all) {
   clean(get(id), ...all.flatMap(([name, value]) => [node("dt", name), node("dd", String(value))]));
 }
 
-// What is told of a line: itself, its answer, reason and changes.
 function toldOf(line) {
   const told = [];
   const step = node("p");
@@ -155,7 +129,6 @@ function tellChange(change) {
   }
 }
 
-// The requests that are on their way behind the chosen line, the first of them.
 function standing() {
   const { run, here } = view;
   const items = [];
@@ -171,7 +144,6 @@ function standing() {
   clean(get("standing"), ...items);
 }
 
-// The lines round the chosen one.
 function lines() {
   const { run, here } = view;
   const items = [];
@@ -187,7 +159,6 @@ function lines() {
   clean(get("lines"), ...items);
 }
 
-// The next line behind the chosen one that changes something, or the one before it.
 function nearest(isOn) {
   const { changed } = view.run;
   const found = isOn ? changed[firstFrom(changed, view.here + 1)] : changed[firstFrom(changed, view.here) - 1];
@@ -219,7 +190,6 @@ document.addEventListener("keydown", event => {
   act();
 });
 
-// A point of the lanes: the line there, and the row.
 view.lanes.addEventListener("click", event => {
   const box = view.lanes.getBoundingClientRect();
   const x = event.clientX - box.left, row = Math.floor((event.clientY - box.top + view.chart.scrollTop) / ROW);
