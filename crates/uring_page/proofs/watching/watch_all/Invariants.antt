@@ -1,0 +1,14 @@
+use Rattle.std.proofs.Common.{[], ◌-◌, ◌^◌}
+use Rattle.uring_entry.specs.Setup.{Setup}
+use Rattle.uring_trace.specs.Explaining.{HasTold}
+use Rattle.uring_pictures.proofs.Streams.{Far}
+use Rattle.uring_page.proofs.watching.watch_all.Given as goal
+
+-- what was read so far is what the explainer took in, and what it noted was written
+abbrev pub invariant-loop-alloc : goal.invariant-loop-alloc
+invariant-loop-alloc g l =
+    (setup : Setup) → HasTold setup l.fn.explainer [] [] []
+    → Far setup (g.R.Read.remaining l.fn.reader) (g.R.Read.remaining l.reader) (g.E.Write.contents l.fn.errors) (g.E.Write.contents l.errors) l.explainer
+
+abbrev pub decreases-loop-alloc : goal.decreases-loop-alloc
+decreases-loop-alloc g l = 2 ^ 64 - 1 - l.reads.count

@@ -1,0 +1,100 @@
+//! What the application has filled and staged, and what the open call has taken of it.
+
+use std::alloc::{AllocError, Global};
+use uring_machine::{Setup, Sqe, Step};
+use uring_text::is_name;
+
+/// The entries that an open call took, and what they are taken from. It is read off the steps and their answers.
+#[derive(Drop)]
+pub(crate) struct Submission {
+    // The entry that each slot holds, if one was filled in.
+    slots: Vec<Option<Sqe>>,
+    // The words that were staged, in order.
+    staged: Vec<u32>,
+    // How many of them were taken.
+    taken: usize,
+    // The entries that the open call took.
+    entries: Vec<Sqe>,
+    // How many calls were opened.
+    calls: u64,
+}
+
+impl Submission {
+    /// Before the first step.
+    pub(crate) fn new(alloc: Global, setup: Setup) -> Result<Submission, AllocError> {
+        let mut slots = Vec::new(alloc);
+        for _ in 0..setup.sq() {
+            slots.push(None)?;
+        }
+        Ok(Submission {
+            slots,
+            staged: Vec::new(alloc),
+            taken: 0,
+            entries: Vec::new(alloc),
+            calls: 0,
+        })
+    }
+
+    /// Takes in a step with its answer.
+    pub(crate) fn take_in(&mut self, step: &Step, answer: &[u8]) -> Result<(), AllocError> {
+        match step {
+            Step::Fill { slot, entry } if is_name(answer, "ok") => {
+                self.fill(*slot, *entry);
+                Ok(())
+            }
+            Step::Index { word } if is_name(answer, "ok") => Ok(self.staged.push(*word)?),
+            Step::Begin { .. } if answer.starts_with(b"call ") => {
+                self.begin();
+                Ok(())
+            }
+            Step::Take if answer.starts_with(b"entry ") => self.take(),
+            Step::Take if is_name(answer, "dropped") => {
+                self.taken = self.taken.saturating_add(1);
+                Ok(())
+            }
+            _ => Ok(()),
+        }
+    }
+
+    /// The entries that the open call took.
+    pub(crate) fn entries(&self) -> &[Sqe] {
+        self.entries.as_slice()
+    }
+
+    /// The number of the open call, from 0.
+    pub(crate) fn call(&self) -> u64 {
+        self.calls.saturating_sub(1)
+    }
+
+    /// Puts an entry into a slot.
+    fn fill(&mut self, slot: u32, entry: Sqe) {
+        if let Some(held) = self.slots.get_mut(slot as usize) {
+            *held = Some(entry);
+        }
+    }
+
+    /// Opens a call.
+    fn begin(&mut self) {
+        self.calls = self.calls.saturating_add(1);
+        self.entries.clear();
+    }
+
+    /// Takes the entry that the next word names.
+    fn take(&mut self) -> Result<(), AllocError> {
+        let entry = self.next_entry();
+        self.taken = self.taken.saturating_add(1);
+        match entry {
+            Some(entry) => Ok(self.entries.push(entry)?),
+            None => Ok(()),
+        }
+    }
+
+    /// The entry that the next word names.
+    fn next_entry(&self) -> Option<Sqe> {
+        let word = self.staged.get(self.taken)?;
+        match self.slots.get(*word as usize) {
+            Some(entry) => *entry,
+            None => None,
+        }
+    }
+}
