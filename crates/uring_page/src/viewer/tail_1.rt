@@ -1,7 +1,8 @@
 //! A piece of the page, which `page/embed` puts here.
 
 /// The piece.
-pub(crate) const PIECE: &str = r###"  for (let place = first + 1; place < last; place += 1) if (words[place] !== words[place - 1]) path += `H${x(place)}V${y(words[place])}`;
+pub(crate) const PIECE: &str =
+    r###"  for (let place = first + 1; place < last; place += 1) if (words[place] !== words[place - 1]) path += `H${x(place)}V${y(words[place])}`;
   put(rings, "path", { class: name, d: `${path}H${x(last)}` });
 }
 const get = id => document.getElementById(id);
