@@ -1,6 +1,8 @@
 -- What a script gathers, line by line.
-use Rattle.std.proofs.Common.{◌≡◌, ℕ, ◌+◌, ◌<◌, ◌≤◌, List, [], ◌∷◌, ◌++◌, length, Option, Some, None, Err, refl, sym, ap, subst, ◌∙◌, append_assoc, arith, length-append, inl, inr}
+use Rattle.std.proofs.Common.{◌≡◌, ◌≢◌, ℕ, ◌+◌, ◌<◌, ◌≤◌, List, [], ◌∷◌, ◌++◌, length, Option, Some, None, Result, Ok, Err, refl, sym, ap, subst, ◌∙◌, append_assoc, arith, length-append, inl, inr}
 use Rattle.std.specs.Prelude.{IsSome}
+use Rattle.std.specs.declared.vec.Vec.{Vec}
+use Rattle.std.specs.declared.alloc.Global.{Global}
 use Rattle.uring_ports.specs.declared.item.Item.{Item}
 use Rattle.uring_play_text.specs.declared.play_fault.PlayFault.{PlayFault}
 use Rattle.uring_play_text.specs.declared.play_fault.PlayFault.TheVariants as fault
@@ -153,3 +155,19 @@ pub ended : (old new : Script) → EndsCall old new → new.fault ≡ None
 ended old new e none size lines h =
     let g : Goes size lines old.number (lists_of old.calls.items) old.call.items = goes size lines old.fault _ _ _ (sym e.fault ∙ none) h.1 in
     subst (SpellsCalls size lines) (sym e.calls) (so_far size lines _ _ _ g)
+
+-- what a faulty line tells, and nothing of an outcome without a fault
+abbrev FaultTold : ℕ → List (List ℕ) → Result (Vec (Vec Item Global) Global) PlayFault → Type 0
+FaultTold size lines (Ok calls) = Unit {0}
+FaultTold size lines (Err f) = Tells size lines (Err f)
+
+abbrev IsNotMemory : Result (Vec (Vec Item Global) Global) PlayFault → Type 0
+IsNotMemory result = result ≢ Err fault.Memory
+
+-- the first faulty line is no want of memory
+pub not_memory : (size : ℕ) (lines : List (List ℕ)) (s : Script) (now : Option PlayFault) (f : PlayFault)
+    → now ≡ s.fault → now ≡ Some f → Gathers size lines s
+    → IsNotMemory (Err f)
+not_memory size lines s now f same is h memory =
+    let told : IsAt size lines (Some f) s.number (lists_of s.calls.items) s.call.items = subst (λ (x : Option PlayFault). IsAt size lines x s.number (lists_of s.calls.items) s.call.items) (sym same ∙ is) h.1 in
+    subst (λ (r : Result (Vec (Vec Item Global) Global) PlayFault). FaultTold size lines r) memory told

@@ -1,12 +1,13 @@
 //! The lines of a play.
 
-ghost use Rattle.std.specs.Prelude.{ℕ, List, IfOk, MatchOption, map};
+ghost use Rattle.std.specs.Prelude.{ℕ, List, IfOk, IsOk, MatchOption, map};
 ghost use Rattle.uring_play_text.specs.ItemLines.{SpellsItem};
 ghost use Rattle.uring_play_text.specs.LineReads.{IsReadAs, IsGiven, IsBadWord, IsNoBadWord, IsNoItem};
 
 use std::alloc::{AllocError, Global};
+use uring_memory::Memory;
 use uring_ports::Item;
-use uring_text::{spelled_entry, spelled_number, split_tokens};
+use uring_text::{spelled_entry, spelled_number, split_tokens_in};
 
 /// What a line of a play says.
 #[derive(Clone, Copy)]
@@ -21,14 +22,16 @@ pub(crate) enum LineRead {
     Bad,
 }
 
-/// What a line says, for a submission ring of this size: `line` is none if it has more than 300 bytes.
-pub(crate) fn read_line(
+/// What a line says, for a submission ring of this size, by this memory: `line` is none if it has more than 300 bytes. If the memory grants whatever is asked for, there is no error.
+pub(crate) fn read_line<M: Memory>(
+    memory: &M,
     alloc: Global,
     size: u32,
     line: Option<&[u8]>,
 ) -> Result<LineRead, AllocError>
-    ensures { IfOk result
+    ensures read { IfOk result
         (λ read. (text : List ℕ) → IsGiven text line.entry → IsReadAs size text read) }
+    ensures granted { ((n : ℕ) → M.grants memory.now n) → IsOk result }
 {
     let Some(line) = line else {
         return Ok(LineRead::Bad);
@@ -36,7 +39,7 @@ pub(crate) fn read_line(
     if line.is_empty() {
         return Ok(LineRead::Blank);
     }
-    let tokens = split_tokens(alloc, line)?;
+    let tokens = split_tokens_in(memory, alloc, line)?;
     match read_item(size, tokens.as_slice()) {
         Some(item) => Ok(LineRead::Submits(item)),
         None => Ok(LineRead::Bad),

@@ -1,6 +1,6 @@
 //! The calls that the bytes of a reader spell.
 
-ghost use Rattle.std.specs.Prelude.{◌≡◌, ◌⊎◌, ◌-◌, ◌^◌, ℕ, List, [], ◌∷◌, ◌++◌, Err, IfErr, IfOk, OnOk};
+ghost use Rattle.std.specs.Prelude.{◌≡◌, ◌≢◌, ◌⊎◌, ◌-◌, ◌^◌, ℕ, List, [], ◌∷◌, ◌++◌, Err, IfErr, IfOk, IsOk, OnOk};
 ghost use Rattle.uring_text.specs.Streams.{AreOver};
 ghost use Rattle.uring_play_text.specs.Inputs.{ReadsCalls, IsReturned};
 ghost use Rattle.uring_play_text.specs.Readings.{Has, ReadsIn};
@@ -11,6 +11,7 @@ use crate::script::Script;
 use std::alloc::{AllocError, Global};
 use std::io::Read;
 use uring_entry::Setup;
+use uring_memory::Memory;
 use uring_ports::Item;
 use uring_text::{Calls, KeptLine, read_once};
 
@@ -32,13 +33,27 @@ pub fn read_calls<R: Read>(
 ) -> Result<Vec<Vec<Item>>, PlayFault>
     ensures { ReadsCalls setup.now result (R.remaining reader.old) (R.remaining reader.new) }
 {
-    let mut reading = Reading::new(alloc, setup.sq())?;
-    read_all(reader, &mut reading, &mut Calls::new())?;
-    reading.end()
+    read_calls_in(&alloc, alloc, reader, setup)
+}
+
+/// As `read_calls`, by this memory. If it grants whatever is asked for, the reading never ends with `Memory`.
+pub fn read_calls_in<M: Memory, R: Read>(
+    memory: &M,
+    alloc: Global,
+    reader: &mut R,
+    setup: &Setup,
+) -> Result<Vec<Vec<Item>>, PlayFault>
+    ensures calls { ReadsCalls setup.now result (R.remaining reader.old) (R.remaining reader.new) }
+    ensures granted { ((n : ℕ) → M.grants memory.now n) → result ≢ Err PlayFault.Memory }
+{
+    let mut reading = Reading::new(memory, alloc, setup.sq())?;
+    read_all(memory, reader, &mut reading, &mut Calls::new())?;
+    reading.end(memory)
 }
 
 /// Takes in all that a reader has.
-fn read_all<R: Read>(
+fn read_all<M: Memory, R: Read>(
+    memory: &M,
     reader: &mut R,
     reading: &mut Reading,
     reads: &mut Calls,
@@ -49,12 +64,13 @@ fn read_all<R: Read>(
     // The reader is blamed only if it gave up, or has more lines than can be counted.
     ensures read { result ≡ Err PlayFault.Read
         → AreOver reads.new ⊎ (reading.new.script.number ≡ 2 ^ 64 - 1) }
+    ensures granted { ((n : ℕ) → M.grants memory.now n) → result ≢ Err PlayFault.Memory }
 {
     let mut chunk = [0; CHUNK];
     while !reads.are_over() {
         match read_once(reader, &mut chunk, reads) {
             Ok(0) => return Ok(()),
-            Ok(count) => reading.feed(&chunk[..count])?,
+            Ok(count) => reading.feed(memory, &chunk[..count])?,
             Err(_) => {}
         }
     }
@@ -71,50 +87,56 @@ pub(crate) struct Reading {
 
 impl Reading {
     /// No byte yet, for a submission ring of this size.
-    fn new(alloc: Global, size: u32) -> Result<Reading, AllocError>
-        ensures { IfOk result (λ r. Has size r []) }
+    fn new<M: Memory>(memory: &M, alloc: Global, size: u32) -> Result<Reading, AllocError>
+        ensures none { IfOk result (λ r. Has size r []) }
+        ensures granted { ((n : ℕ) → M.grants memory.now n) → IsOk result }
     {
         Ok(Reading {
-            line: KeptLine::new(alloc)?,
+            line: KeptLine::new_in(memory, alloc)?,
             script: Script::new(alloc, size),
         })
     }
 
     /// Takes in the next bytes.
-    fn feed(&mut self, bytes: &[u8]) -> Result<(), PlayFault>
+    fn feed<M: Memory>(&mut self, memory: &M, bytes: &[u8]) -> Result<(), PlayFault>
         ensures ok { OnOk result
             ((size : ℕ) (before : List ℕ) → Has size self.old before
             → Has size self.new (before ++ bytes.now)) }
         ensures early { IfErr result IsEarly }
         ensures read { result ≡ Err PlayFault.Read → self.new.script.number ≡ 2 ^ 64 - 1 }
+        ensures granted { ((n : ℕ) → M.grants memory.now n) → result ≢ Err PlayFault.Memory }
     {
         for byte in bytes {
-            self.take(*byte)?;
+            self.take(memory, *byte)?;
         }
         Ok(())
     }
 
     /// Ends the input. A last line without an end counts if it has some byte.
-    fn end(mut self) -> Result<Vec<Vec<Item>>, PlayFault>
-        ensures { (size : ℕ) (bytes : List ℕ) → Has size self bytes → IsReturned size bytes result }
+    fn end<M: Memory>(mut self, memory: &M) -> Result<Vec<Vec<Item>>, PlayFault>
+        ensures calls { (size : ℕ) (bytes : List ℕ) → Has size self bytes
+            → IsReturned size bytes result }
+        ensures granted { ((n : ℕ) → M.grants memory.now n) → (size : ℕ) (bytes : List ℕ)
+            → Has size self bytes → result ≢ Err PlayFault.Memory }
     {
         if self.line.is_empty() {
-            return self.script.end();
+            return self.script.end(memory);
         }
-        self.script.take_line(self.line.whole())?;
-        self.script.end()
+        self.script.take_line(memory, self.line.whole())?;
+        self.script.end(memory)
     }
 
     /// Takes in one byte.
-    fn take(&mut self, byte: u8) -> Result<(), PlayFault>
+    fn take<M: Memory>(&mut self, memory: &M, byte: u8) -> Result<(), PlayFault>
         ensures ok { OnOk result
             ((size : ℕ) (before : List ℕ) → Has size self.old before
             → Has size self.new (before ++ byte ∷ [])) }
         ensures early { IfErr result IsEarly }
         ensures read { result ≡ Err PlayFault.Read → self.new.script.number ≡ 2 ^ 64 - 1 }
+        ensures granted { ((n : ℕ) → M.grants memory.now n) → result ≢ Err PlayFault.Memory }
     {
         if byte == b'\n' {
-            self.end_line()?;
+            self.end_line(memory)?;
         } else {
             self.line.push(byte);
         }
@@ -122,14 +144,15 @@ impl Reading {
     }
 
     /// Gives the line to the script, and begins the next line.
-    fn end_line(&mut self) -> Result<(), PlayFault>
+    fn end_line<M: Memory>(&mut self, memory: &M) -> Result<(), PlayFault>
         ensures ok { OnOk result
             ((size : ℕ) (before : List ℕ) → Has size self.old before
             → Has size self.new (before ++ 10 ∷ [])) }
         ensures early { IfErr result IsEarly }
         ensures read { result ≡ Err PlayFault.Read → self.new.script.number ≡ 2 ^ 64 - 1 }
+        ensures granted { ((n : ℕ) → M.grants memory.now n) → result ≢ Err PlayFault.Memory }
     {
-        self.script.take_line(self.line.whole())?;
+        self.script.take_line(memory, self.line.whole())?;
         self.line.clear();
         Ok(())
     }

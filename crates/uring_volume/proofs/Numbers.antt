@@ -1,7 +1,8 @@
 -- What a volume's calls keep: each write has a number of its own, and the lists of what runs are those of the history.
-use Rattle.std.proofs.Common.{◌≡◌, ◌==◌, ◌<◌, ◌≤◌, ◌+◌, ℕ, Bool, true, false, not, ◌||◌, cond, List, [], ◌∷◌, ◌++◌, ◌⊎◌, length, refl, sym, subst, ap, ◌∙◌, inl, inr, arith}
+use Rattle.std.proofs.Common.{◌≡◌, ◌==◌, ◌<◌, ◌≤◌, ◌+◌, ℕ, Bool, true, false, not, ◌||◌, cond, List, [], ◌∷◌, ◌++◌, ◌⊎◌, length, reverse, refl, sym, subst, ap, ◌∙◌, inl, inr, arith}
 use Rattle.std.specs.List.{list_any, filter}
 use Rattle.std.proofs.lemmas.Bool.{cases_Bool, both_ways, cond-true, cond-false, or_left, or_right, eqb-true, eq-eqb, not_from_true, false_from_ne_true}
+use Rattle.std.proofs.lemmas.List.{length-reverse}
 use Rattle.std.proofs.lemmas.List.Folds.{list_any-append}
 use Rattle.uring_volume.specs.Writes.{Write}
 use Rattle.uring_volume.specs.declared.event.SyncRange.{SyncRange}
@@ -9,7 +10,7 @@ use Rattle.uring_volume.specs.declared.event.Event.{Event}
 use Rattle.uring_volume.specs.declared.event.Event.TheVariants.{WriteIssued, WriteEnded, SyncIssued, SyncEnded, SyncFailed}
 use Rattle.uring_volume.specs.Events.{History, writes, has_ended}
 use Rattle.uring_volume.specs.Images.{IsIn}
-use Rattle.uring_volume.specs.Volume.{Volume, but, is_one_of, running_writes, running_syncs, with_event, with_write, with_sync, IsNumbered, IsSound, IsHeld}
+use Rattle.uring_volume.specs.Volume.{Volume, but, is_one_of, running_writes, running_syncs, with_event, with_write, with_sync, IsNumbered, IsSound, IsHeld, elements_to_begin}
 
 or_either : (x y : Bool) → (x || y) ≡ true → (x ≡ true) ⊎ (y ≡ true)
 or_either true y is = inl refl
@@ -166,3 +167,12 @@ held_sync_failure v s write_list sync_list held = record {
   writes = held.writes;
   syncs = ap (but s) held.syncs;
 }
+
+-- the elements that are asked for as a write or a sync begins, by a volume's lists
+pub room_for : (held now : Volume) (events : List Event) (write_list sync_list : List ℕ) (n : ℕ)
+    → held ≡ now → held.history ≡ reverse events → IsHeld held write_list sync_list
+    → elements_to_begin now ≤ n → length events + length write_list + length sync_list + 2 ≤ n
+room_for held now events write_list sync_list n same is h most =
+    let fits : length held.history + length (running_writes held.history) + length (running_syncs held.history) + 2 ≤ n = subst (λ (v : Volume). elements_to_begin v ≤ n) (sym same) most in
+    let many : length held.history ≡ length events = ap length is ∙ length-reverse events in
+    omega (arith, fits, many, ap length h.writes, ap length h.syncs)

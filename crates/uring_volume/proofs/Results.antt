@@ -1,6 +1,6 @@
 -- What holds of a result, by how the call ended.
 use Rattle.std.proofs.Common.{◌≡◌, true, false, refl}
-use Rattle.std.specs.Prelude.{Result, Ok, Err, IfOk, OnOk}
+use Rattle.std.specs.Prelude.{Result, Ok, Err, IfOk, IsOk, OnOk}
 use Rattle.std.specs.Result.{is_err}
 use Rattle.std.proofs.lemmas.Bool.{both_ways}
 
@@ -14,3 +14,8 @@ pub on_value : {T E : Type 0} (r : Result T E) (P Q : T → Type 0) → ((x : T)
     → IfOk r P → IfOk r Q
 on_value (Ok x) P Q follows holds = follows x holds
 on_value (Err e) P Q follows holds = tt
+
+-- a call that failed didn't succeed
+pub not_ok : {T E : Type 0} (r : Result T E) → is_err r ≡ true → IsOk r → ⊥
+not_ok (Ok x) failed ok = both_ways false refl failed
+not_ok (Err e) failed ok = both_ways false refl ok

@@ -78,6 +78,11 @@ pub record IsNumbered (next : ℕ) (h : History) : Type 0 where
   pub ended : (n : ℕ) → has_ended h n ≡ true → n < next
   pub running : (n : ℕ) → is_one_of n (running_writes h) ≡ true → n < next
 
+-- how many elements of one list a write or a sync asks for as it begins: one for each event so far, for the end of each that runs, and for its own two events
+abbrev pub elements_to_begin : Volume → ℕ
+elements_to_begin v =
+    length v.history + length (running_writes v.history) + length (running_syncs v.history) + 2
+
 -- What holds of each volume.
 pub record IsSound (v : Volume) : Type 0 where
   pub unit : 0 < v.unit

@@ -1,14 +1,16 @@
 //! What a crash leaves of a file, by a choice of numbers.
 
-ghost use Rattle.std.specs.Prelude.{◌≡◌, ◌≢◌, ◌∷◌, [], ℕ, suc, ◌+◌, ◌-◌, ◌*◌, ◌/◌, ◌^◌, ◌<◌, ◌≤◌, ◌⊎◌, ◌++◌, length, map, replicate, reverse, slice_index, IfOk, OnOk};
+ghost use Rattle.std.specs.Prelude.{◌≡◌, ◌≢◌, ◌∷◌, [], ℕ, suc, ◌+◌, ◌-◌, ◌*◌, ◌/◌, ◌^◌, ◌<◌, ◌≤◌, ◌⊎◌, ◌++◌, length, map, reverse, slice_index, IfOk, OnOk, IsOk};
 ghost use Rattle.std.specs.List.{filter};
 ghost use Rattle.uring_volume.specs.Images as spec;
 ghost use Rattle.uring_volume.specs.Images.{byte_over, length_over};
 ghost use Rattle.uring_volume.specs.Choices.{issued, chosen, part, IsLeftBy};
 
 use crate::event::{Event, Piece};
+use crate::growth::{grown, push};
 use crate::order::{chosen_pieces, issued_pieces};
 use std::alloc::{AllocError, Global};
+use uring_memory::Memory;
 
 /// The first part of a choice, and the choice without it.
 fn first_part(choice: &[u64]) -> (&[u64], &[u64])
@@ -36,17 +38,6 @@ pub fn length_left(first: u64, order: &[&Piece]) -> u64
     len
 }
 
-/// These bytes with zeros behind them up to a length.
-pub fn grown(alloc: Global, first: &[u8], len: usize) -> Result<Vec<u8>, AllocError>
-    requires { length first.now ≤ len }
-    ensures { IfOk result (λ now. now.items ≡ first.now ++ replicate (len - length first.now) 0) }
-{
-    let mut now = Vec::with_capacity(alloc, len)?;
-    now.extend_from_slice(first)?;
-    now.resize(len, 0)?;
-    Ok(now)
-}
-
 /// Whether a write writes a byte of unit `i`.
 fn is_on(piece: &Piece, unit: u64, i: u64) -> bool
     requires { unit * i < 2 ^ 64 }
@@ -58,20 +49,22 @@ fn is_on(piece: &Piece, unit: u64, i: u64) -> bool
 }
 
 /// Those of these writes that write a byte of unit `i`.
-fn pieces_on<'a>(
+fn pieces_on<'a, M: Memory>(
+    memory: &M,
     alloc: Global,
     pieces: &[&'a Piece],
     unit: u64,
     i: u64,
 ) -> Result<Vec<&'a Piece>, AllocError>
     requires { unit * i < 2 ^ 64 }
-    ensures { IfOk result (λ on. map (λ p. p.now) on.items
+    ensures pieces { IfOk result (λ on. map (λ p. p.now) on.items
         ≡ filter (spec.is_on unit i) (map (λ p. p.now) pieces.now)) }
+    ensures granted { ((n : ℕ) → M.grants memory.now n) → IsOk result }
 {
     let mut on = Vec::new(alloc);
     for piece in pieces {
         if is_on(piece, unit, i) {
-            on.push(*piece)?;
+            push(memory, &mut on, *piece)?;
         }
     }
     Ok(on)
@@ -108,7 +101,8 @@ pub fn write_all(now: &mut [u8], from: usize, to: usize, order: &[&Piece])
 }
 
 /// Leaves in unit `i` what a part of a choice leaves of these writes.
-fn leave_unit(
+fn leave_unit<M: Memory>(
+    memory: &M,
     alloc: Global,
     events: &[Event],
     pieces: &[&Piece],
@@ -123,8 +117,10 @@ fn leave_unit(
         → slice_index now.new k ≡ byte_over (slice_index now.old k)
         (chosen (reverse events.now) (filter (spec.is_on unit i) (map (λ p. p.now) pieces.now)) choice.now) k) }
     ensures others { (k : ℕ) → k / unit ≢ i → slice_index now.new k ≡ slice_index now.old k }
+    ensures granted { ((n : ℕ) → M.grants memory.now n) → IsOk result }
 {
-    let order = chosen_pieces(alloc, events, pieces_on(alloc, pieces, unit, i)?, choice)?;
+    let on = pieces_on(memory, alloc, pieces, unit, i)?;
+    let order = chosen_pieces(memory, alloc, events, on, choice)?;
     let from = (unit * i) as usize;
     let rest = now.len() - from;
     let to = from + rest.min(unit as usize);
@@ -142,7 +138,8 @@ fn count_units(len: u64, unit: u64) -> u64
 }
 
 /// Leaves in each unit what its part of a choice leaves of these writes.
-fn leave_units(
+fn leave_units<M: Memory>(
+    memory: &M,
     alloc: Global,
     events: &[Event],
     pieces: &[&Piece],
@@ -151,22 +148,24 @@ fn leave_units(
     now: &mut [u8],
 ) -> Result<(), AllocError>
     requires { 0 < unit }
-    ensures { OnOk result ((k : ℕ) → k < length now.old
+    ensures left { OnOk result ((k : ℕ) → k < length now.old
         → slice_index now.new k ≡ byte_over (slice_index now.old k)
         (chosen (reverse events.now) (filter (spec.is_on unit (k / unit)) (map (λ p. p.now) pieces.now))
         (part choice.now (k / unit))) k) }
+    ensures granted { ((n : ℕ) → M.grants memory.now n) → IsOk result }
 {
     let mut rest = choice;
     for i in 0..count_units(now.len() as u64, unit) {
         let (own, later) = first_part(rest);
-        leave_unit(alloc, events, pieces, own, unit, i, now)?;
+        leave_unit(memory, alloc, events, pieces, own, unit, i, now)?;
         rest = later;
     }
     Ok(())
 }
 
-/// What a crash leaves of a file, by a choice of numbers.
-pub fn crash(
+/// What a crash leaves of a file, by a choice of numbers, by this memory. If it grants whatever is asked for, there is no error.
+pub fn crash<M: Memory>(
+    memory: &M,
     alloc: Global,
     unit: u64,
     first: &[u8],
@@ -174,13 +173,16 @@ pub fn crash(
     choice: &[u64],
 ) -> Result<Vec<u8>, AllocError>
     requires { 0 < unit }
-    ensures { IfOk result (λ now. IsLeftBy unit first.now (reverse events.now) choice.now now.items) }
+    ensures left { IfOk result
+        (λ now. IsLeftBy unit first.now (reverse events.now) choice.now now.items) }
+    ensures granted { ((n : ℕ) → M.grants memory.now n) → IsOk result }
 {
     let (whole, rest) = first_part(choice);
-    let pieces = issued_pieces(alloc, events)?;
-    let order = chosen_pieces(alloc, events, issued_pieces(alloc, events)?, whole)?;
+    let pieces = issued_pieces(memory, alloc, events)?;
+    let all = issued_pieces(memory, alloc, events)?;
+    let order = chosen_pieces(memory, alloc, events, all, whole)?;
     let len = length_left(first.len() as u64, &order);
-    let mut now = grown(alloc, first, len as usize)?;
-    leave_units(alloc, events, &pieces, rest, unit, &mut now)?;
+    let mut now = grown(memory, alloc, first, len as usize)?;
+    leave_units(memory, alloc, events, &pieces, rest, unit, &mut now)?;
     Ok(now)
 }

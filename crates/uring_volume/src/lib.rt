@@ -1,8 +1,9 @@
-//! What a power failure leaves of a file: which images may be found, by the writes and syncs that were made, and which writes are safe. It stands on std alone.
+//! What a power failure leaves of a file: which images may be found, by the writes and syncs that were made, and which writes are safe. It knows nothing of rings and requests.
 #![tactic(auto)]
 
 mod crash;
 mod event;
+mod growth;
 pub mod laws;
 mod order;
 mod show;

@@ -1,20 +1,27 @@
 //! Which writes a crash leaves of a place, and in which order: numbers name them, one after the other.
 
-ghost use Rattle.std.specs.Prelude.{◌≡◌, ◌++◌, ◌≤◌, length, map, take, reverse, IfOk, OnOk};
+ghost use Rattle.std.specs.Prelude.{◌≡◌, ◌++◌, ◌≤◌, length, map, take, reverse, ℕ, IfOk, OnOk, IsOk};
 ghost use Rattle.uring_volume.specs.Choices.{issued, waits_for_one, up_to_safe, named, without, chosen};
 
 use crate::event::{Event, Piece};
+use crate::growth::push;
 use crate::standing::{is_before, is_safe};
 use std::alloc::{AllocError, Global};
+use uring_memory::Memory;
 
-/// The writes that were issued, the oldest first.
-pub fn issued_pieces(alloc: Global, events: &[Event]) -> Result<Vec<&Piece>, AllocError>
-    ensures { IfOk result (λ pieces. map (λ p. p.now) pieces.items ≡ issued (reverse events.now)) }
+/// The writes that were issued, the oldest first. Here and below: if the memory grants whatever is asked for, there is no error.
+pub fn issued_pieces<'a, M: Memory>(
+    memory: &M,
+    alloc: Global,
+    events: &'a [Event],
+) -> Result<Vec<&'a Piece>, AllocError>
+    ensures pieces { IfOk result (λ pieces. map (λ p. p.now) pieces.items ≡ issued (reverse events.now)) }
+    ensures granted { ((n : ℕ) → M.grants memory.now n) → IsOk result }
 {
     let mut pieces = Vec::new(alloc);
     for event in events {
         if let Event::WriteIssued(piece) = event {
-            pieces.push(piece)?;
+            push(memory, &mut pieces, piece)?;
         }
     }
     Ok(pieces)
@@ -33,24 +40,27 @@ fn has_one_before(events: &[Event], rest: &[&Piece], n: u64) -> bool
 }
 
 /// Puts those of these writes that have number `n` behind others.
-pub fn push_named<'a>(
+pub fn push_named<'a, M: Memory>(
+    memory: &M,
     pieces: &[&'a Piece],
     n: u64,
     order: &mut Vec<&'a Piece>,
 ) -> Result<(), AllocError>
-    ensures { OnOk result (map (λ p. p.now) order.new.items
+    ensures named { OnOk result (map (λ p. p.now) order.new.items
         ≡ map (λ p. p.now) order.old.items ++ named n (map (λ p. p.now) pieces.now)) }
+    ensures granted { ((n : ℕ) → M.grants memory.now n) → IsOk result }
 {
     for piece in pieces {
         if piece.number() == n {
-            order.push(*piece)?;
+            push(memory, order, *piece)?;
         }
     }
     Ok(())
 }
 
 /// Moves the writes of number `n` behind those that are left already.
-fn move_named<'a>(
+fn move_named<'a, M: Memory>(
+    memory: &M,
     rest: &mut Vec<&'a Piece>,
     n: u64,
     order: &mut Vec<&'a Piece>,
@@ -59,8 +69,9 @@ fn move_named<'a>(
         ≡ map (λ p. p.now) order.old.items ++ named n (map (λ p. p.now) rest.old.items)) }
     ensures rest { OnOk result (map (λ p. p.now) rest.new.items
         ≡ without n (map (λ p. p.now) rest.old.items)) }
+    ensures granted { ((n : ℕ) → M.grants memory.now n) → IsOk result }
 {
-    push_named(rest, n, order)?;
+    push_named(memory, rest, n, order)?;
     rest.retain(|piece| piece.number() != n);
     Ok(())
 }
@@ -80,39 +91,43 @@ fn count_up_to_safe(events: &[Event], rest: &[&Piece]) -> usize
 }
 
 /// Leaves these writes too, up to the last safe one.
-fn keep_safe<'a>(
+fn keep_safe<'a, M: Memory>(
+    memory: &M,
     events: &[Event],
     rest: &[&'a Piece],
     order: &mut Vec<&'a Piece>,
 ) -> Result<(), AllocError>
-    ensures { OnOk result (map (λ p. p.now) order.new.items
+    ensures safe { OnOk result (map (λ p. p.now) order.new.items
         ≡ map (λ p. p.now) order.old.items
         ++ up_to_safe (reverse events.now) (map (λ p. p.now) rest.now)) }
+    ensures granted { ((n : ℕ) → M.grants memory.now n) → IsOk result }
 {
     let count = count_up_to_safe(events, rest);
     for piece in &rest[..count] {
-        order.push(*piece)?;
+        push(memory, order, *piece)?;
     }
     Ok(())
 }
 
 /// The writes that a choice leaves of these, in their order.
-pub fn chosen_pieces<'a>(
+pub fn chosen_pieces<'a, M: Memory>(
+    memory: &M,
     alloc: Global,
     events: &[Event],
     pieces: Vec<&'a Piece>,
     choice: &[u64],
 ) -> Result<Vec<&'a Piece>, AllocError>
-    ensures { IfOk result (λ order. map (λ p. p.now) order.items
+    ensures chosen { IfOk result (λ order. map (λ p. p.now) order.items
         ≡ chosen (reverse events.now) (map (λ p. p.now) pieces.entry.items) choice.now) }
+    ensures granted { ((n : ℕ) → M.grants memory.now n) → IsOk result }
 {
     let mut rest = pieces;
-    let mut order = Vec::with_capacity(alloc, rest.len())?;
+    let mut order = memory.list(alloc, rest.len())?;
     for n in choice {
         if !has_one_before(events, &rest, *n) {
-            move_named(&mut rest, *n, &mut order)?;
+            move_named(memory, &mut rest, *n, &mut order)?;
         }
     }
-    keep_safe(events, &rest, &mut order)?;
+    keep_safe(memory, events, &rest, &mut order)?;
     Ok(order)
 }

@@ -1,6 +1,6 @@
 //! A file whose writes a crash may lose: what happened to it, what reads show, and what a crash leaves.
 
-ghost use Rattle.std.specs.Prelude.{◌≡◌, ◌↔◌, ◌+◌, ◌<◌, ◌≤◌, ◌^◌, [], ◌∷◌, ◌++◌, length, if◌then◌else◌, IfOk, OnOk, OnErr, IfErr, true, Err, vec_len, vec_capacity, reverse};
+ghost use Rattle.std.specs.Prelude.{◌≡◌, ℕ, ◌↔◌, ◌+◌, ◌<◌, ◌≤◌, ◌^◌, [], ◌∷◌, ◌++◌, length, if◌then◌else◌, IfOk, OnOk, OnErr, IfErr, IsOk, true, Err, vec_len, vec_capacity, reverse};
 ghost use Rattle.uring_volume.specs.Volume.{but, is_one_of};
 ghost use Rattle.uring_volume.specs.declared.event.Event.TheVariants.{WriteEnded, SyncEnded, SyncFailed};
 ghost use Rattle.uring_volume.specs.declared.volume.BeginError.TheVariants.{OutOfNumbers};
@@ -11,6 +11,7 @@ use crate::show::shown;
 use crate::standing::is_number_safe;
 use std::alloc::{AllocError, Global};
 use std::marker::Model;
+use uring_memory::Memory;
 
 /// One file, the writes and syncs that were made of it, and how far they have come. It keeps all of them.
 #[derive(Debug, Drop)]
@@ -58,8 +59,9 @@ fn put<T: Drop>(items: &mut Vec<T>, item: T)
     let _ = items.push(item);
 }
 
-/// Makes room for one event more, for its end and for the ends of so many that run, and for one number more.
-fn make_room(
+/// Makes room for one event more, for its end and for the ends of so many that run, and for one number more, by this memory.
+fn make_room<M: Memory>(
+    memory: &M,
     events: &mut Vec<Event>,
     running: usize,
     numbers: &mut Vec<u64>,
@@ -72,9 +74,11 @@ fn make_room(
     ensures number_count { vec_len numbers.new ≡ vec_len numbers.old }
     ensures ends { OnOk result (vec_len events.new + running + 2 ≤ vec_capacity events.new) }
     ensures number_room { OnOk result (vec_len numbers.new < vec_capacity numbers.new) }
+    ensures granted { (n : ℕ) → M.grants memory.now n → vec_len events.old + running + 2 ≤ n
+        → vec_len numbers.old + 1 ≤ n → IsOk result }
 {
-    events.reserve(running + 2)?;
-    numbers.reserve(1)
+    memory.reserve(events, running + 2)?;
+    memory.reserve(numbers, 1)
 }
 
 /// Takes a number out of these, and says whether it was there.
@@ -91,8 +95,8 @@ fn take_out(numbers: &mut Vec<u64>, n: u64) -> bool
 }
 
 impl Volume {
-    ghost use Rattle.uring_volume.specs.Volume.{with_event, with_write, with_sync, is_one_of, running_writes, running_syncs, IsShown, IsSound};
-    ghost use Rattle.std.specs.Prelude.{ℕ, List};
+    ghost use Rattle.uring_volume.specs.Volume.{with_event, with_write, with_sync, is_one_of, running_writes, running_syncs, IsShown, IsSound, elements_to_begin};
+    ghost use Rattle.std.specs.Prelude.{List};
     ghost use Rattle.uring_volume.specs.Writes.{Write};
     ghost use Rattle.uring_volume.specs.Images.{IsImage};
     ghost use Rattle.uring_volume.specs.Choices.{issued, named, has_safe, IsLeftBy, AreBelow};
@@ -121,12 +125,31 @@ impl Volume {
         ensures err { OnErr result (self.new ≡ self.old) }
         ensures numbers { (result ≡ Err OutOfNumbers) ↔ (self.old.next + 1 ≡ 2 ^ 64) }
     {
+        let memory = *self.events.allocator();
+        self.begin_write_in(&memory, off, bytes)
+    }
+
+    /// As `begin_write`, by this memory. If it grants an element for each event so far, for the end of each write and sync that runs, and for this one and its end, there is no `OutOfMemory`.
+    pub fn begin_write_in<M: Memory>(
+        &mut self,
+        memory: &M,
+        off: u64,
+        bytes: Vec<u8>,
+    ) -> Result<u64, BeginError>
+        requires { off + length bytes.items < 2 ^ 63 }
+        ensures number { IfOk result (λ n. n ≡ self.old.next) }
+        ensures issued { OnOk result (self.new ≡ with_write off bytes.items self.old) }
+        ensures err { OnErr result (self.new ≡ self.old) }
+        ensures numbers { (result ≡ Err OutOfNumbers) ↔ (self.old.next + 1 ≡ 2 ^ 64) }
+        ensures granted { (n : ℕ) → M.grants memory.now n → elements_to_begin self.old ≤ n
+            → IfErr result (λ error. error ≡ OutOfNumbers) }
+    {
         let number = self.next;
         if number == u64::MAX {
             return Err(BeginError::OutOfNumbers);
         }
         let running = self.writes.len() + self.syncs.len();
-        if make_room(&mut self.events, running, &mut self.writes).is_err() {
+        if make_room(memory, &mut self.events, running, &mut self.writes).is_err() {
             return Err(BeginError::OutOfMemory);
         }
         put(&mut self.writes, number);
@@ -145,12 +168,29 @@ impl Volume {
         ensures err { OnErr result (self.new ≡ self.old) }
         ensures numbers { (result ≡ Err OutOfNumbers) ↔ (self.old.next + 1 ≡ 2 ^ 64) }
     {
+        let memory = *self.events.allocator();
+        self.begin_sync_in(&memory, range)
+    }
+
+    /// As `begin_sync`, by this memory. If it grants an element for each event so far, for the end of each write and sync that runs, and for this one and its end, there is no `OutOfMemory`.
+    pub fn begin_sync_in<M: Memory>(
+        &mut self,
+        memory: &M,
+        range: SyncRange,
+    ) -> Result<u64, BeginError>
+        ensures number { IfOk result (λ n. n ≡ self.old.next) }
+        ensures issued { OnOk result (self.new ≡ with_sync range self.old) }
+        ensures err { OnErr result (self.new ≡ self.old) }
+        ensures numbers { (result ≡ Err OutOfNumbers) ↔ (self.old.next + 1 ≡ 2 ^ 64) }
+        ensures granted { (n : ℕ) → M.grants memory.now n → elements_to_begin self.old ≤ n
+            → IfErr result (λ error. error ≡ OutOfNumbers) }
+    {
         let number = self.next;
         if number == u64::MAX {
             return Err(BeginError::OutOfNumbers);
         }
         let running = self.writes.len() + self.syncs.len();
-        if make_room(&mut self.events, running, &mut self.syncs).is_err() {
+        if make_room(memory, &mut self.events, running, &mut self.syncs).is_err() {
             return Err(BeginError::OutOfMemory);
         }
         put(&mut self.syncs, number);
@@ -213,7 +253,15 @@ impl Volume {
     pub fn contents(&self, alloc: Global) -> Result<Vec<u8>, AllocError>
         ensures { IfOk result (λ now. IsShown self.now.first self.now.history now.items) }
     {
-        shown(alloc, &self.first, &self.events)
+        self.contents_in(&alloc, alloc)
+    }
+
+    /// As `contents`, by this memory. If it grants whatever is asked for, there is no error.
+    pub fn contents_in<M: Memory>(&self, memory: &M, alloc: Global) -> Result<Vec<u8>, AllocError>
+        ensures shown { IfOk result (λ now. IsShown self.now.first self.now.history now.items) }
+        ensures granted { ((n : ℕ) → M.grants memory.now n) → IsOk result }
+    {
+        shown(memory, alloc, &self.first, &self.events)
     }
 
     /// The bytes that a crash leaves, by a choice: a 0 ends one of its parts; the first part names the writes that make the length, and each later one those that are left in a unit, one after the other. Any numbers are a choice. The volume stays as it is, so that many crashes can be tried.
@@ -228,7 +276,28 @@ impl Volume {
         ensures kept { IfOk result (λ now. (w : Write) (k : ℕ) → IsKept self.now.history w
             → k < length w.bytes → IsReadBack now.items w k) }
     {
+        self.crash_in(&alloc, alloc, choice)
+    }
+
+    /// As `crash`, by this memory. If it grants whatever is asked for, there is no error.
+    pub fn crash_in<M: Memory>(
+        &self,
+        memory: &M,
+        alloc: Global,
+        choice: &[u64],
+    ) -> Result<Vec<u8>, AllocError>
+        ensures image { IfOk result (λ now.
+            IsImage self.now.unit self.now.first self.now.history now.items) }
+        ensures chosen { IfOk result (λ now. (other : List ℕ)
+            → IsLeftBy self.now.unit self.now.first self.now.history choice.now other ↔ (other ≡ now.items)) }
+        ensures complete { (now : List ℕ) → IsImage self.now.unit self.now.first self.now.history now
+            → (other : List ℕ) × AreBelow (2 ^ 64) other
+            × IsLeftBy self.now.unit self.now.first self.now.history other now }
+        ensures kept { IfOk result (λ now. (w : Write) (k : ℕ) → IsKept self.now.history w
+            → k < length w.bytes → IsReadBack now.items w k) }
+        ensures granted { ((n : ℕ) → M.grants memory.now n) → IsOk result }
+    {
         let _bound = self.next;
-        crash(alloc, self.unit, &self.first, &self.events, choice)
+        crash(memory, alloc, self.unit, &self.first, &self.events, choice)
     }
 }

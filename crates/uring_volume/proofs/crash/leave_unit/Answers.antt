@@ -3,7 +3,7 @@ use Rattle.uring_volume.proofs.Painting.{below_or_from, in_unit}
 use Rattle.uring_volume.proofs.crash.leave_unit.Goals as goal
 
 pub returns-clause-others : goal.returns-clause-others
-returns-clause-others c = λ k apart.
+returns-clause-others g c = λ k apart.
     elim (below_or_from k (c.args.unit * c.args.i)) [
       | inl before ↦ c.write_all.ensures.before k before
       | inr from ↦ elim (below_or_from k (c.args.unit * c.args.i + c.args.unit)) [

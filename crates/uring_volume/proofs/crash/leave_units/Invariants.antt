@@ -5,7 +5,7 @@ use Rattle.uring_volume.specs.Choices.{chosen, part}
 use Rattle.uring_volume.proofs.crash.leave_units.Given as goal
 
 abbrev pub invariant-loop-i : goal.invariant-loop-i
-invariant-loop-i l = record {
+invariant-loop-i g l = record {
   rest : (j : ℕ) → part l.rest j ≡ part l.choice (l.i + j);
   done : (k : ℕ) → k < length l.now → k / l.unit < l.i
       → get_or l.now k 0 ≡ byte_over (get_or l.initial.now k 0)

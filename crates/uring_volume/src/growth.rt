@@ -1,0 +1,34 @@
+//! Growth of lists by a memory.
+
+ghost use Rattle.std.specs.Prelude.{◌≡◌, ◌+◌, ◌-◌, ◌≤◌, ◌++◌, ◌∷◌, [], ℕ, length, replicate, IfOk, OnOk, IsOk};
+
+use std::alloc::{AllocError, Global};
+use uring_memory::Memory;
+
+/// Puts an item behind the others, by this memory. If it grants whatever is asked for, there is no error.
+pub fn push<M: Memory, T: Drop>(memory: &M, list: &mut Vec<T>, item: T) -> Result<(), AllocError>
+    ensures items { OnOk result (list.new.items ≡ list.old.items ++ item ∷ []) }
+    ensures granted { ((n : ℕ) → M.grants memory.now n) → IsOk result }
+{
+    memory.reserve(list, 1)?;
+    list.push_reserved(item);
+    Ok(())
+}
+
+/// These bytes with zeros behind them up to a length, as `push` takes memory.
+pub fn grown<M: Memory>(
+    memory: &M,
+    alloc: Global,
+    first: &[u8],
+    len: usize,
+) -> Result<Vec<u8>, AllocError>
+    requires { length first.now ≤ len }
+    ensures bytes { IfOk result
+        (λ now. now.items ≡ first.now ++ replicate (len - length first.now) 0) }
+    ensures granted { ((n : ℕ) → M.grants memory.now n) → IsOk result }
+{
+    let mut now = memory.list(alloc, len)?;
+    now.extend_from_slice(first)?;
+    now.resize(len, 0)?;
+    Ok(now)
+}
