@@ -40,8 +40,8 @@ and RAW 128 bytes, in lower case hexadecimal.";
 /// The reasons of `uring explain`, for its help.
 pub(crate) const REASONS: &str = "\
 Steps and answers are those of trace. Behind an answer to issue, and behind
-not running, stand two spaces, # and the reason. The answer running has none,
-nor has a cancel of all that is carried out. The reasons:
+not running, stand two spaces, # and the reason. The answer running has none.
+The reasons:
   never accepted, has ended, waits for nobody
   waits for M: a member of its group
   waits for M: M's group drains
@@ -51,6 +51,7 @@ nor has a cancel of all that is carried out. The reasons:
   doomed: M failed before it
   doomed: a cancel chose it
   of a cancel of one: chose M, M is running, found none
+  of a cancel of all: chose M M .., found none
 A line that is empty or begins with # is passed over. Any other that is no step
 is answered bad line, and told on standard error with its number and what is
 wrong with it; the status at the end is then 4.
@@ -59,6 +60,8 @@ Lines that ask how things stand, and their answers:
   show counts    accepted N outstanding N running N posted N reaped N
   show sizes     sq N cq N files N start N
   show overflow  overflow N, and each completion that waits there
+  show requests  requests N, and each outstanding one: , NUM UD OP: REASON
+  show why NUM   how request NUM stands, in the words of the reasons
   show file FD   len N writes N synced N, or no file
 
 With one of these no answers are written; --graph goes before --timeline:

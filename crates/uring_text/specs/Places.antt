@@ -44,7 +44,7 @@ abbrev pub place_text : Place → List ℕ
 place_text place.Step =
     codes "fill, index, tail, head, begin, take, end, issue, finish, flush, cqtail, reap, cqhead, close or next"
 place_text place.Form = codes "nop, fsync, read, write, cancel, cancelall, op or raw"
-place_text place.Shown = codes "counts, sizes, overflow or file"
+place_text place.Shown = codes "counts, sizes, overflow, requests, why or file"
 place_text (place.Token kind) = kind_text kind
 place_text place.Answer = codes "` = ` and an answer (uring trace reads steps alone)"
 place_text place.End = codes "the end of the line"

@@ -153,7 +153,7 @@ pub(crate) fn place_text(place: Place) -> &'static str
             "fill, index, tail, head, begin, take, end, issue, finish, flush, cqtail, reap, cqhead, close or next"
         }
         Place::Form => "nop, fsync, read, write, cancel, cancelall, op or raw",
-        Place::Shown => "counts, sizes, overflow or file",
+        Place::Shown => "counts, sizes, overflow, requests, why or file",
         Place::Token(kind) => kind_text(kind),
         Place::Answer => "` = ` and an answer (uring trace reads steps alone)",
         Place::End => "the end of the line",

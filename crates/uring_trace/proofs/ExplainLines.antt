@@ -11,6 +11,7 @@ use Rattle.uring_core.specs.declared.answer.Answer.{Answer}
 use Rattle.uring_core.specs.declared.step.Step.{Step}
 use Rattle.uring_entry.specs.declared.why.Why.{Why}
 use Rattle.uring_dispatch.specs.declared.answers.Found.{Found}
+use Rattle.uring_trace.specs.Chosen.{behind_text}
 use Rattle.uring_trace.specs.Reasons.{kept_reason, reason_text}
 use Rattle.uring_trace.specs.Text.{text_of}
 use Rattle.uring_trace.specs.declared.reason_text.Reason.{Reason}
@@ -35,15 +36,21 @@ if_ok_both (Ok x) P Q R f a b = f x a b
 if_ok_both (Err e) P Q R f a b = tt
 
 -- an answer and what is kept of its reason, with the end of the line
-pub line_reasoned : (before one two three : List ℕ) (answer : Answer) (why w : Option Why) (found f : Option Found) (kept : Option Reason)
-    → one ≡ before ++ text_of answer → two ≡ one ++ reason_text kept → three ≡ ended two
-    → kept ≡ kept_reason answer why found → why ≡ w → found ≡ f
-    → three ≡ before ++ ended (text_of answer ++ reason_text (kept_reason answer w f))
-line_reasoned before one two three answer why w found f kept said told end is asked sought =
+four_parts : (i a b c : List ℕ) → i ++ a ++ b ++ c ≡ i ++ (a ++ (b ++ c))
+four_parts i a b c = simp append_assoc refl
+
+pub line_reasoned : (before one two three four : List ℕ) (answer : Answer) (why w : Option Why) (found f : Option Found) (kept : Option Reason) (chosen c : Option (List ℕ))
+    → one ≡ before ++ text_of answer → two ≡ one ++ reason_text kept
+    → three ≡ two ++ behind_text chosen → four ≡ ended three
+    → kept ≡ kept_reason answer why found → why ≡ w → found ≡ f → chosen ≡ c
+    → four ≡ before ++ ended (text_of answer ++ (reason_text (kept_reason answer w f) ++ behind_text c))
+line_reasoned before one two three four answer why w found f kept chosen c said told behind end is asked sought all =
     let reason : kept ≡ kept_reason answer w f = is ∙ ap (λ (x : Option Why). kept_reason answer x found) asked ∙ ap (λ (x : Option Found). kept_reason answer w x) sought in
-    let whole : two ≡ before ++ (text_of answer ++ reason_text kept) = told ∙ ap (λ (l : List ℕ). l ++ reason_text kept) said ∙ append_assoc before (text_of answer) (reason_text kept) in
-    subst (λ (r : Option Reason). three ≡ before ++ ended (text_of answer ++ reason_text r)) reason
-    (end ∙ ap ended whole ∙ append_assoc before (text_of answer ++ reason_text kept) (10 ∷ []))
+    let tail = reason_text kept ++ behind_text chosen in
+    let whole : three ≡ before ++ (text_of answer ++ tail) = behind ∙ ap (λ (l : List ℕ). l ++ behind_text chosen) (told ∙ ap (λ (l : List ℕ). l ++ reason_text kept) said) ∙ four_parts before (text_of answer) (reason_text kept) (behind_text chosen) in
+    let so : four ≡ before ++ ended (text_of answer ++ tail) = end ∙ ap ended whole ∙ append_assoc before (text_of answer ++ tail) (10 ∷ []) in
+    subst (λ (x : Option (List ℕ)). four ≡ before ++ ended (text_of answer ++ (reason_text (kept_reason answer w f) ++ behind_text x))) all
+    (subst (λ (r : Option Reason). four ≡ before ++ ended (text_of answer ++ (reason_text r ++ behind_text chosen))) reason so)
 
 -- what becomes of a line: a step, a question, a remark, or a bad one
 

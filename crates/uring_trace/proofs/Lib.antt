@@ -2,6 +2,7 @@ pub mod Spellings
 pub mod Sessions
 pub mod QuestionLines
 pub mod ShownTexts
+pub mod ChosenTexts
 pub mod ExplainLines
 pub mod ExplainStreams
 pub mod Traces

@@ -2,8 +2,11 @@
 use Rattle.std.proofs.Common.{◌≡◌, ℕ, zero, suc, ◌+◌, List, [], ◌∷◌, ◌++◌, Option, take, refl, sym, ap, ◌∙◌, append_assoc, arith}
 use Rattle.std.specs.Prelude.{slice_get, Some}
 use Rattle.std.proofs.lemmas.List.{append-nil}
-use Rattle.uring_entry.specs.Layout.{Cqe}
-use Rattle.uring_trace.specs.Shown.{list_text, listed_text}
+use Rattle.uring_entry.specs.Layout.{Cqe, Sqe}
+use Rattle.uring_entry.specs.Requests.{Requests, entry_outstanding}
+use Rattle.uring_entry.specs.Why.{why_of}
+use Rattle.uring_entry.specs.declared.why.Why.{Why}
+use Rattle.uring_trace.specs.Shown.{list_text, listed_text, row_text, rows_below}
 
 -- one completion more
 pub list_more : (cs : List Cqe) (i : ℕ)
@@ -24,3 +27,15 @@ overflow_more cs place o front so after a b is =
     let next : suc place ≡ place + 1 = omega arith in
     let more : t ++ x ≡ list_text (take (place + 1) cs) = sym (list_more cs place) ∙ ap (λ k. list_text (take k cs)) next in
     b ∙ ap (λ (l : List ℕ). l ++ listed_text o) a ∙ ap (λ (p : Option Cqe). (front ++ t) ++ listed_text p) is ∙ append_assoc front t x ∙ ap (λ (l : List ℕ). front ++ l) more
+
+-- one request more
+pub rows_more : (r : Requests) (n : ℕ) (e : Option Sqe) (why : Why) (front so after : List ℕ)
+    → so ≡ front ++ rows_below r n → after ≡ so ++ row_text n e why → e ≡ entry_outstanding r n
+    → why ≡ why_of r n → after ≡ front ++ rows_below r (n + 1)
+rows_more r n e why front so after a b entry is =
+    let next : suc n ≡ n + 1 = omega arith in
+    b ∙ ap (λ (l : List ℕ). l ++ row_text n e why) a
+    ∙ ap (λ (x : Option Sqe). (front ++ rows_below r n) ++ row_text n x why) entry
+    ∙ ap (λ (w : Why). (front ++ rows_below r n) ++ row_text n (entry_outstanding r n) w) is
+    ∙ append_assoc front (rows_below r n) (row_text n (entry_outstanding r n) (why_of r n))
+    ∙ ap (λ (k : ℕ). front ++ rows_below r k) next

@@ -11,7 +11,7 @@ use Rattle.uring_machine.specs.Machine.{Machine, Fits}
 use Rattle.uring_core.specs.declared.step.Step.{Step}
 use Rattle.uring_core.specs.declared.answer.Answer.{Answer}
 use Rattle.uring_trace.specs.Text.{text_of}
-use Rattle.uring_trace.specs.Reasons.{reason_of, reason_text}
+use Rattle.uring_trace.specs.Reasons.{reasons_text}
 use Rattle.uring_text.specs.Lines.{ended, Splits}
 use Rattle.uring_text.specs.KeptLine.{KeptLine, kept_of}
 use Rattle.uring_trace.specs.Sessions.{with_event}
@@ -35,7 +35,7 @@ pub record TellsStep (old new : Machine) (step : Step) (before after : List ℕ)
   pub answer : Answer
   pub told : (h : History) → Fits old h
       → after
-      ≡ before ++ ended (text_of answer ++ reason_text (reason_of (world old.core.setup h) step answer))
+      ≡ before ++ ended (text_of answer ++ reasons_text (world old.core.setup h) step answer)
   pub same : new.core.setup ≡ old.core.setup
   pub fits : (h : History) → Fits old h → Fits new ((step, answer) ∷ h)
 

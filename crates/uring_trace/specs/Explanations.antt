@@ -19,7 +19,7 @@ use Rattle.uring_trace.specs.Flaws.{line_flaw}
 use Rattle.uring_trace.specs.declared.flaws.Language.TheVariants as language
 use Rattle.uring_trace.specs.Shown.{shown}
 use Rattle.uring_trace.specs.declared.questions.Question.{Question}
-use Rattle.uring_trace.specs.Reasons.{reason_of, reason_text}
+use Rattle.uring_trace.specs.Reasons.{reasons_text}
 
 -- What a line is: a step, with its answer; a question of what stands; a remark; or none of these.
 pub data Said : Type 0 where
@@ -58,7 +58,7 @@ events_in (x ∷ before) = events_in before ++ option_to_list (event_in x.said)
 
 -- what is told of a line in this world: of a step its answer with the reason, of a question what it asks for, of a remark nothing, and of any other that it is bad
 abbrev pub told_of : Setup → World → Said → List ℕ
-told_of g w (Made event) = ended (text_of event.1 ++ reason_text (reason_of w event.0 event.1))
+told_of g w (Made event) = ended (text_of event.1 ++ reasons_text w event.0 event.1)
 told_of g w (Asked question) = ended (shown g w question)
 told_of g w Remark = []
 told_of g w Bad = ended (codes "bad line")

@@ -45,7 +45,8 @@ step_reach (name ∷ tokens) =
 -- the kinds of the tokens behind the name of what is to be shown
 abbrev pub shown_kinds : List ℕ → Option (List Kind)
 shown_kinds name =
-    if bytes_eq name (codes "counts") || bytes_eq name (codes "sizes") || bytes_eq name (codes "overflow") then Some [] else
+    if bytes_eq name (codes "counts") || bytes_eq name (codes "sizes") || bytes_eq name (codes "overflow") || bytes_eq name (codes "requests") then Some [] else
+    if bytes_eq name (codes "why") then Some (kind.Number ∷ []) else
     if bytes_eq name (codes "file") then Some (kind.File ∷ []) else None
 
 -- how far the tokens behind `show` fit

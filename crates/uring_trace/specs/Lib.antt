@@ -5,6 +5,7 @@ pub mod Exchanges
 pub mod Traces
 pub mod Sessions
 pub mod Reasons
+pub mod Chosen
 pub mod Questions
 pub mod Flaws
 pub mod Shown

@@ -18,6 +18,7 @@ use Rattle.uring_core.specs.declared.step.Step.{Step}
 use Rattle.uring_core.specs.declared.step.Step.TheVariants as step
 use Rattle.uring_core.specs.declared.answer.Answer.{Answer}
 use Rattle.uring_core.specs.declared.answer.Answer.TheVariants as answer
+use Rattle.uring_trace.specs.Chosen.{behind_text, chosen_told}
 use Rattle.uring_trace.specs.declared.reason_text.Reason.{Reason}
 use Rattle.uring_trace.specs.declared.reason_text.Reason.TheVariants.{Stands, Finds}
 
@@ -90,3 +91,7 @@ abbrev pub reason_text : Option Reason → List ℕ
 reason_text None = []
 reason_text (Some (Stands why)) = codes "  # " ++ why_text why
 reason_text (Some (Finds found)) = codes "  # " ++ found_text found
+
+-- all that stands behind an answer, by the world before the step: its reason, and whom a cancel of all chose
+abbrev pub reasons_text : World → Step → Answer → List ℕ
+reasons_text w s a = reason_text (reason_of w s a) ++ behind_text (chosen_told w.requests s)

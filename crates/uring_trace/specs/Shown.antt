@@ -1,16 +1,21 @@
 -- What is answered to a question of an explanation, by the world in which it is asked. The texts are our own rule.
-use Rattle.std.specs.Prelude.{ℕ, List, [], ◌∷◌, ◌++◌, length, drop, Option, Some, None, codes}
+use Rattle.std.specs.Prelude.{ℕ, zero, suc, ◌==◌, List, [], ◌∷◌, ◌++◌, length, drop, Option, Some, None, codes, if◌then◌else◌}
 use Rattle.std.specs.Fmt.{decimal}
 use Rattle.uring_entry.specs.Setup.{Setup}
-use Rattle.uring_entry.specs.Layout.{Cqe}
+use Rattle.uring_entry.specs.Layout.{Cqe, Sqe, opcode_of, user_data_of}
+use Rattle.uring_entry.specs.Preparation.{is_cancel_all}
+use Rattle.uring_entry.specs.declared.opcode.TheConstants.{NOP, FSYNC, ASYNC_CANCEL, READ, WRITE}
 use Rattle.uring_entry.specs.Completions.{Completions}
-use Rattle.uring_entry.specs.Requests.{outstanding_in, running_in}
+use Rattle.uring_entry.specs.Requests.{Requests, entry_outstanding, outstanding_in, running_in}
+use Rattle.uring_entry.specs.Why.{why_of}
+use Rattle.uring_entry.specs.declared.why.Why.{Why}
 use Rattle.uring_files.specs.Operations.{state_of}
 use Rattle.uring_files.specs.declared.file.FileState.{FileState}
 use Rattle.uring_core.specs.World.{World}
 use Rattle.uring_core.specs.CalledFor.{files_of}
 use Rattle.uring_core.specs.declared.cores.Counts.{Counts}
 use Rattle.uring_text.specs.Completions.{completion_text}
+use Rattle.uring_trace.specs.Reasons.{why_text}
 use Rattle.uring_trace.specs.declared.questions.Question.{Question}
 use Rattle.uring_trace.specs.declared.questions.Question.TheVariants as question
 
@@ -53,6 +58,35 @@ abbrev pub overflow_text : List Cqe → List ℕ
 overflow_text completions =
     codes "overflow " ++ decimal (length completions) ++ list_text completions
 
+-- the operation that an entry names, as the form of its fill does
+abbrev pub named_text : ℕ → List ℕ
+named_text code =
+    if code == NOP then codes "nop" else
+    if code == FSYNC then codes "fsync" else
+    if code == READ then codes "read" else
+    if code == WRITE then codes "write" else
+    if code == ASYNC_CANCEL then codes "cancel" else
+    codes "op " ++ decimal code
+
+abbrev pub operation_text : Sqe → List ℕ
+operation_text e = if is_cancel_all e then codes "cancelall" else named_text (opcode_of e)
+
+-- a request behind a comma and a space, if it is outstanding: its number, its user data, its operation, and how it stands
+abbrev pub row_text : ℕ → Option Sqe → Why → List ℕ
+row_text n None why = []
+row_text n (Some e) why =
+    codes ", " ++ decimal n ++ codes " " ++ decimal (user_data_of e) ++ codes " " ++ operation_text e ++ codes ": " ++ why_text why
+
+-- the outstanding ones of the first requests, so many
+abbrev pub rows_below : Requests → ℕ → List ℕ
+rows_below r zero = []
+rows_below r (suc n) = rows_below r n ++ row_text n (entry_outstanding r n) (why_of r n)
+
+-- how many requests are outstanding, and which, the least first
+abbrev pub requests_text : Requests → List ℕ
+requests_text r =
+    codes "requests " ++ decimal (outstanding_in r) ++ rows_below r (length r.accepted)
+
 -- a file's length in bytes, how many of its writes succeeded, and how many of these its last sync made safe; or that there is none
 abbrev pub file_text : Option FileState → List ℕ
 file_text (Some state) =
@@ -64,4 +98,6 @@ abbrev pub shown : Setup → World → Question → List ℕ
 shown g w question.Counts = counts_text (counts_of w)
 shown g w question.Sizes = sizes_text g
 shown g w question.Overflow = overflow_text (overflow_of w.completions)
+shown g w question.Requests = requests_text w.requests
+shown g w (question.Why n) = why_text (why_of w.requests n)
 shown g w (question.File fd) = file_text (state_of (files_of g w) fd)

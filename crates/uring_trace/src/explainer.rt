@@ -9,6 +9,7 @@ ghost use Rattle.uring_trace.specs.Explaining.{TellsStep, TellsShown};
 ghost use Rattle.uring_trace.specs.Flaws.{line_flaw};
 
 use crate::answer_text::push_answer;
+use crate::chosen::{chosen_text, push_behind};
 use crate::flaws::{Language, push_line_flaw};
 use crate::questions::{Question, read_question};
 use crate::reason_text::{ask, keep, push_reason, seek};
@@ -179,9 +180,11 @@ fn tell_step(
 {
     let why = ask(machine, step);
     let found = seek(machine, step);
+    let chosen = chosen_text(&alloc, alloc, machine.core(), step)?;
     let answer = machine.step(*step);
     push_answer(alloc, text, &answer)?;
     push_reason(text, keep(&answer, why, found))?;
+    push_behind(&alloc, text, &chosen)?;
     text.push_str("\n")
 }
 

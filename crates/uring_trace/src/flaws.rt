@@ -173,9 +173,12 @@ fn shown_kinds(name: &[u8]) -> Option<&'static [Kind]>
     ensures { option_map (λ kinds. kinds.now) result ≡ shown_kinds name.now }
 {
     match name {
-        _ if is_name(name, "counts") || is_name(name, "sizes") || is_name(name, "overflow") => {
-            Some(&[])
-        }
+        _
+            if is_name(name, "counts")
+                || is_name(name, "sizes")
+                || is_name(name, "overflow")
+                || is_name(name, "requests") => { Some(&[]) }
+        _ if is_name(name, "why") => Some(&[Kind::Number]),
         _ if is_name(name, "file") => Some(&[Kind::File]),
         _ => None,
     }

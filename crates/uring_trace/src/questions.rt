@@ -5,7 +5,7 @@ ghost use Rattle.uring_text.specs.KeptLine.{kept_of};
 ghost use Rattle.uring_trace.specs.Questions.{Asks, IsQuestion, IsNoQuestion};
 ghost use Rattle.uring_trace.specs.declared.questions.Question.TheVariants as question;
 
-use uring_text::{KeptLine, is_name, spelled_signed};
+use uring_text::{KeptLine, is_name, spelled_long, spelled_signed};
 
 /// What a line asks to be shown. Our own rule.
 #[derive(Clone, Copy, Debug, PartialEq, Eq)]
@@ -18,6 +18,12 @@ pub enum Question {
 
     /// `show overflow`: the completions that wait in the overflow list.
     Overflow,
+
+    /// `show requests`: the outstanding requests, and how each stands.
+    Requests,
+
+    /// `show why NUM`: why the request of this number stands as it does.
+    Why(u64),
 
     /// `show file FD`: how the file of this descriptor stands.
     File(i32),
@@ -40,8 +46,29 @@ fn question_of(line: &[u8]) -> Option<Question>
         _ if is_name(line, "show counts") => Some(Question::Counts),
         _ if is_name(line, "show sizes") => Some(Question::Sizes),
         _ if is_name(line, "show overflow") => Some(Question::Overflow),
-        _ => Some(Question::File(file_asked(line)?)),
+        _ if is_name(line, "show requests") => Some(Question::Requests),
+        _ => numbered_question(line),
     }
+}
+
+/// What a line asks to be shown by a number, a request's or a file's.
+fn numbered_question(line: &[u8]) -> Option<Question>
+    ensures { MatchOption result
+        (((n : ℕ) → ¬ Asks line.now (question.Why n)) × ((fd : ℤ) → ¬ Asks line.now (question.File fd)))
+        (Asks line.now) }
+{
+    match why_asked(line) {
+        Some(number) => Some(Question::Why(number)),
+        None => Some(Question::File(file_asked(line)?)),
+    }
+}
+
+/// The request of which a line asks why it stands as it does.
+fn why_asked(line: &[u8]) -> Option<u64>
+    ensures { MatchOption result ((n : ℕ) → ¬ Asks line.now (question.Why n))
+        (λ n. Asks line.now (question.Why n)) }
+{
+    spelled_long(line.strip_prefix(b"show why ")?)
 }
 
 /// The file of which a line asks how it stands.

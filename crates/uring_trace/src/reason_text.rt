@@ -98,8 +98,8 @@ pub(crate) fn push_reason(text: &mut String, reason: Option<Reason>) -> Result<(
     }
 }
 
-/// Appends what a cancel found.
-fn push_found(text: &mut String, found: Found) -> Result<(), AllocError>
+/// Appends what a cancel of one request found, as behind an answer of `explain`.
+pub fn push_found(text: &mut String, found: Found) -> Result<(), AllocError>
     ensures { OnOk result (string_bytes text.new ≡ string_bytes text.old ++ found_text found) }
 {
     match found {

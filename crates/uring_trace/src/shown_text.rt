@@ -6,6 +6,8 @@ ghost use Rattle.uring_machine.specs.Machine.{Fits};
 ghost use Rattle.uring_trace.specs.Shown.{shown, counts_text, sizes_text, overflow_of, overflow_text, listed_text, file_text};
 
 use crate::questions::Question;
+use crate::reason_text::push_why;
+use crate::requests_text::push_requests;
 use std::alloc::{AllocError, Global};
 use std::fmt::Write;
 use uring_machine::{Counts, Cqe, FileState, Machine, Setup};
@@ -26,6 +28,8 @@ pub(crate) fn push_shown(
         Question::Counts => push_counts(text, machine.counts()),
         Question::Sizes => push_sizes(text, machine.setup()),
         Question::Overflow => push_overflow(alloc, text, machine),
+        Question::Requests => push_requests(text, machine.core()),
+        Question::Why(number) => push_why(text, machine.why(number)),
         Question::File(fd) => push_file(text, machine.state(fd)),
     }
 }

@@ -25,7 +25,7 @@ const SHOWN: &str =
 
 /// Two spaces, and a number with a leading zero.
 const TOO_MUCH: &str =
-    "uring: line 26: bad line: column 6: a blank too many, wanted: counts, sizes, overflow or file\nuring: line 27: bad line: column 11: `01`, wanted: FD, a number from -2147483648 to 2147483647\n";
+    "uring: line 26: bad line: column 6: a blank too many, wanted: counts, sizes, overflow, requests, why or file\nuring: line 27: bad line: column 11: `01`, wanted: FD, a number from -2147483648 to 2147483647\n";
 
 /// Whether answers and notes to this input are these, and it is told that a line was bad.
 fn is_explained(

@@ -1,0 +1,42 @@
+-- Whom a cancel of all chooses, as a text. The words are our own rule.
+use Rattle.std.specs.Prelude.{ℕ, Bool, true, false, List, [], ◌∷◌, ◌++◌, Option, Some, None, codes, if◌then◌else◌}
+use Rattle.std.specs.Fmt.{decimal}
+use Rattle.uring_entry.specs.Preparation.{is_cancel_all}
+use Rattle.uring_entry.specs.Requests.{Requests, entry_of, targets_of}
+use Rattle.uring_entry.specs.Why.{why_of}
+use Rattle.uring_entry.specs.declared.why.Why.{Why}
+use Rattle.uring_entry.specs.declared.why.Why.TheVariants.{Waits, MayStart}
+use Rattle.uring_core.specs.declared.step.Step.{Step}
+use Rattle.uring_core.specs.declared.step.Step.TheVariants as step
+
+-- whether a request that stands so is outstanding, and neither runs nor is doomed: a cancel of all may doom it
+abbrev pub is_open : Why → Bool
+is_open (Waits m since) = true
+is_open MayStart = true
+is_open _ = false
+
+-- numbers, each behind a space
+abbrev pub spaced : List ℕ → List ℕ
+spaced [] = []
+spaced (m ∷ more) = codes " " ++ decimal m ++ spaced more
+
+-- who was chosen
+abbrev pub chose_text : List ℕ → List ℕ
+chose_text [] = codes "found none"
+chose_text (m ∷ more) = codes "chose" ++ spaced (m ∷ more)
+
+-- what is told of n that stands so: whom it would doom if it were carried out now, if it is a cancel of all that may start
+abbrev pub chosen_for : Requests → ℕ → Why → Option (List ℕ)
+chosen_for r n MayStart =
+    if is_cancel_all (entry_of r n) then Some (chose_text (targets_of r n)) else None
+chosen_for r n _ = None
+
+-- what is told of the request that a step issues
+abbrev pub chosen_told : Requests → Step → Option (List ℕ)
+chosen_told r (step.Issue n) = chosen_for r n (why_of r n)
+chosen_told r _ = None
+
+-- the same behind an answer
+abbrev pub behind_text : Option (List ℕ) → List ℕ
+behind_text (Some told) = codes "  # " ++ told
+behind_text None = []
