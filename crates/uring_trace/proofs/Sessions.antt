@@ -1,27 +1,25 @@
 -- What a session keeps, byte by byte and line by line.
-use Rattle.std.proofs.Common.{◌≡◌, ◌≢◌, ℕ, Bool, true, List, [], ◌∷◌, ◌++◌, Option, Some, None, Result, Ok, Err, refl, sym, ap, subst, ◌∙◌, append_assoc}
-use Rattle.std.specs.Prelude.{OnOk, is_ok}
+use Rattle.std.proofs.Common.{◌≡◌, ◌≢◌, ℕ, Bool, List, [], ◌∷◌, ◌++◌, Option, Some, None, refl, sym, ap, subst, ◌∙◌, append_assoc}
+use Rattle.std.specs.Prelude.{codes}
 use Rattle.std.specs.Option.{option_to_list}
 use Rattle.std.proofs.lemmas.List.{append-nil}
 use Rattle.uring_entry.specs.Setup.{Setup}
 use Rattle.uring_core.specs.CalledFor.{IsLawful}
-use Rattle.uring_core.specs.Histories.{Event, History, history_of}
+use Rattle.uring_core.specs.Histories.{Event, History, world, history_of}
 use Rattle.uring_core.proofs.Following.{history_of-snoc}
-use Rattle.uring_machine.specs.Machine.{Machine, Fits}
+use Rattle.uring_machine.specs.Machine.{Machine, Fits, IsUnrefused}
+use Rattle.uring_machine.specs.Settling.{AreUnrefused}
+use Rattle.uring_machine.proofs.Settling.{unrefused-append}
 use Rattle.uring_core.specs.declared.answer.Answer.{Answer}
 use Rattle.uring_core.specs.declared.step.Step.{Step}
-use Rattle.uring_trace.specs.Spelling.{IsStep}
+use Rattle.uring_trace.specs.Spelling.{IsStep, IsBad}
 use Rattle.uring_trace.specs.Text.{text_of}
 use Rattle.uring_text.specs.Lines.{joined, ended}
 use Rattle.uring_trace.specs.Exchanges.{Exchange, Manner, Answers, answer_text, lines_of, events_of, step_text}
 use Rattle.uring_text.specs.KeptLine.{KeptLine, kept_of}
-use Rattle.uring_trace.specs.Sessions.{AppendsAnswer, Holds, with_event}
+use Rattle.uring_trace.specs.Sessions.{AppendsAnswer, Holds, IsGranted, with_event}
 use Rattle.uring_trace.specs.Traces.{IsWhole, IsBeginning, IsEnded}
 use Rattle.uring_text.proofs.Splits.{split_more, split_end, split_whole, last_some}
-
-pub on_ok_from : {T E : Type 0} (r : Result T E) (Q : Type 0) → (is_ok r ≡ true → Q) → OnOk r Q
-on_ok_from (Ok x) Q f = f refl
-on_ok_from (Err e) Q f = tt
 
 -- one byte more of a line
 pub took_byte : (manner : Manner) (m : Machine) (is_echo : Bool) (kept kept' : KeptLine) (before text : List ℕ) (b : ℕ)
@@ -39,12 +37,13 @@ took_byte manner m is_echo kept kept' before text b ne more h = record {
 }
 
 -- a step was made, and its answer appended behind what stands before it
-pub told_step : (old new : Machine) (is_echo : Bool) (line before middle told after : List ℕ) (s : Step) (a : Answer)
+pub told_step : (granted : Type 0) (old new : Machine) (is_echo : Bool) (line before middle told after : List ℕ) (s : Step) (a : Answer)
     → IsStep line s → middle ≡ before ++ step_text is_echo line → told ≡ text_of a
     → after ≡ middle ++ told
     → new.core.setup ≡ old.core.setup → ((h : History) → Fits old h → Fits new ((s, a) ∷ h))
-    → AppendsAnswer old new is_echo line before after
-told_step old new is_echo line before middle told after s a read m t e same fits = record {
+    → (granted → (h : History) → Fits old h → IsUnrefused old.core.setup (world old.core.setup h) s a)
+    → AppendsAnswer granted old new is_echo line before after
+told_step granted old new is_echo line before middle told after s a read m t e same fits unrefused = record {
   event = Some (s, a);
   read = read;
   appended =
@@ -53,7 +52,14 @@ told_step old new is_echo line before middle told after s a read m t e same fits
       ∙ append_assoc before (step_text is_echo line) (text_of a);
   same = same;
   fits = fits;
+  unrefused = λ sure h f. (unrefused sure h f, tt);
 }
+
+-- a line that is no step was told
+pub told_bad : (granted : Type 0) (m : Machine) (is_echo : Bool) (line before after : List ℕ)
+    → IsBad line → after ≡ before ++ codes "bad line" → AppendsAnswer granted m m is_echo line before after
+told_bad granted m is_echo line before after bad e =
+    record { event = None; read = bad; appended = e; same = refl; fits = λ h f. f; unrefused = λ sure h f. tt }
 
 -- the history of one exchange more
 pub one_more : (event : Option Event) (events : List Event)
@@ -61,12 +67,19 @@ pub one_more : (event : Option Event) (events : List Event)
 one_more None events = ap (λ (es : List Event). history_of es) (sym (append-nil events))
 one_more (Some event) events = sym (history_of-snoc events event)
 
+-- one answer more that refuses no memory
+unrefused_more : (g : Setup) (event : Option Event) (events : List Event) → AreUnrefused g [] events
+    → AreUnrefused g (history_of events) (option_to_list event)
+    → AreUnrefused g [] (events ++ option_to_list event)
+unrefused_more g event events earlier last = unrefused-append g [] events (option_to_list event) earlier (subst (λ (h : History). AreUnrefused g h (option_to_list event)) (sym (append-nil (history_of events))) last)
+
 -- one exchange more
-answered : (manner : Manner) (m m' : Machine) (is_echo : Bool) (xs : List Exchange) (line text before after : List ℕ)
-    → Answers manner xs (text ++ before) → m.core.setup ≡ manner.setup → is_echo ≡ manner.is_echo
-    → Fits m (history_of (events_of xs)) → (a : AppendsAnswer m m' is_echo line before after)
+answered : (granted : Type 0) (manner : Manner) (m m' : Machine) (is_echo : Bool) (xs : List Exchange) (line text before after : List ℕ)
+    → IsGranted manner granted → Answers manner xs (text ++ before) → m.core.setup ≡ manner.setup → is_echo ≡ manner.is_echo
+    → Fits m (history_of (events_of xs)) → (a : AppendsAnswer granted m m' is_echo line before after)
     → Answers manner (record { line = line; event = a.event } ∷ xs) (text ++ (after ++ 10 ∷ []))
-answered manner m m' is_echo xs line text before after h same echoes fits a = record {
+answered granted manner m m' is_echo xs line text before after sure h same echoes fits a = record {
+  unrefused = λ yes. unrefused_more manner.setup a.event (events_of xs) (h.unrefused yes) (subst (λ (g : Setup). AreUnrefused g (history_of (events_of xs)) (option_to_list a.event)) same (a.unrefused (sure yes) (history_of (events_of xs)) fits));
   lawful =
       subst (λ (k : History). IsLawful manner.setup k) (one_more a.event (events_of xs))
       (subst (λ (g : Setup). IsLawful g (with_event a.event (history_of (events_of xs)))) (a.same ∙ same) (a.fits (history_of (events_of xs)) fits).lawful);
@@ -75,16 +88,16 @@ answered manner m m' is_echo xs line text before after h same echoes fits a = re
 }
 
 -- the answer to a line that has its end
-pub ended_line : (manner : Manner) (m m' : Machine) (is_echo : Bool) (kept : KeptLine) (bytes text before after : List ℕ)
-    → ((line : List ℕ) → kept ≡ kept_of line → AppendsAnswer m m' is_echo line before after)
-    → Holds manner m is_echo kept bytes (text ++ before)
+pub ended_line : (granted : Type 0) (manner : Manner) (m m' : Machine) (is_echo : Bool) (kept : KeptLine) (bytes text before after : List ℕ)
+    → ((line : List ℕ) → kept ≡ kept_of line → AppendsAnswer granted m m' is_echo line before after)
+    → IsGranted manner granted → Holds manner m is_echo kept bytes (text ++ before)
     → Holds manner m' is_echo (kept_of []) (bytes ++ 10 ∷ []) (text ++ (after ++ 10 ∷ []))
-ended_line manner m m' is_echo kept bytes text before after answer h =
+ended_line granted manner m m' is_echo kept bytes text before after answer sure h =
     let a = answer h.line h.keeps in
     record {
       exchanges = record { line = h.line; event = a.event } ∷ h.exchanges;
       line = [];
-      answers = answered manner m m' is_echo h.exchanges h.line text before after h.answers h.same h.echoes h.fits a;
+      answers = answered granted manner m m' is_echo h.exchanges h.line text before after sure h.answers h.same h.echoes h.fits a;
       splits = split_end bytes (lines_of h.exchanges) h.line h.splits;
       keeps = refl;
       same = a.same ∙ h.same;
@@ -93,14 +106,14 @@ ended_line manner m m' is_echo kept bytes text before after answer h =
     }
 
 -- the answer to a last line that has begun
-pub ended_last : (manner : Manner) (m m' : Machine) (is_echo : Bool) (kept : KeptLine) (bytes text before after : List ℕ)
+pub ended_last : (granted : Type 0) (manner : Manner) (m m' : Machine) (is_echo : Bool) (kept : KeptLine) (bytes text before after : List ℕ)
     → ((line : List ℕ) → kept ≡ kept_of line → line ≡ [] → ⊥)
-    → ((line : List ℕ) → kept ≡ kept_of line → AppendsAnswer m m' is_echo line before after)
-    → Holds manner m is_echo kept bytes (text ++ before)
+    → ((line : List ℕ) → kept ≡ kept_of line → AppendsAnswer granted m m' is_echo line before after)
+    → IsGranted manner granted → Holds manner m is_echo kept bytes (text ++ before)
     → IsWhole manner bytes (text ++ (after ++ 10 ∷ []))
-ended_last manner m m' is_echo kept bytes text before after some answer h =
+ended_last granted manner m m' is_echo kept bytes text before after some answer sure h =
     let a = answer h.line h.keeps in
-    (record { line = h.line; event = a.event } ∷ h.exchanges, lines_of h.exchanges, h.line, answered manner m m' is_echo h.exchanges h.line text before after h.answers h.same h.echoes h.fits a, h.splits, sym (last_some (lines_of h.exchanges) h.line (some h.line h.keeps)))
+    (record { line = h.line; event = a.event } ∷ h.exchanges, lines_of h.exchanges, h.line, answered granted manner m m' is_echo h.exchanges h.line text before after sure h.answers h.same h.echoes h.fits a, h.splits, sym (last_some (lines_of h.exchanges) h.line (some h.line h.keeps)))
 
 -- what a session holds, for the outcomes that end a trace early
 pub held_ended : (manner : Manner) (m : Machine) (is_echo : Bool) (kept : KeptLine) (bytes text : List ℕ)

@@ -109,7 +109,7 @@ none_read manner answer a d e = record {
   text = [];
   consumed = Consumes-nil a;
   appended = Appends-nil d;
-  written = subst (λ (x : Answer). Writes manner x [] []) (sym e) ([], [], [], record { each = tt; lawful = tt; all = refl }, record { whole = refl; each = tt; unbroken = tt }, refl);
+  written = subst (λ (x : Answer). Writes manner x [] []) (sym e) ([], [], [], record { each = tt; lawful = tt; unrefused = λ sure. tt; all = refl }, record { whole = refl; each = tt; unbroken = tt }, refl);
   whole = subst (λ (x : Answer). ReadsAll x a) (sym e) tt;
 }
 

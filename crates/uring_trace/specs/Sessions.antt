@@ -1,9 +1,11 @@
 -- Glue. What a session keeps of the lines that it took in.
-use Rattle.std.specs.Prelude.{◌≡◌, ℕ, Bool, List, ◌∷◌, ◌++◌, Option, Some, None, Result, Ok, Err}
+use Rattle.std.specs.Prelude.{◌≡◌, ℕ, Bool, List, ◌∷◌, ◌++◌, Option, Some, None, Result, Ok, Err, IsTrue}
+use Rattle.std.specs.Option.{option_to_list}
 use Rattle.uring_trace.specs.declared.session.Session.{Session}
 use Rattle.uring_text.specs.declared.trace_fault.TraceFault.{TraceFault}
 use Rattle.uring_core.specs.Histories.{Event, History, history_of}
 use Rattle.uring_machine.specs.Machine.{Machine, Fits}
+use Rattle.uring_machine.specs.Settling.{AreUnrefused}
 use Rattle.uring_text.specs.Lines.{Splits}
 use Rattle.uring_trace.specs.Exchanges.{Exchange, Manner, Answers, IsReadAs, answer_text, lines_of, events_of}
 use Rattle.uring_text.specs.KeptLine.{KeptLine, kept_of}
@@ -14,13 +16,19 @@ abbrev pub with_event : Option Event → History → History
 with_event None before = before
 with_event (Some event) before = event ∷ before
 
--- the answer to a line is appended, and a step is made if the line is one
-pub record AppendsAnswer (old new : Machine) (is_echo : Bool) (line before after : List ℕ) : Type 0 where
+-- the answer to a line is appended, and a step is made if the line is one; if memory is granted, it refuses none
+pub record AppendsAnswer (granted : Type 0) (old new : Machine) (is_echo : Bool) (line before after : List ℕ) : Type 0 where
   pub event : Option Event
   pub read : IsReadAs line event
   pub appended : after ≡ before ++ answer_text is_echo line event
   pub same : new.core.setup ≡ old.core.setup
   pub fits : (h : History) → Fits old h → Fits new (with_event event h)
+  pub unrefused : granted → (h : History) → Fits old h
+      → AreUnrefused old.core.setup h (option_to_list event)
+
+-- no answer is to refuse memory only where it is granted
+abbrev pub IsGranted : Manner → Type 0 → Type 0
+IsGranted manner granted = IsTrue manner.is_unrefused → granted
 
 -- The session's invariant, over its fields: these bytes have been taken in, the text is the answers so far, and this is what is kept of the unfinished line.
 pub record Holds (manner : Manner) (machine : Machine) (is_echo : Bool) (kept : KeptLine) (bytes text : List ℕ) : Type 0 where

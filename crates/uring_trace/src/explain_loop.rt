@@ -1,6 +1,6 @@
 //! The run of an explained trace over three streams.
 
-ghost use Rattle.std.specs.Prelude.{ℕ, List, [], ◌++◌, Err};
+ghost use Rattle.std.specs.Prelude.{◌≡◌, ◌≢◌, ℕ, List, [], ◌++◌, Err, IfErr};
 ghost use Rattle.uring_entry.specs.Setup.{Setup};
 ghost use Rattle.uring_trace.specs.Explaining.{HasTold, TookBoth, WritesPair, WroteBoth};
 ghost use Rattle.uring_trace.specs.Explanations.{IsExplained, WritesBoth};
@@ -10,7 +10,7 @@ use crate::trace_loop::CHUNK;
 use std::alloc::Global;
 use std::io::{Read, Write};
 use uring_machine::Setup;
-use uring_text::{Calls, TraceFault, read_once, write_all};
+use uring_text::{Calls, TextMemory, TraceFault, read_once, write_all};
 
 /// Reads steps from `reader`, one a line, makes them on a new machine of this set-up, and writes to `writer` the answers, one a line, each with its reason if it has one, until the input ends. `Ok` tells whether a line was bad.
 ///
@@ -30,32 +30,52 @@ pub fn explain<R: Read, W: Write, E: Write>(
         (W.contents writer.old) (W.contents writer.new) (E.contents errors.old)
         (E.contents errors.new) }
 {
-    let mut explainer = Explainer::new(alloc, setup)?;
-    let explained = explain_all(alloc, &mut explainer, reader, writer, errors);
+    explain_in(&alloc, alloc, reader, writer, errors, setup)
+}
+
+/// As `explain`, by this memory. If it grants whatever is asked for, the explanation never ends with `Memory`.
+pub fn explain_in<M: TextMemory, R: Read, W: Write, E: Write>(
+    memory: &M,
+    alloc: Global,
+    reader: &mut R,
+    writer: &mut W,
+    errors: &mut E,
+    setup: &Setup,
+) -> Result<bool, TraceFault>
+    ensures lines { IsExplained setup.now result (R.remaining reader.old) (R.remaining reader.new)
+        (W.contents writer.old) (W.contents writer.new) (E.contents errors.old)
+        (E.contents errors.new) }
+    ensures granted { ((n : ℕ) → M.grants memory.now n) → result ≢ Err TraceFault.Memory }
+{
+    let mut explainer = Explainer::new_in(memory, alloc, setup)?;
+    let explained = explain_all(memory, alloc, &mut explainer, reader, writer, errors);
     drop(explainer);
     explained
 }
 
 /// Answers line by line until the input ends.
-fn explain_all<R: Read, W: Write, E: Write>(
+fn explain_all<M: TextMemory, R: Read, W: Write, E: Write>(
+    memory: &M,
     alloc: Global,
     explainer: &mut Explainer,
     reader: &mut R,
     writer: &mut W,
     errors: &mut E,
 ) -> Result<bool, TraceFault>
-    ensures { (setup : Setup) → HasTold setup explainer.old [] [] []
+    ensures lines { (setup : Setup) → HasTold setup explainer.old [] [] []
         → IsExplained setup result (R.remaining reader.old) (R.remaining reader.new)
         (W.contents writer.old) (W.contents writer.new) (E.contents errors.old)
         (E.contents errors.new) }
+    ensures granted { ((n : ℕ) → M.grants memory.now n) → result ≢ Err TraceFault.Memory }
 {
     let mut reads = Calls::new();
     let mut writes = Calls::new();
     let mut chunk = [0; CHUNK];
     while !reads.are_over() {
         match read_once(reader, &mut chunk, &mut reads) {
-            Ok(0) => return explain_last(alloc, explainer, writer, errors, &mut writes),
+            Ok(0) => return explain_last(memory, alloc, explainer, writer, errors, &mut writes),
             Ok(count) => explain_bytes(
+                memory,
                 alloc,
                 explainer,
                 &chunk[..count],
@@ -70,7 +90,8 @@ fn explain_all<R: Read, W: Write, E: Write>(
 }
 
 /// Takes in these bytes, and writes what is told and noted of the lines that they complete.
-fn explain_bytes<W: Write, E: Write>(
+fn explain_bytes<M: TextMemory, W: Write, E: Write>(
+    memory: &M,
     alloc: Global,
     explainer: &mut Explainer,
     bytes: &[u8],
@@ -78,34 +99,37 @@ fn explain_bytes<W: Write, E: Write>(
     errors: &mut E,
     writes: &mut Calls,
 ) -> Result<(), TraceFault>
-    ensures { (setup : Setup) (before told noted : List ℕ)
+    ensures lines { (setup : Setup) (before told noted : List ℕ)
         → HasTold setup explainer.old before told noted
         → WroteBoth (W.contents writer.old) (W.contents writer.new) (E.contents errors.old)
         (E.contents errors.new) told noted
         (TookBoth setup result explainer.new (before ++ bytes.now)) }
+    ensures granted { ((n : ℕ) → M.grants memory.now n) → result ≢ Err TraceFault.Memory }
 {
     let mut text = String::new(alloc);
     let mut notes = String::new(alloc);
-    explainer.feed(bytes, &mut text, &mut notes)?;
+    explainer.feed_in(memory, bytes, &mut text, &mut notes)?;
     write_both(writer, text.as_bytes(), errors, notes.as_bytes(), writes)
 }
 
 /// Ends the input, and writes what is told and noted of a last line without an end. Returns whether a line was bad.
-fn explain_last<W: Write, E: Write>(
+fn explain_last<M: TextMemory, W: Write, E: Write>(
+    memory: &M,
     alloc: Global,
     explainer: &mut Explainer,
     writer: &mut W,
     errors: &mut E,
     writes: &mut Calls,
 ) -> Result<bool, TraceFault>
-    ensures { (setup : Setup) (before told noted : List ℕ)
+    ensures lines { (setup : Setup) (before told noted : List ℕ)
         → HasTold setup explainer.old before told noted
         → WroteBoth (W.contents writer.old) (W.contents writer.new) (E.contents errors.old)
         (E.contents errors.new) told noted (WritesBoth setup result before) }
+    ensures granted { ((n : ℕ) → M.grants memory.now n) → result ≢ Err TraceFault.Memory }
 {
     let mut text = String::new(alloc);
     let mut notes = String::new(alloc);
-    explainer.finish(&mut text, &mut notes)?;
+    explainer.finish_in(memory, &mut text, &mut notes)?;
     write_both(writer, text.as_bytes(), errors, notes.as_bytes(), writes)?;
     Ok(explainer.has_bad())
 }
@@ -118,8 +142,9 @@ fn write_both<W: Write, E: Write>(
     notes: &[u8],
     writes: &mut Calls,
 ) -> Result<(), TraceFault>
-    ensures { WritesPair (W.contents writer.old) (W.contents writer.new) (E.contents errors.old)
+    ensures texts { WritesPair (W.contents writer.old) (W.contents writer.new) (E.contents errors.old)
         (E.contents errors.new) result text.now notes.now }
+    ensures fault { IfErr result (λ fault. fault ≡ TraceFault.Write) }
 {
     write_all(writer, text, writes)?;
     write_all(errors, notes, writes)

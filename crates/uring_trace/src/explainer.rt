@@ -1,6 +1,6 @@
 //! Feeds bytes to a machine as a session of a trace does, and appends to each answer its reason.
 
-ghost use Rattle.std.specs.Prelude.{◌≡◌, ◌≢◌, ℕ, ◌+◌, ◌-◌, ◌^◌, min, List, [], ◌∷◌, ◌++◌, IfOk, IfErr, OnOk, string_bytes, codes};
+ghost use Rattle.std.specs.Prelude.{◌≡◌, ◌≢◌, ℕ, ◌+◌, ◌-◌, ◌^◌, min, List, [], ◌∷◌, ◌++◌, IfOk, IfErr, IsOk, OnOk, string_bytes, codes, decimal};
 ghost use Rattle.uring_entry.specs.Setup.{Setup};
 ghost use Rattle.uring_text.specs.KeptLine.{kept_of};
 ghost use Rattle.uring_text.specs.Lines.{ended};
@@ -8,17 +8,17 @@ ghost use Rattle.uring_trace.specs.Explanations.{bad_note};
 ghost use Rattle.uring_trace.specs.Explaining.{TellsStep, TellsShown};
 ghost use Rattle.uring_trace.specs.Flaws.{line_flaw};
 
-use crate::answer_text::push_answer;
+use crate::answer_text::{push_answer_in, push_named};
 use crate::chosen::{chosen_text, push_behind};
-use crate::flaws::{Language, push_line_flaw};
+use crate::flaws::{Language, push_line_flaw_in};
 use crate::questions::{Question, read_question};
 use crate::reason_text::{ask, keep, push_reason, seek};
 use crate::shown_text::push_shown;
 use crate::step_lines::read_line;
 use std::alloc::{AllocError, Global};
-use std::fmt::Write;
 use uring_machine::{Machine, Setup, Step};
-use uring_text::{KeptLine, TraceFault};
+use uring_memory::Memory;
+use uring_text::{KeptLine, TextMemory, TraceFault, push_text};
 
 /// Explains lines as their bytes come: a machine, what is kept of the unfinished line, and the number of that line.
 #[derive(Drop)]
@@ -40,10 +40,23 @@ impl Explainer {
         ensures ok { IfOk result (λ s. HasTold setup.now s [] [] []) }
         ensures err { IfErr result (λ e. e ≡ TraceFault.Memory) }
     {
-        let line = KeptLine::new(alloc)?;
+        Explainer::new_in(&alloc, alloc, setup)
+    }
+
+    /// As `new`, by this memory. If it grants whatever is asked for, there is no error.
+    pub fn new_in<M: Memory>(
+        memory: &M,
+        alloc: Global,
+        setup: &Setup,
+    ) -> Result<Explainer, TraceFault>
+        ensures ok { IfOk result (λ s. HasTold setup.now s [] [] []) }
+        ensures err { IfErr result (λ e. e ≡ TraceFault.Memory) }
+        ensures granted { ((n : ℕ) → M.grants memory.now n) → IsOk result }
+    {
+        let line = KeptLine::new_in(memory, alloc)?;
         Ok(Explainer {
             alloc,
-            machine: Machine::new(alloc, setup)?,
+            machine: Machine::new_in(memory, alloc, setup)?,
             line,
             number: 1,
             has_bad: false,
@@ -77,8 +90,27 @@ impl Explainer {
             → HasTold setup self.new (before ++ bytes.now) (told ++ string_bytes text.new) (noted ++ string_bytes notes.new)) }
         ensures err { IfErr result (λ e. e ≡ TraceFault.Memory) }
     {
+        let memory = self.alloc;
+        self.feed_in(&memory, bytes, text, notes)
+    }
+
+    /// As `feed`, by this memory. If it grants whatever is asked for, there is no error.
+    pub fn feed_in<M: TextMemory>(
+        &mut self,
+        memory: &M,
+        bytes: &[u8],
+        text: &mut String,
+        notes: &mut String,
+    ) -> Result<(), TraceFault>
+        ensures ok { OnOk result
+            ((setup : Setup) (before told noted : List ℕ)
+            → HasTold setup self.old before (told ++ string_bytes text.old) (noted ++ string_bytes notes.old)
+            → HasTold setup self.new (before ++ bytes.now) (told ++ string_bytes text.new) (noted ++ string_bytes notes.new)) }
+        ensures err { IfErr result (λ e. e ≡ TraceFault.Memory) }
+        ensures granted { ((n : ℕ) → M.grants memory.now n) → IsOk result }
+    {
         for byte in bytes {
-            self.take(*byte, text, notes)?;
+            self.take(memory, *byte, text, notes)?;
         }
         Ok(())
     }
@@ -91,22 +123,47 @@ impl Explainer {
             → HasEnded setup self.new before (told ++ string_bytes text.new) (noted ++ string_bytes notes.new)) }
         ensures err { IfErr result (λ e. e ≡ TraceFault.Memory) }
     {
+        let memory = self.alloc;
+        self.finish_in(&memory, text, notes)
+    }
+
+    /// As `finish`, by this memory. If it grants whatever is asked for, there is no error.
+    pub fn finish_in<M: TextMemory>(
+        &mut self,
+        memory: &M,
+        text: &mut String,
+        notes: &mut String,
+    ) -> Result<(), TraceFault>
+        ensures ok { OnOk result
+            ((setup : Setup) (before told noted : List ℕ)
+            → HasTold setup self.old before (told ++ string_bytes text.old) (noted ++ string_bytes notes.old)
+            → HasEnded setup self.new before (told ++ string_bytes text.new) (noted ++ string_bytes notes.new)) }
+        ensures err { IfErr result (λ e. e ≡ TraceFault.Memory) }
+        ensures granted { ((n : ℕ) → M.grants memory.now n) → IsOk result }
+    {
         if self.line.is_empty() {
             return Ok(());
         }
-        Ok(self.tell_line(text, notes)?)
+        Ok(self.tell_line(memory, text, notes)?)
     }
 
     /// Takes in one byte, and appends what is told and noted of the line if the byte completes it.
-    fn take(&mut self, byte: u8, text: &mut String, notes: &mut String) -> Result<(), TraceFault>
+    fn take<M: TextMemory>(
+        &mut self,
+        memory: &M,
+        byte: u8,
+        text: &mut String,
+        notes: &mut String,
+    ) -> Result<(), TraceFault>
         ensures ok { OnOk result
             ((setup : Setup) (before told noted : List ℕ)
             → HasTold setup self.old before (told ++ string_bytes text.old) (noted ++ string_bytes notes.old)
             → HasTold setup self.new (before ++ byte ∷ []) (told ++ string_bytes text.new) (noted ++ string_bytes notes.new)) }
         ensures err { IfErr result (λ e. e ≡ TraceFault.Memory) }
+        ensures granted { ((n : ℕ) → M.grants memory.now n) → IsOk result }
     {
         if byte == b'\n' {
-            self.end_line(text, notes)?;
+            self.end_line(memory, text, notes)?;
         } else {
             self.keep(byte);
         }
@@ -124,33 +181,45 @@ impl Explainer {
     }
 
     /// Appends what is told and noted of the line, and begins the next line.
-    fn end_line(&mut self, text: &mut String, notes: &mut String) -> Result<(), AllocError>
-        ensures { OnOk result
+    fn end_line<M: TextMemory>(
+        &mut self,
+        memory: &M,
+        text: &mut String,
+        notes: &mut String,
+    ) -> Result<(), AllocError>
+        ensures ok { OnOk result
             ((setup : Setup) (before told noted : List ℕ)
             → HasTold setup self.old before (told ++ string_bytes text.old) (noted ++ string_bytes notes.old)
             → HasTold setup self.new (before ++ 10 ∷ []) (told ++ string_bytes text.new) (noted ++ string_bytes notes.new)) }
+        ensures granted { ((n : ℕ) → M.grants memory.now n) → IsOk result }
     {
-        self.tell_line(text, notes)?;
+        self.tell_line(memory, text, notes)?;
         self.line.clear();
         self.number = next_number(self.number);
         Ok(())
     }
 
     /// Appends what is told and noted of the line, and makes the step that it is, if it is one.
-    fn tell_line(&mut self, text: &mut String, notes: &mut String) -> Result<(), AllocError>
+    fn tell_line<M: TextMemory>(
+        &mut self,
+        memory: &M,
+        text: &mut String,
+        notes: &mut String,
+    ) -> Result<(), AllocError>
         ensures told { OnOk result
             ((line : List ℕ) → self.old.line ≡ kept_of line
             → AppendsLine self.old.machine self.new.machine self.old.number self.old.has_bad self.new.has_bad line (string_bytes text.old) (string_bytes text.new) (string_bytes notes.old) (string_bytes notes.new)) }
         ensures number { self.new.number ≡ self.old.number }
+        ensures granted { ((n : ℕ) → M.grants memory.now n) → IsOk result }
     {
-        match read_line(self.alloc, &self.line)? {
-            Some(step) => tell_step(self.alloc, &mut self.machine, &step, text),
+        match read_line(memory, self.alloc, &self.line)? {
+            Some(step) => tell_step(memory, self.alloc, &mut self.machine, &step, text),
             None if self.line.is_remark() => Ok(()),
             None => match read_question(&self.line) {
-                Some(question) => tell_shown(self.alloc, &self.machine, question, text),
+                Some(question) => tell_shown(memory, &self.machine, question, text),
                 None => {
                     self.has_bad = true;
-                    tell_bad(self.alloc, self.number, &self.line, text, notes)
+                    tell_bad(memory, self.alloc, self.number, &self.line, text, notes)
                 }
             },
         }
@@ -169,41 +238,45 @@ fn next_number(number: u64) -> u64
 }
 
 /// Makes a step, and appends its answer with the reason.
-fn tell_step(
+fn tell_step<M: TextMemory>(
+    memory: &M,
     alloc: Global,
     machine: &mut Machine,
     step: &Step,
     text: &mut String,
 ) -> Result<(), AllocError>
-    ensures { OnOk result
+    ensures told { OnOk result
         (TellsStep machine.old machine.new step.now (string_bytes text.old) (string_bytes text.new)) }
+    ensures granted { ((n : ℕ) → M.grants memory.now n) → IsOk result }
 {
     let why = ask(machine, step);
     let found = seek(machine, step);
-    let chosen = chosen_text(&alloc, alloc, machine.core(), step)?;
-    let answer = machine.step(*step);
-    push_answer(alloc, text, &answer)?;
-    push_reason(text, keep(&answer, why, found))?;
-    push_behind(&alloc, text, &chosen)?;
-    text.push_str("\n")
+    let chosen = chosen_text(memory, alloc, machine.core(), step)?;
+    let answer = machine.step_in(memory, *step);
+    push_answer_in(memory, text, &answer)?;
+    push_reason(memory, text, keep(&answer, why, found))?;
+    push_behind(memory, text, &chosen)?;
+    push_text(memory, text, "\n")
 }
 
 /// Appends what a question asks for.
-fn tell_shown(
-    alloc: Global,
+fn tell_shown<M: TextMemory>(
+    memory: &M,
     machine: &Machine,
     question: Question,
     text: &mut String,
 ) -> Result<(), AllocError>
-    ensures { OnOk result
+    ensures told { OnOk result
         (TellsShown machine.now question (string_bytes text.old) (string_bytes text.new)) }
+    ensures granted { ((n : ℕ) → M.grants memory.now n) → IsOk result }
 {
-    push_shown(alloc, text, machine, question)?;
-    text.push_str("\n")
+    push_shown(memory, text, machine, question)?;
+    push_text(memory, text, "\n")
 }
 
 /// Appends that a line is bad, to what is told and with its number and what is wrong with it to the notes.
-fn tell_bad(
+fn tell_bad<M: TextMemory>(
+    memory: &M,
     alloc: Global,
     number: u64,
     line: &KeptLine,
@@ -215,19 +288,37 @@ fn tell_bad(
     ensures noted { OnOk result
         ((bytes : List ℕ) → line.now ≡ kept_of bytes
         → string_bytes notes.new ≡ string_bytes notes.old ++ bad_note number bytes) }
+    ensures granted { ((n : ℕ) → M.grants memory.now n) → IsOk result }
 {
-    text.push_str("bad line\n")?;
-    write!(notes, "uring: line {number}: bad line: ")?;
-    note_flaw(alloc, line, notes)
+    push_text(memory, text, "bad line\n")?;
+    begin_note(memory, number, notes)?;
+    note_flaw(memory, alloc, line, notes)
+}
+
+/// Appends the beginning of the note on a bad line.
+fn begin_note<M: TextMemory>(memory: &M, number: u64, notes: &mut String) -> Result<(), AllocError>
+    ensures noted { OnOk result
+        (string_bytes notes.new
+        ≡ string_bytes notes.old ++ (codes "uring: line " ++ decimal number ++ codes ": bad line: ")) }
+    ensures granted { ((n : ℕ) → M.grants memory.now n) → IsOk result }
+{
+    push_named(memory, notes, "uring: line ", number)?;
+    push_text(memory, notes, ": bad line: ")
 }
 
 /// Appends what is wrong with a line, and the end of the note.
-fn note_flaw(alloc: Global, line: &KeptLine, notes: &mut String) -> Result<(), AllocError>
-    ensures { OnOk result
+fn note_flaw<M: TextMemory>(
+    memory: &M,
+    alloc: Global,
+    line: &KeptLine,
+    notes: &mut String,
+) -> Result<(), AllocError>
+    ensures noted { OnOk result
         ((bytes : List ℕ) → line.now ≡ kept_of bytes
         → string_bytes notes.new
         ≡ string_bytes notes.old ++ ended (line_flaw Language.Questions bytes)) }
+    ensures granted { ((n : ℕ) → M.grants memory.now n) → IsOk result }
 {
-    push_line_flaw(alloc, notes, line, Language::Questions)?;
-    notes.push_str("\n")
+    push_line_flaw_in(memory, alloc, notes, line, Language::Questions)?;
+    push_text(memory, notes, "\n")
 }

@@ -1,13 +1,13 @@
 //! The words for what is wrong with a bad line.
 
-ghost use Rattle.std.specs.Prelude.{◌≡◌, ◌≤◌, ◌++◌, ℕ, List, OnOk, length, map, option_map, string_bytes};
+ghost use Rattle.std.specs.Prelude.{◌≡◌, ◌≤◌, ◌++◌, ℕ, List, OnOk, IsOk, length, map, option_map, string_bytes};
 ghost use Rattle.uring_text.specs.KeptLine.{kept_of};
 ghost use Rattle.uring_trace.specs.Flaws.{is_alone, step_kinds, fill_reach, step_reach, shown_kinds, shown_reach, asked_reach, with_answer, line_reach, line_flaw};
 
 use std::alloc::{AllocError, Global};
 use uring_text::{
-    KeptLine, Kind, Place, Reach, entry_reach, is_name, is_of_kind, kinds_reach, push_flaw,
-    split_tokens,
+    KeptLine, Kind, Place, Reach, TextMemory, entry_reach, is_name, is_of_kind, kinds_reach,
+    push_flaw_in, push_text, split_tokens_in,
 };
 
 /// A language whose lines have steps.
@@ -34,29 +34,47 @@ pub fn push_line_flaw(
         ((bytes : List ℕ) → line.now ≡ kept_of bytes
         → string_bytes text.new ≡ string_bytes text.old ++ line_flaw language bytes) }
 {
+    push_line_flaw_in(&alloc, alloc, text, line, language)
+}
+
+/// As `push_line_flaw`, by this memory. If it grants whatever is asked for, there is no error.
+pub fn push_line_flaw_in<M: TextMemory>(
+    memory: &M,
+    alloc: Global,
+    text: &mut String,
+    line: &KeptLine,
+    language: Language,
+) -> Result<(), AllocError>
+    ensures bytes { OnOk result
+        ((bytes : List ℕ) → line.now ≡ kept_of bytes
+        → string_bytes text.new ≡ string_bytes text.old ++ line_flaw language bytes) }
+    ensures granted { ((n : ℕ) → M.grants memory.now n) → IsOk result }
+{
     match line.whole() {
-        Some(bytes) => push_short_flaw(alloc, text, bytes, language),
-        None => text.push_str("more than 300 bytes"),
+        Some(bytes) => push_short_flaw(memory, alloc, text, bytes, language),
+        None => push_text(memory, text, "more than 300 bytes"),
     }
 }
 
 /// Appends what is wrong with a line of at most 300 bytes.
-fn push_short_flaw(
+fn push_short_flaw<M: TextMemory>(
+    memory: &M,
     alloc: Global,
     text: &mut String,
     line: &[u8],
     language: Language,
 ) -> Result<(), AllocError>
     requires { length line.now ≤ 300 }
-    ensures { OnOk result
+    ensures bytes { OnOk result
         (string_bytes text.new ≡ string_bytes text.old ++ line_flaw language line.now) }
+    ensures granted { ((n : ℕ) → M.grants memory.now n) → IsOk result }
 {
     if line.is_empty() {
-        return text.push_str("an empty line");
+        return push_text(memory, text, "an empty line");
     }
-    let tokens = split_tokens(alloc, line)?;
+    let tokens = split_tokens_in(memory, alloc, line)?;
     let reach = line_reach(language, tokens.as_slice());
-    push_flaw(alloc, text, line, tokens.as_slice(), reach)
+    push_flaw_in(memory, text, line, tokens.as_slice(), reach)
 }
 
 /// How far tokens fit a line of a language.

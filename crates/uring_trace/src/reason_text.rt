@@ -1,14 +1,15 @@
 //! The reason of an answer, and its text.
 
-ghost use Rattle.std.specs.Prelude.{◌≡◌, ◌++◌, OnOk, string_bytes, codes, decimal};
+ghost use Rattle.std.specs.Prelude.{◌≡◌, ◌++◌, ℕ, OnOk, IsOk, string_bytes, codes, decimal};
 ghost use Rattle.uring_entry.specs.Texts.{fault_text};
 ghost use Rattle.uring_core.specs.Histories.{History, world};
 ghost use Rattle.uring_machine.specs.Machine.{Fits};
-ghost use Rattle.uring_trace.specs.Reasons.{asked, sought, end_reason, finding, standing, kept_reason, reason_text, why_text, found_text, doom_text, since_text};
+ghost use Rattle.uring_trace.specs.Reasons.{asked, sought, end_reason, finding, standing, kept_reason, reason_text, why_text, found_text, doom_text, since_text, numbered};
 
-use std::alloc::AllocError;
-use std::fmt::Write;
+use crate::answer_text::push_named;
+use std::alloc::{AllocError, Global};
 use uring_machine::{Answer, Doom, Fault, Found, Machine, Since, Step, Why};
+use uring_text::{TextMemory, push_number, push_text};
 
 /// The reason of an answer.
 #[derive(Clone, Copy, Debug, PartialEq, Eq)]
@@ -84,17 +85,22 @@ fn stands(why: Option<Why>) -> Option<Reason>
     }
 }
 
-/// Appends what stands behind an answer.
-pub(crate) fn push_reason(text: &mut String, reason: Option<Reason>) -> Result<(), AllocError>
-    ensures { OnOk result (string_bytes text.new ≡ string_bytes text.old ++ reason_text reason) }
+/// Appends what stands behind an answer, by this memory. If it grants whatever is asked for, there is no error.
+pub(crate) fn push_reason<M: TextMemory>(
+    memory: &M,
+    text: &mut String,
+    reason: Option<Reason>,
+) -> Result<(), AllocError>
+    ensures bytes { OnOk result (string_bytes text.new ≡ string_bytes text.old ++ reason_text reason) }
+    ensures granted { ((n : ℕ) → M.grants memory.now n) → IsOk result }
 {
     let Some(reason) = reason else {
         return Ok(());
     };
-    text.push_str("  # ")?;
+    push_text(memory, text, "  # ")?;
     match reason {
-        Reason::Stands(why) => push_why(text, why),
-        Reason::Finds(found) => push_found(text, found),
+        Reason::Stands(why) => push_why_in(memory, text, why),
+        Reason::Finds(found) => push_found_in(memory, text, found),
     }
 }
 
@@ -102,63 +108,116 @@ pub(crate) fn push_reason(text: &mut String, reason: Option<Reason>) -> Result<(
 pub fn push_found(text: &mut String, found: Found) -> Result<(), AllocError>
     ensures { OnOk result (string_bytes text.new ≡ string_bytes text.old ++ found_text found) }
 {
+    push_found_in(&Global, text, found)
+}
+
+/// The same by this memory. If it grants whatever is asked for, there is no error.
+pub fn push_found_in<M: TextMemory>(
+    memory: &M,
+    text: &mut String,
+    found: Found,
+) -> Result<(), AllocError>
+    ensures bytes { OnOk result (string_bytes text.new ≡ string_bytes text.old ++ found_text found) }
+    ensures granted { ((n : ℕ) → M.grants memory.now n) → IsOk result }
+{
     match found {
-        Found::Nobody => text.push_str("found none"),
-        Found::Running(m) => write!(text, "{m} is running"),
-        Found::Chosen(m) => write!(text, "chose {m}"),
+        Found::Nobody => push_text(memory, text, "found none"),
+        Found::Running(m) => push_numbered(memory, text, m, " is running"),
+        Found::Chosen(m) => push_named(memory, text, "chose ", m),
     }
+}
+
+/// Appends a number and what is said of it.
+fn push_numbered<M: TextMemory>(
+    memory: &M,
+    text: &mut String,
+    number: u64,
+    said: &str,
+) -> Result<(), AllocError>
+    ensures bytes { OnOk result
+        (string_bytes text.new ≡ string_bytes text.old ++ numbered number said.now) }
+    ensures granted { ((n : ℕ) → M.grants memory.now n) → IsOk result }
+{
+    push_number(memory, text, number)?;
+    push_text(memory, text, said)
 }
 
 /// Appends why a request stands as it does, as behind an answer of `explain`.
 pub fn push_why(text: &mut String, why: Why) -> Result<(), AllocError>
     ensures { OnOk result (string_bytes text.new ≡ string_bytes text.old ++ why_text why) }
 {
+    let memory = *text.allocator();
+    push_why_in(&memory, text, why)
+}
+
+/// As `push_why`, by this memory. If it grants whatever is asked for, there is no error.
+pub fn push_why_in<M: TextMemory>(memory: &M, text: &mut String, why: Why) -> Result<(), AllocError>
+    ensures bytes { OnOk result (string_bytes text.new ≡ string_bytes text.old ++ why_text why) }
+    ensures granted { ((n : ℕ) → M.grants memory.now n) → IsOk result }
+{
     match why {
-        Why::NeverAccepted => text.push_str("never accepted"),
-        Why::HasEnded => text.push_str("has ended"),
-        Why::Runs => text.push_str("runs"),
-        Why::IsDoomed(doom) => push_doomed(text, doom),
-        Why::Waits { least, since } => push_wait(text, least, since),
-        Why::MayStart => text.push_str("waits for nobody"),
+        Why::NeverAccepted => push_text(memory, text, "never accepted"),
+        Why::HasEnded => push_text(memory, text, "has ended"),
+        Why::Runs => push_text(memory, text, "runs"),
+        Why::IsDoomed(doom) => push_doomed(memory, text, doom),
+        Why::Waits { least, since } => push_wait(memory, text, least, since),
+        Why::MayStart => push_text(memory, text, "waits for nobody"),
     }
 }
 
 /// Appends that a request is doomed, and by what.
-fn push_doomed(text: &mut String, doom: Doom) -> Result<(), AllocError>
-    ensures { OnOk result
+fn push_doomed<M: TextMemory>(memory: &M, text: &mut String, doom: Doom) -> Result<(), AllocError>
+    ensures bytes { OnOk result
         (string_bytes text.new ≡ string_bytes text.old ++ (codes "doomed: " ++ doom_text doom)) }
+    ensures granted { ((n : ℕ) → M.grants memory.now n) → IsOk result }
 {
-    text.push_str("doomed: ")?;
-    push_doom(text, doom)
+    push_text(memory, text, "doomed: ")?;
+    push_doom(memory, text, doom)
 }
 
 /// Appends what dooms a request.
-fn push_doom(text: &mut String, doom: Doom) -> Result<(), AllocError>
-    ensures { OnOk result (string_bytes text.new ≡ string_bytes text.old ++ doom_text doom) }
+fn push_doom<M: TextMemory>(memory: &M, text: &mut String, doom: Doom) -> Result<(), AllocError>
+    ensures bytes { OnOk result (string_bytes text.new ≡ string_bytes text.old ++ doom_text doom) }
+    ensures granted { ((n : ℕ) → M.grants memory.now n) → IsOk result }
 {
     match doom {
-        Doom::OwnFault(fault) => push_fault(text, fault),
-        Doom::FaultOf(m) => write!(text, "{m} of its group has a fault"),
-        Doom::FailureOf(m) => write!(text, "{m} failed before it"),
-        Doom::Cancel => text.push_str("a cancel chose it"),
+        Doom::OwnFault(fault) => push_text(memory, text, fault_text(fault)),
+        Doom::FaultOf(m) => push_numbered(memory, text, m, " of its group has a fault"),
+        Doom::FailureOf(m) => push_numbered(memory, text, m, " failed before it"),
+        Doom::Cancel => push_text(memory, text, "a cancel chose it"),
     }
 }
 
-/// Appends a fault.
-fn push_fault(text: &mut String, fault: Fault) -> Result<(), AllocError>
-    ensures { OnOk result (string_bytes text.new ≡ string_bytes text.old ++ fault_text fault) }
+/// The text of a fault. Its `Display` has no form that says what memory is wanted.
+fn fault_text(fault: Fault) -> &'static str
+    ensures { result.now ≡ fault_text fault }
 {
-    write!(text, "{fault}")
+    match fault {
+        Fault::Flags => "a flag that is not served",
+        Fault::Opcode => "an operation that is not served",
+        Fault::Ioprio => "a priority",
+        Fault::OpFlags => "operation flags that are not served",
+        Fault::Reserved => "reserved bytes that are not zero",
+        Fault::Len => "a length above 64",
+        Fault::Off => "the offset of the file position",
+    }
 }
 
 /// Appends which request is waited for, and why.
-fn push_wait(text: &mut String, least: u64, since: Since) -> Result<(), AllocError>
-    ensures { OnOk result
+fn push_wait<M: TextMemory>(
+    memory: &M,
+    text: &mut String,
+    least: u64,
+    since: Since,
+) -> Result<(), AllocError>
+    ensures bytes { OnOk result
         (string_bytes text.new
         ≡ string_bytes text.old ++ (codes "waits for " ++ decimal least ++ codes ": " ++ since_text least since)) }
+    ensures granted { ((n : ℕ) → M.grants memory.now n) → IsOk result }
 {
-    write!(text, "waits for {least}: ")?;
-    push_since(text, least, since)
+    push_named(memory, text, "waits for ", least)?;
+    push_text(memory, text, ": ")?;
+    push_since_in(memory, text, least, since)
 }
 
 /// Appends why request `least` is waited for.
@@ -166,9 +225,24 @@ pub fn push_since(text: &mut String, least: u64, since: Since) -> Result<(), All
     ensures { OnOk result
         (string_bytes text.new ≡ string_bytes text.old ++ since_text least since) }
 {
+    let memory = *text.allocator();
+    push_since_in(&memory, text, least, since)
+}
+
+/// As `push_since`, by this memory. If it grants whatever is asked for, there is no error.
+pub fn push_since_in<M: TextMemory>(
+    memory: &M,
+    text: &mut String,
+    least: u64,
+    since: Since,
+) -> Result<(), AllocError>
+    ensures bytes { OnOk result
+        (string_bytes text.new ≡ string_bytes text.old ++ since_text least since) }
+    ensures granted { ((n : ℕ) → M.grants memory.now n) → IsOk result }
+{
     match since {
-        Since::SameGroup => text.push_str("a member of its group"),
-        Since::ItDrains => write!(text, "{least}'s group drains"),
-        Since::OwnDrains => text.push_str("its own group drains"),
+        Since::SameGroup => push_text(memory, text, "a member of its group"),
+        Since::ItDrains => push_numbered(memory, text, least, "'s group drains"),
+        Since::OwnDrains => push_text(memory, text, "its own group drains"),
     }
 }

@@ -1,42 +1,49 @@
 //! What is answered to a question.
 
-ghost use Rattle.std.specs.Prelude.{◌≡◌, ◌++◌, OnOk, string_bytes};
+ghost use Rattle.std.specs.Prelude.{◌≡◌, ◌++◌, ℕ, Some, OnOk, IsOk, string_bytes, codes, decimal};
 ghost use Rattle.uring_core.specs.Histories.{History, world};
 ghost use Rattle.uring_machine.specs.Machine.{Fits};
 ghost use Rattle.uring_trace.specs.Shown.{shown, counts_text, sizes_text, overflow_of, overflow_text, listed_text, file_text};
 
+use crate::answer_text::push_named;
 use crate::questions::Question;
-use crate::reason_text::push_why;
+use crate::reason_text::push_why_in;
 use crate::requests_text::push_requests;
-use std::alloc::{AllocError, Global};
-use std::fmt::Write;
+use std::alloc::AllocError;
 use uring_machine::{Counts, Cqe, FileState, Machine, Setup};
-use uring_text::push_completion;
+use uring_text::{TextMemory, push_completion_in, push_text};
 
-/// Appends what is answered to a question, without the end of its line.
-pub(crate) fn push_shown(
-    alloc: Global,
+/// Appends what is answered to a question, without the end of its line, by this memory. If it grants whatever is asked for, there is no error.
+pub(crate) fn push_shown<M: TextMemory>(
+    memory: &M,
     text: &mut String,
     machine: &Machine,
     question: Question,
 ) -> Result<(), AllocError>
-    ensures { OnOk result
+    ensures bytes { OnOk result
         ((h : History) → Fits machine.now h
         → string_bytes text.new ≡ string_bytes text.old ++ shown machine.now.core.setup (world machine.now.core.setup h) question) }
+    ensures granted { ((n : ℕ) → M.grants memory.now n) → IsOk result }
 {
     match question {
-        Question::Counts => push_counts(text, machine.counts()),
-        Question::Sizes => push_sizes(text, machine.setup()),
-        Question::Overflow => push_overflow(alloc, text, machine),
-        Question::Requests => push_requests(text, machine.core()),
-        Question::Why(number) => push_why(text, machine.why(number)),
-        Question::File(fd) => push_file(text, machine.state(fd)),
+        Question::Counts => push_counts(memory, text, machine.counts()),
+        Question::Sizes => push_sizes(memory, text, machine.setup()),
+        Question::Overflow => push_overflow(memory, text, machine),
+        Question::Requests => push_requests(memory, text, machine.core()),
+        Question::Why(number) => push_why_in(memory, text, machine.why(number)),
+        Question::File(fd) => push_file(memory, text, machine.state(fd)),
     }
 }
 
 /// Appends the counts of requests and completions.
-fn push_counts(text: &mut String, counts: Counts) -> Result<(), AllocError>
-    ensures { OnOk result (string_bytes text.new ≡ string_bytes text.old ++ counts_text counts) }
+fn push_counts<M: TextMemory>(
+    memory: &M,
+    text: &mut String,
+    counts: Counts,
+) -> Result<(), AllocError>
+    ensures bytes { OnOk result
+        (string_bytes text.new ≡ string_bytes text.old ++ counts_text counts) }
+    ensures granted { ((n : ℕ) → M.grants memory.now n) → IsOk result }
 {
     let Counts {
         accepted,
@@ -45,61 +52,103 @@ fn push_counts(text: &mut String, counts: Counts) -> Result<(), AllocError>
         posted,
         reaped,
     } = counts;
-    write!(text, "accepted {accepted} outstanding {outstanding}")?;
-    write!(text, " running {running} posted {posted} reaped {reaped}")
+    push_named(memory, text, "accepted ", accepted)?;
+    push_named(memory, text, " outstanding ", outstanding)?;
+    push_named(memory, text, " running ", running)?;
+    push_posted(memory, text, posted, reaped)
+}
+
+/// Appends the counts of completions.
+fn push_posted<M: TextMemory>(
+    memory: &M,
+    text: &mut String,
+    posted: u64,
+    reaped: u64,
+) -> Result<(), AllocError>
+    ensures bytes { OnOk result
+        (string_bytes text.new
+        ≡ string_bytes text.old ++ (codes " posted " ++ decimal posted ++ codes " reaped " ++ decimal reaped)) }
+    ensures granted { ((n : ℕ) → M.grants memory.now n) → IsOk result }
+{
+    push_named(memory, text, " posted ", posted)?;
+    push_named(memory, text, " reaped ", reaped)
 }
 
 /// Appends the sizes of a set-up.
-fn push_sizes(text: &mut String, setup: Setup) -> Result<(), AllocError>
-    ensures { OnOk result (string_bytes text.new ≡ string_bytes text.old ++ sizes_text setup) }
+fn push_sizes<M: TextMemory>(memory: &M, text: &mut String, setup: Setup) -> Result<(), AllocError>
+    ensures bytes { OnOk result (string_bytes text.new ≡ string_bytes text.old ++ sizes_text setup) }
+    ensures granted { ((n : ℕ) → M.grants memory.now n) → IsOk result }
 {
-    let sq = setup.sq();
-    let cq = setup.cq();
-    let files = setup.files();
-    let start = setup.start();
-    write!(text, "sq {sq} cq {cq} files {files} start {start}")
+    push_named(memory, text, "sq ", u64::from(setup.sq()))?;
+    push_named(memory, text, " cq ", u64::from(setup.cq()))?;
+    push_named(memory, text, " files ", u64::from(setup.files()))?;
+    push_named(memory, text, " start ", u64::from(setup.start()))
 }
 
 /// Appends the completions that wait in the overflow list.
-fn push_overflow(alloc: Global, text: &mut String, machine: &Machine) -> Result<(), AllocError>
-    ensures { OnOk result
+fn push_overflow<M: TextMemory>(
+    memory: &M,
+    text: &mut String,
+    machine: &Machine,
+) -> Result<(), AllocError>
+    ensures bytes { OnOk result
         ((h : History) → Fits machine.now h
         → string_bytes text.new ≡ string_bytes text.old ++ overflow_text (overflow_of (world machine.now.core.setup h).completions)) }
+    ensures granted { ((n : ℕ) → M.grants memory.now n) → IsOk result }
 {
     let count = machine.overflowing();
-    write!(text, "overflow {count}")?;
+    push_named(memory, text, "overflow ", count)?;
     for place in 0..count {
-        push_listed(alloc, text, machine.overflow(place))?;
+        push_listed(memory, text, machine.overflow(place))?;
     }
     Ok(())
 }
 
 /// Appends a completion behind a comma and a space, if there is one.
-fn push_listed(alloc: Global, text: &mut String, completion: Option<Cqe>) -> Result<(), AllocError>
-    ensures { OnOk result
+fn push_listed<M: TextMemory>(
+    memory: &M,
+    text: &mut String,
+    completion: Option<Cqe>,
+) -> Result<(), AllocError>
+    ensures bytes { OnOk result
         (string_bytes text.new ≡ string_bytes text.old ++ listed_text completion) }
+    ensures granted { ((n : ℕ) → M.grants memory.now n) → IsOk result }
 {
     match completion {
         Some(completion) => {
-            text.push_str(", ")?;
-            push_completion(alloc, text, &completion)
+            push_text(memory, text, ", ")?;
+            push_completion_in(memory, text, &completion)
         }
         None => Ok(()),
     }
 }
 
 /// Appends how a file stands.
-fn push_file(text: &mut String, state: Option<FileState>) -> Result<(), AllocError>
-    ensures { OnOk result (string_bytes text.new ≡ string_bytes text.old ++ file_text state) }
+fn push_file<M: TextMemory>(
+    memory: &M,
+    text: &mut String,
+    state: Option<FileState>,
+) -> Result<(), AllocError>
+    ensures bytes { OnOk result (string_bytes text.new ≡ string_bytes text.old ++ file_text state) }
+    ensures granted { ((n : ℕ) → M.grants memory.now n) → IsOk result }
 {
     match state {
-        Some(
-            FileState {
-                len,
-                writes,
-                synced,
-            },
-        ) => write!(text, "len {len} writes {writes} synced {synced}"),
-        None => text.push_str("no file"),
+        Some(state) => push_state(memory, text, state),
+        None => push_text(memory, text, "no file"),
     }
+}
+
+/// Appends how a file that there is stands.
+fn push_state<M: TextMemory>(
+    memory: &M,
+    text: &mut String,
+    state: FileState,
+) -> Result<(), AllocError>
+    ensures bytes { OnOk result
+        (string_bytes text.new ≡ string_bytes text.old ++ file_text (Some state)) }
+    ensures granted { ((n : ℕ) → M.grants memory.now n) → IsOk result }
+{
+    push_named(memory, text, "len ", u64::from(state.len))?;
+    push_named(memory, text, " writes ", state.writes)?;
+    push_named(memory, text, " synced ", state.synced)
 }

@@ -1,6 +1,6 @@
 //! The lines that are steps.
 
-ghost use Rattle.std.specs.Prelude.{◌≡◌, ◌≤◌, ◌^◌, ℕ, List, IfOk, MatchOption, length, map};
+ghost use Rattle.std.specs.Prelude.{◌≡◌, ◌≤◌, ◌^◌, ℕ, List, IfOk, IsOk, MatchOption, length, map};
 ghost use Rattle.uring_text.specs.KeptLine.{kept_of};
 ghost use Rattle.uring_trace.specs.Spelling.{IsStep, IsBad};
 ghost use Rattle.uring_text.specs.Reading.{form_of, number_of};
@@ -8,16 +8,22 @@ ghost use Rattle.uring_trace.specs.Reading.{ReadsStep, ReadsFill, step_of_one, s
 
 use std::alloc::{AllocError, Global};
 use uring_machine::Step;
-use uring_text::{KeptLine, is_name, spelled_entry, spelled_long, spelled_number, split_tokens};
+use uring_memory::Memory;
+use uring_text::{KeptLine, is_name, spelled_entry, spelled_long, spelled_number, split_tokens_in};
 
-/// The step that a line is, if it is one. A line of more than 300 bytes is none.
-pub(crate) fn read_line(alloc: Global, line: &KeptLine) -> Result<Option<Step>, AllocError>
-    ensures { IfOk result
+/// The step that a line is, if it is one, by this memory. A line of more than 300 bytes is none. If the memory grants whatever is asked for, there is no error.
+pub(crate) fn read_line<M: Memory>(
+    memory: &M,
+    alloc: Global,
+    line: &KeptLine,
+) -> Result<Option<Step>, AllocError>
+    ensures step { IfOk result
         (λ read. (bytes : List ℕ) → line.now ≡ kept_of bytes
         → MatchOption read (IsBad bytes) (IsStep bytes)) }
+    ensures granted { ((n : ℕ) → M.grants memory.now n) → IsOk result }
 {
     match line.whole() {
-        Some(bytes) => read_step(alloc, bytes),
+        Some(bytes) => read_step_in(memory, alloc, bytes),
         None => Ok(None),
     }
 }
@@ -27,7 +33,20 @@ pub fn read_step(alloc: Global, line: &[u8]) -> Result<Option<Step>, AllocError>
     requires { length line.now ≤ 300 }
     ensures { IfOk result (λ read. MatchOption read (IsBad line.now) (IsStep line.now)) }
 {
-    let tokens = split_tokens(alloc, line)?;
+    read_step_in(&alloc, alloc, line)
+}
+
+/// As `read_step`, by this memory. If it grants whatever is asked for, there is no error.
+pub fn read_step_in<M: Memory>(
+    memory: &M,
+    alloc: Global,
+    line: &[u8],
+) -> Result<Option<Step>, AllocError>
+    requires { length line.now ≤ 300 }
+    ensures step { IfOk result (λ read. MatchOption read (IsBad line.now) (IsStep line.now)) }
+    ensures granted { ((n : ℕ) → M.grants memory.now n) → IsOk result }
+{
+    let tokens = split_tokens_in(memory, alloc, line)?;
     Ok(read_words(tokens.as_slice()))
 }
 

@@ -9,7 +9,7 @@ use Rattle.uring_trace.proofs.requests_text.push_requests.Given as goal
 
 -- the requests so far
 abbrev pub invariant-loop-number : goal.invariant-loop-number
-invariant-loop-number l =
+invariant-loop-number g l =
     (h : History) → FitsApart l.fn.core h
     → string_bytes l.text
     ≡ string_bytes l.fn.text ++ codes "requests " ++ decimal (outstanding_in (world l.fn.core.setup h).requests) ++ rows_below (world l.fn.core.setup h).requests l.number

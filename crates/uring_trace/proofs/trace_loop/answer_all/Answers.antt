@@ -4,23 +4,23 @@ use Rattle.uring_trace.proofs.Traces.{at_start, all_read, goes_on, not_answered,
 use Rattle.uring_trace.proofs.trace_loop.answer_all.Goals as goal
 
 pub loop-alloc-init : goal.loop-alloc-init
-loop-alloc-init g c = λ manner h. at_start manner _ _ c.args.session.now h
+loop-alloc-init g c = λ manner sure h. at_start manner _ _ c.args.session.now h
 
 pub returns-in-Ok-eq0-clause-lines : goal.returns-in-Ok-eq0-clause-lines
-returns-in-Ok-eq0-clause-lines g c = λ manner h.
+returns-in-Ok-eq0-clause-lines g c = λ manner sure h.
     let none_is : c.in-Ok-eq0.field-0 ≡ 0 = search rules in
     let read : Consumes (g.R.Read.remaining c.loop-alloc.reader) (g.R.Read.remaining c.read_once.new.reader) [] =
     subst (λ (n : ℕ). Consumes (g.R.Read.remaining c.loop-alloc.reader) (g.R.Read.remaining c.read_once.new.reader) (take n c.read_once.new.buf)) none_is c.in-Ok-eq0.ensures.bytes.0 in
-    all_read manner _ _ _ _ _ _ _ c.loop-alloc.session read (c.in-Ok-eq0.ensures.bytes.1 none_is (search rules)) (c.answer_last.ensures.lines manner) (c.loop-alloc.invariant manner h)
+    all_read manner _ _ _ _ _ _ _ c.loop-alloc.session read (c.in-Ok-eq0.ensures.bytes.1 none_is (search rules)) (c.answer_last.ensures.lines manner sure) (c.loop-alloc.invariant manner sure h)
 
 pub loop-alloc-preserved-in-Continue-1 : goal.loop-alloc-preserved-in-Continue-1
-loop-alloc-preserved-in-Continue-1 g c = λ manner h. goes_on manner _ _ _ _ _ _ c.loop-alloc.session c.answer.new.session _ c.in-Ok.ensures.bytes.0 (c.in_ok-answer-in-Ok.ensures.lines manner) (c.loop-alloc.invariant manner h)
+loop-alloc-preserved-in-Continue-1 g c = λ manner sure h. goes_on manner _ _ _ _ _ _ c.loop-alloc.session c.answer.new.session _ c.in-Ok.ensures.bytes.0 (c.in_ok-answer-in-Ok.ensures.lines manner sure) (c.loop-alloc.invariant manner sure h)
 
 pub returns-in_err-answer-in-Ok-clause-lines : goal.returns-in_err-answer-in-Ok-clause-lines
-returns-in_err-answer-in-Ok-clause-lines g c = λ manner h. not_answered manner _ _ _ _ _ _ _ _ c.loop-alloc.session _ (search rules) c.in-Ok.ensures.bytes.0 (c.in_err-answer-in-Ok.ensures.lines manner) (c.loop-alloc.invariant manner h)
+returns-in_err-answer-in-Ok-clause-lines g c = λ manner sure h. not_answered manner _ _ _ _ _ _ _ _ c.loop-alloc.session _ (search rules) c.in-Ok.ensures.bytes.0 (c.in_err-answer-in-Ok.ensures.lines manner sure) (c.loop-alloc.invariant manner sure h)
 
 pub loop-alloc-preserved : goal.loop-alloc-preserved
-loop-alloc-preserved g c = λ manner h. tried_again manner _ _ _ _ _ c.loop-alloc.session c.in-Err.ensures.bytes (c.loop-alloc.invariant manner h)
+loop-alloc-preserved g c = λ manner sure h. tried_again manner _ _ _ _ _ c.loop-alloc.session c.in-Err.ensures.bytes (c.loop-alloc.invariant manner sure h)
 
 pub returns-clause-lines : goal.returns-clause-lines
-returns-clause-lines g c = λ manner h. read_failed manner _ _ _ _ _ c.loop-alloc.session (search rules) (c.loop-alloc.invariant manner h)
+returns-clause-lines g c = λ manner sure h. read_failed manner _ _ _ _ _ c.loop-alloc.session (search rules) (c.loop-alloc.invariant manner sure h)

@@ -4,15 +4,15 @@ use Rattle.uring_trace.specs.Sessions.{Has}
 use Rattle.uring_trace.proofs.session.Session.feed.Goals as goal
 
 pub loop-byte-preserved : goal.loop-byte-preserved
-loop-byte-preserved c = λ manner before told h.
+loop-byte-preserved g c = λ manner sure before told h.
     let bytes : List ℕ = c.args.bytes.now in
     let i : ℕ = c.loop-byte.byte-index in
-    let more = c.in_ok-take.ensures.ok manner (before ++ take i bytes) told (c.loop-byte.invariant manner before told h) in
+    let more = c.in_ok-take.ensures.ok manner sure (before ++ take i bytes) told (c.loop-byte.invariant manner sure before told h) in
     let lt : i < length bytes = search rules in
     let next : take (i + 1) bytes ≡ take i bytes ++ get_or bytes i 0 ∷ [] = take_more bytes i 0 lt in
     subst (λ (l : List ℕ). Has manner c.take.new.self l (told ++ c.take.new.text.items)) (append_assoc before (take i bytes) (get_or bytes i 0 ∷ []) ∙ ap (λ (l : List ℕ). before ++ l) (sym next)) more
 
 pub returns-clause-ok : goal.returns-clause-ok
-returns-clause-ok c = λ manner before told h.
+returns-clause-ok g c = λ manner sure before told h.
     let whole : take c.loop-byte.byte-index c.args.bytes.now ≡ c.args.bytes.now = take_all c.loop-byte.byte-index c.args.bytes.now (omega (arith, c.loop-byte-test.false)) in
-    rw whole at (c.loop-byte.invariant manner before told h)
+    rw whole at (c.loop-byte.invariant manner sure before told h)

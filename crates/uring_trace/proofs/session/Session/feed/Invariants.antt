@@ -1,9 +1,9 @@
 use Rattle.std.proofs.Common.{ℕ, List, ◌++◌, take}
 use Rattle.uring_trace.specs.Exchanges.{Manner}
-use Rattle.uring_trace.specs.Sessions.{Has}
+use Rattle.uring_trace.specs.Sessions.{Has, IsGranted}
 use Rattle.uring_trace.proofs.session.Session.feed.Given as goal
 
 -- what was to be shown, as far as the loop has come
 abbrev pub invariant-loop-byte : goal.invariant-loop-byte
-invariant-loop-byte l =
-    (manner : Manner) (before told : List ℕ) → Has manner l.initial.self before (told ++ l.initial.text.items) → Has manner l.self (before ++ take l.byte-index l.bytes) (told ++ l.text.items)
+invariant-loop-byte g l =
+    (manner : Manner) → IsGranted manner ((n : ℕ) → g.M.Memory.grants l.memory n) → (before told : List ℕ) → Has manner l.initial.self before (told ++ l.initial.text.items) → Has manner l.self (before ++ take l.byte-index l.bytes) (told ++ l.text.items)

@@ -2,10 +2,10 @@ use Rattle.std.proofs.Common.{◌≡◌, ◌<◌, ◌+◌, ℕ, List, [], ◌∷
 use Rattle.std.proofs.lemmas.List.{take_more}
 use Rattle.std.specs.Prelude.{string_bytes}
 use Rattle.uring_trace.specs.Explaining.{HasTold}
-use Rattle.uring_trace.proofs.explainer.Explainer.feed.Goals as goal
+use Rattle.uring_trace.proofs.explainer.Explainer.feed_in.Goals as goal
 
 pub loop-byte-preserved : goal.loop-byte-preserved
-loop-byte-preserved c = λ setup before told noted h.
+loop-byte-preserved g c = λ setup before told noted h.
     let bytes : List ℕ = c.args.bytes.now in
     let i : ℕ = c.loop-byte.byte-index in
     let more = c.in_ok-take.ensures.ok setup (before ++ take i bytes) told noted (c.loop-byte.invariant setup before told noted h) in

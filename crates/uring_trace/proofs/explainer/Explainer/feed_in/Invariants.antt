@@ -2,10 +2,10 @@ use Rattle.std.proofs.Common.{ℕ, List, ◌++◌, take}
 use Rattle.std.specs.Prelude.{string_bytes}
 use Rattle.uring_entry.specs.Setup.{Setup}
 use Rattle.uring_trace.specs.Explaining.{HasTold}
-use Rattle.uring_trace.proofs.explainer.Explainer.feed.Given as goal
+use Rattle.uring_trace.proofs.explainer.Explainer.feed_in.Given as goal
 
 -- what was to be shown, as far as the loop has come
 abbrev pub invariant-loop-byte : goal.invariant-loop-byte
-invariant-loop-byte l =
+invariant-loop-byte g l =
     (setup : Setup) (before told noted : List ℕ) → HasTold setup l.initial.self before (told ++ string_bytes l.initial.text) (noted ++ string_bytes l.initial.notes)
     → HasTold setup l.self (before ++ take l.byte-index l.bytes) (told ++ string_bytes l.text) (noted ++ string_bytes l.notes)

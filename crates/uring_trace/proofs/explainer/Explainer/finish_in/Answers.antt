@@ -2,12 +2,12 @@ use Rattle.std.proofs.Common.{◌≡◌, [], ℕ, List, false, refl}
 use Rattle.std.specs.Prelude.{IsTrue}
 use Rattle.uring_text.specs.KeptLine.{kept_of}
 use Rattle.uring_trace.proofs.ExplainLines.{explain_last, explain_none}
-use Rattle.uring_trace.proofs.explainer.Explainer.finish.Goals as goal
+use Rattle.uring_trace.proofs.explainer.Explainer.finish_in.Goals as goal
 
 pub returns-then-is_empty-clause-ok : goal.returns-then-is_empty-clause-ok
-returns-then-is_empty-clause-ok c = λ setup before told noted h. explain_none setup _ _ _ _ before _ _ (λ line e. (c.if-is_empty.ensures line e).0 refl) h
+returns-then-is_empty-clause-ok g c = λ setup before told noted h. explain_none setup _ _ _ _ before _ _ (λ line e. (c.if-is_empty.ensures line e).0 refl) h
 
 pub returns-clause-ok : goal.returns-clause-ok
-returns-clause-ok c =
+returns-clause-ok g c =
     let some : (line : List ℕ) → c.args.self.now.line ≡ kept_of line → line ≡ [] → ⊥ = λ line e none. let is : IsTrue false = (c.if-is_empty.ensures line e).1 none in absurd cc in
     λ setup before told noted h. explain_last setup _ _ _ _ _ _ before told _ _ noted _ _ some c.in_ok-tell_line.ensures.told h
