@@ -7,7 +7,7 @@ ghost use Rattle.uring_machine.specs.Machine.{Fits};
 ghost use Rattle.uring_trace.specs.Reasons.{asked, sought, end_reason, finding, standing, kept_reason, reason_text, why_text, found_text, doom_text, since_text, numbered};
 
 use crate::answer_text::push_named;
-use std::alloc::{AllocError, Global};
+use std::alloc::AllocError;
 use uring_machine::{Answer, Doom, Fault, Found, Machine, Since, Step, Why};
 use uring_text::{TextMemory, push_number, push_text};
 
@@ -108,10 +108,11 @@ pub(crate) fn push_reason<M: TextMemory>(
 pub fn push_found(text: &mut String, found: Found) -> Result<(), AllocError>
     ensures { OnOk result (string_bytes text.new ≡ string_bytes text.old ++ found_text found) }
 {
-    push_found_in(&Global, text, found)
+    let memory = *text.allocator();
+    push_found_in(&memory, text, found)
 }
 
-/// The same by this memory. If it grants whatever is asked for, there is no error.
+/// As `push_found`, by this memory. If it grants whatever is asked for, there is no error.
 pub fn push_found_in<M: TextMemory>(
     memory: &M,
     text: &mut String,
