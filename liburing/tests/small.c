@@ -1,5 +1,6 @@
-/* A small program of a seed: one or two submissions of two to four requests in all, of which some are linked, drain, skip
- * success, fail, cancel others or meet in a file and in memory. It prints all that it sees. For runs of every order.
+/* A small program of a seed: one or two submissions of one to four requests in all, of which some are linked, drain, skip
+ * success, fail, cancel others or meet in a file and in memory; under an even seed most move bytes and skip success. It prints
+ * all that it sees. For runs of every order.
  *
  *   small SEED
  */
@@ -18,6 +19,7 @@ static int file, appending, ends[2];
 static char bytes[24] = "abcdefghijklmnopqrstuvw";
 static struct __kernel_timespec times[4];
 static unsigned prepared;
+static int is_moving;   /* most move bytes and skip success */
 
 static unsigned roll(unsigned count)
 {
@@ -50,7 +52,7 @@ static void prepare_transfer(struct io_uring_sqe *entry, int is_write)
 static void prepare_operation(struct io_uring_sqe *entry)
 {
     struct __kernel_timespec *time = &times[prepared];
-    switch (roll(12)) {
+    switch (is_moving && roll(5) ? roll(6) : roll(12)) {
     case 0: case 1: case 2:
         prepare_transfer(entry, 1);
         break;
@@ -83,7 +85,7 @@ static void prepare(void)
     static const unsigned flags[10] = {IOSQE_IO_LINK, IOSQE_IO_LINK, IOSQE_IO_HARDLINK, IOSQE_IO_DRAIN, IOSQE_CQE_SKIP_SUCCESS, IOSQE_CQE_SKIP_SUCCESS | IOSQE_IO_LINK};
     struct io_uring_sqe *entry = io_uring_get_sqe(&ring);
     prepare_operation(entry);
-    io_uring_sqe_set_flags(entry, flags[roll(10)]);
+    io_uring_sqe_set_flags(entry, is_moving && roll(3) ? IOSQE_CQE_SKIP_SUCCESS : flags[roll(10)]);
     entry->user_data = prepared++;
 }
 
@@ -130,6 +132,7 @@ int main(int argc, char **argv)
 {
     struct io_uring_cqe *completion;
     state = argc > 1 ? strtoull(argv[1], NULL, 10) : 1;
+    is_moving = state % 2 == 0;
     file = memfd_create("small", 0);
     char path[64];
     snprintf(path, sizeof path, "/proc/self/fd/%d", file);
