@@ -340,10 +340,12 @@ void end_cancelled(struct ring *ring)
 {
     for (size_t i = 0; i < ring->requests.count;) {
         struct request *request = ring->requests.rows[i];
-        if (request->state == RUNS && request->is_cancelled)
+        if (request->state == RUNS && request->is_cancelled) {
+            record_break();
             finish_running(ring, request);
-        else
+        } else {
             i++;
+        }
     }
 }
 
