@@ -20,7 +20,9 @@ pub use chosen::chosen_text;
 pub use explain_loop::{explain, explain_in};
 pub use explainer::Explainer;
 pub use flaws::{Language, push_line_flaw, push_line_flaw_in};
-pub use reason_text::{push_found, push_found_in, push_since, push_since_in, push_why, push_why_in};
+pub use reason_text::{
+    push_found, push_found_in, push_since, push_since_in, push_why, push_why_in,
+};
 pub use step_lines::{read_step, read_step_in};
 pub use trace_loop::{trace, trace_in};
 pub use uring_text::TraceFault;
