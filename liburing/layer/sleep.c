@@ -1,5 +1,6 @@
-/* Sleeps by ppoll on the streams that running requests wait for and, if the process has other threads, on an eventfd
- * that is this sleeper's. It is made for one sleep, so that a ring keeps no descriptor for it.
+/* Sleeps by ppoll on the streams that running requests wait for, and on an eventfd that is this sleeper's. It is made for
+ * one sleep, so that a ring keeps no descriptor for it. A process with one thread has it too: another thread may have ended
+ * just now, and left a message.
  */
 #define _GNU_SOURCE
 #include "sleep.h"
@@ -85,14 +86,13 @@ int sleep_until(struct ring *ring, int64_t until, const sigset_t *signals)
     struct pollfd *polled = calloc(ring->requests.count + 1, sizeof *polled);
     if (!polled)
         return -ENOMEM;
-    bool has_others = has_threads();
     wake_sleepers(ring);
-    struct sleeper self = {.wake = has_others ? eventfd(0, EFD_CLOEXEC | EFD_NONBLOCK) : -1, .next = ring->sleepers};
+    struct sleeper self = {.wake = eventfd(0, EFD_CLOEXEC | EFD_NONBLOCK), .next = ring->sleepers};
     ring->sleepers = &self;
     nfds_t count = list_streams(ring, polled);
     polled[count++] = (struct pollfd){.fd = self.wake, .events = POLLIN};
     int64_t limit = until < 0 ? -1 : until > ring->now ? until - ring->now : 0;
-    bool is_nap = has_others && self.wake < 0 && (limit < 0 || limit > NAP);
+    bool is_nap = self.wake < 0 && (limit < 0 || limit > NAP);
     int64_t start = real_time();
     int result = poll_unlocked(ring, polled, count, is_nap ? NAP : limit, signals);
     leave(ring, &self);
