@@ -1,8 +1,8 @@
 //! The calls of a volume, made on the volume in a place. Each takes the volume out, and puts it back; its box doesn't move.
-ghost use Rattle.std.specs.Prelude.{◌≡◌, ◌↔◌, ℕ, ◌+◌, ◌<◌, ◌≤◌, ◌^◌, [], Some, IsSome, IfOk, IsOk, OnErr, IsSomeAnd, Err, length, if◌then◌else◌};
+ghost use Rattle.std.specs.Prelude.{◌≡◌, ◌↔◌, ℕ, ◌+◌, ◌<◌, ◌≤◌, ◌^◌, [], Some, IsSome, IfOk, IsOk, IfErr, OnErr, IsSomeAnd, Err, length, if◌then◌else◌};
 ghost use Rattle.uring_volume.specs.Images.{IsImage};
 ghost use Rattle.uring_volume.specs.Choices.{issued, named, has_safe, IsLeftBy};
-ghost use Rattle.uring_volume.specs.Volume.{with_event, with_write, with_sync, is_one_of, running_writes, running_syncs, IsShown};
+ghost use Rattle.uring_volume.specs.Volume.{with_event, with_write, with_sync, is_one_of, running_writes, running_syncs, IsShown, elements_to_begin};
 ghost use Rattle.uring_volume.specs.declared.event.Event.TheVariants.{WriteEnded, SyncEnded, SyncFailed};
 ghost use Rattle.uring_volume.specs.declared.volume.BeginError.TheVariants.{OutOfNumbers};
 ghost use Rattle.uring_c.specs.Places.{volume_in};
@@ -44,9 +44,10 @@ pub(crate) fn copied<M: Memory>(
 }
 
 impl VolumePlace {
-    /// Begins a write.
-    pub(crate) fn begin_write(
+    /// Begins a write, by this memory.
+    pub(crate) fn begin_write_in<M: Memory>(
         &mut self,
+        memory: &M,
         alloc: Global,
         off: u64,
         bytes: Vec<u8>,
@@ -59,17 +60,25 @@ impl VolumePlace {
         ensures kept { OnErr result (volume_in self.new ≡ volume_in self.old) }
         ensures numbers { IsSomeAnd (volume_in self.old)
             (λ v. (result ≡ Err OutOfNumbers) ↔ (v.next + 1 ≡ 2 ^ 64)) }
+        ensures granted { IsSomeAnd (volume_in self.old)
+            (λ v. (n : ℕ) → M.grants memory.now n → elements_to_begin v ≤ n
+            → IfErr result (λ error. error ≡ OutOfNumbers)) }
     {
         let Some(mut volume) = self.take(alloc) else {
             unreachable!()
         };
-        let begun = volume.begin_write(off, bytes);
+        let begun = volume.begin_write_in(memory, off, bytes);
         self.put(volume);
         begun
     }
 
-    /// Begins a sync of a range.
-    pub(crate) fn begin_sync(&mut self, alloc: Global, range: SyncRange) -> Result<u64, BeginError>
+    /// Begins a sync of a range, by this memory.
+    pub(crate) fn begin_sync_in<M: Memory>(
+        &mut self,
+        memory: &M,
+        alloc: Global,
+        range: SyncRange,
+    ) -> Result<u64, BeginError>
         requires { IsSome (volume_in self.old) }
         ensures begun { IsSomeAnd (volume_in self.old)
             (λ v. IfOk result
@@ -77,11 +86,14 @@ impl VolumePlace {
         ensures kept { OnErr result (volume_in self.new ≡ volume_in self.old) }
         ensures numbers { IsSomeAnd (volume_in self.old)
             (λ v. (result ≡ Err OutOfNumbers) ↔ (v.next + 1 ≡ 2 ^ 64)) }
+        ensures granted { IsSomeAnd (volume_in self.old)
+            (λ v. (n : ℕ) → M.grants memory.now n → elements_to_begin v ≤ n
+            → IfErr result (λ error. error ≡ OutOfNumbers)) }
     {
         let Some(mut volume) = self.take(alloc) else {
             unreachable!()
         };
-        let begun = volume.begin_sync(range);
+        let begun = volume.begin_sync_in(memory, range);
         self.put(volume);
         begun
     }
@@ -146,34 +158,45 @@ impl VolumePlace {
         is_safe
     }
 
-    /// The bytes that a read of the whole file shows. `AllocError`: out of memory.
-    pub(crate) fn contents(&mut self, alloc: Global) -> Result<Vec<u8>, AllocError>
+    /// The bytes that a read of the whole file shows, by this memory. `AllocError`: out of memory.
+    pub(crate) fn contents_in<M: Memory>(
+        &mut self,
+        memory: &M,
+        alloc: Global,
+    ) -> Result<Vec<u8>, AllocError>
         requires { IsSome (volume_in self.old) }
         ensures kept { volume_in self.new ≡ volume_in self.old }
         ensures shown { IsSomeAnd (volume_in self.old)
             (λ v. IfOk result (λ now. IsShown v.first v.history now.items)) }
+        ensures granted { ((n : ℕ) → M.grants memory.now n) → IsOk result }
     {
         let Some(volume) = self.take(alloc) else {
             unreachable!()
         };
-        let now = volume.contents(alloc);
+        let now = volume.contents_in(memory, alloc);
         self.put(volume);
         now
     }
 
-    /// The bytes that a crash leaves, by a choice. `AllocError`: out of memory.
-    pub(crate) fn crash(&mut self, alloc: Global, choice: &[u64]) -> Result<Vec<u8>, AllocError>
+    /// The bytes that a crash leaves, by a choice and by this memory. `AllocError`: out of memory.
+    pub(crate) fn crash_in<M: Memory>(
+        &mut self,
+        memory: &M,
+        alloc: Global,
+        choice: &[u64],
+    ) -> Result<Vec<u8>, AllocError>
         requires { IsSome (volume_in self.old) }
         ensures kept { volume_in self.new ≡ volume_in self.old }
         ensures image { IsSomeAnd (volume_in self.old)
             (λ v. IfOk result (λ now. IsImage v.unit v.first v.history now.items)) }
         ensures left { IsSomeAnd (volume_in self.old)
             (λ v. IfOk result (λ now. IsLeftBy v.unit v.first v.history choice.now now.items)) }
+        ensures granted { ((n : ℕ) → M.grants memory.now n) → IsOk result }
     {
         let Some(volume) = self.take(alloc) else {
             unreachable!()
         };
-        let now = volume.crash(alloc, choice);
+        let now = volume.crash_in(memory, alloc, choice);
         self.put(volume);
         now
     }

@@ -1,53 +1,22 @@
 //! The calls of a volume that C makes: `wulgach_volume_..` of the header.
 //!
 //! Each returns 0, or the negative of an error number: -9 (EBADF) exactly at an empty place.
-ghost use Rattle.std.specs.Prelude.{◌≡◌, ◌↔◌, ◌+◌, ◌≤◌, ◌^◌, [], Some, None, IsSome, IfSome, IfOk, IsSomeAnd, Err, pos, neg_ℤ, true, length};
+ghost use Rattle.std.specs.Prelude.{◌≡◌, ◌↔◌, ◌+◌, ◌≤◌, ◌^◌, [], Some, None, IsSome, IfSome, IsSomeAnd, pos, neg_ℤ, true, length};
 ghost use Rattle.uring_entry.specs.declared.errno.TheConstants.{EBADF, EFBIG, EINVAL, ENOENT, ENOMEM};
 ghost use Rattle.uring_volume.specs.Choices.{issued, named, has_safe};
 ghost use Rattle.uring_volume.specs.Volume.{with_event, with_write, with_sync, is_one_of, running_writes, running_syncs};
 ghost use Rattle.uring_volume.specs.declared.event.Event.TheVariants.{WriteEnded, SyncEnded, SyncFailed};
 ghost use Rattle.uring_volume.specs.declared.event.SyncRange.TheVariants.{Whole, Part};
-ghost use Rattle.uring_volume.specs.declared.volume.BeginError.TheVariants.{OutOfMemory, OutOfNumbers};
 ghost use Rattle.uring_c.specs.Places.{volume_in};
-ghost use Rattle.uring_c.specs.VolumeForms.{IsGiven, TellsContents, TellsCrash};
+ghost use Rattle.uring_c.specs.VolumeForms.{TellsContents, TellsCrash};
 
-use crate::volume_memory::volume_new_in;
+use crate::volume_memory::{
+    volume_begin_sync_in, volume_begin_write_in, volume_contents_in, volume_crash_in, volume_new_in,
+};
 use crate::volume_place::VolumePlace;
 use std::alloc::Global;
 use uring_entry::errno;
-use uring_volume::{BeginError, SyncRange};
-
-/// The first offset at which no write ends.
-const LIMIT: u64 = 1 << 63;
-
-/// Tells C how a write or a sync began.
-fn tell(begun: Result<u64, BeginError>, number: &mut u64) -> i32
-    ensures begun { IfOk begun (λ n. (result ≡ pos 0) × (number.new ≡ n)) }
-    ensures memory { begun ≡ Err OutOfMemory
-        → (result ≡ neg_ℤ ENOMEM) × (number.new ≡ number.old) }
-    ensures spent { begun ≡ Err OutOfNumbers
-        → (result ≡ neg_ℤ EINVAL) × (number.new ≡ number.old) }
-{
-    match begun {
-        Ok(n) => {
-            *number = n;
-            0
-        }
-        Err(BeginError::OutOfMemory) => -errno::ENOMEM,
-        Err(BeginError::OutOfNumbers) => -errno::EINVAL,
-    }
-}
-
-/// Gives C as many of these bytes as it has room for, and returns how many there are.
-fn give(now: &[u8], bytes: &mut [u8]) -> u64
-    ensures { IsGiven now.now bytes.old bytes.new result }
-{
-    let count = now.len().min(bytes.len());
-    for k in 0..count {
-        bytes[k] = now[k];
-    }
-    now.len() as u64
-}
+use uring_volume::SyncRange;
 
 /// Puts a new volume into a place, with units of so many bytes and these first bytes; what was there is freed. -22 (EINVAL) exactly if a unit has no byte; -12 (ENOMEM) if memory is refused. Then the place keeps what it had.
 #[unsafe(no_mangle)]
@@ -90,17 +59,7 @@ pub extern "C" fn wulgach_volume_begin_write(
         (λ v. (number.new ≡ v.next)
         × (volume_in place.new ≡ Some (with_write off bytes.now v))) }
 {
-    if !place.is_full {
-        return -errno::EBADF;
-    }
-    let len = bytes.len() as u64;
-    if len >= LIMIT || off >= LIMIT - len {
-        return -errno::EFBIG;
-    }
-    let Ok(copy) = bytes.to_vec(alloc) else {
-        return -errno::ENOMEM;
-    };
-    tell(place.begin_write(alloc, off, copy), number)
+    volume_begin_write_in(&alloc, alloc, place, off, bytes, number)
 }
 
 /// Begins a sync of the whole file, and writes its number. -22 (EINVAL) only if the numbers are used up; -12 (ENOMEM) if memory is refused. A refusal changes nothing.
@@ -121,10 +80,7 @@ pub extern "C" fn wulgach_volume_begin_sync(
         → IsSomeAnd (volume_in place.old)
         (λ v. (number.new ≡ v.next) × (volume_in place.new ≡ Some (with_sync Whole v))) }
 {
-    if !place.is_full {
-        return -errno::EBADF;
-    }
-    tell(place.begin_sync(alloc, SyncRange::Whole), number)
+    volume_begin_sync_in(&alloc, alloc, place, SyncRange::Whole, number)
 }
 
 /// Begins a sync of so many bytes from an offset on, and writes its number. -22 (EINVAL) only if the numbers are used up; -12 (ENOMEM) if memory is refused. A refusal changes nothing.
@@ -147,13 +103,7 @@ pub extern "C" fn wulgach_volume_begin_range_sync(
         → IsSomeAnd (volume_in place.old)
         (λ v. (number.new ≡ v.next) × (volume_in place.new ≡ Some (with_sync (Part off len) v))) }
 {
-    if !place.is_full {
-        return -errno::EBADF;
-    }
-    tell(
-        place.begin_sync(alloc, SyncRange::Part { off, len }),
-        number,
-    )
+    volume_begin_sync_in(&alloc, alloc, place, SyncRange::Part { off, len }, number)
 }
 
 /// Ends a running write. -2 (ENOENT) exactly if no write of this number runs; then nothing changes.
@@ -271,14 +221,7 @@ pub extern "C" fn wulgach_volume_contents(
     ensures told { result ≡ pos 0
         → IsSomeAnd (volume_in place.old) (λ v. TellsContents v bytes.old bytes.new len.new) }
 {
-    if !place.is_full {
-        return -errno::EBADF;
-    }
-    let Ok(now) = place.contents(alloc) else {
-        return -errno::ENOMEM;
-    };
-    *len = give(&now, bytes);
-    0
+    volume_contents_in(&alloc, alloc, place, bytes, len)
 }
 
 /// Writes the bytes that a crash leaves, by a choice, as many as there is room for, and how many there are. The volume stays as it is. -12 (ENOMEM) if memory is refused. A refusal writes nothing.
@@ -298,14 +241,7 @@ pub extern "C" fn wulgach_volume_crash(
         → IsSomeAnd (volume_in place.old)
         (λ v. TellsCrash v choice.now bytes.old bytes.new len.new) }
 {
-    if !place.is_full {
-        return -errno::EBADF;
-    }
-    let Ok(now) = place.crash(alloc, choice) else {
-        return -errno::ENOMEM;
-    };
-    *len = give(&now, bytes);
-    0
+    volume_crash_in(&alloc, alloc, place, choice, bytes, len)
 }
 
 /// Frees the volume of a place, which is empty from then on.
