@@ -3,11 +3,13 @@
 
 mod fault;
 mod outlet;
+mod paged;
 mod strict;
 mod telling;
 
 use crate::fault::Fault;
 use crate::outlet::Outlet;
+use crate::paged::{run_page, run_recorded_page};
 use crate::strict::StrictReader;
 use crate::telling::tell;
 use std::alloc::{AllocError, Global};
@@ -18,6 +20,7 @@ use std::sync::Wait;
 use std::thread::Threads;
 use uring_check::{Verdict, check};
 use uring_options::{Options, Setup, not_text, options};
+use uring_page::Form;
 use uring_pictures::{graph, timeline};
 use uring_play::{play, play_shared};
 use uring_trace::{TraceFault, explain, trace};
@@ -78,6 +81,10 @@ fn run<R: Threads + Wait + Copy + Send + 'static>(
         Options::Explain(setup) => run_explain(rt, &setup),
         Options::Graph(setup) => run_graph(rt, &setup),
         Options::Timeline(setup) => run_timeline(rt, &setup),
+        Options::Page(setup) => run_page(rt, &setup, Form::Page),
+        Options::Json(setup) => run_page(rt, &setup, Form::Json),
+        Options::CheckPage(setup) => run_recorded_page(rt, &setup, Form::Page),
+        Options::CheckJson(setup) => run_recorded_page(rt, &setup, Form::Json),
     }
 }
 

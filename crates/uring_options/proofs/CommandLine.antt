@@ -1,5 +1,5 @@
 -- What the words ask for, as clap's matches say.
-use Rattle.std.proofs.Common.{◌≡◌, ◌∙◌, ℕ, Bool, true, false, List, Option, Some, None, refl, sym, ap, subst}
+use Rattle.std.proofs.Common.{◌≡◌, ◌∙◌, ◌||◌, ℕ, Bool, true, false, List, Option, Some, None, refl, sym, ap, subst}
 use Rattle.std.specs.Prelude.{codes, option_map, if◌then◌else◌}
 use Rattle.clap.specs.Walk.{Row, Text}
 use Rattle.clap.specs.Matches.{subcommand_name_of}
@@ -8,8 +8,8 @@ use Rattle.clap.specs.declared.parser.matches.ArgMatches.{ArgMatches}
 use Rattle.clap.specs.declared.parser.matches.ArgMatches.TheViews.{out-ArgMatches}
 use Rattle.uring_entry.specs.Setup.{Setup}
 use Rattle.uring_options.specs.declared.answers.Options.{Options}
-use Rattle.uring_options.specs.declared.answers.Options.TheVariants.{Explain, Graph, Timeline, Play, Shared}
-use Rattle.uring_options.specs.CommandLine.{uring, Explains, Plays, Numbers, IsGiven, AreWorkers, IsSetupOver, IsTracedOver, IsRunOver}
+use Rattle.uring_options.specs.declared.answers.Options.TheVariants.{Explain, Graph, Timeline, Page, Json, Check, CheckPage, CheckJson, Play, Shared}
+use Rattle.uring_options.specs.CommandLine.{uring, Explains, Checks, Plays, Numbers, IsGiven, AreWorkers, IsSetupOver, IsTracedOver, IsRunOver}
 use Rattle.uring_options.proofs.CommandOptions.{uring_is_simple}
 
 -- ---- the command
@@ -55,17 +55,39 @@ traced_over rows n s t over stops given is =
     (subst (IsSetupOver n) base over, subst (IsGiven rows (codes "stop")) (ap (λ (u : Setup). u.stops) (sym is)) given)
 
 -- what is explained over it, as the options of the pictures say
-pub explained_over : (rows : List Row) (n : Numbers) (s : Setup) (o : Options) (draws times : Bool)
+pub explained_over : (rows : List Row) (n : Numbers) (s : Setup) (o : Options) (draws times pages tells : Bool)
     → IsTracedOver rows n s → IsGiven rows (codes "graph") draws
-    → IsGiven rows (codes "timeline") times
-    → o ≡ (if draws then Graph s else if times then Timeline s else Explain s)
+    → IsGiven rows (codes "timeline") times → IsGiven rows (codes "page") pages
+    → IsGiven rows (codes "json") tells
+    → o ≡ (if draws then Graph s else if times then Timeline s else if pages then Page s else if tells then Json s else Explain s)
     → IsRunOver Explains rows n o
-explained_over rows n s o true times over graph timeline is =
+explained_over rows n s o true times pages tells over graph timeline page json is =
     subst (IsRunOver Explains rows n) (sym is) (refl, over, graph)
-explained_over rows n s o false true over graph timeline is =
+explained_over rows n s o false true pages tells over graph timeline page json is =
     subst (IsRunOver Explains rows n) (sym is) (refl, over, graph, timeline)
-explained_over rows n s o false false over graph timeline is =
-    subst (IsRunOver Explains rows n) (sym is) (refl, over, graph, timeline)
+explained_over rows n s o false false true tells over graph timeline page json is =
+    subst (IsRunOver Explains rows n) (sym is) (refl, over, graph, timeline, page)
+explained_over rows n s o false false false true over graph timeline page json is =
+    subst (IsRunOver Explains rows n) (sym is) (refl, over, graph, timeline, page, json)
+explained_over rows n s o false false false false over graph timeline page json is =
+    subst (IsRunOver Explains rows n) (sym is) (refl, over, graph, timeline, page, json)
+
+-- what is checked over it, as the options of a check say
+pub checked_over : (rows : List Row) (n : Numbers) (s : Setup) (o : Options) (all apart pages tells : Bool)
+    → IsTracedOver rows n s → IsGiven rows (codes "all") all → IsGiven rows (codes "apart") apart
+    → IsGiven rows (codes "page") pages → IsGiven rows (codes "json") tells
+    → o ≡ (if all || apart then Check s all apart else if pages then CheckPage s else if tells then CheckJson s else Check s all apart)
+    → IsRunOver Checks rows n o
+checked_over rows n s o true apart pages tells over whole ends page json is =
+    subst (IsRunOver Checks rows n) (sym is) (refl, over, whole, ends, tt)
+checked_over rows n s o false true pages tells over whole ends page json is =
+    subst (IsRunOver Checks rows n) (sym is) (refl, over, whole, ends, tt)
+checked_over rows n s o false false true tells over whole ends page json is =
+    subst (IsRunOver Checks rows n) (sym is) (refl, over, (whole, ends), page)
+checked_over rows n s o false false false true over whole ends page json is =
+    subst (IsRunOver Checks rows n) (sym is) (refl, over, (whole, ends), page, json)
+checked_over rows n s o false false false false over whole ends page json is =
+    subst (IsRunOver Checks rows n) (sym is) (refl, over, whole, ends, (page, json))
 
 -- what is played over it, as the option for shared words says
 pub played_over : (rows : List Row) (n : Numbers) (s : Setup) (workers : ℕ) (o : Options) (shared : Bool)

@@ -18,7 +18,7 @@ use Rattle.uring_entry.proofs.Powers.{rounded_once}
 use Rattle.uring_options.specs.CommandLine.{uring, command_rows, Gives, Numbers, AreInRange, IsWithin, IsSetupOver, Writes, IsTooSmall, AskFor, AskForTooSmall, IsMemory, IsFaultOf}
 use Rattle.uring_options.specs.OptionRows.{AnswersNamed}
 use Rattle.uring_options.specs.declared.answers.Options.{Options}
-use Rattle.uring_options.specs.declared.answers.Options.TheVariants.{Trace, Explain, Graph, Timeline, Check, Play, Shared}
+use Rattle.uring_options.specs.declared.answers.Options.TheVariants.{Trace, Explain, Graph, Timeline, Page, Json, Check, CheckPage, CheckJson, Play, Shared}
 use Rattle.uring_options.specs.declared.answers.OptionsFault.{OptionsFault}
 use Rattle.uring_options.specs.declared.answers.OptionsFault.TheVariants.{Small, Words}
 
@@ -92,7 +92,15 @@ not_both words (Graph s) (n, writes, over) small =
     not_over words n (record s { stops = false }) writes over.1.0 small
 not_both words (Timeline s) (n, writes, over) small =
     not_over words n (record s { stops = false }) writes over.1.0 small
+not_both words (Page s) (n, writes, over) small =
+    not_over words n (record s { stops = false }) writes over.1.0 small
+not_both words (Json s) (n, writes, over) small =
+    not_over words n (record s { stops = false }) writes over.1.0 small
 not_both words (Check s all apart) (n, writes, over) small =
+    not_over words n (record s { stops = false }) writes over.1.0 small
+not_both words (CheckPage s) (n, writes, over) small =
+    not_over words n (record s { stops = false }) writes over.1.0 small
+not_both words (CheckJson s) (n, writes, over) small =
     not_over words n (record s { stops = false }) writes over.1.0 small
 not_both words (Play s workers) (n, writes, over) small = not_over words n s writes over.1 small
 not_both words (Shared s workers) (n, writes, over) small = not_over words n s writes over.1 small

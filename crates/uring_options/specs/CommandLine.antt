@@ -14,7 +14,7 @@ use Rattle.clap.specs.declared.builder.value_parser.ValueParser.TheVariants.{Sig
 use Rattle.clap.specs.declared.error.kind.ErrorKind.TheVariants.{OutOfMemory}
 use Rattle.uring_entry.specs.Setup.{Setup, IsSetupFor}
 use Rattle.uring_options.specs.declared.answers.Options.{Options}
-use Rattle.uring_options.specs.declared.answers.Options.TheVariants.{Trace, Explain, Graph, Timeline, Check, Play, Shared}
+use Rattle.uring_options.specs.declared.answers.Options.TheVariants.{Trace, Explain, Graph, Timeline, Page, Json, Check, CheckPage, CheckJson, Play, Shared}
 use Rattle.uring_options.specs.declared.answers.OptionsFault.{OptionsFault}
 use Rattle.uring_options.specs.declared.answers.OptionsFault.TheVariants.{Small, Words}
 
@@ -45,8 +45,10 @@ setup_options = number (codes "sq") 1 4096 ∷ number (codes "cq") 1 8192
 -- the further options of each command; calls of a play go on
 abbrev pub own_options : Run → List CommandOption
 own_options Traces = flag (codes "stop") ∷ flag (codes "echo") ∷ flag (codes "strict") ∷ []
-own_options Explains = flag (codes "stop") ∷ flag (codes "graph") ∷ flag (codes "timeline") ∷ []
-own_options Checks = flag (codes "stop") ∷ flag (codes "all") ∷ flag (codes "apart") ∷ []
+own_options Explains = flag (codes "stop") ∷ flag (codes "graph") ∷ flag (codes "timeline")
+    ∷ flag (codes "page") ∷ flag (codes "json") ∷ []
+own_options Checks = flag (codes "stop") ∷ flag (codes "all") ∷ flag (codes "apart")
+    ∷ flag (codes "page") ∷ flag (codes "json") ∷ []
 own_options Plays = number (codes "workers") 1 8 ∷ flag (codes "shared") ∷ []
 
 -- to clap, an option of this name that takes a number, which this parser checks
@@ -175,18 +177,40 @@ abbrev pub IsTracedOver : List Row → Numbers → Setup → Type 0
 IsTracedOver rows n s =
     IsSetupOver n (record s { stops = false }) × IsGiven rows (codes "stop") s.stops
 
--- what a command runs, over the set-up that these rows and numbers give: `uring explain` the graph if `--graph` is given, else the timeline if `--timeline` is, and else the answers; `uring play` a play over shared words if `--shared` is given, and else one over lanes
+-- a check tells its verdict: with `--all` or `--apart`, or if neither `--page` nor `--json` is given
+abbrev pub TellsVerdict : List Row → Bool → Bool → Type 0
+TellsVerdict rows true apart = Unit {0}
+TellsVerdict rows false true = Unit {0}
+TellsVerdict rows false false = IsGiven rows (codes "page") false × IsGiven rows (codes "json") false
+
+-- a check is drawn: neither `--all` nor `--apart` is given
+abbrev pub IsDrawnCheck : List Row → Type 0
+IsDrawnCheck rows = IsGiven rows (codes "all") false × IsGiven rows (codes "apart") false
+
+-- what a command runs, over the set-up that these rows and numbers give: `uring explain` the graph if `--graph` is given, else the timeline if `--timeline` is, else the page if `--page` is, else its data if `--json` is, and else the answers; `uring check` the verdict with `--all` or `--apart`, else the page if `--page` is given, else its data if `--json` is, and else the verdict; `uring play` a play over shared words if `--shared` is given, and else one over lanes
 abbrev pub IsRunOver : Run → List Row → Numbers → Options → Type 0
 IsRunOver run rows n (Trace s echo strict) = (run ≡ Traces) × IsTracedOver rows n s
     × IsGiven rows (codes "echo") echo × IsGiven rows (codes "strict") strict
 IsRunOver run rows n (Explain s) = (run ≡ Explains) × IsTracedOver rows n s
     × IsGiven rows (codes "graph") false × IsGiven rows (codes "timeline") false
+    × IsGiven rows (codes "page") false × IsGiven rows (codes "json") false
 IsRunOver run rows n (Graph s) =
     (run ≡ Explains) × IsTracedOver rows n s × IsGiven rows (codes "graph") true
 IsRunOver run rows n (Timeline s) = (run ≡ Explains) × IsTracedOver rows n s
     × IsGiven rows (codes "graph") false × IsGiven rows (codes "timeline") true
+IsRunOver run rows n (Page s) = (run ≡ Explains) × IsTracedOver rows n s
+    × IsGiven rows (codes "graph") false × IsGiven rows (codes "timeline") false
+    × IsGiven rows (codes "page") true
+IsRunOver run rows n (Json s) = (run ≡ Explains) × IsTracedOver rows n s
+    × IsGiven rows (codes "graph") false × IsGiven rows (codes "timeline") false
+    × IsGiven rows (codes "page") false × IsGiven rows (codes "json") true
 IsRunOver run rows n (Check s all apart) = (run ≡ Checks) × IsTracedOver rows n s
     × IsGiven rows (codes "all") all × IsGiven rows (codes "apart") apart
+    × TellsVerdict rows all apart
+IsRunOver run rows n (CheckPage s) = (run ≡ Checks) × IsTracedOver rows n s × IsDrawnCheck rows
+    × IsGiven rows (codes "page") true
+IsRunOver run rows n (CheckJson s) = (run ≡ Checks) × IsTracedOver rows n s × IsDrawnCheck rows
+    × IsGiven rows (codes "page") false × IsGiven rows (codes "json") true
 IsRunOver run rows n (Play s workers) =
     (run ≡ Plays) × IsSetupOver n s × AreWorkers rows workers × IsGiven rows (codes "shared") false
 IsRunOver run rows n (Shared s workers) =

@@ -28,6 +28,12 @@ pub enum Options {
     /// `uring explain --timeline`: the lines at which each request of a trace over this set-up moved.
     Timeline(Setup),
 
+    /// `uring explain --page`: the page that draws a trace over this set-up.
+    Page(Setup),
+
+    /// `uring explain --json`: the data of that page.
+    Json(Setup),
+
     /// `uring check`: the check of a recorded trace over this set-up.
     Check {
         setup: Setup,
@@ -36,6 +42,12 @@ pub enum Options {
         /// Whether a running request may end with any result, and gives no bytes (`--apart`).
         is_apart: bool,
     },
+
+    /// `uring check --page`: the page that draws a recorded trace over this set-up, up to the line at which its check ends.
+    CheckPage(Setup),
+
+    /// `uring check --json`: the data of that page.
+    CheckJson(Setup),
 
     /// `uring play`: a play over this set-up, with so many workers, 1 to 8.
     Play(Setup, u32),

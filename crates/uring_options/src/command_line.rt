@@ -1,6 +1,6 @@
 //! The command line.
 
-ghost use Rattle.std.specs.Prelude.{◌≡◌, ◌↔◌, ◌≤◌, ℕ, List, Some, codes, [], ◌∷◌, IfOk, IfErr, IsErrOf, IsErrAnd, false, if◌then◌else◌};
+ghost use Rattle.std.specs.Prelude.{◌≡◌, ◌↔◌, ◌≤◌, ℕ, List, Some, codes, [], ◌∷◌, IfOk, IfErr, IsErrOf, IsErrAnd, ◌||◌, false, if◌then◌else◌};
 ghost use Rattle.clap.specs.Words.{FailsBy, HasMatchesOf, fault_of, found_of, kind_of, rows_of, subcommand_of};
 ghost use Rattle.clap.specs.Walk.{Text, texts};
 ghost use Rattle.uring_options.specs.CommandLine.{uring, Run, flag, number, setup_options, Gives, IsWithin, Numbers, AreInRange, GivesNumbers, AreWorkers, IsSetupOver, IsGiven, IsTracedOver, IsTooSmall, AskFor, AskForTooSmall, IsWords, IsMemory, IsFaultOf};
@@ -25,7 +25,7 @@ const DEFAULT_START: u32 = 0;
 /// Workers of a play if the command line doesn't say.
 const DEFAULT_WORKERS: u32 = 2;
 
-/// Reads a command line, whose first word is the program's name: `uring`, or `uring trace`, `uring explain`, `uring check` or `uring play` with options for the entries of the submission ring (`--sq`, 1 to 4,096, else 4) and of the completion ring (`--cq`, 1 to 8,192, else twice as many), for the files (`--files`, 1 to 64, else 2) and for the word at which both rings begin (`--start`, 32 bits, else 0). A play takes one more for its workers (`--workers`, 1 to 8, else 2) and one by which its application and dispatcher share words (`--shared`, else they have lanes), and the others one by which submission calls stop behind an entry with a fault (`--stop`, else they go on). A trace takes one by which its steps are written too (`--echo`) and one by which the first bad line ends it (`--strict`), an explained trace two for pictures in place of the answers (`--graph`, which goes before `--timeline`), and a check one by which all wrong lines are told (`--all`) and one by which ends may be any (`--apart`). Our own rule.
+/// Reads a command line, whose first word is the program's name: `uring`, or `uring trace`, `uring explain`, `uring check` or `uring play` with options for the entries of the submission ring (`--sq`, 1 to 4,096, else 4) and of the completion ring (`--cq`, 1 to 8,192, else twice as many), for the files (`--files`, 1 to 64, else 2) and for the word at which both rings begin (`--start`, 32 bits, else 0). A play takes one more for its workers (`--workers`, 1 to 8, else 2) and one by which its application and dispatcher share words (`--shared`, else they have lanes), and the others one by which submission calls stop behind an entry with a fault (`--stop`, else they go on). A trace takes one by which its steps are written too (`--echo`) and one by which the first bad line ends it (`--strict`), an explained trace four for what is written in place of the answers (`--graph`, `--timeline`, `--page` and `--json`, of which the first in this order counts), and a check one by which all wrong lines are told (`--all`), one by which ends may be any (`--apart`), and two for what is written in place of the verdict (`--page`, which goes before `--json`; with `--all` or `--apart` the verdict is written). Our own rule.
 ///
 /// `Words` comes for a fault of the words, a number out of its range among them, for a call for help, and if memory is refused. `Small` comes if there is none, and the options give a completion ring that is smaller after rounding than the submission ring. Numbers may have a leading `+` or leading zeros.
 pub fn options<'a>(alloc: Global, args: &'a [&'a str]) -> Result<Options, OptionsFault>
@@ -111,11 +111,30 @@ fn checked(matches: &ArgMatches<'_>) -> Result<Options, OptionsFault>
     let setup = traced_setup_of(matches)?;
     let is_all = is_given(matches, "all");
     let is_apart = is_given(matches, "apart");
-    Ok(Options::Check {
+    let page = is_given(matches, "page");
+    let json = is_given(matches, "json");
+    Ok(checked_over(setup, is_all, is_apart, page, json))
+}
+
+/// What is written of a recorded trace over the set-up: a page or its data if one is asked for, and neither all wrong lines nor ends of any result, and else the verdict.
+fn checked_over(setup: Setup, is_all: bool, is_apart: bool, page: bool, json: bool) -> Options
+    ensures { result
+        ≡ (if is_all || is_apart then Options.Check setup is_all is_apart else if page then Options.CheckPage setup else if json then Options.CheckJson setup else Options.Check setup is_all is_apart) }
+{
+    let verdict = Options::Check {
         setup,
         is_all,
         is_apart,
-    })
+    };
+    if is_all || is_apart {
+        verdict
+    } else if page {
+        Options::CheckPage(setup)
+    } else if json {
+        Options::CheckJson(setup)
+    } else {
+        verdict
+    }
 }
 
 /// What the options of `uring explain` ask for.
@@ -126,18 +145,24 @@ fn explained(matches: &ArgMatches<'_>) -> Result<Options, OptionsFault>
     let setup = traced_setup_of(matches)?;
     let graph = is_given(matches, "graph");
     let timeline = is_given(matches, "timeline");
-    Ok(explained_over(setup, graph, timeline))
+    let page = is_given(matches, "page");
+    let json = is_given(matches, "json");
+    Ok(explained_over(setup, graph, timeline, page, json))
 }
 
-/// What is written of a trace over the set-up: a picture if one is asked for, and else the answers with their reasons.
-fn explained_over(setup: Setup, graph: bool, timeline: bool) -> Options
+/// What is written of a trace over the set-up: a picture, a page or its data if one is asked for, and else the answers with their reasons.
+fn explained_over(setup: Setup, graph: bool, timeline: bool, page: bool, json: bool) -> Options
     ensures { result
-        ≡ (if graph then Options.Graph setup else if timeline then Options.Timeline setup else Options.Explain setup) }
+        ≡ (if graph then Options.Graph setup else if timeline then Options.Timeline setup else if page then Options.Page setup else if json then Options.Json setup else Options.Explain setup) }
 {
     if graph {
         Options::Graph(setup)
     } else if timeline {
         Options::Timeline(setup)
+    } else if page {
+        Options::Page(setup)
+    } else if json {
+        Options::Json(setup)
     } else {
         Options::Explain(setup)
     }

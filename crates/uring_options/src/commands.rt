@@ -84,6 +84,18 @@ const TIMELINE: OptionRow = OptionRow {
     numbers: None,
 };
 
+const PAGE: OptionRow = OptionRow {
+    id: "page",
+    help: "Write a page of HTML that draws the trace, and nothing else",
+    numbers: None,
+};
+
+const JSON: OptionRow = OptionRow {
+    id: "json",
+    help: "Write the data of that page as JSON, and nothing else",
+    numbers: None,
+};
+
 const ALL: OptionRow = OptionRow {
     id: "all",
     help: "Go on behind a wrong line, as though the one answer that was called for had been given",
@@ -121,7 +133,7 @@ static EXPLAIN: CommandRow = CommandRow {
     name: "explain",
     about: "Do as trace does, and write behind an answer its reason",
     after_help: REASONS,
-    options: &[SQ, CQ, FILES, START, STOP, GRAPH, TIMELINE],
+    options: &[SQ, CQ, FILES, START, STOP, GRAPH, TIMELINE, PAGE, JSON],
 };
 
 /// `uring check`.
@@ -129,7 +141,7 @@ static CHECK: CommandRow = CommandRow {
     name: "check",
     about: "Read a recorded trace, a step with its answer on each line, and tell whether it is lawful",
     after_help: RECORDS,
-    options: &[SQ, CQ, FILES, START, STOP, ALL, APART],
+    options: &[SQ, CQ, FILES, START, STOP, ALL, APART, PAGE, JSON],
 };
 
 /// `uring play`.

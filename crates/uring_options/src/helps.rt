@@ -64,13 +64,16 @@ Lines that ask how things stand, and their answers:
   show why NUM   how request NUM stands, in the words of the reasons
   show file FD   len N writes N synced N, or no file
 
-With one of these no answers are written; --graph goes before --timeline:
+With one of these no answers are written; of several the first listed counts:
   --graph        when the input ends, the outstanding requests as a graph for
                  Graphviz's dot: an ellipse runs, an octagon is doomed, a box
                  waits, a diamond may start
   --timeline     when the input ends, a row for each request: the lines at which
                  it was accepted, started and ended, and its completion posted
-                 and reaped";
+                 and reaped
+  --page         when the input ends, a page of HTML that draws the requests
+                 line by line, and needs no network
+  --json         the data of that page, as JSON";
 
 /// The lines of `uring check`, for its help.
 pub(crate) const RECORDS: &str = "\
@@ -92,7 +95,11 @@ than one, the step counts as not made. A bad line ends the check even so.
 
 With --apart the trace is that of a ring without files: a running request may
 end with any result, ended RES, and no data is given: reap = cqe UD RES -. What
-is wanted there is: an end.";
+is wanted there is: an end.
+
+With --page a page of HTML is written in place of this, which draws the lines up
+to the first that is wrong or bad, and with --json its data; --page goes before
+--json. The status stays the same. With --all or --apart there is no page.";
 
 /// The lines of a play, for its help.
 pub(crate) const ITEMS: &str = "\

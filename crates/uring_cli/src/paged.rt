@@ -1,0 +1,69 @@
+//! The runs of which a page or its data are written.
+
+use crate::fault::Fault;
+use crate::outlet::Outlet;
+use crate::{status_behind, status_of, unless_closed};
+use std::alloc::Global;
+use std::io::{ErrorKind, Read};
+use uring_check::{Verdict, check};
+use uring_options::Setup;
+use uring_page::{Form, page, recorded_page};
+use uring_trace::TraceFault;
+
+/// A page of the trace that standard input has, or its data.
+pub(crate) fn run_page(rt: &HostRuntime, setup: &Setup, form: Form) -> Result<u8, Fault> {
+    let (mut input, mut output) = (rt.stdin(), Outlet::new(rt.stdout()));
+    let drawn = page(
+        rt.alloc(),
+        &mut input,
+        &mut output,
+        &mut rt.stderr(),
+        setup,
+        form,
+    );
+    Ok(status_behind(unless_closed(&output, drawn)?))
+}
+
+/// A page of the recorded trace that standard input has, or its data.
+pub(crate) fn run_recorded_page(rt: &HostRuntime, setup: &Setup, form: Form) -> Result<u8, Fault> {
+    let alloc = rt.alloc();
+    let trace = read_trace(alloc, &mut rt.stdin())?;
+    let mut report = Vec::new(alloc);
+    let verdict = verdict_on(alloc, trace.as_slice(), &mut report, setup)?;
+    let mut output = Outlet::new(rt.stdout());
+    let written = recorded_page(
+        alloc,
+        trace.as_slice(),
+        report.as_slice(),
+        &mut output,
+        setup,
+        form,
+    );
+    unless_closed(&output, written)?;
+    Ok(status_of(verdict))
+}
+
+/// All that a reader has.
+fn read_trace<R: Read>(alloc: Global, reader: &mut R) -> Result<Vec<u8>, TraceFault> {
+    let mut trace = Vec::new(alloc);
+    match reader.read_to_end(&mut trace) {
+        Ok(_) => Ok(trace),
+        Err(error) if error.kind() == ErrorKind::OutOfMemory => Err(TraceFault::Memory),
+        Err(_) => Err(TraceFault::Read),
+    }
+}
+
+/// The verdict on a recorded trace, and what is reported of it up to the first line that isn't lawful.
+fn verdict_on(
+    alloc: Global,
+    trace: &[u8],
+    report: &mut Vec<u8>,
+    setup: &Setup,
+) -> Result<Verdict, TraceFault> {
+    let mut lines = trace;
+    match check(alloc, &mut lines, report, setup, false, false) {
+        Ok(verdict) => Ok(verdict),
+        // A list of bytes takes what is written unless memory is refused.
+        Err(_) => Err(TraceFault::Memory),
+    }
+}

@@ -1,0 +1,8 @@
+use Rattle.clap.specs.Words.{found_of, rows_of}
+use Rattle.uring_options.proofs.CommandLine.{checked_over}
+use Rattle.uring_options.proofs.command_line.checked.Goals as goal
+
+pub returns : goal.returns
+returns c =
+    let over = c.in_ok-setup.ensures.ok in
+    (over.0, over.1, checked_over (rows_of (found_of c.args.matches.now)) over.0 _ _ _ _ _ _ over.2 c.is_given-is_all.ensures c.is_given-is_apart.ensures c.is_given-page.ensures c.is_given-json.ensures c.checked_over.ensures)
