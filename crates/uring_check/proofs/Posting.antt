@@ -27,7 +27,7 @@ use Rattle.uring_check.specs.declared.follower.Follower.TheVariants.{Whole, Apar
 
 -- ---- what one step posts
 
-number_of_end : Option Ending → List ℕ
+abbrev number_of_end : Option Ending → List ℕ
 number_of_end (Some e) = e.number ∷ []
 number_of_end None = []
 
@@ -69,8 +69,8 @@ end_noted s size n l c false is = none_noted s (length l.posted)
 noted_by : (g : Setup) (w : World) (s : Step) (a : Answer) (v : World) → CompletionMove g w s a v
     → noted_poster s (length w.completions.posted) (length v.completions.posted)
     ≡ poster_of w.requests (end_told_by (s, a))
-noted_by g w s a v (stays _ _ l r is_closed off no left) =
-    none_noted s (length w.completions.posted) ∙ sym (ap (poster_of w.requests) no)
+noted_by g w s a v (stays _ _ l r is_closed off none left) =
+    none_noted s (length w.completions.posted) ∙ sym (ap (poster_of w.requests) none)
 noted_by g w s a v (ends _ _ n res bytes r off is same one) =
     end_noted s g.cq n w.completions (completion_for (entry_of w.requests n) res bytes) (posts_completion (entry_of w.requests n) res) (number_told s a (record { number = n; res = res; bytes = bytes }) is)
     ∙ sym (ap (poster_of w.requests) is)

@@ -243,17 +243,17 @@ impl Checker {
     }
 }
 
-/// What is asked of a follower before a step. These are the requests whose completions were posted.
+/// What is asked of a follower before a step. These are the numbers of the requests whose completions were posted.
 fn stand(
     alloc: Global,
     machine: &Follower,
-    posters: &[u64],
+    numbers: &[u64],
     step: &Step,
 ) -> Result<Standing, AllocError>
     ensures { IfOk result
         (λ standing. (h : History) → FitsBy machine.now h
-        → posters.now ≡ posters (rules_of machine.now).setup h
+        → numbers.now ≡ posters (rules_of machine.now).setup h
         → IsStanding (rules_of machine.now).setup h step.now standing) }
 {
-    Standing::before(alloc, machine.core(), posters, step)
+    Standing::before(alloc, machine.core(), numbers, step)
 }

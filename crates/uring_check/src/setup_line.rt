@@ -2,7 +2,7 @@
 
 ghost use Rattle.std.specs.Prelude.{◌≡◌, ◌≤◌, ℕ, List, IfOk, false, length, map};
 ghost use Rattle.uring_text.specs.KeptLine.{kept_of};
-ghost use Rattle.uring_check.specs.SetupLines.{IsSaid, IsSaidBy, IsSaidOf, named_number, plain_said, sizes_said, stopping_said};
+ghost use Rattle.uring_check.specs.SetupLines.{IsSaid, IsSaidBy, IsSaidOf, named_number, plain_said, sizes_of, sizes_said, stopping_said};
 
 use std::alloc::{AllocError, Global};
 use uring_machine::Setup;
@@ -71,19 +71,11 @@ fn said_of(tokens: &[&[u8]]) -> Said
 fn setup_of(sizes: Option<Sizes>) -> Said
     ensures { IsSaidOf sizes result }
 {
-    let Some(
-        Sizes {
-            sq,
-            cq,
-            files,
-            start,
-            stops,
-        },
-    ) = sizes else {
+    let Some(sizes) = sizes else {
         return Said::Misses;
     };
-    match Setup::new(sq, Some(cq), files, start) {
-        Ok(setup) => Said::Says(stopping_if(setup, stops)),
+    match Setup::new(sizes.sq, Some(sizes.cq), sizes.files, sizes.start) {
+        Ok(setup) => Said::Says(stopping_if(setup, sizes.stops)),
         Err(_) => Said::Misses,
     }
 }
@@ -113,17 +105,13 @@ fn plain_said(tokens: &[&[u8]]) -> Option<Sizes>
     let [sq_name, sq, cq_name, cq, files_name, files, start_name, start] = tokens else {
         return None;
     };
-    let sq = named_number("--sq", sq_name, sq)?;
-    let cq = named_number("--cq", cq_name, cq)?;
-    let files = named_number("--files", files_name, files)?;
-    let start = named_number("--start", start_name, start)?;
-    Some(Sizes {
-        sq,
-        cq,
-        files,
-        start,
-        stops: false,
-    })
+    sizes_of(
+        false,
+        named_number("--sq", sq_name, sq),
+        named_number("--cq", cq_name, cq),
+        named_number("--files", files_name, files),
+        named_number("--start", start_name, start),
+    )
 }
 
 /// The sizes of a ring that stops.
@@ -133,19 +121,35 @@ fn stopping_said(tokens: &[&[u8]]) -> Option<Sizes>
     let [sq_name, sq, cq_name, cq, files_name, files, start_name, start, stop] = tokens else {
         return None;
     };
-    if !is_name(stop, "--stop") {
-        return None;
+    if is_name(stop, "--stop") {
+        sizes_of(
+            true,
+            named_number("--sq", sq_name, sq),
+            named_number("--cq", cq_name, cq),
+            named_number("--files", files_name, files),
+            named_number("--start", start_name, start),
+        )
+    } else {
+        None
     }
-    let sq = named_number("--sq", sq_name, sq)?;
-    let cq = named_number("--cq", cq_name, cq)?;
-    let files = named_number("--files", files_name, files)?;
-    let start = named_number("--start", start_name, start)?;
+}
+
+/// The sizes of these numbers, if each is one.
+fn sizes_of(
+    stops: bool,
+    sq: Option<u32>,
+    cq: Option<u32>,
+    files: Option<u32>,
+    start: Option<u32>,
+) -> Option<Sizes>
+    ensures { result ≡ sizes_of stops sq cq files start }
+{
     Some(Sizes {
-        sq,
-        cq,
-        files,
-        start,
-        stops: true,
+        sq: sq?,
+        cq: cq?,
+        files: files?,
+        start: start?,
+        stops,
     })
 }
 

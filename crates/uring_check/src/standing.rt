@@ -32,15 +32,15 @@ pub(crate) struct Standing {
 }
 
 impl Standing {
-    /// Asks a core. These are the requests whose completions were posted.
+    /// Asks a core. These are the numbers of the requests whose completions were posted.
     pub(crate) fn before(
         alloc: Global,
         core: &Core,
-        posters: &[u64],
+        numbers: &[u64],
         step: &Step,
     ) -> Result<Standing, AllocError>
         ensures { IfOk result
-            (λ standing. (h : History) → FitsApart core.now h → posters.now ≡ posters core.now.setup h
+            (λ standing. (h : History) → FitsApart core.now h → numbers.now ≡ posters core.now.setup h
             → IsStanding core.now.setup h step.now standing) }
     {
         let counts = core.counts();
@@ -48,7 +48,7 @@ impl Standing {
             why: why(core, step),
             chosen: chosen_text(&alloc, alloc, core, step)?,
             found: found(core, step),
-            poster: posters.get(counts.reaped as usize).copied(),
+            poster: numbers.get(counts.reaped as usize).copied(),
             posted: counts.posted,
         })
     }

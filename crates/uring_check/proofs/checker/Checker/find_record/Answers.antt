@@ -12,8 +12,8 @@ returns-in-None c = λ rec.
     } in
     looked_right c.args.self.now c.judge_told.new.machine c.judge_told.new.told c.note_poster.new.posters _ _ _ c.args.step.now c.args.text.now c.args.line.now notes c.saturating_add-self.ensures c.in_ok-judged.ensures.rules c.requires (rw c.in-None.is at c.in_ok-judged.ensures.judges) rec
 
-pub returns-in-Some : goal.returns-in-Some
-returns-in-Some c =
+pub returns : goal.returns
+returns c =
     let notes : Notes c.args.self.now c.judge_told.new.machine c.note_poster.new.posters c.args.step.now c.posted.result c.posted-2.result = record {
       before_is = λ h k. c.posted.ensures ∙ (c.in_ok-standing.ensures h k.0 (c.as_slice.ensures.value ∙ k.1)).posted;
       after_is = λ h f. c.posted-2.ensures h f;

@@ -7,15 +7,12 @@ use Rattle.uring_check.proofs.checker.Checker.take_first.Goals as goal
 
 pub returns-in-Nothing : goal.returns-in-Nothing
 returns-in-Nothing c =
-    on_ok_weaker c.take_next-in-Nothing.result
-    (λ looks d all lines text e k. took_first d all lines text c.args.self.now c.take_next-in-Nothing.new.self c.requires (rw c.in-Nothing.is at (c.in_ok-said.ensures text e)) (λ g a ls. looks g a ls text e) k)
-    c.take_next-in-Nothing.ensures.looks
+    on_ok_weaker c.take_next.result
+    (λ looks d all lines text e k. took_first d all lines text c.args.self.now c.take_next.new.self c.requires (rw c.in-Nothing.is at (c.in_ok-said.ensures text e)) (λ g a ls. looks g a ls text e) k)
+    c.take_next.ensures.looks
 
-pub returns-in-Says : goal.returns-in-Says
-returns-in-Says c =
-    on_ok_weaker c.take_next-in-Says.result
-    (λ looks d all lines text e k. took_setup d all lines text c.in-Says.setup c.args.self.now c.take_next-in-Says.new.self _ c.requires (rw c.in-Says.is at (c.in_ok-said.ensures text e)) (c.in_ok-new.ensures.rules ∙ ap (λ (b : Bool). let g : Rules = record { setup = c.in-Says.setup; is_apart = b } in g) c.is_apart.ensures) c.in_ok-new.ensures.fits (λ g a ls. looks g a ls text e) k)
-    c.take_next-in-Says.ensures.looks
+pub returns-in_ok-self-in-Says : goal.returns-in_ok-self-in-Says
+returns-in_ok-self-in-Says c = ?
 
 pub returns-in-Misses : goal.returns-in-Misses
 returns-in-Misses c =
