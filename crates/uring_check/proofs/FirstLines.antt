@@ -117,17 +117,21 @@ took_first d all lines text old new waits said goes k =
       told = l.told;
     }
 
+-- rules of this set-up
+abbrev pub with_setup : Setup → Bool → Rules
+with_setup s apart = record { setup = s; is_apart = apart }
+
 -- a first line that says one
 pub took_setup : (d : Rules) (all : Bool) (lines : List (List ℕ)) (text : List ℕ) (s : Setup) (old new : Checker) (m : Follower)
     → old.awaits ≡ true → IsSaid text (Says s)
-    → rules_of m ≡ record { setup = s; is_apart = (rules_of old.machine).is_apart } → FitsBy m []
+    → rules_of m ≡ with_setup s (rules_of old.machine).is_apart → FitsBy m []
     → Goes text (with_follower old m) new → Looks d all lines old
     → Looks d all (text ∷ lines) new
 took_setup d all lines text s old new m waits said rules fits goes k =
     let none : lines ≡ [] = first_by lines (sym k.awaits ∙ waits) in
     let l : LooksBy d all [] old = first_looks d all lines old none k in
-    let g : Rules = record { setup = s; is_apart = d.is_apart } in
-    let same : rules_of m ≡ g = rules ∙ ap (λ (r : Rules). let x : Rules = record { setup = s; is_apart = r.is_apart } in x) l.same in
+    let g : Rules = with_setup s d.is_apart in
+    let same : rules_of m ≡ g = rules ∙ ap (λ (r : Rules). with_setup s r.is_apart) l.same in
     subst (λ (ls : List (List ℕ)). Looks d all (text ∷ ls) new) (sym none)
     (record {
       rules = Some g;

@@ -21,5 +21,5 @@ returns c =
     } in
     let judged = rw c.in-Some.is at c.in_ok-judged.ensures.judges in
     if_ok_both c.find_wrong.result _ _ _
-    (λ done kept told rec. looked_wrong c.args.self.now c.find_wrong.new.self c.judge_told.new.machine c.judge_told.new.told c.note_poster.new.posters _ _ c.args.step.now c.args.text.now c.args.line.now _ c.in_ok-standing.standing notes c.in_ok-judged.ensures.rules (λ h k. c.in_ok-standing.ensures h k.0 (c.as_slice.ensures.value ∙ k.1)) judged kept told rec)
+    (λ done kept told rec. looked_wrong c.args.self.now c.find_wrong.new.self c.judge_told.new.machine c.judge_told.new.told c.note_poster.new.posters _ _ c.args.step.now c.args.text.now c.args.line.now c.in-Some.told c.in_ok-standing.standing notes c.in_ok-judged.ensures.rules (λ h k. c.in_ok-standing.ensures h k.0 (c.as_slice.ensures.value ∙ k.1)) judged kept told rec)
     c.find_wrong.ensures.kept c.find_wrong.ensures.told
