@@ -230,7 +230,14 @@ impl Checker {
     {
         self.fault(Verdict::Wrong);
         self.is_over = !self.is_all;
-        tell_wrong(self.alloc, &mut self.report, self.number, line, told, standing)
+        tell_wrong(
+            self.alloc,
+            &mut self.report,
+            self.number,
+            line,
+            told,
+            standing,
+        )
     }
 
     /// Notes a fault, unless there was one before.

@@ -102,7 +102,17 @@ fn sizes_said(tokens: &[&[u8]]) -> Option<Sizes>
 fn plain_said(tokens: &[&[u8]]) -> Option<Sizes>
     ensures { result ≡ plain_said (map (λ token. token.now) tokens.now) }
 {
-    let [sq_name, sq, cq_name, cq, files_name, files, start_name, start] = tokens else {
+    let [
+        sq_name,
+        sq,
+        cq_name,
+        cq,
+        files_name,
+        files,
+        start_name,
+        start,
+    ] = tokens
+    else {
         return None;
     };
     sizes_of(
@@ -118,7 +128,18 @@ fn plain_said(tokens: &[&[u8]]) -> Option<Sizes>
 fn stopping_said(tokens: &[&[u8]]) -> Option<Sizes>
     ensures { result ≡ stopping_said (map (λ token. token.now) tokens.now) }
 {
-    let [sq_name, sq, cq_name, cq, files_name, files, start_name, start, stop] = tokens else {
+    let [
+        sq_name,
+        sq,
+        cq_name,
+        cq,
+        files_name,
+        files,
+        start_name,
+        start,
+        stop,
+    ] = tokens
+    else {
         return None;
     };
     if is_name(stop, "--stop") {
