@@ -3,7 +3,7 @@ use Rattle.std.proofs.Common.{◌≡◌, ℕ, Bool, true, false, List, [], ◌�
 use Rattle.std.specs.declared.alloc.Global.{Global}
 use Rattle.std.specs.declared.vec.Vec.{Vec}
 use Rattle.std.proofs.lemmas.List.{append-nil}
-use Rattle.uring_check.specs.Checking.{FitsBy, Looks, LooksBy, LooksIf, IsTold, IsToldBy, IsToldIf, awaits_first, rules_of}
+use Rattle.uring_check.specs.Checking.{FitsBy, Looks, LooksBy, LooksIf, IsTold, IsToldIf, awaits_first, rules_of}
 use Rattle.uring_trace.specs.Explanations.{line_number}
 use Rattle.uring_check.specs.Findings.{Found, has_stopped, history_behind, lines_of, verdict_of}
 use Rattle.uring_check.specs.Posters.{posters}
@@ -13,7 +13,6 @@ use Rattle.uring_check.specs.SetupLines.{IsSaid}
 use Rattle.uring_entry.specs.Setup.{Setup}
 use Rattle.uring_check.specs.declared.checker.Checker.{Checker}
 use Rattle.uring_check.specs.declared.follower.Follower.{Follower}
-use Rattle.uring_check.specs.declared.setup_line.Said.{Said}
 use Rattle.uring_check.specs.declared.setup_line.Said.TheVariants.{Nothing, Says, Misses}
 use Rattle.uring_check.specs.declared.verdict.Verdict.{Verdict}
 use Rattle.uring_check.specs.declared.verdict.Verdict.TheVariants as verdict

@@ -1,6 +1,6 @@
 -- Whose completions were posted.
-use Rattle.std.proofs.Common.{◌≡◌, ℕ, ℤ, ◌+◌, Bool, true, false, List, [], ◌∷◌, ◌++◌, length, Option, Some, None, refl, sym, ap, ◌∙◌, append-nil, arith}
-use Rattle.std.specs.Prelude.{nat_le, if◌then◌else◌}
+use Rattle.std.proofs.Common.{◌≡◌, ℕ, Bool, true, false, List, [], ◌∷◌, ◌++◌, length, Option, Some, None, sym, ap, ◌∙◌, append-nil, arith}
+use Rattle.std.specs.Prelude.{if◌then◌else◌}
 use Rattle.std.proofs.lemmas.Bool.{le-leb, lt-leb}
 use Rattle.std.proofs.lemmas.List.{length-append}
 use Rattle.uring_entry.specs.Completions.{Completions, completion_for, with_posted}

@@ -2,11 +2,8 @@
 use Rattle.std.specs.Prelude.{◌≡◌, ◌≢◌, ℕ, Bool, true, false, option_map, string_bytes, List, [], ◌∷◌, ◌++◌, length, nat_le, if◌then◌else◌, ◌⊎◌, Option, Some, None, Result, Ok, Err}
 use Rattle.std.specs.Io.KnownBytes.{Consumes, IsAtEnd}
 use Rattle.std.specs.List.{AllByRecursion}
-use Rattle.std.specs.declared.alloc.Global.{Global}
-use Rattle.std.specs.declared.vec.Vec.{Vec}
 use Rattle.uring_core.specs.Core.{FitsApart}
 use Rattle.uring_entry.specs.Setup.{Setup}
-use Rattle.uring_core.specs.Core.{IsCounts}
 use Rattle.uring_core.specs.Histories.{History, world}
 use Rattle.uring_machine.specs.Machine.{Fits}
 use Rattle.uring_core.specs.Recorded.{IsWrong, Meets, resumed}

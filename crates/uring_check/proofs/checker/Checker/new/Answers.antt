@@ -1,4 +1,4 @@
-use Rattle.std.proofs.Common.{[], Bool, true, false, Some, refl}
+use Rattle.std.proofs.Common.{[], Some, refl}
 use Rattle.uring_check.specs.Rules.{Rules}
 use Rattle.uring_check.proofs.checker.Checker.new.Goals as goal
 
